@@ -1,0 +1,4 @@
+pub mod FirstPlaces
+pub mod KeyLemmas
+pub mod NumberLemmas
+pub mod Placed

@@ -1,0 +1,32 @@
+-- What limits are set on.
+use Rattle.std.specs.Prelude.{ℕ, Bool, false, List, codes}
+use Rattle.std.specs.List.{list_any}
+use Rattle.std.specs.Str.{bytes_eq}
+use Rattle.gu_terms.specs.declared.limit_key.LimitKey.{LimitKey}
+use Rattle.gu_terms.specs.declared.limit_key.LimitKey.TheVariants.{Exec, Agr, Acct, Carry}
+
+-- the word for a key's kind
+abbrev pub kind_of : LimitKey → List ℕ
+kind_of (Exec _) = codes "EXEC"
+kind_of (Agr _) = codes "AGR"
+kind_of (Acct _) = codes "ACCT"
+kind_of (Carry _) = codes "CARRY"
+
+-- the name of the firm, the agreement or the account
+abbrev pub name_of_key : LimitKey → List ℕ
+name_of_key (Exec firm) = firm.name
+name_of_key (Agr agreement) = agreement.name
+name_of_key (Acct account) = account.name
+name_of_key (Carry firm) = firm.name
+
+-- two keys have the same kind and the same name
+abbrev pub key_eq : LimitKey → LimitKey → Bool
+key_eq (Exec a) (Exec b) = bytes_eq a.name b.name
+key_eq (Agr a) (Agr b) = bytes_eq a.name b.name
+key_eq (Acct a) (Acct b) = bytes_eq a.name b.name
+key_eq (Carry a) (Carry b) = bytes_eq a.name b.name
+key_eq _ _ = false
+
+-- a key is among these
+abbrev pub has_key : List LimitKey → LimitKey → Bool
+has_key keys k = list_any (λ j. key_eq j k) keys

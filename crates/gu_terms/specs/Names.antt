@@ -1,0 +1,23 @@
+-- Names of the house's own, and ids of the firms'.
+use Rattle.std.specs.Prelude.{ℕ, Bool, ◌≤◌, ◌==◌, ◌||◌, ◌&&◌, nat_le, List, length}
+use Rattle.std.specs.List.{AllPass}
+
+-- a capital letter, a digit or `-`
+abbrev pub is_name_byte : ℕ → Bool
+is_name_byte b = (nat_le 65 b && nat_le b 90) || (nat_le 48 b && nat_le b 57) || b == 45
+
+-- one to twelve such bytes
+pub record IsName (bytes : List ℕ) : Type 0 where
+  pub some : 1 ≤ length bytes
+  pub most : length bytes ≤ 12
+  pub each : AllPass is_name_byte bytes
+
+-- a byte of printed ASCII that is no blank
+abbrev pub is_id_byte : ℕ → Bool
+is_id_byte b = nat_le 33 b && nat_le b 126
+
+-- one to sixty-four such bytes
+pub record IsId (bytes : List ℕ) : Type 0 where
+  pub some : 1 ≤ length bytes
+  pub most : length bytes ≤ 64
+  pub each : AllPass is_id_byte bytes

@@ -1,0 +1,99 @@
+//! Cuts: the limits and offers that bound a sweep.
+
+ghost use Rattle.std.specs.Prelude.{◌≡◌, [], not, IfOk, OnErr, if◌then◌else◌, ◌++◌, ◌∷◌};
+ghost use Rattle.std.specs.List.{list_any};
+ghost use Rattle.gu_terms.specs.Cuts.{has_number};
+ghost use Rattle.gu_terms.specs.LimitKeys.{has_key};
+
+use crate::limit_key::LimitKey;
+use crate::offer_no::OfferNo;
+use indexmap::IndexSet;
+use std::alloc::{AllocError, Global};
+use std::marker::Model;
+
+/// A set of limit keys and of offers, each in the order in which it was made.
+/// To a contract it is these two lists.
+#[derive(Drop)]
+pub struct Cut {
+    keys: IndexSet<LimitKey>,
+    offers: IndexSet<OfferNo>,
+}
+
+impl Model for Cut {
+    ghost use Rattle.gu_terms.specs.Cuts.{CutLists};
+
+    ghost Value = { CutLists };
+
+    ghost view = { λ c. record { keys = c.keys.keys; offers = c.offers.keys } };
+}
+
+impl Cut {
+    /// An empty cut.
+    pub fn new(alloc: Global) -> Self
+        ensures { result ≡ record { keys = []; offers = [] } }
+    {
+        Cut {
+            keys: IndexSet::new(alloc),
+            offers: IndexSet::new(alloc),
+        }
+    }
+
+    /// Adds a key behind the others, and answers whether it was new.
+    pub fn add_key(&mut self, key: LimitKey) -> Result<bool, AllocError>
+        ensures added { IfOk result (λ added. added ≡ not (has_key self.old.keys key)) }
+        ensures keys { IfOk result (λ added. self.new.keys ≡ (if added then self.old.keys ++ key ∷ [] else self.old.keys)) }
+        ensures offers { self.new.offers ≡ self.old.offers }
+        ensures refused { OnErr result (self.new ≡ self.old) }
+    {
+        let (_, added) = self.keys.insert_full(key)?;
+        Ok(added)
+    }
+
+    /// Adds an offer behind the others, and answers whether it was new.
+    pub fn add_offer(&mut self, offer: OfferNo) -> Result<bool, AllocError>
+        ensures added { IfOk result (λ added. added ≡ not (has_number self.old.offers offer)) }
+        ensures offers { IfOk result (λ added. self.new.offers ≡ (if added then self.old.offers ++ offer ∷ [] else self.old.offers)) }
+        ensures keys { self.new.keys ≡ self.old.keys }
+        ensures refused { OnErr result (self.new ≡ self.old) }
+    {
+        let (_, added) = self.offers.insert_full(offer)?;
+        Ok(added)
+    }
+
+    /// The offers, in order.
+    pub fn offers(&self) -> &[OfferNo]
+        ensures { result.now ≡ self.now.offers }
+    {
+        self.offers.as_slice()
+    }
+
+    /// The keys, in order.
+    pub fn keys(&self) -> &[LimitKey]
+        ensures { result.now ≡ self.now.keys }
+    {
+        self.keys.as_slice()
+    }
+
+    /// Whether a key is in the cut.
+    pub fn has_key(&self, key: LimitKey) -> bool
+        ensures { result ≡ has_key self.now.keys key }
+    {
+        self.keys.contains(&key)
+    }
+
+    /// A copy.
+    pub fn copy(&self) -> Result<Cut, AllocError>
+        ensures { IfOk result (λ cut. cut ≡ self.now) }
+    {
+        let keys = self.keys.clone()?;
+        let offers = self.offers.clone()?;
+        Ok(Cut { keys, offers })
+    }
+
+    /// Whether an offer is in the cut.
+    pub fn has_offer(&self, offer: OfferNo) -> bool
+        ensures { result ≡ has_number self.now.offers offer }
+    {
+        self.offers.contains(&offer)
+    }
+}

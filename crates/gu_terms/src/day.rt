@@ -1,0 +1,105 @@
+//! Days.
+
+ghost use Rattle.std.specs.Prelude.{◌≡◌, ◌↔◌, ◌<◌, ℕ, pos, ◌≤◌, length, IsTrue, IsSome, IfSome, IfOk, IsErrOf};
+ghost use Rattle.std.specs.Str.Parse.{AllDigits, digits_value};
+ghost use Rattle.jiff.specs.Words.{IsDate};
+ghost use Rattle.gu_terms.specs.Days.{IsDay, IsDayText, WritesDay, date_number, year_of, month_of, day_of};
+
+use crate::number_text::{NumberError, are_digits, value_of};
+use jiff::civil::Date;
+
+/// A date of the years 1 to 9999.
+#[derive(Clone, Copy, Debug, PartialEq, Eq, Hash)]
+pub struct Day {
+    pub year: u16,
+    pub month: u8,
+    pub day: u8,
+    ghost there: { IsDay year month day },
+}
+
+/// Whether there is such a date.
+fn is_date(year: u16, month: u8, day: u8) -> bool
+    requires { (year ≤ 9999) × (month < 100) × (day < 100) }
+    ensures { IsTrue result ↔ IsDate (pos year) (pos month) (pos day) }
+{
+    Date::new(year as i16, month as i8, day as i8).is_ok()
+}
+
+/// The number that up to four digits write.
+fn short_value(digits: &[u8]) -> u16
+    requires digits { AllDigits 10 digits.now }
+    requires short { length digits.now ≤ 4 }
+    ensures { result ≡ digits_value 10 digits.now }
+{
+    match value_of(digits, 9999) {
+        Some(value) => value as u16,
+        None => 0,
+    }
+}
+
+/// The number that two digits write.
+fn two_digits(digits: &[u8]) -> u8
+    requires digits { AllDigits 10 digits.now }
+    requires short { length digits.now ≤ 2 }
+    ensures { result ≡ digits_value 10 digits.now }
+{
+    match value_of(digits, 99) {
+        Some(value) => value as u8,
+        None => 0,
+    }
+}
+
+impl Day {
+    /// The day of this year, month and day of the month.
+    pub fn new(year: u16, month: u8, day: u8) -> Option<Self>
+        ensures sound { IsSome result ↔ IsDay year month day }
+        ensures same { IfSome result (λ d. (d.year ≡ year) × (d.month ≡ month) × (d.day ≡ day)) }
+    {
+        if year == 0 || year > 9999 || month >= 100 || day >= 100 || !is_date(year, month, day) {
+            return None;
+        }
+        Some(Day { year, month, day })
+    }
+
+    /// Its year, month and day of the month.
+    pub fn get(self) -> (u16, u8, u8)
+        ensures year { result.0 ≡ self.year }
+        ensures month { result.1 ≡ self.month }
+        ensures day { result.2 ≡ self.day }
+        ensures sound { IsDay self.year self.month self.day }
+    {
+        (self.year, self.month, self.day)
+    }
+
+    /// The day that eight digits write.
+    pub fn read(text: &[u8]) -> Result<Day, NumberError>
+        ensures day { IfOk result (λ d. WritesDay text.now d.year d.month d.day) }
+        ensures bad_number { IsErrOf result NumberError.BadNumber ↔ (¬ IsDayText text.now) }
+        ensures out_of_range { IsErrOf result NumberError.OutOfRange ↔ (IsDayText text.now × (¬ IsDay (year_of text.now) (month_of text.now) (day_of text.now))) }
+    {
+        if text.len() != 8 || !are_digits(text) {
+            return Err(NumberError::BadNumber);
+        }
+        let year = short_value(&text[..4]);
+        let month = two_digits(&text[4..6]);
+        let day = two_digits(&text[6..]);
+        match Day::new(year, month, day) {
+            Some(day) => Ok(day),
+            None => Err(NumberError::OutOfRange),
+        }
+    }
+
+    /// Whether it comes before another day.
+    pub fn is_before(self, other: Day) -> bool
+        ensures { IsTrue result ↔ (date_number self.year self.month self.day < date_number other.year other.month other.day) }
+    {
+        self.number() < other.number()
+    }
+
+    /// The number that its eight digits write: year, month, day.
+    pub fn number(self) -> u32
+        ensures { result ≡ date_number self.year self.month self.day }
+    {
+        10_000 * u32::from(self.year) + 100 * u32::from(self.month) + u32::from(self.day)
+    }
+}

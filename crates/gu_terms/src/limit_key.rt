@@ -1,0 +1,54 @@
+//! What limits are set on.
+
+ghost use Rattle.std.specs.Prelude.{◌≡◌, ◌↔◌, IsTrue};
+ghost use Rattle.gu_terms.specs.LimitKeys.{key_eq, kind_of, name_of_key};
+
+use crate::account::AccountId;
+use crate::agreement::AgreementId;
+use crate::firm::FirmId;
+
+/// What a daily lot limit is set on, in one product group.
+#[derive(Clone, Copy, Debug, PartialEq, Eq, Hash)]
+pub enum LimitKey {
+    /// All that a firm gives up.
+    Exec(FirmId),
+    /// All that is given up under an agreement.
+    Agr(AgreementId),
+    /// All that an account takes up.
+    Acct(AccountId),
+    /// All that a firm carries.
+    Carry(FirmId),
+}
+
+impl LimitKey {
+    /// The word for its kind, in scripts, sheets and refusals.
+    pub fn kind(self) -> &'static str
+        ensures { result.now ≡ kind_of self }
+    {
+        match self {
+            LimitKey::Exec(_) => "EXEC",
+            LimitKey::Agr(_) => "AGR",
+            LimitKey::Acct(_) => "ACCT",
+            LimitKey::Carry(_) => "CARRY",
+        }
+    }
+
+    /// The name of the firm, the agreement or the account.
+    pub fn name(&self) -> &[u8]
+        ensures { result.now ≡ name_of_key self.now }
+    {
+        match self {
+            LimitKey::Exec(firm) | LimitKey::Carry(firm) => firm.get(),
+            LimitKey::Agr(agreement) => agreement.get(),
+            LimitKey::Acct(account) => account.get(),
+        }
+    }
+
+    /// Whether two keys are one.
+    pub fn is_same(self, other: LimitKey) -> bool
+        ensures test { result ≡ key_eq self other }
+        ensures same { IsTrue result ↔ (self ≡ other) }
+    {
+        self == other
+    }
+}

@@ -1,0 +1,86 @@
+//! Lots.
+
+ghost use Rattle.std.specs.Prelude.{◌≡◌, ◌↔◌, ℕ, List, IsSome, IfSome, IfOk, IsErrOf, MatchOption};
+ghost use Rattle.std.specs.Str.Parse.{AllDigits};
+ghost use Rattle.gu_terms.specs.Numbers.{IsLots};
+ghost use Rattle.gu_terms.specs.NumberText.{IsNumberText, IsTakenApart, MeansLots};
+
+use crate::number_text::{NumberError, NumberText, is_zero, parts_of, value_of};
+use std::marker::Model;
+
+/// The lots that a trade or a give-up has at most.
+const MOST_LOTS: u64 = 1_000_000;
+
+/// A number of lots: 1 to 1,000,000 whole contracts. To a contract it is the number.
+#[derive(Clone, Copy, Debug, PartialEq, Eq, PartialOrd, Ord, Hash)]
+pub struct Lots {
+    number: u64,
+}
+
+impl Model for Lots {
+    ghost use Rattle.std.specs.Prelude.{ℕ};
+    ghost use Rattle.gu_terms.specs.Numbers.{IsLots};
+
+    ghost Value = { ℕ };
+
+    ghost view = { λ l. l.number };
+
+    ghost invariant = { λ l. IsLots l.number };
+
+    ghost inverse = { λ n. record { number = n } };
+}
+
+impl Lots {
+    /// The lots of this number.
+    pub fn new(number: u64) -> Option<Self>
+        ensures sound { IsSome result ↔ IsLots number }
+        ensures same { IfSome result (λ l. l ≡ number) }
+    {
+        if 1 <= number && number <= MOST_LOTS {
+            Some(Lots { number })
+        } else {
+            None
+        }
+    }
+
+    /// The number.
+    pub fn get(self) -> u64
+        ensures number { result ≡ self }
+        ensures sound { IsLots self }
+    {
+        self.number
+    }
+}
+
+/// The lots that a text's parts stand for.
+fn lots_of(parts: NumberText<'_>) -> Option<Lots>
+    requires whole { AllDigits 10 parts.whole.now }
+    requires fraction { AllDigits 10 parts.fraction.now }
+    ensures { (text : List ℕ) → IsTakenApart text parts.entry.is_negative parts.entry.whole.now parts.entry.fraction.now → MatchOption result ((n : ℕ) → MeansLots text n → ⊥) (λ lots. MeansLots text lots) }
+{
+    if parts.is_negative {
+        return None;
+    }
+    if !is_zero(parts.fraction) {
+        return None;
+    }
+    let Some(number) = value_of(parts.whole, MOST_LOTS) else {
+        return None;
+    };
+    Lots::new(number)
+}
+
+/// The lots that a number text stands for.
+pub fn read_lots(text: &[u8]) -> Result<Lots, NumberError>
+    ensures lots { IfOk result (MeansLots text.now) }
+    ensures bad_number { IsErrOf result NumberError.BadNumber ↔ (¬ IsNumberText text.now) }
+    ensures out_of_range { IsErrOf result NumberError.OutOfRange ↔ (IsNumberText text.now × ((n : ℕ) → MeansLots text.now n → ⊥)) }
+{
+    let Some(parts) = parts_of(text) else {
+        return Err(NumberError::BadNumber);
+    };
+    match lots_of(parts) {
+        Some(lots) => Ok(lots),
+        None => Err(NumberError::OutOfRange),
+    }
+}

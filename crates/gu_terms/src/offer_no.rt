@@ -1,0 +1,50 @@
+//! The numbers of offers.
+
+ghost use Rattle.std.specs.Prelude.{◌≡◌, ◌↔◌, IsSome, IfSome};
+ghost use Rattle.gu_terms.specs.Numbers.{IsOfferNo};
+
+use std::marker::Model;
+
+/// The offers that a book has at most: sixteen an entry.
+const MOST_OFFERS: u64 = 16_000_000;
+
+/// The number of an offer: 1 to 16,000,000, over the whole book. To a contract it is the number.
+#[derive(Clone, Copy, Debug, PartialEq, Eq, PartialOrd, Ord, Hash)]
+pub struct OfferNo {
+    number: u64,
+}
+
+impl Model for OfferNo {
+    ghost use Rattle.std.specs.Prelude.{ℕ};
+    ghost use Rattle.gu_terms.specs.Numbers.{IsOfferNo};
+
+    ghost Value = { ℕ };
+
+    ghost view = { λ o. o.number };
+
+    ghost invariant = { λ o. IsOfferNo o.number };
+
+    ghost inverse = { λ n. record { number = n } };
+}
+
+impl OfferNo {
+    /// The offer number of this number.
+    pub fn new(number: u64) -> Option<Self>
+        ensures sound { IsSome result ↔ IsOfferNo number }
+        ensures same { IfSome result (λ o. o ≡ number) }
+    {
+        if 1 <= number && number <= MOST_OFFERS {
+            Some(OfferNo { number })
+        } else {
+            None
+        }
+    }
+
+    /// The number.
+    pub fn get(self) -> u64
+        ensures number { result ≡ self }
+        ensures sound { IsOfferNo self }
+    {
+        self.number
+    }
+}
