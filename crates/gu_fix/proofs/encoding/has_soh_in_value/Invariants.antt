@@ -1,0 +1,7 @@
+use Rattle.std.proofs.Common.{◌≡◌}
+use Rattle.std.specs.List.{list_any}
+use Rattle.gu_fix.specs.Encoding.{has_soh}
+use Rattle.gu_fix.proofs.encoding.has_soh_in_value.Given as goal
+
+abbrev pub invariant-loop-field : goal.invariant-loop-field
+invariant-loop-field l = list_any (λ f. has_soh f.value) l.fields ≡ list_any (λ f. has_soh f.value) l.field-iterator

@@ -1,0 +1,10 @@
+pub mod WholeMessage
+pub mod Stream
+pub mod RejectReason
+pub mod TagValue
+pub mod Fields
+pub mod Encoding
+pub mod Places
+pub mod SoundLength
+pub mod Sums
+pub mod Spans

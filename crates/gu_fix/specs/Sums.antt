@@ -1,0 +1,19 @@
+-- Running sums of bytes, modulo 256. (Machinery: no other crate names this file.)
+use Rattle.std.specs.Prelude.{◌≡◌, ℕ, ◌+◌, ◌%◌, ◌≤◌, ◌<◌, List, [], ◌∷◌, length}
+
+-- the running sum behind these bytes
+abbrev pub sum_after : ℕ → List ℕ → ℕ
+sum_after base [] = base
+sum_after base (b ∷ bs) = sum_after ((base + b) % 256) bs
+
+-- the running sum behind each of them
+abbrev pub running_sums : ℕ → List ℕ → List ℕ
+running_sums base [] = []
+running_sums base (b ∷ bs) = let s = (base + b) % 256 in s ∷ running_sums s bs
+
+-- the fields of a window: sums belongs to bytes, and start is one of its places
+pub record IsWindow (base : ℕ) (bytes sums : List ℕ) (start : ℕ) : Type 0 where
+  pub small : base < 256
+  pub paired : length sums ≡ length bytes
+  pub summed : sums ≡ running_sums base bytes
+  pub within : start ≤ length bytes

@@ -1,0 +1,174 @@
+//! Messages from fields.
+ghost use Rattle.std.specs.Prelude.{◌≡◌, ◌==◌, ◌≤◌, ◌<◌, ◌+◌, ◌++◌, ◌↔◌, List, ℕ, [], ◌∷◌, length, Some, None, IfOk, OnOk, IsErrOf, MatchOption, MatchResult, IsTrue, not, ◌&&◌};
+ghost use Rattle.std.specs.List.{list_any, list_all};
+ghost use Rattle.gu_fix.specs.WholeMessage.{soh, front_of, trailer_after, IsWhole};
+ghost use Rattle.gu_fix.specs.TagValue.{TagValue, tag_value};
+ghost use Rattle.gu_fix.specs.Encoding.{field_text, fields_text, message_of, fault_of, is_body_tag, begins_with_type, is_empty, has_soh};
+ghost use Rattle.gu_fix.specs.SoundLength.{IsSound, IsFirstFault};
+
+use crate::error::EncodeError;
+use crate::field::{Field, Fields};
+use crate::place::{FIXED_LENGTH, LONGEST, OPENING, SOH, checksum, trailer};
+use crate::tag::{BEGIN_STRING, BODY_LENGTH, CHECK_SUM, MSG_TYPE};
+use itoa::Buffer;
+use std::alloc::{AllocError, Global};
+
+/// Whether a field of a body may have this tag.
+fn is_free_tag(tag: u32) -> bool
+    ensures { result ≡ is_body_tag tag }
+{
+    !matches!(tag, 0 | BEGIN_STRING | BODY_LENGTH | CHECK_SUM) && tag <= 999_999_999
+}
+
+fn has_free_tags(fields: &Fields) -> bool
+    ensures { result ≡ list_all (λ f. is_body_tag f.tag) fields.now }
+{
+    for field in fields {
+        if !is_free_tag(field.tag) {
+            return false;
+        }
+    }
+    true
+}
+
+fn begins_with_message_type(fields: &Fields) -> bool
+    ensures { result ≡ begins_with_type fields.now }
+{
+    match fields.iter().next() {
+        Some(field) => field.tag == MSG_TYPE,
+        None => false,
+    }
+}
+
+fn has_message_tags(fields: &Fields) -> bool
+    ensures { result ≡ (begins_with_type fields.now && list_all (λ f. is_body_tag f.tag) fields.now) }
+{
+    begins_with_message_type(fields) && has_free_tags(fields)
+}
+
+fn has_empty_value(fields: &Fields) -> bool
+    ensures { result ≡ list_any (λ f. is_empty f.value) fields.now }
+{
+    for field in fields {
+        if field.value.is_empty() {
+            return true;
+        }
+    }
+    false
+}
+
+fn contains_soh(value: &[u8]) -> bool
+    ensures { result ≡ has_soh value.now }
+{
+    value.contains(&SOH)
+}
+
+fn has_soh_in_value(fields: &Fields) -> bool
+    ensures { result ≡ list_any (λ f. has_soh f.value) fields.now }
+{
+    for field in fields {
+        if contains_soh(field.value) {
+            return true;
+        }
+    }
+    false
+}
+
+/// Appends a field.
+fn push_field(out: &mut Vec<u8>, field: Field) -> Result<(), AllocError>
+    ensures { OnOk result (out.new.items ≡ out.old.items ++ field_text (tag_value field.entry.tag field.entry.value.now)) }
+{
+    let mut digits = Buffer::new();
+    out.extend_from_slice(digits.format(field.tag).as_bytes())?;
+    out.push(b'=')?;
+    out.extend_from_slice(field.value)?;
+    out.push(SOH)?;
+    Ok(())
+}
+
+/// Appends fields.
+fn push_fields(out: &mut Vec<u8>, fields: &Fields) -> Result<(), AllocError>
+    ensures { OnOk result (out.new.items ≡ out.old.items ++ fields_text fields.now) }
+{
+    for field in fields {
+        push_field(out, field)?;
+    }
+    Ok(())
+}
+
+/// The length of the fields' text, unless it is above a message's.
+fn body_length(fields: &Fields) -> Option<usize>
+    ensures { MatchOption result (65536 < length (fields_text fields.now)) (λ n. (n ≡ length (fields_text fields.now)) × (n ≤ 65536)) }
+{
+    let mut total = 0;
+    for field in fields {
+        let mut digits = Buffer::new();
+        total += digits.format(field.tag).len() + field.value.len() + 2;
+        if total > LONGEST {
+            return None;
+        }
+    }
+    Some(total)
+}
+
+/// The message of these fields, whose text has this length with these digits.
+fn message(alloc: Global, len: usize, digits: &[u8], fields: &Fields) -> Result<Vec<u8>, AllocError>
+    requires { FIXED_LENGTH + length digits.now + len ≤ LONGEST }
+    ensures { IfOk result (λ v. let front = front_of digits.now (fields_text fields.now) in v.items ≡ front ++ trailer_after front) }
+{
+    let mut out = Vec::with_capacity(alloc, FIXED_LENGTH + digits.len() + len)?;
+    out.extend_from_slice(OPENING)?;
+    out.extend_from_slice(digits)?;
+    out.push(SOH)?;
+    push_fields(&mut out, fields)?;
+    let sum = checksum(&out);
+    out.extend_from_slice(&trailer(sum))?;
+    Ok(out)
+}
+
+/// The length of the fields' text, or their first fault.
+fn sound_length(fields: &Fields) -> Result<usize, EncodeError>
+    ensures { MatchResult result (IsSound fields.now) (IsFirstFault fields.now) }
+{
+    if !has_message_tags(fields) {
+        return Err(EncodeError::BadTag);
+    }
+    if has_empty_value(fields) {
+        return Err(EncodeError::EmptyValue);
+    }
+    if has_soh_in_value(fields) {
+        return Err(EncodeError::SohInValue);
+    }
+    let Some(len) = body_length(fields) else {
+        return Err(EncodeError::TooLong);
+    };
+    let mut digits = Buffer::new();
+    if FIXED_LENGTH + digits.format(len).len() + len > LONGEST {
+        return Err(EncodeError::TooLong);
+    }
+    Ok(len)
+}
+
+/// The message of the fields. Each fault is looked for before any growth.
+pub fn encode(alloc: Global, fields: &Fields) -> Result<Vec<u8>, EncodeError>
+    ensures message { IfOk result (λ v. v.items ≡ message_of fields.now) }
+    ensures whole { IfOk result (λ v. IsWhole v.items) }
+    ensures sound { OnOk result (fault_of fields.now ≡ None) }
+
+    // Each fault, exactly where it is the first one, and want of memory only where there is none.
+    ensures bad_tag { IsErrOf result EncodeError.BadTag ↔ (fault_of fields.now ≡ Some EncodeError.BadTag) }
+    ensures empty_value { IsErrOf result EncodeError.EmptyValue ↔ (fault_of fields.now ≡ Some EncodeError.EmptyValue) }
+    ensures soh_in_value { IsErrOf result EncodeError.SohInValue ↔ (fault_of fields.now ≡ Some EncodeError.SohInValue) }
+    ensures too_long { IsErrOf result EncodeError.TooLong ↔ (fault_of fields.now ≡ Some EncodeError.TooLong) }
+    ensures memory { IsErrOf result EncodeError.Memory → fault_of fields.now ≡ None }
+{
+    let len = match sound_length(fields) {
+        Ok(len) => len,
+        Err(fault) => return Err(fault),
+    };
+    let mut digits = Buffer::new();
+    match message(alloc, len, digits.format(len).as_bytes(), fields) {
+        Ok(out) => Ok(out),
+        Err(_) => Err(EncodeError::Memory),
+    }
+}

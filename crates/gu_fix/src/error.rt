@@ -1,0 +1,71 @@
+//! Why a call of this crate is refused, and what is wrong with a field.
+ghost use Rattle.std.specs.Prelude.{◌≡◌};
+ghost use Rattle.gu_fix.specs.RejectReason.{number_of};
+
+use std::alloc::AllocError;
+use thiserror::Error;
+
+/// Why a feed takes no piece.
+#[derive(Clone, Copy, Debug, Error, PartialEq, Eq)]
+pub enum FeedError {
+    /// A growth was refused. The feed is as it was, and the piece may be fed again.
+    #[error("Memory")]
+    Memory,
+}
+
+impl From<AllocError> for FeedError {
+    ghost use Rattle.std.specs.Prelude.{◌≡◌};
+    ghost use Rattle.gu_fix.specs.declared.error.FeedError.TheVariants.{Memory};
+
+    ghost from_gives = { λ _ error. error ≡ Memory };
+
+    fn from(_error: AllocError) -> FeedError {
+        FeedError::Memory
+    }
+}
+
+/// Why fields make no message, in the order in which it is looked for over all of them.
+#[derive(Clone, Copy, Debug, Error, PartialEq, Eq)]
+pub enum EncodeError {
+    /// A growth was refused.
+    #[error("Memory")]
+    Memory,
+    /// The first tag isn't 35, or a tag is 0, 8, 9, 10 or above 999,999,999.
+    #[error("BadTag")]
+    BadTag,
+    /// A value is empty.
+    #[error("EmptyValue")]
+    EmptyValue,
+    /// A value has SOH in it.
+    #[error("SohInValue")]
+    SohInValue,
+    /// The message would have more than 65,536 bytes.
+    #[error("TooLong")]
+    TooLong,
+}
+
+/// Why a field or a message is rejected (SessionRejectReason, tag 373).
+#[derive(Clone, Copy, Debug, PartialEq, Eq)]
+pub enum SessionRejectReason {
+    InvalidTagNumber,
+    TagSpecifiedWithoutAValue,
+}
+
+impl SessionRejectReason {
+    /// Its value on the wire.
+    pub fn number(self) -> u32
+        ensures { result ≡ number_of self }
+    {
+        match self {
+            SessionRejectReason::InvalidTagNumber => 0,
+            SessionRejectReason::TagSpecifiedWithoutAValue => 4,
+        }
+    }
+}
+
+/// What is wrong with a part of a message, and at which tag: 0 where none can be read.
+#[derive(Clone, Copy, Debug, PartialEq, Eq)]
+pub struct FieldFault {
+    pub tag: u32,
+    pub reason: SessionRejectReason,
+}

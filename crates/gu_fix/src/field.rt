@@ -1,0 +1,181 @@
+//! Fields in order: tags with their values, which lie in one buffer.
+ghost use Rattle.std.specs.Prelude.{◌≡◌, ◌+◌, ◌≤◌, ◌<◌, List, ℕ, [], ◌∷◌, ◌++◌, length, take, drop, slice_get, Some, IfOk, OnOk, OnErr, IsTrue, ◌↔◌};
+ghost use Rattle.std.specs.Iterator.{YieldsFirstBy, item_count};
+ghost use Rattle.gu_fix.specs.TagValue.{TagValue, tag_value};
+
+use std::alloc::{AllocError, Global};
+use std::marker::Model;
+
+/// A field that lies in a message or among others.
+#[derive(Clone, Copy, Debug, PartialEq, Eq)]
+pub struct Field<'a> {
+    pub tag: u32,
+    pub value: &'a [u8],
+}
+
+/// A tag, and where its value lies.
+#[derive(Clone, Copy)]
+pub struct Span {
+    tag: u32,
+    start: usize,
+    len: usize,
+}
+
+impl Span {
+    /// The field whose value lies there.
+    fn field_in(self, bytes: &[u8]) -> Field<'_>
+        requires { self.start + self.len ≤ length bytes.now }
+        ensures tag { result.tag ≡ self.tag }
+        ensures value { result.value.now ≡ take self.len (drop self.start bytes.now) }
+    {
+        Field {
+            tag: self.tag,
+            value: &bytes[self.start..self.start + self.len],
+        }
+    }
+}
+
+/// Fields in order. To a contract they are the list of their tags and values.
+#[derive(Drop)]
+pub struct Fields {
+    bytes: Vec<u8>,
+    spans: Vec<Span>,
+}
+
+impl Model for Fields {
+    ghost use Rattle.std.specs.Prelude.{List};
+    ghost use Rattle.gu_fix.specs.TagValue.{TagValue};
+
+    ghost Value = { List TagValue };
+
+    ghost use Rattle.gu_fix.specs.Spans.{fields_in, AreWithin};
+
+    ghost view = { λ f. fields_in f.bytes.items f.spans.items };
+
+    ghost invariant = { λ f. AreWithin f.bytes.items f.spans.items };
+}
+
+impl Fields {
+    /// No fields.
+    pub fn new(alloc: Global) -> Self
+        ensures { result ≡ [] }
+    {
+        Fields {
+            bytes: Vec::new(alloc),
+            spans: Vec::new(alloc),
+        }
+    }
+
+    /// No fields yet, with room for those of a message of so many bytes, eight bytes to a field.
+    pub(crate) fn with_room(alloc: Global, bytes: usize) -> Result<Self, AllocError>
+        ensures { IfOk result (λ fields. fields ≡ []) }
+    {
+        Ok(Fields {
+            bytes: Vec::with_capacity(alloc, bytes)?,
+            spans: Vec::with_capacity(alloc, bytes / 8)?,
+        })
+    }
+
+    /// How many fields there are.
+    pub fn len(&self) -> usize
+        ensures { result ≡ length self.now }
+    {
+        self.spans.len()
+    }
+
+    /// Whether there are none.
+    pub fn is_empty(&self) -> bool
+        ensures { IsTrue result ↔ (self.now ≡ []) }
+    {
+        self.spans.is_empty()
+    }
+
+    /// The field at a place, counted from 0.
+    pub fn get(&self, index: usize) -> Field<'_>
+        requires { index < length self.now }
+        ensures { slice_get self.now index ≡ Some (tag_value result.tag result.value.now) }
+    {
+        self.spans[index].field_in(&self.bytes)
+    }
+
+    /// The fields in order.
+    pub fn iter(&self) -> Iter<'_>
+        ensures { result ≡ self.now }
+    {
+        Iter {
+            bytes: &self.bytes,
+            spans: &self.spans,
+        }
+    }
+
+    /// Appends a field with a copy of the value.
+    pub fn push(&mut self, tag: u32, value: &[u8]) -> Result<(), AllocError>
+        ensures ok { OnOk result (self.new ≡ self.old ++ tag_value tag value.now ∷ []) }
+        ensures err { OnErr result (self.new ≡ self.old) }
+    {
+        self.spans.reserve(1)?;
+        let start = self.bytes.len();
+        self.bytes.extend_from_slice(value)?;
+        self.spans.push_reserved(Span {
+            tag,
+            start,
+            len: value.len(),
+        });
+        Ok(())
+    }
+
+    /// The same fields in a buffer of their own.
+    pub fn copy(&self, alloc: Global) -> Result<Fields, AllocError>
+        ensures { IfOk result (λ copy. copy ≡ self.now) }
+    {
+        let bytes = Vec::from_slice(alloc, &self.bytes)?;
+        let spans = Vec::from_slice(alloc, &self.spans)?;
+        Ok(Fields { bytes, spans })
+    }
+}
+
+/// The fields that are left of a walk over them.
+#[derive(Drop)]
+pub struct Iter<'a> {
+    bytes: &'a [u8],
+    spans: &'a [Span],
+}
+
+impl<'a> Model for Iter<'a> {
+    ghost use Rattle.std.specs.Prelude.{List};
+    ghost use Rattle.gu_fix.specs.TagValue.{TagValue};
+
+    ghost Value = { List TagValue };
+
+    ghost use Rattle.gu_fix.specs.Spans.{fields_in, AreWithin};
+
+    ghost view = { λ it. fields_in it.bytes.now it.spans.now };
+
+    ghost invariant = { λ it. AreWithin it.bytes.now it.spans.now };
+}
+
+impl<'a> Iterator for Iter<'a> {
+    type Item = Field<'a>;
+
+    ghost next_gives = { YieldsFirstBy (λ field. tag_value field.tag field.value.now) (λ left. left) };
+
+    ghost remaining = { item_count (λ left. left) };
+
+    fn next(&mut self) -> Option<Field<'a>> {
+        let (span, others) = self.spans.split_first()?;
+        self.spans = others;
+        Some(span.field_in(self.bytes))
+    }
+}
+
+impl<'a> IntoIterator for &'a Fields {
+    type Item = Field<'a>;
+
+    type IntoIter = Iter<'a>;
+
+    ghost into_iter_gives = { λ fields it. it ≡ fields.now };
+
+    fn into_iter(self) -> Iter<'a> {
+        self.iter()
+    }
+}

@@ -1,0 +1,123 @@
+//! The bytes that are looked at, with sums for the checksum of any stretch.
+ghost use Rattle.std.specs.Prelude.{◌≡◌, ◌+◌, ◌-◌, ◌%◌, ◌≤◌, List, ℕ, [], ◌++◌, length, take, drop, sum, vec_len, vec_capacity, OnOk, OnErr};
+ghost use Rattle.gu_fix.specs.Sums.{IsWindow, running_sums, sum_after};
+
+use std::alloc::{AllocError, Global};
+use std::marker::Model;
+
+/// A stretch of a stream. To a contract it is its bytes.
+#[derive(Drop)]
+pub struct Window {
+    bytes: Vec<u8>,
+    /// The sum up to and with each byte, modulo 256.
+    sums: Vec<u8>,
+    /// The sum before the first byte.
+    base: u8,
+    /// The bytes before this place are done with.
+    start: usize,
+}
+
+impl Model for Window {
+    ghost Value = { List ℕ };
+
+    ghost view = { λ w. drop w.start w.bytes.items };
+
+    ghost invariant = { λ w. IsWindow w.base w.bytes.items w.sums.items w.start };
+}
+
+/// Appends the sum behind each byte.
+fn push_sums(sums: &mut Vec<u8>, base: u8, bytes: &[u8])
+    requires { vec_len sums.old + length bytes.now ≤ vec_capacity sums.old }
+    ensures { sums.new.items ≡ sums.old.items ++ running_sums base bytes.now }
+{
+    let mut total = base;
+    for byte in bytes {
+        total = total.wrapping_add(*byte);
+        sums.push_reserved(total);
+    }
+}
+
+/// The sum before a place.
+fn sum_before(base: u8, sums: &[u8], place: usize) -> u8
+    requires { place ≤ length sums.now }
+    ensures { (bytes : List ℕ) → sums.now ≡ running_sums base bytes → result ≡ sum_after base (take place bytes) }
+{
+    if place == 0 { base } else { sums[place - 1] }
+}
+
+/// Takes items away from the front.
+fn drop_front(items: &mut Vec<u8>, count: usize)
+    requires { count ≤ vec_len items.old }
+    ensures { items.new.items ≡ drop count items.old.items }
+{
+    items.drain(..count);
+}
+
+impl Window {
+    /// A window with no bytes.
+    pub fn new(alloc: Global) -> Self
+        ensures { result ≡ [] }
+    {
+        Window {
+            bytes: Vec::new(alloc),
+            sums: Vec::new(alloc),
+            base: 0,
+            start: 0,
+        }
+    }
+
+    /// The bytes.
+    pub fn bytes(&self) -> &[u8]
+        ensures { result.now ≡ self.now }
+    {
+        &self.bytes[self.start..]
+    }
+
+    /// The sum of `len` bytes from a place on, modulo 256.
+    pub fn checksum(&self, place: usize, len: usize) -> u8
+        requires { place + len ≤ length self.now }
+        ensures { result ≡ sum (take len (drop place self.now)) % 256 }
+    {
+        let from = self.start + place;
+        let before = sum_before(self.base, &self.sums, from);
+        let behind = sum_before(self.base, &self.sums, from + len);
+        behind.wrapping_sub(before)
+    }
+
+    /// Appends a piece.
+    pub fn push(&mut self, piece: &[u8]) -> Result<(), AllocError>
+        ensures ok { OnOk result (self.new ≡ self.old ++ piece.now) }
+        ensures err { OnErr result (self.new ≡ self.old) }
+    {
+        self.sums.reserve(piece.len())?;
+        let total = sum_before(self.base, &self.sums, self.sums.len());
+        self.bytes.extend_from_slice(piece)?;
+        push_sums(&mut self.sums, total, piece);
+        Ok(())
+    }
+
+    /// Takes bytes away from the end.
+    pub fn truncate(&mut self, len: usize)
+        requires { len ≤ length self.old }
+        ensures { self.new ≡ take len self.old }
+    {
+        let len = self.start + len;
+        self.bytes.truncate(len);
+        self.sums.truncate(len);
+    }
+
+    /// Takes bytes away from the front.
+    pub fn consume(&mut self, len: usize)
+        requires { len ≤ length self.old }
+        ensures { self.new ≡ drop len self.old }
+    {
+        self.start += len;
+        // Half of the bytes at most are moved, so that each byte that is done with pays for one.
+        if self.start >= self.bytes.len() - self.start {
+            self.base = sum_before(self.base, &self.sums, self.start);
+            drop_front(&mut self.bytes, self.start);
+            drop_front(&mut self.sums, self.start);
+            self.start = 0;
+        }
+    }
+}
