@@ -1,0 +1,67 @@
+-- A look-up by hash answers as a search of the list, and a new row goes last.
+use Rattle.std.proofs.Common.{◌≡◌, ◌∙◌, sym, refl, ap, Bool, true, false, cond, is_some, ◌||◌, if◌then◌else◌, ◌&&◌, ℕ, List, [], ◌∷◌, ◌++◌, map, None, Some}
+use Rattle.std.proofs.lemmas.List.{map-append}
+use Rattle.std.specs.List.{find, list_any}
+use Rattle.std.specs.Map.{keys_of, values_of, lookup}
+use Rattle.std.specs.Cmp.{IsEquivalence}
+use Rattle.std.specs.Str.{bytes_eq}
+use Rattle.std.proofs.lemmas.Cmp.{nat_list_eq_equiv}
+use Rattle.indexmap.specs.IndexMap.{IndexMap, keys, values, get, insert_entry}
+use Rattle.indexmap.specs.IndexSet.{insert_key}
+use Rattle.indexmap.proofs.CallerLemmas.{insert_entry-new}
+
+-- names are the same or not by their bytes
+pub by_name : {K : Type 0} (name : K → List ℕ) → IsEquivalence (λ (a b : K). bytes_eq (name a) (name b))
+by_name name = record {
+  refl = λ a. nat_list_eq_equiv.refl (name a);
+  symm = λ a b. nat_list_eq_equiv.symm (name a) (name b);
+  congr = λ a b c. nat_list_eq_equiv.congr (name a) (name b) (name c);
+}
+
+both-congr : (p q r s t u : Bool) → (p ≡ true → r ≡ s) → (q ≡ true → t ≡ u) → (p && q) ≡ true → (r && t) ≡ (s && u)
+both-congr true true r s t u f g h = rw (f refl, g refl) refl
+both-congr true false r s t u f g h = cc
+both-congr false q r s t u f g h = cc
+
+-- two names are the same pair or not by both
+pub by_names : {K : Type 0} (one two : K → List ℕ) → IsEquivalence (λ (a b : K). bytes_eq (one a) (one b) && bytes_eq (two a) (two b))
+by_names one two = record {
+  refl = λ a. rw (nat_list_eq_equiv.refl (one a), nat_list_eq_equiv.refl (two a)) refl;
+  symm = λ a b. rw (nat_list_eq_equiv.symm (one a) (one b), nat_list_eq_equiv.symm (two a) (two b)) refl;
+  congr = λ a b c. both-congr _ _ _ _ _ _ (nat_list_eq_equiv.congr (one a) (one b) (one c)) (nat_list_eq_equiv.congr (two a) (two b) (two c));
+}
+
+module _ {K X : Type 0} (eq : K → K → Bool) (laws : IsEquivalence eq) (key : X → K) where
+  -- where each row stands under its own key, the row under a key is the first one of that key
+  pub lookup-by_key : (k : K) (entries : List (K × X)) → keys_of entries ≡ map key (values_of entries)
+      → lookup (eq k) entries ≡ find (λ x. eq (key x) k) (values_of entries)
+  lookup-by_key k [] keyed = refl
+  lookup-by_key k (e ∷ entries) keyed =
+      let own : e.0 ≡ key e.1 = cc in
+      let rest : keys_of entries ≡ map key (values_of entries) = cc in
+      let one : eq k e.0 ≡ eq (key e.1) k = ap (eq k) own ∙ laws.symm k (key e.1) in
+      rw (one, lookup-by_key k entries rest) refl
+
+  -- a row of a new key goes last, under its own key
+  pub pushed : {S : Type 0} (kept : IndexMap K X S) (rows : List X) (x : X) (new : List (K × X))
+      → values kept ≡ rows → keys kept ≡ map key (values kept) → find (λ y. eq (key y) (key x)) rows ≡ None
+      → new ≡ insert_entry eq kept.entries (key x) x
+      → (keys_of new ≡ map key (values_of new)) × (values_of new ≡ rows ++ x ∷ [])
+  pushed kept rows x new view keyed none is =
+      let absent : get eq kept (key x) ≡ None = lookup-by_key (key x) kept.entries keyed ∙ ap (find (λ y. eq (key y) (key x))) view ∙ none in
+      let all : new ≡ kept.entries ++ (key x, x) ∷ [] = is ∙ insert_entry-new eq kept (key x) x absent in
+      let ks : keys_of new ≡ map key (values_of kept.entries) ++ key x ∷ [] = ap keys_of all ∙ map-append (λ e. e.0) kept.entries ((key x, x) ∷ []) ∙ ap (λ l. l ++ key x ∷ []) keyed in
+      let vs : values_of new ≡ values_of kept.entries ++ x ∷ [] = ap values_of all ∙ map-append (λ e. e.1) kept.entries ((key x, x) ∷ []) in
+      (ks ∙ sym (ap (map key) vs ∙ map-append key (values_of kept.entries) (x ∷ [])), vs ∙ ap (λ l. l ++ x ∷ []) view)
+
+-- a new name goes last in a set
+pub inserted : {K : Type 0} (eq : K → K → Bool) → IsEquivalence eq → (kept rows : List K) (k : K) (new : List K)
+    → kept ≡ rows → list_any (λ x. eq x k) rows ≡ false → new ≡ insert_key eq kept k → new ≡ rows ++ k ∷ []
+inserted eq laws kept rows k new view none is =
+    let absent : list_any (eq k) kept ≡ false = (λ i. list_any (λ x. laws.symm k x i) kept) ∙ ap (list_any (λ x. eq x k)) view ∙ none in
+    is ∙ ap (λ b. if b then kept else kept ++ k ∷ []) absent ∙ ap (λ l. l ++ k ∷ []) view
+
+-- a search finds something where the list has it
+pub is_some-find : {X : Type 0} (test : X → Bool) (rows : List X) → is_some (find test rows) ≡ list_any test rows
+is_some-find test [] = refl
+is_some-find test (x ∷ rows) = elim (test x) as (λ b. is_some (cond b (Some x) (find test rows)) ≡ (b || list_any test rows)) [ true ↦ refl | false ↦ is_some-find test rows ]

@@ -1,0 +1,11 @@
+use Rattle.std.proofs.Common.{◌∙◌, ap}
+use Rattle.gu_ref.specs.Kept.{pair_of}
+use Rattle.gu_ref.specs.Listed.{agreement_for}
+use Rattle.gu_ref.proofs.Lookups.{by_names, lookup-by_key}
+use Rattle.gu_ref.proofs.agreements.Agreements.between.Goals as goal
+
+pub returns : goal.returns
+returns c =
+    c.copied.ensures ∙ c.get.ensures.value
+    ∙ lookup-by_key _ (by_names (λ pair. pair.executing.name) (λ pair. pair.account.name)) pair_of (record { executing = c.args.executing; account = c.args.account }) c.self.inside.pairs.entries c.self.invariant.paired
+    ∙ ap (λ rows. agreement_for rows c.args.executing c.args.account) (c.self.invariant.alike ∙ c.self.view_is)

@@ -1,0 +1,11 @@
+use Rattle.std.proofs.Common.{◌∙◌, ap}
+use Rattle.gu_ref.specs.Listed.{agreement_in}
+use Rattle.gu_ref.specs.Same.{same_agreement}
+use Rattle.gu_ref.proofs.Lookups.{by_name, lookup-by_key}
+use Rattle.gu_ref.proofs.agreements.Agreements.get.Goals as goal
+
+pub returns : goal.returns
+returns c =
+    c.copied.ensures ∙ c.get.ensures.value
+    ∙ lookup-by_key same_agreement (by_name (λ k. k.name)) (λ row. row.id) c.args.id c.self.inside.rows.entries c.self.invariant.named
+    ∙ ap (λ rows. agreement_in rows c.args.id) c.self.view_is

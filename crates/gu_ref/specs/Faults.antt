@@ -1,0 +1,22 @@
+-- Why a reference file is not accepted: each fault's number and its name.
+use Rattle.std.specs.Prelude.{ℕ, List, codes}
+use Rattle.gu_ref.specs.declared.error.RefFault.{RefFault}
+use Rattle.gu_ref.specs.declared.error.RefFault.TheVariants.{Memory, BadRow, Unknown, Twice, TooMany, ReadFault}
+
+-- its number; a want of memory, which is no fault of the file, has 0
+abbrev pub number_of : RefFault → ℕ
+number_of Memory = 0
+number_of (BadRow line) = 1
+number_of (Unknown line) = 2
+number_of (Twice line) = 3
+number_of TooMany = 4
+number_of ReadFault = 5
+
+-- its name, without the line
+abbrev pub name_of : RefFault → List ℕ
+name_of Memory = codes "Memory"
+name_of (BadRow line) = codes "BadRow"
+name_of (Unknown line) = codes "Unknown"
+name_of (Twice line) = codes "Twice"
+name_of TooMany = codes "TooMany"
+name_of ReadFault = codes "ReadFault"

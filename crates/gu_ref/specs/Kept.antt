@@ -1,0 +1,16 @@
+-- How agreements are kept: under their names, and under their firms and accounts.
+use Rattle.std.specs.Prelude.{◌≡◌, map}
+use Rattle.indexmap.specs.IndexMap.{keys, values}
+use Rattle.gu_ref.specs.declared.agreements.Agreement.{Agreement}
+use Rattle.gu_ref.specs.declared.agreements.Agreements.TheInside.{Inside}
+use Rattle.gu_ref.specs.declared.agreements.Pair.{Pair}
+
+-- the executing firm and the account of an agreement
+abbrev pub pair_of : Agreement → Pair
+pair_of a = record { executing = a.executing; account = a.account }
+
+-- each agreement stands under its name and under its pair, in one order
+pub record IsKept (kept : Inside) : Type 0 where
+  pub named : keys kept.rows ≡ map (λ a. a.id) (values kept.rows)
+  pub paired : keys kept.pairs ≡ map pair_of (values kept.pairs)
+  pub alike : values kept.pairs ≡ values kept.rows

@@ -1,0 +1,12 @@
+pub mod Accepted
+pub mod Faults
+pub mod File
+pub mod Growth
+pub mod Kept
+pub mod Listed
+pub mod Made
+pub mod Reference
+pub mod Rows
+pub mod Rules
+pub mod Same
+pub mod Tables

@@ -1,0 +1,24 @@
+//! Reference data of the house: firms, product groups, instruments, accounts and agreements.
+#![tactic(auto)]
+
+mod accepting;
+mod accounts;
+mod agreements;
+mod bounded_reads;
+mod error;
+mod firms;
+mod groups;
+mod instruments;
+mod laws;
+mod reading;
+mod reference;
+mod row;
+#[cfg(test)]
+mod tests;
+
+pub use accounts::Account;
+pub use agreements::Agreement;
+pub use error::RefFault;
+pub use instruments::Instrument;
+pub use laws::one_answer;
+pub use reference::Reference;

@@ -1,0 +1,181 @@
+//! The reference data of a run, its look-ups, and its walks in the order of the file.
+
+ghost use Rattle.std.specs.Prelude.{◌≡◌, ◌≤◌, [], Some, Contains, if◌then◌else◌};
+ghost use Rattle.std.specs.Result.{is_ok};
+
+use crate::accounts::{Account, Accounts};
+use crate::agreements::{Agreement, Agreements};
+use crate::firms::Firms;
+use crate::groups::Groups;
+use crate::instruments::{Instrument, Instruments};
+use crate::row::Row;
+use gu_terms::{AccountId, AgreementId, FirmId, Group, Symbol};
+use std::alloc::{AllocError, Global};
+use std::marker::Model;
+
+/// The reference data of one run, each kind in the order in which it was declared.
+/// To a contract it is these five lists.
+#[derive(Debug, Drop)]
+pub struct Reference {
+    firms: Firms,
+    groups: Groups,
+    instruments: Instruments,
+    accounts: Accounts,
+    agreements: Agreements,
+}
+
+impl Model for Reference {
+    ghost use Rattle.gu_ref.specs.Tables.{Tables};
+
+    ghost Value = { Tables };
+
+    ghost view = { λ r. record { firms = r.firms; groups = r.groups; instruments = r.instruments; accounts = r.accounts; agreements = r.agreements } };
+
+    ghost use Rattle.gu_ref.specs.Rules.{IsSound};
+
+    ghost invariant = { λ r. IsSound (record { firms = r.firms; groups = r.groups; instruments = r.instruments; accounts = r.accounts; agreements = r.agreements }) };
+}
+
+impl Reference {
+    ghost use Rattle.gu_ref.specs.declared.accounts.Account.{Account};
+    ghost use Rattle.gu_ref.specs.declared.agreements.Agreement.{Agreement};
+    ghost use Rattle.gu_ref.specs.Growth.{Passes, with_row, row_count};
+    ghost use Rattle.gu_ref.specs.Rules.{IsSound};
+    ghost use Rattle.gu_ref.specs.Reference.{is_firm, is_group, is_instrument, instrument_row, account_row, agreement_row, agreement_between};
+
+    /// The rules of every reference. One firm carries an account, and one agreement stands between a firm and an account.
+    pub fn rules(&self)
+        ensures sound { IsSound self.now }
+        ensures carrier { (row : Account) → Contains self.now.accounts row → account_row self.now row.account ≡ Some row }
+        ensures partner { (row : Agreement) → Contains self.now.agreements row → agreement_between self.now row.executing row.account ≡ Some row.id }
+    {
+        // A field that is read shows what the type keeps.
+        let _ = &self.firms;
+    }
+
+    /// The firms, in order.
+    pub fn firms(&self) -> &[FirmId]
+        ensures { result.now ≡ self.now.firms }
+    {
+        self.firms.as_slice()
+    }
+
+    /// The product groups, in order.
+    pub fn groups(&self) -> &[Group]
+        ensures { result.now ≡ self.now.groups }
+    {
+        self.groups.as_slice()
+    }
+
+    /// The instruments, in order.
+    pub fn instruments(&self) -> &[Instrument]
+        ensures { result.now ≡ self.now.instruments }
+    {
+        self.instruments.as_slice()
+    }
+
+    /// The accounts, in order.
+    pub fn accounts(&self) -> &[Account]
+        ensures { result.now ≡ self.now.accounts }
+    {
+        self.accounts.as_slice()
+    }
+
+    /// The agreements, in order.
+    pub fn agreements(&self) -> &[Agreement]
+        ensures { result.now ≡ self.now.agreements }
+    {
+        self.agreements.as_slice()
+    }
+
+    /// Whether there is such a firm.
+    pub fn firm(&self, firm: FirmId) -> bool
+        ensures { result ≡ is_firm self.now firm }
+    {
+        self.firms.contains(firm)
+    }
+
+    /// Whether there is such a product group.
+    pub fn group(&self, group: Group) -> bool
+        ensures { result ≡ is_group self.now group }
+    {
+        self.groups.contains(group)
+    }
+
+    /// Whether there is such an instrument.
+    pub fn is_instrument(&self, symbol: Symbol) -> bool
+        ensures { result ≡ is_instrument self.now symbol }
+    {
+        self.instrument(symbol).is_some()
+    }
+
+    /// The instrument of this symbol, with its group.
+    pub fn instrument(&self, symbol: Symbol) -> Option<Instrument>
+        ensures { result ≡ instrument_row self.now symbol }
+    {
+        self.instruments.get(symbol)
+    }
+
+    /// The account of this name, with the firm that carries it.
+    pub fn account(&self, account: AccountId) -> Option<Account>
+        ensures { result ≡ account_row self.now account }
+    {
+        self.accounts.get(account)
+    }
+
+    /// The agreement of this name.
+    pub fn agreement(&self, id: AgreementId) -> Option<Agreement>
+        ensures { result ≡ agreement_row self.now id }
+    {
+        self.agreements.get(id)
+    }
+
+    /// The agreement by which the executing firm gives trades up to the account.
+    pub fn between(&self, executing: FirmId, account: AccountId) -> Option<AgreementId>
+        ensures { result ≡ agreement_between self.now executing account }
+    {
+        self.agreements
+            .between(executing, account)
+            .map(|row| row.id)
+    }
+
+    /// No rows.
+    pub(crate) fn empty(alloc: Global) -> Self
+        ensures { result ≡ record { firms = []; groups = []; instruments = []; accounts = []; agreements = [] } }
+    {
+        Reference {
+            firms: Firms::new(alloc),
+            groups: Groups::new(alloc),
+            instruments: Instruments::new(alloc),
+            accounts: Accounts::new(alloc),
+            agreements: Agreements::new(alloc),
+        }
+    }
+
+    /// How many rows there are.
+    pub(crate) fn row_count(&self) -> u64
+        ensures count { result ≡ row_count self.now }
+        ensures few { result ≤ 31100 }
+    {
+        let firms = self.firms.as_slice().len();
+        let groups = self.groups.as_slice().len();
+        let instruments = self.instruments.as_slice().len();
+        let accounts = self.accounts.as_slice().len();
+        let agreements = self.agreements.as_slice().len();
+        (firms + groups + instruments + accounts + agreements) as u64
+    }
+
+    /// Adds a row that has no fault after these.
+    pub(crate) fn enter(&mut self, row: Row) -> Result<(), AllocError>
+        requires { Passes self.old row }
+        ensures { self.new ≡ (if is_ok result then with_row self.old row else self.old) }
+    {
+        match row {
+            Row::Firm(firm) => self.firms.push(firm),
+            Row::Group(group) => self.groups.push(group),
+            Row::Instrument(instrument) => self.instruments.push(instrument),
+            Row::Account(account) => self.accounts.push(account),
+            Row::Agreement(agreement) => self.agreements.push(agreement),
+        }
+    }
+}
