@@ -1,0 +1,139 @@
+//! The book.
+
+ghost use Rattle.std.specs.Prelude.{◌≡◌, ◌↔◌, ◌<◌, ◌≤◌, ◌+◌, ◌++◌, ◌∷◌, [], length, IfOk, OnErr, IsErrOf};
+ghost use Rattle.gu_book.specs.Answer.{answer};
+ghost use Rattle.gu_book.specs.Legal.{IsLegal, MayFollow, StandsLast};
+ghost use Rattle.gu_book.specs.Limits.{limit_rows};
+ghost use Rattle.gu_book.specs.Positions.{long_of, short_of};
+ghost use Rattle.gu_book.specs.Reports.{open_day};
+
+use crate::answering::answer_of;
+use crate::error::EnterError;
+use crate::limits::limit_rows;
+use crate::positions::traded;
+use crate::receipt::Receipt;
+use crate::reports::open_day;
+use gu_ref::Reference;
+use gu_terms::{AccountId, Command, Day, Entry, Group, History, LimitRow, Side, Symbol};
+use std::alloc::{AllocError, Global};
+use std::marker::Model;
+
+/// The entries that a book has at most.
+pub const MOST_ENTRIES: usize = 1_000_000;
+
+/// A reference, and a legal history of what was entered.
+#[derive(Drop)]
+pub struct Book {
+    reference: Reference,
+    history: History,
+    alloc: Global,
+}
+
+impl Model for Book {
+    ghost use Rattle.gu_book.specs.Kept.{Kept};
+
+    ghost Value = { Kept };
+
+    ghost use Rattle.gu_book.specs.Legal.{IsLegal};
+
+    ghost view = { λ b. record { reference = b.reference; history = b.history } };
+
+    ghost invariant = { λ b. IsLegal b.reference b.history };
+}
+
+impl Book {
+    /// A book without entries.
+    pub fn new(alloc: Global, reference: Reference) -> Self
+        ensures { result ≡ record { reference = reference; history = [] } }
+    {
+        Book {
+            reference,
+            history: History::new(alloc),
+            alloc,
+        }
+    }
+
+    /// Adds an entry, and makes its receipt.
+    #[tactic(auto, using(crate::proofs::Growing::legal_push, crate::proofs::Growing::stands_last))]
+    fn append(&mut self, entry: Entry) -> Result<Receipt, AllocError>
+        requires room { length self.old.history < 1000000 }
+        requires may { MayFollow self.old.reference self.old.history entry }
+        ensures entered { IfOk result (λ r. self.new.history ≡ self.old.history ++ entry ∷ []) }
+        ensures number { IfOk result (λ r. r.number ≡ length self.old.history + 1) }
+        ensures entry { IfOk result (λ r. r.entry ≡ entry) }
+        ensures stands { IfOk result (λ r. StandsLast self.old.reference r.number entry) }
+        ensures reference { self.new.reference ≡ self.old.reference }
+        ensures refused { OnErr result (self.new.history ≡ self.old.history) }
+    {
+        let number = self.history.len() as u64 + 1;
+        let shown = entry.copy()?;
+        self.history.push(entry)?;
+        Ok(Receipt {
+            number,
+            entry: shown,
+        })
+    }
+
+    /// Enters a command with its answer, a refusal too.
+    pub fn enter(&mut self, command: Command) -> Result<Receipt, EnterError>
+        ensures entered { IfOk result (λ r. self.new.history ≡ self.old.history ++ r.entry ∷ []) }
+        ensures number { IfOk result (λ r. r.number ≡ length self.old.history + 1) }
+        ensures entry { IfOk result (λ r. r.entry ≡ Entry.Asked command (answer self.old.reference self.old.history command)) }
+        ensures stands { IfOk result (λ r. StandsLast self.old.reference r.number r.entry) }
+
+        // Nothing is entered in a full book, or where a growth is refused.
+        ensures full { IsErrOf result EnterError.Full ↔ (1000000 ≤ length self.old.history) }
+        ensures reference { self.new.reference ≡ self.old.reference }
+        ensures refused { OnErr result (self.new.history ≡ self.old.history) }
+    {
+        if self.history.len() >= MOST_ENTRIES {
+            return Err(EnterError::Full);
+        }
+        let reply = answer_of(&self.reference, self.history.as_slice(), &command);
+        match self.append(Entry::Asked { command, reply }) {
+            Ok(receipt) => Ok(receipt),
+            Err(_) => Err(EnterError::Memory),
+        }
+    }
+
+    /// What an account holds of an instrument: the lots long, and the lots short.
+    pub fn position(&self, account: AccountId, symbol: Symbol) -> (u64, u64)
+        ensures long { result.0 ≡ long_of self.now.history account symbol }
+        ensures short { result.1 ≡ short_of self.now.history account symbol }
+    {
+        let history = self.history.as_slice();
+        let long = traded(history, Side::Buy, &account, &symbol);
+        let short = traded(history, Side::Sell, &account, &symbol);
+        (long, short)
+    }
+
+    /// The limits that were set in a group, as they stand: executing firms, agreements, accounts, carrying firms,
+    /// each in the order of the reference; none for an unknown group.
+    pub fn limits(&self, group: &Group) -> Result<Vec<LimitRow>, AllocError>
+        ensures { IfOk result (λ rows. rows.items ≡ limit_rows self.now group.now) }
+    {
+        limit_rows(self.alloc, &self.reference, self.history.as_slice(), group)
+    }
+
+    /// The open day.
+    pub fn day(&self) -> Option<Day>
+        ensures { result ≡ open_day self.now.history }
+    {
+        open_day(self.history.as_slice())
+    }
+
+    /// All that was entered.
+    pub fn history(&self) -> &History
+        ensures history { result.now ≡ self.now.history }
+        ensures legal { IsLegal self.now.reference self.now.history }
+    {
+        &self.history
+    }
+
+    /// The reference that it was made with.
+    pub fn reference(&self) -> &Reference
+        ensures { result.now ≡ self.now.reference }
+    {
+        &self.reference
+    }
+}

@@ -1,0 +1,15 @@
+//! The book: a reference, and the history of all that was entered.
+#![tactic(auto)]
+
+mod answering;
+mod book;
+mod error;
+mod limits;
+mod partners;
+mod positions;
+mod receipt;
+mod reports;
+
+pub use book::{Book, MOST_ENTRIES};
+pub use error::EnterError;
+pub use receipt::Receipt;
