@@ -1,0 +1,91 @@
+//! Positions as lines of text.
+
+ghost use Rattle.std.specs.Prelude.{◌≡◌, ◌++◌, ◌∷◌, [], IfOk, OnOk};
+ghost use Rattle.std.specs.Fmt.{decimal};
+ghost use Rattle.giveup.specs.PositionText.{word, position_line, position_text, account_text, positions_text};
+
+use gu_book::Book;
+use gu_terms::{AccountId, Symbol};
+use itoa::Buffer;
+use std::alloc::{AllocError, Global};
+
+/// Appends a word and a blank.
+fn append_word(output: &mut Vec<u8>, bytes: &[u8]) -> Result<(), AllocError>
+    ensures { OnOk result (output.new.items ≡ output.old.items ++ word bytes.now) }
+{
+    output.extend_from_slice(bytes)?;
+    output.push(b' ')?;
+    Ok(())
+}
+
+/// Appends a number and a blank.
+fn append_number(output: &mut Vec<u8>, number: u64) -> Result<(), AllocError>
+    ensures { OnOk result (output.new.items ≡ output.old.items ++ word (decimal number)) }
+{
+    let mut digits = Buffer::new();
+    append_word(output, digits.format(number).as_bytes())
+}
+
+/// Appends a number and the end of a line.
+fn append_last_number(output: &mut Vec<u8>, number: u64) -> Result<(), AllocError>
+    ensures { OnOk result (output.new.items ≡ output.old.items ++ (decimal number ++ 10 ∷ [])) }
+{
+    let mut digits = Buffer::new();
+    output.extend_from_slice(digits.format(number).as_bytes())?;
+    output.push(b'\n')?;
+    Ok(())
+}
+
+/// Appends a position's line.
+fn append_line(
+    output: &mut Vec<u8>,
+    account: &AccountId,
+    symbol: &Symbol,
+    long: u64,
+    short: u64,
+) -> Result<(), AllocError>
+    ensures { OnOk result (output.new.items ≡ output.old.items ++ position_line account.now symbol.now long short) }
+{
+    append_word(output, b"POSITION")?;
+    append_word(output, account.get())?;
+    append_word(output, symbol.get())?;
+    append_number(output, long)?;
+    append_last_number(output, short)
+}
+
+/// Appends a position's line, unless the account holds nothing of the instrument.
+fn append_position(
+    output: &mut Vec<u8>,
+    book: &Book,
+    account: AccountId,
+    symbol: Symbol,
+) -> Result<(), AllocError>
+    ensures { OnOk result (output.new.items ≡ output.old.items ++ position_text book.now account symbol) }
+{
+    let (long, short) = book.position(account, symbol);
+    if long == 0 && short == 0 {
+        return Ok(());
+    }
+    append_line(output, &account, &symbol, long, short)
+}
+
+/// Appends the lines of an account.
+fn append_account(output: &mut Vec<u8>, book: &Book, account: &AccountId) -> Result<(), AllocError>
+    ensures { OnOk result (output.new.items ≡ output.old.items ++ account_text book.now account.now) }
+{
+    for instrument in book.reference().instruments() {
+        append_position(output, book, *account, instrument.symbol)?;
+    }
+    Ok(())
+}
+
+/// The lines of all accounts.
+pub fn positions_text(alloc: Global, book: &Book) -> Result<Vec<u8>, AllocError>
+    ensures { IfOk result (λ text. text.items ≡ positions_text book.now) }
+{
+    let mut output = Vec::new(alloc);
+    for row in book.reference().accounts() {
+        append_account(&mut output, book, &row.account)?;
+    }
+    Ok(output)
+}

@@ -1,0 +1,24 @@
+//! Writing.
+
+ghost use Rattle.std.specs.Prelude.{OnOk, OnErr};
+ghost use Rattle.std.specs.Io.KnownBytes.{Appends};
+ghost use Rattle.giveup.specs.Serving.{WrotePart};
+
+use crate::error::EngineError;
+use std::io::Write;
+
+/// Writes a text. After an error some front of it was written.
+pub fn send<W: Write>(writer: &mut W, text: &[u8]) -> Result<(), EngineError>
+    ensures ok { OnOk result (Appends (W.contents writer.old) (W.contents writer.new) text.now) }
+    ensures err { OnErr result (WrotePart text.now (W.contents writer.old) (W.contents writer.new)) }
+{
+    let mut at = 0;
+    'parts: while at < text.len() {
+        match writer.write(&text[at..]) {
+            Ok(0) => return Err(EngineError::Write),
+            Ok(count) => at += count,
+            Err(_) => return Err(EngineError::Write),
+        }
+    }
+    Ok(())
+}
