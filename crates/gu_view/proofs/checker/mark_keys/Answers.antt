@@ -1,0 +1,30 @@
+use Rattle.std.proofs.Common.{◌∙◌, ap, sym, not, set, true}
+use Rattle.std.proofs.lemmas.Bool.{not_from_true, not_from_false}
+use Rattle.gu_terms.specs.LimitKeys.{key_eq}
+use Rattle.gu_terms.specs.declared.limit_key.LimitKey.{LimitKey}
+use Rattle.gu_view.specs.Check.{has_room}
+use Rattle.gu_view.specs.declared.error.CutFault.TheVariants.{Unknown}
+use Rattle.gu_view.specs.declared.error.Unknown.TheVariants.{Key}
+use Rattle.gu_view.specs.declared.view.Room.{Room}
+use Rattle.gu_view.proofs.ListLemmas.{found_here, found_later}
+use Rattle.gu_view.proofs.MarkLemmas.{not_there, there, mark_key}
+use Rattle.gu_view.proofs.checker.mark_keys.Goals as goal
+
+pub returns-in_default-clause-unknown : goal.returns-in_default-clause-unknown
+returns-in_default-clause-unknown c =
+    let rooms = c.args.view.now.rooms in
+    let k = c.key-item.result in
+    found_here (λ k. not (has_room rooms k)) (λ (k : LimitKey). Unknown (Key k)) c.args.keys.now c.loop-key.key-index k c.loop-key-test.true c.key-item.is c.loop-key.invariant.known_all
+    (not_from_false (has_room rooms k) (not_there (λ (r : Room). key_eq r.key k) rooms (sym c.place.ensures.place ∙ c.in_default.is)))
+
+pub loop-key-preserved : goal.loop-key-preserved
+loop-key-preserved c =
+    let rooms = c.args.view.now.rooms in
+    let k = c.key-item.result in
+    let at = sym c.place.ensures.place ∙ c.in-Some.is in
+    record {
+      known_all = found_later (λ k. not (has_room rooms k)) c.args.keys.now c.loop-key.key-index k c.loop-key-test.true c.key-item.is c.loop-key.invariant.known_all
+          (not_from_true (has_room rooms k) (there (λ (r : Room). key_eq r.key k) rooms c.in-Some.place at));
+      marks_are = ap (λ l. set l c.in-Some.place true) c.loop-key.invariant.marks_are
+          ∙ mark_key c.args.view.now c.place.ensures.sound c.args.keys.now c.loop-key.key-index k c.in-Some.place c.loop-key-test.true (rw c.key-item.is at at);
+    }

@@ -1,0 +1,8 @@
+use Rattle.std.proofs.Common.{take}
+use Rattle.gu_terms.specs.Cuts.{has_number}
+use Rattle.gu_view.specs.Check.{has_offer}
+use Rattle.gu_view.proofs.MarkLemmas.{AreMarked}
+use Rattle.gu_view.proofs.checker.mark_offers.Given as goal
+
+abbrev pub invariant-loop-number : goal.invariant-loop-number
+invariant-loop-number l = AreMarked l.offers (has_offer l.offers) (λ o numbers. has_number numbers o.number) (take l.number-index l.numbers) l.marks

@@ -1,0 +1,9 @@
+pub mod Check
+pub mod Cut
+pub mod Faults
+pub mod Making
+pub mod Marks
+pub mod Paths
+pub mod Places
+pub mod Takes
+pub mod View

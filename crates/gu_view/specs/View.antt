@@ -1,0 +1,76 @@
+-- The view of a group: its open offers, and the rooms of the keys on their paths.
+use Rattle.std.specs.Prelude.{◌≡◌, ℕ, suc, ◌<◌, ◌≤◌, not, List, [], ◌∷◌, Option, Some, All, AllPairs, IsTrue, filter, length, map, slice_get}
+use Rattle.std.specs.List.{flat_map, position_or_len}
+use Rattle.gu_terms.specs.declared.account.AccountId.{AccountId}
+use Rattle.gu_terms.specs.declared.firm.FirmId.{FirmId}
+use Rattle.gu_terms.specs.declared.group.Group.{Group}
+use Rattle.gu_terms.specs.declared.limit_key.LimitKey.{LimitKey}
+use Rattle.gu_terms.specs.declared.limit_key.LimitKey.TheVariants.{Exec, Agr, Acct, Carry}
+use Rattle.gu_terms.specs.LimitKeys.{key_eq, has_key}
+use Rattle.gu_terms.specs.Numbers.{IsLots}
+use Rattle.gu_view.specs.declared.view.Offer.{Offer}
+use Rattle.gu_view.specs.declared.view.Room.{Room}
+use Rattle.gu_view.specs.Places.{places_where}
+
+-- what a view shows: a group and its version, its open offers, and the room of each key on their paths
+pub record GroupView : Type 0 where
+  pub group : Group
+  pub version : ℕ
+  pub offers : List Offer
+  pub rooms : List Room
+
+-- keys, each once, where it first stands
+abbrev pub firsts : List LimitKey → List LimitKey
+firsts [] = []
+firsts (k ∷ keys) = k ∷ filter (λ j. not (key_eq k j)) (firsts keys)
+
+-- the keys on the offers' paths, in order of first mention
+abbrev pub keys_of : List Offer → List LimitKey
+keys_of offers = firsts (flat_map (λ o. o.path) offers)
+
+-- what holds of every view
+pub record IsView (view : GroupView) : Type 0 where
+  pub few : length view.offers ≤ 4096
+  pub ascending : AllPairs (λ a b. a.number < b.number) view.offers
+  pub lots : All (λ o. IsLots o.lots) view.offers
+  pub own : All (λ o. slice_get o.path 1 ≡ Some (Agr o.agreement)) view.offers
+  pub one_path : AllPairs (λ a b. a.agreement ≡ b.agreement → a.path ≡ b.path) view.offers
+  pub rooms : map (λ r. r.key) view.rooms ≡ keys_of view.offers
+  pub few_rooms : length view.rooms ≤ 20480
+  pub limits : All (λ r. r.lots ≤ 1000000000) view.rooms
+
+-- the place of a key among keys
+abbrev pub place_among : List LimitKey → LimitKey → ℕ
+place_among keys k = position_or_len (λ j. key_eq j k) keys
+
+-- the place of a key among the rooms
+abbrev pub place_of : List Room → LimitKey → ℕ
+place_of rooms k = position_or_len (λ r. key_eq r.key k) rooms
+
+-- the places of the offers with a key on their path
+abbrev pub places_under : List Offer → LimitKey → List ℕ
+places_under offers k = places_where (λ o. has_key o.path k) offers
+
+-- a view beside its keys, the places of each offer's keys, and of each room's offers
+pub record IsIndexed (view : GroupView) (keys : List LimitKey) (places members : List (List ℕ)) : Type 0 where
+  pub sound : IsView view
+  pub keys_are : keys ≡ map (λ r. r.key) view.rooms
+  pub places_are : places ≡ map (λ o. map (place_of view.rooms) o.path) view.offers
+  pub members_are : members ≡ map (λ r. places_under view.offers r.key) view.rooms
+
+-- a path: executing firm, the offer's own agreement, account, carrying firm
+abbrev pub IsPath : Offer → Type 0
+IsPath o = (executing : FirmId) × (account : AccountId) × (carrying : FirmId) × (o.path ≡ Exec executing ∷ Agr o.agreement ∷ Acct account ∷ Carry carrying ∷ [])
+
+-- the key that comes after one on a path
+abbrev pub next_key : List LimitKey → LimitKey → Option LimitKey
+next_key path k = slice_get path (suc (position_or_len (λ j. key_eq j k) path))
+
+-- two paths with one account key go on with one carrying key
+abbrev pub GoOnAlike : List LimitKey → List LimitKey → Type 0
+GoOnAlike a b = (account : AccountId) → IsTrue (has_key a (Acct account)) → IsTrue (has_key b (Acct account)) → next_key a (Acct account) ≡ next_key b (Acct account)
+
+-- each path is whole, and offers of one account key have one carrying key
+pub record IsNested (view : GroupView) : Type 0 where
+  pub paths : All IsPath view.offers
+  pub carriers : All (λ a. All (λ b. GoOnAlike a.path b.path) view.offers) view.offers

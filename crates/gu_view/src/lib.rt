@@ -1,0 +1,19 @@
+//! Views of groups, and the checker of cuts.
+#![tactic(auto)]
+
+mod checker;
+mod error;
+mod laws;
+mod making;
+mod members;
+mod nesting;
+mod place_lists;
+mod takes;
+#[cfg(test)]
+mod tests;
+mod view;
+
+pub use checker::check;
+pub use error::{CutFault, Unknown, ViewError};
+pub use laws::cut_bounds_takes;
+pub use view::{Offer, Room, View};

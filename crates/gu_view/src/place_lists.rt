@@ -1,0 +1,81 @@
+//! Lists of places, one behind another in one buffer.
+
+ghost use Rattle.std.specs.Prelude.{◌≡◌, ◌<◌, ◌≤◌, ◌∷◌, ◌++◌, [], length, OnOk, OnErr, IfOk, slice_get, slice_index, slice_range};
+
+use std::alloc::{AllocError, Global};
+use std::marker::Model;
+
+/// Lists of places. To a contract it is the list of these lists.
+#[derive(Debug, Drop)]
+pub struct PlaceLists {
+    joined: Vec<u32>,
+    ends: Vec<usize>,
+}
+
+impl Model for PlaceLists {
+    ghost use Rattle.std.specs.Prelude.{List, ℕ, length};
+    ghost use Rattle.gu_view.specs.Places.{lists_from, AreEnds};
+
+    ghost Value = { List (List ℕ) };
+
+    ghost view = { λ l. lists_from l.joined.items 0 l.ends.items };
+
+    ghost invariant = { λ l. AreEnds (length l.joined.items) 0 l.ends.items };
+}
+
+/// Where the list at a place starts: where the one before it ends.
+fn start_of(ends: &[usize], place: usize) -> usize
+    requires { place < length ends.now }
+    ensures { result ≡ slice_index (0 ∷ ends.now) place }
+{
+    if place == 0 { 0 } else { ends[place - 1] }
+}
+
+/// The part between two places.
+fn part(joined: &[u32], start: usize, end: usize) -> &[u32]
+    requires in_order { start ≤ end }
+    requires within { end ≤ length joined.now }
+    ensures { result.now ≡ slice_range joined.now start end }
+{
+    &joined[start..end]
+}
+
+impl PlaceLists {
+    /// No lists.
+    pub fn new(alloc: Global) -> Self
+        ensures { result ≡ [] }
+    {
+        PlaceLists {
+            joined: Vec::new(alloc),
+            ends: Vec::new(alloc),
+        }
+    }
+
+    /// Adds a list behind the others.
+    pub fn push(&mut self, list: &[u32]) -> Result<(), AllocError>
+        ensures ok { OnOk result (self.new ≡ self.old ++ list.now ∷ []) }
+        ensures refused { OnErr result (self.new ≡ self.old) }
+    {
+        self.ends.reserve(1)?;
+        self.joined.extend_from_slice(list)?;
+        self.ends.push(self.joined.len())?;
+        Ok(())
+    }
+
+    /// The list at a place.
+    pub fn list(&self, place: usize) -> &[u32]
+        requires { place < length self.now }
+        ensures { slice_get self.now place ≡ Some result.now }
+    {
+        part(&self.joined, start_of(&self.ends, place), self.ends[place])
+    }
+
+    /// A copy.
+    pub fn copy(&self) -> Result<PlaceLists, AllocError>
+        ensures { IfOk result (λ lists. lists ≡ self.now) }
+    {
+        let joined = self.joined.clone()?;
+        let ends = self.ends.clone()?;
+        Ok(PlaceLists { joined, ends })
+    }
+}

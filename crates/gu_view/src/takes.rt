@@ -1,0 +1,133 @@
+//! The lots that takes give, by offer and by key.
+
+ghost use Rattle.std.specs.Prelude.{◌≡◌, ℕ, false, ◌<◌, ◌≤◌, ◌^◌, AllPairs, All, IfNone, IfSome, None, find, length, map, nat_lt, slice_get, slice_index, sum, sum_by};
+ghost use Rattle.gu_terms.specs.Takes.{IsAscending, lots_of};
+ghost use Rattle.gu_view.specs.Check.{unknown_take, over_offer, over_limit, not_oldest_first};
+ghost use Rattle.gu_terms.specs.declared.limit_key.LimitKey.TheVariants.{Agr};
+ghost use Rattle.gu_view.specs.View.{place_of};
+ghost use Rattle.gu_view.specs.Takes.{lots_under};
+ghost use Rattle.gu_view.specs.Marks.{split_of, AreLots, AreMarks};
+
+use crate::error::{CutFault, Unknown};
+use crate::view::{MOST_ROOMS, Offer, View};
+use gu_terms::{OfferNo, Take};
+
+/// The lots of the first take where it is of this offer, and the takes behind it.
+fn split_first(takes: &[Take], offer: OfferNo) -> (u64, &[Take])
+    ensures lots { result.0 ≡ (split_of takes.now offer).0 }
+    ensures rest { result.1.now ≡ (split_of takes.now offer).1 }
+{
+    match takes {
+        [take, rest @ ..] if take.offer == offer => (take.lots, rest),
+        _ => (0, takes),
+    }
+}
+
+/// Writes the lots that are taken of each offer, or answers the first take of an offer that isn't there.
+pub fn fill_lots(offers: &[Offer], takes: &[Take], taken: &mut [u64]) -> Option<CutFault>
+    requires offers { AllPairs (λ a b. a.number < b.number) offers.now }
+    requires takes { IsAscending takes.now }
+    requires size { length taken.old ≡ length offers.now }
+    ensures unknown { result ≡ unknown_take offers.now takes.now }
+    ensures lots { IfNone result (AreLots offers.now taken.new (lots_of takes.now)) }
+{
+    let mut rest = takes;
+    for (place, offer) in offers.iter().enumerate() {
+        let (lots, behind) = split_first(rest, offer.number);
+        taken[place] = lots;
+        rest = behind;
+    }
+    rest.first()
+        .map(|take| CutFault::Unknown(Unknown::Offer(take.offer)))
+}
+
+/// The least offer of which more is taken than it has.
+pub fn over_offer(offers: &[Offer], taken: &[u64]) -> Option<CutFault>
+    requires { length taken.now ≡ length offers.now }
+    ensures first { (lots : ℕ → ℕ) → AreLots offers.now taken.now lots → result ≡ over_offer offers.now lots }
+    ensures within { IfNone result (sum taken.now ≤ sum_by (λ o. o.lots) offers.now) }
+{
+    for (place, offer) in offers.iter().enumerate() {
+        if offer.lots < taken[place] {
+            return Some(CutFault::OverOffer(offer.number));
+        }
+    }
+    None
+}
+
+/// The lots that are taken of the offers at these places.
+fn lots_at(places: &[u32], taken: &[u64]) -> u64
+    requires within { All (λ place. place < length taken.now) places.now }
+    requires fits { sum_by (λ place. slice_index taken.now place) places.now < 2 ^ 64 }
+    ensures { result ≡ sum_by (λ place. slice_index taken.now place) places.now }
+{
+    places.iter().map(|place| taken[*place as usize]).sum()
+}
+
+/// The lots that are taken under the key of the room at a place.
+fn taken_under(view: &View, room: usize, taken: &[u64]) -> u64
+    requires room { room < length view.now.rooms }
+    requires size { length taken.now ≡ length view.now.offers }
+    requires fits { sum taken.now < 2 ^ 64 }
+    ensures { (lots : ℕ → ℕ) → AreLots view.now.offers taken.now lots → IfSome (slice_get view.now.rooms room) (λ r. result ≡ lots_under view.now.offers r.key lots) }
+{
+    lots_at(view.members(room), taken)
+}
+
+/// The first key under which more is taken than its room.
+pub fn over_limit(view: &View, taken: &[u64]) -> Option<CutFault>
+    requires size { length taken.now ≡ length view.now.offers }
+    requires fits { sum taken.now < 2 ^ 64 }
+    ensures { (lots : ℕ → ℕ) → AreLots view.now.offers taken.now lots → result ≡ over_limit view.now.offers view.now.rooms lots }
+{
+    for (place, room) in view.rooms().iter().enumerate() {
+        if room.lots < taken_under(view, place, taken) {
+            return Some(CutFault::OverLimit(room.key));
+        }
+    }
+    None
+}
+
+/// The place of the room of an offer's agreement.
+fn agreement_place(view: &View, offer: usize) -> usize
+    requires { offer < length view.now.offers }
+    ensures place { IfSome (slice_get view.now.offers offer) (λ o. result ≡ place_of view.now.rooms (Agr o.agreement)) }
+    ensures within { result < length view.now.rooms }
+{
+    view.places(offer)[1] as usize
+}
+
+/// Walks the offers, marking by the place of an agreement's room that an offer of it isn't full.
+fn first_too_early(view: &View, taken: &[u64], short: &mut [bool]) -> Option<CutFault>
+    requires size { length taken.now ≡ length view.now.offers }
+    requires fresh { AreMarks view.now.rooms short.old (λ _. false) }
+    ensures { (lots : ℕ → ℕ) → AreLots view.now.offers taken.now lots → result ≡ not_oldest_first view.now.offers lots }
+{
+    for (place, offer) in view.offers().iter().enumerate() {
+        let agreement = agreement_place(view, place);
+        if 0 < taken[place] && short[agreement] {
+            return Some(CutFault::NotOldestFirst(offer.number));
+        }
+        if taken[place] < offer.lots {
+            short[agreement] = true;
+        }
+    }
+    None
+}
+
+/// The least offer that takes lots while an older one of its agreement isn't full.
+pub fn not_oldest_first(view: &View, taken: &[u64]) -> Option<CutFault>
+    requires size { length taken.now ≡ length view.now.offers }
+    ensures { (lots : ℕ → ℕ) → AreLots view.now.offers taken.now lots → result ≡ not_oldest_first view.now.offers lots }
+{
+    let mut short = [false; MOST_ROOMS];
+    first_too_early(view, taken, &mut short[..view.rooms().len()])
+}
+
+/// The lots that are taken in all.
+pub fn sum_of(taken: &[u64]) -> u64
+    requires { sum taken.now < 2 ^ 64 }
+    ensures { result ≡ sum taken.now }
+{
+    taken.iter().sum()
+}

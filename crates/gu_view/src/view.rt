@@ -1,0 +1,182 @@
+//! Views of groups.
+
+ghost use Rattle.std.specs.Prelude.{◌≡◌, ℕ, ◌<◌, ◌↔◌, IfErr, IfOk, IfSome, IsTrue, OnOk, length, map, All, position, slice_get};
+ghost use Rattle.gu_terms.specs.LimitKeys.{key_eq};
+ghost use Rattle.gu_view.specs.Making.{bad_offer, view_of, MakesView, Refuses};
+ghost use Rattle.gu_view.specs.View.{IsView, IsNested, place_of, places_under};
+
+use crate::error::ViewError;
+use crate::making::{all_places, bad_offer, first_mentions, path_differs, rooms_in_order};
+use crate::members::all_members;
+use crate::nesting::{are_whole, carriers_agree};
+use crate::place_lists::PlaceLists;
+use gu_terms::{AgreementId, Group, LimitKey, OfferNo, Path};
+use indexmap::IndexSet;
+use std::alloc::{AllocError, Global};
+use std::marker::Model;
+
+/// The offers that a view has at most.
+pub const MOST_OFFERS: usize = 4_096;
+
+/// The rooms that a view has at most: a path has at most five keys.
+pub const MOST_ROOMS: usize = 20_480;
+
+/// An open offer: its number, the lots that are left of it, its agreement and its path.
+#[derive(Clone, Copy, Debug)]
+pub struct Offer {
+    pub number: OfferNo,
+    pub lots: u64,
+    pub agreement: AgreementId,
+    pub path: Path,
+}
+
+/// The room of a key.
+#[derive(Clone, Copy, Debug)]
+pub struct Room {
+    pub key: LimitKey,
+    pub lots: u64,
+}
+
+/// A group's open offers, and the room of each key on their paths, in order of first mention.
+#[derive(Drop)]
+pub struct View {
+    group: Group,
+    version: u64,
+    offers: Vec<Offer>,
+    rooms: Vec<Room>,
+    /// The rooms' keys, to look one up.
+    keys: IndexSet<LimitKey>,
+    /// For each offer the places of its path's keys among the rooms.
+    places: PlaceLists,
+    /// For each room the places of the offers with its key.
+    members: PlaceLists,
+}
+
+impl Model for View {
+    ghost use Rattle.gu_view.specs.View.{GroupView, IsIndexed};
+
+    ghost Value = { GroupView };
+
+    ghost view = { λ v. record { group = v.group; version = v.version; offers = v.offers.items; rooms = v.rooms.items } };
+
+    ghost invariant = { λ v. IsIndexed (record { group = v.group; version = v.version; offers = v.offers.items; rooms = v.rooms.items }) v.keys.keys v.places v.members };
+}
+
+impl View {
+    /// The view that offers and rooms make. The rooms come in any order, and are kept in order of first mention.
+    pub fn new(
+        alloc: Global,
+        group: Group,
+        version: u64,
+        offers: Vec<Offer>,
+        rooms: Vec<Room>,
+    ) -> Result<View, ViewError>
+        ensures made { IfOk result (λ view. view ≡ view_of group version offers.items rooms.items) }
+        ensures accepted { OnOk result (MakesView offers.items rooms.items) }
+
+        // What each refusal says; memory is refused only where a growth was.
+        ensures refused { IfErr result (Refuses offers.items rooms.items) }
+        ensures bad_offer { (number : ℕ) → (result ≡ Err (ViewError.BadOffer number)) ↔ (bad_offer offers.items ≡ Some number) }
+    {
+        if let Some(number) = bad_offer(&offers) {
+            return Err(ViewError::BadOffer(number));
+        }
+        if let Some(number) = path_differs(alloc, &offers)? {
+            return Err(ViewError::PathDiffers(number));
+        }
+        let keys = first_mentions(alloc, &offers)?;
+        let Some(rooms) = rooms_in_order(alloc, &keys, &rooms)? else {
+            return Err(ViewError::BadRooms);
+        };
+        let places = all_places(alloc, &keys, &offers)?;
+        let members = all_members(alloc, &places, offers.len(), rooms.len())?;
+        Ok(View {
+            group,
+            version,
+            offers,
+            rooms,
+            keys,
+            places,
+            members,
+        })
+    }
+
+    /// The group.
+    pub fn group(&self) -> Group
+        ensures { result ≡ self.now.group }
+    {
+        self.group
+    }
+
+    /// The group's version.
+    pub fn version(&self) -> u64
+        ensures { result ≡ self.now.version }
+    {
+        self.version
+    }
+
+    /// The offers, numbers ascending.
+    pub fn offers(&self) -> &[Offer]
+        ensures offers { result.now ≡ self.now.offers }
+        ensures sound { IsView self.now }
+    {
+        self.offers.as_slice()
+    }
+
+    /// The rooms, in order of first mention.
+    pub fn rooms(&self) -> &[Room]
+        ensures rooms { result.now ≡ self.now.rooms }
+        ensures sound { IsView self.now }
+    {
+        self.rooms.as_slice()
+    }
+
+    /// The places among the rooms of the keys of the offer at a place, in the order of its path.
+    pub fn places(&self, offer: usize) -> &[u32]
+        requires { offer < length self.now.offers }
+        ensures places { IfSome (slice_get self.now.offers offer) (λ o. result.now ≡ map (place_of self.now.rooms) o.path) }
+        ensures within { All (λ place. place < length self.now.rooms) result.now }
+        ensures sound { IsView self.now }
+    {
+        self.places.list(offer)
+    }
+
+    /// The places of the offers with the key of the room at a place, in number order.
+    pub fn members(&self, room: usize) -> &[u32]
+        requires { room < length self.now.rooms }
+        ensures members { IfSome (slice_get self.now.rooms room) (λ r. result.now ≡ places_under self.now.offers r.key) }
+        ensures within { All (λ place. place < length self.now.offers) result.now }
+    {
+        self.members.list(room)
+    }
+
+    /// The place of a key's room.
+    pub fn place(&self, key: LimitKey) -> Option<usize>
+        ensures place { result ≡ position (λ r. key_eq r.key key) self.now.rooms }
+        ensures sound { IsView self.now }
+    {
+        self.keys.get_index_of(&key)
+    }
+
+    /// Whether each path is whole, and offers of one account have one carrying firm. It takes no memory.
+    pub fn nested(&self) -> bool
+        ensures { IsTrue result ↔ IsNested self.now }
+    {
+        are_whole(&self.offers) && carriers_agree(&self.offers)
+    }
+
+    /// A copy.
+    pub fn copy(&self) -> Result<View, AllocError>
+        ensures { IfOk result (λ view. view ≡ self.now) }
+    {
+        Ok(View {
+            group: self.group,
+            version: self.version,
+            offers: self.offers.clone()?,
+            rooms: self.rooms.clone()?,
+            keys: self.keys.clone()?,
+            places: self.places.copy()?,
+            members: self.members.copy()?,
+        })
+    }
+}
