@@ -1,0 +1,306 @@
+-- The shares of a greatest flow and the cut where its last search stops: right takes, a right cut, and no takes are greater.
+use Rattle.std.proofs.Common.{◌≡◌, ◌≢◌, ℕ, ◌+◌, ◌<◌, ◌≤◌, ◌==◌, ◌&&◌, not, Bool, true, false, cond, List, [], ◌∷◌, suc, length, map, get_or, refl, sym, ◌∙◌, ap, subst, arith, inl, inr}
+use Rattle.std.specs.Prelude.{sum_by}
+use Rattle.std.specs.List.{AllByRecursion, list_any}
+use Rattle.std.proofs.Math.Bool.{or-false}
+use Rattle.std.proofs.lemmas.Bool.{cases_eq, or_cases, or_left, or_right, eq-eqb, ne_eqb, eqb-true, lt-ltb, and_from}
+use Rattle.std.proofs.lemmas.List.{get_or_default}
+use Rattle.std.proofs.lemmas.List.Elements.{All-from_get_or, recursion_from_All}
+use Rattle.gu_terms.proofs.KeyLemmas.{key_eq-same}
+use Rattle.gu_terms.specs.Cuts.{CutLists, has_number}
+use Rattle.gu_terms.specs.LimitKeys.{key_eq, has_key}
+use Rattle.gu_terms.specs.Takes.{lots_of}
+use Rattle.gu_terms.specs.declared.agreement.AgreementId.{AgreementId}
+use Rattle.gu_terms.specs.declared.limit_key.LimitKey.{LimitKey}
+use Rattle.gu_terms.specs.declared.limit_key.LimitKey.TheVariants.{Exec, Agr, Acct, Carry}
+use Rattle.gu_terms.specs.declared.takes.Take.{Take}
+use Rattle.gu_view.proofs.CutBounds.{greatest_by_cut}
+use Rattle.gu_view.proofs.MarkLemmas.{path_inside}
+use Rattle.gu_view.specs.Check.{IsRight}
+use Rattle.gu_view.specs.Cut.{Covers, is_covered, room_of}
+use Rattle.gu_view.specs.Takes.{IsAdmissible, IsGreatest, IsOldestFirst, lots_under, total}
+use Rattle.gu_view.specs.View.{GroupView, IsView, IsNested, IsPath, place_of}
+use Rattle.gu_view.specs.declared.view.Offer.{Offer}
+use Rattle.gu_flow.specs.CutArcs.{leads_out, cuts_key, cuts_offers, IsCutBy}
+use Rattle.gu_flow.specs.Ends.{no_arc, arc_at}
+use Rattle.gu_flow.specs.Flows.{IsFlow, IsClosed}
+use Rattle.gu_flow.specs.Networks.{no_room, room_at, no_offer, offer_at, way_of, lots_with, capacity_of, IsOfferOf, AreArcs}
+use Rattle.gu_flow.specs.Proposals.{IsSound}
+use Rattle.gu_flow.specs.Shares.{agreement_place, agreement_lots, AreShares}
+use Rattle.gu_flow.specs.declared.arcs.Arc.{Arc}
+use Rattle.gu_flow.proofs.ArcLists.{places_within}
+use Rattle.gu_flow.proofs.CutTotals.{walk_leads_out, total_is_cut}
+use Rattle.gu_flow.proofs.Loads.{flow_at, agree, Sided}
+use Rattle.gu_flow.proofs.RoomPlaces.{goes_by_key, at_place}
+use Rattle.gu_flow.proofs.ShareLemmas.{share_taken, share_fits, shares_oldest_first, shares_together, shares_known}
+use Rattle.gu_flow.proofs.Sides.{IsLaid, LiesOn, way_walks, way_once, way_lays, first_left, later_right}
+use Rattle.gu_flow.proofs.SumLemmas.{places, sum_by-by, sum_by-add, sum_by-swap, sum_by-ext, sum_by_place, sum_places_by, sum_one_place, cond-sum, cond-swap}
+use Rattle.gu_flow.proofs.Walks.{has_place, Walking, load, sum_over}
+use Rattle.gu_flow.proofs.WayStages.{stage_of, stage_at, staged_at, key_on, lies_alike}
+
+-- a member of a list of small numbers is small
+has_within : (n k : ℕ) (ps : List ℕ) → AllByRecursion (λ p. p < n) ps → list_any (λ p. p == k) ps ≡ true → k < n
+has_within n k [] each on = cc
+has_within n k (p ∷ ps) each on = elim (or_cases (p == k) (list_any (λ p. p == k) ps) on) [
+  | inl here ↦ omega (arith, eqb-true p k here, each.0)
+  | inr there ↦ has_within n k ps each.1 there
+]
+
+-- a key on a path that passes a test
+any_key : (test : LimitKey → Bool) (key : LimitKey) (path : List LimitKey) → has_key path key ≡ true → test key ≡ true → list_any test path ≡ true
+any_key test key [] on passes = cc
+any_key test key (k ∷ path) on passes = elim (or_cases (key_eq k key) (has_key path key) on) [
+  | inl here ↦ or_left (test k) (list_any test path) (ap test (key_eq-same k key here) ∙ passes)
+  | inr there ↦ or_right (test k) (list_any test path) (any_key test key path there passes)
+]
+
+-- an arc can carry no more than its room, and less only where its offers have less
+capacity-le : (offers : List Offer) (lots : ℕ) (key : LimitKey) → capacity_of offers lots key ≤ lots
+capacity-le offers lots (Exec firm) = omega arith
+capacity-le offers lots (Agr agreement) = omega arith
+capacity-le offers lots (Acct account) = omega arith
+capacity-le offers lots (Carry firm) = omega arith
+
+record IsShort (offers : List Offer) (capacity : ℕ) (key : LimitKey) : Type 0 where
+  agreement : AgreementId
+  is : key ≡ Agr agreement
+  all : capacity ≡ lots_with offers key
+
+short : (offers : List Offer) (lots capacity : ℕ) (key : LimitKey) → capacity ≡ capacity_of offers lots key → capacity ≢ lots → IsShort offers capacity key
+short offers lots capacity (Exec firm) is other = absurd (other is)
+short offers lots capacity (Agr agreement) is other = record { agreement = agreement; is = refl; all = omega arith }
+short offers lots capacity (Acct account) is other = absurd (other is)
+short offers lots capacity (Carry firm) is other = absurd (other is)
+
+-- an arc of stage 0 is an agreement's, with no more than its offers have
+record IsAgreement (offers : List Offer) (capacity : ℕ) (key : LimitKey) : Type 0 where
+  agreement : AgreementId
+  is : key ≡ Agr agreement
+  most : capacity ≤ lots_with offers key
+
+-- an arc that leads out counts as its key's room where it can carry it, and else as its offers' lots
+whole_room : (out same : Bool) (capacity room all : ℕ) → same ≡ true → capacity ≡ room → cond out capacity 0 ≡ cond (out && same) room 0 + cond (out && not same) all 0
+whole_room true same capacity room all hit is = rw hit (omega arith)
+whole_room false same capacity room all hit is = omega arith
+
+whole_lots : (out same : Bool) (capacity room all : ℕ) → same ≡ false → capacity ≡ all → cond out capacity 0 ≡ cond (out && same) room 0 + cond (out && not same) all 0
+whole_lots true same capacity room all miss is = rw miss (omega arith)
+whole_lots false same capacity room all miss is = omega arith
+
+module _ (view : GroupView) (sound : IsView view) (nested : IsNested view) (arcs : List Arc) (are : AreArcs view arcs) (flow : IsFlow arcs 0 1)
+    (reached : ℕ → Bool) (from_source : reached 0 ≡ true) (not_to_sink : reached 1 ≡ false) (closed : IsClosed arcs reached)
+    (takes : List Take) (shares : AreShares view arcs takes) (cut : CutLists) (cut_is : IsCutBy view reached arcs cut) where
+  abbrev way : Offer → List ℕ
+  way = way_of view.rooms
+
+  abbrev lots : Offer → ℕ
+  lots o = lots_of takes o.number
+
+  abbrev stage : ℕ → ℕ
+  stage = stage_at view.rooms
+
+  offer_here : (i : ℕ) (d : Offer) → i < length view.offers → IsOfferOf view (get_or view.offers i d)
+  offer_here i d inside = record { place = i; within = inside; is = get_or_default view.offers i d (get_or view.offers i d) inside }
+
+  each_offer : AllByRecursion (IsOfferOf view) view.offers
+  each_offer = recursion_from_All (IsOfferOf view) view.offers offer_here
+
+  roomed : (o : Offer) → IsOfferOf view o → AllByRecursion (λ k. place_of view.rooms k < length view.rooms) o.path
+  roomed o h = path_inside view sound h.place o h.within h.is
+
+  place_in : (o : Offer) → IsOfferOf view o → (k : ℕ) → has_place (way o) k ≡ true → k < length view.rooms
+  place_in o h k on = has_within (length view.rooms) k (way o) (places_within (length view.rooms) (place_of view.rooms) o.path (roomed o h)) on
+
+  -- each way lays out the arcs that it goes by
+  lies : (o : Offer) → IsOfferOf view o → (k : ℕ) → has_place (way o) k ≡ true → LiesOn arcs (way o) k
+  lies o h k on =
+      let k_in : k < length arcs = omega (arith, place_in o h k on, are.all) in
+      let a = are.each k k_in in
+      let same = lies_alike view sound nested o a.offer h a.known k (place_in o h k on) on a.goes_by in
+      record { within = k_in; from = a.from ∙ sym same.from; to = a.to ∙ sym same.to }
+
+  walking : (o : Offer) → IsOfferOf view o → Walking arcs way 0 1 o
+  walking o h = record {
+    walk = way_walks arcs stage (way o) (staged_at view sound nested o h) (lies o h);
+    once = way_once arcs stage (way o) (staged_at view sound nested o h);
+  }
+
+  each : AllByRecursion (Walking arcs way 0 1) view.offers
+  each = recursion_from_All (Walking arcs way 0 1) view.offers (λ i d inside. walking (get_or view.offers i d) (offer_here i d inside))
+
+  laid : (k : ℕ) → k < length arcs → IsLaid arcs stage k
+  laid k k_in =
+      let a = are.each k k_in in
+      way_lays arcs stage (way a.offer) k (staged_at view sound nested a.offer a.known) a.goes_by (lies a.offer a.known k a.goes_by)
+
+  -- what is brought through an arc is what is taken under its key
+  load_is : (k : ℕ) → k < length view.rooms → load arcs view.offers way lots 0 1 each k ≡ lots_under view.offers (room_at view.rooms k).key (lots_of takes)
+  unfolding load
+  load_is k k_in =
+      sum_by-by (IsOfferOf view) (λ o. cond (has_place (way o) k) (lots o) 0) (λ o. cond (has_key o.path (room_at view.rooms k).key) (lots o) 0) view.offers
+      (λ o h. ap (λ b. cond b (lots o) 0) (goes_by_key view sound k k_in o.path (roomed o h))) each_offer
+
+  agreement_in : (o : Offer) → IsOfferOf view o → agreement_place view.rooms o < length arcs
+  agreement_in o h =
+      let p : IsPath o = subst IsPath (sym h.is) (nested.paths h.place o h.within) in
+      let within = subst (λ path. AllByRecursion (λ k. place_of view.rooms k < length view.rooms) path) p.3 (roomed o h) in
+      omega (arith, within.1.0, are.all)
+
+  -- an offer is under an agreement where the agreement is its own
+  on_agreement : (o : Offer) → IsOfferOf view o → (k : ℕ) → k < length view.rooms → (agreement : AgreementId) → (room_at view.rooms k).key ≡ Agr agreement → has_key o.path (room_at view.rooms k).key ≡ (agreement_place view.rooms o == k)
+  on_agreement o h k k_in agreement is =
+      let p : IsPath o = subst IsPath (sym h.is) (nested.paths h.place o h.within) in
+      let within = subst (λ path. AllByRecursion (λ k. place_of view.rooms k < length view.rooms) path) p.3 (roomed o h) in
+      ap (has_key o.path) is ∙ ap (λ path. has_key path (Agr agreement)) p.3 ∙ or-false (key_eq (Agr o.agreement) (Agr agreement)) ∙ ap (key_eq (Agr o.agreement)) (sym is) ∙ sym (at_place view sound k (Agr o.agreement) k_in within.1.0)
+
+  -- sums under an agreement, by the places of the offers' agreements
+  under_agreement : (f : Offer → ℕ) (k : ℕ) → k < length view.rooms → (agreement : AgreementId) → (room_at view.rooms k).key ≡ Agr agreement
+      → sum_by (λ o. cond (has_key o.path (room_at view.rooms k).key) (f o) 0) view.offers ≡ sum_by (λ o. cond (agreement_place view.rooms o == k) (f o) 0) view.offers
+  under_agreement f k k_in agreement is =
+      sum_by-by (IsOfferOf view) (λ o. cond (has_key o.path (room_at view.rooms k).key) (f o) 0) (λ o. cond (agreement_place view.rooms o == k) (f o) 0) view.offers
+      (λ o h. ap (λ b. cond b (f o) 0) (on_agreement o h k k_in agreement is)) each_offer
+
+  agreement_of : (k : ℕ) (key : LimitKey) (capacity room : ℕ) → stage k ≡ 0 → (room_at view.rooms k).key ≡ key → capacity ≡ capacity_of view.offers room key → IsAgreement view.offers capacity key
+  agreement_of k (Exec firm) capacity room is at cap = absurd (omega (arith, ap stage_of at))
+  agreement_of k (Agr agreement) capacity room is at cap = record { agreement = agreement; is = refl; most = omega arith }
+  agreement_of k (Acct account) capacity room is at cap = absurd (omega (arith, ap stage_of at))
+  agreement_of k (Carry firm) capacity room is at cap = absurd (omega (arith, ap stage_of at))
+
+  -- through an agreement's arc flows what its offers take
+  middle : (k : ℕ) → k < length arcs → stage k ≡ 0 → flow_at arcs k ≡ load arcs view.offers way lots 0 1 each k
+  middle k k_in is =
+      let k_room : k < length view.rooms = omega (arith, are.all) in
+      let key = (room_at view.rooms k).key in
+      let a = agreement_of k key (arc_at arcs k).capacity (room_at view.rooms k).lots is refl (are.each k k_in).capacity in
+      let enough : (arc_at arcs k).flow ≤ agreement_lots view.rooms view.offers k = omega (arith, flow.within k no_arc k_in, a.most, under_agreement (λ o. o.lots) k k_room a.agreement a.is) in
+      sym (load_is k k_room ∙ under_agreement lots k k_room a.agreement a.is ∙ shares_together view sound arcs takes shares k enough)
+
+  sided : (k : ℕ) → k < length arcs → Sided arcs view.offers way lots 0 1 stage each flow.kept k
+  sided k k_in = elim (laid k k_in) [
+    | inl first ↦ inr (inl (first_left arcs stage laid k first))
+    | inr other ↦ elim other [
+      | inl mid ↦ inl (middle k k_in mid.at)
+      | inr later ↦ inr (inr (later_right arcs stage laid k later))
+    ]
+  ]
+
+  -- so each arc's flow is what is taken under its key
+  flows_are : (k : ℕ) → k < length arcs → flow_at arcs k ≡ load arcs view.offers way lots 0 1 each k
+  flows_are k k_in = agree arcs view.offers way lots 0 1 stage each flow.kept sided (suc (stage k)) k k_in (omega arith)
+
+  pub admissible : IsAdmissible view (lots_of takes)
+  admissible = record {
+    offers = All-from_get_or (λ o. lots o ≤ o.lots) view.offers no_offer (share_fits view sound arcs takes shares);
+    rooms = All-from_get_or (λ r. lots_under view.offers r.key (lots_of takes) ≤ r.lots) view.rooms no_room (λ k k_in.
+        let k_arc : k < length arcs = omega (arith, are.all) in
+        omega (arith, load_is k k_in, flows_are k k_arc, flow.within k no_arc k_arc, (are.each k k_arc).capacity, capacity-le view.offers (room_at view.rooms k).lots (room_at view.rooms k).key));
+  }
+
+  pub oldest_first : IsOldestFirst view (lots_of takes)
+  oldest_first i j d before j_in same some =
+      let i_in : i < length view.offers = omega arith in
+      let at_i : get_or view.offers i d ≡ offer_at view.offers i = get_or_default view.offers i d no_offer i_in in
+      let at_j : get_or view.offers j d ≡ offer_at view.offers j = get_or_default view.offers j d no_offer j_in in
+      let agreements : (offer_at view.offers i).agreement ≡ (offer_at view.offers j).agreement = ap (λ (o : Offer). o.agreement) (sym at_i) ∙ same ∙ ap (λ (o : Offer). o.agreement) at_j in
+      let takes_some = subst (λ n. 0 < n) (ap lots at_j ∙ share_taken view sound arcs takes shares j j_in) some in
+      ap lots at_i ∙ share_taken view sound arcs takes shares i i_in ∙ shares_oldest_first view sound arcs takes shares i j before j_in agreements takes_some ∙ ap (λ (o : Offer). o.lots) (sym at_i)
+
+  -- whether a room's key is in the cut, and whether an offer is
+  key_told : (k : ℕ) → k < length view.rooms → has_key cut.keys (room_at view.rooms k).key ≡ cuts_key reached arcs view.rooms k
+  key_told k k_in = cut_is.keys.exact k k_in ∙ ap (λ b. b && cuts_key reached arcs view.rooms k) (lt-ltb k (length view.rooms) k_in)
+
+  offer_told : (o : Offer) → IsOfferOf view o → has_number cut.offers o.number ≡ cuts_offers reached arcs view.rooms (agreement_place view.rooms o)
+  offer_told o h =
+      let at : o ≡ offer_at view.offers h.place = h.is ∙ get_or_default view.offers h.place o no_offer h.within in
+      let told : has_number cut.offers (offer_at view.offers h.place).number ≡ cuts_offers reached arcs view.rooms (agreement_place view.rooms (offer_at view.offers h.place)) =
+      cut_is.offers.exact h.place h.within ∙ ap (λ b. b && cuts_offers reached arcs view.rooms (agreement_place view.rooms (offer_at view.offers h.place))) (lt-ltb h.place (length view.offers) h.within) in
+      subst (λ (x : Offer). has_number cut.offers x.number ≡ cuts_offers reached arcs view.rooms (agreement_place view.rooms x)) (sym at) told
+
+  -- where an offer's way leads out, its key is cut, or the offer itself
+  covered : (o : Offer) → IsOfferOf view o → is_covered cut o ≡ true
+  covered o h =
+      let out = walk_leads_out arcs reached (way o) 0 1 (walking o h).walk from_source not_to_sink in
+      let k = out.place in
+      let k_in : k < length view.rooms = omega (arith, out.place_in, are.all) in
+      let on = key_on view sound nested o h k k_in out.on_way in
+      elim (cases_eq (arc_at arcs k).capacity (room_at view.rooms k).lots) [
+        | inl same ↦ or_right (has_number cut.offers o.number) (list_any (has_key cut.keys) o.path)
+            (any_key (has_key cut.keys) (room_at view.rooms k).key o.path on (key_told k k_in ∙ and_from (leads_out reached (arc_at arcs k)) ((arc_at arcs k).capacity == (room_at view.rooms k).lots) out.out (eq-eqb (arc_at arcs k).capacity (room_at view.rooms k).lots same)))
+        | inr other ↦
+            let s = short view.offers (room_at view.rooms k).lots (arc_at arcs k).capacity (room_at view.rooms k).key (are.each k out.place_in).capacity other in
+            let own : agreement_place view.rooms o ≡ k = eqb-true (agreement_place view.rooms o) k (sym (on_agreement o h k k_in s.agreement s.is) ∙ on) in
+            or_left (has_number cut.offers o.number) (list_any (has_key cut.keys) o.path)
+            (offer_told o h ∙ ap (cuts_offers reached arcs view.rooms) own
+            ∙ and_from (leads_out reached (arc_at arcs k)) (not ((arc_at arcs k).capacity == (room_at view.rooms k).lots)) out.out (ap not (ne_eqb (arc_at arcs k).capacity (room_at view.rooms k).lots other)))
+      ]
+
+  pub covers : Covers view cut
+  covers i d inside = covered (get_or view.offers i d) (offer_here i d inside)
+
+  -- what an arc that leads out can carry counts as its key's room or as its offers' lots
+  part : (k : ℕ) → k < length arcs → cond (leads_out reached (arc_at arcs k)) (arc_at arcs k).capacity 0
+      ≡ cond (cuts_key reached arcs view.rooms k) (room_at view.rooms k).lots 0 + cond (cuts_offers reached arcs view.rooms k) (agreement_lots view.rooms view.offers k) 0
+  part k k_in =
+      let k_room : k < length view.rooms = omega (arith, are.all) in
+      let room = (room_at view.rooms k).lots in
+      let all = agreement_lots view.rooms view.offers k in
+      elim (cases_eq (arc_at arcs k).capacity room) [
+        | inl same ↦ whole_room (leads_out reached (arc_at arcs k)) ((arc_at arcs k).capacity == room) (arc_at arcs k).capacity room all (eq-eqb (arc_at arcs k).capacity room same) same
+        | inr other ↦
+            let s = short view.offers room (arc_at arcs k).capacity (room_at view.rooms k).key (are.each k k_in).capacity other in
+            whole_lots (leads_out reached (arc_at arcs k)) ((arc_at arcs k).capacity == room) (arc_at arcs k).capacity room all (ne_eqb (arc_at arcs k).capacity room other) (s.all ∙ under_agreement (λ o. o.lots) k k_room s.agreement s.is)
+      ]
+
+  keys_room : sum_by (λ r. cond (has_key cut.keys r.key) r.lots 0) view.rooms ≡ sum_by (λ k. cond (cuts_key reached arcs view.rooms k) (room_at view.rooms k).lots 0) (places (length arcs))
+  keys_room =
+      sum_by_place (λ r. cond (has_key cut.keys r.key) r.lots 0) view.rooms no_room
+      ∙ sum_places_by (λ k. cond (has_key cut.keys (room_at view.rooms k).key) (room_at view.rooms k).lots 0) (λ k. cond (cuts_key reached arcs view.rooms k) (room_at view.rooms k).lots 0) (length view.rooms)
+      (λ k k_in. ap (λ b. cond b (room_at view.rooms k).lots 0) (key_told k k_in))
+      ∙ ap (λ n. sum_by (λ k. cond (cuts_key reached arcs view.rooms k) (room_at view.rooms k).lots 0) (places n)) (sym are.all)
+
+  offers_room : sum_by (λ o. cond (has_number cut.offers o.number) o.lots 0) view.offers ≡ sum_by (λ k. cond (cuts_offers reached arcs view.rooms k) (agreement_lots view.rooms view.offers k) 0) (places (length arcs))
+  offers_room =
+      let w = cuts_offers reached arcs view.rooms in
+      let at = agreement_place view.rooms in
+      sum_by-by (IsOfferOf view) (λ o. cond (has_number cut.offers o.number) o.lots 0) (λ o. sum_by (λ k. cond (at o == k) (cond (w k) o.lots 0) 0) (places (length arcs))) view.offers
+      (λ o h. ap (λ b. cond b o.lots 0) (offer_told o h) ∙ sym (sum_one_place (λ k. cond (w k) o.lots 0) (length arcs) (at o) (agreement_in o h))) each_offer
+      ∙ sum_by-swap (λ (o : Offer) k. cond (at o == k) (cond (w k) o.lots 0) 0) view.offers (places (length arcs))
+      ∙ sum_by-ext (λ k. sum_by (λ (o : Offer). cond (at o == k) (cond (w k) o.lots 0) 0) view.offers) (λ k. cond (w k) (agreement_lots view.rooms view.offers k) 0) (places (length arcs))
+      (λ k. sum_by-ext (λ (o : Offer). cond (at o == k) (cond (w k) o.lots 0) 0) (λ (o : Offer). cond (w k) (cond (at o == k) o.lots 0) 0) view.offers (λ o. cond-swap (at o == k) (w k) o.lots)
+      ∙ sym (cond-sum (w k) (λ (o : Offer). cond (at o == k) o.lots 0) view.offers))
+
+  -- so the cut's room is the lots taken
+  pub room_is_total : room_of view cut ≡ total view.offers (lots_of takes)
+  unfolding sum_over
+  room_is_total =
+      let n = places (length arcs) in
+      let all = total_is_cut arcs view.offers way lots 0 1 each reached from_source not_to_sink flows_are closed in
+      let split : sum_by (λ k. cond (leads_out reached (arc_at arcs k)) (arc_at arcs k).capacity 0) n
+      ≡ sum_by (λ k. cond (cuts_key reached arcs view.rooms k) (room_at view.rooms k).lots 0) n + sum_by (λ k. cond (cuts_offers reached arcs view.rooms k) (agreement_lots view.rooms view.offers k) 0) n =
+      sum_places_by (λ k. cond (leads_out reached (arc_at arcs k)) (arc_at arcs k).capacity 0)
+      (λ k. cond (cuts_key reached arcs view.rooms k) (room_at view.rooms k).lots 0 + cond (cuts_offers reached arcs view.rooms k) (agreement_lots view.rooms view.offers k) 0) (length arcs) part
+      ∙ sum_by-add (λ k. cond (cuts_key reached arcs view.rooms k) (room_at view.rooms k).lots 0) (λ k. cond (cuts_offers reached arcs view.rooms k) (agreement_lots view.rooms view.offers k) 0) n in
+      omega (arith, keys_room, offers_room, all, split)
+
+  pub right : IsRight view takes cut (total view.offers (lots_of takes))
+  right = record {
+    takes_known = shares_known view sound arcs takes shares;
+    keys_known = cut_is.keys.known;
+    offers_known = cut_is.offers.known;
+    admissible = admissible;
+    oldest_first = oldest_first;
+    covers = covers;
+    taken = refl;
+    room = room_is_total;
+  }
+
+  pub greatest : IsGreatest view (lots_of takes)
+  greatest = greatest_by_cut view cut (lots_of takes) sound admissible covers (sym room_is_total)
+
+  -- the whole: takes and cut are right, and the takes are greatest
+  pub certified : (n : ℕ) → n ≡ total view.offers (lots_of takes) → IsSound (record { view = view; takes = takes; cut = cut; lots = n })
+  certified n is = record {
+    of_view = sound;
+    right = subst (IsRight view takes cut) (sym is) right;
+    certified = record { greatest = greatest; oldest_first = oldest_first; covers = covers; taken = sym is; room = room_is_total ∙ sym is };
+  }

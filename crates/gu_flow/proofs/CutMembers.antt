@@ -1,0 +1,125 @@
+-- The members of the cut, one after another.
+use Rattle.std.proofs.Common.{◌≡◌, zero, ℕ, ◌+◌, ◌<◌, ◌==◌, ◌||◌, ◌&&◌, not, nat_lt, Bool, true, false, cond, List, [], ◌∷◌, ◌++◌, suc, length, refl, sym, ◌∙◌, ap, arith, inl, inr}
+use Rattle.std.specs.Prelude.{All}
+use Rattle.std.specs.List.{list_any}
+use Rattle.std.proofs.Math.Bool.{or-false}
+use Rattle.std.proofs.lemmas.Bool.{cases_Bool, cases_eq, cases_lt, cases_order, eq-eqb, ne_eqb, eqb-true, lt-ltb, le-ltb, not-false}
+use Rattle.std.proofs.lemmas.List.Elements.{All-append}
+use Rattle.std.proofs.lemmas.List.Folds.{list_any-append, list_any_at}
+use Rattle.gu_terms.proofs.KeyLemmas.{key_eq-same, key_eq-refl}
+use Rattle.gu_terms.specs.Cuts.{has_number}
+use Rattle.gu_terms.specs.LimitKeys.{key_eq, has_key}
+use Rattle.gu_terms.specs.declared.limit_key.LimitKey.{LimitKey}
+use Rattle.gu_view.proofs.RoomLemmas.{apart}
+use Rattle.gu_view.specs.Check.{has_offer, has_room}
+use Rattle.gu_view.specs.View.{GroupView, IsView}
+use Rattle.gu_flow.specs.CutArcs.{cuts_key, cuts_offers, AreKeysCut, AreOffersCut}
+use Rattle.gu_flow.specs.Networks.{no_offer, offer_at, no_room, room_at}
+use Rattle.gu_flow.specs.Shares.{agreement_place}
+use Rattle.gu_flow.specs.declared.arcs.Arc.{Arc}
+
+-- what is cut before the next place
+next_place : (n i : ℕ) (cuts old new : ℕ → Bool) → ((k : ℕ) → k < n → old k ≡ (nat_lt k i && cuts k)) → ((k : ℕ) → k < n → new k ≡ (old k || ((i == k) && cuts i)))
+    → (k : ℕ) → k < n → new k ≡ (nat_lt k (i + 1) && cuts k)
+next_place n i cuts old new before adds k k_in = elim (cases_eq i k) [
+  | inl same ↦ adds k k_in ∙ rw (before k k_in, le-ltb k i (omega arith), eq-eqb i k same, lt-ltb k (i + 1) (omega arith)) (ap cuts same)
+  | inr other ↦
+      let until : nat_lt k (i + 1) ≡ nat_lt k i = elim (cases_lt k i) [
+        | inl earlier ↦ lt-ltb k (i + 1) (omega arith) ∙ sym (lt-ltb k i earlier)
+        | inr later ↦ le-ltb k (i + 1) (omega arith) ∙ sym (le-ltb k i (omega arith))
+      ] in
+      adds k k_in ∙ ap (λ b. old k || (b && cuts i)) (ne_eqb i k other) ∙ or-false (old k) ∙ before k k_in ∙ ap (λ b. b && cuts k) (sym until)
+]
+
+-- where nothing is cut, nothing is added
+none_added : (b c : Bool) → c ≡ false → b ≡ (b || c)
+none_added true c none = refl
+none_added false c none = sym none
+
+no_cut : (b c : Bool) → c ≡ false → (b && c) ≡ false
+no_cut true c none = none
+no_cut false c none = refl
+
+module _ {X : Type 0} (eq : X → X → Bool) (same : (a b : X) → eq a b ≡ true → a ≡ b) where
+  -- a member that is added where it is new is there in any case
+  added_member : (xs new : List X) (x : X) (added : Bool) → added ≡ not (list_any (λ y. eq y x) xs) → new ≡ cond added (xs ++ x ∷ []) xs → (y : X) → list_any (λ z. eq z y) new ≡ (list_any (λ z. eq z y) xs || eq x y)
+  added_member xs new x true told is y = ap (list_any (λ z. eq z y)) is ∙ list_any-append (λ z. eq z y) xs (x ∷ []) ∙ ap (λ b. list_any (λ z. eq z y) xs || b) (or-false (eq x y))
+  added_member xs new x false told is y =
+      let there : list_any (λ z. eq z x) xs ≡ true = not-false (list_any (λ z. eq z x) xs) (sym told) in
+      ap (list_any (λ z. eq z y)) is ∙ elim (cases_Bool (eq x y)) [
+        | inl hit ↦ let here : list_any (λ z. eq z y) xs ≡ true = ap (λ w. list_any (λ z. eq z w) xs) (sym (same x y hit)) ∙ there in rw here refl
+        | inr miss ↦ none_added (list_any (λ z. eq z y) xs) (eq x y) miss
+      ]
+
+added_all : {X : Type 0} (P : X → Type 0) (xs new : List X) (x : X) (added : Bool) → new ≡ cond added (xs ++ x ∷ []) xs → All P xs → P x → All P new
+added_all P xs new x true is all here = rw is (All-append P xs (x ∷ []) all (λ k d k_in. first k d k_in))
+  where
+    first : All P (x ∷ [])
+    first zero d k_in = here
+    first (suc k) d k_in = absurd (omega arith)
+added_all P xs new x false is all here = rw is all
+
+yes : (b c : Bool) → c ≡ true → (b && c) ≡ b
+yes true c cut = cut
+yes false c cut = refl
+
+module _ (view : GroupView) (sound : IsView view) (reached : ℕ → Bool) (arcs : List Arc) where
+  own_key : (i k : ℕ) → i < length view.rooms → k < length view.rooms → key_eq (room_at view.rooms i).key (room_at view.rooms k).key ≡ (i == k)
+  own_key i k i_in k_in = elim (cases_eq i k) [
+    | inl same ↦ ap (λ j. key_eq (room_at view.rooms i).key (room_at view.rooms j).key) (sym same) ∙ key_eq-refl (room_at view.rooms i).key ∙ sym (eq-eqb i k same)
+    | inr other ↦ apart view sound i k no_room i_in k_in other ∙ sym (ne_eqb i k other)
+  ]
+
+  own_number : (i k : ℕ) → i < length view.offers → k < length view.offers → ((offer_at view.offers i).number == (offer_at view.offers k).number) ≡ (i == k)
+  own_number i k i_in k_in = elim (cases_order i k) [
+    | inl same ↦ eq-eqb (offer_at view.offers i).number (offer_at view.offers k).number (ap (λ j. (offer_at view.offers j).number) same) ∙ sym (eq-eqb i k same)
+    | inr apart ↦ elim apart [
+      | inl before ↦
+          let less : (offer_at view.offers i).number < (offer_at view.offers k).number = sound.ascending i k no_offer before k_in in
+          ne_eqb (offer_at view.offers i).number (offer_at view.offers k).number (λ e. absurd (omega arith)) ∙ sym (ne_eqb i k (λ e. absurd (omega arith)))
+      | inr after ↦
+          let less : (offer_at view.offers k).number < (offer_at view.offers i).number = sound.ascending k i no_offer after i_in in
+          ne_eqb (offer_at view.offers i).number (offer_at view.offers k).number (λ e. absurd (omega arith)) ∙ sym (ne_eqb i k (λ e. absurd (omega arith)))
+    ]
+  ]
+
+  -- the key of the next room is cut, and is added, or it isn't
+  pub key_cut : (keys new : List LimitKey) (i : ℕ) (added : Bool) → i < length view.rooms → AreKeysCut view reached arcs keys i → cuts_key reached arcs view.rooms i ≡ true
+      → added ≡ not (has_key keys (room_at view.rooms i).key) → new ≡ cond added (keys ++ (room_at view.rooms i).key ∷ []) keys → AreKeysCut view reached arcs new (i + 1)
+  key_cut keys new i added inside h cut told is =
+      let key = (room_at view.rooms i).key in
+      record {
+        exact = next_place (length view.rooms) i (cuts_key reached arcs view.rooms) (λ k. has_key keys (room_at view.rooms k).key) (λ k. has_key new (room_at view.rooms k).key) h.exact
+            (λ k k_in. added_member key_eq key_eq-same keys new key added told is (room_at view.rooms k).key
+            ∙ ap (λ b. has_key keys (room_at view.rooms k).key || b) (own_key i k inside k_in ∙ sym (yes (i == k) (cuts_key reached arcs view.rooms i) cut)));
+        known = added_all (λ k. has_room view.rooms k ≡ true) keys new key added is h.known (list_any_at (λ r. key_eq r.key key) view.rooms i no_room inside (key_eq-refl key));
+      }
+
+  pub key_not_cut : (keys : List LimitKey) (i : ℕ) → AreKeysCut view reached arcs keys i → cuts_key reached arcs view.rooms i ≡ false → AreKeysCut view reached arcs keys (i + 1)
+  key_not_cut keys i h none = record {
+    exact = next_place (length view.rooms) i (cuts_key reached arcs view.rooms) (λ k. has_key keys (room_at view.rooms k).key) (λ k. has_key keys (room_at view.rooms k).key) h.exact
+        (λ k k_in. none_added (has_key keys (room_at view.rooms k).key) ((i == k) && cuts_key reached arcs view.rooms i) (no_cut (i == k) (cuts_key reached arcs view.rooms i) none));
+    known = h.known;
+  }
+
+  -- and so with the next offer
+  abbrev offer_cut_at : ℕ → Bool
+  offer_cut_at i = cuts_offers reached arcs view.rooms (agreement_place view.rooms (offer_at view.offers i))
+
+  pub offer_cut : (numbers new : List ℕ) (i : ℕ) (added : Bool) → i < length view.offers → AreOffersCut view reached arcs numbers i → offer_cut_at i ≡ true
+      → added ≡ not (has_number numbers (offer_at view.offers i).number) → new ≡ cond added (numbers ++ (offer_at view.offers i).number ∷ []) numbers → AreOffersCut view reached arcs new (i + 1)
+  offer_cut numbers new i added inside h cut told is =
+      let number = (offer_at view.offers i).number in
+      record {
+        exact = next_place (length view.offers) i offer_cut_at (λ k. has_number numbers (offer_at view.offers k).number) (λ k. has_number new (offer_at view.offers k).number) h.exact
+            (λ k k_in. added_member (λ m n. m == n) eqb-true numbers new number added told is (offer_at view.offers k).number
+            ∙ ap (λ b. has_number numbers (offer_at view.offers k).number || b) (own_number i k inside k_in ∙ sym (yes (i == k) (offer_cut_at i) cut)));
+        known = added_all (λ n. has_offer view.offers n ≡ true) numbers new number added is h.known (list_any_at (λ o. o.number == number) view.offers i no_offer inside (eq-eqb number number refl));
+      }
+
+  pub offer_not_cut : (numbers : List ℕ) (i : ℕ) → AreOffersCut view reached arcs numbers i → offer_cut_at i ≡ false → AreOffersCut view reached arcs numbers (i + 1)
+  offer_not_cut numbers i h none = record {
+    exact = next_place (length view.offers) i offer_cut_at (λ k. has_number numbers (offer_at view.offers k).number) (λ k. has_number numbers (offer_at view.offers k).number) h.exact
+        (λ k k_in. none_added (has_number numbers (offer_at view.offers k).number) ((i == k) && offer_cut_at i) (no_cut (i == k) (offer_cut_at i) none));
+    known = h.known;
+  }

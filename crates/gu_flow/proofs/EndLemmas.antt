@@ -1,0 +1,87 @@
+-- The two ends of an arc.
+use Rattle.std.proofs.Common.{◌≡◌, ℕ, ◌+◌, ◌-◌, ◌*◌, ◌/◌, ◌%◌, ◌<◌, Bool, true, false, not, cond, List, length, refl, arith, inl, inr}
+use Rattle.std.proofs.lemmas.Bool.{cases_Bool, eqb-true, eqb-false, eq-eqb, ne_eqb}
+use Rattle.gu_flow.specs.declared.arcs.Arc.{Arc}
+use Rattle.gu_flow.specs.Ends.{no_arc, JoinsNodes, arc_at, is_tail, near, far, other_end, room_in, room_out}
+
+-- an end is a tail or a head
+tail_is : (e : ℕ) → is_tail e ≡ true → e % 2 ≡ 0
+tail_is e tail = eqb-true (e % 2) 0 tail
+
+head_is : (e : ℕ) → is_tail e ≡ false → e % 2 ≡ 1
+head_is e head = let odd : (e % 2 ≡ 0 → ⊥) = eqb-false (e % 2) 0 head in omega arith
+
+-- the other end belongs to the same arc
+pub other_end-arc : (e : ℕ) → other_end e / 2 ≡ e / 2
+other_end-arc e = elim (cases_Bool (is_tail e)) [
+  | inl tail ↦ rw tail (let even : e % 2 ≡ 0 = tail_is e tail in omega arith)
+  | inr head ↦ rw head (let odd : e % 2 ≡ 1 = head_is e head in omega arith)
+]
+
+pub other_end-tail : (e : ℕ) → is_tail (other_end e) ≡ not (is_tail e)
+other_end-tail e = elim (cases_Bool (is_tail e)) [
+  | inl tail ↦ rw tail (let even : e % 2 ≡ 0 = tail_is e tail in ne_eqb ((e + 1) % 2) 0 (omega arith))
+  | inr head ↦ rw head (let odd : e % 2 ≡ 1 = head_is e head in eq-eqb ((e - 1) % 2) 0 (omega arith))
+]
+
+pub other_end-in : (e m : ℕ) → e < 2 * m → other_end e < 2 * m
+other_end-in e m e_in = let same = other_end-arc e in omega arith
+
+turned : {X : Type 0} (b : Bool) (x y : X) → cond (not b) x y ≡ cond b y x
+turned true x y = refl
+turned false x y = refl
+
+-- what stands at the other end
+pub near-other_end : (arcs : List Arc) (e : ℕ) → near arcs (other_end e) ≡ far arcs e
+near-other_end arcs e = rw (other_end-tail e, other_end-arc e) (turned (is_tail e) (arc_at arcs (e / 2)).from (arc_at arcs (e / 2)).to)
+
+pub far-other_end : (arcs : List Arc) (e : ℕ) → far arcs (other_end e) ≡ near arcs e
+far-other_end arcs e = rw (other_end-tail e, other_end-arc e) (turned (is_tail e) (arc_at arcs (e / 2)).to (arc_at arcs (e / 2)).from)
+
+pub room_in-other_end : (arcs : List Arc) (e : ℕ) → room_in arcs (other_end e) ≡ room_out arcs e
+room_in-other_end arcs e = rw (other_end-tail e, other_end-arc e) (turned (is_tail e) (arc_at arcs (e / 2)).flow ((arc_at arcs (e / 2)).capacity - (arc_at arcs (e / 2)).flow))
+
+-- both are nodes
+pub far_in : (arcs : List Arc) (e nodes : ℕ) → JoinsNodes arcs nodes → e < 2 * length arcs → far arcs e < nodes
+far_in arcs e nodes joins e_in = elim (cases_Bool (is_tail e)) [
+  | inl tail ↦ rw tail (joins (e / 2) no_arc (omega arith)).1
+  | inr head ↦ rw head (joins (e / 2) no_arc (omega arith)).0
+]
+
+pub near_in : (arcs : List Arc) (e nodes : ℕ) → JoinsNodes arcs nodes → e < 2 * length arcs → near arcs e < nodes
+near_in arcs e nodes joins e_in = elim (cases_Bool (is_tail e)) [
+  | inl tail ↦ rw tail (joins (e / 2) no_arc (omega arith)).0
+  | inr head ↦ rw head (joins (e / 2) no_arc (omega arith)).1
+]
+
+-- the tail end of an arc, and its head end
+module _ (arcs : List Arc) (k : ℕ) where
+  even : is_tail (2 * k) ≡ true
+  even = eq-eqb ((2 * k) % 2) 0 (omega arith)
+
+  odd : is_tail (2 * k + 1) ≡ false
+  odd = ne_eqb ((2 * k + 1) % 2) 0 (omega arith)
+
+  half_even : 2 * k / 2 ≡ k
+  half_even = omega arith
+
+  half_odd : (2 * k + 1) / 2 ≡ k
+  half_odd = omega arith
+
+  pub tail-near : near arcs (2 * k) ≡ (arc_at arcs k).from
+  tail-near = rw (even, half_even)
+
+  pub tail-far : far arcs (2 * k) ≡ (arc_at arcs k).to
+  tail-far = rw (even, half_even)
+
+  pub tail-room_out : room_out arcs (2 * k) ≡ (arc_at arcs k).capacity - (arc_at arcs k).flow
+  tail-room_out = rw (even, half_even)
+
+  pub head-near : near arcs (2 * k + 1) ≡ (arc_at arcs k).to
+  head-near = rw (odd, half_odd)
+
+  pub head-far : far arcs (2 * k + 1) ≡ (arc_at arcs k).from
+  head-far = rw (odd, half_odd)
+
+  pub head-room_out : room_out arcs (2 * k + 1) ≡ (arc_at arcs k).flow
+  head-room_out = rw (odd, half_odd)

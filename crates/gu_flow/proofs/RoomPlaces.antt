@@ -1,0 +1,162 @@
+-- The places of keys among the rooms of a view, and the ways that go by them.
+use Rattle.std.proofs.Common.{◌≡◌, ℕ, ◌+◌, min, ◌<◌, ◌≤◌, ◌==◌, Bool, true, false, cond, List, [], ◌∷◌, suc, length, map, get_or, Some, refl, sym, ◌∙◌, ap, subst, arith, inl, inr, add-zero, zero-add}
+use Rattle.std.specs.Prelude.{slice_get, sum_by, IfSome}
+use Rattle.std.specs.List.{AllByRecursion, list_any}
+use Rattle.std.proofs.lemmas.Bool.{cases_Bool, cases_eq, eqb-true, eq-eqb}
+use Rattle.std.proofs.lemmas.List.{get_or_default}
+use Rattle.std.proofs.lemmas.List.Folds.{list_any_at}
+use Rattle.std.proofs.lemmas.List.Sums.{sum_by-le}
+use Rattle.std.proofs.lemmas.Option.{slice_get_cases, slice_get-get_or, get_or_from_slice_get}
+use Rattle.gu_terms.proofs.KeyLemmas.{key_eq-same, key_eq-refl, key_eq-from}
+use Rattle.gu_terms.specs.LimitKeys.{key_eq, has_key}
+use Rattle.gu_terms.specs.declared.agreement.AgreementId.{AgreementId}
+use Rattle.gu_terms.specs.declared.limit_key.LimitKey.{LimitKey}
+use Rattle.gu_terms.specs.declared.limit_key.LimitKey.TheVariants.{Agr}
+use Rattle.gu_view.proofs.ListLemmas.{sum_by-places}
+use Rattle.gu_view.proofs.MarkLemmas.{path_inside}
+use Rattle.gu_view.proofs.RoomLemmas.{apart, has_key-keys_of, has_room-keys}
+use Rattle.gu_view.proofs.TakesLemmas.{key_at_place}
+use Rattle.gu_view.specs.Check.{has_room}
+use Rattle.gu_view.specs.Places.{places_from}
+use Rattle.gu_view.specs.View.{GroupView, IsView, place_of, places_under}
+use Rattle.gu_view.specs.declared.view.Offer.{Offer}
+use Rattle.gu_view.specs.declared.view.Room.{Room}
+use Rattle.gu_flow.proofs.SumLemmas.{same_test}
+use Rattle.gu_flow.specs.Shares.{agreement_place}
+use Rattle.gu_flow.specs.Networks.{no_room, room_at, no_offer, offer_at, way_of, GoesBy, lots_with, capacity_of}
+
+-- the lots at the places under a key are those of the offers with it
+pub lots_under_places : (offers : List Offer) (k : LimitKey) (places : List ℕ) → places ≡ places_under offers k → sum_by (λ p. (offer_at offers p).lots) places ≡ lots_with offers k
+lots_under_places offers k places are =
+    ap (sum_by (λ p. (offer_at offers p).lots)) are
+    ∙ sum_by-places (λ (o : Offer). has_key o.path k) (λ (o : Offer). o.lots) (λ p. (offer_at offers p).lots) 0 offers
+    (λ i d inside. ap (λ p. (offer_at offers p).lots) (zero-add i) ∙ ap (λ (o : Offer). o.lots) (get_or_default offers i no_offer d inside))
+
+part-le : (b : Bool) (n most : ℕ) → n ≤ most → cond b n 0 ≤ most
+part-le true n most h = h
+part-le false n most h = omega arith
+
+-- they fit a number of 64 bits
+pub lots_fit : (view : GroupView) → IsView view → (k : LimitKey) → lots_with view.offers k ≤ 4096000000
+lots_fit view sound k =
+    let all = sum_by-le (λ (o : Offer). cond (has_key o.path k) o.lots 0) 1000000 view.offers (λ i d inside. part-le (has_key (get_or view.offers i d).path k) (get_or view.offers i d).lots 1000000 (sound.lots i d inside).most) in
+    omega (arith, all, sound.few)
+
+-- the first place at which a list passes a test
+pub record IsFirstPlace {X : Type 0} (test : X → Bool) (from : ℕ) (xs : List X) (d : X) : Type 0 where
+  pub some : 0 < length (places_from test from xs)
+  pub place : ℕ
+  pub is : get_or (places_from test from xs) 0 0 ≡ from + place
+  pub within : place < length xs
+  pub passes : test (get_or xs place d) ≡ true
+
+pub first_place : {X : Type 0} (test : X → Bool) (from : ℕ) (xs : List X) (d : X) → list_any test xs ≡ true → IsFirstPlace test from xs d
+first_place test from [] d found = cc
+first_place test from (x ∷ xs) d found = elim (cases_Bool (test x)) [
+  | inl hit ↦ record {
+    some = rw hit (omega arith);
+    place = 0;
+    is = rw hit (sym (add-zero from));
+    within = omega arith;
+    passes = hit;
+  }
+  | inr miss ↦
+      let rest = first_place test (suc from) xs d (rw miss at found) in
+      record {
+        some = rw miss rest.some;
+        place = suc rest.place;
+        is = rw miss (rest.is ∙ omega arith);
+        within = omega (arith, rest.within);
+        passes = rest.passes;
+      }
+]
+
+-- an offer with a room's key
+pub room_named : (view : GroupView) → IsView view → (place : ℕ) → place < length view.rooms → list_any (λ o. has_key o.path (room_at view.rooms place).key) view.offers ≡ true
+room_named view sound place inside =
+    let k = (room_at view.rooms place).key in
+    let here : has_room view.rooms k ≡ true = list_any_at (λ r. key_eq r.key k) view.rooms place no_room inside (key_eq-refl k) in
+    sym (has_key-keys_of view.offers k) ∙ ap (λ keys. has_key keys k) (sym sound.rooms) ∙ sym (has_room-keys view.rooms k) ∙ here
+
+-- a room's key has its own place
+pub place_of_room : (view : GroupView) → IsView view → (place : ℕ) → place < length view.rooms → place_of view.rooms (room_at view.rooms place).key < length view.rooms → place_of view.rooms (room_at view.rooms place).key ≡ place
+place_of_room view sound place inside within =
+    let k = (room_at view.rooms place).key in
+    let found : (room_at view.rooms (place_of view.rooms k)).key ≡ k = key_at_place view.rooms k no_room within in
+    elim (cases_eq (place_of view.rooms k) place) [
+      | inl same ↦ same
+      | inr other ↦
+          let differs = apart view sound (place_of view.rooms k) place no_room within inside other in
+          let same = key_eq-from (room_at view.rooms (place_of view.rooms k)).key k found in
+          cc
+    ]
+
+-- a key with a room stands at a place where the room there is its own
+pub at_place : (view : GroupView) → IsView view → (place : ℕ) (k : LimitKey) → place < length view.rooms → place_of view.rooms k < length view.rooms → (place_of view.rooms k == place) ≡ key_eq k (room_at view.rooms place).key
+at_place view sound place k inside within = same_test (place_of view.rooms k == place) (key_eq k (room_at view.rooms place).key)
+    (λ here. key_eq-from k (room_at view.rooms place).key (sym (key_at_place view.rooms k no_room within) ∙ ap (λ p. (room_at view.rooms p).key) (eqb-true (place_of view.rooms k) place here)))
+    (λ same.
+    let is : k ≡ (room_at view.rooms place).key = key_eq-same k (room_at view.rooms place).key same in
+    eq-eqb (place_of view.rooms k) place (ap (place_of view.rooms) is ∙ place_of_room view sound place inside (subst (λ j. place_of view.rooms j < length view.rooms) is within)))
+
+-- so a way goes by a place where the path has the key of its room
+pub goes_by_key : (view : GroupView) → IsView view → (place : ℕ) → place < length view.rooms → (path : List LimitKey) → AllByRecursion (λ k. place_of view.rooms k < length view.rooms) path
+    → list_any (λ p. p == place) (map (place_of view.rooms) path) ≡ has_key path (room_at view.rooms place).key
+goes_by_key view sound place inside [] roomed = refl
+goes_by_key view sound place inside (k ∷ path) roomed = rw (at_place view sound place k inside roomed.0, goes_by_key view sound place inside path roomed.1) refl
+
+-- the offer at a place is what is read there, whatever would stand beyond the end
+pub own_offer : (offers : List Offer) (i : ℕ) → i < length offers → offer_at offers i ≡ get_or offers i (offer_at offers i)
+own_offer offers i inside = get_or_default offers i no_offer (offer_at offers i) inside
+
+-- the first of the offers with a room's key
+pub record IsFirstOffer (view : GroupView) (place number : ℕ) : Type 0 where
+  pub within : number < length view.offers
+  pub goes_by : GoesBy (way_of view.rooms (offer_at view.offers number)) place
+
+pub first_offer : (view : GroupView) → IsView view → (place : ℕ) (members : List ℕ) → place < length view.rooms → IfSome (slice_get view.rooms place) (λ (r : Room). members ≡ places_under view.offers r.key)
+    → (0 < length members) × IsFirstOffer view place (get_or members 0 0)
+first_offer view sound place members inside are = elim (slice_get_cases view.rooms place).1 [
+  | inl found ↦
+      let r = found.0 in
+      let same : members ≡ places_under view.offers r.key = rw found.2 at are in
+      let key : (room_at view.rooms place).key ≡ r.key = ap (λ (r : Room). r.key) (get_or_default view.rooms place no_room r inside ∙ found.3) in
+      let f = first_place (λ (o : Offer). has_key o.path r.key) 0 view.offers no_offer (subst (λ k. list_any (λ o. has_key o.path k) view.offers ≡ true) key (room_named view sound place inside)) in
+      let number : get_or members 0 0 ≡ f.place = ap (λ l. get_or l 0 0) same ∙ f.is ∙ zero-add f.place in
+      let o = offer_at view.offers f.place in (
+        rw same f.some,
+        record {
+          within = omega (arith, number, f.within);
+          goes_by = subst (λ n. GoesBy (way_of view.rooms (offer_at view.offers n)) place) (sym number)
+              (goes_by_key view sound place inside o.path (path_inside view sound f.place o f.within (own_offer view.offers f.place f.within)) ∙ ap (has_key o.path) key ∙ f.passes);
+        },
+      )
+  | inr past ↦ absurd (omega (arith, past.0))
+]
+
+-- the lots at the places of a room's offers are those with its key
+pub lots_of_members : (view : GroupView) (place : ℕ) (members : List ℕ) → place < length view.rooms → IfSome (slice_get view.rooms place) (λ (r : Room). members ≡ places_under view.offers r.key)
+    → sum_by (λ p. (offer_at view.offers p).lots) members ≡ lots_with view.offers (room_at view.rooms place).key
+lots_of_members view place members inside are =
+    lots_under_places view.offers (room_at view.rooms place).key members
+    (rw (slice_get-get_or view.rooms place no_room inside) at are)
+
+-- the room that is read at a place
+pub own_room : (rooms : List Room) (place : ℕ) (r : Room) → place < length rooms → r ≡ get_or rooms place r → r ≡ room_at rooms place
+own_room rooms place r inside is = is ∙ get_or_default rooms place r no_room inside
+
+-- an agreement's arc can carry its room, and no more than its offers have
+pub agreement_capacity : (offers : List Offer) (r q : Room) (agreement : AgreementId) (lots n : ℕ) → r ≡ q → r.key ≡ Agr agreement → lots ≡ lots_with offers q.key → n ≡ min r.lots lots → n ≡ capacity_of offers q.lots q.key
+agreement_capacity offers r q agreement lots n same key all is =
+    let named : q.key ≡ Agr agreement = ap (λ (r : Room). r.key) (sym same) ∙ key in
+    is ∙ ap (λ m. min r.lots m) (all ∙ ap (lots_with offers) named) ∙ ap (λ (r : Room). min r.lots (lots_with offers (Agr agreement))) same ∙ ap (capacity_of offers q.lots) (sym named)
+
+-- the way that is read of the offer at a place
+pub own_way : (view : GroupView) (number : ℕ) (way : List ℕ) → number < length view.offers → IfSome (slice_get view.offers number) (λ (o : Offer). way ≡ map (place_of view.rooms) o.path) → way ≡ way_of view.rooms (offer_at view.offers number)
+own_way view number way inside are = rw (slice_get-get_or view.offers number no_offer inside) at are
+
+-- the second place that is read of an offer's way
+pub agreement_read : (view : GroupView) (number : ℕ) (way : List ℕ) → number < length view.offers → IfSome (slice_get view.offers number) (λ (o : Offer). slice_get way 1 ≡ Some (place_of view.rooms (Agr o.agreement)))
+    → get_or way 1 0 ≡ agreement_place view.rooms (offer_at view.offers number)
+agreement_read view number way inside at =
+    get_or_from_slice_get way 1 (agreement_place view.rooms (offer_at view.offers number)) 0 (rw (slice_get-get_or view.offers number no_offer inside) at at)

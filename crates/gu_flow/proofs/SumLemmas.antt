@@ -1,0 +1,107 @@
+-- Sums over lists, and over the places of a list.
+use Rattle.std.proofs.Common.{◌≡◌, ℕ, ◌+◌, ◌<◌, ◌==◌, Bool, true, false, cond, List, [], ◌∷◌, zero, suc, length, map, refl, sym, ◌∙◌, ap, arith, get_or}
+use Rattle.std.specs.List.{sum_by, AllByRecursion}
+use Rattle.std.proofs.lemmas.List.Sums.{sum_by-cons}
+use Rattle.std.proofs.lemmas.Bool.{ne_eqb, eq-eqb, eqb-true, cond-false, cond-true}
+
+module _ {X : Type 0} where
+  -- a sum of zeros
+  pub sum_by-zeros : (xs : List X) → sum_by (λ (x : X). 0) xs ≡ 0
+  sum_by-zeros [] = refl
+  sum_by-zeros (x ∷ xs) = sum_by-zeros xs
+
+  -- the sum of sums
+  pub sum_by-add : (f g : X → ℕ) (xs : List X) → sum_by (λ x. f x + g x) xs ≡ sum_by f xs + sum_by g xs
+  sum_by-add f g [] = refl
+  sum_by-add f g (x ∷ xs) =
+      omega (arith, sum_by-add f g xs, sum_by-cons (λ x. f x + g x) x xs, sum_by-cons f x xs, sum_by-cons g x xs)
+
+  -- the same terms
+  pub sum_by-ext : (f g : X → ℕ) (xs : List X) → ((x : X) → f x ≡ g x) → sum_by f xs ≡ sum_by g xs
+  sum_by-ext f g [] h = refl
+  sum_by-ext f g (x ∷ xs) h =
+      omega (arith, h x, sum_by-ext f g xs h, sum_by-cons f x xs, sum_by-cons g x xs)
+
+  -- the same terms, each by a fact of its element
+  pub sum_by-by : (P : X → Type 0) (f g : X → ℕ) (xs : List X) → ((x : X) → P x → f x ≡ g x) → AllByRecursion P xs → sum_by f xs ≡ sum_by g xs
+  sum_by-by P f g [] same h = refl
+  sum_by-by P f g (x ∷ xs) same h =
+      omega (arith, same x h.0, sum_by-by P f g xs same h.1, sum_by-cons f x xs, sum_by-cons g x xs)
+
+-- rows added up, or columns
+pub sum_by-swap : {X Y : Type 0} (f : X → Y → ℕ) (xs : List X) (ys : List Y) → sum_by (λ x. sum_by (λ y. f x y) ys) xs ≡ sum_by (λ y. sum_by (λ x. f x y) xs) ys
+sum_by-swap f [] ys = sym (sum_by-zeros ys)
+sum_by-swap f (x ∷ xs) ys =
+    sum_by-cons (λ x. sum_by (λ y. f x y) ys) x xs
+    ∙ ap (λ n. sum_by (λ y. f x y) ys + n) (sum_by-swap f xs ys)
+    ∙ sym (sum_by-add (λ y. f x y) (λ y. sum_by (λ x. f x y) xs) ys)
+    ∙ sum_by-ext (λ y. f x y + sum_by (λ x. f x y) xs) (λ y. sum_by (λ x. f x y) (x ∷ xs)) ys (λ y. sym (sum_by-cons (λ x. f x y) x xs))
+
+sum_by-map : {X Y : Type 0} (f : Y → ℕ) (g : X → Y) (xs : List X) → sum_by f (map g xs) ≡ sum_by (λ x. f (g x)) xs
+sum_by-map f g [] = refl
+sum_by-map f g (x ∷ xs) = omega (arith, sum_by-map f g xs, sum_by-cons f (g x) (map g xs), sum_by-cons (λ x. f (g x)) x xs)
+
+-- a test before a sum, or before each term
+pub cond-sum : {X : Type 0} (b : Bool) (f : X → ℕ) (xs : List X) → cond b (sum_by f xs) 0 ≡ sum_by (λ x. cond b (f x) 0) xs
+cond-sum true f xs = refl
+cond-sum false f xs = sym (sum_by-zeros xs)
+
+pub cond-swap : (b c : Bool) (x : ℕ) → cond b (cond c x 0) 0 ≡ cond c (cond b x 0) 0
+cond-swap true c x = refl
+cond-swap false true x = refl
+cond-swap false false x = refl
+
+pub cond_same : (b : Bool) (x : ℕ) → cond b x x ≡ x
+cond_same true x = refl
+cond_same false x = refl
+
+pub at_test : (b : Bool) (x y : ℕ) → (b ≡ true → x ≡ y) → cond b x 0 ≡ cond b y 0
+at_test true x y same = same refl
+at_test false x y same = refl
+
+-- the places of a list with so many elements
+pub places : ℕ → List ℕ
+places zero = []
+places (suc n) = 0 ∷ map suc (places n)
+
+-- a sum over places, term by term
+sum_places : (f : ℕ → ℕ) (n : ℕ) → sum_by f (places (suc n)) ≡ f 0 + sum_by (λ k. f (suc k)) (places n)
+unfolding places
+sum_places f n = sum_by-cons f 0 (map suc (places n)) ∙ ap (λ m. f 0 + m) (sum_by-map f suc (places n))
+
+-- a sum over a list is one over its places
+pub sum_by_place : {X : Type 0} (f : X → ℕ) (xs : List X) (d : X) → sum_by f xs ≡ sum_by (λ k. f (get_or xs k d)) (places (length xs))
+unfolding places
+sum_by_place f [] d = refl
+sum_by_place f (x ∷ xs) d = sum_by-cons f x xs ∙ ap (λ m. f x + m) (sum_by_place f xs d) ∙ sym (sum_places (λ k. f (get_or (x ∷ xs) k d)) (length xs))
+
+-- the same terms at each place
+pub sum_places_by : (f g : ℕ → ℕ) (n : ℕ) → ((k : ℕ) → k < n → f k ≡ g k) → sum_by f (places n) ≡ sum_by g (places n)
+unfolding places
+sum_places_by f g zero same = refl
+sum_places_by f g (suc n) same =
+    omega (arith, sum_places f n, sum_places g n, same 0 (omega arith), sum_places_by (λ k. f (suc k)) (λ k. g (suc k)) n (λ k k_in. same (suc k) (omega arith)))
+
+-- two tests of which each gives the other
+pub same_test : (b c : Bool) → (b ≡ true → c ≡ true) → (c ≡ true → b ≡ true) → b ≡ c
+same_test true true f g = refl
+same_test true false f g = sym (f refl)
+same_test false true f g = g refl
+same_test false false f g = refl
+
+test-suc : (k j : ℕ) → (suc k == suc j) ≡ (k == j)
+test-suc k j = same_test (suc k == suc j) (k == j) (λ e. eq-eqb k j (let same = eqb-true (suc k) (suc j) e in omega arith)) (λ e. eq-eqb (suc k) (suc j) (ap suc (eqb-true k j e)))
+
+-- the term of one place
+pub sum_one_place : (h : ℕ → ℕ) (n k : ℕ) → k < n → sum_by (λ j. cond (k == j) (h j) 0) (places n) ≡ h k
+unfolding places
+sum_one_place h zero k k_in = absurd (omega arith)
+sum_one_place h (suc n) zero k_in =
+    let others : sum_by (λ j. cond (0 == suc j) (h (suc j)) 0) (places n) ≡ 0 = sum_places_by (λ j. cond (0 == suc j) (h (suc j)) 0) (λ j. 0) n (λ j j_in. cond-false (0 == suc j) (h (suc j)) 0 (ne_eqb 0 (suc j) (λ e. absurd (omega arith)))) ∙ sum_by-zeros (places n) in
+    let here : cond (0 == 0) (h 0) 0 ≡ h 0 = cond-true (0 == 0) (h 0) 0 (eq-eqb 0 0 refl) in
+    omega (arith, sum_places (λ j. cond (0 == j) (h j) 0) n)
+sum_one_place h (suc n) (suc k) k_in =
+    let rest : sum_by (λ j. cond (k == j) (h (suc j)) 0) (places n) ≡ h (suc k) = sum_one_place (λ j. h (suc j)) n k (omega arith) in
+    let turn : sum_by (λ j. cond (suc k == suc j) (h (suc j)) 0) (places n) ≡ sum_by (λ j. cond (k == j) (h (suc j)) 0) (places n) = sum_by-ext (λ j. cond (suc k == suc j) (h (suc j)) 0) (λ j. cond (k == j) (h (suc j)) 0) (places n) (λ j. ap (λ b. cond b (h (suc j)) 0) (test-suc k j)) in
+    let none : cond (suc k == 0) (h 0) 0 ≡ 0 = cond-false (suc k == 0) (h 0) 0 (ne_eqb (suc k) 0 (λ e. absurd (omega arith))) in
+    omega (arith, sum_places (λ j. cond (suc k == j) (h j) 0) n)

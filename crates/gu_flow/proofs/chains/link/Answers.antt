@@ -1,0 +1,11 @@
+use Rattle.std.proofs.Common.{◌<◌, arith, length, subst, sym}
+use Rattle.gu_flow.specs.Ends.{near, JoinsNodes}
+use Rattle.gu_flow.proofs.EndLemmas.{near_in}
+use Rattle.gu_flow.proofs.Linking.{link_one}
+use Rattle.gu_flow.proofs.chains.link.Goals as goal
+
+pub loop-end-preserved : goal.loop-end-preserved
+loop-end-preserved c =
+    let joins : JoinsNodes c.args.arcs.now (length c.loop-end.first) = subst (JoinsNodes c.args.arcs.now) (sym c.loop-end.auto.first) c.requires.joins in
+    let node_in : near c.args.arcs.now c.loop-end.end < length c.loop-end.first = near_in c.args.arcs.now c.loop-end.end _ joins (omega arith) in
+    rw c.near-node.ensures (link_one c.args.arcs.now c.loop-end.first c.loop-end.next c.loop-end.end c.loop-end.invariant (omega arith) node_in)

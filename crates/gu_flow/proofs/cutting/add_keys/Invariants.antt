@@ -1,0 +1,10 @@
+use Rattle.std.proofs.Common.{◌≡◌}
+use Rattle.gu_flow.specs.CutArcs.{AreKeysCut}
+use Rattle.gu_flow.specs.Levels.{is_reached}
+use Rattle.gu_flow.proofs.cutting.add_keys.Given as goal
+
+abbrev pub invariant-loop-place : goal.invariant-loop-place
+invariant-loop-place l = record {
+  keys : AreKeysCut l.view (is_reached l.entries) l.arcs l.cut.keys l.place;
+  offers : l.cut.offers ≡ l.fn.cut.offers;
+}

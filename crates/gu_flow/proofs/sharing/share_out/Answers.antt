@@ -1,0 +1,27 @@
+use Rattle.std.proofs.Common.{◌≡◌, ◌<◌, ◌∙◌, ap, arith, length, min, get_or}
+use Rattle.std.proofs.lemmas.List.{get_or_default}
+use Rattle.gu_view.specs.declared.view.Offer.{Offer}
+use Rattle.gu_flow.specs.Networks.{no_offer, offer_at}
+use Rattle.gu_flow.proofs.ShareLemmas.{added_last, shares_before, one_more_share}
+use Rattle.gu_flow.proofs.sharing.share_out.Goals as goal
+
+pub loop-number-preserved : goal.loop-number-preserved
+loop-number-preserved c =
+    let view = c.args.view.now in
+    let i = c.loop-number.number in
+    let h = c.loop-number.invariant in
+    let offers = c.offers-offer-items.ensures.offers in
+    let inside = rw offers at c.loop-number-test.true in
+    let o = c.offer-item.result in
+    let is : o ≡ offer_at view.offers i = rw offers at c.offer-item.is ∙ get_or_default view.offers i o no_offer inside in
+    let number : o.number ≡ (offer_at view.offers i).number = ap (λ (o : Offer). o.number) is in
+    let place = c.agreement_place-place.result in
+    let rests = c.loop-number.rests.items in
+    let lots = c.min-lots.result in
+    let within : place < length rests = omega (arith, c.agreement_place-place.ensures.within, h.size, c.requires) in
+    let read : c.index.result.now ≡ get_or rests place 0 = c.index.ensures ∙ get_or_default rests place c.index.result.now 0 within in
+    let written : c.index_mut.result.now ≡ get_or rests place 0 = c.index_mut.ensures.value ∙ get_or_default rests place c.index_mut.result.now 0 within in
+    let lots_are : lots ≡ min (offer_at view.offers i).lots (get_or rests place 0) = c.min-lots.ensures ∙ ap (min o.lots) read ∙ ap (λ (o : Offer). min o.lots (get_or rests place 0)) is in
+    let taken = added_last c.loop-number.takes c.add.new.self (record { offer = o.number; lots = lots }) c.in_ok-add.field-0
+    (rw number (shares_before view c.args.arcs.now c.offers-offer-items.ensures.sound c.loop-number.takes i inside h.shares)) c.in_ok-add.ensures.added c.in_ok-add.ensures.takes in
+    rw (taken, number, written) (one_more_share view c.args.arcs.now c.loop-number.takes rests i place lots inside h c.agreement_place-place.ensures.place within lots_are)

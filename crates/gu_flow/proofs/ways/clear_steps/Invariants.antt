@@ -1,0 +1,5 @@
+use Rattle.gu_flow.specs.Ways.{HasRoom}
+use Rattle.gu_flow.proofs.ways.clear_steps.Given as goal
+
+abbrev pub invariant-loop-step : goal.invariant-loop-step
+invariant-loop-step l = HasRoom l.arcs l.way l.step 1

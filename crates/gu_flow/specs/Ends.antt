@@ -1,0 +1,50 @@
+-- The two ends of each arc: 2k stands for the tail of the arc at place k, and 2k + 1 for its head.
+use Rattle.std.specs.Prelude.{◌≡◌, ◌≢◌, ℕ, ◌+◌, ◌-◌, ◌/◌, ◌%◌, ◌<◌, ◌≤◌, ◌==◌, Bool, if◌then◌else◌, List, All, length, slice_index, slice_index_or}
+use Rattle.gu_flow.specs.declared.arcs.Arc.{Arc}
+
+-- the arc at a place
+abbrev pub no_arc : Arc
+no_arc = record { from = 0; to = 0; capacity = 0; flow = 0 }
+
+abbrev pub arc_at : List Arc → ℕ → Arc
+arc_at arcs k = slice_index_or arcs k no_arc
+
+-- whether an end is its arc's tail
+abbrev pub is_tail : ℕ → Bool
+is_tail e = e % 2 == 0
+
+-- the node at an end, and the node at the other end of the arc
+abbrev pub near : List Arc → ℕ → ℕ
+near arcs e = if is_tail e then (arc_at arcs (e / 2)).from else (arc_at arcs (e / 2)).to
+
+abbrev pub far : List Arc → ℕ → ℕ
+far arcs e = if is_tail e then (arc_at arcs (e / 2)).to else (arc_at arcs (e / 2)).from
+
+-- the arc's other end
+abbrev pub other_end : ℕ → ℕ
+other_end e = if is_tail e then e + 1 else e - 1
+
+-- the lots that can still be brought to an end from the other one: against the arc what flows, along it what it can carry more
+abbrev pub room_in : List Arc → ℕ → ℕ
+room_in arcs e = if is_tail e then (arc_at arcs (e / 2)).flow else (arc_at arcs (e / 2)).capacity - (arc_at arcs (e / 2)).flow
+
+-- the lots that can still be brought from an end to the other one
+abbrev pub room_out : List Arc → ℕ → ℕ
+room_out arcs e = if is_tail e then (arc_at arcs (e / 2)).capacity - (arc_at arcs (e / 2)).flow else (arc_at arcs (e / 2)).flow
+
+-- each arc joins two of so many nodes
+abbrev pub JoinsNodes : List Arc → ℕ → Type 0
+JoinsNodes arcs nodes = All (λ a. (a.from < nodes) × (a.to < nodes)) arcs
+
+-- the ends below `count` at each node, from the last to the first: `next` is one more than the end before at the same node, or 0
+pub record IsChain (arcs : List Arc) (next : List ℕ) (count : ℕ) : Type 0 where
+  pub before : (e : ℕ) → e < count → slice_index next e ≤ e
+  pub at : (e : ℕ) → e < count → 0 < slice_index next e → near arcs (slice_index next e - 1) ≡ near arcs e
+  pub none_between : (e d : ℕ) → e < count → slice_index next e ≤ d → d < e → near arcs d ≢ near arcs e
+
+-- and `first` is one more than the last end at a node, or 0
+pub record IsIndex (arcs : List Arc) (first next : List ℕ) (count : ℕ) : Type 0 where
+  pub chain : IsChain arcs next count
+  pub within : (n : ℕ) → slice_index first n ≤ count
+  pub at : (n : ℕ) → 0 < slice_index first n → near arcs (slice_index first n - 1) ≡ n
+  pub none_after : (n e : ℕ) → n < length first → slice_index first n ≤ e → e < count → near arcs e ≢ n

@@ -1,0 +1,9 @@
+pub mod Ends
+pub mod Levels
+pub mod Flows
+pub mod Ways
+pub mod Layouts
+pub mod CutArcs
+pub mod Networks
+pub mod Proposals
+pub mod Shares

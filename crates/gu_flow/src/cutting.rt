@@ -1,0 +1,93 @@
+//! The cut between what the last search reached and what it didn't.
+
+ghost use Rattle.std.specs.Prelude.{◌≡◌, ◌<◌, [], IfOk, OnOk, length};
+ghost use Rattle.gu_flow.specs.CutArcs.{leads_out, cuts_key, cuts_offers, AreKeysCut, AreOffersCut, IsCutBy};
+ghost use Rattle.gu_flow.specs.Levels.{is_reached};
+
+use crate::arcs::Arc;
+use crate::levels::Entry;
+use crate::sharing::agreement_place;
+use gu_terms::Cut;
+use gu_view::View;
+use std::alloc::{AllocError, Global};
+
+/// Whether a node was reached.
+fn is_reached(entries: &[Entry], node: u32) -> bool
+    ensures { result ≡ is_reached entries.now node }
+{
+    match entries.get(node as usize) {
+        Some(entry) => 0 < entry.level,
+        None => false,
+    }
+}
+
+/// Whether an arc leads from what was reached to what wasn't.
+fn leads_out(entries: &[Entry], arc: &Arc) -> bool
+    ensures { result ≡ leads_out (is_reached entries.now) arc.now }
+{
+    is_reached(entries, arc.from) && !is_reached(entries, arc.to)
+}
+
+/// Whether the key of the room at a place is cut.
+fn cuts_key(view: &View, arcs: &[Arc], entries: &[Entry], place: usize) -> bool
+    requires room { place < length view.now.rooms }
+    requires arc { place < length arcs.now }
+    ensures { result ≡ cuts_key (is_reached entries.now) arcs.now view.now.rooms place }
+{
+    leads_out(entries, &arcs[place]) && arcs[place].capacity == view.rooms()[place].lots
+}
+
+/// Whether the offers of the agreement whose room is at a place are cut.
+fn cuts_offers(view: &View, arcs: &[Arc], entries: &[Entry], place: usize) -> bool
+    requires room { place < length view.now.rooms }
+    requires arc { place < length arcs.now }
+    ensures { result ≡ cuts_offers (is_reached entries.now) arcs.now view.now.rooms place }
+{
+    leads_out(entries, &arcs[place]) && arcs[place].capacity != view.rooms()[place].lots
+}
+
+/// Adds the keys that are cut.
+fn add_keys(cut: &mut Cut, view: &View, arcs: &[Arc], entries: &[Entry]) -> Result<(), AllocError>
+    requires arcs { length arcs.now ≡ length view.now.rooms }
+    requires none { cut.old.keys ≡ [] }
+    ensures keys { OnOk result (AreKeysCut view.now (is_reached entries.now) arcs.now cut.new.keys (length view.now.rooms)) }
+    ensures offers { cut.new.offers ≡ cut.old.offers }
+{
+    for (place, room) in view.rooms().iter().enumerate() {
+        if cuts_key(view, arcs, entries, place) {
+            cut.add_key(room.key)?;
+        }
+    }
+    Ok(())
+}
+
+/// Adds the offers that are cut.
+fn add_offers(cut: &mut Cut, view: &View, arcs: &[Arc], entries: &[Entry]) -> Result<(), AllocError>
+    requires arcs { length arcs.now ≡ length view.now.rooms }
+    requires none { cut.old.offers ≡ [] }
+    ensures offers { OnOk result (AreOffersCut view.now (is_reached entries.now) arcs.now cut.new.offers (length view.now.offers)) }
+    ensures keys { cut.new.keys ≡ cut.old.keys }
+{
+    for (number, offer) in view.offers().iter().enumerate() {
+        if cuts_offers(view, arcs, entries, agreement_place(view, number)) {
+            cut.add_offer(offer.number)?;
+        }
+    }
+    Ok(())
+}
+
+/// The cut by which the last search stops.
+pub(crate) fn cut_by(
+    alloc: Global,
+    view: &View,
+    arcs: &[Arc],
+    entries: &[Entry],
+) -> Result<Cut, AllocError>
+    requires { length arcs.now ≡ length view.now.rooms }
+    ensures { IfOk result (λ cut. IsCutBy view.now (is_reached entries.now) arcs.now cut) }
+{
+    let mut cut = Cut::new(alloc);
+    add_keys(&mut cut, view, arcs, entries)?;
+    add_offers(&mut cut, view, arcs, entries)?;
+    Ok(cut)
+}

@@ -1,0 +1,123 @@
+//! Proposals: a greatest claim sweep of a view, with the cut that proves it.
+
+ghost use Rattle.std.specs.Prelude.{◌≡◌, ◌<◌, ◌^◌, Ok, IfErr, IfOk, sum_by};
+ghost use Rattle.gu_flow.specs.Proposals.{IsSound};
+ghost use Rattle.gu_view.specs.Check.{verdict};
+ghost use Rattle.gu_view.specs.View.{IsNested};
+
+use crate::cutting::cut_by;
+use crate::layout::lay_out;
+use crate::network::maximize;
+use crate::sharing::share_out;
+use gu_terms::{Cut, Take, Takes};
+use gu_view::View;
+use std::alloc::{AllocError, Global};
+use std::marker::Model;
+
+/// The greatest takes of a view, oldest first inside each agreement, and a cut whose room is the lots taken.
+#[derive(Drop)]
+pub struct Proposal {
+    view: View,
+    takes: Takes,
+    cut: Cut,
+    lots: u64,
+}
+
+impl Model for Proposal {
+    ghost use Rattle.gu_flow.specs.Proposals.{ProposedSweep, IsSound};
+
+    ghost Value = { ProposedSweep };
+
+    ghost view = { λ p. record { view = p.view; takes = p.takes; cut = p.cut; lots = p.lots } };
+
+    ghost invariant = { λ p. IsSound (record { view = p.view; takes = p.takes; cut = p.cut; lots = p.lots }) };
+}
+
+impl Proposal {
+    /// The view that it is for.
+    pub fn view(&self) -> &View
+        ensures view { result.now ≡ self.now.view }
+        ensures sound { IsSound self.now }
+    {
+        &self.view
+    }
+
+    /// What is taken of each offer.
+    pub fn takes(&self) -> &Takes
+        ensures takes { result.now ≡ self.now.takes }
+        ensures sound { IsSound self.now }
+    {
+        &self.takes
+    }
+
+    /// The keys and offers whose room bounds every sweep of the view.
+    pub fn cut(&self) -> &Cut
+        ensures cut { result.now ≡ self.now.cut }
+        ensures sound { IsSound self.now }
+    {
+        &self.cut
+    }
+
+    /// The lots that are taken in all, which are the cut's room.
+    pub fn lots(&self) -> u64
+        ensures lots { result ≡ self.now.lots }
+        ensures sound { IsSound self.now }
+        ensures checked { verdict self.now.view self.now.takes self.now.cut ≡ Ok self.now.lots }
+    {
+        self.lots
+    }
+
+    /// A copy.
+    pub fn copy(&self) -> Result<Proposal, AllocError>
+        ensures { IfOk result (λ proposal. proposal ≡ self.now) }
+    {
+        let view = self.view.copy()?;
+        let takes = self.takes.copy()?;
+        let cut = self.cut.copy()?;
+        Ok(Proposal {
+            view,
+            takes,
+            cut,
+            lots: self.lots,
+        })
+    }
+}
+
+/// The lots of all takes.
+fn sum_of(takes: &[Take]) -> u64
+    requires { sum_by (λ t. t.lots) takes.now < 2 ^ 64 }
+    ensures { result ≡ sum_by (λ t. t.lots) takes.now }
+{
+    takes.iter().map(|take| take.lots).sum()
+}
+
+/// Takes, their cut and their lots, from a greatest flow in the view's network.
+fn sweep(alloc: Global, view: &View) -> Result<(Takes, Cut, u64), AllocError>
+    requires { IsNested view.now }
+    ensures { IfOk result (λ s. IsSound (record { view = view.now; takes = s.0; cut = s.1; lots = s.2 })) }
+{
+    let mut arcs = lay_out(alloc, view)?;
+    let entries = maximize(alloc, &mut arcs, view.rooms().len() + 2)?;
+    let takes = share_out(alloc, view, &arcs)?;
+    let cut = cut_by(alloc, view, &arcs, &entries)?;
+    let lots = sum_of(takes.as_slice());
+    Ok((takes, cut, lots))
+}
+
+/// Proposes the greatest claim sweep of a nested view. No lock is held, and nothing is waited for.
+pub fn propose(alloc: Global, view: View) -> Result<Proposal, (AllocError, View)>
+    requires { IsNested view }
+    ensures view { IfOk result (λ proposal. proposal.view ≡ view) }
+    ensures sound { IfOk result (λ proposal. IsSound proposal) }
+    ensures refused { IfErr result (λ e. e.1 ≡ view) }
+{
+    match sweep(alloc, &view) {
+        Ok((takes, cut, lots)) => Ok(Proposal {
+            view,
+            takes,
+            cut,
+            lots,
+        }),
+        Err(refused) => Err((refused, view)),
+    }
+}
