@@ -1,0 +1,169 @@
+#!/usr/bin/env python3
+"""Writes seeded views in plain text: shapes.py SHAPE OFFERS SEED > view.txt
+
+offer NUMBER LOTS EXEC AGREEMENT ACCOUNT CARRY
+room KIND NAME LOTS      in the order in which the keys are first mentioned
+"""
+import sys
+
+
+class Seeded:
+    """A small generator, the same everywhere."""
+
+    def __init__(self, seed):
+        self.state = seed * 2862933555777941757 + 3037000493
+
+    def below(self, bound):
+        self.state = (self.state * 6364136223846793005 + 1442695040888963407) % 2**64
+        return (self.state >> 33) % bound
+
+
+# Each shape gives its offers (lots, executing firm, agreement, account, carrying firm) and the room of a key
+# from its kind, its name and the lots of its offers.
+
+
+def one_agreement(count, rng):
+    """All offers under one agreement."""
+    offers = [(1 + rng.below(1_000_000), 0, 0, 0, 0) for _ in range(count)]
+    return offers, lambda kind, name, lots: 1_000_000_000
+
+
+def distinct(count, rng):
+    """Each offer with an agreement and an account of its own."""
+    offers = [(1 + rng.below(1_000_000), rng.below(64), n, n, rng.below(64)) for n in range(count)]
+    offers = [(l, e, a, c, c % 64) for (l, e, a, c, _) in offers]
+    return offers, lambda kind, name, lots: 1 + rng.below(max(1, 2 * lots))
+
+
+def dense(count, rng):
+    """Every firm with every account."""
+    side = max(1, int(count**0.5))
+    offers = []
+    for n in range(count):
+        e, c = (n // side) % side, n % side
+        offers.append((1 + rng.below(1_000_000), e, n, c, c % 16))
+    return offers, lambda kind, name, lots: 1 + rng.below(max(1, lots))
+
+
+def tight(count, rng):
+    """Limits that bind at every level."""
+    firms, accounts, carriers = max(1, count // 32), max(1, count // 8), max(1, count // 128)
+    offers = []
+    for n in range(count):
+        c = rng.below(accounts)
+        offers.append((1 + rng.below(1_000_000), rng.below(firms), n, c, c % carriers))
+    return offers, lambda kind, name, lots: 1 + lots // 2 + rng.below(1 + lots // 4)
+
+
+def chain_of(length, first_exec, first_account, lots):
+    """Firms e with accounts e and e + 1, the wrong one first, and a last firm with one account."""
+    offers = []
+    for i in range(length):
+        offers.append((lots, first_exec + i, first_account + i + 1))
+        offers.append((lots, first_exec + i, first_account + i))
+    offers.append((lots, first_exec + length, first_account + length))
+    return offers
+
+
+def chains(count, rng):
+    """One chain through all firms."""
+    length = max(1, count // 2 - 1)
+    offers = [(l, e, n, c, c % 8) for n, (l, e, c) in enumerate(chain_of(length, 0, 0, 1000))]
+    return offers, lambda kind, name, lots: 1000 if kind in ("exec", "acct") else 1_000_000_000
+
+
+def combs(count, rng):
+    """Chains of each length from 1 up."""
+    offers, length, execs, accounts = [], 1, 0, 0
+    while len(offers) + 2 * length + 1 <= count:
+        offers += chain_of(length, execs, accounts, 1 + rng.below(1000))
+        execs, accounts, length = execs + length + 1, accounts + length + 1, length + 1
+    lots = {}
+    for l, e, c in offers:
+        lots[("exec", e)] = lots[("acct", c)] = l
+    offers = [(l, e, n, c, c % 8) for n, (l, e, c) in enumerate(offers)]
+    return offers, lambda kind, name, total: lots.get((kind, name), 1_000_000_000)
+
+
+def mixed_chains(count, rng):
+    """A chain whose firms stand in any order."""
+    offers, room = chains(count, rng)
+    for i in range(len(offers) - 1, 0, -1):
+        j = rng.below(i + 1)
+        offers[i], offers[j] = offers[j], offers[i]
+    return offers, room
+
+
+def spread(count, rng):
+    """Each account under its own firms at both ends."""
+    offers = [(1 + rng.below(1_000_000), n, n, n, n) for n in range(count)]
+    return offers, lambda kind, name, lots: 1 + rng.below(max(1, 2 * lots))
+
+
+def staircase(count, rng):
+    """Firms with ever more accounts, and accounts with room for one firm."""
+    offers, n, e = [], 0, 0
+    while n < count:
+        for c in range(e + 1):
+            if n < count:
+                offers.append((1 + rng.below(1000), e, n, c, c % 8))
+                n += 1
+        e += 1
+    return offers, lambda kind, name, lots: 500 if kind in ("exec", "acct") else 1_000_000_000
+
+
+def turned(shape):
+    """The same offers, the last first."""
+
+    def view(count, rng):
+        offers, room = shape(count, rng)
+        return offers[::-1], room
+
+    return view
+
+
+def shuffled(shape):
+    """The same offers in any order."""
+
+    def view(count, rng):
+        offers, room = shape(count, rng)
+        for i in range(len(offers) - 1, 0, -1):
+            j = rng.below(i + 1)
+            offers[i], offers[j] = offers[j], offers[i]
+        return offers, room
+
+    return view
+
+
+SHAPES = dict(
+    one=one_agreement,
+    distinct=distinct,
+    dense=dense,
+    tight=tight,
+    chains=chains,
+    mixed=mixed_chains,
+    back_chains=turned(chains),
+    combs=combs,
+    any_combs=shuffled(combs),
+    spread=spread,
+    stairs=staircase,
+)
+
+
+def main():
+    shape, count, seed = sys.argv[1], int(sys.argv[2]), int(sys.argv[3])
+    rng = Seeded(seed)
+    offers, room = SHAPES[shape](count, rng)
+    keys = {}
+    out = []
+    for number, (lots, e, a, c, d) in enumerate(offers, 1):
+        lots = min(lots, 1_000_000)
+        out.append(f"offer {number} {lots} {e} {a} {c} {d}")
+        for key in (("exec", e), ("agr", a), ("acct", c), ("carry", d)):
+            keys[key] = keys.get(key, 0) + lots
+    for (kind, name), lots in keys.items():
+        out.append(f"room {kind} {name} {min(1_000_000_000, room(kind, name, lots))}")
+    print("\n".join(out))
+
+
+main()
