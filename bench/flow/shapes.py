@@ -85,15 +85,6 @@ def combs(count, rng):
     return offers, lambda kind, name, total: lots.get((kind, name), 1_000_000_000)
 
 
-def mixed_chains(count, rng):
-    """A chain whose firms stand in any order."""
-    offers, room = chains(count, rng)
-    for i in range(len(offers) - 1, 0, -1):
-        j = rng.below(i + 1)
-        offers[i], offers[j] = offers[j], offers[i]
-    return offers, room
-
-
 def spread(count, rng):
     """Each account under its own firms at both ends."""
     offers = [(1 + rng.below(1_000_000), n, n, n, n) for n in range(count)]
@@ -141,7 +132,7 @@ SHAPES = dict(
     dense=dense,
     tight=tight,
     chains=chains,
-    mixed=mixed_chains,
+    mixed=shuffled(chains),
     back_chains=turned(chains),
     combs=combs,
     any_combs=shuffled(combs),

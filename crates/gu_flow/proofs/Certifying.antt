@@ -34,7 +34,8 @@ use Rattle.gu_flow.proofs.Loads.{flow_at, agree, Sided}
 use Rattle.gu_flow.proofs.RoomPlaces.{goes_by_key, at_place}
 use Rattle.gu_flow.proofs.ShareLemmas.{share_taken, share_fits, shares_oldest_first, shares_together, shares_known}
 use Rattle.gu_flow.proofs.Sides.{IsLaid, LiesOn, way_walks, way_once, way_lays, first_left, later_right}
-use Rattle.gu_flow.proofs.SumLemmas.{places, sum_by-by, sum_by-add, sum_by-swap, sum_by-ext, sum_by_place, sum_places_by, sum_one_place, cond-sum, cond-swap}
+use Rattle.gu_view.proofs.ListLemmas.{sum_by-add, sum_by-swap, sum_by-agree}
+use Rattle.gu_flow.proofs.SumLemmas.{places, sum_by-by, sum_by_place, sum_places_by, sum_one_place, cond-sum, cond-swap}
 use Rattle.gu_flow.proofs.Walks.{has_place, Walking, load, sum_over}
 use Rattle.gu_flow.proofs.WayStages.{stage_of, stage_at, staged_at, key_on, lies_alike}
 
@@ -265,8 +266,8 @@ module _ (view : GroupView) (sound : IsView view) (nested : IsNested view) (arcs
       sum_by-by (IsOfferOf view) (λ o. cond (has_number cut.offers o.number) o.lots 0) (λ o. sum_by (λ k. cond (at o == k) (cond (w k) o.lots 0) 0) (places (length arcs))) view.offers
       (λ o h. ap (λ b. cond b o.lots 0) (offer_told o h) ∙ sym (sum_one_place (λ k. cond (w k) o.lots 0) (length arcs) (at o) (agreement_in o h))) each_offer
       ∙ sum_by-swap (λ (o : Offer) k. cond (at o == k) (cond (w k) o.lots 0) 0) view.offers (places (length arcs))
-      ∙ sum_by-ext (λ k. sum_by (λ (o : Offer). cond (at o == k) (cond (w k) o.lots 0) 0) view.offers) (λ k. cond (w k) (agreement_lots view.rooms view.offers k) 0) (places (length arcs))
-      (λ k. sum_by-ext (λ (o : Offer). cond (at o == k) (cond (w k) o.lots 0) 0) (λ (o : Offer). cond (w k) (cond (at o == k) o.lots 0) 0) view.offers (λ o. cond-swap (at o == k) (w k) o.lots)
+      ∙ sum_by-agree (λ k. sum_by (λ (o : Offer). cond (at o == k) (cond (w k) o.lots 0) 0) view.offers) (λ k. cond (w k) (agreement_lots view.rooms view.offers k) 0) (places (length arcs))
+      (λ k. sum_by-agree (λ (o : Offer). cond (at o == k) (cond (w k) o.lots 0) 0) (λ (o : Offer). cond (w k) (cond (at o == k) o.lots 0) 0) view.offers (λ o. cond-swap (at o == k) (w k) o.lots)
       ∙ sym (cond-sum (w k) (λ (o : Offer). cond (at o == k) o.lots 0) view.offers))
 
   -- so the cut's room is the lots taken

@@ -2,40 +2,15 @@
 use Rattle.std.proofs.Common.{◌≡◌, ℕ, ◌+◌, ◌<◌, ◌==◌, Bool, true, false, cond, List, [], ◌∷◌, zero, suc, length, map, refl, sym, ◌∙◌, ap, arith, get_or}
 use Rattle.std.specs.List.{sum_by, AllByRecursion}
 use Rattle.std.proofs.lemmas.List.Sums.{sum_by-cons}
+use Rattle.gu_view.proofs.ListLemmas.{sum_by-agree, sum_by-zeros}
 use Rattle.std.proofs.lemmas.Bool.{ne_eqb, eq-eqb, eqb-true, cond-false, cond-true}
 
 module _ {X : Type 0} where
-  -- a sum of zeros
-  pub sum_by-zeros : (xs : List X) → sum_by (λ (x : X). 0) xs ≡ 0
-  sum_by-zeros [] = refl
-  sum_by-zeros (x ∷ xs) = sum_by-zeros xs
-
-  -- the sum of sums
-  pub sum_by-add : (f g : X → ℕ) (xs : List X) → sum_by (λ x. f x + g x) xs ≡ sum_by f xs + sum_by g xs
-  sum_by-add f g [] = refl
-  sum_by-add f g (x ∷ xs) =
-      omega (arith, sum_by-add f g xs, sum_by-cons (λ x. f x + g x) x xs, sum_by-cons f x xs, sum_by-cons g x xs)
-
-  -- the same terms
-  pub sum_by-ext : (f g : X → ℕ) (xs : List X) → ((x : X) → f x ≡ g x) → sum_by f xs ≡ sum_by g xs
-  sum_by-ext f g [] h = refl
-  sum_by-ext f g (x ∷ xs) h =
-      omega (arith, h x, sum_by-ext f g xs h, sum_by-cons f x xs, sum_by-cons g x xs)
-
   -- the same terms, each by a fact of its element
   pub sum_by-by : (P : X → Type 0) (f g : X → ℕ) (xs : List X) → ((x : X) → P x → f x ≡ g x) → AllByRecursion P xs → sum_by f xs ≡ sum_by g xs
   sum_by-by P f g [] same h = refl
   sum_by-by P f g (x ∷ xs) same h =
       omega (arith, same x h.0, sum_by-by P f g xs same h.1, sum_by-cons f x xs, sum_by-cons g x xs)
-
--- rows added up, or columns
-pub sum_by-swap : {X Y : Type 0} (f : X → Y → ℕ) (xs : List X) (ys : List Y) → sum_by (λ x. sum_by (λ y. f x y) ys) xs ≡ sum_by (λ y. sum_by (λ x. f x y) xs) ys
-sum_by-swap f [] ys = sym (sum_by-zeros ys)
-sum_by-swap f (x ∷ xs) ys =
-    sum_by-cons (λ x. sum_by (λ y. f x y) ys) x xs
-    ∙ ap (λ n. sum_by (λ y. f x y) ys + n) (sum_by-swap f xs ys)
-    ∙ sym (sum_by-add (λ y. f x y) (λ y. sum_by (λ x. f x y) xs) ys)
-    ∙ sum_by-ext (λ y. f x y + sum_by (λ x. f x y) xs) (λ y. sum_by (λ x. f x y) (x ∷ xs)) ys (λ y. sym (sum_by-cons (λ x. f x y) x xs))
 
 sum_by-map : {X Y : Type 0} (f : Y → ℕ) (g : X → Y) (xs : List X) → sum_by f (map g xs) ≡ sum_by (λ x. f (g x)) xs
 sum_by-map f g [] = refl
@@ -102,6 +77,6 @@ sum_one_place h (suc n) zero k_in =
     omega (arith, sum_places (λ j. cond (0 == j) (h j) 0) n)
 sum_one_place h (suc n) (suc k) k_in =
     let rest : sum_by (λ j. cond (k == j) (h (suc j)) 0) (places n) ≡ h (suc k) = sum_one_place (λ j. h (suc j)) n k (omega arith) in
-    let turn : sum_by (λ j. cond (suc k == suc j) (h (suc j)) 0) (places n) ≡ sum_by (λ j. cond (k == j) (h (suc j)) 0) (places n) = sum_by-ext (λ j. cond (suc k == suc j) (h (suc j)) 0) (λ j. cond (k == j) (h (suc j)) 0) (places n) (λ j. ap (λ b. cond b (h (suc j)) 0) (test-suc k j)) in
+    let turn : sum_by (λ j. cond (suc k == suc j) (h (suc j)) 0) (places n) ≡ sum_by (λ j. cond (k == j) (h (suc j)) 0) (places n) = sum_by-agree (λ j. cond (suc k == suc j) (h (suc j)) 0) (λ j. cond (k == j) (h (suc j)) 0) (places n) (λ j. ap (λ b. cond b (h (suc j)) 0) (test-suc k j)) in
     let none : cond (suc k == 0) (h 0) 0 ≡ 0 = cond-false (suc k == 0) (h 0) 0 (ne_eqb (suc k) 0 (λ e. absurd (omega arith))) in
     omega (arith, sum_places (λ j. cond (suc k == j) (h j) 0) n)

@@ -5,7 +5,8 @@ use Rattle.std.proofs.lemmas.List.Sums.{sum_by-cons}
 use Rattle.std.proofs.lemmas.Bool.{ne_eqb, cond-false}
 use Rattle.gu_flow.specs.declared.arcs.Arc.{Arc}
 use Rattle.gu_flow.specs.Ends.{arc_at}
-use Rattle.gu_flow.proofs.SumLemmas.{sum_by-ext, sum_by-by, sum_by-swap, cond-sum, cond-swap, places, sum_one_place}
+use Rattle.gu_view.proofs.ListLemmas.{sum_by-agree, sum_by-swap}
+use Rattle.gu_flow.proofs.SumLemmas.{sum_by-by, cond-sum, cond-swap, places, sum_one_place}
 
 -- the arcs at these places lead from node to node
 abbrev pub Walks : List Arc → ℕ → List ℕ → ℕ → Type 0
@@ -64,7 +65,7 @@ way_sum-balance arcs n s t way x not_s not_t walk =
 at_arcs : (arcs : List Arc) (t : Arc → Bool) (way : List ℕ) (x : ℕ) → AllByRecursion (λ k. k < length arcs) way → CountsOnce way → sum_over arcs t (λ k. cond (has_place way k) x 0) ≡ way_sum arcs t way x
 unfolding way_sum sum_over
 at_arcs arcs t way x inside once =
-    sum_by-ext (λ k. cond (t (arc_at arcs k)) (cond (has_place way k) x 0) 0) (λ k. sum_by (λ j. cond (j == k) (cond (t (arc_at arcs k)) x 0) 0) way) (places (length arcs))
+    sum_by-agree (λ k. cond (t (arc_at arcs k)) (cond (has_place way k) x 0) 0) (λ k. sum_by (λ j. cond (j == k) (cond (t (arc_at arcs k)) x 0) 0) way) (places (length arcs))
     (λ k. cond-swap (t (arc_at arcs k)) (has_place way k) x ∙ once.once k (cond (t (arc_at arcs k)) x 0))
     ∙ sum_by-swap (λ k j. cond (j == k) (cond (t (arc_at arcs k)) x 0) 0) (places (length arcs)) way
     ∙ sum_by-by (λ k. k < length arcs) (λ j. sum_by (λ k. cond (j == k) (cond (t (arc_at arcs k)) x 0) 0) (places (length arcs))) (λ j. cond (t (arc_at arcs j)) x 0) way
@@ -88,7 +89,7 @@ module _ {X : Type 0} (arcs : List Arc) (walkers : List X) (way : X → List ℕ
   pub by_walks : (p : Arc → Bool) → sum_over arcs p load ≡ sum_by (λ x. way_sum arcs p (way x) (lots x)) walkers
   unfolding load sum_over
   by_walks p =
-      sum_by-ext (λ k. cond (p (arc_at arcs k)) (load k) 0) (λ k. sum_by (λ x. cond (p (arc_at arcs k)) (cond (has_place (way x) k) (lots x) 0) 0) walkers) (places (length arcs))
+      sum_by-agree (λ k. cond (p (arc_at arcs k)) (load k) 0) (λ k. sum_by (λ x. cond (p (arc_at arcs k)) (cond (has_place (way x) k) (lots x) 0) 0) walkers) (places (length arcs))
       (λ k. cond-sum (p (arc_at arcs k)) (λ x. cond (has_place (way x) k) (lots x) 0) walkers)
       ∙ sum_by-swap (λ k x. cond (p (arc_at arcs k)) (cond (has_place (way x) k) (lots x) 0) 0) (places (length arcs)) walkers
       ∙ sum_by-by (Walking arcs way s t) (λ x. sum_by (λ k. cond (p (arc_at arcs k)) (cond (has_place (way x) k) (lots x) 0) 0) (places (length arcs))) (λ x. way_sum arcs p (way x) (lots x)) walkers

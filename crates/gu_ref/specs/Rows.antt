@@ -1,14 +1,10 @@
 -- What the fields of a record say: a row of which kind, or none.
-use Rattle.std.specs.Prelude.{ℕ, Bool, ◌&&◌, nat_le, List, [], ◌∷◌, length, codes, Option, Some, None, if◌then◌else◌}
+use Rattle.std.specs.Prelude.{ℕ, List, [], ◌∷◌, codes, Option, Some, None, if◌then◌else◌}
 use Rattle.std.specs.List.{list_all}
 use Rattle.std.specs.Str.{bytes_eq}
-use Rattle.gu_terms.specs.Names.{is_name_byte}
+use Rattle.gu_terms.specs.Names.{is_name}
 use Rattle.gu_ref.specs.declared.row.Row.{Row}
 use Rattle.gu_ref.specs.declared.row.Row.TheVariants as row
-
--- the bytes are one to twelve capital letters, digits and `-`
-abbrev pub is_name : List ℕ → Bool
-is_name bytes = nat_le 1 (length bytes) && nat_le (length bytes) 12 && list_all is_name_byte bytes
 
 -- the name in a field, where there is the field and it is a name
 abbrev pub name_in : Option (List ℕ) → Option (List ℕ)

@@ -1,5 +1,5 @@
 -- The test of keys is equality.
-use Rattle.std.proofs.Common.{◌≡◌, Bool, true, false, refl, ap, sym, inl, inr, ◌∙◌}
+use Rattle.std.proofs.Common.{◌≡◌, true, refl, ap, sym, inl, inr, ◌∙◌}
 use Rattle.std.proofs.lemmas.Bool.{cases_Bool, false_from_ne_true}
 use Rattle.std.proofs.lemmas.Slice.Eq.{bytes_eq-Decides}
 use Rattle.gu_terms.specs.declared.limit_key.LimitKey.{LimitKey}

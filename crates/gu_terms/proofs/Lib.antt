@@ -1,4 +1,6 @@
 pub mod FirstPlaces
 pub mod KeyLemmas
+pub mod LastTake
+pub mod NameTests
 pub mod NumberLemmas
 pub mod Placed

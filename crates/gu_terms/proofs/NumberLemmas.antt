@@ -1,5 +1,5 @@
 -- What the parts of a number text stand for.
-use Rattle.std.proofs.Common.{length-append, length-take, take, drop, min, ◌-◌, ◌≡◌, ℕ, ℤ, pos, negsuc, zero, suc, Option, Some, None, IsSome, IfSome, MatchOption, ◌↔◌, ◌+◌, ◌*◌, ◌^◌, ◌<◌, ◌≤◌, neg_ℤ, cond, List, [], ◌∷◌, ◌++◌, Bool, true, false, length, refl, sym, ap, subst, ◌∙◌, arith, inl, inr}
+use Rattle.std.proofs.Common.{length-append, length-take, take, drop, min, ◌-◌, ◌≡◌, ℕ, ℤ, pos, zero, suc, Option, Some, None, IsSome, IfSome, MatchOption, ◌↔◌, ◌+◌, ◌*◌, ◌^◌, ◌<◌, ◌≤◌, neg_ℤ, cond, List, [], ◌∷◌, ◌++◌, Bool, true, false, length, refl, sym, ap, subst, ◌∙◌, arith, inl, inr}
 use Rattle.std.specs.Char.{digit_value}
 use Rattle.std.specs.Str.Parse.{AllDigits, digits_value, digits_value_after}
 use Rattle.std.proofs.lemmas.Int.Digits.{digits_value-lt}
@@ -8,9 +8,9 @@ use Rattle.std.proofs.lemmas.Float.{T_from_true}
 use Rattle.std.proofs.Math.Dec.{lit≤}
 use Rattle.std.proofs.lemmas.Nat.{pow-add}
 use Rattle.std.proofs.lemmas.List.{take-append-drop, drop_all}
-use Rattle.std.proofs.Math.Nat.{mul_assoc, mul_comm, add-mul, mul-add, mul_right_comm, mul_left_comm, pow-succ', mul-le-mul_right, pow-le-pow_right, eq_of_mul-eq-mul_left}
+use Rattle.std.proofs.Math.Nat.{mul_assoc, mul_comm, add-mul, mul_right_comm, mul_left_comm, pow-succ', mul-le-mul_right, pow-le-pow_right, eq_of_mul-eq-mul_left}
 use Rattle.gu_terms.specs.Numbers.{IsLots, IsPrice}
-use Rattle.gu_terms.specs.NumberText.{has_minus, whole_digits, fraction_digits, IsNumberText, with_sign, CountsParts, CountsMillionths, Means, MeansLots, MeansPrice, IsTakenApart}
+use Rattle.gu_terms.specs.NumberText.{has_minus, whole_digits, fraction_digits, IsNumberText, with_sign, CountsParts, CountsMillionths, MeansLots, MeansPrice, IsTakenApart}
 
 after-append : (n : ℕ) (a b : List ℕ) → digits_value_after 10 n (a ++ b) ≡ digits_value_after 10 (digits_value_after 10 n a) b
 after-append n [] b = refl

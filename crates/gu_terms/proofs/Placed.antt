@@ -1,5 +1,5 @@
 -- A take in its place among the others.
-use Rattle.std.proofs.Common.{◌≡◌, ℕ, zero, suc, ◌<◌, ◌≤◌, List, [], ◌∷◌, ◌++◌, Bool, true, false, nat_lt, All, AllPairs, filter, length, take, arith, refl, sym, ap, subst, ◌∙◌, get_or, inl, inr, eqb, IsTrue, ◌↔◌}
+use Rattle.std.proofs.Common.{◌≡◌, ℕ, zero, suc, ◌<◌, ◌≤◌, List, [], ◌∷◌, ◌++◌, Bool, true, false, nat_lt, All, filter, length, arith, refl, sym, ap, subst, ◌∙◌, get_or, inl, inr, eqb, IsTrue, ◌↔◌}
 use Rattle.std.specs.List.{insert, AllWithin}
 use Rattle.std.specs.List.Sorted.{IsPartitionedBy, IsPartitionPoint}
 use Rattle.std.proofs.lemmas.List.Kept.{AllPairs-cons}

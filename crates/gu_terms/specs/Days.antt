@@ -1,5 +1,5 @@
 -- Days of the Gregorian calendar.
-use Rattle.std.specs.Prelude.{◌≡◌, ℕ, pos, ◌+◌, ◌*◌, ◌<◌, ◌≤◌, List, length, take, drop}
+use Rattle.std.specs.Prelude.{◌≡◌, ℕ, pos, ◌+◌, ◌*◌, ◌≤◌, List, length, take, drop}
 use Rattle.std.specs.Str.Parse.{AllDigits, digits_value}
 use Rattle.jiff.specs.Words.{IsDate}
 

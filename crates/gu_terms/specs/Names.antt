@@ -1,6 +1,6 @@
 -- Names of the house's own, and ids of the firms'.
 use Rattle.std.specs.Prelude.{ℕ, Bool, ◌≤◌, ◌==◌, ◌||◌, ◌&&◌, nat_le, List, length}
-use Rattle.std.specs.List.{AllPass}
+use Rattle.std.specs.List.{AllPass, list_all}
 
 -- a capital letter, a digit or `-`
 abbrev pub is_name_byte : ℕ → Bool
@@ -11,6 +11,10 @@ pub record IsName (bytes : List ℕ) : Type 0 where
   pub some : 1 ≤ length bytes
   pub most : length bytes ≤ 12
   pub each : AllPass is_name_byte bytes
+
+-- whether the bytes are a name's
+abbrev pub is_name : List ℕ → Bool
+is_name bytes = nat_le 1 (length bytes) && nat_le (length bytes) 12 && list_all is_name_byte bytes
 
 -- a byte of printed ASCII that is no blank
 abbrev pub is_id_byte : ℕ → Bool

@@ -2,7 +2,8 @@ use Rattle.std.proofs.Common.{◌≡◌, ◌<◌, ◌∙◌, ap, arith, length, 
 use Rattle.std.proofs.lemmas.List.{get_or_default}
 use Rattle.gu_view.specs.declared.view.Offer.{Offer}
 use Rattle.gu_flow.specs.Networks.{no_offer, offer_at}
-use Rattle.gu_flow.proofs.ShareLemmas.{added_last, shares_before, one_more_share}
+use Rattle.gu_terms.proofs.LastTake.{added_last}
+use Rattle.gu_flow.proofs.ShareLemmas.{shares_before, one_more_share}
 use Rattle.gu_flow.proofs.sharing.share_out.Goals as goal
 
 pub loop-number-preserved : goal.loop-number-preserved

@@ -1,10 +1,10 @@
 use Rattle.std.proofs.Common.{◌∙◌, sym, ap}
 use Rattle.std.specs.Option.{option_map}
 use Rattle.gu_ref.specs.Rows.{name_in}
-use Rattle.gu_ref.proofs.RowReading.{name-made}
+use Rattle.gu_terms.proofs.NameTests.{name_made}
 use Rattle.gu_ref.proofs.row.name_in.Goals as goal
 
 pub returns : goal.returns
 returns c =
-    name-made c.new.result c.in-Some.bytes.now c.new.ensures.sound c.new.ensures.same
+    name_made c.new.result c.in-Some.bytes.now c.new.ensures.sound c.new.ensures.same
     ∙ sym (ap (λ f. name_in (option_map (λ b. b.now) f)) c.in-Some.is)

@@ -1,4 +1,4 @@
-use Rattle.std.proofs.Common.{◌≡◌, ◌≤◌, ◌<◌, ℕ, arith, rules, subst, sym, ◌∙◌}
+use Rattle.std.proofs.Common.{arith, rules, subst, sym, ◌∙◌}
 use Rattle.gu_terms.specs.Numbers.{IsLots}
 use Rattle.gu_terms.proofs.NumberLemmas.{lots_of_parts, parts_mean_lots, range_tells}
 use Rattle.gu_terms.proofs.lots.lots_of.Goals as goal

@@ -1,4 +1,4 @@
-use Rattle.std.proofs.Common.{◌≡◌, ◌≤◌, ◌<◌, ◌-◌, ◌*◌, ◌^◌, ℕ, arith, rules, refl, ap, sym, ◌∙◌, subst, take, drop, length}
+use Rattle.std.proofs.Common.{◌≡◌, ◌-◌, ◌*◌, ◌^◌, ℕ, arith, refl, ap, sym, ◌∙◌, subst, take}
 use Rattle.std.specs.Str.Parse.{digits_value}
 use Rattle.std.proofs.lemmas.List.{take_rest}
 use Rattle.gu_terms.specs.NumberText.{CountsMillionths}

@@ -1,4 +1,4 @@
-use Rattle.std.proofs.Common.{◌≡◌, ◌≤◌, arith, rules, ◌∙◌}
+use Rattle.std.proofs.Common.{arith, rules}
 use Rattle.gu_terms.proofs.NumberLemmas.{millionths_of_parts, units_of_parts, parts_mean_price}
 use Rattle.gu_terms.proofs.price.price_of.Goals as goal
 
