@@ -8,5 +8,6 @@ pub mod Names
 pub mod NumberText
 pub mod Numbers
 pub mod Padded
+pub mod Paths
 pub mod Refusals
 pub mod Takes

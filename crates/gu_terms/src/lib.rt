@@ -45,7 +45,7 @@ pub use limit_row::LimitRow;
 pub use lots::{Lots, read_lots};
 pub use moment::Moment;
 pub use name::Name;
-pub use number_text::NumberError;
+pub use number_text::{NumberError, are_digits, value_of};
 pub use offer_no::OfferNo;
 pub use path::Path;
 pub use price::{Price, read_price};

@@ -28,7 +28,7 @@ pub(crate) struct NumberText<'a> {
 }
 
 /// Whether the bytes are digits, or none.
-pub(crate) fn are_digits(bytes: &[u8]) -> bool
+pub fn are_digits(bytes: &[u8]) -> bool
     ensures { IsTrue result ↔ AllDigits 10 bytes.now }
 {
     for byte in bytes {
@@ -50,7 +50,7 @@ fn unsigned(text: &[u8]) -> &[u8]
 }
 
 /// The value of digits, where it is at most `most`.
-pub(crate) fn value_of(digits: &[u8], most: u64) -> Option<u64>
+pub fn value_of(digits: &[u8], most: u64) -> Option<u64>
     requires digits { AllDigits 10 digits.now }
     requires most { most ≤ 1000000000000000 }
     ensures { MatchOption result (most < digits_value 10 digits.now) (λ n. (n ≡ digits_value 10 digits.now) × (n ≤ most)) }

@@ -1,6 +1,7 @@
 //! The limits that an offer comes under.
 
-ghost use Rattle.std.specs.Prelude.{◌≡◌, ◌≤◌, ◌∷◌, [], length};
+ghost use Rattle.std.specs.Prelude.{◌≡◌, ◌≤◌, length};
+ghost use Rattle.gu_terms.specs.Paths.{path_through};
 
 use crate::account::AccountId;
 use crate::agreement::AgreementId;
@@ -10,7 +11,7 @@ use std::marker::Model;
 
 /// The keys that an offer comes under, in order: executing firm, agreement, account, carrying firm.
 /// To a contract it is the list of these keys.
-#[derive(Clone, Copy, Debug)]
+#[derive(Clone, Copy, Debug, PartialEq, Eq)]
 pub struct Path {
     keys: [LimitKey; 4],
 }
@@ -36,7 +37,7 @@ impl Path {
         account: AccountId,
         carrying: FirmId,
     ) -> Self
-        ensures { result ≡ LimitKey.Exec executing ∷ LimitKey.Agr agreement ∷ LimitKey.Acct account ∷ LimitKey.Carry carrying ∷ [] }
+        ensures { result ≡ path_through executing agreement account carrying }
     {
         Path {
             keys: [

@@ -9,4 +9,5 @@ pub mod MarkLemmas
 pub mod MemberLemmas
 pub mod NestingLemmas
 pub mod RoomLemmas
+pub mod SameViews
 pub mod TakesLemmas

@@ -1,5 +1,5 @@
 -- Tests, places and sums over lists.
-use Rattle.std.proofs.Common.{◌≡◌, ℕ, zero, suc, ◌+◌, ◌<◌, ◌≤◌, ◌||◌, not, Bool, true, false, cond, List, [], ◌∷◌, Some, None, length, map, refl, sym, ap, ◌∙◌, arith, zero-add, add-zero, ◌*◌, take-append-drop, drop, inl, inr}
+use Rattle.std.proofs.Common.{◌≡◌, ℕ, zero, suc, ◌+◌, ◌<◌, ◌≤◌, ◌||◌, not, Bool, true, false, cond, List, [], ◌∷◌, Some, None, length, map, refl, sym, ap, subst, ◌∙◌, arith, add-zero, ◌*◌, take-append-drop, drop, inl, inr}
 use Rattle.std.specs.Prelude.{All}
 use Rattle.std.specs.List.{AllByRecursion, list_any, position_or_len, flat_map, find, zip}
 use Rattle.std.specs.Option.{option_map}
@@ -155,21 +155,30 @@ module _ {X : Type 0} where
         | inr not_here ↦ rw not_here (omega (arith, position_or_len-within p xs (rw not_here at h)))
       ]
 
-  -- the places where a test passes are places of the list
-  pub places_from-within : (test : X → Bool) (from : ℕ) (xs : List X) → AllByRecursion (λ p. p < from + length xs) (places_from test from xs)
-  places_from-within test from [] = tt
-  places_from-within test from (x ∷ xs) =
-      elim (cases_Bool (test x)) [
-        | inl hit ↦ rw hit (omega arith, further (places_from test (suc from) xs) (places_from-within test (suc from) xs))
-        | inr miss ↦ rw miss (further (places_from test (suc from) xs) (places_from-within test (suc from) xs))
-      ]
+  -- what holds of each place where a test passes
+  pub at_places : (P : ℕ → Type 0) (test : X → Bool) (from : ℕ) (xs : List X) → AllByRecursion P (places_from test from xs) → (k : ℕ) (d : X) → k < length xs → test (get_or xs k d) ≡ true → P (from + k)
+  at_places P test from [] h k d inside hit = absurd (omega arith)
+  at_places P test from (x ∷ xs) h zero d inside hit = subst P (sym (add-zero from)) (rw hit at h).0
+  at_places P test from (x ∷ xs) h (suc k) d inside hit =
+      let next : suc from + k ≡ from + suc k = omega arith in
+      subst P next (at_places P test (suc from) xs (rest (test x) h) k d (omega arith) hit)
     where
-      further : (ps : List ℕ) → AllByRecursion (λ p. p < suc from + length xs) ps → AllByRecursion (λ p. p < from + suc (length xs)) ps
-      further [] h = tt
-      further (p ∷ ps) h = (omega (arith, h.0), further ps h.1)
+      rest : (b : Bool) → AllByRecursion P (cond b (from ∷ places_from test (suc from) xs) (places_from test (suc from) xs)) → AllByRecursion P (places_from test (suc from) xs)
+      rest true h = h.1
+      rest false h = h
 
+  pub each_place : (P : ℕ → Type 0) (test : X → Bool) (from : ℕ) (xs : List X) → ((k : ℕ) (d : X) → k < length xs → test (get_or xs k d) ≡ true → P (from + k)) → AllByRecursion P (places_from test from xs)
+  each_place P test from [] h = tt
+  each_place P test from (x ∷ xs) h =
+      let rest = each_place P test (suc from) xs (λ k d inside hit. let next : from + suc k ≡ suc from + k = omega arith in subst P next (h (suc k) d (omega arith) hit)) in
+      elim (cases_Bool (test x)) [
+        | inl hit ↦ rw hit (subst P (add-zero from) (h 0 x (omega arith) hit), rest)
+        | inr miss ↦ rw miss rest
+      ]
+
+  -- they are places of the list
   pub places_where-within : (test : X → Bool) (xs : List X) → All (λ p. p < length xs) (places_where test xs)
-  places_where-within test xs = All-from_recursion (λ p. p < length xs) (places_where test xs) (rw zero-add at (places_from-within test 0 xs))
+  places_where-within test xs = All-from_recursion (λ p. p < length xs) (places_where test xs) (each_place (λ p. p < length xs) test 0 xs (λ k d inside hit. omega arith))
 
 module _ {X Y : Type 0} (f : X → Y) where
   pub list_any-map : (p : Y → Bool) (xs : List X) → list_any p (map f xs) ≡ list_any (λ x. p (f x)) xs

@@ -106,7 +106,7 @@ places_within view sound (k ∷ path) on_path =
     (position_or_len-within (λ r. key_eq r.key k) view.rooms (roomed view sound k on_path.0), places_within view sound path on_path.1)
 
 -- the offer at a place has its path among the offers
-on_path_at : (offers : List Offer) (i : ℕ) (o : Offer) (k : LimitKey) → slice_get offers i ≡ Some o → has_key o.path k ≡ true → list_any (λ o. has_key o.path k) offers ≡ true
+pub on_path_at : (offers : List Offer) (i : ℕ) (o : Offer) (k : LimitKey) → slice_get offers i ≡ Some o → has_key o.path k ≡ true → list_any (λ o. has_key o.path k) offers ≡ true
 on_path_at offers i o k at on_path =
     list_any_at (λ o. has_key o.path k) offers i o (slice_get_within offers i o at) (rw (get_or_from_slice_get offers i o o at) on_path)
 

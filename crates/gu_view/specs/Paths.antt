@@ -1,9 +1,14 @@
 -- Tests of paths.
-use Rattle.std.specs.Prelude.{◌||◌, not, Bool, false, List, [], ◌∷◌, Option, Some, slice_get}
+use Rattle.std.specs.Prelude.{ℕ, ◌||◌, not, Bool, true, false, List, [], ◌∷◌, Option, Some, slice_get}
+use Rattle.std.specs.List.{list_all}
+use Rattle.std.specs.Option.{option_and_then}
 use Rattle.gu_terms.specs.LimitKeys.{key_eq}
 use Rattle.gu_terms.specs.declared.agreement.AgreementId.{AgreementId}
 use Rattle.gu_terms.specs.declared.limit_key.LimitKey.{LimitKey}
 use Rattle.gu_terms.specs.declared.limit_key.LimitKey.TheVariants.{Exec, Agr, Acct, Carry}
+use Rattle.gu_view.specs.View.{places_under}
+use Rattle.gu_view.specs.declared.view.Offer.{Offer}
+use Rattle.gu_view.specs.declared.view.Room.{Room}
 
 -- keys of an executing firm, of an agreement, of an account and of a carrying firm
 abbrev pub are_kinds : AgreementId → LimitKey → LimitKey → LimitKey → LimitKey → Bool
@@ -20,6 +25,20 @@ abbrev pub same_key : Option LimitKey → Option LimitKey → Bool
 same_key (Some j) (Some k) = key_eq j k
 same_key _ _ = false
 
--- where the third keys are one, so are the fourth
-abbrev pub go_on_alike : List LimitKey → List LimitKey → Bool
-go_on_alike a b = not (same_key (slice_get a 2) (slice_get b 2)) || same_key (slice_get a 3) (slice_get b 3)
+-- a key of an account
+abbrev pub is_account : LimitKey → Bool
+is_account (Acct _) = true
+is_account _ = false
+
+-- the fourth key on the path of the offer at a place
+abbrev pub carrying_key : List Offer → ℕ → Option LimitKey
+carrying_key offers place = option_and_then (λ (o : Offer). slice_get o.path 3) (slice_get offers place)
+
+-- the offers at these places have the carrying key of the first of them
+abbrev pub have_one_carrier : List Offer → List ℕ → Bool
+have_one_carrier offers [] = true
+have_one_carrier offers (first ∷ others) = list_all (λ other. same_key (carrying_key offers first) (carrying_key offers other)) others
+
+-- under a room of an account all offers have one carrying key
+abbrev pub room_agrees : List Offer → Room → Bool
+room_agrees offers r = not (is_account r.key) || have_one_carrier offers (places_under offers r.key)

@@ -1,10 +1,10 @@
 //! Whether the offers of a view are nested.
 
-ghost use Rattle.std.specs.Prelude.{◌≡◌, ◌↔◌, IsTrue, slice_get};
+ghost use Rattle.std.specs.Prelude.{◌≡◌};
 ghost use Rattle.std.specs.List.{list_all};
-ghost use Rattle.gu_view.specs.Paths.{are_kinds, is_whole, same_key, go_on_alike};
+ghost use Rattle.gu_view.specs.Paths.{are_kinds, is_whole, is_account, same_key, carrying_key, have_one_carrier, room_agrees};
 
-use crate::view::Offer;
+use crate::view::{Offer, View};
 use gu_terms::{AgreementId, LimitKey};
 
 /// Whether keys are of an executing firm, of this agreement, of an account and of a carrying firm.
@@ -37,32 +37,6 @@ fn is_whole(own: AgreementId, path: &[LimitKey]) -> bool
     }
 }
 
-/// Whether two paths have one key at a place.
-fn is_same_at(a: &[LimitKey], b: &[LimitKey], place: usize) -> bool
-    ensures { result ≡ same_key (slice_get a.now place) (slice_get b.now place) }
-{
-    match (a.get(place), b.get(place)) {
-        (Some(j), Some(k)) => *j == *k,
-        _ => false,
-    }
-}
-
-/// Whether two paths with one account have one carrying firm.
-fn go_on_alike(a: &[LimitKey], b: &[LimitKey]) -> bool
-    ensures { result ≡ go_on_alike a.now b.now }
-{
-    !is_same_at(a, b, 2) || is_same_at(a, b, 3)
-}
-
-/// Whether an offer goes on like each of these.
-fn goes_on_like_all(offer: &Offer, offers: &[Offer]) -> bool
-    ensures { result ≡ list_all (λ o. go_on_alike offer.now.path o.path) offers.now }
-{
-    offers
-        .iter()
-        .all(|other| go_on_alike(offer.path.keys(), other.path.keys()))
-}
-
 /// Whether each path is whole.
 pub fn are_whole(offers: &[Offer]) -> bool
     ensures { result ≡ list_all (λ o. is_whole o.agreement o.path) offers.now }
@@ -72,9 +46,55 @@ pub fn are_whole(offers: &[Offer]) -> bool
         .all(|offer| is_whole(offer.agreement, offer.path.keys()))
 }
 
-/// Whether offers of one account have one carrying firm.
-pub fn carriers_agree(offers: &[Offer]) -> bool
-    ensures { result ≡ list_all (λ a. list_all (λ b. go_on_alike a.path b.path) offers.now) offers.now }
+/// Whether a key is of an account.
+fn is_account(key: LimitKey) -> bool
+    ensures { result ≡ is_account key }
 {
-    offers.iter().all(|offer| goes_on_like_all(offer, offers))
+    matches!(&key, LimitKey::Acct(_))
+}
+
+/// The fourth key on the path of the offer at a place: on a whole path the carrying firm's.
+fn carrying_key(offers: &[Offer], place: u32) -> Option<LimitKey>
+    ensures { result ≡ carrying_key offers.now place }
+{
+    offers.get(place as usize)?.path.keys().get(3).copied()
+}
+
+/// Whether both are keys, and one key.
+fn is_same_key(a: Option<LimitKey>, b: Option<LimitKey>) -> bool
+    ensures { result ≡ same_key a b }
+{
+    match (a, b) {
+        (Some(j), Some(k)) => j == k,
+        _ => false,
+    }
+}
+
+/// Whether the offers at these places have this carrying key.
+fn all_have_carrier(offers: &[Offer], places: &[u32], carrying: Option<LimitKey>) -> bool
+    ensures { result ≡ list_all (λ place. same_key carrying (carrying_key offers.now place)) places.now }
+{
+    places.iter().all(|place| is_same_key(carrying, carrying_key(offers, *place)))
+}
+
+/// Whether the offers at these places have one carrying key: that of the first.
+fn have_one_carrier(offers: &[Offer], places: &[u32]) -> bool
+    ensures { result ≡ have_one_carrier offers.now places.now }
+{
+    match places {
+        [first, others @ ..] => all_have_carrier(offers, others, carrying_key(offers, *first)),
+        [] => true,
+    }
+}
+
+/// Whether offers of one account have one carrying key. Of whole paths each is looked at once.
+pub fn carriers_agree(view: &View) -> bool
+    ensures { result ≡ list_all (room_agrees view.now.offers) view.now.rooms }
+{
+    for (place, room) in view.rooms().iter().enumerate() {
+        if is_account(room.key) && !have_one_carrier(view.offers(), view.members(place)) {
+            return false;
+        }
+    }
+    true
 }

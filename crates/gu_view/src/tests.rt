@@ -3,6 +3,7 @@
 use crate::{CutFault, Offer, Room, Unknown, View, ViewError, check};
 use gu_terms::{AccountId, AgreementId, Cut, FirmId, Group, LimitKey, OfferNo, Path, Takes};
 use std::alloc::Global;
+use std::process::Abort;
 use std::test::Fail;
 
 fn number(number: u64) -> Result<OfferNo, Fail> {
@@ -214,6 +215,15 @@ mod view {
     }
 
     #[test]
+    fn is_the_same_only_with_the_same_rooms(rt: HostRuntime) -> Result<(), Fail> {
+        let view = three_agreements(rt.alloc(), 100)??;
+        let other = three_agreements(rt.alloc(), 99)??;
+        assert!(rt; view.is_same(&view));
+        assert!(rt; !view.is_same(&other));
+        Ok(())
+    }
+
+    #[test]
     fn is_nested_where_an_account_has_one_carrying_firm(rt: HostRuntime) -> Result<(), Fail> {
         let view = three_agreements(rt.alloc(), 100)??;
         assert!(rt; view.nested());
@@ -392,6 +402,87 @@ mod sheet {
             answer(alloc, &view, &[(first, 5), (second, 2)], &keys)?,
             Ok(7)
         );
+        Ok(())
+    }
+}
+
+/// Growths that are refused: run with each allocation failing in turn. A call that is refused is made again.
+mod memory {
+    use super::*;
+
+    /// An offer of an agreement, into one account.
+    fn offer_under(at: u64, by: &[u8]) -> Option<Offer> {
+        let agreement = AgreementId::new(by)?;
+        let executing = FirmId::new(b"E1")?;
+        let carrying = FirmId::new(b"C1")?;
+        let number = OfferNo::new(at)?;
+        let path = Path::new(executing, agreement, AccountId::new(b"A1")?, carrying);
+        Some(Offer {
+            number,
+            lots: 5,
+            agreement,
+            path,
+        })
+    }
+
+    /// Rooms for the keys of these offers' paths: those of the first, and the agreement of the second.
+    fn five_rooms(alloc: Global, first: &Offer, second: &Offer) -> Option<Vec<Room>> {
+        let mut rooms = Vec::new(alloc);
+        for key in first.path.keys() {
+            rooms.push(Room { key: *key, lots: 8 }).ok()?;
+        }
+        let key = LimitKey::Agr(second.agreement);
+        rooms.push(Room { key, lots: 8 }).ok()?;
+        Some(rooms)
+    }
+
+    /// The view of two agreements, or nothing where what it is made of is refused.
+    fn two_agreements(alloc: Global) -> Option<Result<View, ViewError>> {
+        let first = offer_under(1, b"P1")?;
+        let second = offer_under(2, b"P2")?;
+        let rooms = five_rooms(alloc, &first, &second)?;
+        let offers = vec![in alloc; first, second].ok()?;
+        Some(View::new(alloc, Group::new(b"G1")?, 7, offers, rooms))
+    }
+
+    /// The view, or nothing where a growth was refused. The refusal of a view is Memory.
+    fn tried(rt: &impl Abort, alloc: Global) -> Option<View> {
+        match two_agreements(alloc)? {
+            Ok(view) => Some(view),
+            Err(refused) => {
+                assert_eq!(rt; refused, ViewError::Memory);
+                None
+            }
+        }
+    }
+
+    /// The view, made again where a growth was refused.
+    fn made_again(rt: &impl Abort, alloc: Global) -> Option<View> {
+        match tried(rt, alloc) {
+            Some(view) => Some(view),
+            None => tried(rt, alloc),
+        }
+    }
+
+    #[test]
+    fn a_refused_view_is_made_again(rt: HostRuntime) -> Result<(), Fail> {
+        let view = made_again(&rt, rt.alloc()).ok_or("a view")?;
+        assert_eq!(rt; view.version(), 7);
+        assert_eq!(rt; view.offers().len(), 2);
+        assert_eq!(rt; view.rooms().len(), 5);
+        assert_eq!(rt; view.members(2), [0, 1].as_slice());
+        assert_eq!(rt; view.places(1), [0, 4, 2, 3].as_slice());
+        Ok(())
+    }
+
+    #[test]
+    fn a_refused_copy_is_made_again(rt: HostRuntime) -> Result<(), Fail> {
+        let view = made_again(&rt, rt.alloc()).ok_or("a view")?;
+        let copy = match view.copy() {
+            Ok(copy) => copy,
+            Err(_) => view.copy()?,
+        };
+        assert!(rt; copy.is_same(&view));
         Ok(())
     }
 }

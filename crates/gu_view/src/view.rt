@@ -22,7 +22,7 @@ pub const MOST_OFFERS: usize = 4_096;
 pub const MOST_ROOMS: usize = 20_480;
 
 /// An open offer: its number, the lots that are left of it, its agreement and its path.
-#[derive(Clone, Copy, Debug)]
+#[derive(Clone, Copy, Debug, PartialEq, Eq)]
 pub struct Offer {
     pub number: OfferNo,
     pub lots: u64,
@@ -31,7 +31,7 @@ pub struct Offer {
 }
 
 /// The room of a key.
-#[derive(Clone, Copy, Debug)]
+#[derive(Clone, Copy, Debug, PartialEq, Eq)]
 pub struct Room {
     pub key: LimitKey,
     pub lots: u64,
@@ -162,7 +162,16 @@ impl View {
     pub fn nested(&self) -> bool
         ensures { IsTrue result ↔ IsNested self.now }
     {
-        are_whole(&self.offers) && carriers_agree(&self.offers)
+        are_whole(&self.offers) && carriers_agree(self)
+    }
+
+    /// Whether two views show the same. It takes no memory.
+    pub fn is_same(&self, other: &View) -> bool
+        ensures { IsTrue result ↔ (self.now ≡ other.now) }
+    {
+        let mine = (self.group, self.version, self.offers(), self.rooms());
+        let theirs = (other.group, other.version, other.offers(), other.rooms());
+        mine == theirs
     }
 
     /// A copy.

@@ -1,13 +1,13 @@
 use Rattle.std.proofs.Common.{◌∙◌, sym}
 use Rattle.std.proofs.lemmas.Bool.{both_ways}
-use Rattle.gu_view.proofs.NestingLemmas.{nested_from, paths_pass, carriers_pass}
+use Rattle.gu_view.proofs.NestingLemmas.{nested_from, paths_pass, rooms_agree}
 use Rattle.gu_view.proofs.view.View.nested.Goals as goal
 
 pub returns-then-are_whole : goal.returns-then-are_whole
 returns-then-are_whole c =
     rw (← c.self.view_is) (
-      λ agree. nested_from _ (rw c.deref.ensures.value at (sym c.are_whole.ensures ∙ c.if-are_whole.true)) (rw c.deref-then-are_whole.ensures.value at (sym c.carriers_agree.ensures ∙ agree)),
-      λ nested. rw c.deref-then-are_whole.ensures.value at c.carriers_agree.ensures ∙ carriers_pass _ nested,
+      λ agree. nested_from _ c.self.invariant.sound (rw c.deref.ensures.value at (sym c.are_whole.ensures ∙ c.if-are_whole.true)) (rw (← c.self.view_is) at (sym c.carriers_agree.ensures ∙ agree)),
+      λ nested. rw (← c.self.view_is) at c.carriers_agree.ensures ∙ rooms_agree _ nested,
     )
 
 pub returns-else-are_whole : goal.returns-else-are_whole
