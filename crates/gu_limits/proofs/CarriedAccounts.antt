@@ -1,0 +1,34 @@
+-- The account of each agreement is there.
+use Rattle.std.proofs.Common.{◌≡◌, ◌∙◌, sym, refl, ap, Bool, true, false, cond, ◌&&◌, is_some, List, [], ◌∷◌, Some}
+use Rattle.std.specs.List.{find, list_all}
+use Rattle.std.proofs.lemmas.List.Sums.{list_all-from_AllPass}
+use Rattle.gu_terms.specs.declared.agreement.AgreementId.{AgreementId}
+use Rattle.gu_ref.specs.declared.agreements.Agreement.{Agreement}
+use Rattle.gu_ref.specs.Reference.{is_firm, account_row, agreement_row}
+use Rattle.gu_ref.specs.Rules.{IsSound}
+use Rattle.gu_ref.specs.Same.{same_agreement}
+use Rattle.gu_ref.specs.Tables.{Tables}
+
+-- of two tests that pass, each passes
+left_passes : (a b : Bool) → (a && b) ≡ true → a ≡ true
+left_passes true b h = refl
+left_passes false b h = h
+
+right_passes : (a b : Bool) → (a && b) ≡ true → b ≡ true
+right_passes true b h = h
+right_passes false b h = cc
+
+-- what all items pass, the item that is found passes
+found_passes : {X : Type 0} (test wanted : X → Bool) (items : List X) (item : X) → list_all test items ≡ true → find wanted items ≡ Some item → test item ≡ true
+found_passes test wanted [] item all found = cc
+found_passes test wanted (first ∷ items) item all found =
+    let here : first ≡ item → test item ≡ true = λ same. ap test (sym same) ∙ left_passes (test first) (list_all test items) all in
+    let later : find wanted items ≡ Some item → test item ≡ true = found_passes test wanted items item (right_passes (test first) (list_all test items) all) in
+    elim (wanted first) as (λ is. cond is (Some first) (find wanted items) ≡ Some item → test item ≡ true) [ true ↦ λ e. here cc | false ↦ later ] found
+
+-- the account of an agreement is there
+pub account_is_there : (reference : Tables) → IsSound reference → (id : AgreementId) (agreement : Agreement) → agreement_row reference id ≡ Some agreement → is_some (account_row reference agreement.account) ≡ true
+account_is_there reference sound id agreement found =
+    let known : Agreement → Bool = λ a. is_firm reference a.executing && is_some (account_row reference a.account) in
+    right_passes (is_firm reference agreement.executing) (is_some (account_row reference agreement.account))
+    (found_passes known (λ a. same_agreement a.id id) reference.agreements agreement (list_all-from_AllPass known reference.agreements sound.parties) found)

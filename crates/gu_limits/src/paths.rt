@@ -1,0 +1,21 @@
+//! The path of an agreement.
+
+ghost use Rattle.std.specs.Prelude.{◌≡◌, ◌↔◌, IsNone, None};
+ghost use Rattle.gu_ref.specs.Reference.{agreement_row};
+ghost use Rattle.gu_limits.specs.Paths.{path_of};
+
+use gu_ref::Reference;
+use gu_terms::{AgreementId, Path};
+
+/// The keys that an agreement's offers come under, in order: executing firm, agreement, account, and the firm that
+/// carries the account.
+pub fn path(reference: &Reference, agreement: AgreementId) -> Option<Path>
+    ensures keys { result ≡ path_of reference.now agreement }
+    ensures unknown { IsNone result ↔ (agreement_row reference.now agreement ≡ None) }
+{
+    reference.rules();
+    let parties = reference.agreement(agreement)?;
+    let account = parties.account;
+    let carrying = reference.account(account)?.firm;
+    Some(Path::new(parties.executing, agreement, account, carrying))
+}
