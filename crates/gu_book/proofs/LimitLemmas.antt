@@ -1,7 +1,8 @@
 -- Limits as they stand.
-use Rattle.std.proofs.Common.{◌≡◌, ℕ, ◌+◌, ◌-◌, ◌<◌, List, [], ◌∷◌, ◌++◌, Option, Some, None, length, take, get_or, sum_by, refl, sym, ap, ◌∙◌, arith}
+use Rattle.std.proofs.Common.{◌≡◌, ℕ, ◌+◌, ◌-◌, ◌<◌, Bool, cond, List, [], ◌∷◌, ◌++◌, Option, Some, None, inl, inr, length, take, get_or, sum_by, refl, sym, ap, ◌∙◌, arith, rules}
 use Rattle.std.specs.List.{filter_map, cons_option}
 use Rattle.std.specs.Option.{option_map, option_to_list}
+use Rattle.std.proofs.lemmas.Bool.{cases_Bool}
 use Rattle.std.proofs.lemmas.List.{take_more}
 use Rattle.std.proofs.lemmas.List.Elements.{filter_map-append}
 use Rattle.gu_terms.specs.declared.entry.Entry.{Entry}
@@ -9,7 +10,11 @@ use Rattle.gu_terms.specs.declared.entry.Entry.TheVariants.{Asked}
 use Rattle.gu_terms.specs.declared.group.Group.{Group}
 use Rattle.gu_terms.specs.declared.limit_key.LimitKey.{LimitKey}
 use Rattle.gu_terms.specs.declared.limit_row.LimitRow.{LimitRow}
-use Rattle.gu_book.specs.Limits.{entries_today, limit_set, limit_row, taken_under, use_of}
+use Rattle.gu_terms.specs.LimitKeys.{key_eq}
+use Rattle.gu_terms.specs.contracts.limit_key.LimitKeyPartialEq.TheImpl as limit_key
+use Rattle.gu_book.specs.Limits.{entries_today, limit_set, limit_set_by, limit_row, taken_under, use_of}
+use Rattle.gu_book.specs.SetLimits.{HasLimits, SetsFor, unused_row}
+use Rattle.gu_book.proofs.Growing.{last-given, last-kept}
 
 less_nothing : (n : ℕ) → n - 0 ≡ n
 less_nothing n = omega (arith)
@@ -49,3 +54,39 @@ filter_map_four {Y = Y} given a b c d =
     filter_map-append given (a ++ b ++ c) d
     ∙ ap (λ (ys : List Y). ys ++ filter_map given d) (filter_map-append given (a ++ b) c)
     ∙ ap (λ (ys : List Y). ys ++ filter_map given c ++ filter_map given d) (filter_map-append given a b)
+
+-- the `==` of keys, by which a map finds them
+abbrev pub eq : LimitKey → LimitKey → Bool
+eq = limit_key.eq-value.it
+
+pub eq_is : (a b : LimitKey) → eq a b ≡ key_eq a b
+eq_is a b = search rules
+
+-- an entry that sets nothing leaves the limits
+pub limits_kept : (limits : LimitKey → Option ℕ) (before : List Entry) (entry : Entry) (group : Group) → ((key : LimitKey) → limit_set_by group key entry ≡ None) → HasLimits limits before group
+    → HasLimits limits (before ++ entry ∷ []) group
+limits_kept limits before entry group none has key = has key ∙ sym (last-kept (limit_set_by group key) before entry (none key))
+
+-- an entry that sets lots for a key gives it these lots
+pub limits_more : (limits more : LimitKey → Option ℕ) (before : List Entry) (entry : Entry) (group : Group) (set : LimitKey) (lots : ℕ)
+    → ((key : LimitKey) → SetsFor (Some (set, lots)) key (limit_set_by group key entry)) → ((key : LimitKey) → more key ≡ cond (key_eq set key) (Some lots) (limits key))
+    → HasLimits limits before group → HasLimits more (before ++ entry ∷ []) group
+limits_more limits more before entry group set lots sets updated has key =
+    elim (cases_Bool (key_eq set key)) [
+      | inl hit ↦ updated key ∙ rw hit (sym (last-given (limit_set_by group key) before entry lots (sets key ∙ rw hit refl)))
+      | inr miss ↦ updated key ∙ rw miss (has key ∙ sym (last-kept (limit_set_by group key) before entry (sets key ∙ rw miss refl)))
+    ]
+
+unused_row-is : (limits : LimitKey → Option ℕ) (history : List Entry) (group : Group) → HasLimits limits history group → (key : LimitKey) → unused_row limits key ≡ limit_row history group key
+unused_row-is limits history group has key = by (limit_set history group key) refl
+  where
+    row : ℕ → LimitRow
+    row limit = record { key = key; limit = limit; used = 0; room = limit }
+
+    by : (limit : Option ℕ) → limit_set history group key ≡ limit → unused_row limits key ≡ limit_row history group key
+    by None e = ap (option_map row) (has key ∙ e) ∙ sym (limit_row-unset history group key e)
+    by (Some limit) e = ap (option_map row) (has key ∙ e) ∙ sym (limit_row-set history group key limit e)
+
+-- the rows by limits that were gathered are those of the history
+pub unused_rows : (limits : LimitKey → Option ℕ) (history : List Entry) (group : Group) → HasLimits limits history group → (keys : List LimitKey) → filter_map (unused_row limits) keys ≡ filter_map (limit_row history group) keys
+unused_rows limits history group has keys = λ i. filter_map (λ key. unused_row-is limits history group has key i) keys

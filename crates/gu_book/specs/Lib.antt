@@ -6,3 +6,4 @@ pub mod Partners
 pub mod Positions
 pub mod Reports
 pub mod Same
+pub mod SetLimits

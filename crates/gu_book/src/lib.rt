@@ -9,6 +9,8 @@ mod partners;
 mod positions;
 mod receipt;
 mod reports;
+#[cfg(test)]
+mod tests;
 
 pub use book::{Book, MOST_ENTRIES};
 pub use error::EnterError;

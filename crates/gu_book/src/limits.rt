@@ -3,70 +3,74 @@
 ghost use Rattle.std.specs.Prelude.{◌≡◌, ◌++◌, ◌∷◌, [], List, IfOk, OnOk, map};
 ghost use Rattle.std.specs.List.{filter_map};
 ghost use Rattle.std.specs.Option.{option_to_list};
+ghost use Rattle.indexmap.specs.IndexMap.{get};
 ghost use Rattle.gu_terms.specs.declared.entry.Entry.{Entry as EntryOf};
-ghost use Rattle.gu_book.specs.Limits.{limit_set_by, limit_set, limit_row, keys_in_order};
+ghost use Rattle.gu_terms.specs.declared.limit_key.LimitKey.{LimitKey as LimitKeyOf};
+ghost use Rattle.gu_book.specs.Limits.{limit_set_by, limit_row, keys_in_order};
+ghost use Rattle.gu_book.specs.SetLimits.{SetsFor, HasLimits, unused_row};
 
 use gu_ref::{Account, Agreement, Reference};
 use gu_terms::{Command, Done, Entry, FirmId, Group, LimitKey, LimitRow, Reply};
+use indexmap::IndexMap;
 use std::alloc::{AllocError, Global};
 
-/// The lots that an entry sets for a key in a group.
-fn limit_set_by(entry: &Entry, group: &Group, key: &LimitKey) -> Option<u64>
-    ensures { result ≡ limit_set_by group.now key.now entry.now }
+/// A key of a group, and the lots that an entry sets for it.
+fn key_set(entry: &Entry, group: &Group) -> Option<(LimitKey, u64)>
+    ensures { (key : LimitKeyOf) → SetsFor result key (limit_set_by group.now key entry.now) }
 {
     match entry {
         Entry::Asked {
             command: Command::SetLimit {
                 group: at,
-                key: on,
+                key,
                 lots,
             },
             reply: Reply::Accepted(Done::LimitSet),
-        } => {
-            if *at == *group && *on == *key {
-                Some(*lots)
-            } else {
-                None
-            }
-        }
+        } if *at == *group => Some((*key, *lots)),
         _ => None,
     }
 }
 
-/// The limit behind one more entry.
-fn limit_behind(limit: Option<u64>, entry: &Entry, group: &Group, key: &LimitKey) -> Option<u64>
-    ensures { (before : List EntryOf) → limit ≡ limit_set before group.now key.now → result ≡ limit_set (before ++ entry.now ∷ []) group.now key.now }
+/// Keeps what one more entry sets.
+fn keep_set(
+    limits: &mut IndexMap<LimitKey, u64>,
+    entry: &Entry,
+    group: &Group,
+) -> Result<(), AllocError>
+    ensures { OnOk result ((before : List EntryOf) → HasLimits (get ⟦<LimitKey as PartialEq>⟧.eq limits.old) before group.now → HasLimits (get ⟦<LimitKey as PartialEq>⟧.eq limits.new) (before ++ entry.now ∷ []) group.now) }
 {
-    match limit_set_by(entry, group, key) {
-        Some(lots) => Some(lots),
-        None => limit,
+    if let Some((key, lots)) = key_set(entry, group) {
+        limits.insert(key, lots)?;
     }
+    Ok(())
 }
 
-/// What was set last for a key in a group.
-fn limit_set(history: &[Entry], group: &Group, key: &LimitKey) -> Option<u64>
-    ensures { result ≡ limit_set history.now group.now key.now }
+/// What was set last for each key in a group.
+fn limits_set(
+    alloc: Global,
+    history: &[Entry],
+    group: &Group,
+) -> Result<IndexMap<LimitKey, u64>, AllocError>
+    ensures { IfOk result (λ limits. HasLimits (get ⟦<LimitKey as PartialEq>⟧.eq limits) history.now group.now) }
 {
-    let mut limit = None;
+    let mut limits = IndexMap::new(alloc);
     for entry in history {
-        limit = limit_behind(limit, entry, group, key);
+        keep_set(&mut limits, entry, group)?;
     }
-    limit
+    Ok(limits)
 }
 
 /// A limit as it stands, where one was set. No command takes lots yet, so that nothing is used.
-fn limit_row(history: &[Entry], group: &Group, key: LimitKey) -> Option<LimitRow>
-    ensures { result ≡ limit_row history.now group.now key }
+fn row_of(limits: &IndexMap<LimitKey, u64>, key: LimitKey) -> Option<LimitRow>
+    ensures { result ≡ unused_row (get ⟦<LimitKey as PartialEq>⟧.eq limits.now) key }
 {
-    match limit_set(history, group, &key) {
-        Some(limit) => Some(LimitRow {
-            key,
-            limit,
-            used: 0,
-            room: limit,
-        }),
-        None => None,
-    }
+    let limit = *limits.get(&key)?;
+    Some(LimitRow {
+        key,
+        limit,
+        used: 0,
+        room: limit,
+    })
 }
 
 /// Appends a limit, if there is one.
@@ -97,14 +101,13 @@ fn append_row(rows: &mut Vec<LimitRow>, row: Option<LimitRow>) -> Result<(), All
 #[tactic(auto, using(crate::proofs::LimitLemmas::filter_map_next))]
 fn append_rows(
     rows: &mut Vec<LimitRow>,
-    history: &[Entry],
-    group: &Group,
+    limits: &IndexMap<LimitKey, u64>,
     keys: &[LimitKey],
 ) -> Result<(), AllocError>
-    ensures { OnOk result (rows.new.items ≡ rows.old.items ++ filter_map (limit_row history.now group.now) keys.now) }
+    ensures { OnOk result (rows.new.items ≡ rows.old.items ++ filter_map (unused_row (get ⟦<LimitKey as PartialEq>⟧.eq limits.now)) keys.now) }
 {
     for key in keys {
-        append_row(rows, limit_row(history, group, *key))?;
+        append_row(rows, row_of(limits, *key))?;
     }
     Ok(())
 }
@@ -149,8 +152,29 @@ fn carrying_keys(alloc: Global, firms: &[FirmId]) -> Result<Vec<LimitKey>, Alloc
         .collect(alloc)
 }
 
-/// The limits of a group: executing firms, agreements, accounts, carrying firms, each in the order of the reference.
+/// The limits that were set on all keys: executing firms, agreements, accounts, carrying firms, each in the order of the
+/// reference.
 #[tactic(auto, using(crate::proofs::LimitLemmas::filter_map_four))]
+fn rows_in_order(
+    alloc: Global,
+    reference: &Reference,
+    limits: &IndexMap<LimitKey, u64>,
+) -> Result<Vec<LimitRow>, AllocError>
+    ensures { IfOk result (λ rows. rows.items ≡ filter_map (unused_row (get ⟦<LimitKey as PartialEq>⟧.eq limits.now)) (keys_in_order reference.now)) }
+{
+    let mut rows = Vec::new(alloc);
+    let executing = executing_keys(alloc, reference.firms())?;
+    let agreements = agreement_keys(alloc, reference.agreements())?;
+    let accounts = account_keys(alloc, reference.accounts())?;
+    let carrying = carrying_keys(alloc, reference.firms())?;
+    append_rows(&mut rows, limits, &executing)?;
+    append_rows(&mut rows, limits, &agreements)?;
+    append_rows(&mut rows, limits, &accounts)?;
+    append_rows(&mut rows, limits, &carrying)?;
+    Ok(rows)
+}
+
+/// The limits of a group.
 pub fn limit_rows(
     alloc: Global,
     reference: &Reference,
@@ -159,14 +183,6 @@ pub fn limit_rows(
 ) -> Result<Vec<LimitRow>, AllocError>
     ensures { IfOk result (λ rows. rows.items ≡ filter_map (limit_row history.now group.now) (keys_in_order reference.now)) }
 {
-    let mut rows = Vec::new(alloc);
-    let executing = executing_keys(alloc, reference.firms())?;
-    let agreements = agreement_keys(alloc, reference.agreements())?;
-    let accounts = account_keys(alloc, reference.accounts())?;
-    let carrying = carrying_keys(alloc, reference.firms())?;
-    append_rows(&mut rows, history, group, &executing)?;
-    append_rows(&mut rows, history, group, &agreements)?;
-    append_rows(&mut rows, history, group, &accounts)?;
-    append_rows(&mut rows, history, group, &carrying)?;
-    Ok(rows)
+    let limits = limits_set(alloc, history, group)?;
+    rows_in_order(alloc, reference, &limits)
 }
