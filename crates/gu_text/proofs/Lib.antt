@@ -1,0 +1,7 @@
+mod LineLemmas
+mod NumberLemmas
+mod Places
+mod SheetLemmas
+mod Splits
+mod TakesLemmas
+mod WordLemmas

@@ -1,0 +1,88 @@
+-- Places in a list that grows at its end.
+use Rattle.std.proofs.Common.{◌≡◌, ◌<◌, ◌≤◌, ◌+◌, ◌⊎◌, ◌++◌, ◌∷◌, [], ◌∙◌, ℕ, List, Option, None, Some, zero, suc, length, take, drop, slice_get, refl, ap, sym, inl, inr, arith, add-one}
+use Rattle.std.specs.List.{last_or}
+use Rattle.std.proofs.lemmas.List.{take_all, drop_all}
+use Rattle.std.specs.Option.{option_or, option_to_list}
+
+-- no elements
+pub nil_from_length : {X : Type 0} (xs : List X) → length xs ≡ 0 → xs ≡ []
+nil_from_length [] h = refl
+nil_from_length (x ∷ xs) h = absurd (omega (arith, h))
+
+-- one thing
+pub one_thing : {X : Type 0} (x y : X) → Some x ≡ Some y → x ≡ y
+one_thing x y h = cc
+
+-- what stands at a place of two lists in one stands in the first, or in the second
+pub at_either : {X : Type 0} (xs ys : List X) (place : ℕ) (y : X) → slice_get (xs ++ ys) place ≡ Some y → ((slice_get xs place ≡ Some y) × (place < length xs)) ⊎ ((k : ℕ) × (slice_get ys k ≡ Some y) × (place ≡ length xs + k))
+at_either [] ys place y h = inr (place, h, omega arith)
+at_either (z ∷ xs) ys zero y h = inl (h, omega arith)
+at_either (z ∷ xs) ys (suc place) y h =
+    elim (at_either xs ys place y h) [
+      | inl first ↦ inl (first.0, omega (arith, first.1))
+      | inr second ↦ inr (second.0, second.1, omega (arith, second.2))
+    ]
+
+-- one element stands at the first place alone
+pub only_place : {X : Type 0} (x : X) (k : ℕ) (y : X) → slice_get (x ∷ []) k ≡ Some y → (k ≡ 0) × (x ≡ y)
+only_place x zero y h = (refl, one_thing x y h)
+only_place x (suc k) y h = cc
+
+-- what is taken of the first of two lists
+pub take-append : {X : Type 0} (xs ys : List X) (n : ℕ) → n ≤ length xs → take n (xs ++ ys) ≡ take n xs
+take-append xs ys zero h = refl
+take-append [] ys (suc n) h = absurd (omega (arith, h))
+take-append (z ∷ xs) ys (suc n) h = ap (λ zs. z ∷ zs) (take-append xs ys n (omega (arith, h)))
+
+zero_more : (k : ℕ) → 0 + k ≡ k
+zero_more k = omega arith
+
+suc_more : (n k : ℕ) → suc n + k ≡ suc (n + k)
+suc_more n k = omega arith
+
+nothing_taken : {X : Type 0} (k n : ℕ) → take {A = X} (n + k) [] ≡ take n [] ++ take k (drop n [])
+nothing_taken {X} k n = take_all {A = X} (n + k) [] (omega arith) ∙ sym (take_all {A = X} k [] (omega arith)) ∙ sym (rw (take_all {A = X} n [] (omega arith), drop_all {X = X} n [] (omega arith)) refl)
+
+-- what is taken in two steps
+pub take-add : {X : Type 0} (xs : List X) (n k : ℕ) → take (n + k) xs ≡ take n xs ++ take k (drop n xs)
+take-add xs zero k = ap (λ (m : ℕ). take m xs) (zero_more k)
+take-add [] (suc n) k = nothing_taken k (suc n)
+take-add (z ∷ xs) (suc n) k = ap (λ (m : ℕ). take m (z ∷ xs)) (suc_more n k) ∙ ap (λ zs. z ∷ zs) (take-add xs n k)
+
+-- a place behind others
+pub slice_get-drop : {X : Type 0} (xs : List X) (n k : ℕ) → slice_get (drop n xs) k ≡ slice_get xs (n + k)
+slice_get-drop xs zero k = ap (slice_get xs) (sym (zero_more k))
+slice_get-drop [] (suc n) k = refl
+slice_get-drop (z ∷ xs) (suc n) k = slice_get-drop xs n k ∙ sym (ap (slice_get (z ∷ xs)) (suc_more n k))
+
+next_at : {X : Type 0} (xs : List X) (n : ℕ) (x : X) (ys : List X) → drop n xs ≡ x ∷ ys → (slice_get xs n ≡ Some x) × (take (suc n) xs ≡ take n xs ++ x ∷ []) × (drop (suc n) xs ≡ ys)
+next_at [] zero x ys h = cc
+next_at [] (suc n) x ys h = cc
+next_at (z ∷ xs) zero x ys h = (cc, cc, cc)
+next_at (z ∷ xs) (suc n) x ys h =
+    let next = next_at xs n x ys h in
+    (next.0, ap (λ zs. z ∷ zs) next.1, next.2)
+
+-- one element more is taken
+pub next_taken : {X : Type 0} (xs : List X) (n : ℕ) (x : X) (ys : List X) → drop n xs ≡ x ∷ ys → (slice_get xs n ≡ Some x) × (take (n + 1) xs ≡ take n xs ++ x ∷ []) × (drop (n + 1) xs ≡ ys)
+next_taken xs n x ys h = rw (add-one n) (next_at xs n x ys h)
+
+taken_suc : {X : Type 0} (xs : List X) (n : ℕ) (x : X) → slice_get xs n ≡ Some x → take (suc n) xs ≡ take n xs ++ x ∷ []
+taken_suc [] n x h = cc
+taken_suc (z ∷ xs) zero x h = cc
+taken_suc (z ∷ xs) (suc n) x h = ap (λ zs. z ∷ zs) (taken_suc xs n x h)
+
+-- what is taken up to an element, with it
+pub taken_at : {X : Type 0} (xs : List X) (n : ℕ) (x : X) → slice_get xs n ≡ Some x → take (n + 1) xs ≡ take n xs ++ x ∷ []
+taken_at xs n x h = rw (add-one n) (taken_suc xs n x h)
+
+-- the last of a longer list
+pub last_or-last : {X : Type 0} (o : Option X) (xs : List X) (x : X) → last_or o (xs ++ x ∷ []) ≡ Some x
+last_or-last o [] x = refl
+last_or-last o (z ∷ xs) x = last_or-last (Some z) xs x
+
+-- the last, where one more may have come
+pub last_or-given : {X : Type 0} (o : Option X) (xs : List X) (given : Option X) → last_or o (xs ++ option_to_list given) ≡ option_or given (last_or o xs)
+last_or-given o xs (Some x) = last_or-last o xs x
+last_or-given o [] None = refl
+last_or-given o (z ∷ xs) None = last_or-given (Some z) xs None

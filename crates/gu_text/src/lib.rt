@@ -1,0 +1,21 @@
+//! Texts of the desk: sweep sheets that are read, and verdicts that are written.
+#![tactic(auto)]
+
+mod error;
+mod lines;
+mod numbers;
+mod sheet;
+mod sheet_line;
+mod sheet_parts;
+#[cfg(test)]
+mod sheet_tests;
+mod takes_in_order;
+pub mod texts;
+#[cfg(test)]
+mod verdict_tests;
+mod verdicts;
+mod words;
+
+pub use error::SheetError;
+pub use sheet::Sheet;
+pub use verdicts::verdict_text;

@@ -1,0 +1,90 @@
+//! Sweep sheets.
+
+ghost use Rattle.std.specs.Prelude.{◌≡◌, ◌<◌, ◌^◌, ◌+◌, length, IfOk, IfErr, IsTrue, OnOk};
+ghost use Rattle.std.specs.Str.Lines.{lines};
+ghost use Rattle.gu_text.specs.Reading.{line_fits, with_text_line, AreSilent, BreaksSilence, EndsAt};
+ghost use Rattle.gu_text.specs.Sheets.{IsSheet, Refuses};
+
+use crate::error::SheetError;
+use crate::lines::{first_line, is_silent};
+use crate::sheet_line::spoken;
+use crate::sheet_parts::Parts;
+use gu_terms::{Cut, Takes};
+use gu_view::View;
+use std::alloc::{AllocError, Global};
+
+/// A sweep sheet: a view, takes of its offers, and a cut.
+#[derive(Drop)]
+pub struct Sheet {
+    pub view: View,
+    pub takes: Takes,
+    pub cut: Cut,
+}
+
+/// Adds what a line says, and answers whether the line may stand there.
+fn add_line(parts: &mut Parts, line: &[u8]) -> Result<bool, AllocError>
+    ensures fits { IfOk result (λ fits. fits ≡ line_fits parts.old line.now) }
+    ensures parts { IfOk result (λ fits. IsTrue fits → parts.new ≡ with_text_line parts.old line.now) }
+{
+    if is_silent(line) {
+        return Ok(true);
+    }
+    match spoken(line) {
+        Some(said) => parts.add(said),
+        None => Ok(false),
+    }
+}
+
+/// The parts of a sheet up to its end, the text behind that, and the number of the end.
+fn read_parts(alloc: Global, text: &[u8]) -> Result<(Parts, &[u8], u64), SheetError>
+    ensures ends { IfOk result (λ r. EndsAt text.now r.0 r.1.now r.2) }
+    ensures refused { IfErr result (Refuses text.now) }
+{
+    let mut parts = Parts::new(alloc);
+    let mut rest = text;
+    let mut number = 0;
+    'lines: while !rest.is_empty() {
+        let (line, behind) = first_line(rest);
+        rest = behind;
+        number += 1;
+        if !add_line(&mut parts, line)? {
+            return Err(SheetError::BadLine(number));
+        }
+        if parts.are_ended() {
+            return Ok((parts, rest, number));
+        }
+    }
+    Err(SheetError::BadLine(number + 1))
+}
+
+/// Whether the lines behind one with this number say nothing.
+fn read_silence(text: &[u8], from: u64) -> Result<(), SheetError>
+    requires { from + length text.now < 2 ^ 64 }
+    ensures silent { OnOk result (AreSilent (lines text.now)) }
+    ensures spoken { IfErr result (BreaksSilence (lines text.now) from) }
+{
+    let mut rest = text;
+    let mut number = from;
+    'lines: while !rest.is_empty() {
+        let (line, behind) = first_line(rest);
+        rest = behind;
+        number += 1;
+        if !is_silent(line) {
+            return Err(SheetError::BadLine(number));
+        }
+    }
+    Ok(())
+}
+
+impl Sheet {
+    /// The sheet that a text is.
+    pub fn read(alloc: Global, text: &[u8]) -> Result<Sheet, SheetError>
+        ensures sheet { IfOk result (IsSheet text.now) }
+        ensures refused { IfErr result (Refuses text.now) }
+    {
+        let (parts, rest, number) = read_parts(alloc, text)?;
+        let sheet = parts.into_sheet(alloc, number)?;
+        read_silence(rest, number)?;
+        Ok(sheet)
+    }
+}

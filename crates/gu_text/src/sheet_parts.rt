@@ -1,0 +1,172 @@
+//! The parts of a sheet, as far as its lines have come.
+
+ghost use Rattle.std.specs.Prelude.{◌≡◌, ◌++◌, ◌∷◌, [], None, Some, not, map, nat_eq, IfOk, IfErr, OnOk, IsSome, IsTrue, if◌then◌else◌};
+ghost use Rattle.gu_terms.specs.Cuts.{has_number};
+ghost use Rattle.gu_text.specs.Sheets.{comes_behind, is_repeated, fits_behind};
+ghost use Rattle.gu_text.specs.Reading.{no_parts, with_line, is_ended, IsMadeOf, MakesNone, MakesNoView};
+ghost use Rattle.gu_view.specs.Making.{MakesView, view_of};
+
+use crate::error::SheetError;
+use crate::sheet::Sheet;
+use crate::sheet_line::{Header, Part, SheetLine};
+use crate::takes_in_order::takes_in_order;
+use gu_terms::{Cut, OfferNo, Take};
+use gu_view::{Offer, Room, View, ViewError};
+use indexmap::IndexSet;
+use std::alloc::{AllocError, Global};
+use std::marker::Model;
+
+/// What the lines so far give. To a contract it is that.
+#[derive(Drop)]
+pub(crate) struct Parts {
+    last: Option<Part>,
+    header: Option<Header>,
+    offers: Vec<Offer>,
+    rooms: Vec<Room>,
+    takes: Vec<Take>,
+    /// The offers of the takes.
+    taken: IndexSet<OfferNo>,
+    cut: Cut,
+}
+
+impl Model for Parts {
+    ghost use Rattle.std.specs.Prelude.{◌≡◌, map, nat_eq, IsSome};
+    ghost use Rattle.std.specs.List.{IsDistinct};
+    ghost use Rattle.gu_text.specs.Sheets.{SheetParts};
+
+    ghost Value = { SheetParts };
+
+    ghost view = { λ p. record { last = p.last; header = p.header; offers = p.offers.items; rooms = p.rooms.items; takes = p.takes.items; cut = p.cut } };
+
+    ghost invariant = { λ p. (IsSome p.last → IsSome p.header) × (p.taken.keys ≡ map (λ t. t.offer) p.takes.items) × IsDistinct nat_eq (map (λ t. t.offer) p.takes.items) };
+}
+
+/// Whether a line of a part may come behind one of the last part.
+fn comes_behind(last: Option<Part>, next: Part) -> bool
+    ensures { result ≡ comes_behind last next }
+{
+    match last {
+        None => next.rank() == 0,
+        Some(last) => next.rank() > 0 && last.rank() < 5 && last.rank() <= next.rank(),
+    }
+}
+
+impl Parts {
+    /// The parts of no lines.
+    pub(crate) fn new(alloc: Global) -> Self
+        ensures { result ≡ no_parts }
+    {
+        Parts {
+            last: None,
+            header: None,
+            offers: Vec::new(alloc),
+            rooms: Vec::new(alloc),
+            takes: Vec::new(alloc),
+            taken: IndexSet::new(alloc),
+            cut: Cut::new(alloc),
+        }
+    }
+
+    /// Adds a take, and answers whether its offer was new.
+    fn put_take(&mut self, take: Take) -> Result<bool, AllocError>
+        ensures new { IfOk result (λ new. new ≡ not (has_number (map (λ t. t.offer) self.old.takes) take.offer)) }
+        ensures put { IfOk result (λ new. self.new ≡ (if new then record self.old { takes = self.old.takes ++ take ∷ [] } else self.old)) }
+    {
+        if self.taken.contains(&take.offer) {
+            return Ok(false);
+        }
+        self.takes.push(take)?;
+        if self.taken.insert(take.offer).is_err() {
+            self.takes.pop();
+            return Err(AllocError);
+        }
+        Ok(true)
+    }
+
+    /// Adds what a line gives, and answers whether it repeats none.
+    fn put(&mut self, line: SheetLine) -> Result<bool, AllocError>
+        ensures new { IfOk result (λ new. new ≡ not (is_repeated self.old line)) }
+        ensures put { IfOk result (λ new. IsTrue new → self.new ≡ record (with_line self.old line) { last = self.old.last }) }
+    {
+        match line {
+            SheetLine::Sheet(header) => {
+                self.header = Some(header);
+                Ok(true)
+            }
+            SheetLine::Offer(offer) => {
+                self.offers.push(offer)?;
+                Ok(true)
+            }
+            SheetLine::Room(room) => {
+                self.rooms.push(room)?;
+                Ok(true)
+            }
+            SheetLine::Take(take) => self.put_take(take),
+            SheetLine::CutKey(key) => self.cut.add_key(key),
+            SheetLine::CutOffer(number) => self.cut.add_offer(number),
+            SheetLine::End => Ok(true),
+        }
+    }
+
+    /// Adds what a line gives, and answers whether the line may stand there.
+    pub(crate) fn add(&mut self, line: SheetLine) -> Result<bool, AllocError>
+        ensures fits { IfOk result (λ fits. fits ≡ fits_behind self.old line) }
+        ensures parts { IfOk result (λ fits. IsTrue fits → self.new ≡ with_line self.old line) }
+    {
+        if !comes_behind(self.last, line.part()) || !self.put(line)? {
+            return Ok(false);
+        }
+        self.last = Some(line.part());
+        Ok(true)
+    }
+
+    /// Whether the last line was the end.
+    pub(crate) fn are_ended(&self) -> bool
+        ensures { result ≡ is_ended self.now }
+    {
+        matches!(self.last, Some(Part::End))
+    }
+
+    /// The sheet that the parts make; this is the number of the end.
+    pub(crate) fn into_sheet(self, alloc: Global, number: u64) -> Result<Sheet, SheetError>
+        requires { IsSome self.last }
+        ensures made { IfOk result (IsMadeOf self) }
+        ensures refused { IfErr result (MakesNone self number) }
+    {
+        let Parts {
+            header,
+            offers,
+            rooms,
+            takes,
+            cut,
+            ..
+        } = self;
+        let Some(header) = header else {
+            unreachable!();
+        };
+        let view = view_at(alloc, header, offers, rooms, number)?;
+        let takes = takes_in_order(alloc, takes)?;
+        Ok(Sheet { view, takes, cut })
+    }
+}
+
+/// The view that offers and rooms make at the end, which has this number.
+fn view_at(
+    alloc: Global,
+    header: Header,
+    offers: Vec<Offer>,
+    rooms: Vec<Room>,
+    number: u64,
+) -> Result<View, SheetError>
+    ensures view { IfOk result (λ view. view ≡ view_of header.group header.version offers.items rooms.items) }
+    ensures makes { OnOk result (MakesView offers.items rooms.items) }
+    ensures refused { IfErr result (MakesNoView offers.items rooms.items number) }
+{
+    match View::new(alloc, header.group, header.version, offers, rooms) {
+        Ok(view) => Ok(view),
+        Err(ViewError::Memory) => Err(SheetError::Memory),
+        Err(ViewError::BadOffer(_) | ViewError::PathDiffers(_) | ViewError::BadRooms) => {
+            Err(SheetError::BadLine(number))
+        }
+    }
+}

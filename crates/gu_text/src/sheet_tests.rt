@@ -1,0 +1,152 @@
+//! Texts that are sheets, and texts that aren't.
+
+use crate::{Sheet, SheetError};
+use std::alloc::Global;
+use std::test::Fail;
+
+/// The number of the bad line of a text, if it has one.
+fn bad_line(alloc: Global, text: &str) -> Option<u64> {
+    match Sheet::read(alloc, text.as_bytes()) {
+        Ok(_) | Err(SheetError::Memory) => None,
+        Err(SheetError::BadLine(number)) => Some(number),
+    }
+}
+
+/// Whether a text is a sheet.
+fn is_sheet(alloc: Global, text: &str) -> bool {
+    Sheet::read(alloc, text.as_bytes()).is_ok()
+}
+
+#[test]
+fn lines_end_by_lf_or_cr_lf(rt: HostRuntime) -> Result<(), Fail> {
+    for text in [
+        "SHEET G1 0\nEND\n",
+        "SHEET G1 0\nEND",
+        "SHEET G1 0\r\nEND\r\n",
+        "SHEET   G1  0\nEND\n",
+        "# a comment\n\nSHEET G1 0\n\r\n#\nEND\n\n# more\n",
+        "SHEET G1 999999999999\nEND\n",
+        "SHEET G1 000000000001\nEND\n",
+    ] {
+        assert!(rt; is_sheet(rt.alloc(), text), "{text}");
+    }
+    Ok(())
+}
+
+#[test]
+fn the_first_bad_line_is_named(rt: HostRuntime) -> Result<(), Fail> {
+    for (text, number) in [
+        // The end is missing: the number after the last line, with those that are skipped.
+        ("", 1),
+        ("SHEET G1 0\n", 2),
+        ("SHEET G1 0\n# a comment\n\n", 4),
+        // Parts and their order.
+        ("END\n", 1),
+        ("SHEET G1 0\nSHEET G1 0\nEND\n", 2),
+        ("SHEET G1 0\nCUT EXEC E1\nTAKE 1 0\nEND\n", 3),
+        ("SHEET G1 0\nTAKE 1 0\nROOM EXEC E1 5\nEND\n", 3),
+        ("SHEET G1 0\nEND\nEND\n", 3),
+        ("SHEET G1 0\nEND\n\nTAKE 1 0\n", 4),
+        // Repetitions.
+        ("SHEET G1 0\nTAKE 1 2\nTAKE 2 5\nTAKE 1 2\nEND\n", 4),
+        (
+            "SHEET G1 0\nCUT EXEC E1\nCUT OFFER 1\nCUT EXEC E1\nEND\n",
+            4,
+        ),
+        ("SHEET G1 0\nCUT OFFER 1\nCUT OFFER 1\nEND\n", 3),
+        // What makes no view is bad at the end.
+        ("SHEET G1 0\nROOM EXEC E1 5\nEND\n", 3),
+        ("SHEET G1 0\nOFFER 1 5 P1 E1 A1 C1\nEND\nEND\n", 3),
+        // Words and blanks.
+        (" SHEET G1 0\nEND\n", 1),
+        ("SHEET G1 0 \nEND\n", 1),
+        ("SHEET\tG1 0\nEND\n", 1),
+        ("SHEET G1 0\n \nEND\n", 2),
+        ("SHEET G1 0\n # a comment\nEND\n", 2),
+        ("SHEET G1 0\r\r\nEND\n", 1),
+        ("SHEET G1 0\nEND\r", 2),
+        ("SHEET G1 0\nEND END\n", 2),
+        ("SHEET G1\nEND\n", 1),
+        ("SHEET G1 0 0\nEND\n", 1),
+        ("SHEET G1 0\nOFFER 1 5 P1 E1 A1 C1 C2\nEND\n", 2),
+        ("SHEET G1 0\nROOM GUAR E2 5\nEND\n", 2),
+        // Names and numbers.
+        ("SHEET g1 0\nEND\n", 1),
+        ("SHEET ABCDEFGHIJKLM 0\nEND\n", 1),
+        ("SHEET G1 1000000000000\nEND\n", 1),
+        ("SHEET G1 +1\nEND\n", 1),
+        ("SHEET G1 0\nTAKE 0 1\nEND\n", 2),
+        ("SHEET G1 0\nTAKE 16000001 1\nEND\n", 2),
+        ("SHEET G1 0\nTAKE 1 1.0\nEND\n", 2),
+        ("SHEET G1 0\nCUT OFFER 0\nEND\n", 2),
+    ] {
+        assert_eq!(rt; bad_line(rt.alloc(), text), Some(number), "{text}");
+    }
+    Ok(())
+}
+
+/// A comment of so many bytes.
+fn comment(alloc: Global, length: usize) -> Result<String, Fail> {
+    let mut text = String::new(alloc);
+    for _ in 0..length {
+        text.push('#')?;
+    }
+    Ok(text)
+}
+
+#[test]
+fn a_comment_has_1024_bytes_at_most(rt: HostRuntime) -> Result<(), Fail> {
+    let longest = comment(rt.alloc(), 1_024)?;
+    let longer = comment(rt.alloc(), 1_025)?;
+    assert_eq!(rt; bad_line(rt.alloc(), &longest), Some(2));
+    assert_eq!(rt; bad_line(rt.alloc(), &longer), Some(1));
+    Ok(())
+}
+
+/// Takes and cuts in any order.
+const SHEET: &str = "SHEET G1 7
+OFFER 1 5 P1 E1 A1 C1
+OFFER 2 5 P1 E1 A1 C1
+ROOM CARRY C1 100
+ROOM ACCT A1 100
+ROOM AGR P1 7
+ROOM EXEC E1 100
+TAKE 2 2
+TAKE 1 5
+CUT OFFER 2
+CUT AGR P1
+CUT EXEC E1
+END
+";
+
+#[test]
+fn takes_are_kept_in_the_order_of_offers(rt: HostRuntime) -> Result<(), Fail> {
+    let sheet = Sheet::read(rt.alloc(), SHEET.as_bytes())?;
+    let taken = sheet.takes.as_slice();
+    assert_eq!(rt; taken.len(), 2);
+    assert_eq!(rt; (taken[0].offer.get(), taken[0].lots), (1, 5));
+    assert_eq!(rt; (taken[1].offer.get(), taken[1].lots), (2, 2));
+    Ok(())
+}
+
+#[test]
+fn rooms_are_kept_in_the_order_of_the_paths(rt: HostRuntime) -> Result<(), Fail> {
+    let sheet = Sheet::read(rt.alloc(), SHEET.as_bytes())?;
+    let rooms = sheet.view.rooms();
+    assert_eq!(rt; rooms.len(), 4);
+    for (room, kind) in rooms.iter().zip(["EXEC", "AGR", "ACCT", "CARRY"]) {
+        assert_eq!(rt; room.key.kind(), kind);
+    }
+    Ok(())
+}
+
+#[test]
+fn members_of_a_cut_are_kept_in_the_order_of_their_lines(rt: HostRuntime) -> Result<(), Fail> {
+    let sheet = Sheet::read(rt.alloc(), SHEET.as_bytes())?;
+    let keys = sheet.cut.keys();
+    assert_eq!(rt; keys.len(), 2);
+    for (key, kind) in keys.iter().zip(["AGR", "EXEC"]) {
+        assert_eq!(rt; key.kind(), kind);
+    }
+    Ok(())
+}

@@ -1,0 +1,42 @@
+//! The words of a line.
+
+ghost use Rattle.std.specs.Prelude.{◌≡◌, ◌++◌, OnOk};
+ghost use Rattle.std.specs.Fmt.{decimal};
+ghost use Rattle.gu_text.specs.Texts.{word, last_word};
+
+use itoa::Buffer;
+use std::alloc::AllocError;
+
+/// Appends a word and a blank.
+pub fn append_word(output: &mut Vec<u8>, bytes: &[u8]) -> Result<(), AllocError>
+    ensures { OnOk result (output.new.items ≡ output.old.items ++ word bytes.now) }
+{
+    output.extend_from_slice(bytes)?;
+    output.push(b' ')?;
+    Ok(())
+}
+
+/// Appends a word and the end of the line.
+pub fn append_last_word(output: &mut Vec<u8>, bytes: &[u8]) -> Result<(), AllocError>
+    ensures { OnOk result (output.new.items ≡ output.old.items ++ last_word bytes.now) }
+{
+    output.extend_from_slice(bytes)?;
+    output.push(b'\n')?;
+    Ok(())
+}
+
+/// Appends a number and a blank.
+pub fn append_number(output: &mut Vec<u8>, number: u64) -> Result<(), AllocError>
+    ensures { OnOk result (output.new.items ≡ output.old.items ++ word (decimal number)) }
+{
+    let mut digits = Buffer::new();
+    append_word(output, digits.format(number).as_bytes())
+}
+
+/// Appends a number and the end of the line.
+pub fn append_last_number(output: &mut Vec<u8>, number: u64) -> Result<(), AllocError>
+    ensures { OnOk result (output.new.items ≡ output.old.items ++ last_word (decimal number)) }
+{
+    let mut digits = Buffer::new();
+    append_last_word(output, digits.format(number).as_bytes())
+}

@@ -1,0 +1,89 @@
+//! The words of a line.
+
+ghost use Rattle.std.specs.Prelude.{◌≡◌, ◌≢◌, ◌<◌, ◌∷◌, [], false, length, MatchOption};
+ghost use Rattle.std.specs.List.{position};
+ghost use Rattle.gu_text.specs.Words.{is_blank, is_blank_at, is_ragged, words_of};
+
+/// Whether a blank stands at a place of a line.
+fn is_blank_at(line: &[u8], place: usize) -> bool
+    ensures { result ≡ is_blank_at line.now place }
+{
+    match line.get(place) {
+        Some(byte) => *byte == b' ',
+        None => false,
+    }
+}
+
+/// Whether a line begins or ends with a blank.
+pub(crate) fn is_ragged(line: &[u8]) -> bool
+    ensures { result ≡ is_ragged line.now }
+{
+    is_blank_at(line, 0) || is_blank_at(line, line.len().saturating_sub(1))
+}
+
+/// The text without the blanks at its front.
+fn without_blanks(text: &[u8]) -> &[u8]
+    ensures words { words_of result.now ≡ words_of text.now }
+    ensures front { is_blank_at result.now 0 ≡ false }
+{
+    let mut rest = text;
+    'blanks: while let [b' ', behind @ ..] = rest {
+        rest = behind;
+    }
+    rest
+}
+
+/// The place of the first blank.
+fn blank_place(text: &[u8]) -> Option<usize>
+    ensures { result ≡ position is_blank text.now }
+{
+    text.iter().position(|byte| *byte == b' ')
+}
+
+#[tactic(auto, using(crate::proofs::WordLemmas::word_in_front, crate::proofs::WordLemmas::word_alone))]
+/// The first word of a text, and the text behind it.
+pub(crate) fn first_word(text: &[u8]) -> Option<(&[u8], &[u8])>
+    ensures { MatchOption result (words_of text.now ≡ []) (λ found. words_of text.now ≡ found.0.now ∷ words_of found.1.now) }
+{
+    let text = without_blanks(text);
+    if text.is_empty() {
+        return None;
+    }
+    match blank_place(text) {
+        Some(place) => Some((&text[..place], &text[place + 1..])),
+        None => Some((text, &[])),
+    }
+}
+
+/// The first three words of a text, and the text behind them.
+pub(crate) fn first_three_words(text: &[u8]) -> Option<(&[u8], &[u8], &[u8], &[u8])>
+    ensures { MatchOption result (length (words_of text.now) < 3) (λ found. words_of text.now ≡ found.0.now ∷ found.1.now ∷ found.2.now ∷ words_of found.3.now) }
+{
+    let (first, rest) = first_word(text)?;
+    let (second, rest) = first_word(rest)?;
+    let (third, rest) = first_word(rest)?;
+    Some((first, second, third, rest))
+}
+
+/// The three words of a text that has three.
+pub(crate) fn three_words(text: &[u8]) -> Option<(&[u8], &[u8], &[u8])>
+    ensures { MatchOption result (length (words_of text.now) ≢ 3) (λ found. words_of text.now ≡ found.0.now ∷ found.1.now ∷ found.2.now ∷ []) }
+{
+    let (first, second, third, rest) = first_three_words(text)?;
+    match first_word(rest) {
+        None => Some((first, second, third)),
+        Some(_) => None,
+    }
+}
+
+/// The two words of a text that has two.
+pub(crate) fn two_words(text: &[u8]) -> Option<(&[u8], &[u8])>
+    ensures { MatchOption result (length (words_of text.now) ≢ 2) (λ found. words_of text.now ≡ found.0.now ∷ found.1.now ∷ []) }
+{
+    let (first, rest) = first_word(text)?;
+    let (second, rest) = first_word(rest)?;
+    match first_word(rest) {
+        None => Some((first, second)),
+        Some(_) => None,
+    }
+}
