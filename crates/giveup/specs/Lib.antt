@@ -1,6 +1,9 @@
 pub mod Capture
+pub mod Checking
 pub mod FieldValues
+pub mod Input
 pub mod PositionText
+pub mod ProgramWords
 pub mod Serving
 pub mod Standings
 pub mod TradeCaptureReport

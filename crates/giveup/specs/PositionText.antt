@@ -1,19 +1,16 @@
 -- Positions as lines of text.
-use Rattle.std.specs.Prelude.{ℕ, ◌==◌, ◌&&◌, ◌++◌, ◌∷◌, [], List, codes, if◌then◌else◌}
+use Rattle.std.specs.Prelude.{ℕ, ◌==◌, ◌&&◌, ◌++◌, [], List, codes, if◌then◌else◌}
 use Rattle.std.specs.List.{flat_map}
 use Rattle.std.specs.Fmt.{decimal}
 use Rattle.gu_terms.specs.declared.account.AccountId.{AccountId}
 use Rattle.gu_terms.specs.declared.symbol.Symbol.{Symbol}
 use Rattle.gu_book.specs.Kept.{Kept}
 use Rattle.gu_book.specs.Positions.{long_of, short_of}
-
--- a word with the blank behind it
-abbrev pub word : List ℕ → List ℕ
-word bytes = bytes ++ 32 ∷ []
+use Rattle.gu_text.specs.Texts.{word, last_word}
 
 -- `POSITION`, the account, the symbol, the lots long and the lots short, parted by blanks and ended by LF
 abbrev pub position_line : AccountId → Symbol → ℕ → ℕ → List ℕ
-position_line account symbol long short = word (codes "POSITION") ++ word account.name ++ word symbol.name ++ word (decimal long) ++ (decimal short ++ 10 ∷ [])
+position_line account symbol long short = word (codes "POSITION") ++ word account.name ++ word symbol.name ++ word (decimal long) ++ last_word (decimal short)
 
 -- a position's line, or nothing where the account holds nothing of the instrument
 abbrev pub position_text : Kept → AccountId → Symbol → List ℕ

@@ -3,8 +3,8 @@
 use crate::capturing::capture;
 use crate::error::EngineError;
 use crate::sample::{sample_day, sample_reference};
-use std::alloc::{AllocError, Global};
-use std::io::{self, Read, Write};
+use crate::streams::{Sink, Source, wire};
+use std::alloc::Global;
 use std::test::Fail;
 
 /// Two reports of one trade, of 141 and 136 bytes.
@@ -14,66 +14,6 @@ const INPUT: &str =
 /// Two acknowledgements of 95 bytes each, and the positions, of 42 bytes.
 const OUTPUT: &str =
     "8=FIXT.1.1|9=72|35=AR|49=GIVEUP|56=E1|34=1|52=20260105-00:00:00.000|571=R1|880=M1|939=0|10=121|8=FIXT.1.1|9=72|35=AR|49=GIVEUP|56=E2|34=2|52=20260105-00:00:00.000|571=R2|880=M1|939=0|10=124|POSITION H1 XF6 10 0/POSITION H2 XF6 0 10/";
-
-/// The bytes of a text.
-fn wire(alloc: Global, text: &str) -> Result<Vec<u8>, AllocError> {
-    let mut bytes = Vec::new(alloc);
-    for byte in text.bytes() {
-        bytes.push(match byte {
-            b'|' => 1,
-            b'/' => b'\n',
-            byte => byte,
-        })?;
-    }
-    Ok(bytes)
-}
-
-/// Gives its bytes in a first piece and then in pieces of one size, and fails once it has no read left.
-#[derive(Drop)]
-struct Source<'a> {
-    bytes: &'a [u8],
-    first: usize,
-    piece: usize,
-    reads: usize,
-}
-
-impl Read for Source<'_> {
-    fn read(&mut self, buf: &mut [u8]) -> io::Result<usize> {
-        if self.reads == 0 {
-            return Err(io::Error::from(io::ErrorKind::BrokenPipe));
-        }
-        self.reads -= 1;
-        let count = self.first.min(self.bytes.len()).min(buf.len());
-        buf[..count].copy_from_slice(&self.bytes[..count]);
-        self.bytes = &self.bytes[count..];
-        self.first = self.piece;
-        Ok(count)
-    }
-}
-
-/// Takes so many bytes a write, and fails once it has no write left.
-#[derive(Drop)]
-struct Sink {
-    held: Vec<u8>,
-    most: usize,
-    writes: usize,
-}
-
-impl Write for Sink {
-    fn write(&mut self, buf: &[u8]) -> io::Result<usize> {
-        if self.writes == 0 {
-            return Err(io::Error::from(io::ErrorKind::BrokenPipe));
-        }
-        self.writes -= 1;
-        let count = self.most.min(buf.len());
-        self.held.extend_from_slice(&buf[..count])?;
-        Ok(count)
-    }
-
-    fn flush(&mut self) -> io::Result<()> {
-        Ok(())
-    }
-}
 
 /// How a run on the two reports ends, and what was written.
 fn ran(

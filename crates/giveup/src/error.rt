@@ -2,6 +2,7 @@
 
 use gu_fix::FeedError;
 use gu_ref::RefFault;
+use gu_text::SheetError;
 use std::alloc::AllocError;
 use thiserror::Error;
 
@@ -17,17 +18,44 @@ pub enum EngineError {
     /// The writer failed, or took nothing.
     #[error("write fault")]
     Write,
+    /// This line of the text, counted from 1, may not stand there. Trade capture reads no lines.
+    #[error("bad line {0}")]
+    BadLine(u64),
 }
 
 impl From<AllocError> for EngineError {
+    ghost use Rattle.std.specs.Prelude.{◌≡◌};
+    ghost use Rattle.giveup.specs.declared.error.EngineError.TheVariants.{Memory};
+
+    ghost from_gives = { λ _ error. error ≡ Memory };
+
     fn from(_: AllocError) -> Self {
         EngineError::Memory
     }
 }
 
 impl From<FeedError> for EngineError {
+    ghost use Rattle.std.specs.Prelude.{◌≡◌};
+    ghost use Rattle.giveup.specs.declared.error.EngineError.TheVariants.{Memory};
+
+    ghost from_gives = { λ _ error. error ≡ Memory };
+
     fn from(_: FeedError) -> Self {
         EngineError::Memory
+    }
+}
+
+impl From<SheetError> for EngineError {
+    ghost use Rattle.std.specs.Prelude.{◌≡◌};
+    ghost use Rattle.giveup.specs.Checking.{error_of};
+
+    ghost from_gives = { λ sheet error. error ≡ error_of sheet };
+
+    fn from(error: SheetError) -> Self {
+        match error {
+            SheetError::Memory => EngineError::Memory,
+            SheetError::BadLine(number) => EngineError::BadLine(number),
+        }
     }
 }
 

@@ -4,28 +4,40 @@
 #[cfg(test)]
 mod capture_tests;
 mod capturing;
+#[cfg(test)]
+mod check_tests;
+mod checking;
 mod error;
 mod field_values;
+mod input;
 mod position_lines;
 #[cfg(test)]
 mod reading_tests;
 mod sample;
 mod sending;
 mod serving;
+#[cfg(test)]
+mod streams;
 mod tags;
 mod trade_capture_report;
 mod trade_capture_report_ack;
+#[cfg(test)]
+mod word_tests;
+mod words;
 
 use crate::capturing::capture;
+use crate::checking::check;
 use crate::error::RunError;
 use crate::sample::{sample_day, sample_reference};
+use crate::words::{Task, answer, given, read};
 use std::alloc::Global;
 use std::io;
 use std::process::ExitCode;
+use std::rt::Env;
 
 fn main(rt: HostRuntime) -> ExitCode {
     match run(&rt) {
-        Ok(()) => ExitCode::SUCCESS,
+        Ok(status) => status,
         Err(error) => {
             // Where this can't be written, the status alone tells of the fault.
             let _ = eprintln!(rt; "giveup: {error}");
@@ -34,12 +46,42 @@ fn main(rt: HostRuntime) -> ExitCode {
     }
 }
 
+/// Does what the words of this run ask for.
+fn run<R: Input + Print + Eprint + Env + Alloc<A = Global>>(rt: &R) -> Result<ExitCode, RunError> {
+    match given(rt) {
+        Ok(words) => perform(rt, words.as_slice()),
+        Err(error) => Ok(answer(rt, &error)?),
+    }
+}
+
+/// Does what these words ask for.
+fn perform<R: Input + Print + Eprint + Alloc<A = Global>>(
+    rt: &R,
+    words: &[String],
+) -> Result<ExitCode, RunError> {
+    match read(rt.alloc(), words) {
+        Ok(Task::Capture) => run_capture(rt),
+        Ok(Task::Check) => run_check(rt),
+        Err(error) => Ok(answer(rt, &error)?),
+    }
+}
+
 /// Trade capture on the sample, from standard input to standard output.
-fn run<R: Input + Print + Alloc<A = Global>>(rt: &R) -> Result<(), RunError> {
+fn run_capture<R: Input + Print + Alloc<A = Global>>(rt: &R) -> Result<ExitCode, RunError> {
     let alloc = rt.alloc();
     let reference = sample_reference(alloc)?;
     let mut reader = rt.reader();
     let mut writer = io::writer(rt);
     capture(alloc, reference, sample_day(), &mut reader, &mut writer)?;
-    Ok(())
+    Ok(ExitCode::SUCCESS)
+}
+
+/// The check of a sheet, from standard input to standard output. A fault is written, and the status tells of it.
+fn run_check<R: Input + Print + Alloc<A = Global>>(rt: &R) -> Result<ExitCode, RunError> {
+    let mut reader = rt.reader();
+    let mut writer = io::writer(rt);
+    match check(rt.alloc(), &mut reader, &mut writer)? {
+        Ok(_) => Ok(ExitCode::SUCCESS),
+        Err(_) => Ok(ExitCode::FAILURE),
+    }
 }

@@ -1,40 +1,12 @@
 //! Positions as lines of text.
 
-ghost use Rattle.std.specs.Prelude.{◌≡◌, ◌++◌, ◌∷◌, [], IfOk, OnOk};
-ghost use Rattle.std.specs.Fmt.{decimal};
-ghost use Rattle.giveup.specs.PositionText.{word, position_line, position_text, account_text, positions_text};
+ghost use Rattle.std.specs.Prelude.{◌≡◌, ◌++◌, IfOk, OnOk};
+ghost use Rattle.giveup.specs.PositionText.{position_line, position_text, account_text, positions_text};
 
 use gu_book::Book;
 use gu_terms::{AccountId, Symbol};
-use itoa::Buffer;
+use gu_text::texts::{append_last_number, append_number, append_word};
 use std::alloc::{AllocError, Global};
-
-/// Appends a word and a blank.
-fn append_word(output: &mut Vec<u8>, bytes: &[u8]) -> Result<(), AllocError>
-    ensures { OnOk result (output.new.items ≡ output.old.items ++ word bytes.now) }
-{
-    output.extend_from_slice(bytes)?;
-    output.push(b' ')?;
-    Ok(())
-}
-
-/// Appends a number and a blank.
-fn append_number(output: &mut Vec<u8>, number: u64) -> Result<(), AllocError>
-    ensures { OnOk result (output.new.items ≡ output.old.items ++ word (decimal number)) }
-{
-    let mut digits = Buffer::new();
-    append_word(output, digits.format(number).as_bytes())
-}
-
-/// Appends a number and the end of a line.
-fn append_last_number(output: &mut Vec<u8>, number: u64) -> Result<(), AllocError>
-    ensures { OnOk result (output.new.items ≡ output.old.items ++ (decimal number ++ 10 ∷ [])) }
-{
-    let mut digits = Buffer::new();
-    output.extend_from_slice(digits.format(number).as_bytes())?;
-    output.push(b'\n')?;
-    Ok(())
-}
 
 /// Appends a position's line.
 fn append_line(

@@ -1,5 +1,6 @@
 //! Reports and acknowledgements whose bytes are known from outside. `|` stands for SOH.
 
+use crate::streams::wire;
 use crate::trade_capture_report::read_report;
 use crate::trade_capture_report_ack::{Rejection, TradeCaptureReportAck, TrdRptStatus, append_ack};
 use gu_book::EnterError;
@@ -8,15 +9,6 @@ use gu_terms::{Command, Day, FirmId, Id, Refusal, Side};
 use std::alloc::{AllocError, Global};
 use std::process::Abort;
 use std::test::Fail;
-
-/// The bytes of a text.
-fn wire(alloc: Global, text: &str) -> Result<Vec<u8>, AllocError> {
-    let mut bytes = Vec::new(alloc);
-    for byte in text.bytes() {
-        bytes.push(if byte == b'|' { 1 } else { byte })?;
-    }
-    Ok(bytes)
-}
 
 /// Whether the bytes are those of a text.
 fn is_wire(bytes: &[u8], text: &str) -> bool {

@@ -1,14 +1,15 @@
 //! The sample: the reference and the day of a run without words.
 
-ghost use Rattle.std.specs.Prelude.{◌≡◌, IfOk};
+ghost use Rattle.std.specs.Prelude.{◌≡◌, Some, IfOk};
 ghost use Rattle.gu_ref.specs.File.{IsReadFrom};
+ghost use Rattle.giveup.specs.declared.sample.TheConstants.{ROWS};
 
 use gu_ref::{RefFault, Reference};
 use gu_terms::Day;
 use std::alloc::Global;
 
 /// Two executing firms with an account each, two carrying firms with three, and the agreements between them.
-const ROWS: &[u8] = b"FIRM,E1
+pub const ROWS: &[u8] = b"FIRM,E1
 FIRM,E2
 FIRM,C1
 FIRM,C2
@@ -28,7 +29,9 @@ AGREEMENT,P4,E2,A3
 ";
 
 /// The reference that the rows of the sample say.
-pub fn sample_reference(alloc: Global) -> Result<Reference, RefFault> {
+pub fn sample_reference(alloc: Global) -> Result<Reference, RefFault>
+    ensures { IfOk result (λ reference. IsReadFrom (Some ROWS.now) reference) }
+{
     Reference::read(alloc, ROWS)
 }
 

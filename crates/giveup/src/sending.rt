@@ -1,6 +1,6 @@
 //! Writing.
 
-ghost use Rattle.std.specs.Prelude.{OnOk, OnErr};
+ghost use Rattle.std.specs.Prelude.{◌≡◌, IfErr, OnOk, OnErr};
 ghost use Rattle.std.specs.Io.KnownBytes.{Appends};
 ghost use Rattle.giveup.specs.Serving.{WrotePart};
 
@@ -11,6 +11,7 @@ use std::io::Write;
 pub fn send<W: Write>(writer: &mut W, text: &[u8]) -> Result<(), EngineError>
     ensures ok { OnOk result (Appends (W.contents writer.old) (W.contents writer.new) text.now) }
     ensures err { OnErr result (WrotePart text.now (W.contents writer.old) (W.contents writer.new)) }
+    ensures fault { IfErr result (λ error. error ≡ EngineError.Write) }
 {
     let mut at = 0;
     'parts: while at < text.len() {

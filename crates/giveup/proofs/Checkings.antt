@@ -1,0 +1,16 @@
+-- What a check wrote.
+use Rattle.std.proofs.Common.{◌≡◌, ℕ, List, [], Option, Result, refl, inl, inr}
+use Rattle.gu_text.specs.Verdicts.{verdict_text}
+use Rattle.gu_view.specs.declared.error.CutFault.{CutFault}
+use Rattle.giveup.specs.Checking.{CheckedFront, IsVerdictOn}
+use Rattle.giveup.specs.Input.{ReadsAll, ReadsPart}
+use Rattle.giveup.specs.Serving.{WrotePart}
+use Rattle.giveup.proofs.Writing.{wrote_none}
+
+-- nothing was written
+pub checked_nothing : (i j o : Option (List ℕ)) → ReadsPart i j → CheckedFront i j o o
+checked_nothing i j o part = record { read = part.read; line = []; consumed = part.consumed; says = inl refl; wrote = wrote_none [] o }
+
+-- a front of the verdict's line was written
+pub checked_part : (i j o p : Option (List ℕ)) (read line : List ℕ) (answer : Result ℕ CutFault) → ReadsAll i j read → IsVerdictOn read answer → line ≡ verdict_text answer → WrotePart line o p → CheckedFront i j o p
+checked_part i j o p read line answer all on_sheet is part = record { read = read; line = line; consumed = all.consumed; says = inr (all.at_end, answer, on_sheet, is); wrote = part }

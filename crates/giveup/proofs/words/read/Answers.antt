@@ -1,0 +1,25 @@
+use Rattle.std.proofs.Common.{rules, ◌≡◌, ap, ◌∙◌, sym, map}
+use Rattle.std.proofs.lemmas.Result.{err_from_is_err_and}
+use Rattle.clap.specs.Words.{App, fault_of, takes, is_simple_and_free}
+use Rattle.giveup.specs.ProgramWords.{program, task_of_words}
+use Rattle.giveup.proofs.WordLemmas.{takes-name, takes-check, task_of_words-check}
+use Rattle.giveup.proofs.words.read.Goals as goal
+
+pub returns-in_err-matches-clause-capture : goal.returns-in_err-matches-clause-capture
+returns-in_err-matches-clause-capture g c name words =
+    let error = err_from_is_err_and c.from_residual-in_err-matches.result c.from_residual-in_err-matches.ensures.1 in
+    rw (error.1, error.2) (c.in_err-matches.ensures.passes (ap (λ (a : App). takes a (map g.S.AsStr.text c.args.words.now)) c.in_ok-program.ensures ∙ ap (takes program) words ∙ takes-name name))
+
+pub returns-in_err-matches-clause-check : goal.returns-in_err-matches-clause-check
+returns-in_err-matches-clause-check g c name words =
+    let error = err_from_is_err_and c.from_residual-in_err-matches.result c.from_residual-in_err-matches.ensures.1 in
+    rw (error.1, error.2) (c.in_err-matches.ensures.passes (ap (λ (a : App). takes a (map g.S.AsStr.text c.args.words.now)) c.in_ok-program.ensures ∙ ap (takes program) words ∙ takes-check name))
+
+pub returns-clause-refused : goal.returns-clause-refused
+returns-clause-refused g c =
+    ap (λ (a : App). fault_of a (map g.S.AsStr.text c.args.words.now)) (sym c.in_ok-program.ensures) ∙ c.in_ok-matches.ensures.kinds (ap is_simple_and_free c.in_ok-program.ensures)
+
+pub returns-clause-check : goal.returns-clause-check
+returns-clause-check g c name words =
+    let task : c.task_of.result ≡ task_of_words (map g.S.AsStr.text c.args.words.now) = search rules in
+    task ∙ ap task_of_words words ∙ task_of_words-check name

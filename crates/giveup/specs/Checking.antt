@@ -1,0 +1,51 @@
+-- The check of a sweep sheet: the verdict on it as a line, or its first bad line.
+use Rattle.std.specs.Prelude.{◌≡◌, ℕ, ◌⊎◌, List, [], Option, Result}
+use Rattle.std.specs.Io.KnownBytes.{Consumes, Appends, Keeps, IsAtEnd}
+use Rattle.gu_text.specs.Sheets.{IsSheet, Refuses}
+use Rattle.gu_text.specs.Verdicts.{verdict_text}
+use Rattle.gu_text.specs.declared.error.SheetError.{SheetError}
+use Rattle.gu_text.specs.declared.error.SheetError.TheVariants as sheet_error
+use Rattle.gu_text.specs.declared.sheet.Sheet.{Sheet}
+use Rattle.gu_view.specs.Check.{verdict}
+use Rattle.gu_view.specs.declared.error.CutFault.{CutFault}
+use Rattle.giveup.specs.Input.{ReadsAll}
+use Rattle.giveup.specs.Serving.{WrotePart}
+use Rattle.giveup.specs.declared.error.EngineError.{EngineError}
+use Rattle.giveup.specs.declared.error.EngineError.TheVariants.{Memory, BadLine}
+
+-- why the engine stops where a text is no sheet
+abbrev pub error_of : SheetError → EngineError
+error_of sheet_error.Memory = Memory
+error_of (sheet_error.BadLine number) = BadLine number
+
+-- a text is a sheet, and this is the verdict on its takes and its cut
+pub record IsVerdictOn (text : List ℕ) (answer : Result ℕ CutFault) : Type 0 where
+  pub sheet : Sheet
+  pub is_sheet : IsSheet text sheet
+  pub is_verdict : answer ≡ verdict sheet.view sheet.takes sheet.cut
+
+-- all that the reader had is a sheet, this is the verdict on it, and the verdict's line was written
+pub record Checked (answer : Result ℕ CutFault) (input_old input_new output_old output_new : Option (List ℕ)) : Type 0 where
+  pub read : List ℕ
+  pub all : ReadsAll input_old input_new read
+  pub on_sheet : IsVerdictOn read answer
+  pub appended : Appends output_old output_new (verdict_text answer)
+
+-- all that the reader had is no sheet, because of this line, and nothing was written
+pub record HasBadLine (number : ℕ) (input_old input_new output_old output_new : Option (List ℕ)) : Type 0 where
+  pub read : List ℕ
+  pub all : ReadsAll input_old input_new read
+  pub refused : Refuses read (sheet_error.BadLine number)
+  pub nothing : Keeps output_old output_new
+
+-- a line says nothing, or it is the line of the verdict on what was read, where this is all that the reader had
+abbrev pub MaySay : List ℕ → Option (List ℕ) → List ℕ → Type 0
+MaySay read input line = (line ≡ []) ⊎ (IsAtEnd input × (answer : Result ℕ CutFault) × IsVerdictOn read answer × (line ≡ verdict_text answer))
+
+-- what was written is a front of such a line
+pub record CheckedFront (input_old input_new output_old output_new : Option (List ℕ)) : Type 0 where
+  pub read : List ℕ
+  pub line : List ℕ
+  pub consumed : Consumes input_old input_new read
+  pub says : MaySay read input_new line
+  pub wrote : WrotePart line output_old output_new
