@@ -1,23 +1,19 @@
 -- One entry more.
-use Rattle.std.proofs.Common.{◌≡◌, ℕ, suc, zero, ◌+◌, ◌<◌, List, [], ◌∷◌, ◌++◌, length, take, Option, Some, None, refl, sym, ap, subst, ◌∙◌, arith, length-append, append_assoc, append-nil, get_or}
+use Rattle.std.proofs.Common.{◌≡◌, ℕ, ◌+◌, ◌<◌, List, [], ◌∷◌, ◌++◌, length, take, Option, Some, None, refl, sym, ap, ◌∙◌, arith, length-append, append_assoc, append-nil, get_or}
 use Rattle.std.specs.List.{filter_map, last_or}
 use Rattle.std.specs.Option.{option_to_list}
-use Rattle.std.specs.Prelude.{slice_get}
 use Rattle.std.proofs.lemmas.List.{take_more}
 use Rattle.std.proofs.lemmas.List.Elements.{filter_map-append}
+use Rattle.gu_terms.proofs.Gathered.{last_or-last, push_each}
 use Rattle.gu_terms.specs.declared.entry.Entry.{Entry}
 use Rattle.gu_terms.specs.declared.report.Report.{Report}
 use Rattle.gu_book.specs.Legal.{IsLegal, MayFollow, StandsLast}
 use Rattle.gu_book.specs.Reports.{open_day, report_on, reports_after, reports_of}
 use Rattle.gu_ref.specs.Tables.{Tables}
 
-last_or-push : {X : Type 0} (o : Option X) (xs : List X) (y : X) → last_or o (xs ++ y ∷ []) ≡ Some y
-last_or-push o [] y = refl
-last_or-push o (x ∷ xs) y = last_or-push (Some x) xs y
-
 -- what one more item gives is the last that is given
 pub last-given : {X Y : Type 0} (given : X → Option Y) (before : List X) (item : X) (value : Y) → given item ≡ Some value → last_or None (filter_map given (before ++ item ∷ [])) ≡ Some value
-last-given given before item value e = ap (last_or None) (filter_map-append given before (item ∷ [])) ∙ rw e (last_or-push None (filter_map given before) value)
+last-given given before item value e = ap (last_or None) (filter_map-append given before (item ∷ [])) ∙ rw e (last_or-last None (filter_map given before) value)
 
 -- and where it gives nothing, the last stays
 pub last-kept : {X Y : Type 0} (given : X → Option Y) (before : List X) (item : X) → given item ≡ None → last_or None (filter_map given (before ++ item ∷ [])) ≡ last_or None (filter_map given before)
@@ -44,14 +40,6 @@ take-next history i {entry} within is = take_more history i entry within ∙ ap 
 pub reports_of-next : (history : List Entry) (i : ℕ) {entry : Entry} → i < length history → entry ≡ get_or history i entry
     → reports_of (take (i + 1) history) ≡ reports_of (take i history) ++ option_to_list (report_on (open_day (take i history)) entry)
 reports_of-next history i {entry} within is = ap reports_of (take-next history i within is) ∙ reports_of-push (take i history) entry
-
--- what holds of each item and those before it still holds with one item more
-push_each : {X : Type 0} (P : List X → X → Type 0) (xs : List X) (y : X) → ((k : ℕ) (x : X) → slice_get xs k ≡ Some x → P (take k xs) x) → P xs y
-    → (k : ℕ) (x : X) → slice_get (xs ++ y ∷ []) k ≡ Some x → P (take k (xs ++ y ∷ [])) x
-push_each P [] y all last zero x at = let same : y ≡ x = cc in subst (P []) same last
-push_each P [] y all last (suc k) x at = cc
-push_each P (z ∷ zs) y all last zero x at = all zero x at
-push_each P (z ∷ zs) y all last (suc k) x at = push_each (λ before. P (z ∷ before)) zs y (λ j w h. all (suc j) w h) last k x at
 
 -- a legal history grows by an entry that may follow it
 pub legal_push : (reference : Tables) (history : List Entry) (entry : Entry) → IsLegal reference history → length history < 1000000 → MayFollow reference history entry → IsLegal reference (history ++ entry ∷ [])

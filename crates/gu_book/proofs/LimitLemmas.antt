@@ -1,6 +1,6 @@
 -- Limits as they stand.
 use Rattle.std.proofs.Common.{◌≡◌, ℕ, ◌+◌, ◌-◌, ◌<◌, Bool, cond, List, [], ◌∷◌, ◌++◌, Option, Some, None, inl, inr, length, take, get_or, sum_by, refl, sym, ap, ◌∙◌, arith, rules}
-use Rattle.std.specs.List.{filter_map, cons_option}
+use Rattle.std.specs.List.{filter_map}
 use Rattle.std.specs.Option.{option_map, option_to_list}
 use Rattle.std.proofs.lemmas.Bool.{cases_Bool}
 use Rattle.std.proofs.lemmas.List.{take_more}
@@ -11,7 +11,7 @@ use Rattle.gu_terms.specs.declared.group.Group.{Group}
 use Rattle.gu_terms.specs.declared.limit_key.LimitKey.{LimitKey}
 use Rattle.gu_terms.specs.declared.limit_row.LimitRow.{LimitRow}
 use Rattle.gu_terms.specs.LimitKeys.{key_eq}
-use Rattle.gu_terms.specs.contracts.limit_key.LimitKeyPartialEq.TheImpl as limit_key
+use Rattle.gu_terms.proofs.Gathered.{filter_map-last}
 use Rattle.gu_book.specs.Limits.{entries_today, limit_set, limit_set_by, limit_row, taken_under, use_of}
 use Rattle.gu_book.specs.SetLimits.{HasLimits, SetsFor, unused_row}
 use Rattle.gu_book.proofs.Growing.{last-given, last-kept}
@@ -36,17 +36,12 @@ limit_row-unset history group key e =
     let row : ℕ → ℕ → LimitRow = λ used most. record { key = key; limit = most; used = used; room = most - used } in
     ap (option_map (row (use_of history group key))) e
 
-one_given : {Y : Type 0} (o : Option Y) → cons_option o [] ≡ option_to_list o
-one_given (Some y) = refl
-one_given None = refl
-
 -- what the next item gives
 pub filter_map_next : {X Y : Type 0} (given : X → Option Y) (items : List X) (i : ℕ) (item : X) → i < length items → item ≡ get_or items i item
     → filter_map given (take (i + 1) items) ≡ filter_map given (take i items) ++ option_to_list (given item)
 filter_map_next {X} given items i item within is =
     ap (filter_map given) (take_more items i item within ∙ ap (λ (x : X). take i items ++ x ∷ []) (sym is))
-    ∙ filter_map-append given (take i items) (item ∷ [])
-    ∙ ap (λ ys. filter_map given (take i items) ++ ys) (one_given (given item))
+    ∙ filter_map-last given (take i items) item
 
 -- what four lists give, one after another
 pub filter_map_four : {X Y : Type 0} (given : X → Option Y) (a b c d : List X) → filter_map given (a ++ b ++ c ++ d) ≡ filter_map given a ++ filter_map given b ++ filter_map given c ++ filter_map given d
@@ -54,13 +49,6 @@ filter_map_four {Y = Y} given a b c d =
     filter_map-append given (a ++ b ++ c) d
     ∙ ap (λ (ys : List Y). ys ++ filter_map given d) (filter_map-append given (a ++ b) c)
     ∙ ap (λ (ys : List Y). ys ++ filter_map given c ++ filter_map given d) (filter_map-append given a b)
-
--- the `==` of keys, by which a map finds them
-abbrev pub eq : LimitKey → LimitKey → Bool
-eq = limit_key.eq-value.it
-
-pub eq_is : (a b : LimitKey) → eq a b ≡ key_eq a b
-eq_is a b = search rules
 
 -- an entry that sets nothing leaves the limits
 pub limits_kept : (limits : LimitKey → Option ℕ) (before : List Entry) (entry : Entry) (group : Group) → ((key : LimitKey) → limit_set_by group key entry ≡ None) → HasLimits limits before group

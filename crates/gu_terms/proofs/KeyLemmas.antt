@@ -1,7 +1,8 @@
 -- The test of keys is equality.
-use Rattle.std.proofs.Common.{◌≡◌, true, refl, ap, sym, inl, inr, ◌∙◌}
+use Rattle.std.proofs.Common.{◌≡◌, Bool, true, refl, ap, sym, inl, inr, ◌∙◌, rules}
 use Rattle.std.proofs.lemmas.Bool.{cases_Bool, false_from_ne_true}
 use Rattle.std.proofs.lemmas.Slice.Eq.{bytes_eq-Decides}
+use Rattle.gu_terms.specs.contracts.limit_key.LimitKeyPartialEq.TheImpl as limit_key
 use Rattle.gu_terms.specs.declared.limit_key.LimitKey.{LimitKey}
 use Rattle.gu_terms.specs.declared.limit_key.LimitKey.TheVariants.{Exec, Agr, Acct, Carry}
 use Rattle.gu_terms.specs.LimitKeys.{key_eq}
@@ -32,3 +33,11 @@ key_eq-sym a b =
       | inl hit ↦ hit ∙ sym (key_eq-from b a (sym (key_eq-same a b hit)))
       | inr miss ↦ miss ∙ sym (false_from_ne_true (key_eq b a) (λ hit. let both = key_eq-from a b (sym (key_eq-same b a hit)) in cc))
     ]
+
+-- the `==` of keys, by which sets and maps find them
+abbrev pub eq : LimitKey → LimitKey → Bool
+eq = limit_key.eq-value.it
+
+-- is that test
+pub eq_is : (a b : LimitKey) → eq a b ≡ key_eq a b
+eq_is a b = search rules

@@ -1,4 +1,5 @@
 pub mod FirstPlaces
+pub mod Gathered
 pub mod KeyLemmas
 pub mod LastTake
 pub mod NameTests

@@ -1,8 +1,6 @@
 -- Places in a list that grows at its end.
 use Rattle.std.proofs.Common.{◌≡◌, ◌<◌, ◌≤◌, ◌+◌, ◌⊎◌, ◌++◌, ◌∷◌, [], ◌∙◌, ℕ, List, Option, None, Some, zero, suc, length, take, drop, slice_get, refl, ap, sym, inl, inr, arith, add-one}
-use Rattle.std.specs.List.{last_or}
 use Rattle.std.proofs.lemmas.List.{take_all, drop_all}
-use Rattle.std.specs.Option.{option_or, option_to_list}
 
 -- no elements
 pub nil_from_length : {X : Type 0} (xs : List X) → length xs ≡ 0 → xs ≡ []
@@ -22,11 +20,6 @@ at_either (z ∷ xs) ys (suc place) y h =
       | inl first ↦ inl (first.0, omega (arith, first.1))
       | inr second ↦ inr (second.0, second.1, omega (arith, second.2))
     ]
-
--- one element stands at the first place alone
-pub only_place : {X : Type 0} (x : X) (k : ℕ) (y : X) → slice_get (x ∷ []) k ≡ Some y → (k ≡ 0) × (x ≡ y)
-only_place x zero y h = (refl, one_thing x y h)
-only_place x (suc k) y h = cc
 
 -- what is taken of the first of two lists
 pub take-append : {X : Type 0} (xs ys : List X) (n : ℕ) → n ≤ length xs → take n (xs ++ ys) ≡ take n xs
@@ -75,14 +68,3 @@ taken_suc (z ∷ xs) (suc n) x h = ap (λ zs. z ∷ zs) (taken_suc xs n x h)
 -- what is taken up to an element, with it
 pub taken_at : {X : Type 0} (xs : List X) (n : ℕ) (x : X) → slice_get xs n ≡ Some x → take (n + 1) xs ≡ take n xs ++ x ∷ []
 taken_at xs n x h = rw (add-one n) (taken_suc xs n x h)
-
--- the last of a longer list
-pub last_or-last : {X : Type 0} (o : Option X) (xs : List X) (x : X) → last_or o (xs ++ x ∷ []) ≡ Some x
-last_or-last o [] x = refl
-last_or-last o (z ∷ xs) x = last_or-last (Some z) xs x
-
--- the last, where one more may have come
-pub last_or-given : {X : Type 0} (o : Option X) (xs : List X) (given : Option X) → last_or o (xs ++ option_to_list given) ≡ option_or given (last_or o xs)
-last_or-given o xs (Some x) = last_or-last o xs x
-last_or-given o [] None = refl
-last_or-given o (z ∷ xs) None = last_or-given (Some z) xs None

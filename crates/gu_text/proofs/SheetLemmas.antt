@@ -6,6 +6,7 @@ use Rattle.std.specs.Str.Lines.{lines}
 use Rattle.std.proofs.lemmas.Bool.{cond-true}
 use Rattle.std.proofs.lemmas.List.{append-nil, map-append, length-drop, take_all, take-append-drop}
 use Rattle.std.proofs.lemmas.List.Elements.{filter_map-append}
+use Rattle.gu_terms.proofs.Gathered.{filter_map-last, last_or-given, last_or-last, push_each}
 use Rattle.gu_view.specs.Making.{MakesView, view_of}
 use Rattle.gu_text.specs.Lines.{is_silent}
 use Rattle.gu_text.specs.SheetLines.{says, spoken}
@@ -18,49 +19,30 @@ use Rattle.gu_text.specs.declared.sheet_line.Part.{Part}
 use Rattle.gu_text.specs.declared.sheet_line.Part.TheVariants as part
 use Rattle.gu_text.specs.declared.sheet_line.SheetLine.{SheetLine}
 use Rattle.gu_text.specs.declared.sheet_line.SheetLine.TheVariants as line
-use Rattle.gu_text.proofs.Places.{one_thing, at_either, only_place, take-append, take-add, taken_at, slice_get-drop, last_or-last, last_or-given}
-
-one_given : {Y : Type 0} (o : Option Y) → cons_option o [] ≡ option_to_list o
-one_given (Some y) = refl
-one_given None = refl
-
--- what one more line gives
-given-last : {Y : Type 0} (f : SheetLine → Option Y) (said : List SheetLine) (next : SheetLine) → filter_map f (said ++ next ∷ []) ≡ filter_map f said ++ option_to_list (f next)
-given-last f said next = filter_map-append f said (next ∷ []) ∙ ap (λ ys. filter_map f said ++ ys) (one_given (f next))
+use Rattle.gu_text.proofs.Places.{one_thing, at_either, take-append, take-add, taken_at, slice_get-drop}
 
 -- the parts with one more line
 pub parts_of-last : (said : List SheetLine) (next : SheetLine) → parts_of (said ++ next ∷ []) ≡ with_line (parts_of said) next
 parts_of-last said next =
     let last : last_or None (map part_of (said ++ next ∷ [])) ≡ Some (part_of next) = ap (last_or None) (map-append part_of said (next ∷ [])) ∙ last_or-last None (map part_of said) (part_of next) in
-    let header : last_or None (filter_map header_in (said ++ next ∷ [])) ≡ option_or (header_in next) (last_or None (filter_map header_in said)) = ap (last_or None) (given-last header_in said next) ∙ last_or-given None (filter_map header_in said) (header_in next) in
-    rw (last, header, given-last offer_in said next, given-last room_in said next, given-last take_in said next, given-last key_in said next, given-last number_in said next) refl
+    let header : last_or None (filter_map header_in (said ++ next ∷ [])) ≡ option_or (header_in next) (last_or None (filter_map header_in said)) = ap (last_or None) (filter_map-last header_in said next) ∙ last_or-given None (filter_map header_in said) (header_in next) in
+    rw (last, header, filter_map-last offer_in said next, filter_map-last room_in said next, filter_map-last take_in said next, filter_map-last key_in said next, filter_map-last number_in said next) refl
 
-with_said : (said : List SheetLine) (o : Option SheetLine) → parts_of (said ++ cons_option o []) ≡ option_map_or (with_line (parts_of said)) o (parts_of said)
+with_said : (said : List SheetLine) (o : Option SheetLine) → parts_of (said ++ option_to_list o) ≡ option_map_or (with_line (parts_of said)) o (parts_of said)
 with_said said (Some next) = parts_of-last said next
 with_said said None = ap parts_of (append-nil said)
 
 -- the parts with one more line of the text
 pub parts_of-said : (before : List (List ℕ)) (text : List ℕ) → parts_of (said_in (before ++ text ∷ [])) ≡ with_text_line (parts_of (said_in before)) text
-parts_of-said before text = ap parts_of (filter_map-append says before (text ∷ [])) ∙ with_said (said_in before) (says text)
+parts_of-said before text = ap parts_of (filter_map-last says before text) ∙ with_said (said_in before) (says text)
 
 -- lines that are right, and one more
 pub right_last : (before : List (List ℕ)) (text : List ℕ) → AreRight before → IsRightBehind (said_in before) text → AreRight (before ++ text ∷ [])
-right_last before text right last place other at =
-    elim (at_either before (text ∷ []) place other at) [
-      | inl inside ↦ rw (take-append before (text ∷ []) place (omega (arith, inside.1))) (right place other inside.0)
-      | inr end ↦
-          let here = only_place text end.0 other end.1 in
-          let place_is : place ≡ length before = omega (arith, here.0, end.2) in
-          rw (place_is, take-append before (text ∷ []) (length before) (omega arith), take_all (length before) before (omega arith), ← here.1) last
-    ]
+right_last before text right last = push_each (λ ls line. IsRightBehind (said_in ls) line) before text right last
 
 -- silent lines, and one more
 pub silent_last : (before : List (List ℕ)) (text : List ℕ) → AreSilent before → is_silent text ≡ true → AreSilent (before ++ text ∷ [])
-silent_last before text silent last place other at =
-    elim (at_either before (text ∷ []) place other at) [
-      | inl inside ↦ silent place other inside.0
-      | inr end ↦ rw (← (only_place text end.0 other end.1).1) last
-    ]
+silent_last before text silent last = push_each (λ ls line. is_silent line ≡ true) before text silent last
 
 is_end-part : (next : SheetLine) → is_end (Some (part_of next)) ≡ false → next ≢ line.End
 is_end-part next h e = let ended : is_end (Some (part_of next)) ≡ true = rw e refl in cc

@@ -1,21 +1,13 @@
--- The `==` of keys and agreements, by which sets and maps find them.
+-- The `==` of keys and agreements, by which sets find them.
 use Rattle.std.proofs.Common.{◌≡◌, Bool, List, ◌∙◌, rules}
 use Rattle.std.specs.List.{list_any}
 use Rattle.gu_terms.specs.LimitKeys.{key_eq, has_key}
 use Rattle.gu_terms.specs.contracts.agreement.AgreementIdPartialEq.TheImpl as agreement
-use Rattle.gu_terms.specs.contracts.limit_key.LimitKeyPartialEq.TheImpl as limit_key
 use Rattle.gu_terms.specs.declared.agreement.AgreementId.{AgreementId}
 use Rattle.gu_terms.specs.declared.limit_key.LimitKey.{LimitKey}
 use Rattle.gu_terms.specs.declared.limit_key.LimitKey.TheVariants.{Agr}
-use Rattle.gu_terms.proofs.KeyLemmas.{key_eq-sym}
+use Rattle.gu_terms.proofs.KeyLemmas.{eq, eq_is, key_eq-sym}
 use Rattle.gu_view.proofs.ListLemmas.{list_any-agree}
-
--- the `==` of keys
-abbrev pub eq : LimitKey → LimitKey → Bool
-eq = limit_key.eq-value.it
-
-pub eq_is : (a b : LimitKey) → eq a b ≡ key_eq a b
-eq_is a b = search rules
 
 -- a set of keys has this one
 pub has_key-eq : (keys : List LimitKey) (k : LimitKey) → list_any (eq k) keys ≡ has_key keys k

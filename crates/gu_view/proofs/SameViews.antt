@@ -6,13 +6,12 @@ use Rattle.std.specs.Str.{bytes_eq}
 use Rattle.std.proofs.lemmas.Bool.Decides.{Decides-and, Decides-eqb}
 use Rattle.std.proofs.lemmas.Slice.Eq.{bytes_eq-Decides, slice_eq-Decides}
 use Rattle.gu_terms.specs.declared.limit_key.LimitKey.{LimitKey}
-use Rattle.gu_terms.proofs.KeyLemmas.{key_eq-same, key_eq-from}
+use Rattle.gu_terms.proofs.KeyLemmas.{eq, eq_is, key_eq-same, key_eq-from}
 use Rattle.gu_view.specs.contracts.view.OfferPartialEq.TheImpl as offer
 use Rattle.gu_view.specs.contracts.view.RoomPartialEq.TheImpl as room
 use Rattle.gu_view.specs.declared.view.Offer.{Offer}
 use Rattle.gu_view.specs.declared.view.Room.{Room}
 use Rattle.gu_view.specs.View.{GroupView}
-use Rattle.gu_view.proofs.DerivedEq.{eq, eq_is}
 
 -- the `==` of offers, and that of rooms
 abbrev pub offer_eq : Offer → Offer → Bool

@@ -4,7 +4,8 @@ use Rattle.std.specs.Option.{option_to_list}
 use Rattle.indexmap.specs.IndexMap.{get}
 use Rattle.gu_terms.specs.declared.limit_row.LimitRow.{LimitRow}
 use Rattle.gu_book.specs.SetLimits.{unused_row}
-use Rattle.gu_book.proofs.LimitLemmas.{eq, filter_map_next}
+use Rattle.gu_terms.proofs.KeyLemmas.{eq}
+use Rattle.gu_book.proofs.LimitLemmas.{filter_map_next}
 use Rattle.gu_book.proofs.limits.append_rows.Goals as goal
 
 pub loop-key-preserved : goal.loop-key-preserved

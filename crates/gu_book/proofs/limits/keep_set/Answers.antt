@@ -1,6 +1,7 @@
 use Rattle.std.proofs.Common.{Some, Bool, cond, ap, ◌∙◌}
 use Rattle.indexmap.specs.IndexMap.{get}
-use Rattle.gu_book.proofs.LimitLemmas.{eq, eq_is, limits_kept, limits_more}
+use Rattle.gu_terms.proofs.KeyLemmas.{eq, eq_is}
+use Rattle.gu_book.proofs.LimitLemmas.{limits_kept, limits_more}
 use Rattle.gu_book.proofs.limits.keep_set.Goals as goal
 
 pub returns-in_ok-insert : goal.returns-in_ok-insert

@@ -2,7 +2,8 @@ use Rattle.std.proofs.Common.{◌∙◌}
 use Rattle.std.proofs.lemmas.Result.{IfOk-weaker}
 use Rattle.indexmap.specs.IndexMap.{get}
 use Rattle.gu_book.specs.Limits.{keys_in_order}
-use Rattle.gu_book.proofs.LimitLemmas.{eq, unused_rows}
+use Rattle.gu_terms.proofs.KeyLemmas.{eq}
+use Rattle.gu_book.proofs.LimitLemmas.{unused_rows}
 use Rattle.gu_book.proofs.limits.limit_rows.Goals as goal
 
 pub returns : goal.returns

@@ -1,7 +1,8 @@
 use Rattle.std.proofs.Common.{arith, ◌∙◌, sym, ap, Some, cond}
 use Rattle.indexmap.specs.IndexMap.{get}
 use Rattle.gu_terms.specs.LimitKeys.{key_eq}
-use Rattle.gu_view.proofs.DerivedEq.{eq, eq_is, has_key-eq}
+use Rattle.gu_terms.proofs.KeyLemmas.{eq, eq_is}
+use Rattle.gu_view.proofs.DerivedEq.{has_key-eq}
 use Rattle.gu_view.proofs.MakingLemmas.{needless, given_twice, given_more, lookup-agree, some_value, no_value}
 use Rattle.gu_view.proofs.making.given.Goals as goal
 

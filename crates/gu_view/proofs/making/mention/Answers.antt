@@ -1,5 +1,5 @@
 use Rattle.std.proofs.Common.{arith, ◌∙◌, ap, length}
-use Rattle.gu_view.proofs.DerivedEq.{eq, eq_is}
+use Rattle.gu_terms.proofs.KeyLemmas.{eq, eq_is}
 use Rattle.gu_view.proofs.MakingLemmas.{mention_more, mention_length}
 use Rattle.gu_view.proofs.making.mention.Goals as goal
 

@@ -2,7 +2,8 @@ use Rattle.std.proofs.Common.{◌≡◌, ◌∙◌, sym, ap, Some, cond}
 use Rattle.indexmap.specs.IndexMap.{get}
 use Rattle.std.proofs.lemmas.Bool.{or_left, or_right, not_from_false, not-false, not-true}
 use Rattle.gu_view.specs.declared.view.Offer.{Offer}
-use Rattle.gu_view.proofs.DerivedEq.{eq, eq_is, same, same_is}
+use Rattle.gu_terms.proofs.KeyLemmas.{eq, eq_is}
+use Rattle.gu_view.proofs.DerivedEq.{same, same_is}
 use Rattle.gu_terms.specs.LimitKeys.{key_eq}
 use Rattle.gu_view.proofs.ListLemmas.{found_here}
 use Rattle.gu_view.proofs.MakingLemmas.{agreement_eq, is_odd, odd_known, seen_known, seen_new, lookup-agree, path_eq-same, pointwise-agree}

@@ -1,5 +1,6 @@
 use Rattle.std.proofs.Common.{◌∙◌, sym}
-use Rattle.gu_view.proofs.DerivedEq.{eq, eq_is, has_key-eq}
+use Rattle.gu_terms.proofs.KeyLemmas.{eq, eq_is}
+use Rattle.gu_view.proofs.DerivedEq.{has_key-eq}
 use Rattle.gu_view.proofs.MakingLemmas.{place_found_among, places_more}
 use Rattle.gu_view.proofs.making.places_among.Goals as goal
 
