@@ -30,18 +30,24 @@ fn key(kind: &str, name: &str) -> Option<LimitKey> {
     }
 }
 
-/// The offer of a line.
-fn offer(line: &OfferLine) -> Option<Offer> {
-    let (number, lots, under, executing, into, carrying) = *line;
+/// The path of an offer.
+fn path(under: &str, executing: &str, into: &str, carrying: &str) -> Option<Path> {
     let agreement = AgreementId::new(under.as_bytes())?;
     let executing = FirmId::new(executing.as_bytes())?;
     let account = AccountId::new(into.as_bytes())?;
     let carrying = FirmId::new(carrying.as_bytes())?;
+    Some(Path::new(executing, agreement, account, carrying))
+}
+
+/// The offer of a line.
+fn offer(line: &OfferLine) -> Option<Offer> {
+    let (number, lots, under, executing, into, carrying) = *line;
+    let path = path(under, executing, into, carrying)?;
     Some(Offer {
         number: OfferNo::new(number)?,
         lots,
-        agreement,
-        path: Path::new(executing, agreement, account, carrying),
+        agreement: AgreementId::new(under.as_bytes())?,
+        path,
     })
 }
 
@@ -74,21 +80,21 @@ fn view_of(alloc: Global, offers: &[OfferLine], rooms: &[RoomLine]) -> Result<Vi
     View::new(alloc, group, 6, made, keyed)
 }
 
-/// The proposal for a nested view. It is checked.
+/// The proposal for a nested view, or nothing where a growth is refused. It is checked.
 fn proposal(
     rt: &impl Abort,
     alloc: Global,
     offers: &[OfferLine],
     rooms: &[RoomLine],
-) -> Result<Proposal, Fail> {
-    let view = view_of(alloc, offers, rooms)?;
+) -> Option<Proposal> {
+    let view = view_of(alloc, offers, rooms).ok()?;
     assert!(rt; view.nested());
-    let proposal = propose(alloc, view).map_err(|refused| refused.0)?;
+    let proposal = propose(alloc, view).ok()?;
     assert_eq!(rt;
         check(proposal.view(), proposal.takes(), proposal.cut()),
         Ok(proposal.lots())
     );
-    Ok(proposal)
+    Some(proposal)
 }
 
 mod memory;

@@ -119,34 +119,66 @@ CUT EXEC E1
 END
 ";
 
-#[test]
-fn takes_are_kept_in_the_order_of_offers(rt: HostRuntime) -> Result<(), Fail> {
-    let sheet = Sheet::read(rt.alloc(), SHEET.as_bytes())?;
+/// Whether the takes stand in the order of offers.
+fn takes_ascend(sheet: &Sheet) -> bool {
     let taken = sheet.takes.as_slice();
-    assert_eq!(rt; taken.len(), 2);
-    assert_eq!(rt; (taken[0].offer.get(), taken[0].lots), (1, 5));
-    assert_eq!(rt; (taken[1].offer.get(), taken[1].lots), (2, 2));
-    Ok(())
+    let expected = [(1, 5), (2, 2)];
+    taken.len() == 2
+        && taken.iter().zip(expected).all(|(take, (offer, lots))| {
+            take.offer.get() == offer && take.lots == lots
+        })
 }
 
-#[test]
-fn rooms_are_kept_in_the_order_of_the_paths(rt: HostRuntime) -> Result<(), Fail> {
-    let sheet = Sheet::read(rt.alloc(), SHEET.as_bytes())?;
+/// Whether the rooms stand in the order of the paths.
+fn rooms_follow_the_paths(sheet: &Sheet) -> bool {
     let rooms = sheet.view.rooms();
-    assert_eq!(rt; rooms.len(), 4);
-    for (room, kind) in rooms.iter().zip(["EXEC", "AGR", "ACCT", "CARRY"]) {
-        assert_eq!(rt; room.key.kind(), kind);
-    }
-    Ok(())
+    let kinds = ["EXEC", "AGR", "ACCT", "CARRY"];
+    rooms.len() == 4
+        && rooms
+            .iter()
+            .zip(kinds)
+            .all(|(room, kind)| room.key.kind() == kind)
+}
+
+/// Whether the keys of the cut stand in the order of their lines.
+fn cut_keys_stand_as_read(sheet: &Sheet) -> bool {
+    let keys = sheet.cut.keys();
+    keys.len() == 2
+        && keys
+            .iter()
+            .zip(["AGR", "EXEC"])
+            .all(|(key, kind)| key.kind() == kind)
 }
 
 #[test]
-fn members_of_a_cut_are_kept_in_the_order_of_their_lines(rt: HostRuntime) -> Result<(), Fail> {
+fn lines_may_stand_in_any_order_inside_their_parts(rt: HostRuntime) -> Result<(), Fail> {
     let sheet = Sheet::read(rt.alloc(), SHEET.as_bytes())?;
-    let keys = sheet.cut.keys();
-    assert_eq!(rt; keys.len(), 2);
-    for (key, kind) in keys.iter().zip(["AGR", "EXEC"]) {
-        assert_eq!(rt; key.kind(), kind);
+    assert!(rt; takes_ascend(&sheet));
+    assert!(rt; rooms_follow_the_paths(&sheet));
+    assert!(rt; cut_keys_stand_as_read(&sheet));
+    Ok(())
+}
+
+/// The lots that the sheet takes.
+fn lots_taken(alloc: Global) -> Result<u64, SheetError> {
+    let sheet = Sheet::read(alloc, SHEET.as_bytes())?;
+    let mut lots = 0u64;
+    for take in sheet.takes.as_slice() {
+        lots = lots.saturating_add(take.lots);
     }
+    Ok(lots)
+}
+
+/// Run with each allocation failing in turn: a sheet that is refused for want of memory is read again.
+#[test]
+fn a_refused_sheet_is_read_again(rt: HostRuntime) -> Result<(), Fail> {
+    let lots = match lots_taken(rt.alloc()) {
+        Ok(lots) => lots,
+        Err(refused) => {
+            assert_eq!(rt; refused, SheetError::Memory);
+            lots_taken(rt.alloc())?
+        }
+    };
+    assert_eq!(rt; lots, 7);
     Ok(())
 }

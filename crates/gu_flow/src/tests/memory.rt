@@ -13,26 +13,40 @@ const ROOMS: [RoomLine; 4] = [
     ("CARRY", "C1", 100),
 ];
 
-#[test]
-fn a_refused_view_is_proposed_again(rt: HostRuntime) -> Result<(), Fail> {
-    let view = match view_of(rt.alloc(), &OFFERS, &ROOMS) {
-        Ok(view) => view,
-        Err(_) => view_of(rt.alloc(), &OFFERS, &ROOMS)?,
-    };
+/// The view, made again where a growth was refused.
+fn viewed(alloc: Global) -> Option<View> {
+    match view_of(alloc, &OFFERS, &ROOMS) {
+        Ok(view) => Some(view),
+        Err(_) => view_of(alloc, &OFFERS, &ROOMS).ok(),
+    }
+}
+
+/// The proposal for a nested view, made again for the view that is handed back where a growth was refused.
+fn proposed(rt: &impl Abort, alloc: Global, view: View) -> Option<Proposal> {
     assert!(rt; view.nested());
-    let proposal = match propose(rt.alloc(), view) {
-        Ok(proposal) => proposal,
+    match propose(alloc, view) {
+        Ok(proposal) => Some(proposal),
         Err((_, view)) => {
             assert_eq!(rt; view.offers().len(), 2);
             assert_eq!(rt; view.rooms().len(), 4);
-            propose(rt.alloc(), view).map_err(|refused| refused.0)?
+            propose(alloc, view).ok()
         }
-    };
+    }
+}
+
+/// The lots of a copy, made again where a growth was refused.
+fn lots_of_copy(proposal: &Proposal) -> Option<u64> {
+    match proposal.copy() {
+        Ok(copy) => Some(copy.lots()),
+        Err(_) => Some(proposal.copy().ok()?.lots()),
+    }
+}
+
+#[test]
+fn a_refused_view_is_proposed_again(rt: HostRuntime) -> Result<(), Fail> {
+    let view = viewed(rt.alloc()).ok_or("a view")?;
+    let proposal = proposed(&rt, rt.alloc(), view).ok_or("a proposal")?;
     assert_eq!(rt; proposal.lots(), 7);
-    let copy = match proposal.copy() {
-        Ok(copy) => copy,
-        Err(_) => proposal.copy()?,
-    };
-    assert_eq!(rt; copy.lots(), 7);
+    assert_eq!(rt; lots_of_copy(&proposal), Some(7));
     Ok(())
 }
