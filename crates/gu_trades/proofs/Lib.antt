@@ -1,0 +1,2 @@
+pub mod KeptReports
+pub mod OneMore

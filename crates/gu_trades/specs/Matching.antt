@@ -1,0 +1,33 @@
+-- How the reports with one match id make a trade.
+use Rattle.std.specs.Prelude.{◌==◌, ◌&&◌, Bool, true, false, not, nat_le, List, [], ◌∷◌, length}
+use Rattle.std.specs.Ordering.{int_eq}
+use Rattle.gu_terms.specs.declared.report.Report.{Report}
+use Rattle.gu_ref.specs.Same.{same_symbol}
+use Rattle.gu_trades.specs.declared.matching.Matching.{Matching}
+use Rattle.gu_trades.specs.declared.matching.Matching.TheVariants.{Opened, Matched}
+use Rattle.gu_trades.specs.Reports.{with_match}
+use Rattle.gu_trades.specs.Same.{same_day, same_side}
+
+-- a report is the other side of another: same instrument, lots, price and day, opposite side
+abbrev pub is_other_side : Report → Report → Bool
+is_other_side first second =
+    same_symbol first.symbol second.symbol && first.lots == second.lots && int_eq first.price second.price && same_day first.day second.day && not (same_side first.side second.side)
+
+-- the reports with a match id don't go with a new one: they are two, or one that isn't its other side
+abbrev pub conflicts : List Report → Report → Bool
+conflicts [] new = false
+conflicts (first ∷ []) new = not (is_other_side first new)
+conflicts (first ∷ second ∷ more) new = true
+
+-- what a new report does where these have its match id: it opens where there are none, and else it is matched
+abbrev pub matching_of : List Report → Matching
+matching_of [] = Opened
+matching_of (first ∷ more) = Matched
+
+-- two reports with one match id are a trade
+abbrev pub is_trade : List Report → Bool
+is_trade reports = nat_le 2 (length reports)
+
+-- a report is a side of a trade: its match id has two reports
+abbrev pub is_of_trade : List Report → Report → Bool
+is_of_trade reports r = is_trade (with_match r.match_id reports)

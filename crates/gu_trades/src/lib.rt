@@ -1,0 +1,12 @@
+//! Trades: the accepted reports of the house, found by their firms' ids and by their match ids.
+#![tactic(auto)]
+
+mod matching;
+mod sides;
+#[cfg(test)]
+mod tests;
+mod trades;
+
+pub use matching::Matching;
+pub use sides::Sides;
+pub use trades::Trades;

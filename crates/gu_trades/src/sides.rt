@@ -1,0 +1,72 @@
+//! The reports with one match id.
+
+ghost use Rattle.std.specs.Prelude.{◌≡◌, ◌++◌, ◌∷◌, [], false};
+ghost use Rattle.gu_trades.specs.Sides.{reports_in};
+ghost use Rattle.gu_trades.specs.Matching.{conflicts, is_other_side, is_trade, matching_of};
+
+use crate::matching::Matching;
+use gu_terms::Report;
+
+/// The reports with one match id, in the order in which they came.
+#[derive(Clone, Copy, Debug, PartialEq, Eq)]
+pub enum Sides {
+    /// Nobody has reported it.
+    Neither,
+    /// The first, which waits for its other side.
+    One(Report),
+    /// A trade.
+    Both(Report, Report),
+}
+
+/// Whether two reports are the two sides of one trade.
+fn is_other_side(first: &Report, second: &Report) -> bool
+    ensures { result ≡ is_other_side first.now second.now }
+{
+    first.symbol == second.symbol
+        && first.lots == second.lots
+        && first.price == second.price
+        && first.day == second.day
+        && first.side != second.side
+}
+
+impl Sides {
+    /// Whether a new report with this match id can't be taken in: there are two, or one that isn't its other side.
+    pub fn conflicts_with(&self, report: &Report) -> bool
+        ensures { result ≡ conflicts (reports_in self.now) report.now }
+    {
+        match self {
+            Sides::Neither => false,
+            Sides::One(first) => !is_other_side(first, report),
+            Sides::Both(..) => true,
+        }
+    }
+
+    /// Whether they are a trade.
+    pub fn is_trade(&self) -> bool
+        ensures { result ≡ is_trade (reports_in self.now) }
+    {
+        matches!(self, Sides::Both(..))
+    }
+
+    /// What one more report does.
+    pub(crate) fn matching(&self) -> Matching
+        ensures { result ≡ matching_of (reports_in self.now) }
+    {
+        match self {
+            Sides::Neither => Matching::Opened,
+            Sides::One(_) | Sides::Both(..) => Matching::Matched,
+        }
+    }
+
+    /// These, and a report that conflicts with none of them.
+    pub(crate) fn with(self, report: Report) -> Self
+        requires { conflicts (reports_in self) report ≡ false }
+        ensures { reports_in result ≡ reports_in self ++ report ∷ [] }
+    {
+        match self {
+            Sides::Neither => Sides::One(report),
+            Sides::One(first) => Sides::Both(first, report),
+            Sides::Both(..) => unreachable!(),
+        }
+    }
+}
