@@ -1,13 +1,11 @@
 -- The answer to a command: the first refusal that stands, or else what the command did.
-use Rattle.std.specs.Prelude.{ℕ, ◌==◌, ◌&&◌, Bool, true, false, not, nat_lt, List, [], ◌∷◌, length, Option, Some, None, is_none, is_some, if◌then◌else◌}
-use Rattle.std.specs.List.{list_any}
+use Rattle.std.specs.Prelude.{ℕ, ◌&&◌, Bool, true, false, not, nat_lt, List, [], ◌∷◌, Option, Some, None, is_none, is_some, if◌then◌else◌}
 use Rattle.std.specs.Option.{option_map_or}
-use Rattle.std.specs.Ordering.{int_eq}
-use Rattle.std.specs.Str.{bytes_eq}
 use Rattle.gu_terms.specs.Days.{date_number}
 use Rattle.gu_terms.specs.declared.account.AccountId.{AccountId}
 use Rattle.gu_terms.specs.declared.day.Day.{Day}
 use Rattle.gu_terms.specs.declared.firm.FirmId.{FirmId}
+use Rattle.gu_terms.specs.declared.group.Group.{Group}
 use Rattle.gu_terms.specs.declared.id.Id.{Id}
 use Rattle.gu_terms.specs.declared.limit_key.LimitKey.{LimitKey}
 use Rattle.gu_terms.specs.declared.limit_key.LimitKey.TheVariants.{Exec, Agr, Acct, Carry}
@@ -26,9 +24,11 @@ use Rattle.gu_terms.specs.declared.reply.Reply.{Reply}
 use Rattle.gu_terms.specs.declared.reply.Reply.TheVariants.{Accepted, Denied}
 use Rattle.gu_terms.specs.declared.entry.Entry.{Entry}
 use Rattle.gu_ref.specs.Reference.{is_firm, is_group, is_instrument, account_row, agreement_row}
-use Rattle.gu_book.specs.Reports.{open_day, reports_of, with_match}
-use Rattle.gu_ref.specs.Same.{same_firm, same_symbol}
-use Rattle.gu_book.specs.Same.{same_day, same_side}
+use Rattle.gu_trades.specs.Matching.{conflicts, is_waiting}
+use Rattle.gu_trades.specs.Reports.{has_report, report_of, with_match}
+use Rattle.gu_trades.specs.Same.{same_day}
+use Rattle.gu_book.specs.Reports.{open_day, reports_of}
+use Rattle.gu_ref.specs.Same.{same_firm}
 use Rattle.gu_ref.specs.Tables.{Tables}
 
 -- the first refusal whose condition stands, or else what the command did
@@ -50,22 +50,6 @@ is_other_day _ _ = false
 abbrev pub is_another_firms : Tables → AccountId → FirmId → Bool
 is_another_firms reference account firm = option_map_or (λ row. not (same_firm row.firm firm)) (account_row reference account) false
 
--- the firm has a report with this id
-abbrev pub has_report : List Report → FirmId → Id → Bool
-has_report reports firm id = list_any (λ r. same_firm r.firm firm && bytes_eq r.id id) reports
-
--- a report is the other side of this one: same instrument, lots, price and day, opposite side
-abbrev pub is_other_side : Report → Option Day → Symbol → Lots → Price → Side → Bool
-is_other_side r (Some today) symbol lots price side =
-    same_symbol r.symbol symbol && r.lots == lots && int_eq r.price price && same_day r.day today && not (same_side r.side side)
-is_other_side r None symbol lots price side = false
-
--- the reports with the match id are two, or one that isn't the other side
-abbrev pub conflicts : List Report → Option Day → Symbol → Lots → Price → Side → Bool
-conflicts [] today symbol lots price side = false
-conflicts (r ∷ []) today symbol lots price side = not (is_other_side r today symbol lots price side)
-conflicts (r ∷ s ∷ more) today symbol lots price side = true
-
 -- the reference has what a key names
 abbrev pub is_known_key : Tables → LimitKey → Bool
 is_known_key reference (Exec firm) = is_firm reference firm
@@ -77,22 +61,43 @@ is_known_key reference (Carry firm) = is_firm reference firm
 abbrev pub most_limit : ℕ
 most_limit = 1000000000
 
--- the answer to a command after these entries
-abbrev pub answer : Tables → List Entry → Command → Reply
-answer reference history (OpenDay day) = first_standing ((not (is_later (open_day history) day), WrongDay) ∷ []) Opened
-answer reference history (SetLimit group key lots) =
-    first_standing ((not (is_group reference group && is_known_key reference key), UnknownKey) ∷ (nat_lt most_limit lots, TooHigh) ∷ []) LimitSet
-answer reference history (ReportSide firm id match_id symbol lots price day side account) =
-    let today = open_day history in
-    let reports = reports_of history in
-    let partners = with_match match_id reports in
-    first_standing
-    ((is_none today, NoDay)
+-- a report that is made today conflicts with those of its match id; with no day open there is none to make
+abbrev pub conflicts_today : Option Day → List Report → (Day → Report) → Bool
+conflicts_today None partners report = false
+conflicts_today (Some today) partners report = conflicts partners (report today)
+
+-- the tests of a report in their order, where this day is open and these reports were taken in
+abbrev pub report_tests : Tables → Option Day → List Report → FirmId → Id → Id → Symbol → Lots → Price → Option Day → Side → AccountId → List (Bool × Refusal)
+report_tests reference today reports firm id match_id symbol lots price day side account =
+    (is_none today, NoDay)
     ∷ (is_other_day today day, WrongDay)
     ∷ (not (is_instrument reference symbol), UnknownInstrument)
     ∷ (is_none (account_row reference account), UnknownAccount)
     ∷ (is_another_firms reference account firm, NotYours)
     ∷ (has_report reports firm id, DuplicateId)
-    ∷ (conflicts partners today symbol lots price side, MatchConflict)
-    ∷ [])
-    (Reported (length partners == 1))
+    ∷ (conflicts_today today (with_match match_id reports) (λ made. report_of firm id match_id symbol lots price made side account), MatchConflict)
+    ∷ []
+
+-- the answer to a report
+abbrev pub answer_to_report : Tables → Option Day → List Report → FirmId → Id → Id → Symbol → Lots → Price → Option Day → Side → AccountId → Reply
+answer_to_report reference today reports firm id match_id symbol lots price day side account =
+    first_standing (report_tests reference today reports firm id match_id symbol lots price day side account) (Reported (is_waiting (with_match match_id reports)))
+
+-- the answer to a limit
+abbrev pub answer_to_limit : Tables → Group → LimitKey → ℕ → Reply
+answer_to_limit reference group key lots = first_standing ((not (is_group reference group && is_known_key reference key), UnknownKey) ∷ (nat_lt most_limit lots, TooHigh) ∷ []) LimitSet
+
+-- the answer to an opening
+abbrev pub answer_to_opening : Option Day → Day → Reply
+answer_to_opening today day = first_standing ((not (is_later today day), WrongDay) ∷ []) Opened
+
+-- the answer to a command, where this day is open and these reports were taken in
+abbrev pub answer_where : Tables → Option Day → List Report → Command → Reply
+answer_where reference today reports (OpenDay day) = answer_to_opening today day
+answer_where reference today reports (SetLimit group key lots) = answer_to_limit reference group key lots
+answer_where reference today reports (ReportSide firm id match_id symbol lots price day side account) =
+    answer_to_report reference today reports firm id match_id symbol lots price day side account
+
+-- the answer to a command after these entries
+abbrev pub answer : Tables → List Entry → Command → Reply
+answer reference history command = answer_where reference (open_day history) (reports_of history) command

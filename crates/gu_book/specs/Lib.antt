@@ -2,8 +2,6 @@ pub mod Answer
 pub mod Kept
 pub mod Legal
 pub mod Limits
-pub mod Partners
 pub mod Positions
 pub mod Reports
-pub mod Same
 pub mod SetLimits

@@ -1,9 +1,7 @@
 -- What the accepted entries of a history say: the open day, and the reports.
-use Rattle.std.specs.Prelude.{List, [], ◌∷◌, ◌++◌, Option, Some, None, filter}
+use Rattle.std.specs.Prelude.{◌≡◌, false, List, [], ◌∷◌, ◌++◌, Option, Some, None}
 use Rattle.std.specs.List.{filter_map, last_or}
 use Rattle.std.specs.Option.{option_to_list}
-use Rattle.std.specs.Str.{bytes_eq}
-use Rattle.gu_terms.specs.declared.id.Id.{Id}
 use Rattle.gu_terms.specs.declared.day.Day.{Day}
 use Rattle.gu_terms.specs.declared.report.Report.{Report}
 use Rattle.gu_terms.specs.declared.command.Command.TheVariants.{OpenDay, ReportSide}
@@ -11,6 +9,8 @@ use Rattle.gu_terms.specs.declared.reply.Done.TheVariants.{Opened, Reported}
 use Rattle.gu_terms.specs.declared.reply.Reply.TheVariants.{Accepted}
 use Rattle.gu_terms.specs.declared.entry.Entry.{Entry}
 use Rattle.gu_terms.specs.declared.entry.Entry.TheVariants.{Asked}
+use Rattle.gu_trades.specs.Matching.{conflicts}
+use Rattle.gu_trades.specs.Reports.{has_report, report_of, with_match}
 
 -- the day that an entry opened
 abbrev pub opened_day : Entry → Option Day
@@ -24,7 +24,7 @@ open_day history = last_or None (filter_map opened_day history)
 -- the report that was taken in by an entry, made while this day was open
 abbrev pub report_on : Option Day → Entry → Option Report
 report_on (Some today) (Asked (ReportSide firm id match_id symbol lots price day side account) (Accepted (Reported matched))) =
-    Some (record { firm = firm; id = id; match_id = match_id; symbol = symbol; lots = lots; price = price; day = today; side = side; account = account })
+    Some (report_of firm id match_id symbol lots price today side account)
 report_on _ _ = None
 
 -- the reports that later entries took in, where these entries came before
@@ -36,6 +36,7 @@ reports_after before (entry ∷ later) = option_to_list (report_on (open_day bef
 abbrev pub reports_of : List Entry → List Report
 reports_of history = reports_after [] history
 
--- the reports with this match id: two of them are a trade
-abbrev pub with_match : Id → List Report → List Report
-with_match match_id reports = filter (λ r. bytes_eq r.match_id match_id) reports
+-- a report may come behind these: its firm has none with its id, and it conflicts with none of its match id
+pub record Fits (reports : List Report) (report : Report) : Type 0 where
+  pub new_id : has_report reports report.firm report.id ≡ false
+  pub fits : conflicts (with_match report.match_id reports) report ≡ false

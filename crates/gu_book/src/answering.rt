@@ -1,14 +1,11 @@
 //! Answers to commands.
 
-ghost use Rattle.std.specs.Prelude.{◌≡◌, ◌==◌, ◌&&◌, not, length};
-ghost use Rattle.gu_book.specs.Answer.{answer, is_known_key, is_later, is_other_day, is_other_side};
+ghost use Rattle.std.specs.Prelude.{◌≡◌, Some};
+ghost use Rattle.gu_book.specs.Answer.{answer_to_limit, answer_to_opening, answer_to_report, answer_where, is_known_key, is_later, is_other_day};
 
-use crate::partners::{Partners, has_report, partners_of};
-use crate::reports::open_day;
 use gu_ref::Reference;
-use gu_terms::{
-    Command, Day, Done, Entry, LimitKey, Lots, Price, Refusal, Reply, Report, Side, Symbol,
-};
+use gu_terms::{Command, Day, Done, Group, LimitKey, Refusal, Reply, Report};
+use gu_trades::Trades;
 
 /// The lots that a limit may have at most.
 const MOST_LIMIT: u64 = 1_000_000_000;
@@ -33,29 +30,6 @@ fn is_other_day(today: Option<Day>, day: Option<Day>) -> bool
     }
 }
 
-/// Whether a report is the other side of what is reported today.
-fn is_other_side(
-    report: &Report,
-    today: Option<Day>,
-    symbol: Symbol,
-    lots: Lots,
-    price: Price,
-    side: Side,
-) -> bool
-    ensures { result ≡ is_other_side report.now today symbol lots price side }
-{
-    match today {
-        Some(today) => {
-            report.symbol == symbol
-                && report.lots == lots
-                && report.price == price
-                && report.day == today
-                && report.side != side
-        }
-        None => false,
-    }
-}
-
 /// Whether the reference has what a key names.
 fn is_known_key(reference: &Reference, key: LimitKey) -> bool
     ensures { result ≡ is_known_key reference.now key }
@@ -67,27 +41,76 @@ fn is_known_key(reference: &Reference, key: LimitKey) -> bool
     }
 }
 
-/// The answer to a command after these entries.
-pub fn answer_of(reference: &Reference, history: &[Entry], command: &Command) -> Reply
-    ensures { result ≡ answer reference.now history.now command.now }
+/// The answer to a report, whose day is the open one.
+fn answer_to_report(
+    reference: &Reference,
+    trades: &Trades,
+    report: &Report,
+    day: Option<Day>,
+) -> Reply
+    ensures { result ≡ answer_to_report reference.now (Some report.now.day) trades.now report.now.firm report.now.id report.now.match_id report.now.symbol report.now.lots report.now.price day report.now.side report.now.account }
 {
-    let today = open_day(history);
+    if is_other_day(Some(report.day), day) {
+        return Reply::Denied(Refusal::WrongDay);
+    }
+    if !reference.is_instrument(report.symbol) {
+        return Reply::Denied(Refusal::UnknownInstrument);
+    }
+    let Some(row) = reference.account(report.account) else {
+        return Reply::Denied(Refusal::UnknownAccount);
+    };
+    if row.firm != report.firm {
+        return Reply::Denied(Refusal::NotYours);
+    }
+    if trades.side_of(report.firm, report.id).is_some() {
+        return Reply::Denied(Refusal::DuplicateId);
+    }
+    let sides = trades.trade(report.match_id);
+    if sides.conflicts_with(report) {
+        return Reply::Denied(Refusal::MatchConflict);
+    }
+    Reply::Accepted(Done::Reported {
+        matched: sides.is_waiting(),
+    })
+}
+
+/// The answer to a limit.
+fn answer_to_limit(reference: &Reference, group: Group, key: LimitKey, lots: u64) -> Reply
+    ensures { result ≡ answer_to_limit reference.now group key lots }
+{
+    if !(reference.group(group) && is_known_key(reference, key)) {
+        return Reply::Denied(Refusal::UnknownKey);
+    }
+    if lots > MOST_LIMIT {
+        return Reply::Denied(Refusal::TooHigh);
+    }
+    Reply::Accepted(Done::LimitSet)
+}
+
+/// The answer to an opening.
+fn answer_to_opening(today: Option<Day>, day: Day) -> Reply
+    ensures { result ≡ answer_to_opening today day }
+{
+    if is_later(today, day) {
+        Reply::Accepted(Done::Opened)
+    } else {
+        Reply::Denied(Refusal::WrongDay)
+    }
+}
+
+/// The answer to a command, where this day is open and these reports were taken in.
+pub fn answer_of(
+    reference: &Reference,
+    today: Option<Day>,
+    trades: &Trades,
+    command: &Command,
+) -> Reply
+    ensures { result ≡ answer_where reference.now today trades.now command.now }
+{
     match command {
-        Command::OpenDay { day } => {
-            if is_later(today, *day) {
-                Reply::Accepted(Done::Opened)
-            } else {
-                Reply::Denied(Refusal::WrongDay)
-            }
-        }
+        Command::OpenDay { day } => answer_to_opening(today, *day),
         Command::SetLimit { group, key, lots } => {
-            if !(reference.group(*group) && is_known_key(reference, *key)) {
-                Reply::Denied(Refusal::UnknownKey)
-            } else if *lots > MOST_LIMIT {
-                Reply::Denied(Refusal::TooHigh)
-            } else {
-                Reply::Accepted(Done::LimitSet)
-            }
+            answer_to_limit(reference, *group, *key, *lots)
         }
         Command::ReportSide {
             firm,
@@ -100,35 +123,21 @@ pub fn answer_of(reference: &Reference, history: &[Entry], command: &Command) ->
             side,
             account,
         } => {
-            if today.is_none() {
+            let Some(today) = today else {
                 return Reply::Denied(Refusal::NoDay);
-            }
-            if is_other_day(today, *day) {
-                return Reply::Denied(Refusal::WrongDay);
-            }
-            if !reference.is_instrument(*symbol) {
-                return Reply::Denied(Refusal::UnknownInstrument);
-            }
-            let Some(row) = reference.account(*account) else {
-                return Reply::Denied(Refusal::UnknownAccount);
             };
-            if row.firm != *firm {
-                return Reply::Denied(Refusal::NotYours);
-            }
-            if has_report(history, firm, id) {
-                return Reply::Denied(Refusal::DuplicateId);
-            }
-            match partners_of(history, *match_id) {
-                Partners::None => Reply::Accepted(Done::Reported { matched: false }),
-                Partners::One(report) => {
-                    if is_other_side(&report, today, *symbol, *lots, *price, *side) {
-                        Reply::Accepted(Done::Reported { matched: true })
-                    } else {
-                        Reply::Denied(Refusal::MatchConflict)
-                    }
-                }
-                Partners::Two => Reply::Denied(Refusal::MatchConflict),
-            }
+            let report = Report {
+                firm: *firm,
+                id: *id,
+                match_id: *match_id,
+                symbol: *symbol,
+                lots: *lots,
+                price: *price,
+                day: today,
+                side: *side,
+                account: *account,
+            };
+            answer_to_report(reference, trades, &report, *day)
         }
     }
 }

@@ -1,20 +1,22 @@
 //! The book.
 
-ghost use Rattle.std.specs.Prelude.{◌≡◌, ◌↔◌, ◌<◌, ◌≤◌, ◌+◌, ◌++◌, ◌∷◌, [], length, IfOk, OnErr, IsErrOf};
+ghost use Rattle.std.specs.Prelude.{◌≡◌, ◌↔◌, ◌<◌, ◌≤◌, ◌+◌, ◌++◌, ◌∷◌, [], length, IfOk, IfSome, OnOk, OnErr, IsErrOf};
+ghost use Rattle.std.specs.Option.{option_to_list};
 ghost use Rattle.gu_book.specs.Answer.{answer};
 ghost use Rattle.gu_book.specs.Legal.{IsLegal, MayFollow, StandsLast};
 ghost use Rattle.gu_book.specs.Limits.{limit_rows};
 ghost use Rattle.gu_book.specs.Positions.{long_of, short_of};
-ghost use Rattle.gu_book.specs.Reports.{open_day};
+ghost use Rattle.gu_book.specs.Reports.{open_day, Fits};
 
 use crate::answering::answer_of;
 use crate::error::EnterError;
 use crate::limits::limit_rows;
 use crate::positions::traded;
 use crate::receipt::Receipt;
-use crate::reports::open_day;
+use crate::reports::{day_behind, report_on};
 use gu_ref::Reference;
-use gu_terms::{AccountId, Command, Day, Entry, Group, History, LimitRow, Side, Symbol};
+use gu_terms::{AccountId, Command, Day, Entry, Group, History, LimitRow, Report, Side, Symbol};
+use gu_trades::Trades;
 use std::alloc::{AllocError, Global};
 use std::marker::Model;
 
@@ -26,6 +28,10 @@ pub const MOST_ENTRIES: usize = 1_000_000;
 pub struct Book {
     reference: Reference,
     history: History,
+    /// The open day.
+    today: Option<Day>,
+    /// The reports that the history took in.
+    trades: Trades,
     alloc: Global,
 }
 
@@ -34,11 +40,33 @@ impl Model for Book {
 
     ghost Value = { Kept };
 
-    ghost use Rattle.gu_book.specs.Legal.{IsLegal};
+    ghost use Rattle.gu_book.specs.Legal.{IsKeptLegal};
 
     ghost view = { λ b. record { reference = b.reference; history = b.history } };
 
-    ghost invariant = { λ b. IsLegal b.reference b.history };
+    ghost invariant = { λ b. IsKeptLegal b.reference b.history b.today b.trades };
+}
+
+/// Takes in the report of an entry that has one.
+fn take_in(trades: &mut Trades, report: Option<Report>) -> Result<(), AllocError>
+    requires { IfSome report (Fits trades.old) }
+    ensures taken { OnOk result (trades.new ≡ trades.old ++ option_to_list report) }
+    ensures refused { OnErr result (trades.new ≡ trades.old) }
+{
+    if let Some(report) = report {
+        trades.report(
+            report.firm,
+            report.id,
+            report.match_id,
+            report.symbol,
+            report.lots,
+            report.price,
+            report.day,
+            report.side,
+            report.account,
+        )?;
+    }
+    Ok(())
 }
 
 impl Book {
@@ -49,12 +77,14 @@ impl Book {
         Book {
             reference,
             history: History::new(alloc),
+            today: None,
+            trades: Trades::new(alloc),
             alloc,
         }
     }
 
     /// Adds an entry, and makes its receipt.
-    #[tactic(auto, using(crate::proofs::Growing::legal_push, crate::proofs::Growing::stands_last))]
+    #[tactic(auto, using(crate::proofs::Growing::legal_push, crate::proofs::Growing::stands_last, crate::proofs::Taking::follower_fits, crate::proofs::Taking::kept_push))]
     fn append(&mut self, entry: Entry) -> Result<Receipt, AllocError>
         requires room { length self.old.history < 1000000 }
         requires may { MayFollow self.old.reference self.old.history entry }
@@ -65,11 +95,18 @@ impl Book {
         ensures reference { self.new.reference ≡ self.old.reference }
         ensures refused { OnErr result (self.new.history ≡ self.old.history) }
     {
-        let number = self.history.len() as u64 + 1;
+        let count = self.history.len();
         let shown = entry.copy()?;
+        let report = report_on(self.today, &entry);
+        let today = day_behind(self.today, &entry);
         self.history.push(entry)?;
+        if let Err(refused) = take_in(&mut self.trades, report) {
+            self.history.truncate(count);
+            return Err(refused);
+        }
+        self.today = today;
         Ok(Receipt {
-            number,
+            number: count as u64 + 1,
             entry: shown,
         })
     }
@@ -89,7 +126,7 @@ impl Book {
         if self.history.len() >= MOST_ENTRIES {
             return Err(EnterError::Full);
         }
-        let reply = answer_of(&self.reference, self.history.as_slice(), &command);
+        let reply = answer_of(&self.reference, self.today, &self.trades, &command);
         match self.append(Entry::Asked { command, reply }) {
             Ok(receipt) => Ok(receipt),
             Err(_) => Err(EnterError::Memory),
@@ -101,9 +138,8 @@ impl Book {
         ensures long { result.0 ≡ long_of self.now.history account symbol }
         ensures short { result.1 ≡ short_of self.now.history account symbol }
     {
-        let history = self.history.as_slice();
-        let long = traded(history, Side::Buy, &account, &symbol);
-        let short = traded(history, Side::Sell, &account, &symbol);
+        let long = traded(&self.trades, Side::Buy, &account, &symbol);
+        let short = traded(&self.trades, Side::Sell, &account, &symbol);
         (long, short)
     }
 
@@ -119,7 +155,7 @@ impl Book {
     pub fn day(&self) -> Option<Day>
         ensures { result ≡ open_day self.now.history }
     {
-        open_day(self.history.as_slice())
+        self.today
     }
 
     /// All that was entered.

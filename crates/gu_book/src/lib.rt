@@ -5,7 +5,6 @@ mod answering;
 mod book;
 mod error;
 mod limits;
-mod partners;
 mod positions;
 mod receipt;
 mod reports;

@@ -1,11 +1,10 @@
-//! Reports, read off the history.
+//! What an entry opens, and what it takes in.
 
-ghost use Rattle.std.specs.Prelude.{◌≡◌, ◌==◌, ◌≤◌, ◌<◌, ◌&&◌, ◌*◌, ◌^◌, ◌++◌, ◌∷◌, [], length, List};
+ghost use Rattle.std.specs.Prelude.{◌≡◌, ◌++◌, ◌∷◌, [], List};
 ghost use Rattle.gu_terms.specs.declared.entry.Entry.{Entry as EntryOf};
-ghost use Rattle.gu_book.specs.Reports.{opened_day, open_day, report_on, reports_of, with_match};
-ghost use Rattle.gu_book.specs.Answer.{has_report};
+ghost use Rattle.gu_book.specs.Reports.{opened_day, open_day, report_on};
 
-use gu_terms::{Command, Day, Done, Entry, FirmId, Id, Reply, Report};
+use gu_terms::{Command, Day, Done, Entry, Reply, Report};
 
 /// The day that an entry opened.
 pub fn opened_day(entry: &Entry) -> Option<Day>
@@ -28,17 +27,6 @@ pub fn day_behind(today: Option<Day>, entry: &Entry) -> Option<Day>
         Some(day) => Some(day),
         None => today,
     }
-}
-
-/// The open day.
-pub fn open_day(history: &[Entry]) -> Option<Day>
-    ensures { result ≡ open_day history.now }
-{
-    let mut today = None;
-    for entry in history {
-        today = day_behind(today, entry);
-    }
-    today
 }
 
 /// The report that an entry took in while this day was open.

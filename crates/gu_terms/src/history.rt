@@ -1,6 +1,6 @@
 //! The history: all that was entered, in order.
 
-ghost use Rattle.std.specs.Prelude.{◌≡◌, ◌-◌, ◌∷◌, [], ◌++◌, length, OnOk, OnErr};
+ghost use Rattle.std.specs.Prelude.{◌≡◌, ◌-◌, ◌∷◌, [], ◌++◌, length, take, OnOk, OnErr};
 ghost use Rattle.std.specs.Option.{option_copied};
 ghost use Rattle.gu_terms.specs.Histories.{entry_at};
 
@@ -66,5 +66,12 @@ impl History {
         let Entry::Asked { command, reply } = entry;
         self.entries.push(Entry::Asked { command, reply })?;
         Ok(())
+    }
+
+    /// Keeps the first entries, so many of them. It takes no memory.
+    pub fn truncate(&mut self, count: usize)
+        ensures { self.new ≡ take count self.old }
+    {
+        self.entries.truncate(count);
     }
 }

@@ -24,6 +24,10 @@ abbrev pub matching_of : List Report → Matching
 matching_of [] = Opened
 matching_of (first ∷ more) = Matched
 
+-- one report with a match id waits for its other side
+abbrev pub is_waiting : List Report → Bool
+is_waiting reports = length reports == 1
+
 -- two reports with one match id are a trade
 abbrev pub is_trade : List Report → Bool
 is_trade reports = nat_le 2 (length reports)

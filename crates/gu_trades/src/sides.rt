@@ -2,7 +2,7 @@
 
 ghost use Rattle.std.specs.Prelude.{◌≡◌, ◌++◌, ◌∷◌, [], false};
 ghost use Rattle.gu_trades.specs.Sides.{reports_in};
-ghost use Rattle.gu_trades.specs.Matching.{conflicts, is_other_side, is_trade, matching_of};
+ghost use Rattle.gu_trades.specs.Matching.{conflicts, is_other_side, is_trade, is_waiting, matching_of};
 
 use crate::matching::Matching;
 use gu_terms::Report;
@@ -46,6 +46,13 @@ impl Sides {
         ensures { result ≡ is_trade (reports_in self.now) }
     {
         matches!(self, Sides::Both(..))
+    }
+
+    /// Whether there is one, which waits for its other side.
+    pub fn is_waiting(&self) -> bool
+        ensures { result ≡ is_waiting (reports_in self.now) }
+    {
+        matches!(self, Sides::One(_))
     }
 
     /// What one more report does.

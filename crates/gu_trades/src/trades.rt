@@ -84,6 +84,13 @@ impl Trades {
         let _ = &self.reports;
     }
 
+    /// All reports, in the order in which they were taken in.
+    pub fn as_slice(&self) -> &[Report]
+        ensures { result.now ≡ self.now }
+    {
+        self.reports.values().as_slice()
+    }
+
     /// The reports with this match id, two at most, in the order in which they came.
     pub fn trade(&self, match_id: Id) -> Sides
         ensures { reports_in result ≡ with_match match_id self.now }

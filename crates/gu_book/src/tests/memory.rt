@@ -1,8 +1,9 @@
 //! Growths that are refused: run with each allocation failing in turn. A command that is refused is entered again.
 
-use super::enter;
+use super::{SAMPLE, account, enter};
 use crate::{Book, EnterError};
 use gu_ref::{RefFault, Reference};
+use gu_terms::Symbol;
 use std::alloc::Global;
 use std::process::Abort;
 use std::test::Fail;
@@ -19,30 +20,28 @@ fn enter_again(rt: &impl Abort, book: &mut Book, line: &str) -> Result<(), Fail>
     Ok(())
 }
 
-/// Enters the openings of nine days, and one that is refused.
-fn enter_ten(rt: &impl Abort, book: &mut Book) -> Result<(), Fail> {
+/// Enters a day, five reports, and two commands that are refused.
+fn enter_eight(rt: &impl Abort, book: &mut Book) -> Result<(), Fail> {
     for line in [
         "DAY 20260105",
-        "DAY 20260106",
-        "DAY 20260107",
-        "DAY 20260107",
-        "DAY 20260108",
-        "DAY 20260109",
-        "DAY 20260112",
-        "DAY 20260113",
-        "DAY 20260114",
-        "DAY 20260115",
+        "DAY 20260105",
+        "REPORT E1 R1 M1 B XF6 10 101.5 H1",
+        "REPORT E2 R2 M1 S XF6 10 101.5 H2",
+        "REPORT E1 R1 M2 B XF6 10 101.5 H1",
+        "REPORT E1 R3 M2 B XF6 5 101.5 H1",
+        "REPORT E2 R4 M2 S XF6 5 101.5 H2",
+        "REPORT E1 R5 M3 B XF6 1 101.5 H1",
     ] {
         enter_again(rt, book, line)?;
     }
     Ok(())
 }
 
-/// A book of an empty file, read at the second try where the first is refused.
+/// A book of the sample, read at the second try where the first is refused.
 fn book_again(alloc: Global) -> Result<Book, RefFault> {
-    let reference = match Reference::read(alloc, b"".as_slice()) {
+    let reference = match Reference::read(alloc, SAMPLE) {
         Ok(reference) => reference,
-        Err(_) => Reference::read(alloc, b"".as_slice())?,
+        Err(_) => Reference::read(alloc, SAMPLE)?,
     };
     Ok(Book::new(alloc, reference))
 }
@@ -50,5 +49,8 @@ fn book_again(alloc: Global) -> Result<Book, RefFault> {
 #[test]
 fn a_command_that_was_refused_memory_may_be_entered_again(rt: HostRuntime) -> Result<(), Fail> {
     let mut book = book_again(rt.alloc())?;
-    enter_ten(&rt, &mut book)
+    enter_eight(&rt, &mut book)?;
+    let symbol = Symbol::new(b"XF6").ok_or("no symbol")?;
+    assert_eq!(rt; book.position(account("H1")?, symbol), (15, 0));
+    Ok(())
 }

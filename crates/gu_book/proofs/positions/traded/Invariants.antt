@@ -1,11 +1,10 @@
-use Rattle.std.proofs.Common.{◌≡◌, ◌≤◌, ◌*◌, take, sum_by}
+use Rattle.std.proofs.Common.{◌≡◌, ◌≤◌, ◌*◌, take}
 use Rattle.gu_book.specs.Positions.{brought}
-use Rattle.gu_book.specs.Reports.{open_day, reports_of}
+use Rattle.std.proofs.Common.{sum_by}
 use Rattle.gu_book.proofs.positions.traded.Given as goal
 
-abbrev pub invariant-loop-entry : goal.invariant-loop-entry
-invariant-loop-entry l = record {
-  today : l.today ≡ open_day (take l.entry-index l.history);
-  total : l.total ≡ sum_by (brought (reports_of l.history) l.side l.account l.symbol) (reports_of (take l.entry-index l.history));
-  few : l.total ≤ l.entry-index * 1000000;
+abbrev pub invariant-loop-report : goal.invariant-loop-report
+invariant-loop-report l = record {
+  total : l.total ≡ sum_by (brought l.trades l.side l.account l.symbol) (take l.report-index l.trades);
+  few : l.total ≤ l.report-index * 1000000;
 }
