@@ -1,0 +1,34 @@
+-- The years of days that are counted from 1970-01-01.
+use Rattle.std.proofs.Common.{◌≡◌, ◌≤◌, ◌⊎◌, inl, inr, ℕ, ℤ, pos, arith}
+use Rattle.std.specs.Prelude.{◌<ℤ◌, ◌≤ℤ◌, negsuc}
+use Rattle.std.proofs.lemmas.Bool.{cases_order}
+use Rattle.jiff_core.specs.Calendar.{day_count, days_from_civil}
+use Rattle.jiff_core.specs.Date.{epoch_day}
+use Rattle.jiff_core.specs.declared.civil.date.Date.{Date}
+use Rattle.jiff_core.proofs.CalendarLemmas.{day_count-lt_year}
+use Rattle.jiff_core.proofs.SignedLemmas.{signed_arith}
+
+-- such a day doesn't come before 1970-01-01
+not_before : (d : Date) (n : ℕ) → epoch_day d ≡ pos n → day_count (pos 1970) 1 1 ≤ day_count d.year d.month d.day
+unfolding days_from_civil
+not_before d n e = omega (arith, signed_arith, e)
+
+-- a year is from 1970 on, or before
+sides : (y : ℤ) → (pos 1970 ≤ℤ y) ⊎ (y <ℤ pos 1970)
+sides (pos n) =
+    elim (cases_order n 1970) [
+      | inl same ↦ inl (omega (arith, signed_arith))
+      | inr (inl early) ↦ inr (omega (arith, signed_arith))
+      | inr (inr late) ↦ inl (omega (arith, signed_arith))
+    ]
+sides (negsuc n) = inr (omega (arith, signed_arith))
+
+pub late_year : (d : Date) (n : ℕ) → epoch_day d ≡ pos n → pos 1970 ≤ℤ d.year
+late_year d n e =
+    elim (sides d.year) [
+      | inl late ↦ late
+      | inr early ↦
+          let before = day_count-lt_year d.year d.month d.day (pos 1970) 1 1 (d.year_in, d.month_in, d.day_in) (omega arith) early in
+          let after = not_before d n e in
+          absurd (omega (arith, before, after))
+    ]

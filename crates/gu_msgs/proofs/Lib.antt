@@ -1,0 +1,11 @@
+mod RunLemmas
+mod Numerals
+mod GroupLemmas
+mod ShapeLemmas
+mod ItemLemmas
+mod HeldLemmas
+mod TextLemmas
+mod AllocLemmas
+mod DateLemmas
+mod NoFault
+mod OneFault

@@ -1,0 +1,32 @@
+-- Digits, as a fact and as a test.
+use Rattle.std.proofs.Common.{◌≡◌, ℕ, Bool, true, false, List, [], ◌∷◌, IsTrue, ◌↔◌, refl, sym, nat_lt}
+use Rattle.std.specs.Char.{digit_value}
+use Rattle.std.specs.List.{list_all}
+use Rattle.std.specs.Str.Parse.{AllDigits}
+use Rattle.std.proofs.lemmas.Bool.{ltb-true, lt-ltb, and_parts}
+use Rattle.gu_msgs.specs.Values.{is_numeral}
+
+-- a byte is a digit
+is_digit : ℕ → Bool
+is_digit b = nat_lt (digit_value b) 10
+
+pub digits_from_test : (text : List ℕ) → list_all (λ b. nat_lt (digit_value b) 10) text ≡ true → AllDigits 10 text
+digits_from_test [] h = tt
+digits_from_test (b ∷ bs) h =
+    let parts = and_parts _ _ h in
+    (ltb-true (digit_value b) 10 parts.0, digits_from_test bs parts.1)
+
+test_from_digits : (text : List ℕ) → AllDigits 10 text → list_all (λ b. nat_lt (digit_value b) 10) text ≡ true
+test_from_digits [] h = refl
+test_from_digits (b ∷ bs) h = rw (lt-ltb (digit_value b) 10 h.0, test_from_digits bs h.1) refl
+
+-- an answer that says whether the bytes are digits is the test's
+pub is_digits_test : (text : List ℕ) (answer : Bool) → (IsTrue answer ↔ AllDigits 10 text) → answer ≡ list_all (λ b. nat_lt (digit_value b) 10) text
+is_digits_test text true h = sym (test_from_digits text (h.0 refl))
+is_digits_test text false h =
+    let no_test : (b : Bool) → list_all (λ b. nat_lt (digit_value b) 10) text ≡ b → false ≡ b = λ b. elim b as (λ v. list_all (λ b. nat_lt (digit_value b) 10) text ≡ v → false ≡ v) [ true ↦ (λ e. h.1 (digits_from_test text e)) | false ↦ (λ e. refl) ] in
+    no_test _ refl
+
+-- a numeral's bytes are digits
+pub numeral_digits : (text : List ℕ) → IsTrue (is_numeral text) → AllDigits 10 text
+numeral_digits text h = digits_from_test text (and_parts _ _ h).1

@@ -1,0 +1,6 @@
+use Rattle.std.proofs.Common.{◌≡◌}
+use Rattle.gu_msgs.specs.Values.{first_value}
+use Rattle.gu_msgs.proofs.field_values.first_value.Given as goal
+
+abbrev pub invariant-loop-field : goal.invariant-loop-field
+invariant-loop-field l = first_value l.tag l.fn.fields ≡ first_value l.tag l.field-iterator

@@ -1,0 +1,18 @@
+use Rattle.std.proofs.Common.{append_assoc}
+use Rattle.gu_msgs.proofs.notice_fields.push_report.Goals as goal
+
+pub returns : goal.returns
+returns c =
+    simp (
+      c.in_ok-push.ensures.ok,
+      c.deref.ensures.value,
+      c.in_ok-id.ensures,
+      c.in_ok-push-2.ensures.ok,
+      c.get.ensures.bytes,
+      c.in_ok-push_trade.ensures,
+      c.in_ok-push_number.ensures,
+      c.in_ok-push_number-2.ensures,
+      c.side_number.ensures,
+      c.get-2.ensures.bytes,
+      append_assoc,
+    ) at c.push-3.ensures.ok

@@ -1,0 +1,56 @@
+-- What is known of a message whose shape and values are sound. (Machinery: no other crate names this file.)
+use Rattle.std.specs.Prelude.{◌≡◌, ◌≢◌, List, [], length, None, Some, ⊤}
+use Rattle.std.specs.List.{AllByRecursion}
+use Rattle.gu_fix.specs.TagValue.{TagValue}
+use Rattle.gu_fix.specs.declared.tag.TheConstants.{MSG_TYPE}
+use Rattle.gu_msgs.specs.Agreement.{number_at}
+use Rattle.gu_msgs.specs.Faults.{IsDisagreement, IsFirstFault}
+use Rattle.gu_msgs.specs.Groups.{entries_of}
+use Rattle.gu_msgs.specs.Items.{AreSound, message_items}
+use Rattle.gu_msgs.specs.Kinds.{IsSound}
+use Rattle.gu_msgs.specs.MsgTypes.{code_of}
+use Rattle.gu_msgs.specs.Rows.{tag_of}
+use Rattle.gu_msgs.specs.Shape.{shape_fault}
+use Rattle.gu_msgs.specs.Tables.{body_rows, entry_rows}
+use Rattle.gu_msgs.specs.Values.{Holds, MayHold, first_value}
+use Rattle.gu_msgs.specs.declared.fault.MsgFault.{MsgFault}
+use Rattle.gu_msgs.specs.declared.fault.MsgFault.TheVariants.{Memory, Rejected}
+use Rattle.gu_msgs.specs.declared.msg_type.MsgType.{MsgType}
+use Rattle.gu_msgs.specs.declared.row.Row.{Row}
+use Rattle.gu_msgs.specs.declared.row.Row.TheVariants.{Required, Optional}
+
+-- a row's tag stands where it must, and what it holds is allowed
+abbrev pub IsHeld : List TagValue → Row → Type 0
+IsHeld fields (Required tag kind) = Holds tag (IsSound kind) fields
+IsHeld fields (Optional tag kind) = MayHold tag (IsSound kind) fields
+
+-- each row of a table
+abbrev pub AreHeld : List Row → List TagValue → Type 0
+AreHeld rows fields = AllByRecursion (IsHeld fields) rows
+
+-- the group that a row counts has as many entries as it says, and each is sound
+pub record HasGroup (kind : MsgType) (fields : List TagValue) (row : Row) : Type 0 where
+  pub counted : entry_rows (tag_of row) ≢ [] → number_at (tag_of row) fields ≡ length (entries_of kind (tag_of row) fields)
+  pub each : AllByRecursion (AreHeld (entry_rows (tag_of row))) (entries_of kind (tag_of row) fields)
+
+-- each group of a message
+abbrev pub HasGroups : MsgType → List TagValue → Type 0
+HasGroups kind fields = AllByRecursion (HasGroup kind fields) (body_rows kind)
+
+-- a message of this type whose shape and values are sound
+pub record IsWellMade (kind : MsgType) (fields : List TagValue) : Type 0 where
+  pub code : first_value MSG_TYPE fields ≡ Some (code_of kind)
+  pub shape : shape_fault kind fields ≡ None
+  pub values : AreSound (message_items kind fields)
+  pub held : AreHeld (body_rows kind) fields
+  pub groups : HasGroups kind fields
+
+-- what is refused of such a message: values that don't agree
+abbrev pub IsDisagreed : MsgType → List TagValue → MsgFault → Type 0
+IsDisagreed kind fields Memory = ⊤
+IsDisagreed kind fields (Rejected fault) = IsDisagreement kind fields fault
+
+-- what is refused of a message of this type: its first fault
+abbrev pub IsTypedRefusal : MsgType → List TagValue → MsgFault → Type 0
+IsTypedRefusal kind fields Memory = ⊤
+IsTypedRefusal kind fields (Rejected fault) = IsFirstFault kind fields fault

@@ -1,0 +1,65 @@
+-- What the text of a field must be, and what is wrong with one that isn't.
+use Rattle.std.specs.Prelude.{◌≡◌, ◌≤◌, ◌⊎◌, ℕ, List, length, codes, IsTrue, ⊤, ℤ}
+use Rattle.std.specs.Str.Parse.{digits_value}
+use Rattle.gu_terms.specs.Days.{IsDay, IsDayText, year_of, month_of, day_of}
+use Rattle.gu_terms.specs.Names.{IsName, IsId}
+use Rattle.gu_terms.specs.NumberText.{IsNumberText, MeansLots, MeansPrice}
+use Rattle.gu_msgs.specs.AllocStatuses.{status_number}
+use Rattle.gu_msgs.specs.Values.{is_numeral}
+use Rattle.gu_msgs.specs.declared.alloc_status.AllocStatus.{AllocStatus}
+use Rattle.gu_msgs.specs.declared.reject_reason.SessionRejectReason.{SessionRejectReason}
+use Rattle.gu_msgs.specs.declared.reject_reason.SessionRejectReason.TheVariants.{ValueIsIncorrect, IncorrectDataFormat}
+use Rattle.gu_msgs.specs.declared.row.Kind.{Kind}
+use Rattle.gu_msgs.specs.declared.row.Kind.TheVariants.{Text, ShortText, YesOrNo, Id, Name, Lots, Price, Date, Number, Status}
+
+-- the text of this whole number: digits alone, leading zeros allowed
+pub record IsNumber (text : List ℕ) (n : ℕ) : Type 0 where
+  pub numeral : IsTrue (is_numeral text)
+  pub value : digits_value 10 text ≡ n
+
+-- the text of a whole number from one number to another
+pub record IsNumberWithin (least most : ℕ) (text : List ℕ) : Type 0 where
+  pub numeral : IsTrue (is_numeral text)
+  pub from : least ≤ digits_value 10 text
+  pub to : digits_value 10 text ≤ most
+
+-- yes or no
+abbrev pub IsYesOrNo : List ℕ → Type 0
+IsYesOrNo text = (text ≡ codes "Y") ⊎ (text ≡ codes "N")
+
+-- eight digits, and there is such a date
+pub record IsDate (text : List ℕ) : Type 0 where
+  pub is_text : IsDayText text
+  pub there : IsDay (year_of text) (month_of text) (day_of text)
+
+-- the text is in its format: lots and prices are number texts, dates have eight digits, whole numbers are digits
+abbrev pub IsFormatted : Kind → List ℕ → Type 0
+IsFormatted Text text = ⊤
+IsFormatted ShortText text = ⊤
+IsFormatted YesOrNo text = ⊤
+IsFormatted Id text = ⊤
+IsFormatted Name text = ⊤
+IsFormatted Lots text = IsNumberText text
+IsFormatted Price text = IsNumberText text
+IsFormatted Date text = IsDayText text
+IsFormatted (Number least most) text = IsTrue (is_numeral text)
+IsFormatted Status text = IsTrue (is_numeral text)
+
+-- the text is allowed
+abbrev pub IsSound : Kind → List ℕ → Type 0
+IsSound Text text = ⊤
+IsSound ShortText text = length text ≤ 1024
+IsSound YesOrNo text = IsYesOrNo text
+IsSound Id text = IsId text
+IsSound Name text = IsName text
+IsSound Lots text = (n : ℕ) × MeansLots text n
+IsSound Price text = (z : ℤ) × MeansPrice text z
+IsSound Date text = IsDate text
+IsSound (Number least most) text = IsNumberWithin least most text
+IsSound Status text = (status : AllocStatus) × IsNumber text (status_number status)
+
+-- why a text isn't allowed: it isn't in the format, or it is and its value isn't allowed
+abbrev pub IsAtFault : Kind → List ℕ → SessionRejectReason → Type 0
+IsAtFault kind text IncorrectDataFormat = ¬ IsFormatted kind text
+IsAtFault kind text ValueIsIncorrect = IsFormatted kind text × (¬ IsSound kind text)
+IsAtFault kind text _ = ⊥

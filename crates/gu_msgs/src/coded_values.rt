@@ -1,0 +1,142 @@
+//! Values that messages write as numbers or words of the house.
+
+ghost use Rattle.std.specs.Prelude.{◌≡◌};
+ghost use Rattle.gu_msgs.specs.CodedValues.{business_number, logout_text, report_type_number, request_result, request_status, reports_count, side_letter};
+ghost use Rattle.gu_msgs.specs.Messages.{side_number};
+
+use gu_terms::Side;
+
+/// Why the house ends a session.
+#[derive(Clone, Copy, Debug, PartialEq, Eq)]
+pub enum LogoutReason {
+    /// The number of a message is missing, or none.
+    BadSeqNum,
+    /// The number of a message was used already.
+    SeqTooLow,
+    /// A message isn't from the firm, or not to the house.
+    CompId,
+    /// The firm is logged on already.
+    LoggedOn,
+    /// Nothing was heard of the firm.
+    Silent,
+}
+
+impl LogoutReason {
+    /// Its text.
+    pub fn text(self) -> &'static str
+        ensures { result.now ≡ logout_text self }
+    {
+        match self {
+            LogoutReason::BadSeqNum => "BadSeqNum",
+            LogoutReason::SeqTooLow => "SeqTooLow",
+            LogoutReason::CompId => "CompId",
+            LogoutReason::LoggedOn => "LoggedOn",
+            LogoutReason::Silent => "Silent",
+        }
+    }
+}
+
+/// Why a message isn't answered by its own kind (FIX: BusinessRejectReason, tag 380).
+#[derive(Clone, Copy, Debug, PartialEq, Eq)]
+pub enum BusinessRejectReason {
+    Other,
+    UnsupportedMessageType,
+}
+
+impl BusinessRejectReason {
+    /// Its value on the wire.
+    pub fn number(self) -> u64
+        ensures { result ≡ business_number self }
+    {
+        match self {
+            BusinessRejectReason::Other => 0,
+            BusinessRejectReason::UnsupportedMessageType => 3,
+        }
+    }
+}
+
+/// What an allocation report is for (FIX: AllocReportType, tag 794).
+#[derive(Clone, Copy, Debug, PartialEq, Eq)]
+pub enum AllocReportType {
+    /// An offer goes out.
+    RequestToIntermediary,
+    /// Lots of an offer are taken.
+    Accept,
+    /// An offer is closed.
+    Reject,
+}
+
+impl AllocReportType {
+    /// Its value on the wire.
+    pub fn number(self) -> u64
+        ensures { result ≡ report_type_number self }
+    {
+        match self {
+            AllocReportType::RequestToIntermediary => 8,
+            AllocReportType::Accept => 9,
+            AllocReportType::Reject => 10,
+        }
+    }
+}
+
+/// What becomes of a question for positions (FIX: PosReqResult, tag 728).
+#[derive(Clone, Copy, Debug, PartialEq, Eq)]
+pub enum PosReqResult {
+    /// So many reports follow.
+    ValidRequest(u64),
+    NoPositionsFound,
+    NotAuthorized,
+}
+
+impl PosReqResult {
+    /// Its value on the wire.
+    pub fn number(self) -> u64
+        ensures { result ≡ request_result self }
+    {
+        match self {
+            PosReqResult::ValidRequest(_) => 0,
+            PosReqResult::NoPositionsFound => 2,
+            PosReqResult::NotAuthorized => 3,
+        }
+    }
+
+    /// Whether the question is answered or refused (FIX: PosReqStatus, tag 729).
+    pub fn status(self) -> u64
+        ensures { result ≡ request_status self }
+    {
+        match self {
+            PosReqResult::ValidRequest(_) | PosReqResult::NoPositionsFound => 0,
+            PosReqResult::NotAuthorized => 2,
+        }
+    }
+
+    /// How many reports follow (FIX: TotalNumPosReports, tag 727).
+    pub fn reports(self) -> u64
+        ensures { result ≡ reports_count self }
+    {
+        match self {
+            PosReqResult::ValidRequest(count) => count,
+            PosReqResult::NoPositionsFound | PosReqResult::NotAuthorized => 0,
+        }
+    }
+}
+
+/// The number of a side (FIX: Side, tag 54).
+pub fn side_number(side: Side) -> u64
+    ensures { result ≡ side_number side }
+{
+    match side {
+        Side::Buy => 1,
+        Side::Sell => 2,
+    }
+}
+
+/// The letter of a side.
+pub fn side_letter(side: Side) -> u8
+    ensures { result ≡ side_letter side }
+{
+    match side {
+        Side::Buy => b'B',
+        Side::Sell => b'S',
+    }
+}

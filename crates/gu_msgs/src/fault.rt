@@ -1,0 +1,34 @@
+//! What is wrong with a message.
+
+use crate::reject_reason::SessionRejectReason;
+use std::alloc::AllocError;
+use thiserror::Error;
+
+/// The tag at which a message is at fault, and why (FIX: RefTagID and SessionRejectReason).
+#[derive(Clone, Copy, Debug, PartialEq, Eq)]
+pub struct Fault {
+    pub tag: u32,
+    pub reason: SessionRejectReason,
+}
+
+/// Why fields are read as no message.
+#[derive(Clone, Copy, Debug, Error, PartialEq, Eq)]
+pub enum MsgFault {
+    /// A growth was refused.
+    #[error("Memory")]
+    Memory,
+    /// The first fault of the message.
+    #[error("Rejected")]
+    Rejected(Fault),
+}
+
+impl From<AllocError> for MsgFault {
+    ghost use Rattle.std.specs.Prelude.{◌≡◌};
+    ghost use Rattle.gu_msgs.specs.declared.fault.MsgFault.TheVariants.{Memory};
+
+    ghost from_gives = { λ _ fault. fault ≡ Memory };
+
+    fn from(_error: AllocError) -> MsgFault {
+        MsgFault::Memory
+    }
+}

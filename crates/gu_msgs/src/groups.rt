@@ -1,0 +1,92 @@
+//! Groups: a counter, and entries behind it.
+
+ghost use Rattle.std.specs.Prelude.{◌≡◌, ◌∷◌, ◌==◌, ◌+◌, ◌<◌, ◌^◌, [], length, MatchOption};
+ghost use Rattle.gu_msgs.specs.Groups.{entries_by, group_of, up_to};
+ghost use Rattle.gu_msgs.specs.Rows.{is_listed};
+ghost use Rattle.gu_msgs.specs.Tables.{outer_rows};
+
+use crate::field_values::behind;
+use crate::msg_type::MsgType;
+use crate::run::Run;
+use crate::tables::{body_rows, header_rows, is_listed};
+
+/// Whether a tag is read at the outer level of a message of this type.
+pub fn is_outer(msg_type: MsgType, tag: u32) -> bool
+    ensures { result ≡ is_listed (outer_rows msg_type) tag }
+{
+    is_listed(header_rows(), tag) || is_listed(body_rows(msg_type), tag)
+}
+
+/// How many fields there are from the first that is read at the outer level on.
+fn left_from_outer(fields: &Run<'_>, msg_type: MsgType) -> usize
+    ensures { result + length (up_to (is_listed (outer_rows msg_type)) fields.now) ≡ length fields.now }
+{
+    let mut left = fields.len();
+    for field in fields {
+        if is_outer(msg_type, field.tag) {
+            break;
+        }
+        left -= 1;
+    }
+    left
+}
+
+/// How many fields there are from the first with this tag on.
+fn left_from_tag(fields: &Run<'_>, tag: u32) -> usize
+    ensures { result + length (up_to (λ t. t == tag) fields.now) ≡ length fields.now }
+{
+    let mut left = fields.len();
+    for field in fields {
+        if field.tag == tag {
+            break;
+        }
+        left -= 1;
+    }
+    left
+}
+
+/// The fields up to the first that is read at the outer level.
+fn up_to_outer<'a>(fields: &Run<'a>, msg_type: MsgType) -> Run<'a>
+    ensures fields { result ≡ up_to (is_listed (outer_rows msg_type)) fields.now }
+    ensures short { length result < 2 ^ 64 }
+{
+    fields.first(fields.len() - left_from_outer(fields, msg_type))
+}
+
+/// The group with this counter.
+pub fn group_of<'a>(fields: &Run<'a>, msg_type: MsgType, counter: u32) -> Run<'a>
+    ensures fields { result ≡ group_of msg_type counter fields.now }
+    ensures short { length result < 2 ^ 64 }
+{
+    up_to_outer(&behind(fields, counter), msg_type)
+}
+
+/// Takes the next entry of a group, which begins with this tag.
+pub fn next_entry<'a>(rest: &mut Run<'a>, first: u32) -> Option<Run<'a>>
+    ensures { MatchOption result (entries_by first rest.old ≡ []) (λ entry. entries_by first rest.old ≡ entry ∷ entries_by first rest.new) }
+{
+    let mut here = rest.copy();
+    while let Some(field) = rest.next() {
+        if field.tag == first {
+            return Some(here.first(here.len() - left_from_tag(rest, first)));
+        }
+        here = rest.copy();
+    }
+    None
+}
+
+/// Whether a group has so many entries, which begin with this tag.
+pub fn has_entries(group: &Run<'_>, first: u32, number: u64) -> bool
+    ensures { result ≡ (number == length (entries_by first group.now)) }
+{
+    let mut left = number;
+    for field in group {
+        if field.tag == first {
+            if left == 0 {
+                return false;
+            }
+            left -= 1;
+        }
+    }
+    left == 0
+}

@@ -1,0 +1,112 @@
+//! What is wrong with the text of a field.
+
+ghost use Rattle.std.specs.Prelude.{◌≡◌, ◌↔◌, IsTrue, MatchOption, if◌then◌else◌, Some, None};
+ghost use Rattle.gu_msgs.specs.Kinds.{IsAtFault, IsSound, IsYesOrNo};
+ghost use Rattle.gu_msgs.specs.declared.row.Kind.TheVariants as kind;
+
+use crate::alloc_status::AllocStatus;
+use crate::reject_reason::SessionRejectReason;
+use crate::row::Kind;
+use crate::whole_number::{is_numeral, number_of};
+use gu_terms::{Day, FirmId, Id, NumberError, read_lots, read_price};
+
+/// The bytes that the id of a TestRequest has at most.
+const LONGEST_TEXT: usize = 1024;
+
+/// Whether a text is `Y` or `N`.
+fn is_yes_or_no(text: &[u8]) -> bool
+    ensures { IsTrue result ↔ IsYesOrNo text.now }
+{
+    matches!(text, [b'Y'] | [b'N'])
+}
+
+/// A value that isn't allowed, unless it is.
+fn unless(is_sound: bool) -> Option<SessionRejectReason>
+    ensures { result ≡ (if is_sound then None else Some SessionRejectReason.ValueIsIncorrect) }
+{
+    if is_sound {
+        None
+    } else {
+        Some(SessionRejectReason::ValueIsIncorrect)
+    }
+}
+
+/// What is wrong with the text of lots.
+fn lots_fault(text: &[u8]) -> Option<SessionRejectReason>
+    ensures { MatchOption result (IsSound kind.Lots text.now) (λ reason. IsAtFault kind.Lots text.now reason) }
+{
+    match read_lots(text) {
+        Ok(_) => None,
+        Err(NumberError::BadNumber) => Some(SessionRejectReason::IncorrectDataFormat),
+        Err(NumberError::OutOfRange) => Some(SessionRejectReason::ValueIsIncorrect),
+    }
+}
+
+/// What is wrong with the text of a price.
+fn price_fault(text: &[u8]) -> Option<SessionRejectReason>
+    ensures { MatchOption result (IsSound kind.Price text.now) (λ reason. IsAtFault kind.Price text.now reason) }
+{
+    match read_price(text) {
+        Ok(_) => None,
+        Err(NumberError::BadNumber) => Some(SessionRejectReason::IncorrectDataFormat),
+        Err(NumberError::OutOfRange) => Some(SessionRejectReason::ValueIsIncorrect),
+    }
+}
+
+/// What is wrong with the text of a date.
+fn date_fault(text: &[u8]) -> Option<SessionRejectReason>
+    ensures { MatchOption result (IsSound kind.Date text.now) (λ reason. IsAtFault kind.Date text.now reason) }
+{
+    match Day::read(text) {
+        Ok(_) => None,
+        Err(NumberError::BadNumber) => Some(SessionRejectReason::IncorrectDataFormat),
+        Err(NumberError::OutOfRange) => Some(SessionRejectReason::ValueIsIncorrect),
+    }
+}
+
+/// What is wrong with the text of a whole number from one number to another.
+fn number_fault(text: &[u8], least: u64, most: u64) -> Option<SessionRejectReason>
+    ensures { MatchOption result (IsSound (kind.Number least most) text.now) (λ reason. IsAtFault (kind.Number least most) text.now reason) }
+{
+    if !is_numeral(text) {
+        return Some(SessionRejectReason::IncorrectDataFormat);
+    }
+    match number_of(text) {
+        Some(number) if least <= number && number <= most => None,
+        _ => Some(SessionRejectReason::ValueIsIncorrect),
+    }
+}
+
+/// What is wrong with the text of an AllocStatus.
+fn status_fault(text: &[u8]) -> Option<SessionRejectReason>
+    ensures { MatchOption result (IsSound kind.Status text.now) (λ reason. IsAtFault kind.Status text.now reason) }
+{
+    if !is_numeral(text) {
+        return Some(SessionRejectReason::IncorrectDataFormat);
+    }
+    let Some(number) = number_of(text) else {
+        return Some(SessionRejectReason::ValueIsIncorrect);
+    };
+    match AllocStatus::of_number(number) {
+        Some(_) => None,
+        None => Some(SessionRejectReason::ValueIsIncorrect),
+    }
+}
+
+/// What is wrong with a text where a value of this kind is wanted.
+pub fn text_fault(kind: Kind, text: &[u8]) -> Option<SessionRejectReason>
+    ensures { MatchOption result (IsSound kind text.now) (λ reason. IsAtFault kind text.now reason) }
+{
+    match kind {
+        Kind::Lots => lots_fault(text),
+        Kind::Price => price_fault(text),
+        Kind::Date => date_fault(text),
+        Kind::Number(least, most) => number_fault(text, least, most),
+        Kind::Status => status_fault(text),
+        Kind::Text => None,
+        Kind::ShortText => unless(text.len() <= LONGEST_TEXT),
+        Kind::YesOrNo => unless(is_yes_or_no(text)),
+        Kind::Id => unless(Id::new(text).is_some()),
+        Kind::Name => unless(FirmId::new(text).is_some()),
+    }
+}

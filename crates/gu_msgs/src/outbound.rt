@@ -1,0 +1,132 @@
+//! Messages that are written, each with what it says.
+
+use crate::alloc_status::AllocStatus;
+use crate::coded_values::{AllocReportType, BusinessRejectReason, LogoutReason, PosReqResult};
+use crate::reject_reason::SessionRejectReason;
+use crate::rejection::Rejection;
+use gu_terms::{AccountId, Day, FirmId, Id, Lots, Moment, OfferNo, Price, Side, Symbol};
+
+/// A malformed or misplaced message (FIX: Reject, MsgType 3).
+#[derive(Debug, Drop)]
+pub struct Reject {
+    /// The number of the message.
+    pub ref_seq_num: u64,
+    /// The tag at fault, or 0 where none can be read.
+    pub ref_tag_id: u32,
+    /// The type of the message, where it has one; it is named if it has the form of a type.
+    pub ref_msg_type: Option<Vec<u8>>,
+    pub reason: SessionRejectReason,
+}
+
+/// A message that its own kind doesn't answer (FIX: BusinessMessageReject, MsgType j).
+#[derive(Debug, Drop)]
+pub struct BusinessMessageReject {
+    pub ref_seq_num: u64,
+    /// The offer that was spoken of.
+    pub ref_id: Option<OfferNo>,
+    pub ref_msg_type: Vec<u8>,
+    pub reason: BusinessRejectReason,
+    pub rejection: Option<Rejection>,
+}
+
+/// The answer to a report (FIX: TradeCaptureReportAck, MsgType AR).
+#[derive(Clone, Copy, Debug, PartialEq, Eq)]
+pub struct TradeCaptureReportAck {
+    pub trade_report_id: Id,
+    pub trd_match_id: Id,
+    pub rejection: Option<Rejection>,
+}
+
+/// The answer to a give-up (FIX: AllocationInstructionAck, MsgType P).
+#[derive(Clone, Copy, Debug, PartialEq, Eq)]
+pub struct AllocationInstructionAck {
+    pub alloc_id: Id,
+    pub rejection: Option<Rejection>,
+}
+
+/// One side of a trade that was made (FIX: TradeCaptureReport, MsgType AE).
+#[derive(Clone, Copy, Debug, PartialEq, Eq)]
+pub struct TradeCaptureReport {
+    /// The number of the entry that made the trade.
+    pub entry: u64,
+    /// The firm's own id of its report.
+    pub trade_report_ref_id: Id,
+    pub trd_match_id: Id,
+    pub symbol: Symbol,
+    pub last_qty: Lots,
+    pub last_px: Price,
+    pub trade_date: Day,
+    pub side: Side,
+    pub account: AccountId,
+}
+
+/// What happens to an offer (FIX: AllocationReport, MsgType AS).
+#[derive(Clone, Copy, Debug, PartialEq, Eq)]
+pub struct AllocationReport {
+    pub alloc_report_id: OfferNo,
+    pub alloc_report_type: AllocReportType,
+    pub alloc_status: AllocStatus,
+    pub symbol: Symbol,
+    pub side: Side,
+    pub quantity: Lots,
+    pub avg_px: Price,
+    pub trade_date: Day,
+    pub account: AccountId,
+}
+
+/// The answer to a question for positions (FIX: RequestForPositionsAck, MsgType AO).
+#[derive(Clone, Copy, Debug, PartialEq, Eq)]
+pub struct RequestForPositionsAck {
+    pub pos_req_id: Id,
+    pub outcome: PosReqResult,
+    pub account: AccountId,
+}
+
+/// A position (FIX: PositionReport, MsgType AP).
+#[derive(Clone, Copy, Debug, PartialEq, Eq)]
+pub struct PositionReport {
+    pub pos_req_id: Id,
+    /// Its place among the reports of the question, from 1.
+    pub place: u64,
+    pub clearing_business_date: Day,
+    pub account: AccountId,
+    pub symbol: Symbol,
+    pub long_qty: u64,
+    pub short_qty: u64,
+}
+
+/// What a message says behind its header, by its type.
+#[derive(Debug, Drop)]
+pub enum Body {
+    Logon {
+        heart_bt_int: u64,
+        resets_seq_num: bool,
+    },
+    /// With the id of the TestRequest that it answers.
+    Heartbeat(Option<Vec<u8>>),
+    TestRequest,
+    /// From this number on.
+    ResendRequest(u64),
+    Reject(Reject),
+    /// To this number.
+    SequenceReset(u64),
+    Logout(Option<LogoutReason>),
+    BusinessMessageReject(BusinessMessageReject),
+    TradeCaptureReportAck(TradeCaptureReportAck),
+    AllocationInstructionAck(AllocationInstructionAck),
+    TradeCaptureReport(TradeCaptureReport),
+    AllocationReport(AllocationReport),
+    RequestForPositionsAck(RequestForPositionsAck),
+    PositionReport(PositionReport),
+}
+
+/// A message to a firm.
+#[derive(Debug, Drop)]
+pub struct Outbound {
+    pub firm: FirmId,
+    pub msg_seq_num: u64,
+    pub sending_time: Moment,
+    /// When it was sent first, where it is sent again.
+    pub orig_sending_time: Option<Moment>,
+    pub body: Body,
+}

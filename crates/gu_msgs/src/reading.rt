@@ -1,0 +1,90 @@
+//! Messages from their fields.
+
+ghost use Rattle.std.specs.Prelude.{◌≡◌, Some, IfErr, IfOk, MatchResult};
+ghost use Rattle.gu_fix.specs.declared.tag.TheConstants.{MSG_TYPE};
+ghost use Rattle.gu_msgs.specs.Faults.{IsRefusal, untyped_fault};
+ghost use Rattle.gu_msgs.specs.Held.{IsDisagreed, IsTypedRefusal, IsWellMade};
+ghost use Rattle.gu_msgs.specs.Messages.{Says};
+ghost use Rattle.gu_msgs.specs.MsgTypes.{code_of};
+ghost use Rattle.gu_msgs.specs.Values.{first_value};
+
+use crate::allocation_instruction::read_allocation_instruction;
+use crate::allocation_report_ack::read_allocation_report_ack;
+use crate::fault::{Fault, MsgFault};
+use crate::field_values::first_value;
+use crate::inbound::Inbound;
+use crate::msg_type::{MsgType, is_type_text};
+use crate::reject_reason::SessionRejectReason;
+use crate::request_for_positions::read_request_for_positions;
+use crate::run::Run;
+use crate::session_messages::{
+    read_heartbeat, read_logon, read_resend_request, read_sequence_reset, read_test_request,
+};
+use crate::shape::{fault_at, repeated, shape_fault};
+use crate::tables::header_rows;
+use crate::trade_capture_report::read_trade_capture_report;
+use crate::value_faults::value_fault;
+use gu_fix::{Fields, MSG_TYPE};
+use std::alloc::{AllocError, Global};
+
+/// A message of this type whose shape and values are sound, unless some don't agree.
+fn read_well_made(alloc: Global, fields: &Run<'_>, msg_type: MsgType) -> Result<Inbound, MsgFault>
+    requires { IsWellMade msg_type fields.now }
+    ensures { MatchResult result (Says fields.now) (IsDisagreed msg_type fields.now) }
+{
+    match msg_type {
+        MsgType::Heartbeat => read_heartbeat(alloc, fields),
+        MsgType::TestRequest => read_test_request(alloc, fields),
+        MsgType::ResendRequest => read_resend_request(fields),
+        MsgType::Reject => Ok(Inbound::Reject),
+        MsgType::SequenceReset => read_sequence_reset(fields),
+        MsgType::Logout => Ok(Inbound::Logout),
+        MsgType::Logon => read_logon(fields),
+        MsgType::TradeCaptureReport => read_trade_capture_report(fields),
+        MsgType::AllocationInstruction => read_allocation_instruction(alloc, fields),
+        MsgType::AllocationReportAck => read_allocation_report_ack(fields),
+        MsgType::RequestForPositions => read_request_for_positions(fields),
+    }
+}
+
+/// A message of this type.
+fn read_typed(alloc: Global, fields: &Run<'_>, msg_type: MsgType) -> Result<Inbound, MsgFault>
+    requires { first_value MSG_TYPE fields.now ≡ Some (code_of msg_type) }
+    ensures { MatchResult result (Says fields.now) (IsTypedRefusal msg_type fields.now) }
+{
+    if let Some(fault) = shape_fault(alloc, fields, msg_type)? {
+        return Err(MsgFault::Rejected(fault));
+    }
+    if let Some(fault) = value_fault(fields, msg_type) {
+        return Err(MsgFault::Rejected(fault));
+    }
+    read_well_made(alloc, fields, msg_type)
+}
+
+/// The fault of fields without a type.
+fn untyped_fault(alloc: Global, fields: &Run<'_>) -> Result<Fault, AllocError>
+    ensures { IfOk result (λ fault. fault ≡ untyped_fault fields.now) }
+{
+    match repeated(alloc, fields, &[], header_rows())? {
+        Some(tag) => Ok(fault_at(SessionRejectReason::TagAppearsMoreThanOnce, tag)),
+        None => Ok(fault_at(SessionRejectReason::RequiredTagMissing, MSG_TYPE)),
+    }
+}
+
+/// What a message's fields say, or their first fault.
+pub fn read(alloc: Global, fields: &Fields) -> Result<Inbound, MsgFault>
+    ensures says { IfOk result (Says fields.now) }
+    ensures refused { IfErr result (IsRefusal fields.now) }
+{
+    let all = Run::of(fields);
+    let Some(text) = first_value(&all, MSG_TYPE) else {
+        return Err(MsgFault::Rejected(untyped_fault(alloc, &all)?));
+    };
+    if !is_type_text(text) {
+        return Err(MsgFault::Rejected(fault_at(SessionRejectReason::InvalidMsgType, MSG_TYPE)));
+    }
+    match MsgType::of_code(text) {
+        Some(msg_type) => read_typed(alloc, &all, msg_type),
+        None => Ok(Inbound::Unread),
+    }
+}

@@ -1,0 +1,68 @@
+//! Why what a firm asked for isn't in the book.
+
+ghost use Rattle.std.specs.Prelude.{◌≡◌};
+ghost use Rattle.gu_msgs.specs.Rejections.{reason_number, reason_of, rejection_text};
+
+use gu_terms::Refusal;
+
+/// Why a command of a firm's isn't in the book.
+#[derive(Clone, Copy, Debug, PartialEq, Eq)]
+pub enum Rejection {
+    /// The house refused it.
+    Refused(Refusal),
+    /// There was no memory for it.
+    Memory,
+    /// The book is full.
+    Full,
+}
+
+/// The kind of a rejection (FIX: TradeReportRejectReason, tag 751).
+#[derive(Clone, Copy, Debug, PartialEq, Eq)]
+pub enum TradeReportRejectReason {
+    InvalidPartyInformation,
+    UnknownInstrument,
+    Other,
+}
+
+impl TradeReportRejectReason {
+    /// Its value on the wire.
+    pub fn number(self) -> u64
+        ensures { result ≡ reason_number self }
+    {
+        match self {
+            TradeReportRejectReason::InvalidPartyInformation => 1,
+            TradeReportRejectReason::UnknownInstrument => 2,
+            TradeReportRejectReason::Other => 99,
+        }
+    }
+}
+
+impl Rejection {
+    /// Its kind.
+    pub fn reason(self) -> TradeReportRejectReason
+        ensures { result ≡ reason_of self }
+    {
+        match self {
+            Rejection::Refused(Refusal::UnknownInstrument) => {
+                TradeReportRejectReason::UnknownInstrument
+            }
+            Rejection::Refused(Refusal::UnknownAccount | Refusal::NotYours) => {
+                TradeReportRejectReason::InvalidPartyInformation
+            }
+            Rejection::Refused(_) | Rejection::Memory | Rejection::Full => {
+                TradeReportRejectReason::Other
+            }
+        }
+    }
+
+    /// Its text.
+    pub fn text(self) -> &'static str
+        ensures { result.now ≡ rejection_text self }
+    {
+        match self {
+            Rejection::Refused(refusal) => refusal.name(),
+            Rejection::Memory => "Memory",
+            Rejection::Full => "Full",
+        }
+    }
+}

@@ -1,0 +1,12 @@
+//! What the header of a message says.
+
+/// What a header says (FIX: Standard Header), as bytes.
+#[derive(Drop)]
+pub struct Header {
+    /// The type: the first that stands.
+    pub msg_type: Option<Vec<u8>>,
+    pub sender_comp_id: Option<Vec<u8>>,
+    pub target_comp_id: Option<Vec<u8>>,
+    pub msg_seq_num: Option<Vec<u8>>,
+    pub poss_dup_flag: Option<Vec<u8>>,
+}

@@ -1,0 +1,40 @@
+//! Whole numbers as messages write them.
+
+ghost use Rattle.std.specs.Prelude.{◌≡◌, ◌+◌, ◌-◌, ◌*◌, ◌^◌, ◌≤◌, ◌<◌, IsTrue, MatchOption};
+ghost use Rattle.std.specs.Str.Parse.{AllDigits, digits_value};
+ghost use Rattle.gu_msgs.specs.Values.{is_numeral};
+
+use gu_terms::are_digits;
+
+/// Whether a text is digits alone, at least one.
+pub fn is_numeral(text: &[u8]) -> bool
+    ensures { result ≡ is_numeral text.now }
+{
+    !text.is_empty() && are_digits(text)
+}
+
+/// The number with one more digit behind it.
+fn with_digit(number: u64, digit: u8) -> Option<u64>
+    requires { 48 ≤ digit }
+    ensures { MatchOption result (2 ^ 64 ≤ 10 * number + (digit - 48)) (λ n. n ≡ 10 * number + (digit - 48)) }
+{
+    match number.checked_mul(10) {
+        Some(tens) => tens.checked_add(u64::from(digit - b'0')),
+        None => None,
+    }
+}
+
+/// The number that a numeral writes, where it has 64 bits.
+pub fn number_of(text: &[u8]) -> Option<u64>
+    requires { IsTrue (is_numeral text.now) }
+    ensures { MatchOption result (2 ^ 64 ≤ digits_value 10 text.now) (λ n. n ≡ digits_value 10 text.now) }
+{
+    let mut number = 0;
+    for digit in text {
+        match with_digit(number, *digit) {
+            Some(longer) => number = longer,
+            None => return None,
+        }
+    }
+    Some(number)
+}
