@@ -1,12 +1,14 @@
 -- The check of a sweep sheet: the verdict on it as a line, or its first bad line.
-use Rattle.std.specs.Prelude.{◌≡◌, ℕ, ◌⊎◌, List, [], Option, Result}
+use Rattle.std.specs.Prelude.{◌≡◌, ℕ, ◌⊎◌, List, [], OnOk, Option, Result}
 use Rattle.std.specs.Io.KnownBytes.{Consumes, Appends, Keeps, IsAtEnd}
 use Rattle.gu_text.specs.Sheets.{IsSheet, Refuses}
 use Rattle.gu_text.specs.Verdicts.{verdict_text}
 use Rattle.gu_text.specs.declared.error.SheetError.{SheetError}
 use Rattle.gu_text.specs.declared.error.SheetError.TheVariants as sheet_error
 use Rattle.gu_text.specs.declared.sheet.Sheet.{Sheet}
+use Rattle.gu_terms.specs.Takes.{lots_of}
 use Rattle.gu_view.specs.Check.{verdict}
+use Rattle.gu_view.specs.Takes.{IsGreatest}
 use Rattle.gu_view.specs.declared.error.CutFault.{CutFault}
 use Rattle.giveup.specs.Input.{ReadsAll}
 use Rattle.giveup.specs.Serving.{WrotePart}
@@ -18,11 +20,12 @@ abbrev pub error_of : SheetError → EngineError
 error_of sheet_error.Memory = Memory
 error_of (sheet_error.BadLine number) = BadLine number
 
--- a text is a sheet, and this is the verdict on its takes and its cut
+-- a text is a sheet, and this is the verdict on its takes and its cut; takes that are right are greatest
 pub record IsVerdictOn (text : List ℕ) (answer : Result ℕ CutFault) : Type 0 where
   pub sheet : Sheet
   pub is_sheet : IsSheet text sheet
   pub is_verdict : answer ≡ verdict sheet.view sheet.takes sheet.cut
+  pub greatest : OnOk answer (IsGreatest sheet.view (lots_of sheet.takes))
 
 -- all that the reader had is a sheet, this is the verdict on it, and the verdict's line was written
 pub record Checked (answer : Result ℕ CutFault) (input_old input_new output_old output_new : Option (List ℕ)) : Type 0 where

@@ -94,6 +94,11 @@ fn other_views_are_checked(rt: HostRuntime) -> Result<(), Fail> {
             "SHEET G1 11/OFFER 1 10 P1 E1 A1 C1/OFFER 2 12 P2 E1 A2 C1/OFFER 3 15 P3 E2 A1 C1/OFFER 4 5 P4 E2 A3 C2/ROOM EXEC E1 10/ROOM AGR P1 100/ROOM ACCT A1 10/ROOM CARRY C1 100/ROOM AGR P2 100/ROOM ACCT A2 20/ROOM EXEC E2 20/ROOM AGR P3 100/ROOM AGR P4 0/ROOM ACCT A3 100/ROOM CARRY C2 100/TAKE 1 0/TAKE 2 10/TAKE 3 10/TAKE 4 0/CUT EXEC E1/CUT ACCT A1/CUT AGR P4/END/",
             "OK 20/",
         ),
+        // One offer, which is in the cut itself.
+        (
+            "SHEET G1 6/OFFER 1 7 P1 E1 A1 C1/ROOM EXEC E1 100/ROOM AGR P1 100/ROOM ACCT A1 100/ROOM CARRY C1 100/TAKE 1 7/CUT OFFER 1/END/",
+            "OK 7/",
+        ),
         // Two offers under one carrying firm's limit, taken in one of the ways that there are.
         (
             "SHEET G1 8/OFFER 1 10 P1 E1 A1 C1/OFFER 2 10 P2 E1 A2 C1/ROOM EXEC E1 100/ROOM AGR P1 100/ROOM ACCT A1 10/ROOM CARRY C1 13/ROOM AGR P2 100/ROOM ACCT A2 10/TAKE 1 10/TAKE 2 3/CUT CARRY C1/END/",

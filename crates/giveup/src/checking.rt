@@ -1,6 +1,7 @@
 //! The check of a sweep sheet.
 
-ghost use Rattle.std.specs.Prelude.{◌≡◌, ℕ, IfOk, IsErrOf};
+ghost use Rattle.std.specs.Prelude.{◌≡◌, ℕ, IfOk, IsErr, IsErrOf, IsOk};
+ghost use Rattle.std.specs.Process.{exit_status};
 ghost use Rattle.gu_text.specs.Sheets.{Refuses};
 ghost use Rattle.gu_text.specs.declared.error.SheetError.TheVariants as sheet_error;
 ghost use Rattle.giveup.specs.Checking.{Checked, CheckedFront, HasBadLine, IsVerdictOn};
@@ -12,6 +13,7 @@ use gu_text::{Sheet, verdict_text};
 use gu_view::CutFault;
 use std::alloc::Global;
 use std::io::{Read, Write};
+use std::process::ExitCode;
 
 /// The verdict on the sheet that a text is.
 fn verdict_on(alloc: Global, text: &[u8]) -> Result<Result<u64, CutFault>, EngineError>
@@ -41,4 +43,15 @@ pub fn check<R: Read, W: Write>(
     let line = verdict_text(alloc, &verdict)?;
     send(writer, &line)?;
     Ok(verdict)
+}
+
+/// The status after a verdict: 0 where the takes are right, and else 1.
+pub fn status_after(verdict: &Result<u64, CutFault>) -> ExitCode
+    ensures right { IsOk verdict.now → exit_status result ≡ 0 }
+    ensures fault { IsErr verdict.now → exit_status result ≡ 1 }
+{
+    match verdict {
+        Ok(_) => ExitCode::SUCCESS,
+        Err(_) => ExitCode::FAILURE,
+    }
 }

@@ -8,6 +8,8 @@ mod capturing;
 mod check_tests;
 mod checking;
 mod error;
+#[cfg(test)]
+mod error_tests;
 mod field_values;
 mod input;
 mod position_lines;
@@ -26,7 +28,7 @@ mod word_tests;
 mod words;
 
 use crate::capturing::capture;
-use crate::checking::check;
+use crate::checking::{check, status_after};
 use crate::error::RunError;
 use crate::sample::{sample_day, sample_reference};
 use crate::words::{Task, answer, given, read};
@@ -80,8 +82,6 @@ fn run_capture<R: Input + Print + Alloc<A = Global>>(rt: &R) -> Result<ExitCode,
 fn run_check<R: Input + Print + Alloc<A = Global>>(rt: &R) -> Result<ExitCode, RunError> {
     let mut reader = rt.reader();
     let mut writer = io::writer(rt);
-    match check(rt.alloc(), &mut reader, &mut writer)? {
-        Ok(_) => Ok(ExitCode::SUCCESS),
-        Err(_) => Ok(ExitCode::FAILURE),
-    }
+    let verdict = check(rt.alloc(), &mut reader, &mut writer)?;
+    Ok(status_after(&verdict))
 }

@@ -65,7 +65,7 @@ fn help_names_each_task(rt: HostRuntime) -> Result<(), Fail> {
     let help = said(rt.alloc(), &["giveup", "--help"])?;
     assert!(rt;
         help.as_str()
-            == "Without a command: trade capture on the sample\n\nUsage: giveup [COMMAND]\n\nCommands:\n  check  Checks the takes and the cut of a sheet\n  help   Print this message or the help of the given subcommand(s)\n\nOptions:\n  -h, --help  Print help\n"
+            == "The desk of a clearing house. Without a command: trade capture on the sample, from standard input\n\nUsage: giveup [COMMAND]\n\nCommands:\n  check  Checks the sweep sheet on standard input: prints OK and its lots, or its first fault\n  help   Print this message or the help of the given subcommand(s)\n\nOptions:\n  -h, --help  Print help\n"
     );
     Ok(())
 }

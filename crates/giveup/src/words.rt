@@ -31,9 +31,13 @@ pub enum Task {
 fn program<'a>(alloc: Global) -> Result<Command<'a>, AllocError>
     ensures { IfOk result (λ command. app_of command ≡ program) }
 {
-    let check = Command::new(alloc, "check").about("Checks the takes and the cut of a sheet");
+    let check = Command::new(alloc, "check").about(
+        "Checks the sweep sheet on standard input: prints OK and its lots, or its first fault",
+    );
     Command::new(alloc, "giveup")
-        .about("Without a command: trade capture on the sample")
+        .about(
+            "The desk of a clearing house. Without a command: trade capture on the sample, from standard input",
+        )
         .subcommand(check)
 }
 

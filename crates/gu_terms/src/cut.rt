@@ -1,7 +1,7 @@
 //! Cuts: the limits and offers that bound a sweep.
 
 ghost use Rattle.std.specs.Prelude.{◌≡◌, [], not, IfOk, OnErr, if◌then◌else◌, ◌++◌, ◌∷◌};
-ghost use Rattle.std.specs.List.{list_any};
+ghost use Rattle.std.specs.List.{list_any, IsDistinct};
 ghost use Rattle.gu_terms.specs.Cuts.{has_number};
 ghost use Rattle.gu_terms.specs.LimitKeys.{has_key};
 
@@ -62,14 +62,16 @@ impl Cut {
 
     /// The offers, in order.
     pub fn offers(&self) -> &[OfferNo]
-        ensures { result.now ≡ self.now.offers }
+        ensures offers { result.now ≡ self.now.offers }
+        ensures once { IsDistinct ⟦<OfferNo as PartialEq>⟧.eq result.now }
     {
         self.offers.as_slice()
     }
 
     /// The keys, in order.
     pub fn keys(&self) -> &[LimitKey]
-        ensures { result.now ≡ self.now.keys }
+        ensures keys { result.now ≡ self.now.keys }
+        ensures once { IsDistinct ⟦<LimitKey as PartialEq>⟧.eq result.now }
     {
         self.keys.as_slice()
     }

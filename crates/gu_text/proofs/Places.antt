@@ -21,12 +21,6 @@ at_either (z ∷ xs) ys (suc place) y h =
       | inr second ↦ inr (second.0, second.1, omega (arith, second.2))
     ]
 
--- what is taken of the first of two lists
-pub take-append : {X : Type 0} (xs ys : List X) (n : ℕ) → n ≤ length xs → take n (xs ++ ys) ≡ take n xs
-take-append xs ys zero h = refl
-take-append [] ys (suc n) h = absurd (omega (arith, h))
-take-append (z ∷ xs) ys (suc n) h = ap (λ zs. z ∷ zs) (take-append xs ys n (omega (arith, h)))
-
 zero_more : (k : ℕ) → 0 + k ≡ k
 zero_more k = omega arith
 

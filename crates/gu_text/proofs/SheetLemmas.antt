@@ -4,7 +4,7 @@ use Rattle.std.specs.List.{filter_map, cons_option, last_or}
 use Rattle.std.specs.Option.{option_map_or, option_or, option_to_list}
 use Rattle.std.specs.Str.Lines.{lines}
 use Rattle.std.proofs.lemmas.Bool.{cond-true}
-use Rattle.std.proofs.lemmas.List.{append-nil, map-append, length-drop, take_all, take-append-drop}
+use Rattle.std.proofs.lemmas.List.{append-nil, map-append, length-drop, take_all, take-append-drop, take-append-le}
 use Rattle.std.proofs.lemmas.List.Elements.{filter_map-append}
 use Rattle.gu_terms.proofs.Gathered.{filter_map-last, last_or-given, last_or-last, push_each}
 use Rattle.gu_view.specs.Making.{MakesView, view_of}
@@ -19,7 +19,7 @@ use Rattle.gu_text.specs.declared.sheet_line.Part.{Part}
 use Rattle.gu_text.specs.declared.sheet_line.Part.TheVariants as part
 use Rattle.gu_text.specs.declared.sheet_line.SheetLine.{SheetLine}
 use Rattle.gu_text.specs.declared.sheet_line.SheetLine.TheVariants as line
-use Rattle.gu_text.proofs.Places.{one_thing, at_either, take-append, take-add, taken_at, slice_get-drop}
+use Rattle.gu_text.proofs.Places.{one_thing, at_either, take-add, taken_at, slice_get-drop}
 
 -- the parts with one more line
 pub parts_of-last : (said : List SheetLine) (next : SheetLine) → parts_of (said ++ next ∷ []) ≡ with_line (parts_of said) next
@@ -131,7 +131,7 @@ missing_end all n none count right unended =
 pub right_silent : (before more : List (List ℕ)) → AreRight before → AreSilent more → AreRight (before ++ more)
 right_silent before more right silent place other at =
     elim (at_either before more place other at) [
-      | inl inside ↦ rw (take-append before more place (omega (arith, inside.1))) (right place other inside.0)
+      | inl inside ↦ rw (take-append-le place before more (omega (arith, inside.1))) (right place other inside.0)
       | inr later ↦ inl (silent later.0 other later.1)
     ]
 

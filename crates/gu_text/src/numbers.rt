@@ -13,7 +13,6 @@ const MOST_DIGITS: usize = 12;
 const MOST: u64 = 999_999_999_999;
 
 /// Whether a word is one to twelve digits.
-
 fn is_number(word: &[u8]) -> bool
     ensures { result ≡ is_number word.now }
 {

@@ -1,4 +1,4 @@
-//! The words of a line.
+//! Words and numbers behind a text.
 
 ghost use Rattle.std.specs.Prelude.{◌≡◌, ◌++◌, OnOk};
 ghost use Rattle.std.specs.Fmt.{decimal};

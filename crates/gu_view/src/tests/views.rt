@@ -141,3 +141,30 @@ fn are_nested_where_accounts_have_one_carrying_firm(rt: HostRuntime) -> Result<(
     assert_eq!(rt; nested(alloc, &UNDER_TWO_FIRMS, &SIX_ROOMS), Some(false));
     Ok(())
 }
+
+/// Whether the view of one offer is nested whose path has its account before its agreement's executing firm.
+fn nested_out_of_order(alloc: Global) -> Option<bool> {
+    let keys = [
+        key("ACCT", "A1")?,
+        key("AGR", "P1")?,
+        key("EXEC", "E1")?,
+        key("CARRY", "C1")?,
+    ];
+    let mut offers = Vec::new(alloc);
+    let offer = Offer {
+        number: OfferNo::new(1)?,
+        lots: 5,
+        agreement: AgreementId::new(b"P1")?,
+        path: Path::of(keys),
+    };
+    offers.push(offer).ok()?;
+    let rooms = rooms_of(alloc, &SHARED_ROOMS)?;
+    let view = View::new(alloc, Group::new(b"G1")?, 0, offers, rooms).ok()?;
+    Some(view.nested())
+}
+
+#[test]
+fn are_nested_only_with_paths_in_their_order(rt: HostRuntime) -> Result<(), Fail> {
+    assert_eq!(rt; nested_out_of_order(rt.alloc()), Some(false));
+    Ok(())
+}

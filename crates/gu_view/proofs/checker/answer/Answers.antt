@@ -18,10 +18,10 @@ returns-clause-verdict c =
     let takes = c.as_slice.ensures.takes in
     verdict_known c.args.view.now c.args.takes.now c.args.cut.now c.check_marked.result
     (rw (offers, takes) at (sym c.fill_lots.ensures.unknown ∙ c.in_default.is))
-    (rw c.keys.ensures at (sym c.mark_keys.ensures.unknown ∙ c.in_default-mark_keys.is))
-    (rw (offers, c.offers.ensures) at (sym c.mark_offers.ensures.unknown ∙ c.in_default-mark_offers.is))
+    (rw c.keys.ensures.keys at (sym c.mark_keys.ensures.unknown ∙ c.in_default-mark_keys.is))
+    (rw (offers, c.offers.ensures.offers) at (sym c.mark_offers.ensures.unknown ∙ c.in_default-mark_offers.is))
     (c.check_marked.ensures (lots_of c.args.takes.now) c.args.cut.now (record {
       taken_are = rw (offers, takes) at c.in_default.ensures.lots;
-      keys_are = rw c.keys.ensures at c.in_default-mark_keys.ensures.marks;
-      numbers_are = rw (offers, c.offers.ensures) at c.in_default-mark_offers.ensures.marks;
+      keys_are = rw c.keys.ensures.keys at c.in_default-mark_keys.ensures.marks;
+      numbers_are = rw (offers, c.offers.ensures.offers) at c.in_default-mark_offers.ensures.marks;
     }))
