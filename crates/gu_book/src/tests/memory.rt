@@ -1,9 +1,9 @@
 //! Growths that are refused: run with each allocation failing in turn. A command that is refused is entered again.
 
-use super::{SAMPLE, account, enter};
+use super::{SAMPLE, enter};
 use crate::{Book, EnterError};
 use gu_ref::{RefFault, Reference};
-use gu_terms::Symbol;
+use gu_terms::{AccountId, Symbol};
 use std::alloc::Global;
 use std::process::Abort;
 use std::test::Fail;
@@ -20,7 +20,14 @@ fn enter_again(rt: &impl Abort, book: &mut Book, line: &str) -> Result<(), Fail>
     Ok(())
 }
 
-/// Enters a day, five reports, and two commands that are refused.
+/// The lots of XF6 that H1 holds long.
+fn long_lots(book: &Book) -> Option<u64> {
+    let account = AccountId::new(b"H1")?;
+    let symbol = Symbol::new(b"XF6")?;
+    Some(book.position(account, symbol).0)
+}
+
+/// Enters a day, five reports, and two commands that are refused; then the trades of all of them are there.
 fn enter_eight(rt: &impl Abort, book: &mut Book) -> Result<(), Fail> {
     for line in [
         "DAY 20260105",
@@ -34,6 +41,7 @@ fn enter_eight(rt: &impl Abort, book: &mut Book) -> Result<(), Fail> {
     ] {
         enter_again(rt, book, line)?;
     }
+    assert_eq!(rt; long_lots(book), Some(15));
     Ok(())
 }
 
@@ -49,8 +57,5 @@ fn book_again(alloc: Global) -> Result<Book, RefFault> {
 #[test]
 fn a_command_that_was_refused_memory_may_be_entered_again(rt: HostRuntime) -> Result<(), Fail> {
     let mut book = book_again(rt.alloc())?;
-    enter_eight(&rt, &mut book)?;
-    let symbol = Symbol::new(b"XF6").ok_or("no symbol")?;
-    assert_eq!(rt; book.position(account("H1")?, symbol), (15, 0));
-    Ok(())
+    enter_eight(&rt, &mut book)
 }
