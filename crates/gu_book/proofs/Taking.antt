@@ -1,5 +1,5 @@
 -- What an entry takes in beside the history.
-use Rattle.std.proofs.Common.{◌≡◌, ℕ, ◌≤◌, ◌<◌, ◌+◌, Bool, true, false, List, [], ◌∷◌, ◌++◌, Option, Some, None, IfSome, slice_get, zero, suc, length, take, refl, sym, ap, ◌∙◌, arith, length-append}
+use Rattle.std.proofs.Common.{◌≡◌, ℕ, ◌≤◌, ◌<◌, Bool, true, false, List, [], ◌∷◌, ◌++◌, Option, Some, None, IfSome, slice_get, zero, suc, length, take, refl, sym, ap, ◌∙◌, arith, length-append}
 use Rattle.std.proofs.Math.Seq.{take-append_seam}
 use Rattle.std.specs.Option.{option_map_or, option_to_list}
 use Rattle.gu_terms.specs.declared.command.Command.{Command}
@@ -8,17 +8,17 @@ use Rattle.gu_terms.specs.declared.day.Day.{Day}
 use Rattle.gu_terms.specs.declared.entry.Entry.{Entry}
 use Rattle.gu_terms.specs.declared.entry.Entry.TheVariants.{Asked}
 use Rattle.gu_terms.specs.declared.refusal.Refusal.{Refusal}
+use Rattle.gu_terms.specs.declared.refusal.Refusal.TheVariants.{DuplicateId, MatchConflict}
 use Rattle.gu_terms.specs.declared.reply.Done.{Done}
 use Rattle.gu_terms.specs.declared.reply.Done.TheVariants.{Opened, LimitSet, Reported}
 use Rattle.gu_terms.specs.declared.reply.Reply.{Reply}
 use Rattle.gu_terms.specs.declared.reply.Reply.TheVariants.{Accepted, Denied}
 use Rattle.gu_terms.specs.declared.report.Report.{Report}
 use Rattle.gu_ref.specs.Tables.{Tables}
-use Rattle.gu_terms.specs.declared.refusal.Refusal.TheVariants.{DuplicateId, MatchConflict}
 use Rattle.gu_trades.specs.Matching.{conflicts, is_waiting}
 use Rattle.gu_trades.specs.Reports.{has_report, report_of, with_match}
 use Rattle.gu_book.specs.Answer.{answer_where, first_standing, report_tests}
-use Rattle.gu_book.specs.Legal.{IsKeptLegal, IsLegal, MayFollow}
+use Rattle.gu_book.specs.Legal.{IsKeptLegal, MayFollow}
 use Rattle.gu_book.specs.Reports.{Fits, open_day, report_on, reports_after, reports_of}
 use Rattle.gu_book.proofs.Growing.{legal_push, reports_of-push}
 

@@ -142,7 +142,7 @@ fn are_nested_where_accounts_have_one_carrying_firm(rt: HostRuntime) -> Result<(
     Ok(())
 }
 
-/// Whether the view of one offer is nested whose path has its account before its agreement's executing firm.
+/// Whether the view of one offer is nested, whose path begins with the account.
 fn nested_out_of_order(alloc: Global) -> Option<bool> {
     let keys = [
         key("ACCT", "A1")?,

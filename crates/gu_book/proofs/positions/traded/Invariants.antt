@@ -1,6 +1,5 @@
-use Rattle.std.proofs.Common.{◌≡◌, ◌≤◌, ◌*◌, take}
+use Rattle.std.proofs.Common.{◌≡◌, ◌≤◌, ◌*◌, take, sum_by}
 use Rattle.gu_book.specs.Positions.{brought}
-use Rattle.std.proofs.Common.{sum_by}
 use Rattle.gu_book.proofs.positions.traded.Given as goal
 
 abbrev pub invariant-loop-report : goal.invariant-loop-report

@@ -1,4 +1,4 @@
-use Rattle.std.proofs.Common.{◌≤◌, arith, ap, length, subst, sym}
+use Rattle.std.proofs.Common.{arith, ap, length}
 use Rattle.gu_book.proofs.Taking.{no_more_reports}
 use Rattle.gu_book.proofs.book.Book.position.Goals as goal
 
