@@ -177,9 +177,14 @@ fn group_fault(
     ensures { IfOk result (λ fault. fault ≡ group_fault msg_type fields.now counter) }
 {
     let rows = entry_rows(counter);
-    let group = group_of(fields, msg_type, counter);
+    if rows.is_empty() {
+        return Ok(None);
+    }
     match first_value(fields, counter) {
-        Some(text) => counted_fault(alloc, counter, text, &group, rows),
+        Some(text) => {
+            let group = group_of(fields, msg_type, counter);
+            counted_fault(alloc, counter, text, &group, rows)
+        }
         None => Ok(None),
     }
 }

@@ -2,7 +2,7 @@
 
 ghost use Rattle.std.specs.Prelude.{◌≡◌, ◌++◌, List, MatchOption};
 ghost use Rattle.std.specs.List.{flat_map};
-ghost use Rattle.gu_msgs.specs.Groups.{entries_begun, entries_by, entries_of};
+ghost use Rattle.gu_msgs.specs.Groups.{entries_by, entries_of};
 ghost use Rattle.gu_msgs.specs.Items.{AreSound, IsFirstAtFault, IsItemAtFault, IsSoundItem, item_of, items_of, message_items, row_items};
 ghost use Rattle.gu_msgs.specs.Rows.{tag_of};
 ghost use Rattle.gu_msgs.specs.Tables.{entry_rows};
@@ -55,12 +55,13 @@ fn entries_fault(group: &Run<'_>, first: u32, rows: &[Row]) -> Option<Fault>
     None
 }
 
-/// The first of the values of a group that isn't allowed.
-fn group_fault(group: &Run<'_>, rows: &[Row]) -> Option<Fault>
-    ensures { let items = flat_map (items_of rows.now) (entries_begun rows.now group.now) in MatchOption result (AreSound items) (λ fault. IsFirstAtFault items fault) }
+/// The first of the values of the group that a tag counts that isn't allowed. A tag that counts nothing costs no walk.
+fn group_fault(fields: &Run<'_>, msg_type: MsgType, counter: u32) -> Option<Fault>
+    ensures { let items = flat_map (items_of (entry_rows counter)) (entries_of msg_type counter fields.now) in MatchOption result (AreSound items) (λ fault. IsFirstAtFault items fault) }
 {
+    let rows = entry_rows(counter);
     match rows.first() {
-        Some(row) => entries_fault(group, row.tag(), rows),
+        Some(row) => entries_fault(&group_of(fields, msg_type, counter), row.tag(), rows),
         None => None,
     }
 }
@@ -71,10 +72,7 @@ fn outer_fault(fields: &Run<'_>, msg_type: MsgType, row: Row) -> Option<Fault>
 {
     match row_fault(fields, row) {
         Some(fault) => Some(fault),
-        None => {
-            let group = group_of(fields, msg_type, row.tag());
-            group_fault(&group, entry_rows(row.tag()))
-        }
+        None => group_fault(fields, msg_type, row.tag()),
     }
 }
 

@@ -1,6 +1,6 @@
-use Rattle.std.proofs.Common.{◌∷◌, [], ap, ◌∙◌}
+use Rattle.std.proofs.Common.{◌∷◌, []}
 use Rattle.std.specs.List.{flat_map}
-use Rattle.gu_msgs.specs.Groups.{entries_of, group_of}
+use Rattle.gu_msgs.specs.Groups.{entries_of}
 use Rattle.gu_msgs.specs.Items.{item_of, items_of}
 use Rattle.gu_msgs.specs.Rows.{tag_of}
 use Rattle.gu_msgs.specs.Tables.{entry_rows}
@@ -16,7 +16,5 @@ returns-in-Some c =
 pub returns-in-None : goal.returns-in-None
 returns-in-None c =
     let tag = tag_of c.args.row in
-    let rows = c.entry_rows.ensures ∙ ap entry_rows c.tag-in-None.ensures in
-    let group = c.group_of-group.ensures.fields ∙ ap (λ t. group_of c.args.msg_type t c.args.fields.now) c.tag.ensures in
-    let others = rw (rows, group) at c.group_fault.ensures in
+    let others = rw c.tag.ensures at c.group_fault.ensures in
     behind_sound (item_of c.args.fields.now c.args.row ∷ []) (flat_map (items_of (entry_rows tag)) (entries_of c.args.msg_type tag c.args.fields.now)) (c.in-None.ensures, tt) c.group_fault.result others
