@@ -24,7 +24,6 @@ use std::marker::Model;
 pub const MOST_ENTRIES: usize = 1_000_000;
 
 /// A reference, and a legal history of what was entered.
-#[derive(Drop)]
 pub struct Book {
     reference: Reference,
     history: History,
@@ -33,6 +32,21 @@ pub struct Book {
     /// The reports that the history took in.
     trades: Trades,
     alloc: Global,
+}
+
+impl Drop for Book {
+    fn drop(self) {
+        let Book {
+            reference,
+            history,
+            today: _,
+            trades,
+            alloc: _,
+        } = self;
+        drop(reference);
+        drop(history);
+        drop(trades);
+    }
 }
 
 impl Model for Book {
