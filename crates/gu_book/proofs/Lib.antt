@@ -1,3 +1,5 @@
+pub mod Ascending
 pub mod Growing
 pub mod LimitLemmas
 pub mod Taking
+pub mod UnknownGroups

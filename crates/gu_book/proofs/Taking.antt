@@ -17,13 +17,13 @@ use Rattle.gu_terms.specs.declared.report.Report.{Report}
 use Rattle.gu_ref.specs.Tables.{Tables}
 use Rattle.gu_trades.specs.Matching.{conflicts, is_waiting}
 use Rattle.gu_trades.specs.Reports.{has_report, report_of, with_match}
-use Rattle.gu_book.specs.Answer.{answer_where, first_standing, report_tests}
+use Rattle.gu_book.specs.Answer.{answer_where, first_standing, tests_of}
 use Rattle.gu_book.specs.Legal.{IsKeptLegal, MayFollow}
 use Rattle.gu_book.specs.Reports.{Fits, open_day, report_on, reports_after, reports_of}
 use Rattle.gu_book.proofs.Growing.{legal_push, reports_of-push}
 
 -- where a command is accepted, no test stands
-none_stands : (tests : List (Bool × Refusal)) (done given : Done) → first_standing tests done ≡ Accepted given → (k : ℕ) (stands : Bool) (why : Refusal) → slice_get tests k ≡ Some (stands, why) → stands ≡ false
+pub none_stands : (tests : List (Bool × Refusal)) (done given : Done) → first_standing tests done ≡ Accepted given → (k : ℕ) (stands : Bool) (why : Refusal) → slice_get tests k ≡ Some (stands, why) → stands ≡ false
 none_stands [] done given e k stands why at = cc
 none_stands ((true, first) ∷ tests) done given e k stands why at = cc
 none_stands ((false, first) ∷ tests) done given e zero stands why at = sym (ap (λ (found : Option (Bool × Refusal)). option_map_or (λ test. test.0) found false) at)
@@ -39,7 +39,7 @@ accepted_fits reference (Some day) reports (ReportSide firm id match_id symbol l
 accepted_fits reference (Some day) reports (ReportSide firm id match_id symbol lots price given side account) (Accepted Opened) e = tt
 accepted_fits reference (Some day) reports (ReportSide firm id match_id symbol lots price given side account) (Accepted LimitSet) e = tt
 accepted_fits reference (Some day) reports (ReportSide firm id match_id symbol lots price given side account) (Accepted (Reported matched)) e =
-    let tests = report_tests reference (Some day) reports firm id match_id symbol lots price given side account in
+    let tests = tests_of reference (Some day) reports (ReportSide firm id match_id symbol lots price given side account) in
     let done = Reported (is_waiting (with_match match_id reports)) in
     let report = report_of firm id match_id symbol lots price day side account in
     record {

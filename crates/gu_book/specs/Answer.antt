@@ -6,13 +6,8 @@ use Rattle.gu_terms.specs.declared.account.AccountId.{AccountId}
 use Rattle.gu_terms.specs.declared.day.Day.{Day}
 use Rattle.gu_terms.specs.declared.firm.FirmId.{FirmId}
 use Rattle.gu_terms.specs.declared.group.Group.{Group}
-use Rattle.gu_terms.specs.declared.id.Id.{Id}
 use Rattle.gu_terms.specs.declared.limit_key.LimitKey.{LimitKey}
 use Rattle.gu_terms.specs.declared.limit_key.LimitKey.TheVariants.{Exec, Agr, Acct, Carry}
-use Rattle.gu_terms.specs.declared.lots.Lots.{Lots}
-use Rattle.gu_terms.specs.declared.price.Price.{Price}
-use Rattle.gu_terms.specs.declared.side.Side.{Side}
-use Rattle.gu_terms.specs.declared.symbol.Symbol.{Symbol}
 use Rattle.gu_terms.specs.declared.report.Report.{Report}
 use Rattle.gu_terms.specs.declared.command.Command.{Command}
 use Rattle.gu_terms.specs.declared.command.Command.TheVariants.{OpenDay, SetLimit, ReportSide}
@@ -42,9 +37,9 @@ is_later None day = true
 is_later (Some today) day = nat_lt (date_number today.year today.month today.day) (date_number day.year day.month day.day)
 
 -- a report names a day that isn't the open one
-abbrev pub is_other_day : Option Day → Option Day → Bool
-is_other_day (Some today) (Some day) = not (same_day today day)
-is_other_day _ _ = false
+abbrev pub is_other_day : Day → Option Day → Bool
+is_other_day today None = false
+is_other_day today (Some day) = not (same_day today day)
 
 -- the account is there and another firm's
 abbrev pub is_another_firms : Tables → AccountId → FirmId → Bool
@@ -61,42 +56,45 @@ is_known_key reference (Carry firm) = is_firm reference firm
 abbrev pub most_limit : ℕ
 most_limit = 1000000000
 
--- a report that is made today conflicts with those of its match id; with no day open there is none to make
-abbrev pub conflicts_today : Option Day → List Report → (Day → Report) → Bool
-conflicts_today None partners report = false
-conflicts_today (Some today) partners report = conflicts partners (report today)
+-- the tests of an opening
+abbrev pub opening_tests : Option Day → Day → List (Bool × Refusal)
+opening_tests today day = (not (is_later today day), WrongDay) ∷ []
 
--- the tests of a report in their order, where this day is open and these reports were taken in
-abbrev pub report_tests : Tables → Option Day → List Report → FirmId → Id → Id → Symbol → Lots → Price → Option Day → Side → AccountId → List (Bool × Refusal)
-report_tests reference today reports firm id match_id symbol lots price day side account =
-    (is_none today, NoDay)
-    ∷ (is_other_day today day, WrongDay)
-    ∷ (not (is_instrument reference symbol), UnknownInstrument)
-    ∷ (is_none (account_row reference account), UnknownAccount)
-    ∷ (is_another_firms reference account firm, NotYours)
-    ∷ (has_report reports firm id, DuplicateId)
-    ∷ (conflicts_today today (with_match match_id reports) (λ made. report_of firm id match_id symbol lots price made side account), MatchConflict)
+-- the tests of a limit
+abbrev pub limit_tests : Tables → Group → LimitKey → ℕ → List (Bool × Refusal)
+limit_tests reference group key lots =
+    (not (is_group reference group && is_known_key reference key), UnknownKey)
+    ∷ (nat_lt most_limit lots, TooHigh)
     ∷ []
 
--- the answer to a report
-abbrev pub answer_to_report : Tables → Option Day → List Report → FirmId → Id → Id → Symbol → Lots → Price → Option Day → Side → AccountId → Reply
-answer_to_report reference today reports firm id match_id symbol lots price day side account =
-    first_standing (report_tests reference today reports firm id match_id symbol lots price day side account) (Reported (is_waiting (with_match match_id reports)))
+-- the tests of a report, which is made on the open day, where its firm names a day or none, and these reports were taken in
+abbrev pub report_tests : Tables → List Report → Report → Option Day → List (Bool × Refusal)
+report_tests reference reports report day =
+    (is_other_day report.day day, WrongDay)
+    ∷ (not (is_instrument reference report.symbol), UnknownInstrument)
+    ∷ (is_none (account_row reference report.account), UnknownAccount)
+    ∷ (is_another_firms reference report.account report.firm, NotYours)
+    ∷ (has_report reports report.firm report.id, DuplicateId)
+    ∷ (conflicts (with_match report.match_id reports) report, MatchConflict)
+    ∷ []
 
--- the answer to a limit
-abbrev pub answer_to_limit : Tables → Group → LimitKey → ℕ → Reply
-answer_to_limit reference group key lots = first_standing ((not (is_group reference group && is_known_key reference key), UnknownKey) ∷ (nat_lt most_limit lots, TooHigh) ∷ []) LimitSet
+-- the tests of a command in their order, where this day is open and these reports were taken in; a report needs an open day
+abbrev pub tests_of : Tables → Option Day → List Report → Command → List (Bool × Refusal)
+tests_of reference today reports (OpenDay day) = opening_tests today day
+tests_of reference today reports (SetLimit group key lots) = limit_tests reference group key lots
+tests_of reference None reports (ReportSide firm id match_id symbol lots price day side account) = (true, NoDay) ∷ []
+tests_of reference (Some today) reports (ReportSide firm id match_id symbol lots price day side account) =
+    (false, NoDay) ∷ report_tests reference reports (report_of firm id match_id symbol lots price today side account) day
 
--- the answer to an opening
-abbrev pub answer_to_opening : Option Day → Day → Reply
-answer_to_opening today day = first_standing ((not (is_later today day), WrongDay) ∷ []) Opened
+-- what a command does where no test stands, and these reports were taken in
+abbrev pub done_of : List Report → Command → Done
+done_of reports (OpenDay day) = Opened
+done_of reports (SetLimit group key lots) = LimitSet
+done_of reports (ReportSide firm id match_id symbol lots price day side account) = Reported (is_waiting (with_match match_id reports))
 
 -- the answer to a command, where this day is open and these reports were taken in
 abbrev pub answer_where : Tables → Option Day → List Report → Command → Reply
-answer_where reference today reports (OpenDay day) = answer_to_opening today day
-answer_where reference today reports (SetLimit group key lots) = answer_to_limit reference group key lots
-answer_where reference today reports (ReportSide firm id match_id symbol lots price day side account) =
-    answer_to_report reference today reports firm id match_id symbol lots price day side account
+answer_where reference today reports command = first_standing (tests_of reference today reports command) (done_of reports command)
 
 -- the answer to a command after these entries
 abbrev pub answer : Tables → List Entry → Command → Reply

@@ -1,7 +1,10 @@
 //! Answers to commands.
 
-ghost use Rattle.std.specs.Prelude.{◌≡◌, Some};
-ghost use Rattle.gu_book.specs.Answer.{answer_to_limit, answer_to_opening, answer_to_report, answer_where, is_known_key, is_later, is_other_day};
+ghost use Rattle.std.specs.Prelude.{◌≡◌};
+ghost use Rattle.gu_trades.specs.Matching.{is_waiting};
+ghost use Rattle.gu_trades.specs.Reports.{with_match};
+ghost use Rattle.gu_book.specs.Answer.{answer_where, first_standing, is_known_key, is_later, is_other_day};
+ghost use Rattle.gu_book.specs.Answer.{limit_tests, opening_tests, report_tests};
 
 use gu_ref::Reference;
 use gu_terms::{Command, Day, Done, Group, LimitKey, Refusal, Reply, Report};
@@ -21,12 +24,12 @@ fn is_later(today: Option<Day>, day: Day) -> bool
 }
 
 /// Whether a report names a day that isn't the open one.
-fn is_other_day(today: Option<Day>, day: Option<Day>) -> bool
+fn is_other_day(today: Day, day: Option<Day>) -> bool
     ensures { result ≡ is_other_day today day }
 {
-    match (today, day) {
-        (Some(today), Some(day)) => today != day,
-        _ => false,
+    match day {
+        Some(day) => today != day,
+        None => false,
     }
 }
 
@@ -48,9 +51,10 @@ fn answer_to_report(
     report: &Report,
     day: Option<Day>,
 ) -> Reply
-    ensures { result ≡ answer_to_report reference.now (Some report.now.day) trades.now report.now.firm report.now.id report.now.match_id report.now.symbol report.now.lots report.now.price day report.now.side report.now.account }
+    ensures { result ≡ first_standing (report_tests reference.now trades.now report.now day)
+        (Done.Reported (is_waiting (with_match report.now.match_id trades.now))) }
 {
-    if is_other_day(Some(report.day), day) {
+    if is_other_day(report.day, day) {
         return Reply::Denied(Refusal::WrongDay);
     }
     if !reference.is_instrument(report.symbol) {
@@ -76,7 +80,7 @@ fn answer_to_report(
 
 /// The answer to a limit.
 fn answer_to_limit(reference: &Reference, group: Group, key: LimitKey, lots: u64) -> Reply
-    ensures { result ≡ answer_to_limit reference.now group key lots }
+    ensures { result ≡ first_standing (limit_tests reference.now group key lots) Done.LimitSet }
 {
     if !(reference.group(group) && is_known_key(reference, key)) {
         return Reply::Denied(Refusal::UnknownKey);
@@ -89,7 +93,7 @@ fn answer_to_limit(reference: &Reference, group: Group, key: LimitKey, lots: u64
 
 /// The answer to an opening.
 fn answer_to_opening(today: Option<Day>, day: Day) -> Reply
-    ensures { result ≡ answer_to_opening today day }
+    ensures { result ≡ first_standing (opening_tests today day) Done.Opened }
 {
     if is_later(today, day) {
         Reply::Accepted(Done::Opened)

@@ -1,7 +1,8 @@
 //! The book.
 
-ghost use Rattle.std.specs.Prelude.{◌≡◌, ◌↔◌, ◌<◌, ◌≤◌, ◌+◌, ◌++◌, ◌∷◌, [], length, IfOk, IfSome, OnOk, OnErr, IsErrOf};
+ghost use Rattle.std.specs.Prelude.{◌≡◌, ◌↔◌, ◌<◌, ◌≤◌, ◌+◌, ◌++◌, ◌∷◌, [], false, length, IfOk, IfSome, OnOk, OnErr, IsErrOf};
 ghost use Rattle.std.specs.Option.{option_to_list};
+ghost use Rattle.gu_ref.specs.Reference.{is_group};
 ghost use Rattle.gu_book.specs.Answer.{answer};
 ghost use Rattle.gu_book.specs.Legal.{IsLegal, MayFollow, StandsLast};
 ghost use Rattle.gu_book.specs.Limits.{limit_rows};
@@ -24,7 +25,6 @@ use std::marker::Model;
 pub const MOST_ENTRIES: usize = 1_000_000;
 
 /// A reference, and a legal history of what was entered.
-#[derive(Drop)]
 pub struct Book {
     reference: Reference,
     history: History,
@@ -33,6 +33,21 @@ pub struct Book {
     /// The reports that the history took in.
     trades: Trades,
     alloc: Global,
+}
+
+impl Drop for Book {
+    fn drop(self) {
+        let Book {
+            reference,
+            history,
+            today: _,
+            trades,
+            alloc: _,
+        } = self;
+        drop(reference);
+        drop(history);
+        drop(trades);
+    }
 }
 
 impl Model for Book {
@@ -127,10 +142,7 @@ impl Book {
             return Err(EnterError::Full);
         }
         let reply = answer_of(&self.reference, self.today, &self.trades, &command);
-        match self.append(Entry::Asked { command, reply }) {
-            Ok(receipt) => Ok(receipt),
-            Err(_) => Err(EnterError::Memory),
-        }
+        Ok(self.append(Entry::Asked { command, reply })?)
     }
 
     /// What an account holds of an instrument: the lots long, and the lots short.
@@ -144,9 +156,10 @@ impl Book {
     }
 
     /// The limits that were set in a group, as they stand: executing firms, agreements, accounts, carrying firms,
-    /// each in the order of the reference; none for an unknown group.
+    /// each in the order of the reference.
     pub fn limits(&self, group: &Group) -> Result<Vec<LimitRow>, AllocError>
-        ensures { IfOk result (λ rows. rows.items ≡ limit_rows self.now group.now) }
+        ensures rows { IfOk result (λ rows. rows.items ≡ limit_rows self.now group.now) }
+        ensures unknown { is_group self.now.reference group.now ≡ false → IfOk result (λ rows. rows.items ≡ []) }
     {
         limit_rows(self.alloc, &self.reference, self.history.as_slice(), group)
     }

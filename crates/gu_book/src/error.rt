@@ -1,5 +1,7 @@
 //! Why nothing was entered.
 
+ghost use Rattle.std.specs.Prelude.{◌≡◌};
+
 use std::alloc::AllocError;
 use thiserror::Error;
 
@@ -15,6 +17,10 @@ pub enum EnterError {
 }
 
 impl From<AllocError> for EnterError {
+    ghost use Rattle.gu_book.specs.declared.error.EnterError.{EnterError};
+
+    ghost from_gives = { λ _ error. error ≡ EnterError.Memory };
+
     fn from(_: AllocError) -> Self {
         EnterError::Memory
     }

@@ -4,6 +4,7 @@
 mod answering;
 mod book;
 mod error;
+mod laws;
 mod limits;
 mod positions;
 mod receipt;
@@ -13,4 +14,5 @@ mod tests;
 
 pub use book::{Book, MOST_ENTRIES};
 pub use error::EnterError;
+pub use laws::the_least_refusal_is_given;
 pub use receipt::Receipt;

@@ -5,7 +5,7 @@ mod memory;
 mod reports;
 
 use crate::{Book, EnterError};
-use gu_ref::Reference;
+use gu_ref::{CountedReads, Reference};
 use gu_terms::{
     AccountId, AgreementId, Command, Day, Entry, FirmId, Group, Id, LimitKey, Lots, Price, Reply,
     Side, Symbol, read_lots, read_price,
@@ -35,7 +35,7 @@ AGREEMENT,P4,E2,A3
 
 /// A book of the sample, without entries.
 fn book(alloc: Global) -> Result<Book, Fail> {
-    let reference = Reference::read(alloc, SAMPLE)?;
+    let reference = Reference::read(alloc, &mut CountedReads::new(SAMPLE))?;
     Ok(Book::new(alloc, reference))
 }
 

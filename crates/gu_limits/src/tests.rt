@@ -1,7 +1,7 @@
 //! The paths of the sample's agreements.
 
 use crate::path;
-use gu_ref::Reference;
+use gu_ref::{CountedReads, Reference};
 use gu_terms::{AgreementId, LimitKey, Path};
 use std::alloc::{AllocError, Global};
 use std::test::Fail;
@@ -50,7 +50,7 @@ fn shown(alloc: Global, path: Option<Path>) -> Result<Vec<u8>, AllocError> {
 
 /// The path of an agreement of the sample.
 fn path_by(alloc: Global, agreement: AgreementId) -> Result<Option<Path>, Fail> {
-    let reference = Reference::read(alloc, SAMPLE)?;
+    let reference = Reference::read(alloc, &mut CountedReads::new(SAMPLE))?;
     Ok(path(&reference, agreement))
 }
 

@@ -1,14 +1,17 @@
 -- What a reader of records has given so far, and the reference that it makes.
-use Rattle.std.proofs.Common.{◌≡◌, ◌∙◌, sym, ap, true, false, ◌⊎◌, inl, inr, ℕ, ◌<◌, ◌+◌, List, [], ◌∷◌, ◌++◌, length, Option, None, Some, Result, Ok, Err, length-append}
+use Rattle.std.proofs.Common.{◌≡◌, ◌∙◌, sym, refl, ap, cond, true, false, ◌⊎◌, inl, inr, ℕ, ◌<◌, ◌+◌, List, [], ◌∷◌, ◌++◌, length, Option, None, Some, Result, Ok, Err, length-append}
 use Rattle.std.specs.Result.{IsErrAnd, IfErr}
-use Rattle.csv.specs.Reading.{Reached, ReadRecord, Ready, default_config, reader_config, reader_state, reader_trim, source_of, strip_bom}
+use Rattle.csv.specs.Reading.{ExplainsRead, Reached, ReadRecord, Ready, default_config, is_flexible, is_io, reader_config, reader_state, reader_trim, source_of, stops_reader, strip_bom}
 use Rattle.csv.specs.declared.parser.State.TheVariants as st
 use Rattle.csv.specs.declared.reader.Reader.{Reader}
+use Rattle.csv.specs.declared.error.ErrorKind.{ErrorKind}
+use Rattle.csv.specs.declared.error.ErrorKind.TheVariants as kind
 use Rattle.csv.specs.declared.reader.Trim.TheVariants as trims
 use Rattle.csv.proofs.ReadFacts.{rows-end, rows-more}
 use Rattle.gu_ref.specs.declared.error.RefFault.{RefFault}
 use Rattle.gu_ref.specs.declared.error.RefFault.TheVariants.{Memory, BadRow, Unknown, Twice, TooMany, ReadFault}
 use Rattle.gu_ref.specs.Accepted.{record_fault}
+use Rattle.gu_ref.specs.Faults.{failure_of}
 use Rattle.gu_ref.specs.File.{AreAccepted, IsFirstFault, IsReadFrom, Refuses}
 use Rattle.gu_ref.specs.Growth.{row_count, with_record}
 use Rattle.gu_ref.specs.Made.{reference_of}
@@ -30,6 +33,7 @@ pub record IsSetUp {R : Type 0} (reader : Reader R) (turns : ℕ) : Type 0 where
   pub ready : Ready reader
   pub turns_left : 0 < turns
   pub config : reader_config reader ≡ default_config
+  pub flexible : is_flexible reader ≡ true
 
 module _ {R : Type 0} (rem : R → Option (List ℕ)) (old new : Reader R) (bytes : Option (List ℕ)) (reference : Tables) where
   -- one more record that is accepted
@@ -88,10 +92,18 @@ refuses bytes TooMany (inl e) = cc
 refuses bytes TooMany (inr h) = h
 refuses bytes ReadFault h = tt
 
--- a want of memory refuses, and a reader that failed does
-pub not_read : (bytes : Option (List ℕ)) (fault : RefFault) → (fault ≡ Memory) ⊎ (fault ≡ ReadFault) → Refuses bytes fault
-not_read bytes fault (inl e) = rw e tt
-not_read bytes fault (inr e) = rw e tt
+-- a failure to read records refuses
+pub refuses-failure : (bytes : Option (List ℕ)) (why : ErrorKind) → Refuses bytes (failure_of why)
+refuses-failure bytes why = elim (is_io why) as (λ is. Refuses bytes (cond is ReadFault Memory)) [ true ↦ tt | false ↦ tt ]
+
+-- what keeps a flexible reader of bytes from a record also stops it
+pub stops-flexible : {R : Type 0} (rem : R → Option (List ℕ)) (old new : Reader R) (why : ErrorKind) → is_flexible old ≡ true → ExplainsRead rem old new false why → stops_reader why ≡ true
+stops-flexible rem old new (kind.Io e) flexible why = refl
+stops-flexible rem old new kind.OutOfMemory flexible why = refl
+stops-flexible rem old new (kind.UnequalLengths pos expected len) flexible why = let no = why.0 in cc
+stops-flexible rem old new (kind.Utf8 pos err) flexible why = let no = why.0 in cc
+stops-flexible rem old new (kind.Serialize text) flexible why = absurd why
+stops-flexible rem old new (kind.Deserialize pos err) flexible why = absurd why
 
 -- a record that is refused, for want of memory or by its fault
 pub refused_row : {R : Type 0} (rem : R → Option (List ℕ)) (old new : Reader R) (bytes : Option (List ℕ)) (reference : Tables) (fields : List (List ℕ)) (fault : RefFault)

@@ -1,5 +1,7 @@
 -- Why a reference file is not accepted: each fault's number and its name.
-use Rattle.std.specs.Prelude.{ℕ, List, codes}
+use Rattle.std.specs.Prelude.{ℕ, List, codes, if◌then◌else◌}
+use Rattle.csv.specs.Reading.{is_io}
+use Rattle.csv.specs.declared.error.ErrorKind.{ErrorKind}
 use Rattle.gu_ref.specs.declared.error.RefFault.{RefFault}
 use Rattle.gu_ref.specs.declared.error.RefFault.TheVariants.{Memory, BadRow, Unknown, Twice, TooMany, ReadFault}
 
@@ -20,3 +22,7 @@ name_of (Unknown line) = codes "Unknown"
 name_of (Twice line) = codes "Twice"
 name_of TooMany = codes "TooMany"
 name_of ReadFault = codes "ReadFault"
+
+-- what a failure to read records is: the reader's, or a want of memory
+abbrev pub failure_of : ErrorKind → RefFault
+failure_of kind = if is_io kind then ReadFault else Memory

@@ -104,9 +104,7 @@ impl Reference {
             return Err(RefFault::BadRow(line));
         };
         self.check(line, &row)?;
-        match self.enter(row) {
-            Ok(()) => Ok(()),
-            Err(_) => Err(RefFault::Memory),
-        }
+        self.enter(row)?;
+        Ok(())
     }
 }

@@ -16,9 +16,15 @@ pub struct Account {
 }
 
 /// Accounts, each name once. To a contract it is the list of them.
-#[derive(Debug, Drop)]
 pub(crate) struct Accounts {
     rows: IndexMap<AccountId, Account>,
+}
+
+impl Drop for Accounts {
+    fn drop(self) {
+        let Accounts { rows } = self;
+        drop(rows);
+    }
 }
 
 impl Model for Accounts {

@@ -25,10 +25,17 @@ struct Pair {
 }
 
 /// Agreements, each name and each pair once. To a contract it is the list of them.
-#[derive(Debug, Drop)]
 pub(crate) struct Agreements {
     rows: IndexMap<AgreementId, Agreement>,
     pairs: IndexMap<Pair, Agreement>,
+}
+
+impl Drop for Agreements {
+    fn drop(self) {
+        let Agreements { rows, pairs } = self;
+        drop(rows);
+        drop(pairs);
+    }
 }
 
 impl Model for Agreements {

@@ -3,6 +3,7 @@
 ghost use Rattle.std.specs.Prelude.{◌≡◌};
 ghost use Rattle.gu_ref.specs.Faults.{number_of, name_of};
 
+use std::alloc::AllocError;
 use thiserror::Error;
 
 /// Why a reference file was not accepted. A line is the number of a record in the file, from 1.
@@ -26,6 +27,16 @@ pub enum RefFault {
     /// The reader failed, or asked for too many reads.
     #[error("ReadFault")]
     ReadFault,
+}
+
+impl From<AllocError> for RefFault {
+    ghost use Rattle.gu_ref.specs.declared.error.RefFault.{RefFault};
+
+    ghost from_gives = { λ _ fault. fault ≡ RefFault.Memory };
+
+    fn from(_: AllocError) -> Self {
+        RefFault::Memory
+    }
 }
 
 impl RefFault {

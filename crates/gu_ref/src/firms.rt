@@ -10,9 +10,15 @@ use std::alloc::{AllocError, Global};
 use std::marker::Model;
 
 /// Firms, each once. To a contract it is the list of them.
-#[derive(Debug, Drop)]
 pub(crate) struct Firms {
     rows: IndexSet<FirmId>,
+}
+
+impl Drop for Firms {
+    fn drop(self) {
+        let Firms { rows } = self;
+        drop(rows);
+    }
 }
 
 impl Model for Firms {

@@ -10,9 +10,15 @@ use std::alloc::{AllocError, Global};
 use std::marker::Model;
 
 /// Groups, each once. To a contract it is the list of them.
-#[derive(Debug, Drop)]
 pub(crate) struct Groups {
     rows: IndexSet<Group>,
+}
+
+impl Drop for Groups {
+    fn drop(self) {
+        let Groups { rows } = self;
+        drop(rows);
+    }
 }
 
 impl Model for Groups {

@@ -16,9 +16,15 @@ pub struct Instrument {
 }
 
 /// Instruments, each symbol once. To a contract it is the list of them.
-#[derive(Debug, Drop)]
 pub(crate) struct Instruments {
     rows: IndexMap<Symbol, Instrument>,
+}
+
+impl Drop for Instruments {
+    fn drop(self) {
+        let Instruments { rows } = self;
+        drop(rows);
+    }
 }
 
 impl Model for Instruments {

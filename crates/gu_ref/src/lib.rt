@@ -4,7 +4,7 @@
 mod accepting;
 mod accounts;
 mod agreements;
-mod bounded_reads;
+mod counted_reads;
 mod error;
 mod firms;
 mod groups;
@@ -18,6 +18,7 @@ mod tests;
 
 pub use accounts::Account;
 pub use agreements::Agreement;
+pub use counted_reads::{CountedReads, LONGEST_READ, MOST_READS};
 pub use error::RefFault;
 pub use instruments::Instrument;
 pub use laws::one_answer;

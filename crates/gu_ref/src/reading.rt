@@ -1,44 +1,66 @@
 //! A reference read from a file of rows.
 
-ghost use Rattle.std.specs.Prelude.{◌≡◌, ◌⊎◌, IfOk, IfErr};
+ghost use Rattle.std.specs.Prelude.{◌≡◌, ◌⊎◌, true, IfOk, IfErr, IsErrOf};
+ghost use Rattle.csv.specs.Reading.{error_kind, stops_reader};
+ghost use Rattle.gu_ref.specs.Faults.{failure_of};
 ghost use Rattle.gu_ref.specs.File.{IsReadFrom, Refuses};
+ghost use Rattle.gu_ref.specs.Reads.{bytes_left, has_failed, is_spent};
 
-use crate::bounded_reads::BoundedReads;
+use crate::counted_reads::CountedReads;
 use crate::error::RefFault;
 use crate::reference::Reference;
-use csv::{ErrorKind, ReaderBuilder};
+use csv::ReaderBuilder;
 use std::alloc::Global;
 use std::io::Read;
 
-/// What a failure of `csv` is to a caller: it was memory or the reader.
+/// What a failure of `csv` is to a caller: a want of memory, or the reader's.
 fn fault_of(error: &csv::Error) -> RefFault
-    ensures { (result ≡ RefFault.Memory) ⊎ (result ≡ RefFault.ReadFault) }
+    requires { stops_reader (error_kind error.now) ≡ true }
+    ensures { result ≡ failure_of (error_kind error.now) }
 {
-    match error.kind() {
-        ErrorKind::OutOfMemory => RefFault::Memory,
-        _ => RefFault::ReadFault,
+    if error.is_io_error() {
+        RefFault::ReadFault
+    } else {
+        RefFault::Memory
     }
+}
+
+/// Reads the rows of a file.
+fn read_rows<R: Read + Drop>(alloc: Global, reader: R) -> Result<Reference, RefFault>
+    ensures accepted { IfOk result (λ reference. IsReadFrom (R.remaining reader) reference) }
+    ensures refused { IfErr result (λ fault. Refuses (R.remaining reader) fault) }
+{
+    let records = ReaderBuilder::new()
+        .has_headers(false)
+        .flexible(true)
+        .from_reader(alloc, reader);
+    let mut reference = Reference::empty(alloc);
+    for fields in records.into_byte_records() {
+        match fields {
+            Ok(fields) => reference.accept(&fields)?,
+            Err(error) => return Err(fault_of(&error)),
+        }
+    }
+    Ok(reference)
 }
 
 impl Reference {
     /// Reads the rows of a file, which ends with the reader. A file with no rows is accepted.
-    ///
-    /// The reader is asked for at most 4,096 bytes at a time and at most 1,000,000 times.
-    pub fn read<R: Read + Drop>(alloc: Global, reader: R) -> Result<Reference, RefFault>
-        ensures accepted { IfOk result (λ reference. IsReadFrom (R.remaining reader) reference) }
-        ensures refused { IfErr result (λ fault. Refuses (R.remaining reader) fault) }
+    pub fn read<R: Read>(alloc: Global, reads: &mut CountedReads<R>) -> Result<Reference, RefFault>
+        ensures accepted { IfOk result (λ reference. IsReadFrom (bytes_left R.remaining reads.old) reference) }
+        ensures refused { IfErr result (λ fault. Refuses (bytes_left R.remaining reads.old) fault) }
+
+        // A read fault is of a reader that failed, or of which no read is left; and a reader that failed is one.
+        ensures read_fault { IsErrOf result RefFault.ReadFault → (has_failed reads.new ≡ true) ⊎ (is_spent reads.new ≡ true) }
+        ensures failed { has_failed reads.new ≡ true → IsErrOf result RefFault.ReadFault }
     {
-        let records = ReaderBuilder::new()
-            .has_headers(false)
-            .flexible(true)
-            .from_reader(alloc, BoundedReads::new(reader));
-        let mut reference = Reference::empty(alloc);
-        for fields in records.into_byte_records() {
-            match fields {
-                Ok(fields) => reference.accept(&fields)?,
-                Err(error) => return Err(fault_of(&error)),
-            }
+        let answer = read_rows(alloc, &mut *reads);
+        if reads.has_failed() {
+            return Err(RefFault::ReadFault);
         }
-        Ok(reference)
+        match answer {
+            Err(RefFault::ReadFault) if !reads.is_spent() => Err(RefFault::Memory),
+            answer => answer,
+        }
     }
 }

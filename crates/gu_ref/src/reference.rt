@@ -15,13 +15,29 @@ use std::marker::Model;
 
 /// The reference data of one run, each kind in the order in which it was declared.
 /// To a contract it is these five lists.
-#[derive(Debug, Drop)]
 pub struct Reference {
     firms: Firms,
     groups: Groups,
     instruments: Instruments,
     accounts: Accounts,
     agreements: Agreements,
+}
+
+impl Drop for Reference {
+    fn drop(self) {
+        let Reference {
+            firms,
+            groups,
+            instruments,
+            accounts,
+            agreements,
+        } = self;
+        drop(firms);
+        drop(groups);
+        drop(instruments);
+        drop(accounts);
+        drop(agreements);
+    }
 }
 
 impl Model for Reference {

@@ -1,6 +1,6 @@
 //! What no clause says: files that are accepted and refused, readers that fail, and limits that are reached.
 
-use crate::{Account, Agreement, Instrument, RefFault, Reference};
+use crate::{Account, Agreement, CountedReads, Instrument, RefFault, Reference};
 use gu_terms::{AccountId, AgreementId, FirmId, Group, Symbol};
 use std::alloc::{AllocError, Global};
 use std::fmt::Write;
@@ -50,7 +50,7 @@ fn agreement(name: &[u8]) -> Result<AgreementId, Fail> {
 
 /// Why the file is refused, or nothing where it is accepted.
 fn fault(alloc: Global, text: &[u8]) -> Option<RefFault> {
-    Reference::read(alloc, text).err()
+    Reference::read(alloc, &mut CountedReads::new(text)).err()
 }
 
 /// Why the sample with one more text is refused.
@@ -62,7 +62,7 @@ fn fault_after_sample(alloc: Global, more: &[u8]) -> Result<Option<RefFault>, Al
 
 #[test]
 fn the_sample_is_read_in_order(rt: HostRuntime) -> Result<(), Fail> {
-    let reference = Reference::read(rt.alloc(), SAMPLE)?;
+    let reference = Reference::read(rt.alloc(), &mut CountedReads::new(SAMPLE))?;
     assert_eq!(rt;
         reference.firms(),
         [firm(b"E1")?, firm(b"E2")?, firm(b"C1")?, firm(b"C2")?].as_slice()
@@ -100,11 +100,11 @@ fn the_sample_is_read_in_order(rt: HostRuntime) -> Result<(), Fail> {
 
 #[test]
 fn a_refused_growth_is_memory_and_the_next_read_passes(rt: HostRuntime) -> Result<(), Fail> {
-    let reference = match Reference::read(rt.alloc(), SAMPLE) {
+    let reference = match Reference::read(rt.alloc(), &mut CountedReads::new(SAMPLE)) {
         Ok(reference) => reference,
         Err(fault) => {
             assert_eq!(rt; fault, RefFault::Memory);
-            Reference::read(rt.alloc(), SAMPLE)?
+            Reference::read(rt.alloc(), &mut CountedReads::new(SAMPLE))?
         }
     };
     assert_eq!(rt; reference.agreements().len(), 4);
@@ -113,7 +113,7 @@ fn a_refused_growth_is_memory_and_the_next_read_passes(rt: HostRuntime) -> Resul
 
 #[test]
 fn a_name_finds_its_row(rt: HostRuntime) -> Result<(), Fail> {
-    let reference = Reference::read(rt.alloc(), SAMPLE)?;
+    let reference = Reference::read(rt.alloc(), &mut CountedReads::new(SAMPLE))?;
     reference.rules();
     assert!(rt; reference.firm(firm(b"C1")?));
     assert!(rt; !reference.firm(firm(b"C3")?));
@@ -285,7 +285,7 @@ fn a_reader_that_fails_is_a_read_fault(rt: HostRuntime) -> Result<(), Fail> {
         (b"FIRM,E1\nFIRM,E", RefFault::ReadFault),
         (b"FIRM,E1\nFIRM,E1\n", RefFault::Twice(2)),
     ] {
-        let read = Reference::read(rt.alloc(), Failing { text });
+        let read = Reference::read(rt.alloc(), &mut CountedReads::new(Failing { text }));
         assert_eq!(rt; read.err(), Some(want), "at {text:?}");
     }
     Ok(())
@@ -311,7 +311,7 @@ impl Read for Endless {
 #[test]
 fn reads_run_out(rt: HostRuntime) {
     assert_eq!(rt;
-        Reference::read(rt.alloc(), Endless).err(),
+        Reference::read(rt.alloc(), &mut CountedReads::new(Endless)).err(),
         Some(RefFault::ReadFault)
     );
 }

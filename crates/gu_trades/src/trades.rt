@@ -23,10 +23,17 @@ struct ReportKey {
 }
 
 /// The reports that were taken in, each id of a firm once, and each match id once or as a trade. To a contract it is the list of them.
-#[derive(Debug, Drop)]
 pub struct Trades {
     reports: IndexMap<ReportKey, Report>,
     sides: IndexMap<Id, Sides>,
+}
+
+impl Drop for Trades {
+    fn drop(self) {
+        let Trades { reports, sides } = self;
+        drop(reports);
+        drop(sides);
+    }
 }
 
 impl Model for Trades {

@@ -2,7 +2,7 @@
 
 use super::{SAMPLE, enter};
 use crate::{Book, EnterError};
-use gu_ref::{RefFault, Reference};
+use gu_ref::{CountedReads, RefFault, Reference};
 use gu_terms::{AccountId, Symbol};
 use std::alloc::Global;
 use std::process::Abort;
@@ -47,9 +47,9 @@ fn enter_eight(rt: &impl Abort, book: &mut Book) -> Result<(), Fail> {
 
 /// A book of the sample, read at the second try where the first is refused.
 fn book_again(alloc: Global) -> Result<Book, RefFault> {
-    let reference = match Reference::read(alloc, SAMPLE) {
+    let reference = match Reference::read(alloc, &mut CountedReads::new(SAMPLE)) {
         Ok(reference) => reference,
-        Err(_) => Reference::read(alloc, SAMPLE)?,
+        Err(_) => Reference::read(alloc, &mut CountedReads::new(SAMPLE))?,
     };
     Ok(Book::new(alloc, reference))
 }

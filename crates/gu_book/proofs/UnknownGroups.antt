@@ -1,0 +1,63 @@
+-- A group that the reference doesn't have has no limits.
+use Rattle.std.proofs.Common.{◌≡◌, ℕ, ◌&&◌, not, Bool, true, false, cond, List, [], ◌∷◌, take, slice_get, zero, suc, Option, Some, None, inl, inr, refl, sym, ap, ◌∙◌, subst}
+use Rattle.std.specs.List.{filter_map, last_or}
+use Rattle.std.proofs.lemmas.Bool.{cases_Bool}
+use Rattle.std.proofs.lemmas.Slice.Eq.{bytes_eq-Decides}
+use Rattle.gu_terms.specs.declared.command.Command.TheVariants.{OpenDay, SetLimit, ReportSide}
+use Rattle.gu_terms.specs.declared.entry.Entry.{Entry}
+use Rattle.gu_terms.specs.declared.entry.Entry.TheVariants.{Asked}
+use Rattle.gu_terms.specs.declared.group.Group.{Group}
+use Rattle.gu_terms.specs.declared.limit_key.LimitKey.{LimitKey}
+use Rattle.gu_terms.specs.declared.limit_row.LimitRow.{LimitRow}
+use Rattle.gu_terms.specs.declared.refusal.Refusal.TheVariants.{UnknownKey}
+use Rattle.gu_terms.specs.declared.reply.Done.TheVariants.{Opened, LimitSet, Reported}
+use Rattle.gu_terms.specs.declared.reply.Reply.TheVariants.{Accepted, Denied}
+use Rattle.gu_terms.specs.LimitKeys.{key_eq}
+use Rattle.gu_ref.specs.Reference.{is_group}
+use Rattle.gu_ref.specs.Same.{same_group}
+use Rattle.gu_ref.specs.Tables.{Tables}
+use Rattle.gu_book.specs.Answer.{is_known_key, limit_tests}
+use Rattle.gu_book.specs.Kept.{Kept}
+use Rattle.gu_book.specs.Legal.{IsLegal, MayFollow}
+use Rattle.gu_book.specs.Limits.{keys_in_order, limit_row, limit_rows, limit_set, limit_set_by}
+use Rattle.gu_book.proofs.LimitLemmas.{limit_row-unset}
+use Rattle.gu_book.proofs.Taking.{none_stands}
+
+known : (a b : Bool) → not (a && b) ≡ false → a ≡ true
+known true b h = refl
+known false b h = cc
+
+-- a limit that is accepted is of a known group
+limit_group : (reference : Tables) (before : List Entry) (at : Group) (on : LimitKey) (lots : ℕ) → MayFollow reference before (Asked (SetLimit at on lots) (Accepted LimitSet)) → is_group reference at ≡ true
+limit_group reference before at on lots may =
+    known (is_group reference at) (is_known_key reference on)
+    (none_stands (limit_tests reference at on lots) LimitSet LimitSet (sym may) 0 (not (is_group reference at && is_known_key reference on)) UnknownKey refl)
+
+-- so that no entry sets one for an unknown group
+sets_nothing : (reference : Tables) (before : List Entry) (group : Group) (key : LimitKey) (entry : Entry) → is_group reference group ≡ false → MayFollow reference before entry
+    → limit_set_by group key entry ≡ None
+sets_nothing reference before group key (Asked (OpenDay day) reply) unknown may = refl
+sets_nothing reference before group key (Asked (ReportSide firm id match_id symbol lots price day side account) reply) unknown may = refl
+sets_nothing reference before group key (Asked (SetLimit at on lots) (Denied why)) unknown may = refl
+sets_nothing reference before group key (Asked (SetLimit at on lots) (Accepted Opened)) unknown may = refl
+sets_nothing reference before group key (Asked (SetLimit at on lots) (Accepted (Reported matched))) unknown may = refl
+sets_nothing reference before group key (Asked (SetLimit at on lots) (Accepted LimitSet)) unknown may =
+    elim (cases_Bool (same_group at group)) [
+      | inl hit ↦
+          let one : at.name ≡ group.name = (bytes_eq-Decides at.name group.name).0 hit in
+          let here : is_group reference group ≡ true = subst (λ (name : List ℕ). is_group reference (record { name = name }) ≡ true) one (limit_group reference before at on lots may) in
+          cc
+      | inr miss ↦ rw miss refl
+    ]
+
+gives_nothing : {X Y : Type 0} (given : X → Option Y) (items : List X) → ((k : ℕ) (x : X) → slice_get items k ≡ Some x → given x ≡ None) → filter_map given items ≡ []
+gives_nothing given [] none = refl
+gives_nothing given (x ∷ items) none = rw (none zero x refl) (gives_nothing given items (λ k. none (suc k)))
+
+-- the limits of an unknown group
+pub unknown_group : (book : Kept) (group : Group) → IsLegal book.reference book.history → is_group book.reference group ≡ false → limit_rows book group ≡ []
+unknown_group book group legal unknown =
+    gives_nothing (limit_row book.history group) (keys_in_order book.reference)
+    (λ k key at. limit_row-unset book.history group key
+    (ap (last_or None)
+    (gives_nothing (limit_set_by group key) book.history (λ j entry there. sets_nothing book.reference (take j book.history) group key entry unknown (legal.each j entry there)))))
