@@ -9,8 +9,6 @@ mod limits;
 mod positions;
 mod receipt;
 mod reports;
-#[cfg(test)]
-mod tests;
 
 pub use book::{Book, MOST_ENTRIES};
 pub use error::EnterError;
