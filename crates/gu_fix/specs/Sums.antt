@@ -11,9 +11,10 @@ abbrev pub running_sums : ℕ → List ℕ → List ℕ
 running_sums base [] = []
 running_sums base (b ∷ bs) = let s = (base + b) % 256 in s ∷ running_sums s bs
 
--- the fields of a window: sums belongs to bytes, and start is one of its places
+-- the fields of a window: sums belongs to bytes, and of the bytes at most as many lie before start, which are done
+-- with, as lie behind it
 pub record IsWindow (base : ℕ) (bytes sums : List ℕ) (start : ℕ) : Type 0 where
   pub small : base < 256
   pub paired : length sums ≡ length bytes
   pub summed : sums ≡ running_sums base bytes
-  pub within : start ≤ length bytes
+  pub lean : start + start ≤ length bytes

@@ -5,7 +5,7 @@ ghost use Rattle.gu_fix.specs.Sums.{IsWindow, running_sums, sum_after};
 use std::alloc::{AllocError, Global};
 use std::marker::Model;
 
-/// A stretch of a stream. To a contract it is its bytes.
+/// A stretch of a stream. To a contract it is its bytes; no more bytes are kept that are done with.
 #[derive(Drop)]
 pub struct Window {
     bytes: Vec<u8>,
@@ -51,6 +51,20 @@ fn drop_front(items: &mut Vec<u8>, count: usize)
     ensures { items.new.items ≡ drop count items.old.items }
 {
     items.drain(..count);
+}
+
+/// Gives back the bytes before a place, with their sums, and returns the sum before it.
+fn give_back(base: u8, bytes: &mut Vec<u8>, sums: &mut Vec<u8>, place: usize) -> u8
+    requires place { place ≤ vec_len bytes.old }
+    requires summed { sums.old.items ≡ running_sums base bytes.old.items }
+    ensures bytes { bytes.new.items ≡ drop place bytes.old.items }
+    ensures paired { length sums.new.items ≡ length bytes.new.items }
+    ensures summed { sums.new.items ≡ running_sums result bytes.new.items }
+{
+    let before = sum_before(base, sums, place);
+    drop_front(bytes, place);
+    drop_front(sums, place);
+    before
 }
 
 impl Window {
@@ -101,7 +115,8 @@ impl Window {
         requires { len ≤ length self.old }
         ensures { self.new ≡ take len self.old }
     {
-        let len = self.start + len;
+        self.base = give_back(self.base, &mut self.bytes, &mut self.sums, self.start);
+        self.start = 0;
         self.bytes.truncate(len);
         self.sums.truncate(len);
     }
@@ -114,9 +129,7 @@ impl Window {
         self.start += len;
         // Half of the bytes at most are moved, so that each byte that is done with pays for one.
         if self.start >= self.bytes.len() - self.start {
-            self.base = sum_before(self.base, &self.sums, self.start);
-            drop_front(&mut self.bytes, self.start);
-            drop_front(&mut self.sums, self.start);
+            self.base = give_back(self.base, &mut self.bytes, &mut self.sums, self.start);
             self.start = 0;
         }
     }

@@ -15,7 +15,6 @@ use std::alloc::{AllocError, Global};
 use std::marker::Model;
 
 /// The greatest takes of a view, oldest first inside each agreement, and a cut whose room is the lots taken.
-#[derive(Drop)]
 pub struct Proposal {
     view: View,
     takes: Takes,
@@ -31,6 +30,21 @@ impl Model for Proposal {
     ghost view = { λ p. record { view = p.view; takes = p.takes; cut = p.cut; lots = p.lots } };
 
     ghost invariant = { λ p. IsSound (record { view = p.view; takes = p.takes; cut = p.cut; lots = p.lots }) };
+}
+
+// By hand, so that who holds a proposal lets it go by one call.
+impl Drop for Proposal {
+    fn drop(self) {
+        let Proposal {
+            view,
+            takes,
+            cut,
+            lots: _,
+        } = self;
+        drop(view);
+        drop(takes);
+        drop(cut);
+    }
 }
 
 impl Proposal {

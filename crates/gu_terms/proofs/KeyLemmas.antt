@@ -1,5 +1,6 @@
 -- The test of keys is equality.
 use Rattle.std.proofs.Common.{◌≡◌, Bool, true, refl, ap, sym, inl, inr, ◌∙◌, rules}
+use Rattle.std.specs.Bool.{Decides}
 use Rattle.std.proofs.lemmas.Bool.{cases_Bool, false_from_ne_true}
 use Rattle.std.proofs.lemmas.Slice.Eq.{bytes_eq-Decides}
 use Rattle.gu_terms.specs.contracts.limit_key.LimitKeyPartialEq.TheImpl as limit_key
@@ -41,3 +42,7 @@ eq = limit_key.eq-value.it
 -- is that test
 pub eq_is : (a b : LimitKey) → eq a b ≡ key_eq a b
 eq_is a b = search rules
+
+-- and is true of one key alone
+pub eq-Decides : (a b : LimitKey) → Decides (eq a b) (a ≡ b)
+eq-Decides a b = (λ same. key_eq-same a b (sym (eq_is a b) ∙ same), λ same. eq_is a b ∙ key_eq-from a b same)

@@ -5,3 +5,4 @@ pub mod LastTake
 pub mod NameTests
 pub mod NumberLemmas
 pub mod Placed
+pub mod SameValues

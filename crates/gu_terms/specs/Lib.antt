@@ -1,13 +1,12 @@
 pub mod Cuts
 pub mod Days
 pub mod Histories
-pub mod IdParts
 pub mod LimitKeys
-pub mod NameParts
 pub mod Names
 pub mod NumberText
 pub mod Numbers
 pub mod Padded
 pub mod Paths
 pub mod Refusals
+pub mod Same
 pub mod Takes

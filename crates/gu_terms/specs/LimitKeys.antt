@@ -1,9 +1,10 @@
 -- What limits are set on.
-use Rattle.std.specs.Prelude.{ℕ, Bool, false, List, codes}
-use Rattle.std.specs.List.{list_any}
+use Rattle.std.specs.Prelude.{ℕ, Bool, false, List, [], ◌∷◌, Option, codes}
+use Rattle.std.specs.List.{find, list_any}
 use Rattle.std.specs.Str.{bytes_eq}
 use Rattle.gu_terms.specs.declared.limit_key.LimitKey.{LimitKey}
 use Rattle.gu_terms.specs.declared.limit_key.LimitKey.TheVariants.{Exec, Agr, Acct, Carry}
+use Rattle.gu_terms.specs.declared.name.Name.{Name}
 
 -- the word for a key's kind
 abbrev pub kind_of : LimitKey → List ℕ
@@ -18,6 +19,14 @@ name_of_key (Exec firm) = firm.name
 name_of_key (Agr agreement) = agreement.name
 name_of_key (Acct account) = account.name
 name_of_key (Carry firm) = firm.name
+
+-- the keys of a name, one of each kind
+abbrev pub keys_named : Name → List LimitKey
+keys_named name = Exec (record { name = name }) ∷ Agr (record { name = name }) ∷ Acct (record { name = name }) ∷ Carry (record { name = name }) ∷ []
+
+-- the key of a kind, by its word, and a name
+abbrev pub key_of : List ℕ → Name → Option LimitKey
+key_of kind name = find (λ key. bytes_eq (kind_of key) kind) (keys_named name)
 
 -- two keys have the same kind and the same name
 abbrev pub key_eq : LimitKey → LimitKey → Bool

@@ -1,10 +1,8 @@
--- Short texts as they are kept: in an array, with zeros behind them.
+-- Machinery: short texts as they are kept, in an array with zeros behind them.
 use Rattle.std.specs.Prelude.{◌≡◌, ℕ, ◌-◌, ◌≤◌, ◌++◌, List, length, take, drop, replicate}
-use Rattle.std.proofs.Common.{arith, length-take}
-use Rattle.std.proofs.lemmas.List.{length-replicate}
-use Rattle.std.proofs.Common.{length-append}
-use Rattle.std.proofs.Math.Seq.{drop-append_seam}
+use Rattle.std.proofs.Common.{◌∙◌, ap, arith, length-take}
 use Rattle.std.proofs.lemmas.List.{take-append-drop}
+use Rattle.gu_terms.specs.declared.padded.Padded.TheInside.{Inside}
 
 -- so many bytes of the array are the text, and the others are zeros
 pub record IsPadded (size : ℕ) (array : List ℕ) (len : ℕ) : Type 0 where
@@ -12,9 +10,13 @@ pub record IsPadded (size : ℕ) (array : List ℕ) (len : ℕ) : Type 0 where
   pub within : len ≤ size
   pub zeros : drop len array ≡ replicate (size - len) 0
 
--- a text as it is kept
+-- a text with zeros behind it
 abbrev pub padded : ℕ → List ℕ → List ℕ
 padded size text = text ++ replicate (size - length text) 0
+
+-- a text as it is kept
+abbrev pub kept : (size : ℕ) → List ℕ → Inside size
+kept size text = record { bytes = padded size text; len = length text }
 
 -- the text has the length that is kept beside it
 pub length-text : (size : ℕ) (array : List ℕ) (len : ℕ) → IsPadded size array len → length (take len array) ≡ len
@@ -24,10 +26,8 @@ length-text size array len h = omega (arith, length-take len array, h.size_is, h
 pub padded-text : (size : ℕ) (array : List ℕ) (len : ℕ) → IsPadded size array len → padded size (take len array) ≡ array
 padded-text size array len h = rw (length-text size array len h) (rw (← h.zeros) (take-append-drop len array))
 
--- a text that fits is padded to it
-pub IsPadded-padded : (size : ℕ) (text : List ℕ) → length text ≤ size → IsPadded size (padded size text) (length text)
-IsPadded-padded size text h = record {
-  size_is = omega (arith, length-append text (replicate (size - length text) 0), length-replicate {A = ℕ} (size - length text) 0);
-  within = h;
-  zeros = drop-append_seam text (replicate (size - length text) 0);
-}
+-- what is kept is determined by the text
+pub kept-view : (size : ℕ) (p : Inside size) → IsPadded size p.bytes p.len → kept size (take p.len p.bytes) ≡ p
+kept-view size p h =
+    ap (λ (bytes : List ℕ). let it : Inside size = record { bytes = bytes; len = length (take p.len p.bytes) } in it) (padded-text size p.bytes p.len h)
+    ∙ ap (λ (len : ℕ). let it : Inside size = record { bytes = p.bytes; len = len } in it) (length-text size p.bytes p.len h)

@@ -1,6 +1,6 @@
 //! What is asked of the house.
 
-ghost use Rattle.std.specs.Prelude.{◌≡◌, IfOk};
+ghost use Rattle.std.specs.Prelude.{◌≡◌, ◌↔◌, IsTrue, IfOk};
 
 use crate::account::AccountId;
 use crate::day::Day;
@@ -15,7 +15,7 @@ use crate::symbol::Symbol;
 use std::alloc::AllocError;
 
 /// What a caller asks to be entered.
-#[derive(Debug, Drop)]
+#[derive(Debug, Drop, PartialEq, Eq)]
 pub enum Command {
     /// The house opens a day, which is later than the one before.
     OpenDay {
@@ -76,5 +76,12 @@ impl Command {
                 account: *account,
             }),
         }
+    }
+
+    /// Whether two commands are the same.
+    pub fn is_same(&self, other: &Command) -> bool
+        ensures { IsTrue result ↔ (self.now ≡ other.now) }
+    {
+        *self == *other
     }
 }

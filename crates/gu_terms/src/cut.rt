@@ -1,6 +1,6 @@
 //! Cuts: the limits and offers that bound a sweep.
 
-ghost use Rattle.std.specs.Prelude.{◌≡◌, [], not, IfOk, OnErr, if◌then◌else◌, ◌++◌, ◌∷◌};
+ghost use Rattle.std.specs.Prelude.{◌≡◌, ◌↔◌, [], not, IsTrue, IfOk, OnErr, if◌then◌else◌, ◌++◌, ◌∷◌};
 ghost use Rattle.std.specs.List.{list_any, IsDistinct};
 ghost use Rattle.gu_terms.specs.Cuts.{has_number};
 ghost use Rattle.gu_terms.specs.LimitKeys.{has_key};
@@ -90,6 +90,13 @@ impl Cut {
         let keys = self.keys.clone()?;
         let offers = self.offers.clone()?;
         Ok(Cut { keys, offers })
+    }
+
+    /// Whether two cuts are the same, each made in the same order.
+    pub fn is_same(&self, other: &Cut) -> bool
+        ensures { IsTrue result ↔ (self.now ≡ other.now) }
+    {
+        self.keys() == other.keys() && self.offers() == other.offers()
     }
 
     /// Whether an offer is in the cut.

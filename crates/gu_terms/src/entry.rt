@@ -1,13 +1,13 @@
 //! Entries of the history.
 
-ghost use Rattle.std.specs.Prelude.{◌≡◌, IfOk};
+ghost use Rattle.std.specs.Prelude.{◌≡◌, ◌↔◌, IsTrue, IfOk};
 
 use crate::command::Command;
 use crate::reply::Reply;
 use std::alloc::AllocError;
 
 /// What was entered at one moment.
-#[derive(Debug, Drop)]
+#[derive(Debug, Drop, PartialEq, Eq)]
 pub enum Entry {
     /// A command with its reply, a refusal too.
     Asked { command: Command, reply: Reply },
@@ -27,5 +27,12 @@ impl Entry {
                 })
             }
         }
+    }
+
+    /// Whether two entries are the same.
+    pub fn is_same(&self, other: &Entry) -> bool
+        ensures { IsTrue result ↔ (self.now ≡ other.now) }
+    {
+        *self == *other
     }
 }

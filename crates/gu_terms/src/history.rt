@@ -63,8 +63,9 @@ impl History {
         ensures refused { OnErr result (self.new ≡ self.old) }
     {
         // Taken apart and made again, so that the check is told of the types within.
-        let Entry::Asked { command, reply } = entry;
-        self.entries.push(Entry::Asked { command, reply })?;
+        match entry {
+            Entry::Asked { command, reply } => self.entries.push(Entry::Asked { command, reply })?,
+        }
         Ok(())
     }
 

@@ -1,42 +1,32 @@
 //! Ids that firms give to their own reports and give-ups.
 
-ghost use Rattle.std.specs.Prelude.{◌≡◌, ◌↔◌, ◌∷◌, [], IsTrue, IsSome, IfSome};
-ghost use Rattle.std.specs.Str.{bytes_eq};
-ghost use Rattle.std.specs.Cmp.{partial_equiv_from_equiv};
-ghost use Rattle.std.specs.Cmp.Rules.{hashing};
-ghost use Rattle.std.proofs.lemmas.Cmp.{nat_list_eq_equiv};
-ghost use Rattle.std.proofs.Common.{rules};
+ghost use Rattle.std.specs.Prelude.{◌≡◌, ◌↔◌, IsTrue, IsSome, IfSome};
 ghost use Rattle.gu_terms.specs.Names.{IsId, is_id_byte};
 
-use crate::padding::padded;
-use std::hash::{Hash, Hasher};
+use crate::padded::Padded;
 use std::marker::Model;
 
 /// The bytes that an id has at most.
 const LONGEST_ID: usize = 64;
 
 /// 1 to 64 bytes of printed ASCII without the blank: 0x21 to 0x7E. To a contract it is these bytes.
-#[derive(Clone, Copy, Debug)]
+#[derive(Clone, Copy, Debug, PartialEq, Eq, Hash)]
 pub struct Id {
-    /// The id, and zeros behind it.
-    bytes: [u8; LONGEST_ID],
-    len: u8,
+    text: Padded<LONGEST_ID>,
 }
 
 impl Model for Id {
-    ghost use Rattle.std.specs.Prelude.{ℕ, List, take};
+    ghost use Rattle.std.specs.Prelude.{ℕ, List};
 
     ghost Value = { List ℕ };
 
-    ghost use Rattle.gu_terms.specs.IdParts.{IsKeptId, kept_id, kept_id-view};
+    ghost use Rattle.gu_terms.specs.Names.{IsId};
 
-    ghost view = { λ i. take i.len i.bytes };
+    ghost view = { λ it. it.text };
 
-    ghost invariant = { IsKeptId };
+    ghost invariant = { λ it. IsId it.text };
 
-    ghost inverse = { kept_id };
-
-    ghost inverse_ok = { kept_id-view };
+    ghost inverse = { λ text. record { text = text } };
 }
 
 /// Whether an id may have this byte.
@@ -63,8 +53,7 @@ impl Id {
             return None;
         }
         Some(Id {
-            bytes: padded(bytes),
-            len: bytes.len() as u8,
+            text: Padded::new(bytes),
         })
     }
 
@@ -73,31 +62,6 @@ impl Id {
         ensures bytes { result.now ≡ self.now }
         ensures sound { IsId self.now }
     {
-        &self.bytes[..self.len as usize]
-    }
-}
-
-impl PartialEq for Id {
-    ghost eq = { bytes_eq };
-
-    ghost laws = { partial_equiv_from_equiv nat_list_eq_equiv };
-
-    fn eq(&self, other: &Self) -> bool {
-        self.get() == other.get()
-    }
-}
-
-impl Eq for Id {
-    ghost laws = { nat_list_eq_equiv };
-}
-
-// One write of the bytes: a derived hash feeds the hasher byte by byte.
-impl Hash for Id {
-    ghost hash_input = { λ id. id ∷ [] };
-
-    ghost respects_eq = { Prim.search (hashing, rules) };
-
-    fn hash<H: Hasher>(&self, state: &mut H) {
-        state.write(self.get());
+        self.text.get()
     }
 }

@@ -3,6 +3,7 @@
 
 mod account;
 mod agreement;
+mod bounds;
 mod command;
 mod cut;
 mod day;
@@ -18,20 +19,20 @@ mod moment;
 mod name;
 mod number_text;
 mod offer_no;
-mod padding;
+mod padded;
 mod path;
 mod price;
+mod receipt;
 mod refusal;
 mod reply;
 mod report;
 mod side;
 mod symbol;
 mod takes;
-#[cfg(test)]
-mod tests;
 
 pub use account::AccountId;
 pub use agreement::AgreementId;
+pub use bounds::{MOST_ENTRIES, MOST_LIMIT, MOST_LOTS, MOST_OFFERS, MOST_OPEN_OFFERS};
 pub use command::Command;
 pub use cut::Cut;
 pub use day::Day;
@@ -49,6 +50,7 @@ pub use number_text::{NumberError, are_digits, value_of};
 pub use offer_no::OfferNo;
 pub use path::Path;
 pub use price::{Price, read_price};
+pub use receipt::Receipt;
 pub use refusal::Refusal;
 pub use reply::{Done, Reply};
 pub use report::Report;

@@ -1,11 +1,12 @@
 //! What limits are set on.
 
 ghost use Rattle.std.specs.Prelude.{◌≡◌, ◌↔◌, IsTrue};
-ghost use Rattle.gu_terms.specs.LimitKeys.{key_eq, kind_of, name_of_key};
+ghost use Rattle.gu_terms.specs.LimitKeys.{key_eq, key_of, kind_of, name_of_key};
 
 use crate::account::AccountId;
 use crate::agreement::AgreementId;
 use crate::firm::FirmId;
+use crate::name::Name;
 
 /// What a daily lot limit is set on, in one product group.
 #[derive(Clone, Copy, Debug, PartialEq, Eq, Hash)]
@@ -31,6 +32,21 @@ impl LimitKey {
             LimitKey::Acct(_) => "ACCT",
             LimitKey::Carry(_) => "CARRY",
         }
+    }
+
+    /// The key of this kind and this name, where there is such a kind.
+    pub fn of(kind: &[u8], name: Name) -> Option<LimitKey>
+        ensures { result ≡ key_of kind.now name }
+    {
+        [
+            LimitKey::Exec(FirmId { name }),
+            LimitKey::Agr(AgreementId { name }),
+            LimitKey::Acct(AccountId { name }),
+            LimitKey::Carry(FirmId { name }),
+        ]
+        .iter()
+        .copied()
+        .find(|key| key.kind().as_bytes() == kind)
     }
 
     /// The name of the firm, the agreement or the account.

@@ -5,11 +5,9 @@ ghost use Rattle.std.specs.Str.Parse.{AllDigits};
 ghost use Rattle.gu_terms.specs.Numbers.{IsLots};
 ghost use Rattle.gu_terms.specs.NumberText.{IsNumberText, IsTakenApart, MeansLots};
 
+use crate::bounds::MOST_LOTS;
 use crate::number_text::{NumberError, NumberText, is_zero, parts_of, value_of};
 use std::marker::Model;
-
-/// The lots that a trade or a give-up has at most.
-const MOST_LOTS: u64 = 1_000_000;
 
 /// A number of lots: 1 to 1,000,000 whole contracts. To a contract it is the number.
 #[derive(Clone, Copy, Debug, PartialEq, Eq, PartialOrd, Ord, Hash)]

@@ -3,10 +3,8 @@
 ghost use Rattle.std.specs.Prelude.{◌≡◌, ◌↔◌, IsSome, IfSome};
 ghost use Rattle.gu_terms.specs.Numbers.{IsOfferNo};
 
+use crate::bounds::MOST_OFFERS;
 use std::marker::Model;
-
-/// The offers that a book has at most: sixteen an entry.
-const MOST_OFFERS: u64 = 16_000_000;
 
 /// The number of an offer: 1 to 16,000,000, over the whole book. To a contract it is the number.
 #[derive(Clone, Copy, Debug, PartialEq, Eq, PartialOrd, Ord, Hash)]

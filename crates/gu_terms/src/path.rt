@@ -1,7 +1,7 @@
 //! The limits that an offer comes under.
 
-ghost use Rattle.std.specs.Prelude.{◌≡◌, ◌≤◌, length};
-ghost use Rattle.gu_terms.specs.Paths.{path_through};
+ghost use Rattle.std.specs.Prelude.{◌≡◌, ◌↔◌, ◌≤◌, length, IsSome, IfSome};
+ghost use Rattle.gu_terms.specs.Paths.{listed, path_through};
 
 use crate::account::AccountId;
 use crate::agreement::AgreementId;
@@ -9,24 +9,35 @@ use crate::firm::FirmId;
 use crate::limit_key::LimitKey;
 use std::marker::Model;
 
-/// The keys that an offer comes under, in order: executing firm, agreement, account, carrying firm.
-/// To a contract it is the list of these keys.
+/// As many keys as a path has.
+#[derive(Clone, Copy, Debug, PartialEq, Eq)]
+enum Keys {
+    Four([LimitKey; 4]),
+    Five([LimitKey; 5]),
+}
+
+/// The keys that an offer comes under, four or five, in order. To a contract it is the list of these keys.
 #[derive(Clone, Copy, Debug, PartialEq, Eq)]
 pub struct Path {
-    keys: [LimitKey; 4],
+    keys: Keys,
 }
 
 impl Model for Path {
-    ghost use Rattle.std.specs.Prelude.{◌≤◌, List, length};
+    ghost use Rattle.std.specs.Prelude.{◌≡◌, List, length};
     ghost use Rattle.gu_terms.specs.declared.limit_key.LimitKey.{LimitKey};
 
     ghost Value = { List LimitKey };
 
-    ghost view = { λ p. p.keys };
+    ghost use Rattle.gu_terms.specs.Paths.{listed, kept, kept-listed, size_of};
+    ghost use Rattle.std.proofs.Common.{ap};
 
-    ghost invariant = { λ p. length p.keys ≤ 5 };
+    ghost view = { λ p. listed p.keys };
 
-    ghost inverse = { λ keys. record { keys = keys } };
+    ghost invariant = { λ p. length (listed p.keys) ≡ size_of p.keys };
+
+    ghost inverse = { λ keys. record { keys = kept keys } };
+
+    ghost inverse_ok = { λ p h i. record { keys = kept-listed p.keys h i } };
 }
 
 impl Path {
@@ -40,27 +51,37 @@ impl Path {
         ensures { result ≡ path_through executing agreement account carrying }
     {
         Path {
-            keys: [
+            keys: Keys::Four([
                 LimitKey::Exec(executing),
                 LimitKey::Agr(agreement),
                 LimitKey::Acct(account),
                 LimitKey::Carry(carrying),
-            ],
+            ]),
         }
     }
 
-    /// A path of any keys.
-    pub fn of(keys: [LimitKey; 4]) -> Self
-        ensures { result ≡ keys }
+    /// The path of these keys, where they are four or five.
+    pub fn of(keys: &[LimitKey]) -> Option<Self>
+        ensures sound { IsSome result ↔ ((4 ≤ length keys.now) × (length keys.now ≤ 5)) }
+        ensures same { IfSome result (λ path. path ≡ keys.now) }
     {
-        Path { keys }
+        let keys = match keys {
+            [a, b, c, d] => Keys::Four([*a, *b, *c, *d]),
+            [a, b, c, d, e] => Keys::Five([*a, *b, *c, *d, *e]),
+            _ => return None,
+        };
+        Some(Path { keys })
     }
 
-    /// Its keys, in order: at most five.
+    /// Its keys, in order.
     pub fn keys(&self) -> &[LimitKey]
         ensures keys { result.now ≡ self.now }
+        ensures some { 4 ≤ length result.now }
         ensures few { length result.now ≤ 5 }
     {
-        self.keys.as_slice()
+        match &self.keys {
+            Keys::Four(keys) => keys.as_slice(),
+            Keys::Five(keys) => keys.as_slice(),
+        }
     }
 }

@@ -97,4 +97,11 @@ impl Takes {
         let list = self.list.clone()?;
         Ok(Takes { list })
     }
+
+    /// Whether two lists of takes are the same.
+    pub fn is_same(&self, other: &Takes) -> bool
+        ensures { IsTrue result ↔ (self.now ≡ other.now) }
+    {
+        self.as_slice() == other.as_slice()
+    }
 }

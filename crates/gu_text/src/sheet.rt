@@ -14,11 +14,20 @@ use gu_view::View;
 use std::alloc::{AllocError, Global};
 
 /// A sweep sheet: a view, takes of its offers, and a cut.
-#[derive(Drop)]
 pub struct Sheet {
     pub view: View,
     pub takes: Takes,
     pub cut: Cut,
+}
+
+// By hand, so that who holds a sheet lets it go by one call.
+impl Drop for Sheet {
+    fn drop(self) {
+        let Sheet { view, takes, cut } = self;
+        drop(view);
+        drop(takes);
+        drop(cut);
+    }
 }
 
 /// Adds what a line says, and answers whether the line may stand there.

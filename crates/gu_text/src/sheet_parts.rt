@@ -17,7 +17,6 @@ use std::alloc::{AllocError, Global};
 use std::marker::Model;
 
 /// What the lines so far give. To a contract it is that.
-#[derive(Drop)]
 pub(crate) struct Parts {
     last: Option<Part>,
     header: Option<Header>,
@@ -39,6 +38,26 @@ impl Model for Parts {
     ghost view = { λ p. record { last = p.last; header = p.header; offers = p.offers.items; rooms = p.rooms.items; takes = p.takes.items; cut = p.cut } };
 
     ghost invariant = { λ p. (IsSome p.last → IsSome p.header) × (p.taken.keys ≡ map (λ t. t.offer) p.takes.items) × IsDistinct nat_eq (map (λ t. t.offer) p.takes.items) };
+}
+
+// By hand, so that who holds parts lets them go by one call.
+impl Drop for Parts {
+    fn drop(self) {
+        let Parts {
+            last: _,
+            header: _,
+            offers,
+            rooms,
+            takes,
+            taken,
+            cut,
+        } = self;
+        drop(offers);
+        drop(rooms);
+        drop(takes);
+        drop(taken);
+        drop(cut);
+    }
 }
 
 /// Whether a line of a part may come behind one of the last part.
@@ -134,13 +153,15 @@ impl Parts {
         ensures refused { IfErr result (MakesNone self number) }
     {
         let Parts {
+            last: _,
             header,
             offers,
             rooms,
             takes,
+            taken,
             cut,
-            ..
         } = self;
+        drop(taken);
         let Some(header) = header else {
             unreachable!();
         };

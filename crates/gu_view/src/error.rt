@@ -44,27 +44,27 @@ pub enum Unknown {
     Offer(OfferNo),
 }
 
-/// The first thing that is wrong with takes and a cut.
+/// The first thing that is wrong with takes and a cut, in the order in which it is looked for.
 #[derive(Clone, Copy, Debug, PartialEq, Eq, Error)]
 pub enum CutFault {
+    /// The takes or the cut name what the view lacks.
+    #[error("Unknown")]
+    Unknown(Unknown),
     /// More is taken of this offer than it has.
     #[error("OverOffer")]
     OverOffer(OfferNo),
     /// More is taken under this key than its room.
     #[error("OverLimit")]
     OverLimit(LimitKey),
+    /// Lots are taken of this offer while an older one of its agreement isn't full.
+    #[error("NotOldestFirst")]
+    NotOldestFirst(OfferNo),
     /// This offer is neither in the cut nor has a key in it.
     #[error("Uncovered")]
     Uncovered(OfferNo),
     /// The cut's room isn't the lots taken.
     #[error("RoomDiffers")]
     RoomDiffers,
-    /// The takes or the cut name what the view lacks.
-    #[error("Unknown")]
-    Unknown(Unknown),
-    /// Lots are taken of this offer while an older one of its agreement isn't full.
-    #[error("NotOldestFirst")]
-    NotOldestFirst(OfferNo),
 }
 
 impl CutFault {

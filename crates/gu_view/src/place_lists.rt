@@ -6,7 +6,7 @@ use std::alloc::{AllocError, Global};
 use std::marker::Model;
 
 /// Lists of places. To a contract it is the list of these lists.
-#[derive(Debug, Drop)]
+#[derive(Drop)]
 pub struct PlaceLists {
     joined: Vec<u32>,
     ends: Vec<usize>,

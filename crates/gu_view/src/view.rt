@@ -38,7 +38,6 @@ pub struct Room {
 }
 
 /// A group's open offers, and the room of each key on their paths, in order of first mention.
-#[derive(Drop)]
 pub struct View {
     group: Group,
     version: u64,
@@ -60,6 +59,26 @@ impl Model for View {
     ghost view = { λ v. record { group = v.group; version = v.version; offers = v.offers.items; rooms = v.rooms.items } };
 
     ghost invariant = { λ v. IsIndexed (record { group = v.group; version = v.version; offers = v.offers.items; rooms = v.rooms.items }) v.keys.keys v.places v.members };
+}
+
+// By hand, so that who holds a view lets it go by one call.
+impl Drop for View {
+    fn drop(self) {
+        let View {
+            group: _,
+            version: _,
+            offers,
+            rooms,
+            keys,
+            places,
+            members,
+        } = self;
+        drop(offers);
+        drop(rooms);
+        drop(keys);
+        drop(places);
+        drop(members);
+    }
 }
 
 impl View {

@@ -21,5 +21,5 @@ invariant_of-self-2 c =
       small = inv.small;
       paired = ap length summed ∙ length-running w.base c.extend_from_slice.new.self.items;
       summed = summed;
-      within = omega (arith, inv.within, ap length grown, length-append bytes piece);
+      lean = omega (arith, inv.lean, ap length grown, length-append bytes piece);
     }

@@ -1,0 +1,82 @@
+//! Short texts, kept in place.
+
+ghost use Rattle.std.specs.Prelude.{◌≡◌, ◌∷◌, [], ◌<◌, ◌≤◌, length};
+ghost use Rattle.std.specs.Str.{bytes_eq};
+ghost use Rattle.std.specs.Cmp.{partial_equiv_from_equiv};
+ghost use Rattle.std.specs.Cmp.Rules.{hashing};
+ghost use Rattle.std.proofs.lemmas.Cmp.{nat_list_eq_equiv};
+ghost use Rattle.std.proofs.Common.{rules};
+
+use std::hash::{Hash, Hasher};
+use std::marker::Model;
+
+/// A text of at most `N` bytes, with zeros behind it. To a contract it is the text.
+#[derive(Clone, Copy, Debug)]
+pub(crate) struct Padded<const N: usize> {
+    bytes: [u8; N],
+    len: u8,
+}
+
+impl<const N: usize> Model for Padded<N> {
+    ghost use Rattle.std.specs.Prelude.{ℕ, List, take};
+
+    ghost Value = { List ℕ };
+
+    ghost use Rattle.gu_terms.specs.Padded.{IsPadded, kept, kept-view};
+
+    ghost view = { λ p. take p.len p.bytes };
+
+    ghost invariant = { λ p. IsPadded N p.bytes p.len };
+
+    ghost inverse = { kept N };
+
+    ghost inverse_ok = { kept-view N };
+}
+
+impl<const N: usize> Padded<N> {
+    /// The text, kept.
+    pub(crate) fn new(text: &[u8]) -> Self
+        requires fits { length text.now ≤ N }
+        requires short { length text.now < 256 }
+        ensures { result ≡ text.now }
+    {
+        let mut bytes = [0; N];
+        bytes[..text.len()].copy_from_slice(text);
+        Padded {
+            bytes,
+            len: text.len() as u8,
+        }
+    }
+
+    /// The text.
+    pub(crate) fn get(&self) -> &[u8]
+        ensures { result.now ≡ self.now }
+    {
+        &self.bytes[..self.len as usize]
+    }
+}
+
+impl<const N: usize> PartialEq for Padded<N> {
+    ghost eq = { bytes_eq };
+
+    ghost laws = { partial_equiv_from_equiv nat_list_eq_equiv };
+
+    fn eq(&self, other: &Self) -> bool {
+        self.get() == other.get()
+    }
+}
+
+impl<const N: usize> Eq for Padded<N> {
+    ghost laws = { nat_list_eq_equiv };
+}
+
+// One write of the bytes: a derived hash feeds the hasher byte by byte.
+impl<const N: usize> Hash for Padded<N> {
+    ghost hash_input = { λ text. text ∷ [] };
+
+    ghost respects_eq = { Prim.search (hashing, rules) };
+
+    fn hash<H: Hasher>(&self, state: &mut H) {
+        state.write(self.get());
+    }
+}
