@@ -3,8 +3,8 @@
 use crate::answers::{position, replied};
 use crate::sample::{book, book_of, largest};
 use crate::words::{day, group, report, reporting};
-use gu_book::{Book, EnterError, MOST_ENTRIES};
-use gu_terms::{AccountId, AgreementId, Command, Day, Group, Id, LimitKey, Report};
+use gu_book::{Book, EnterError};
+use gu_terms::{AccountId, AgreementId, Command, Day, Group, Id, LimitKey, MOST_ENTRIES, Report};
 use std::alloc::Global;
 use std::process::Abort;
 

@@ -1,8 +1,8 @@
 //! What the words of a line say.
 
 use gu_terms::{
-    AccountId, AgreementId, Command, Day, FirmId, Group, Id, LimitKey, Lots, Price, Report, Side,
-    Symbol, read_lots, read_price,
+    AccountId, AgreementId, Command, Day, FirmId, Group, Id, LimitKey, Lots, Name, Price, Report,
+    Side, Symbol, read_lots, read_price,
 };
 
 /// A word of a line.
@@ -61,14 +61,8 @@ fn side(line: &str, place: usize) -> Option<Side> {
 
 /// A key, from its kind and its name.
 pub fn key(line: &str, place: usize) -> Option<LimitKey> {
-    let name = place.checked_add(1)?;
-    match word(line, place)? {
-        b"EXEC" => Some(LimitKey::Exec(firm(line, name)?)),
-        b"AGR" => Some(LimitKey::Agr(agreement(line, name)?)),
-        b"ACCT" => Some(LimitKey::Acct(account(line, name)?)),
-        b"CARRY" => Some(LimitKey::Carry(firm(line, name)?)),
-        _ => None,
-    }
+    let name = Name::new(word(line, place.checked_add(1)?)?)?;
+    LimitKey::of(word(line, place)?, name)
 }
 
 /// A report, from a line as `REPORT E1 R1 M1 B XF6 10 101.5 H1 20260105`. Its day is that, or 5 January 2026 where there is none.
