@@ -14,7 +14,7 @@ use Rattle.gu_terms.specs.declared.reply.Done.TheVariants.{Opened, LimitSet, Rep
 use Rattle.gu_terms.specs.declared.reply.Reply.TheVariants.{Accepted, Denied}
 use Rattle.gu_terms.specs.LimitKeys.{key_eq}
 use Rattle.gu_ref.specs.Reference.{is_group}
-use Rattle.gu_ref.specs.Same.{same_group}
+use Rattle.gu_terms.specs.Same.{same_group}
 use Rattle.gu_ref.specs.Tables.{Tables}
 use Rattle.gu_book.specs.Answer.{is_known_key, limit_tests}
 use Rattle.gu_book.specs.Kept.{Kept}

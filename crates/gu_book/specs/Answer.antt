@@ -21,9 +21,8 @@ use Rattle.gu_terms.specs.declared.entry.Entry.{Entry}
 use Rattle.gu_ref.specs.Reference.{is_firm, is_group, is_instrument, account_row, agreement_row}
 use Rattle.gu_trades.specs.Matching.{conflicts, is_waiting}
 use Rattle.gu_trades.specs.Reports.{has_report, report_of, with_match}
-use Rattle.gu_trades.specs.Same.{same_day}
+use Rattle.gu_terms.specs.Same.{same_day, same_firm}
 use Rattle.gu_book.specs.Reports.{open_day, reports_of}
-use Rattle.gu_ref.specs.Same.{same_firm}
 use Rattle.gu_ref.specs.Tables.{Tables}
 
 -- the first refusal whose condition stands, or else what the command did

@@ -12,7 +12,7 @@ use Rattle.gu_terms.specs.declared.limit_key.LimitKey.TheVariants.{Exec, Agr, Ac
 use Rattle.gu_terms.specs.declared.limit_row.LimitRow.{LimitRow}
 use Rattle.gu_terms.specs.declared.reply.Done.TheVariants.{LimitSet}
 use Rattle.gu_terms.specs.declared.reply.Reply.TheVariants.{Accepted}
-use Rattle.gu_ref.specs.Same.{same_group}
+use Rattle.gu_terms.specs.Same.{same_group}
 use Rattle.gu_ref.specs.Tables.{Tables}
 use Rattle.gu_book.specs.Kept.{Kept}
 use Rattle.gu_book.specs.Reports.{opened_day}

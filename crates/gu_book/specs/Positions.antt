@@ -7,9 +7,8 @@ use Rattle.gu_terms.specs.declared.symbol.Symbol.{Symbol}
 use Rattle.gu_terms.specs.declared.report.Report.{Report}
 use Rattle.gu_terms.specs.declared.entry.Entry.{Entry}
 use Rattle.gu_trades.specs.Matching.{is_of_trade}
-use Rattle.gu_trades.specs.Same.{same_side}
+use Rattle.gu_terms.specs.Same.{same_side, same_account, same_symbol}
 use Rattle.gu_book.specs.Reports.{reports_of}
-use Rattle.gu_ref.specs.Same.{same_account, same_symbol}
 
 -- the lots that a report brings to an account on a side of an instrument: its own, once it is a side of a trade
 abbrev pub brought : List Report → Side → AccountId → Symbol → Report → ℕ

@@ -7,11 +7,8 @@ ghost use Rattle.gu_book.specs.Answer.{answer_where, first_standing, is_known_ke
 ghost use Rattle.gu_book.specs.Answer.{limit_tests, opening_tests, report_tests};
 
 use gu_ref::Reference;
-use gu_terms::{Command, Day, Done, Group, LimitKey, Refusal, Reply, Report};
+use gu_terms::{Command, Day, Done, Group, LimitKey, MOST_LIMIT, Refusal, Reply, Report};
 use gu_trades::Trades;
-
-/// The lots that a limit may have at most.
-const MOST_LIMIT: u64 = 1_000_000_000;
 
 /// Whether a day comes after the open one.
 fn is_later(today: Option<Day>, day: Day) -> bool

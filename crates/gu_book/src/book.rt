@@ -13,16 +13,15 @@ use crate::answering::answer_of;
 use crate::error::EnterError;
 use crate::limits::limit_rows;
 use crate::positions::traded;
-use crate::receipt::Receipt;
 use crate::reports::{day_behind, report_on};
 use gu_ref::Reference;
-use gu_terms::{AccountId, Command, Day, Entry, Group, History, LimitRow, Report, Side, Symbol};
+use gu_terms::{
+    AccountId, Command, Day, Entry, Group, History, LimitRow, MOST_ENTRIES, Receipt, Report, Side,
+    Symbol,
+};
 use gu_trades::Trades;
 use std::alloc::{AllocError, Global};
 use std::marker::Model;
-
-/// The entries that a book has at most.
-pub const MOST_ENTRIES: usize = 1_000_000;
 
 /// A reference, and a legal history of what was entered.
 pub struct Book {

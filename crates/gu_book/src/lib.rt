@@ -7,12 +7,8 @@ mod error;
 mod laws;
 mod limits;
 mod positions;
-mod receipt;
 mod reports;
-#[cfg(test)]
-mod tests;
 
-pub use book::{Book, MOST_ENTRIES};
+pub use book::Book;
 pub use error::EnterError;
 pub use laws::the_least_refusal_is_given;
-pub use receipt::Receipt;

@@ -6,7 +6,7 @@ use Rattle.gu_terms.specs.declared.agreement.AgreementId.{AgreementId}
 use Rattle.gu_ref.specs.declared.agreements.Agreement.{Agreement}
 use Rattle.gu_ref.specs.Reference.{is_firm, account_row, agreement_row}
 use Rattle.gu_ref.specs.Rules.{IsSound}
-use Rattle.gu_ref.specs.Same.{same_agreement}
+use Rattle.gu_terms.specs.Same.{same_agreement}
 use Rattle.gu_ref.specs.Tables.{Tables}
 
 -- of two tests that pass, each passes

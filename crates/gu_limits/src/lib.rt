@@ -2,7 +2,5 @@
 #![tactic(auto)]
 
 mod paths;
-#[cfg(test)]
-mod tests;
 
 pub use paths::path;

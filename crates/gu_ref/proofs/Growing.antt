@@ -16,7 +16,7 @@ use Rattle.gu_ref.specs.Reference.{is_firm, account_row, agreement_row}
 use Rattle.gu_ref.specs.Growth.{with_row, Passes}
 use Rattle.gu_ref.specs.Listed.{is_between, agreement_for}
 use Rattle.gu_ref.specs.Rules.{IsSound, IsOnce, IsWithinLimits, same_pair}
-use Rattle.gu_ref.specs.Same.{same_firm, same_group, same_account, same_agreement}
+use Rattle.gu_terms.specs.Same.{same_firm, same_group, same_account, same_agreement}
 use Rattle.gu_ref.specs.Tables.{Tables}
 use Rattle.gu_ref.proofs.Lookups.{is_some-find}
 

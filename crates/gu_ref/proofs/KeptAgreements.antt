@@ -8,7 +8,7 @@ use Rattle.gu_ref.specs.declared.agreements.Agreements.TheInside.{Inside}
 use Rattle.gu_ref.specs.declared.agreements.Pair.{Pair}
 use Rattle.gu_ref.specs.Kept.{IsKept, pair_of}
 use Rattle.gu_ref.specs.Listed.{agreement_in, agreement_for}
-use Rattle.gu_ref.specs.Same.{same_agreement, same_firm, same_account}
+use Rattle.gu_terms.specs.Same.{same_agreement, same_firm, same_account}
 use Rattle.gu_ref.proofs.Lookups.{by_name, by_names, pushed}
 
 -- one pair

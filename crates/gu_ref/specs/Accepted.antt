@@ -5,7 +5,7 @@ use Rattle.gu_ref.specs.declared.row.Row.{Row}
 use Rattle.gu_ref.specs.declared.row.Row.TheVariants as row
 use Rattle.gu_ref.specs.declared.error.RefFault.{RefFault}
 use Rattle.gu_ref.specs.declared.error.RefFault.TheVariants.{BadRow, Unknown, Twice, TooMany}
-use Rattle.gu_ref.specs.Same.{same_firm}
+use Rattle.gu_terms.specs.Same.{same_firm}
 use Rattle.gu_ref.specs.Tables.{Tables}
 use Rattle.gu_ref.specs.Reference.{is_firm, is_group, is_instrument, account_row, agreement_row, agreement_between}
 use Rattle.gu_ref.specs.Rows.{row_of}

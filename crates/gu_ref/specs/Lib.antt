@@ -9,5 +9,4 @@ pub mod Reads
 pub mod Reference
 pub mod Rows
 pub mod Rules
-pub mod Same
 pub mod Tables

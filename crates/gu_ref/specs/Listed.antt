@@ -9,7 +9,7 @@ use Rattle.gu_terms.specs.declared.agreement.AgreementId.{AgreementId}
 use Rattle.gu_ref.specs.declared.instruments.Instrument.{Instrument}
 use Rattle.gu_ref.specs.declared.accounts.Account.{Account}
 use Rattle.gu_ref.specs.declared.agreements.Agreement.{Agreement}
-use Rattle.gu_ref.specs.Same.{same_firm, same_group, same_symbol, same_account, same_agreement}
+use Rattle.gu_terms.specs.Same.{same_firm, same_group, same_symbol, same_account, same_agreement}
 
 -- the firm is among these
 abbrev pub has_firm : List FirmId → FirmId → Bool

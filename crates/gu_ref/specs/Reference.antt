@@ -10,7 +10,7 @@ use Rattle.gu_terms.specs.declared.agreement.AgreementId.{AgreementId}
 use Rattle.gu_ref.specs.declared.instruments.Instrument.{Instrument}
 use Rattle.gu_ref.specs.declared.accounts.Account.{Account}
 use Rattle.gu_ref.specs.declared.agreements.Agreement.{Agreement}
-use Rattle.gu_ref.specs.Same.{same_symbol}
+use Rattle.gu_terms.specs.Same.{same_symbol}
 use Rattle.gu_ref.specs.Listed.{has_firm, has_group, instrument_in, account_in, agreement_in, agreement_for}
 use Rattle.gu_ref.specs.Tables.{Tables}
 

@@ -4,7 +4,7 @@ use Rattle.std.specs.List.{AllPass, IsDistinct}
 use Rattle.gu_ref.specs.declared.row.Row.TheVariants as row
 use Rattle.gu_ref.specs.declared.agreements.Agreement.{Agreement}
 use Rattle.gu_ref.specs.Accepted.{is_known, is_own}
-use Rattle.gu_ref.specs.Same.{same_firm, same_group, same_symbol, same_account, same_agreement}
+use Rattle.gu_terms.specs.Same.{same_firm, same_group, same_symbol, same_account, same_agreement}
 use Rattle.gu_ref.specs.Tables.{Tables}
 
 -- two agreements of one executing firm and one account

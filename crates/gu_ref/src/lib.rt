@@ -13,8 +13,6 @@ mod laws;
 mod reading;
 mod reference;
 mod row;
-#[cfg(test)]
-mod tests;
 
 pub use accounts::Account;
 pub use agreements::Agreement;

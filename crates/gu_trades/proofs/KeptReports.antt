@@ -4,7 +4,7 @@ use Rattle.std.specs.Map.{keys_of, values_of, lookup}
 use Rattle.indexmap.specs.IndexMap.{values, get, insert_entry, Updates}
 use Rattle.gu_terms.specs.declared.id.Id.{Id}
 use Rattle.gu_terms.specs.declared.report.Report.{Report}
-use Rattle.gu_ref.specs.Same.{same_firm}
+use Rattle.gu_terms.specs.Same.{same_firm, same_id}
 use Rattle.gu_ref.proofs.Growing.{no_instrument}
 use Rattle.gu_ref.proofs.Lookups.{by_names, pushed}
 use Rattle.gu_trades.specs.declared.sides.Sides.{Sides}
@@ -15,7 +15,6 @@ use Rattle.gu_trades.specs.Kept.{IsKept, key_of}
 use Rattle.gu_trades.specs.Matching.{conflicts}
 use Rattle.gu_trades.specs.Reports.{has_report, is_by, with_match}
 use Rattle.gu_trades.specs.Rules.{IsSound}
-use Rattle.gu_trades.specs.Same.{same_id}
 use Rattle.gu_trades.specs.Sides.{reports_in}
 use Rattle.gu_trades.proofs.OneMore.{sound-empty, sound-push, with_match-push, with_match-same}
 

@@ -8,7 +8,7 @@ use Rattle.gu_ref.proofs.Growing.{distinct-push}
 use Rattle.gu_trades.specs.Matching.{conflicts, is_other_side}
 use Rattle.gu_trades.specs.Reports.{has_report, with_match}
 use Rattle.gu_trades.specs.Rules.{IsSound, are_sides, same_report}
-use Rattle.gu_trades.specs.Same.{same_id}
+use Rattle.gu_terms.specs.Same.{same_id}
 
 -- the rules hold of no reports
 pub sound-empty : IsSound []

@@ -8,7 +8,7 @@ use Rattle.gu_trades.specs.declared.trades.Trades.TheInside.{Inside}
 use Rattle.gu_trades.specs.declared.trades.ReportKey.{ReportKey}
 use Rattle.gu_trades.specs.Reports.{with_match}
 use Rattle.gu_trades.specs.Rules.{IsSound}
-use Rattle.gu_trades.specs.Same.{same_id}
+use Rattle.gu_terms.specs.Same.{same_id}
 use Rattle.gu_trades.specs.Sides.{reports_in}
 
 -- the firm and the id of a report

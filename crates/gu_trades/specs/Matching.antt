@@ -2,11 +2,10 @@
 use Rattle.std.specs.Prelude.{◌==◌, ◌&&◌, Bool, true, false, not, nat_le, List, [], ◌∷◌, length}
 use Rattle.std.specs.Ordering.{int_eq}
 use Rattle.gu_terms.specs.declared.report.Report.{Report}
-use Rattle.gu_ref.specs.Same.{same_symbol}
+use Rattle.gu_terms.specs.Same.{same_symbol, same_day, same_side}
 use Rattle.gu_trades.specs.declared.matching.Matching.{Matching}
 use Rattle.gu_trades.specs.declared.matching.Matching.TheVariants.{Opened, Matched}
 use Rattle.gu_trades.specs.Reports.{with_match}
-use Rattle.gu_trades.specs.Same.{same_day, same_side}
 
 -- a report is the other side of another: same instrument, lots, price and day, opposite side
 abbrev pub is_other_side : Report → Report → Bool

@@ -10,8 +10,7 @@ use Rattle.gu_terms.specs.declared.price.Price.{Price}
 use Rattle.gu_terms.specs.declared.report.Report.{Report}
 use Rattle.gu_terms.specs.declared.side.Side.{Side}
 use Rattle.gu_terms.specs.declared.symbol.Symbol.{Symbol}
-use Rattle.gu_ref.specs.Same.{same_firm}
-use Rattle.gu_trades.specs.Same.{same_id}
+use Rattle.gu_terms.specs.Same.{same_firm, same_id}
 
 -- a report, from its nine words; the day is the one that was open
 abbrev pub report_of : FirmId → Id → Id → Symbol → Lots → Price → Day → Side → AccountId → Report

@@ -3,10 +3,9 @@ use Rattle.std.specs.Prelude.{◌≡◌, ◌&&◌, Bool, true, false, List, [], 
 use Rattle.std.specs.List.{IsDistinct}
 use Rattle.gu_terms.specs.declared.id.Id.{Id}
 use Rattle.gu_terms.specs.declared.report.Report.{Report}
-use Rattle.gu_ref.specs.Same.{same_firm}
+use Rattle.gu_terms.specs.Same.{same_firm, same_id}
 use Rattle.gu_trades.specs.Matching.{is_other_side}
 use Rattle.gu_trades.specs.Reports.{with_match}
-use Rattle.gu_trades.specs.Same.{same_id}
 
 -- two reports of one firm with one id
 abbrev pub same_report : Report → Report → Bool

@@ -3,8 +3,6 @@
 
 mod matching;
 mod sides;
-#[cfg(test)]
-mod tests;
 mod trades;
 
 pub use matching::Matching;

@@ -1,6 +1,6 @@
 use Rattle.std.proofs.Common.{◌∙◌, ap}
 use Rattle.gu_ref.specs.Listed.{account_in}
-use Rattle.gu_ref.specs.Same.{same_account}
+use Rattle.gu_terms.specs.Same.{same_account}
 use Rattle.gu_ref.proofs.Lookups.{by_name, lookup-by_key}
 use Rattle.gu_ref.proofs.accounts.Accounts.get.Goals as goal
 

@@ -1,4 +1,4 @@
-use Rattle.gu_ref.specs.Same.{same_account}
+use Rattle.gu_terms.specs.Same.{same_account}
 use Rattle.gu_ref.proofs.Lookups.{by_name, pushed}
 use Rattle.gu_ref.proofs.accounts.Accounts.push.Goals as goal
 

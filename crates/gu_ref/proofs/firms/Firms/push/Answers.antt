@@ -1,4 +1,4 @@
-use Rattle.gu_ref.specs.Same.{same_firm}
+use Rattle.gu_terms.specs.Same.{same_firm}
 use Rattle.gu_ref.proofs.Lookups.{by_name, inserted}
 use Rattle.gu_ref.proofs.firms.Firms.push.Goals as goal
 

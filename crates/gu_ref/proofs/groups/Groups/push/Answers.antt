@@ -1,4 +1,4 @@
-use Rattle.gu_ref.specs.Same.{same_group}
+use Rattle.gu_terms.specs.Same.{same_group}
 use Rattle.gu_ref.proofs.Lookups.{by_name, inserted}
 use Rattle.gu_ref.proofs.groups.Groups.push.Goals as goal
 

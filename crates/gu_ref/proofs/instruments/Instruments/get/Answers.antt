@@ -1,6 +1,6 @@
 use Rattle.std.proofs.Common.{◌∙◌, ap}
 use Rattle.gu_ref.specs.Listed.{instrument_in}
-use Rattle.gu_ref.specs.Same.{same_symbol}
+use Rattle.gu_terms.specs.Same.{same_symbol}
 use Rattle.gu_ref.proofs.Lookups.{by_name, lookup-by_key}
 use Rattle.gu_ref.proofs.instruments.Instruments.get.Goals as goal
 

@@ -1,4 +1,4 @@
-use Rattle.gu_ref.specs.Same.{same_symbol}
+use Rattle.gu_terms.specs.Same.{same_symbol}
 use Rattle.std.specs.Result.{is_ok}
 use Rattle.gu_ref.proofs.Growing.{firm-pushed, group-pushed, instrument-pushed, account-pushed, agreement-pushed, no_instrument}
 use Rattle.gu_ref.proofs.reference.Reference.enter.Goals as goal

@@ -1,5 +1,5 @@
 use Rattle.std.proofs.Common.{◌∙◌, ap, is_some}
-use Rattle.gu_ref.specs.Same.{same_symbol}
+use Rattle.gu_terms.specs.Same.{same_symbol}
 use Rattle.gu_ref.proofs.Lookups.{is_some-find}
 use Rattle.gu_ref.proofs.reference.Reference.is_instrument.Goals as goal
 

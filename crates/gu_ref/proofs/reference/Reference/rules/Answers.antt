@@ -3,7 +3,7 @@ use Rattle.std.specs.Option.{option_map}
 use Rattle.gu_ref.specs.declared.accounts.Account.{Account}
 use Rattle.gu_ref.specs.declared.agreements.Agreement.{Agreement}
 use Rattle.gu_ref.specs.Rules.{same_pair}
-use Rattle.gu_ref.specs.Same.{same_account}
+use Rattle.gu_terms.specs.Same.{same_account}
 use Rattle.gu_ref.proofs.Lookups.{by_name, by_names}
 use Rattle.gu_ref.proofs.OwnRow.{found_by_own_name}
 use Rattle.gu_ref.proofs.reference.Reference.rules.Goals as goal

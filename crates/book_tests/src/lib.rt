@@ -1,0 +1,21 @@
+//! Tests of reference data, limits, trades and the book, through public calls alone.
+#![tactic(auto)]
+
+#[cfg(test)]
+mod answers;
+#[cfg(test)]
+mod files;
+#[cfg(test)]
+mod limits;
+#[cfg(test)]
+mod memory;
+#[cfg(test)]
+mod readers;
+#[cfg(test)]
+mod sample;
+#[cfg(test)]
+mod thousands;
+#[cfg(test)]
+mod trades;
+#[cfg(test)]
+mod words;

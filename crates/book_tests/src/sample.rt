@@ -1,0 +1,74 @@
+//! The sample's rows, the largest file, and books that are made of them.
+
+use gu_book::Book;
+use gu_ref::{CountedReads, RefFault, Reference};
+use std::alloc::{AllocError, Global};
+use std::fmt::Write;
+
+/// The sample: seventeen rows.
+pub const ROWS: &[u8] = b"FIRM,E1
+FIRM,E2
+FIRM,C1
+FIRM,C2
+GROUP,G1
+GROUP,G2
+INSTRUMENT,XF6,G1
+INSTRUMENT,YF6,G2
+ACCOUNT,H1,E1
+ACCOUNT,H2,E2
+ACCOUNT,A1,C1
+ACCOUNT,A2,C1
+ACCOUNT,A3,C2
+AGREEMENT,P1,E1,A1
+AGREEMENT,P2,E1,A2
+AGREEMENT,P3,E2,A1
+AGREEMENT,P4,E2,A3
+";
+
+/// The reference of a file.
+pub fn read(alloc: Global, file: &[u8]) -> Result<Reference, RefFault> {
+    Reference::read(alloc, &mut CountedReads::new(file))
+}
+
+/// A book of a file, without entries.
+pub fn book_of(alloc: Global, file: &[u8]) -> Option<Book> {
+    let reference = read(alloc, file).ok()?;
+    Some(Book::new(alloc, reference))
+}
+
+/// A book of the sample, without entries.
+pub fn book(alloc: Global) -> Option<Book> {
+    book_of(alloc, ROWS)
+}
+
+/// As many rows of one kind, with names of their own.
+fn push_rows(file: &mut String, kind: &str, count: u32, tail: &str) -> Result<(), AllocError> {
+    for n in 0..count {
+        writeln!(file, "{kind},N{n}{tail}")?;
+    }
+    Ok(())
+}
+
+/// As many agreements, each of firm N1 with an account of its own.
+fn push_agreements(file: &mut String, count: u32) -> Result<(), AllocError> {
+    for n in 0..count {
+        writeln!(file, "AGREEMENT,N{n},N1,N{n}")?;
+    }
+    Ok(())
+}
+
+/// As many rows as there may be: 1,000 firms, 100 groups and 10,000 of each other kind. Firm N0 carries all accounts.
+pub fn push_largest(file: &mut String) -> Result<(), AllocError> {
+    push_rows(file, "FIRM", 1_000, "")?;
+    push_rows(file, "GROUP", 100, "")?;
+    push_rows(file, "INSTRUMENT", 10_000, ",N0")?;
+    push_rows(file, "ACCOUNT", 10_000, ",N0")?;
+    push_agreements(file, 10_000)
+}
+
+/// The largest file.
+pub fn largest(alloc: Global) -> Option<String> {
+    let mut file = String::new(alloc);
+    push_largest(&mut file).ok()?;
+    Some(file)
+}
