@@ -22,7 +22,8 @@ name_of_key (Carry firm) = firm.name
 
 -- the keys of a name, one of each kind
 abbrev pub keys_named : Name → List LimitKey
-keys_named name = Exec (record { name = name }) ∷ Agr (record { name = name }) ∷ Acct (record { name = name }) ∷ Carry (record { name = name }) ∷ []
+keys_named name =
+    Exec (record { name = name }) ∷ Agr (record { name = name }) ∷ Acct (record { name = name }) ∷ Carry (record { name = name }) ∷ []
 
 -- the key of a kind, by its word, and a name
 abbrev pub key_of : List ℕ → Name → Option LimitKey

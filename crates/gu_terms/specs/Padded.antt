@@ -29,5 +29,6 @@ padded-text size array len h = rw (length-text size array len h) (rw (← h.zero
 -- what is kept is determined by the text
 pub kept-view : (size : ℕ) (p : Inside size) → IsPadded size p.bytes p.len → kept size (take p.len p.bytes) ≡ p
 kept-view size p h =
-    ap (λ (bytes : List ℕ). let it : Inside size = record { bytes = bytes; len = length (take p.len p.bytes) } in it) (padded-text size p.bytes p.len h)
+    ap (λ (bytes : List ℕ). let it : Inside size = record { bytes = bytes; len = length (take p.len p.bytes) } in it)
+    (padded-text size p.bytes p.len h)
     ∙ ap (λ (len : ℕ). let it : Inside size = record { bytes = p.bytes; len = len } in it) (length-text size p.bytes p.len h)

@@ -75,7 +75,8 @@ impl Day {
     pub fn read(text: &[u8]) -> Result<Day, NumberError>
         ensures day { IfOk result (λ d. WritesDay text.now d.year d.month d.day) }
         ensures bad_number { IsErrOf result NumberError.BadNumber ↔ (¬ IsDayText text.now) }
-        ensures out_of_range { IsErrOf result NumberError.OutOfRange ↔ (IsDayText text.now × (¬ IsDay (year_of text.now) (month_of text.now) (day_of text.now))) }
+        ensures out_of_range { IsErrOf result NumberError.OutOfRange
+            ↔ (IsDayText text.now × (¬ IsDay (year_of text.now) (month_of text.now) (day_of text.now))) }
     {
         if text.len() != 8 || !are_digits(text) {
             return Err(NumberError::BadNumber);

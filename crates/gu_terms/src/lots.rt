@@ -54,7 +54,8 @@ impl Lots {
 fn lots_of(parts: NumberText<'_>) -> Option<Lots>
     requires whole { AllDigits 10 parts.whole.now }
     requires fraction { AllDigits 10 parts.fraction.now }
-    ensures { (text : List ℕ) → IsTakenApart text parts.entry.is_negative parts.entry.whole.now parts.entry.fraction.now → MatchOption result ((n : ℕ) → MeansLots text n → ⊥) (λ lots. MeansLots text lots) }
+    ensures { (text : List ℕ) → IsTakenApart text parts.entry.is_negative parts.entry.whole.now parts.entry.fraction.now
+        → MatchOption result ((n : ℕ) → MeansLots text n → ⊥) (λ lots. MeansLots text lots) }
 {
     if parts.is_negative {
         return None;

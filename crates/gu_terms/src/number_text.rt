@@ -78,7 +78,8 @@ pub(crate) fn is_zero(digits: &[u8]) -> bool
 
 /// The text taken apart, if it is a number's.
 pub(crate) fn parts_of(text: &[u8]) -> Option<NumberText<'_>>
-    ensures { MatchOption result (¬ IsNumberText text.now) (λ parts. IsTakenApart text.now parts.is_negative parts.whole.now parts.fraction.now) }
+    ensures { MatchOption result (¬ IsNumberText text.now)
+        (λ parts. IsTakenApart text.now parts.is_negative parts.whole.now parts.fraction.now) }
 {
     let unsigned = unsigned(text);
     let (whole, fraction) = parted(unsigned);

@@ -1,7 +1,11 @@
 //! The limits that an offer comes under.
 
 ghost use Rattle.std.specs.Prelude.{◌≡◌, ◌↔◌, ◌≤◌, length, IsSome, IfSome};
-ghost use Rattle.gu_terms.specs.Paths.{listed, path_through};
+ghost use Rattle.std.specs.Cmp.{partial_equiv_from_equiv};
+ghost use Rattle.std.specs.Cmp.Lexicographic.{pointwise};
+ghost use Rattle.std.proofs.lemmas.Cmp.{lists_equiv};
+ghost use Rattle.gu_terms.specs.contracts.limit_key.LimitKeyEq.TheImpl.Laws.{laws-law as keys_equiv};
+ghost use Rattle.gu_terms.specs.Paths.{path_through};
 
 use crate::account::AccountId;
 use crate::agreement::AgreementId;
@@ -10,14 +14,14 @@ use crate::limit_key::LimitKey;
 use std::marker::Model;
 
 /// As many keys as a path has.
-#[derive(Clone, Copy, Debug, PartialEq, Eq)]
+#[derive(Clone, Copy, Debug)]
 enum Keys {
     Four([LimitKey; 4]),
     Five([LimitKey; 5]),
 }
 
 /// The keys that an offer comes under, four or five, in order. To a contract it is the list of these keys.
-#[derive(Clone, Copy, Debug, PartialEq, Eq)]
+#[derive(Clone, Copy, Debug)]
 pub struct Path {
     keys: Keys,
 }
@@ -29,7 +33,6 @@ impl Model for Path {
     ghost Value = { List LimitKey };
 
     ghost use Rattle.gu_terms.specs.Paths.{listed, kept, kept-listed, size_of};
-    ghost use Rattle.std.proofs.Common.{ap};
 
     ghost view = { λ p. listed p.keys };
 
@@ -84,4 +87,19 @@ impl Path {
             Keys::Five(keys) => keys.as_slice(),
         }
     }
+}
+
+// Two paths are equal where their keys are.
+impl PartialEq for Path {
+    ghost eq = { pointwise ⟦<LimitKey as PartialEq>⟧.eq };
+
+    ghost laws = { partial_equiv_from_equiv (lists_equiv keys_equiv) };
+
+    fn eq(&self, other: &Self) -> bool {
+        self.keys() == other.keys()
+    }
+}
+
+impl Eq for Path {
+    ghost laws = { lists_equiv keys_equiv };
 }

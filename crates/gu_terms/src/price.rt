@@ -77,7 +77,8 @@ fn millionths_of(fraction: &[u8]) -> Option<u64>
 fn price_of(parts: NumberText<'_>) -> Option<Price>
     requires whole { AllDigits 10 parts.whole.now }
     requires fraction { AllDigits 10 parts.fraction.now }
-    ensures { (text : List ℕ) → IsTakenApart text parts.entry.is_negative parts.entry.whole.now parts.entry.fraction.now → MatchOption result ((z : ℤ) → MeansPrice text z → ⊥) (λ price. MeansPrice text price) }
+    ensures { (text : List ℕ) → IsTakenApart text parts.entry.is_negative parts.entry.whole.now parts.entry.fraction.now
+        → MatchOption result ((z : ℤ) → MeansPrice text z → ⊥) (λ price. MeansPrice text price) }
 {
     let Some(millionths) = millionths_of(parts.fraction) else {
         return None;

@@ -79,7 +79,8 @@ impl Takes {
     /// What stands behind its place is moved, so offers that come in ascending order cost least.
     pub fn add(&mut self, offer: OfferNo, lots: u64) -> Result<bool, AllocError>
         ensures added { IfOk result (λ added. IsTrue added ↔ (¬ IsNamed self.old offer)) }
-        ensures takes { IfOk result (λ added. self.new ≡ (if added then with_take self.old (record { offer = offer; lots = lots }) else self.old)) }
+        ensures takes { IfOk result (λ added.
+            self.new ≡ (if added then with_take self.old (record { offer = offer; lots = lots }) else self.old)) }
         ensures refused { OnErr result (self.new ≡ self.old) }
     {
         let place = place_of(&self.list, offer);
