@@ -11,8 +11,6 @@ mod place;
 mod scan;
 mod splitting;
 mod tag;
-#[cfg(test)]
-mod tests;
 mod window;
 
 pub use encoding::encode;

@@ -29,8 +29,6 @@ mod shape;
 mod standard_header;
 mod tables;
 mod tags;
-#[cfg(test)]
-mod tests;
 mod trade_capture_report;
 mod typed_values;
 mod value_faults;

@@ -1,0 +1,64 @@
+//! The header of a message, whatever else is in it.
+use crate::messages::fields_of;
+use gu_msgs::header;
+use std::alloc::{AllocError, Global};
+use std::test::Fail;
+
+/// A text of fields, and the parts of their header: the type, the sender, the target, the number, and whether it is
+/// sent again, each with `-` where there is none.
+pub const ROWS: [(&str, &str); 5] = [
+    (
+        "8=FIXT.1.1|35=0|49=E1|56=GIVEUP|34=2|43=N|",
+        "0 E1 GIVEUP 2 N",
+    ),
+    ("34=2|58=x|56=GIVEUP|49=E1|35=0|", "0 E1 GIVEUP 2 -"),
+    (
+        "35=0|35=1|49=E1|49=E1|56=GIVEUP|34=2|34=3|43=Y|43=Y|",
+        "0 - GIVEUP - -",
+    ),
+    ("35=A!|49=|34=x|", "A!  - x -"),
+    ("", "- - - - -"),
+];
+
+/// A part of a header.
+fn part_of(part: &Option<Vec<u8>>) -> &str {
+    match part {
+        Some(bytes) => str::from_utf8(bytes).unwrap_or("?"),
+        None => "-",
+    }
+}
+
+/// The parts of the header of a text's fields.
+fn parts_of(alloc: Global, text: &str) -> Result<String, AllocError> {
+    let fields = fields_of(alloc, text)?;
+    let found = header(alloc, &fields)?;
+    format!(in alloc;
+        "{} {} {} {} {}",
+        part_of(&found.msg_type),
+        part_of(&found.sender_comp_id),
+        part_of(&found.target_comp_id),
+        part_of(&found.msg_seq_num),
+        part_of(&found.poss_dup_flag)
+    )
+}
+
+/// The first fields whose header hasn't its row's parts.
+pub fn wrong_row(
+    alloc: Global,
+    rows: &[(&'static str, &str)],
+) -> Result<Option<&'static str>, AllocError> {
+    for (text, parts) in rows {
+        if parts_of(alloc, text)?.as_str() != *parts {
+            return Ok(Some(*text));
+        }
+    }
+    Ok(None)
+}
+
+#[test]
+fn the_first_type_counts_and_of_the_others_what_stands_once(rt: HostRuntime) -> Result<(), Fail> {
+    for _ in 0..1_000 {
+        assert_eq!(rt; wrong_row(rt.alloc(), &ROWS)?, None);
+    }
+    Ok(())
+}

@@ -1,0 +1,360 @@
+//! What messages are read as.
+use crate::messages::{fields_of, frame_in, most_fields, wire_around};
+use gu_fix::{Fields, fields};
+use gu_msgs::inbound::{AllocationInstruction, TradeCaptureReport};
+use gu_msgs::{Inbound, MsgFault, read};
+use gu_terms::Side;
+use std::alloc::{AllocError, Global};
+use std::test::Fail;
+
+/// What stands in front of each row of a table, and the fields of each message with what it is read as: what it says,
+/// or the tag and the reason of its first fault.
+pub type Table = (&'static str, &'static [(&'static str, &'static str)]);
+
+/// Whole messages.
+const HEADERS: Table = (
+    "8=FIXT.1.1|9=100|10=000|",
+    &[
+        ("35=0|49=E1|56=GIVEUP|34=0|52=x|", "beats"),
+        ("35=0|49=E1|56=GIVEUP|34=1x|52=x|", "34: 6"),
+        ("35=0|49=E1|56=GIVEUP|34=1000000001|52=x|", "34: 5"),
+        (
+            "35=0|49=E1|56=GIVEUP|34=18446744073709551617|52=x|",
+            "34: 5",
+        ),
+        (
+            "35=AE|49=E1|56=GIVEUP|34=1x|52=x|571=R1|880=M1|55=X|32=1|31=1|",
+            "552: 1",
+        ),
+        (
+            "35=AE|49=E1|56=GIVEUP|34=1x|52=x|571=R1|880=M1|55=x|32=1|31=1|552=1|54=1|1=H1|",
+            "34: 6",
+        ),
+        ("35=0|34=2|52=x|", "49: 1"),
+        ("35=0|49=E1|56=GIVEUP|34=2|52=x|35=1|", "35: 13"),
+        ("49=E1|56=GIVEUP|34=2|", "35: 1"),
+        ("49=E1|49=E1|56=GIVEUP|34=2|", "49: 13"),
+        ("35=A!|49=E1|49=E1|", "35: 11"),
+        ("35=ABCD|", "35: 11"),
+        ("35=D|52=x|52=x|", "unread"),
+    ],
+);
+
+/// Messages of the session behind a sound header.
+pub const SESSION: Table = (
+    "8=FIXT.1.1|9=100|10=000|49=E1|56=GIVEUP|34=2|52=x|",
+    &[
+        ("35=0|", "beats"),
+        ("35=0|112=a =b|", "beats for a =b"),
+        ("35=1|112=TEST|", "asks TEST"),
+        ("35=1|", "112: 1"),
+        ("35=2|7=003|16=0|", "again 3 to 0"),
+        ("35=2|7=0|16=x|", "7: 5"),
+        ("35=2|7=5|16=4|", "16: 5"),
+        ("35=2|7=5|16=-1|", "16: 6"),
+        ("35=3|45=1|", "rejects"),
+        ("35=4|36=9|123=Y|", "resets to 9, fill true"),
+        ("35=4|36=0|", "36: 5"),
+        ("35=5|", "logs out"),
+        (
+            "35=A|98=0|108=030|1137=009|141=N|",
+            "logs on, beats 30, resets false",
+        ),
+        ("35=A|98=0|108=3601|1137=9|", "108: 5"),
+        ("35=A|98=0|108=30|1137=8|", "1137: 5"),
+        ("35=D|52=x|", "unread"),
+        ("35=ae|", "unread"),
+    ],
+);
+
+/// Questions and answers behind a sound header.
+const HOUSE: Table = (
+    "8=FIXT.1.1|9=100|10=000|49=E1|56=GIVEUP|34=2|52=x|",
+    &[
+        ("35=AT|755=01|87=00|", "to 1 says 0"),
+        ("35=AT|755=-5|87=0|", "755: 6"),
+        ("35=AT|755=16000001|87=0|", "755: 5"),
+        ("35=AT|755=1|87=7|", "87: 5"),
+        ("35=AN|710=Q1|724=0|1=A1|", "Q1 asks of A1"),
+        ("35=AN|710=Q1|724=1|1=A1|", "724: 5"),
+        ("35=AN|710=Q 1|724=0|1=A1|", "710: 5"),
+    ],
+);
+
+/// Trade capture reports behind a sound header.
+const REPORTS: Table = (
+    "8=FIXT.1.1|9=100|10=000|35=AE|49=E1|56=GIVEUP|34=2|52=20260105-09:00:00|571=R1|",
+    &[
+        (
+            "880=M1|55=XF6|32=10|31=1.5|75=20260105|552=1|54=1|1=H1|",
+            "R1 of M1: H1 buys 10 XF6 at 1500000 on (2026, 1, 5)",
+        ),
+        (
+            "880=M1|55=X|32=1|31=-1|552=1|54=1|1=H1|",
+            "R1 of M1: H1 buys 1 X at -1000000",
+        ),
+        ("55=X|32=1|31=1|552=1|54=1|1=H1|", "880: 1"),
+        ("880=M1|880=M1|571=R1|552=x|", "880: 13"),
+        ("880=M1|9=5|571=R1|", "9: 13"),
+        ("880=M1|55=x|32=-5|31=1|552=1|54=1|1=H1|", "55: 5"),
+        ("880=M1|55=X|32=-5|31=1|552=1|54=1|1=H1|", "32: 5"),
+        ("880=M1|55=X|32=1.5|31=1|552=1|54=1|1=H1|", "32: 5"),
+        ("880=M1|55=X|32=a|31=1|552=1|54=1|1=H1|", "32: 6"),
+        ("880=M1|55=X|32=1|31=1|75=2026010|552=1|54=1|1=H1|", "75: 6"),
+        (
+            "880=M1|55=X|32=1|31=1|75=20260230|552=1|54=1|1=H1|",
+            "75: 5",
+        ),
+        ("880=M1|55=X|32=1|31=1|487=1|552=1|54=1|1=H1|", "487: 5"),
+        ("880=M1|55=X|32=1|31=1|43=X|552=1|54=1|1=H1|", "43: 5"),
+    ],
+);
+
+/// The sides of trade capture reports.
+const SIDES: Table = (
+    "8=FIXT.1.1|9=100|10=000|35=AE|49=E1|56=GIVEUP|34=2|52=x|571=R1|880=M1|55=XF6|32=0010.0|31=1|",
+    &[
+        ("552=1|54=1|1=H1|", "R1 of M1: H1 buys 10 XF6 at 1000000"),
+        (
+            "552=1|1=Q|54=01|1=H1|",
+            "R1 of M1: H1 buys 10 XF6 at 1000000",
+        ),
+        (
+            "552=01|9999=q|54=1|452=7|1=H1|",
+            "R1 of M1: H1 buys 10 XF6 at 1000000",
+        ),
+        (
+            "54=1|552=1|54=2|1=H1|",
+            "R1 of M1: H1 sells 10 XF6 at 1000000",
+        ),
+        ("552=2|54=1|1=H1|", "552: 16"),
+        ("552=2|54=1|1=H1|54=2|1=H1|", "552: 5"),
+        ("552=0|", "552: 5"),
+        ("552=x|54=1|1=H1|", "552: 6"),
+        ("552=1000000001|54=1|1=H1|", "552: 16"),
+        ("552=18446744073709551617|54=1|1=H1|", "552: 16"),
+        ("552=1|1=H1|54=1|", "1: 1"),
+        ("552=1|54=1|1=H1|1=H1|", "1: 13"),
+        ("552=1|54=1|487=0|1=H1|", "1: 1"),
+        ("552=1|487=0|54=1|1=H1|", "552: 16"),
+        ("552=1|54=B|1=H1|", "54: 6"),
+        ("552=1|54=3|1=H1|", "54: 5"),
+        ("552=1|54=1|1=h1|", "1: 5"),
+        ("", "552: 1"),
+    ],
+);
+
+/// Give-ups; one may have sixteen parts.
+pub const GIVE_UPS: Table = (
+    "8=FIXT.1.1|9=100|10=000|35=J|49=E1|56=GIVEUP|34=2|52=x|70=L1|",
+    &[
+        (
+            "71=0|53=10|124=1|17=R1|78=2|79=A1|80=4|79=A2|80=6|",
+            "L1 gives up 10 of R1: A1 4 A2 6",
+        ),
+        (
+            "53=10.0|78=2|79=A1|17=q|80=4|79=A1|80=6|124=01|79=q|17=R1|",
+            "L1 gives up 10 of R1: A1 4 A1 6",
+        ),
+        ("53=9|124=1|17=R1|78=1|79=A1|80=10|", "53: 5"),
+        ("53=9|124=1|17=R1|78=1|79=A1|80=x|", "80: 6"),
+        ("53=x|124=1|17=R1|78=1|79=A1|80=x|", "53: 6"),
+        ("53=9|124=1|17=R1|78=2|79=A1|80=4|80=5|79=A2|", "80: 13"),
+        ("53=9|124=1|17=R1|78=1|79=A1|79=A1|", "78: 16"),
+        ("53=9|124=1|78=2|79=A1|", "124: 16"),
+        ("53=9|124=1|17= |78=0|", "17: 5"),
+        (
+            "53=136|124=1|17=R1|78=16|79=A|80=1|79=B|80=2|79=C|80=3|79=D|80=4|79=E|80=5|79=F|80=6|79=G|80=7|79=H|80=8|79=I|80=9|79=J|80=10|79=K|80=11|79=L|80=12|79=M|80=13|79=N|80=14|79=O|80=15|79=P|80=16|",
+            "L1 gives up 136 of R1: A 1 B 2 C 3 D 4 E 5 F 6 G 7 H 8 I 9 J 10 K 11 L 12 M 13 N 14 O 15 P 16",
+        ),
+        (
+            "53=17|124=1|17=R1|78=17|79=A|80=1|79=B|80=1|79=C|80=1|79=D|80=1|79=E|80=1|79=F|80=1|79=G|80=1|79=H|80=1|79=I|80=1|79=J|80=1|79=K|80=1|79=L|80=1|79=M|80=1|79=N|80=1|79=O|80=1|79=P|80=1|79=Q|80=1|",
+            "78: 5",
+        ),
+    ],
+);
+
+/// Bytes that are a text.
+fn text_in(bytes: &[u8]) -> &str {
+    str::from_utf8(bytes).unwrap_or("?")
+}
+
+/// What a TradeCaptureReport says.
+fn report(alloc: Global, m: &TradeCaptureReport) -> Result<String, AllocError> {
+    let verb = match m.side {
+        Side::Buy => "buys",
+        Side::Sell => "sells",
+    };
+    let day = match m.trade_date {
+        Some(day) => format!(in alloc; " on {:?}", day.get())?,
+        None => String::new(alloc),
+    };
+    format!(in alloc;
+        "{} of {}: {} {verb} {} {} at {}{day}",
+        text_in(m.trade_report_id.get()),
+        text_in(m.trd_match_id.get()),
+        text_in(m.account.get()),
+        m.last_qty.get(),
+        text_in(m.symbol.get()),
+        m.last_px.get()
+    )
+}
+
+/// What an AllocationInstruction says.
+fn give_up(alloc: Global, m: &AllocationInstruction) -> Result<String, AllocError> {
+    let mut text = format!(in alloc;
+        "{} gives up {} of {}:",
+        text_in(m.alloc_id.get()),
+        m.quantity.get(),
+        text_in(m.exec_id.get())
+    )?;
+    for part in &m.allocs {
+        text.push_str(&format!(in alloc;
+            " {} {}",
+            text_in(part.account.get()),
+            part.quantity.get()
+        )?)?;
+    }
+    Ok(text)
+}
+
+/// What a message says.
+fn said(alloc: Global, inbound: &Inbound) -> Result<String, AllocError> {
+    match inbound {
+        Inbound::Heartbeat(m) => match &m.test_req_id {
+            Some(id) => format!(in alloc; "beats for {}", text_in(id)),
+            None => format!(in alloc; "beats"),
+        },
+        Inbound::TestRequest(m) => format!(in alloc; "asks {}", text_in(&m.test_req_id)),
+        Inbound::ResendRequest(m) => format!(in alloc;
+            "again {} to {}",
+            m.begin_seq_no, m.end_seq_no
+        ),
+        Inbound::Reject => format!(in alloc; "rejects"),
+        Inbound::SequenceReset(m) => format!(in alloc;
+            "resets to {}, fill {}",
+            m.new_seq_no, m.is_gap_fill
+        ),
+        Inbound::Logout => format!(in alloc; "logs out"),
+        Inbound::Logon(m) => format!(in alloc;
+            "logs on, beats {}, resets {}",
+            m.heart_bt_int, m.resets_seq_num
+        ),
+        Inbound::TradeCaptureReport(m) => report(alloc, m),
+        Inbound::AllocationInstruction(m) => give_up(alloc, m),
+        Inbound::AllocationReportAck(m) => {
+            format!(in alloc;
+                "to {} says {}",
+                m.alloc_report_id.get(),
+                m.alloc_status.number()
+            )
+        }
+        Inbound::RequestForPositions(m) => {
+            format!(in alloc;
+                "{} asks of {}",
+                text_in(m.pos_req_id.get()),
+                text_in(m.account.get())
+            )
+        }
+        Inbound::Unread => format!(in alloc; "unread"),
+    }
+}
+
+/// What fields say, or the tag and the reason of their first fault.
+fn answer(alloc: Global, fields: &Fields) -> Result<String, AllocError> {
+    match read(alloc, fields) {
+        Ok(inbound) => said(alloc, &inbound),
+        Err(MsgFault::Rejected(fault)) => {
+            format!(in alloc; "{}: {}", fault.tag, fault.reason.number())
+        }
+        Err(MsgFault::Memory) => Err(AllocError),
+    }
+}
+
+/// What the fields of a front and of a text behind it are read as.
+fn answer_behind(alloc: Global, front: &str, text: &str) -> Result<String, AllocError> {
+    let fields = fields_of(alloc, &format!(in alloc; "{front}{text}")?)?;
+    answer(alloc, &fields)
+}
+
+/// The first message of a table that isn't read as its row says.
+pub fn wrong_row(alloc: Global, table: &Table) -> Result<Option<&'static str>, AllocError> {
+    for (text, expected) in table.1 {
+        if answer_behind(alloc, table.0, text)?.as_str() != *expected {
+            return Ok(Some(*text));
+        }
+    }
+    Ok(None)
+}
+
+#[test]
+fn the_header_comes_first(rt: HostRuntime) -> Result<(), Fail> {
+    assert_eq!(rt; wrong_row(rt.alloc(), &HEADERS)?, None);
+    Ok(())
+}
+
+#[test]
+fn messages_of_the_session_say_their_numbers(rt: HostRuntime) -> Result<(), Fail> {
+    assert_eq!(rt; wrong_row(rt.alloc(), &SESSION)?, None);
+    Ok(())
+}
+
+#[test]
+fn questions_and_answers_say_what_they_ask(rt: HostRuntime) -> Result<(), Fail> {
+    assert_eq!(rt; wrong_row(rt.alloc(), &HOUSE)?, None);
+    Ok(())
+}
+
+#[test]
+fn reports_say_their_trade_or_name_their_first_fault(rt: HostRuntime) -> Result<(), Fail> {
+    assert_eq!(rt; wrong_row(rt.alloc(), &REPORTS)?, None);
+    assert_eq!(rt; wrong_row(rt.alloc(), &SIDES)?, None);
+    Ok(())
+}
+
+#[test]
+fn give_ups_say_their_parts_or_name_their_first_fault(rt: HostRuntime) -> Result<(), Fail> {
+    assert_eq!(rt; wrong_row(rt.alloc(), &GIVE_UPS)?, None);
+    Ok(())
+}
+
+/// What a message of these bytes is read as.
+fn answer_to(alloc: Global, message: &[u8]) -> Result<String, AllocError> {
+    let frame = frame_in(alloc, message)?;
+    let (fields, _) = fields(alloc, &frame)?;
+    answer(alloc, &fields)
+}
+
+/// A give-up of sixteen parts, of which the last has 16,324 fields that nothing reads, and a message with the most fields.
+#[test]
+fn messages_of_65_536_bytes_are_read(rt: HostRuntime) -> Result<(), Fail> {
+    let message = wire_around(
+        rt.alloc(),
+        "8=FIXT.1.1|9=65510|35=J|49=E|56=G|34=1|52=xx|70=L|53=16|124=1|17=R|78=16|79=A|80=1|79=B|80=1|79=C|80=1|79=D|80=1|79=E|80=1|79=F|80=1|79=G|80=1|79=H|80=1|79=I|80=1|79=J|80=1|79=K|80=1|79=L|80=1|79=M|80=1|79=N|80=1|79=O|80=1|79=P|80=1|",
+        "2=x|",
+        16_324,
+        "10=170|",
+    )?;
+    assert_eq!(rt; message.len(), 65_536);
+    assert_eq!(rt;
+        answer_to(rt.alloc(), message.as_bytes())?.as_str(),
+        "L gives up 16 of R: A 1 B 1 C 1 D 1 E 1 F 1 G 1 H 1 I 1 J 1 K 1 L 1 M 1 N 1 O 1 P 1"
+    );
+    let message = most_fields(rt.alloc())?;
+    assert_eq!(rt;
+        answer_to(rt.alloc(), message.as_bytes())?.as_str(),
+        "49: 1"
+    );
+    Ok(())
+}
+
+/// Each table once more, so that each type is read thousands of times.
+#[test]
+fn thousands_of_messages_are_read_in_a_row(rt: HostRuntime) -> Result<(), Fail> {
+    for _ in 0..1_000 {
+        assert_eq!(rt; wrong_row(rt.alloc(), &SESSION)?, None);
+        assert_eq!(rt; wrong_row(rt.alloc(), &HOUSE)?, None);
+        assert_eq!(rt; wrong_row(rt.alloc(), &GIVE_UPS)?, None);
+    }
+    Ok(())
+}

@@ -1,0 +1,420 @@
+//! What messages are written as.
+use crate::messages::text_of;
+use gu_msgs::outbound::{
+    AllocationInstructionAck, AllocationReport, Body, BusinessMessageReject, PositionReport,
+    Reject, RequestForPositionsAck, TradeCaptureReport, TradeCaptureReportAck,
+};
+use gu_msgs::{
+    AllocReportType, AllocStatus, BusinessRejectReason, LogoutReason, Outbound, PosReqResult,
+    Rejection, SessionRejectReason, write,
+};
+use gu_terms::{AccountId, Day, FirmId, Id, Lots, Moment, OfferNo, Price, Refusal, Side, Symbol};
+use std::alloc::{AllocError, Global};
+use std::test::Fail;
+
+/// The values that the messages here say.
+#[derive(Clone, Copy)]
+pub struct Values {
+    firm: FirmId,
+    nine: Moment,
+    id: Id,
+    match_id: Id,
+    account: AccountId,
+    symbol: Symbol,
+    lots: Lots,
+    price: Price,
+    day: Day,
+    offer: OfferNo,
+}
+
+/// Firm E1, nine o'clock of 2026-01-05, id R1, match M1, account A1, ten lots of XF6 at 101.5, and offer 1.
+pub fn sample() -> Option<Values> {
+    Some(Values {
+        firm: FirmId::new(b"E1")?,
+        nine: Moment::new(1_767_603_600_000)?,
+        id: Id::new(b"R1")?,
+        match_id: Id::new(b"M1")?,
+        account: AccountId::new(b"A1")?,
+        symbol: Symbol::new(b"XF6")?,
+        lots: Lots::new(10)?,
+        price: Price::new(101_500_000)?,
+        day: Day::new(2026, 1, 5)?,
+        offer: OfferNo::new(1)?,
+    })
+}
+
+/// Message 3 to the firm, which is sent at nine.
+fn at_nine(w: &Values, body: Body) -> Outbound {
+    Outbound {
+        firm: w.firm,
+        msg_seq_num: 3,
+        sending_time: w.nine,
+        orig_sending_time: None,
+        body,
+    }
+}
+
+/// The notice of a side of a trade at this price, which entry 7 made.
+fn side_notice(w: &Values, side: Side, last_px: Price) -> Outbound {
+    let body = Body::TradeCaptureReport(TradeCaptureReport {
+        entry: 7,
+        trade_report_ref_id: w.id,
+        trd_match_id: w.match_id,
+        symbol: w.symbol,
+        last_qty: w.lots,
+        last_px,
+        trade_date: w.day,
+        side,
+        account: w.account,
+    });
+    at_nine(w, body)
+}
+
+/// The notice of an offer.
+fn offer_notice(
+    w: &Values,
+    alloc_report_type: AllocReportType,
+    alloc_status: AllocStatus,
+) -> Outbound {
+    let body = Body::AllocationReport(AllocationReport {
+        alloc_report_id: w.offer,
+        alloc_report_type,
+        alloc_status,
+        symbol: w.symbol,
+        side: Side::Buy,
+        quantity: w.lots,
+        avg_px: w.price,
+        trade_date: w.day,
+        account: w.account,
+    });
+    at_nine(w, body)
+}
+
+/// The answer to a report.
+fn report_ack(w: &Values, rejection: Option<Rejection>) -> Outbound {
+    let ack = TradeCaptureReportAck {
+        trade_report_id: w.id,
+        trd_match_id: w.match_id,
+        rejection,
+    };
+    at_nine(w, Body::TradeCaptureReportAck(ack))
+}
+
+/// The answer to a give-up.
+fn give_up_ack(w: &Values, rejection: Option<Rejection>) -> Outbound {
+    at_nine(
+        w,
+        Body::AllocationInstructionAck(AllocationInstructionAck {
+            alloc_id: w.id,
+            rejection,
+        }),
+    )
+}
+
+/// The answer to a question for positions.
+fn question_ack(w: &Values, outcome: PosReqResult) -> Outbound {
+    let ack = RequestForPositionsAck {
+        pos_req_id: w.id,
+        outcome,
+        account: w.account,
+    };
+    at_nine(w, Body::RequestForPositionsAck(ack))
+}
+
+/// The second position that answers a question.
+fn position(w: &Values) -> Outbound {
+    let body = Body::PositionReport(PositionReport {
+        pos_req_id: w.id,
+        place: 2,
+        clearing_business_date: w.day,
+        account: w.account,
+        symbol: w.symbol,
+        long_qty: 10,
+        short_qty: 0,
+    });
+    at_nine(w, body)
+}
+
+/// The fields of a message, as a text.
+fn written(alloc: Global, message: &Outbound) -> Result<String, AllocError> {
+    let fields = write(alloc, message)?;
+    text_of(alloc, &fields)
+}
+
+/// A message that is sent at nine, its type, and what it says behind its header.
+type Row = (Outbound, &'static str, &'static str);
+
+/// The first message that isn't written as its row says.
+fn wrong_row(alloc: Global, rows: &[Row]) -> Result<Option<&'static str>, AllocError> {
+    for row in rows {
+        let expected = format!(in alloc;
+            "35={}|49=GIVEUP|56=E1|34=3|52=20260105-09:00:00.000|{}",
+            row.1, row.2
+        )?;
+        if written(alloc, &row.0)?.as_str() != expected.as_str() {
+            return Ok(Some(row.2));
+        }
+    }
+    Ok(None)
+}
+
+/// The first message of the session that isn't written as its row says.
+fn wrong_session(alloc: Global, w: &Values) -> Result<Option<&'static str>, AllocError> {
+    let id = Vec::from_slice(alloc, b"a =b")?;
+    let logon = Body::Logon {
+        heart_bt_int: 30,
+        resets_seq_num: false,
+    };
+    let reset = Body::Logon {
+        heart_bt_int: 0,
+        resets_seq_num: true,
+    };
+    let rows = [
+        (at_nine(w, logon), "A", "98=0|108=30|1137=9|"),
+        (at_nine(w, reset), "A", "98=0|108=0|1137=9|141=Y|"),
+        (at_nine(w, Body::Heartbeat(None)), "0", ""),
+        (at_nine(w, Body::Heartbeat(Some(id))), "0", "112=a =b|"),
+        (at_nine(w, Body::TestRequest), "1", "112=TEST|"),
+        (at_nine(w, Body::ResendRequest(2)), "2", "7=2|16=0|"),
+        (at_nine(w, Body::SequenceReset(106)), "4", "123=Y|36=106|"),
+        (at_nine(w, Body::Logout(None)), "5", ""),
+        (
+            at_nine(w, Body::Logout(Some(LogoutReason::SeqTooLow))),
+            "5",
+            "58=SeqTooLow|",
+        ),
+    ];
+    wrong_row(alloc, &rows)
+}
+
+/// A Reject of message 2, of this type.
+fn reject(
+    alloc: Global,
+    w: &Values,
+    ref_tag_id: u32,
+    msg_type: &[u8],
+    reason: SessionRejectReason,
+) -> Result<Outbound, AllocError> {
+    let ref_msg_type = Some(Vec::from_slice(alloc, msg_type)?);
+    Ok(at_nine(
+        w,
+        Body::Reject(Reject {
+            ref_seq_num: 2,
+            ref_tag_id,
+            ref_msg_type,
+            reason,
+        }),
+    ))
+}
+
+/// A BusinessMessageReject of message 4, of this type.
+fn business_reject(
+    alloc: Global,
+    w: &Values,
+    ref_id: Option<OfferNo>,
+    msg_type: &[u8],
+    reason: BusinessRejectReason,
+    rejection: Option<Rejection>,
+) -> Result<Outbound, AllocError> {
+    let ref_msg_type = Vec::from_slice(alloc, msg_type)?;
+    let body = BusinessMessageReject {
+        ref_seq_num: 4,
+        ref_id,
+        ref_msg_type,
+        reason,
+        rejection,
+    };
+    Ok(at_nine(w, Body::BusinessMessageReject(body)))
+}
+
+/// The first rejection that isn't written as its row says: the type is named where it has the form of one.
+fn wrong_rejection(alloc: Global, w: &Values) -> Result<Option<&'static str>, AllocError> {
+    let missing = reject(
+        alloc,
+        w,
+        880,
+        b"AE",
+        SessionRejectReason::RequiredTagMissing,
+    )?;
+    let no_type = reject(alloc, w, 35, b"A!", SessionRejectReason::InvalidMsgType)?;
+    let no_tag = reject(alloc, w, 0, b"D", SessionRejectReason::InvalidTagNumber)?;
+    let unread = business_reject(
+        alloc,
+        w,
+        None,
+        b"D",
+        BusinessRejectReason::UnsupportedMessageType,
+        None,
+    )?;
+    let why = Some(Rejection::Refused(Refusal::NotYours));
+    let closed = business_reject(
+        alloc,
+        w,
+        Some(w.offer),
+        b"AT",
+        BusinessRejectReason::Other,
+        why,
+    )?;
+    let rows = [
+        (missing, "3", "45=2|371=880|372=AE|373=1|"),
+        (no_type, "3", "45=2|371=35|373=11|"),
+        (no_tag, "3", "45=2|372=D|373=0|"),
+        (unread, "j", "45=4|372=D|380=3|"),
+        (closed, "j", "45=4|379=1|372=AT|380=0|58=NotYours|"),
+    ];
+    wrong_row(alloc, &rows)
+}
+
+/// The first answer that isn't written as its row says.
+fn wrong_answer(alloc: Global, w: &Values) -> Result<Option<&'static str>, AllocError> {
+    let unknown = Some(Rejection::Refused(Refusal::UnknownAccount));
+    let rows = [
+        (report_ack(w, None), "AR", "571=R1|880=M1|939=0|"),
+        (
+            report_ack(w, unknown),
+            "AR",
+            "571=R1|880=M1|939=1|751=1|58=UnknownAccount|",
+        ),
+        (
+            report_ack(w, Some(Rejection::Full)),
+            "AR",
+            "571=R1|880=M1|939=1|751=99|58=Full|",
+        ),
+        (give_up_ack(w, None), "P", "70=R1|87=0|"),
+        (
+            give_up_ack(w, Some(Rejection::Memory)),
+            "P",
+            "70=R1|87=1|88=99|58=Memory|",
+        ),
+        (
+            question_ack(w, PosReqResult::ValidRequest(1)),
+            "AO",
+            "721=R1-0|710=R1|728=0|729=0|727=1|1=A1|",
+        ),
+        (
+            question_ack(w, PosReqResult::NoPositionsFound),
+            "AO",
+            "721=R1-0|710=R1|728=2|729=0|727=0|1=A1|",
+        ),
+        (
+            question_ack(w, PosReqResult::NotAuthorized),
+            "AO",
+            "721=R1-0|710=R1|728=3|729=2|727=0|1=A1|",
+        ),
+    ];
+    wrong_row(alloc, &rows)
+}
+
+/// The first notice that isn't written as its row says.
+pub fn wrong_notice(alloc: Global, w: &Values) -> Result<Option<&'static str>, AllocError> {
+    let rows = [
+        (
+            side_notice(w, Side::Buy, w.price),
+            "AE",
+            "571=7-B|572=R1|573=0|880=M1|55=XF6|32=10|31=101.5|75=20260105|552=1|54=1|1=A1|",
+        ),
+        (
+            side_notice(w, Side::Sell, w.price),
+            "AE",
+            "571=7-S|572=R1|573=0|880=M1|55=XF6|32=10|31=101.5|75=20260105|552=1|54=2|1=A1|",
+        ),
+        (
+            offer_notice(
+                w,
+                AllocReportType::RequestToIntermediary,
+                AllocStatus::AllocationPending,
+            ),
+            "AS",
+            "755=1|71=0|794=8|87=6|55=XF6|54=1|53=10|6=101.5|75=20260105|78=1|79=A1|80=10|",
+        ),
+        (
+            offer_notice(w, AllocReportType::Accept, AllocStatus::Accepted),
+            "AS",
+            "755=1|71=0|794=9|87=0|55=XF6|54=1|53=10|6=101.5|75=20260105|78=1|79=A1|80=10|",
+        ),
+        (
+            position(w),
+            "AP",
+            "721=R1-2|710=R1|728=0|715=20260105|1=A1|55=XF6|702=1|703=TQ|704=10|705=0|",
+        ),
+    ];
+    wrong_row(alloc, &rows)
+}
+
+#[test]
+fn each_message_is_written_as_the_standard_has_it(rt: HostRuntime) -> Result<(), Fail> {
+    let w = sample().ok_or("no sample")?;
+    assert_eq!(rt; wrong_session(rt.alloc(), &w)?, None);
+    assert_eq!(rt; wrong_rejection(rt.alloc(), &w)?, None);
+    assert_eq!(rt; wrong_answer(rt.alloc(), &w)?, None);
+    assert_eq!(rt; wrong_notice(rt.alloc(), &w)?, None);
+    Ok(())
+}
+
+/// A price in millionths, and its text.
+const PRICES: [(i64, &str); 6] = [
+    (0, "|31=0|"),
+    (-250_000, "|31=-0.25|"),
+    (23_000_000, "|31=23|"),
+    (1_500_000, "|31=1.5|"),
+    (100_000_001, "|31=100.000001|"),
+    (-999_999_999_999_999, "|31=-999999999.999999|"),
+];
+
+/// The first price that isn't written as its row says.
+fn wrong_price(alloc: Global, w: &Values) -> Result<Option<&'static str>, AllocError> {
+    for (number, text) in &PRICES {
+        let message = side_notice(w, Side::Buy, Price::new(*number).unwrap_or(w.price));
+        if !written(alloc, &message)?.as_str().contains(*text) {
+            return Ok(Some(*text));
+        }
+    }
+    Ok(None)
+}
+
+#[test]
+fn prices_have_no_zeros_at_their_end(rt: HostRuntime) -> Result<(), Fail> {
+    let w = sample().ok_or("no sample")?;
+    assert_eq!(rt; wrong_price(rt.alloc(), &w)?, None);
+    Ok(())
+}
+
+#[test]
+fn what_is_sent_again_says_when_it_was_sent_first(rt: HostRuntime) -> Result<(), Fail> {
+    let w = sample().ok_or("no sample")?;
+    let mut message = at_nine(&w, Body::TestRequest);
+    message.sending_time = Moment::new(253_402_300_799_999).ok_or("no moment")?;
+    message.orig_sending_time = Moment::new(951_868_799_001);
+    assert_eq!(rt;
+        written(rt.alloc(), &message)?.as_str(),
+        "35=1|49=GIVEUP|56=E1|34=3|52=99991231-23:59:59.999|43=Y|122=20000229-23:59:59.001|112=TEST|"
+    );
+    Ok(())
+}
+
+/// How many bytes the text of a Heartbeat has that answers an id of so many bytes.
+fn heartbeat_length(alloc: Global, w: &Values, length: usize) -> Result<usize, AllocError> {
+    let mut id = Vec::new(alloc);
+    id.resize(length, b'x')?;
+    let message = at_nine(w, Body::Heartbeat(Some(id)));
+    Ok(written(alloc, &message)?.len())
+}
+
+/// How many bytes the text of a notice has that is written so many times.
+fn notice_length(alloc: Global, w: &Values, times: usize) -> Result<usize, AllocError> {
+    let message = side_notice(w, Side::Buy, w.price);
+    let mut length = 0;
+    for _ in 0..times {
+        length = written(alloc, &message)?.len();
+    }
+    Ok(length)
+}
+
+/// An id of 65,000 bytes, and 5,000 notices.
+#[test]
+fn long_and_many_messages_are_written(rt: HostRuntime) -> Result<(), Fail> {
+    let w = sample().ok_or("no sample")?;
+    assert_eq!(rt; heartbeat_length(rt.alloc(), &w, 65_000)?, 65_056);
+    assert_eq!(rt; notice_length(rt.alloc(), &w, 5_000)?, 52 + 78);
+    Ok(())
+}
