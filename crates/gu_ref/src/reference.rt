@@ -45,11 +45,23 @@ impl Model for Reference {
 
     ghost Value = { Tables };
 
-    ghost view = { λ r. record { firms = r.firms; groups = r.groups; instruments = r.instruments; accounts = r.accounts; agreements = r.agreements } };
+    ghost view = { λ r. record {
+      firms = r.firms;
+      groups = r.groups;
+      instruments = r.instruments;
+      accounts = r.accounts;
+      agreements = r.agreements;
+    } };
 
     ghost use Rattle.gu_ref.specs.Rules.{IsSound};
 
-    ghost invariant = { λ r. IsSound (record { firms = r.firms; groups = r.groups; instruments = r.instruments; accounts = r.accounts; agreements = r.agreements }) };
+    ghost invariant = { λ r. IsSound (record {
+      firms = r.firms;
+      groups = r.groups;
+      instruments = r.instruments;
+      accounts = r.accounts;
+      agreements = r.agreements;
+    }) };
 }
 
 impl Reference {
@@ -63,7 +75,8 @@ impl Reference {
     pub fn rules(&self)
         ensures sound { IsSound self.now }
         ensures carrier { (row : Account) → Contains self.now.accounts row → account_row self.now row.account ≡ Some row }
-        ensures partner { (row : Agreement) → Contains self.now.agreements row → agreement_between self.now row.executing row.account ≡ Some row.id }
+        ensures partner { (row : Agreement) → Contains self.now.agreements row
+            → agreement_between self.now row.executing row.account ≡ Some row.id }
     {
         // A field that is read shows what the type keeps.
         let _ = &self.firms;
