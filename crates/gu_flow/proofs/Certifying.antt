@@ -1,5 +1,5 @@
 -- The shares of a greatest flow and the cut where its last search stops: right takes, a right cut, and no takes are greater.
-use Rattle.std.proofs.Common.{◌≡◌, ◌≢◌, ℕ, ◌+◌, ◌<◌, ◌≤◌, ◌==◌, ◌&&◌, not, Bool, true, false, cond, List, [], ◌∷◌, suc, length, map, get_or, refl, sym, ◌∙◌, ap, subst, arith, inl, inr}
+use Rattle.std.proofs.Common.{◌≡◌, ◌≢◌, ℕ, ◌+◌, ◌<◌, ◌≤◌, ◌==◌, ◌&&◌, not, Bool, true, false, cond, List, [], ◌∷◌, suc, length, get_or, refl, sym, ◌∙◌, ap, subst, arith, inl, inr}
 use Rattle.std.specs.Prelude.{sum_by}
 use Rattle.std.specs.List.{AllByRecursion, list_any}
 use Rattle.std.proofs.Math.Bool.{or-false}
@@ -34,7 +34,7 @@ use Rattle.gu_flow.proofs.Loads.{flow_at, agree, Sided}
 use Rattle.gu_flow.proofs.RoomPlaces.{goes_by_key, at_place}
 use Rattle.gu_flow.proofs.ShareLemmas.{share_taken, share_fits, shares_oldest_first, shares_together, shares_known}
 use Rattle.gu_flow.proofs.Sides.{IsLaid, LiesOn, way_walks, way_once, way_lays, first_left, later_right}
-use Rattle.gu_view.proofs.ListLemmas.{sum_by-add, sum_by-swap, sum_by-agree}
+use Rattle.gu_terms.proofs.Lists.{sum_by-add, sum_by-swap, sum_by-agree}
 use Rattle.gu_flow.proofs.SumLemmas.{places, sum_by-by, sum_by_place, sum_places_by, sum_one_place, cond-sum, cond-swap}
 use Rattle.gu_flow.proofs.Walks.{has_place, Walking, load, sum_over}
 use Rattle.gu_flow.proofs.WayStages.{stage_of, stage_at, staged_at, key_on, lies_alike}

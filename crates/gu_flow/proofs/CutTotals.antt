@@ -6,7 +6,7 @@ use Rattle.gu_flow.specs.declared.arcs.Arc.{Arc}
 use Rattle.gu_flow.specs.CutArcs.{leads_out}
 use Rattle.gu_flow.specs.Ends.{no_arc, arc_at}
 use Rattle.gu_flow.specs.Flows.{IsClosed}
-use Rattle.gu_view.proofs.ListLemmas.{sum_by-add, sum_by-zeros}
+use Rattle.gu_terms.proofs.Lists.{sum_by-add, sum_by-zeros}
 use Rattle.gu_flow.proofs.SumLemmas.{sum_by-by, sum_places_by, at_test, cond_same, places}
 use Rattle.gu_flow.proofs.Walks.{Walks, has_place, Walking, way_sum, along_walk, sum_over, load, by_walks}
 use Rattle.gu_flow.proofs.Loads.{flow_at}

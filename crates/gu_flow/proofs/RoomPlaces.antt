@@ -12,7 +12,7 @@ use Rattle.gu_terms.specs.LimitKeys.{key_eq, has_key}
 use Rattle.gu_terms.specs.declared.agreement.AgreementId.{AgreementId}
 use Rattle.gu_terms.specs.declared.limit_key.LimitKey.{LimitKey}
 use Rattle.gu_terms.specs.declared.limit_key.LimitKey.TheVariants.{Agr}
-use Rattle.gu_view.proofs.ListLemmas.{sum_by-places}
+use Rattle.gu_view.proofs.PassingPlaces.{sum_by-places}
 use Rattle.gu_view.proofs.MarkLemmas.{path_inside}
 use Rattle.gu_view.proofs.RoomLemmas.{apart, has_key-keys_of, has_room-keys}
 use Rattle.gu_view.proofs.TakesLemmas.{key_at_place}

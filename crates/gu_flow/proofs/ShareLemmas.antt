@@ -1,16 +1,16 @@
 -- Shares of the offers of an agreement: oldest first, and together what flows.
-use Rattle.std.proofs.Common.{◌≡◌, ℕ, ◌+◌, ◌-◌, ◌<◌, ◌≤◌, ◌==◌, min, nat_lt, Bool, true, cond, List, [], ◌∷◌, ◌++◌, zero, suc, length, map, take, set, get_or, refl, sym, ◌∙◌, ap, subst, arith, inl, inr, length-append, get_or-set_same, get_or-set_other, length-set, add-one, Some}
-use Rattle.std.specs.Prelude.{All, filter, unwrap_or, sum_by, IsTrue, ◌↔◌}
+use Rattle.std.proofs.Common.{◌≡◌, ℕ, ◌+◌, ◌-◌, ◌<◌, ◌≤◌, ◌==◌, min, true, cond, List, [], ◌∷◌, ◌++◌, zero, suc, length, map, take, set, get_or, refl, sym, ◌∙◌, ap, subst, arith, inl, inr, length-append, get_or-set_same, get_or-set_other, length-set, add-one, Some}
+use Rattle.std.specs.Prelude.{All, unwrap_or, sum_by, IsTrue}
 use Rattle.std.specs.List.{find}
 use Rattle.std.specs.Option.{option_map}
 use Rattle.std.proofs.Math.Seq.{get_or-append_seam}
 use Rattle.std.proofs.Math.ListN.{get_or-append}
-use Rattle.std.proofs.lemmas.Bool.{cases_eq, cases_lt, eq-eqb, ne_eqb, lt-ltb, le-ltb, cond-true, cond-false}
+use Rattle.std.proofs.lemmas.Bool.{cases_eq, cases_lt, eq-eqb, ne_eqb, cond-true, cond-false}
 use Rattle.std.proofs.lemmas.List.{get_or_default, get_or-map, get_or_past, length-map, take_all}
 use Rattle.std.proofs.lemmas.List.Elements.{All-from_get_or}
 use Rattle.std.proofs.lemmas.List.Folds.{list_any_at}
 use Rattle.std.proofs.lemmas.List.Sums.{sum_by_more, sum_by-take-le, sum_by-le}
-use Rattle.gu_terms.specs.Takes.{IsAscending, IsNamed, lots_of, with_take}
+use Rattle.gu_terms.specs.Takes.{IsAscending, lots_of}
 use Rattle.gu_terms.specs.declared.limit_key.LimitKey.TheVariants.{Agr}
 use Rattle.gu_terms.specs.declared.takes.Take.{Take}
 use Rattle.gu_view.specs.Check.{has_offer}

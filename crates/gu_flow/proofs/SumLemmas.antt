@@ -2,7 +2,7 @@
 use Rattle.std.proofs.Common.{◌≡◌, ℕ, ◌+◌, ◌<◌, ◌==◌, Bool, true, false, cond, List, [], ◌∷◌, zero, suc, length, map, refl, sym, ◌∙◌, ap, arith, get_or}
 use Rattle.std.specs.List.{sum_by, AllByRecursion}
 use Rattle.std.proofs.lemmas.List.Sums.{sum_by-cons}
-use Rattle.gu_view.proofs.ListLemmas.{sum_by-agree, sum_by-zeros}
+use Rattle.gu_terms.proofs.Lists.{sum_by-agree, sum_by-zeros}
 use Rattle.std.proofs.lemmas.Bool.{ne_eqb, eq-eqb, eqb-true, cond-false, cond-true}
 
 module _ {X : Type 0} where

@@ -5,7 +5,7 @@ use Rattle.std.proofs.lemmas.List.Sums.{sum_by-cons}
 use Rattle.std.proofs.lemmas.Bool.{ne_eqb, cond-false}
 use Rattle.gu_flow.specs.declared.arcs.Arc.{Arc}
 use Rattle.gu_flow.specs.Ends.{arc_at}
-use Rattle.gu_view.proofs.ListLemmas.{sum_by-agree, sum_by-swap}
+use Rattle.gu_terms.proofs.Lists.{sum_by-agree, sum_by-swap}
 use Rattle.gu_flow.proofs.SumLemmas.{sum_by-by, cond-sum, cond-swap, places, sum_one_place}
 
 -- the arcs at these places lead from node to node

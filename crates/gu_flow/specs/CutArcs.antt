@@ -21,16 +21,20 @@ cuts_key reached arcs rooms place = leads_out reached (arc_at arcs place) && ((a
 
 -- the offers of the agreement whose room is at a place are cut: its arc leads out, and can carry only what they have
 abbrev pub cuts_offers : (ℕ → Bool) → List Arc → List Room → ℕ → Bool
-cuts_offers reached arcs rooms place = leads_out reached (arc_at arcs place) && not ((arc_at arcs place).capacity == (room_at rooms place).lots)
+cuts_offers reached arcs rooms place =
+    leads_out reached (arc_at arcs place) && not ((arc_at arcs place).capacity == (room_at rooms place).lots)
 
 -- of the rooms before a place, these keys are those that are cut
 pub record AreKeysCut (view : GroupView) (reached : ℕ → Bool) (arcs : List Arc) (keys : List LimitKey) (before : ℕ) : Type 0 where
-  pub exact : (k : ℕ) → k < length view.rooms → has_key keys (room_at view.rooms k).key ≡ (nat_lt k before && cuts_key reached arcs view.rooms k)
+  pub exact : (k : ℕ) → k < length view.rooms
+      → has_key keys (room_at view.rooms k).key ≡ (nat_lt k before && cuts_key reached arcs view.rooms k)
   pub known : All (λ k. IsTrue (has_room view.rooms k)) keys
 
 -- of the offers before a place, these numbers are of those that are cut
 pub record AreOffersCut (view : GroupView) (reached : ℕ → Bool) (arcs : List Arc) (numbers : List ℕ) (before : ℕ) : Type 0 where
-  pub exact : (i : ℕ) → i < length view.offers → has_number numbers (offer_at view.offers i).number ≡ (nat_lt i before && cuts_offers reached arcs view.rooms (agreement_place view.rooms (offer_at view.offers i)))
+  pub exact : (i : ℕ) → i < length view.offers
+      → has_number numbers (offer_at view.offers i).number
+      ≡ (nat_lt i before && cuts_offers reached arcs view.rooms (agreement_place view.rooms (offer_at view.offers i)))
   pub known : All (λ n. IsTrue (has_offer view.offers n)) numbers
 
 -- the cut has all keys and all offers that are cut

@@ -27,7 +27,7 @@ pipe a = (a.from, a.to, a.capacity)
 abbrev pub SamePipes : List Arc → List Arc → Type 0
 SamePipes old new = map pipe new ≡ map pipe old
 
--- no more can be brought from the nodes that were reached to the others: each arc from the one to the other is full, and each arc back is empty
+-- no more can be brought from the nodes that were reached to the others: each arc out to these is full, and each arc back is empty
 pub record IsClosed (arcs : List Arc) (reached : ℕ → Bool) : Type 0 where
   pub full : All (λ a. reached a.from ≡ true → reached a.to ≡ false → a.flow ≡ a.capacity) arcs
   pub empty : All (λ a. reached a.from ≡ false → reached a.to ≡ true → a.flow ≡ 0) arcs

@@ -25,4 +25,5 @@ tail_on (first ∷ second ∷ others) place = if first == place then 0 else (if 
 abbrev pub head_on : List ℕ → ℕ → ℕ
 head_on [] place = 1
 head_on (first ∷ []) place = node_of first
-head_on (first ∷ second ∷ others) place = if first == place then node_of first else (if second == place then first_node others else next_node others place)
+head_on (first ∷ second ∷ others) place =
+    if first == place then node_of first else (if second == place then first_node others else next_node others place)

@@ -19,7 +19,8 @@ agreement_lots rooms offers place = sum_by (λ o. if agreement_place rooms o == 
 
 -- an offer's share: what the older ones of its agreement leave of the flow, and no more than it has
 abbrev pub share_of : List Arc → List Room → List Offer → Offer → ℕ
-share_of arcs rooms older o = min o.lots ((arc_at arcs (agreement_place rooms o)).flow - agreement_lots rooms older (agreement_place rooms o))
+share_of arcs rooms older o =
+    min o.lots ((arc_at arcs (agreement_place rooms o)).flow - agreement_lots rooms older (agreement_place rooms o))
 
 -- the take at a place
 abbrev pub no_take : Take
@@ -31,7 +32,11 @@ take_at takes i = slice_index_or takes i no_take
 -- the offers before a place take their shares
 pub record AreSharesBefore (view : GroupView) (arcs : List Arc) (takes : List Take) (before : ℕ) : Type 0 where
   pub all : length takes ≡ before
-  pub each : (i : ℕ) → i < before → take_at takes i ≡ record { offer = (offer_at view.offers i).number; lots = share_of arcs view.rooms (take i view.offers) (offer_at view.offers i) }
+  pub each : (i : ℕ) → i < before
+      → take_at takes i ≡ record {
+        offer = (offer_at view.offers i).number;
+        lots = share_of arcs view.rooms (take i view.offers) (offer_at view.offers i);
+      }
 
 -- each offer takes its share
 abbrev pub AreShares : GroupView → List Arc → List Take → Type 0

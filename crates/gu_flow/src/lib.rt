@@ -13,6 +13,3 @@ mod sharing;
 mod ways;
 
 pub use proposal::{Proposal, propose};
-
-#[cfg(test)]
-mod tests;

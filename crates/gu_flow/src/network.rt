@@ -26,7 +26,8 @@ fn fill(
     requires few { (length entries.old < 2 ^ 31) × (1 < length entries.old) × (length arcs.old < 2 ^ 31) }
     requires index { IsIndex arcs.old first.now next.now (2 * length arcs.old) }
     requires lists { (length first.now ≡ length entries.old) × (length next.now ≡ 2 * length arcs.old) }
-    requires rooms { (length entries.old ≤ length queue.old) × (length current.old ≡ length entries.old) × (length entries.old ≤ length way.old) }
+    requires rooms { (length entries.old ≤ length queue.old) × (length current.old ≡ length entries.old)
+        × (length entries.old ≤ length way.old) }
     ensures flow { IsFlow arcs.new 0 1 }
     ensures pipes { SamePipes arcs.old arcs.new }
     ensures from_source { is_reached entries.new 0 ≡ true }

@@ -70,7 +70,9 @@ fn leads_down(arcs: &[Arc], entries: &[Entry], end: u32) -> bool
     requires few { length entries.now < 2 ^ 31 }
     ensures room { result ≡ true → 0 < room_in arcs.now end }
     ensures falls { result ≡ true → level_at entries.now (far arcs.now end) + 1 ≡ level_at entries.now (near arcs.now end) }
-    ensures each { 0 < room_in arcs.now end → level_at entries.now (far arcs.now end) + 1 ≡ level_at entries.now (near arcs.now end) → result ≡ true }
+    ensures each { 0 < room_in arcs.now end
+        → level_at entries.now (far arcs.now end) + 1 ≡ level_at entries.now (near arcs.now end)
+        → result ≡ true }
 {
     let before = entries[far(arcs, end) as usize].level;
     room_in(arcs, end) > 0 && before + 1 == entries[near(arcs, end) as usize].level
@@ -156,7 +158,8 @@ pub(crate) fn extend(
     Some(steps)
 }
 
-/// Brings lots along ways that fall a level at each step, until the search for one ends; at least along the way on which the sink was reached.
+/// Brings lots along ways that fall a level at each step, until the search for one ends;
+/// at least along the way on which the sink was reached.
 pub(crate) fn block(
     arcs: &mut [Arc],
     next: &[u32],

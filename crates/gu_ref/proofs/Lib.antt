@@ -6,3 +6,4 @@ pub mod OneAnswer
 pub mod OwnRow
 pub mod ReadSoFar
 pub mod RowReading
+pub mod StoppedReads

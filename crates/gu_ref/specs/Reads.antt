@@ -1,5 +1,5 @@
 -- Counted reads: what a reader has left, of bytes and of reads, and whether one of its reads failed.
-use Rattle.std.specs.Prelude.{ℕ, ◌==◌, Bool, List, Option}
+use Rattle.std.specs.Prelude.{◌≡◌, ◌⊎◌, ℕ, ◌==◌, Bool, true, List, Option}
 use Rattle.gu_ref.specs.declared.counted_reads.CountedReads.{CountedReads}
 
 -- the reader whose reads are counted
@@ -21,3 +21,7 @@ is_spent reads = reads_left reads == 0
 -- the reader answered an error in one of its reads
 abbrev pub has_failed : {R : Type 0} → CountedReads R → Bool
 has_failed reads = reads.failed
+
+-- reading has stopped: the reader failed, or no read of it is left
+abbrev pub HasStopped : {R : Type 0} → CountedReads R → Type 0
+HasStopped reads = (has_failed reads ≡ true) ⊎ (is_spent reads ≡ true)

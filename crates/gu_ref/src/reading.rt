@@ -1,10 +1,10 @@
 //! A reference read from a file of rows.
 
-ghost use Rattle.std.specs.Prelude.{◌≡◌, ◌⊎◌, true, IfOk, IfErr, IsErrOf};
+ghost use Rattle.std.specs.Prelude.{◌≡◌, true, IfOk, IfErr, IsErrOf};
 ghost use Rattle.csv.specs.Reading.{error_kind, stops_reader};
 ghost use Rattle.gu_ref.specs.Faults.{failure_of};
 ghost use Rattle.gu_ref.specs.File.{IsReadFrom, Refuses};
-ghost use Rattle.gu_ref.specs.Reads.{bytes_left, has_failed, is_spent};
+ghost use Rattle.gu_ref.specs.Reads.{bytes_left, has_failed, HasStopped};
 
 use crate::counted_reads::CountedReads;
 use crate::error::RefFault;
@@ -51,7 +51,7 @@ impl Reference {
         ensures refused { IfErr result (λ fault. Refuses (bytes_left R.remaining reads.old) fault) }
 
         // A read fault is of a reader that failed, or of which no read is left; and a reader that failed is one.
-        ensures read_fault { IsErrOf result RefFault.ReadFault → (has_failed reads.new ≡ true) ⊎ (is_spent reads.new ≡ true) }
+        ensures read_fault { IsErrOf result RefFault.ReadFault → HasStopped reads.new }
         ensures failed { has_failed reads.new ≡ true → IsErrOf result RefFault.ReadFault }
     {
         let answer = read_rows(alloc, &mut *reads);

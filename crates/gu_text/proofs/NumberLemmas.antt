@@ -1,23 +1,18 @@
 -- Words of digits.
-use Rattle.std.proofs.Common.{◌≡◌, ◌<◌, ◌≤◌, ◌^◌, ◌&&◌, ◌∷◌, [], ◌∙◌, ℕ, Bool, true, false, List, Option, None, Some, length, MatchOption, nat_le, nat_lt, cond, IsTrue, ◌↔◌, inl, inr, refl, sym, ap, arith}
-use Rattle.std.specs.Char.{digit_value, is_digit}
+use Rattle.std.proofs.Common.{◌≡◌, ◌<◌, ◌≤◌, ◌&&◌, ◌∷◌, [], ◌∙◌, ℕ, Bool, true, false, List, Option, None, Some, length, MatchOption, nat_le, cond, IsTrue, ◌↔◌, inl, inr, refl, sym, ap, arith}
+use Rattle.std.specs.Char.{is_digit}
 use Rattle.std.specs.List.{list_all}
 use Rattle.std.specs.Str.Parse.{AllDigits, digits_value}
 use Rattle.std.proofs.lemmas.Int.Digits.{digits_value-lt}
-use Rattle.std.proofs.lemmas.Bool.{cases_Bool}
+use Rattle.std.proofs.lemmas.Bool.{and_parts, cases_Bool}
 use Rattle.std.proofs.Math.Nat.{pow-le-pow_right}
 use Rattle.gu_text.specs.SheetLines.{is_number, number_of}
-
-both : (p q : Bool) → (p && q) ≡ true → (p ≡ true) × (q ≡ true)
-both true true h = (refl, refl)
-both true false h = cc
-both false q h = cc
 
 -- bytes that pass are digits
 pub digits_from_test : (word : List ℕ) → list_all (λ byte. is_digit byte 10) word ≡ true → AllDigits 10 word
 digits_from_test [] h = tt
 digits_from_test (b ∷ word) h =
-    let t = both (is_digit b 10) (list_all (λ byte. is_digit byte 10) word) h in
+    let t = and_parts (is_digit b 10) (list_all (λ byte. is_digit byte 10) word) h in
     (search (arith, t.0), digits_from_test word t.1)
 
 -- and digits pass
@@ -43,13 +38,13 @@ twelve_digits word digits few =
 
 number_short : (word : List ℕ) → is_number word ≡ true → length word ≤ 12
 number_short word h =
-    let t = both (nat_le 1 (length word) && nat_le (length word) 12) (list_all (λ byte. is_digit byte 10) word) h in
-    let u = both (nat_le 1 (length word)) (nat_le (length word) 12) t.0 in
+    let t = and_parts (nat_le 1 (length word) && nat_le (length word) 12) (list_all (λ byte. is_digit byte 10) word) h in
+    let u = and_parts (nat_le 1 (length word)) (nat_le (length word) 12) t.0 in
     search (arith, u.1)
 
 -- what passes is digits
 pub number_digits : (word : List ℕ) → is_number word ≡ true → AllDigits 10 word
-number_digits word h = digits_from_test word (both (nat_le 1 (length word) && nat_le (length word) 12) (list_all (λ byte. is_digit byte 10) word) h).1
+number_digits word h = digits_from_test word (and_parts (nat_le 1 (length word) && nat_le (length word) 12) (list_all (λ byte. is_digit byte 10) word) h).1
 
 -- a word of digits, and the value that was read of it
 pub number_read : (word : List ℕ) (o : Option ℕ) → is_number word ≡ true → MatchOption o (999999999999 < digits_value 10 word) (λ n. (n ≡ digits_value 10 word) × (n ≤ 999999999999)) → o ≡ number_of word

@@ -1,15 +1,5 @@
 -- Places in a list that grows at its end.
-use Rattle.std.proofs.Common.{◌≡◌, ◌<◌, ◌≤◌, ◌+◌, ◌⊎◌, ◌++◌, ◌∷◌, [], ◌∙◌, ℕ, List, Option, None, Some, zero, suc, length, take, drop, slice_get, refl, ap, sym, inl, inr, arith, add-one}
-use Rattle.std.proofs.lemmas.List.{take_all, drop_all}
-
--- no elements
-pub nil_from_length : {X : Type 0} (xs : List X) → length xs ≡ 0 → xs ≡ []
-nil_from_length [] h = refl
-nil_from_length (x ∷ xs) h = absurd (omega (arith, h))
-
--- one thing
-pub one_thing : {X : Type 0} (x y : X) → Some x ≡ Some y → x ≡ y
-one_thing x y h = cc
+use Rattle.std.proofs.Common.{◌≡◌, ◌<◌, ◌+◌, ◌⊎◌, ◌++◌, ◌∷◌, [], ◌∙◌, ℕ, List, Some, zero, suc, length, take, drop, slice_get, refl, ap, sym, inl, inr, arith, add-one}
 
 -- what stands at a place of two lists in one stands in the first, or in the second
 pub at_either : {X : Type 0} (xs ys : List X) (place : ℕ) (y : X) → slice_get (xs ++ ys) place ≡ Some y → ((slice_get xs place ≡ Some y) × (place < length xs)) ⊎ ((k : ℕ) × (slice_get ys k ≡ Some y) × (place ≡ length xs + k))
@@ -26,15 +16,6 @@ zero_more k = omega arith
 
 suc_more : (n k : ℕ) → suc n + k ≡ suc (n + k)
 suc_more n k = omega arith
-
-nothing_taken : {X : Type 0} (k n : ℕ) → take {A = X} (n + k) [] ≡ take n [] ++ take k (drop n [])
-nothing_taken {X} k n = take_all {A = X} (n + k) [] (omega arith) ∙ sym (take_all {A = X} k [] (omega arith)) ∙ sym (rw (take_all {A = X} n [] (omega arith), drop_all {X = X} n [] (omega arith)) refl)
-
--- what is taken in two steps
-pub take-add : {X : Type 0} (xs : List X) (n k : ℕ) → take (n + k) xs ≡ take n xs ++ take k (drop n xs)
-take-add xs zero k = ap (λ (m : ℕ). take m xs) (zero_more k)
-take-add [] (suc n) k = nothing_taken k (suc n)
-take-add (z ∷ xs) (suc n) k = ap (λ (m : ℕ). take m (z ∷ xs)) (suc_more n k) ∙ ap (λ zs. z ∷ zs) (take-add xs n k)
 
 -- a place behind others
 pub slice_get-drop : {X : Type 0} (xs : List X) (n k : ℕ) → slice_get (drop n xs) k ≡ slice_get xs (n + k)

@@ -1,16 +1,19 @@
 -- A sheet is read line by line.
-use Rattle.std.proofs.Common.{◌≡◌, ◌≢◌, ◌<◌, ◌≤◌, ◌+◌, ◌-◌, ◌⊎◌, ◌++◌, ◌∷◌, [], ◌∙◌, ◌&&◌, ◌||◌, not, ℕ, Bool, true, false, List, Option, None, Some, zero, suc, length, map, take, drop, slice_get, IsSome, IsTrue, Result, Ok, Err, IfErr, IsErrAnd, refl, ap, sym, subst, inl, inr, arith}
+use Rattle.std.proofs.Common.{◌≡◌, ◌≢◌, ◌+◌, ◌-◌, ◌⊎◌, ◌++◌, ◌∷◌, [], ◌∙◌, ◌&&◌, ◌||◌, not, ℕ, Bool, true, false, List, Option, None, Some, suc, length, map, take, drop, slice_get, IsSome, IsTrue, Result, Ok, Err, IfErr, IsErrAnd, refl, ap, sym, subst, inl, inr, arith}
 use Rattle.std.specs.List.{filter_map, cons_option, last_or}
 use Rattle.std.specs.Option.{option_map_or, option_or, option_to_list}
 use Rattle.std.specs.Str.Lines.{lines}
-use Rattle.std.proofs.lemmas.Bool.{cond-true}
+use Rattle.std.proofs.Math.Seq.{take-add}
+use Rattle.std.proofs.lemmas.Bool.{cond-true, or_parts}
 use Rattle.std.proofs.lemmas.List.{append-nil, map-append, length-drop, take_all, take-append-drop, take-append-le}
 use Rattle.std.proofs.lemmas.List.Elements.{filter_map-append}
+use Rattle.std.proofs.lemmas.Option.{same_Some}
 use Rattle.gu_terms.proofs.Gathered.{filter_map-last, last_or-given, last_or-last, push_each}
 use Rattle.gu_view.specs.Making.{MakesView, view_of}
 use Rattle.gu_text.specs.Lines.{is_silent}
 use Rattle.gu_text.specs.SheetLines.{says, spoken}
-use Rattle.gu_text.specs.Sheets.{SheetParts, MayFollow, IsRightBehind, AreRight, part_of, header_in, offer_in, room_in, take_in, key_in, number_in, parts_of, said_in, comes_behind, is_repeated, fits_behind, IsFirstBad, IsUnended, IsSheet, AreTakes, Refuses}
+use Rattle.gu_text.specs.SheetParts.{SheetParts, part_of, header_in, offer_in, room_in, take_in, key_in, number_in, parts_of}
+use Rattle.gu_text.specs.Sheets.{MayFollow, IsRightBehind, AreRight, said_in, comes_behind, is_repeated, fits_behind, IsFirstBad, IsUnended, IsSheet, AreTakes, Refuses}
 use Rattle.gu_text.specs.Reading.{with_line, with_text_line, line_fits, is_end, is_ended, AreSilent, BreaksSilence, EndsAt, IsMadeOf, MakesNone}
 use Rattle.gu_text.specs.declared.sheet.Sheet.{Sheet}
 use Rattle.gu_text.specs.declared.error.SheetError.{SheetError}
@@ -19,7 +22,7 @@ use Rattle.gu_text.specs.declared.sheet_line.Part.{Part}
 use Rattle.gu_text.specs.declared.sheet_line.Part.TheVariants as part
 use Rattle.gu_text.specs.declared.sheet_line.SheetLine.{SheetLine}
 use Rattle.gu_text.specs.declared.sheet_line.SheetLine.TheVariants as line
-use Rattle.gu_text.proofs.Places.{one_thing, at_either, take-add, taken_at, slice_get-drop}
+use Rattle.gu_text.proofs.Places.{at_either, taken_at, slice_get-drop}
 
 -- the parts with one more line
 pub parts_of-last : (said : List SheetLine) (next : SheetLine) → parts_of (said ++ next ∷ []) ≡ with_line (parts_of said) next
@@ -64,15 +67,10 @@ fits_right said text fits unended =
       | inr speaks ↦ inr (speaks_right said (says text) speaks.1 unended)
     ]
 
-neither : (a b : Bool) → (a || b) ≡ false → (a ≡ false) × (b ≡ false)
-neither false false h = (refl, refl)
-neither true b h = cc
-neither false true h = cc
-
 -- a line that doesn't fit isn't right
 pub unfit_wrong : (said : List SheetLine) (text : List ℕ) → line_fits (parts_of said) text ≡ false → ¬ IsRightBehind said text
 unfit_wrong said text unfit right =
-    let both = neither (is_silent text) (option_map_or (fits_behind (parts_of said)) (says text) false) unfit in
+    let both = or_parts (is_silent text) (option_map_or (fits_behind (parts_of said)) (says text) false) unfit in
     elim right [
       | inl silent ↦ let e : true ≡ false = sym silent ∙ both.0 in cc
       | inr speaks ↦
@@ -184,7 +182,7 @@ module _ (text : List ℕ) (parts : SheetParts) (rest : List ℕ) (number : ℕ)
       elim right [
         | inl silent ↦ let e : Some line.End ≡ None = sym ends.says_end ∙ silent_says ends.end silent in cc
         | inr speaks ↦
-            let is : speaks.0 ≡ line.End = one_thing speaks.0 line.End (sym speaks.1 ∙ ends.says_end) in
+            let is : speaks.0 ≡ line.End = same_Some speaks.0 line.End (sym speaks.1 ∙ ends.says_end) in
             none (rw (offers_are, rooms_are) (speaks.2.view is))
       ]))
 
@@ -202,7 +200,7 @@ module _ (text : List ℕ) (parts : SheetParts) (rest : List ℕ) (number : ℕ)
     pub bad_behind : (error : SheetError) → BreaksSilence (lines rest) number error → (n : ℕ) × (error ≡ BadLine n) × IsFirstBad (lines text) n
     bad_behind error breaks =
         let place = number + breaks.place in
-        let taken : take place (lines text) ≡ take number (lines text) ++ take breaks.place (lines rest) = take-add (lines text) number breaks.place ∙ ap (λ ls. take number (lines text) ++ take breaks.place ls) ends.rest_are in
+        let taken : take place (lines text) ≡ take number (lines text) ++ take breaks.place (lines rest) = take-add number breaks.place (lines text) ∙ ap (λ ls. take number (lines text) ++ take breaks.place ls) ends.rest_are in
         let at : slice_get (lines text) place ≡ Some breaks.line = sym (slice_get-drop (lines text) number breaks.place) ∙ ap (λ ls. slice_get ls breaks.place) ends.rest_are ∙ breaks.at in
         let said : said_in (take place (lines text)) ≡ said_in (take number (lines text)) =
         ap said_in taken ∙ filter_map-append says (take number (lines text)) (take breaks.place (lines rest)) ∙ ap (λ ls. said_in (take number (lines text)) ++ ls) (said_in-silent (take breaks.place (lines rest)) breaks.before) ∙ append-nil (said_in (take number (lines text))) in

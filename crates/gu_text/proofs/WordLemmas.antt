@@ -1,5 +1,5 @@
 -- The words of a line, one after another.
-use Rattle.std.proofs.Common.{◌≡◌, ◌≢◌, ◌<◌, ◌+◌, ◌∷◌, [], ◌∙◌, ◌==◌, ℕ, Bool, true, false, not, List, Option, None, Some, zero, suc, nat_lt, length, take, drop, filter, position, refl, ap, arith}
+use Rattle.std.proofs.Common.{◌≡◌, ◌≢◌, ◌+◌, ◌∷◌, [], ◌∙◌, ℕ, true, false, not, List, None, Some, zero, suc, nat_lt, length, take, drop, filter, position, refl, ap, arith}
 use Rattle.std.specs.List.{slice_split, position_or_len}
 use Rattle.std.proofs.lemmas.Bool.{cond-true}
 use Rattle.std.proofs.lemmas.Option.{cond_some}

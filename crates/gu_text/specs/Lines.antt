@@ -1,5 +1,5 @@
 -- The lines of a text. (Each ends by LF, and a CR before that is dropped; the last may lack its LF: std's `lines`.)
-use Rattle.std.specs.Prelude.{ℕ, Bool, true, false, ◌&&◌, ◌==◌, nat_le, List, [], ◌∷◌, length}
+use Rattle.std.specs.Prelude.{ℕ, Bool, true, ◌&&◌, ◌==◌, nat_le, List, [], ◌∷◌, length}
 
 -- the bytes that a line has at most
 abbrev pub longest_line : ℕ

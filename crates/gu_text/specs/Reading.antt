@@ -7,7 +7,8 @@ use Rattle.gu_view.specs.declared.view.Offer.{Offer}
 use Rattle.gu_view.specs.declared.view.Room.{Room}
 use Rattle.gu_text.specs.Lines.{is_silent}
 use Rattle.gu_text.specs.SheetLines.{says}
-use Rattle.gu_text.specs.Sheets.{SheetParts, part_of, header_in, offer_in, room_in, take_in, key_in, number_in, fits_behind, parts_of, said_in, AreRight, AreTakes}
+use Rattle.gu_text.specs.SheetParts.{SheetParts, part_of, header_in, offer_in, room_in, take_in, key_in, number_in, parts_of}
+use Rattle.gu_text.specs.Sheets.{fits_behind, said_in, AreRight, AreTakes}
 use Rattle.gu_text.specs.declared.sheet.Sheet.{Sheet}
 use Rattle.gu_text.specs.declared.error.SheetError.{SheetError}
 use Rattle.gu_text.specs.declared.error.SheetError.TheVariants.{Memory, BadLine}
@@ -48,7 +49,7 @@ line_fits parts line = is_silent line || option_map_or (fits_behind parts) (says
 abbrev pub with_text_line : SheetParts → List ℕ → SheetParts
 with_text_line parts line = option_map_or (with_line parts) (says line) parts
 
--- the line with this number says the end, and may apart from its view; those before it are right; and these are their parts, and the text behind them
+-- the line with this number says the end, and may apart from its view; those before it are right; these are their parts, and the text behind
 pub record EndsAt (text : List ℕ) (parts : SheetParts) (rest : List ℕ) (number : ℕ) : Type 0 where
   pub place : ℕ
   pub end : List ℕ

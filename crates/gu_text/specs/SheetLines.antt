@@ -46,14 +46,17 @@ key_of kind word = option_and_then (key_with kind) (name_of word)
 -- `SHEET group version`
 abbrev pub sheet_said : List (List ℕ) → Option SheetLine
 sheet_said (group ∷ version ∷ []) =
-    option_and_then (λ name. option_map (λ n. line.Sheet (record { group = record { name = name }; version = n })) (number_of version)) (name_of group)
+    option_and_then
+    (λ name. option_map (λ n. line.Sheet (record { group = record { name = name }; version = n })) (number_of version))
+    (name_of group)
 sheet_said _ = None
 
 -- the path of an offer: executing firm, agreement, account, carrying firm
 abbrev pub path_said : List ℕ → List (List ℕ) → Option (List LimitKey)
 path_said agreement (executing ∷ account ∷ carrying ∷ []) =
     if is_name executing && is_name account && is_name carrying
-    then Some (path_through (record { name = executing }) (record { name = agreement }) (record { name = account }) (record { name = carrying }))
+    then Some
+    (path_through (record { name = executing }) (record { name = agreement }) (record { name = account }) (record { name = carrying }))
     else None
 path_said agreement _ = None
 
@@ -63,7 +66,9 @@ offer_said (number ∷ lots ∷ agreement ∷ path) =
     option_and_then
     (λ n. option_and_then
     (λ l. option_and_then
-    (λ a. option_map (λ keys. line.Offer (record { number = n; lots = l; agreement = record { name = a }; path = keys })) (path_said a path))
+    (λ a. option_map
+    (λ keys. line.Offer (record { number = n; lots = l; agreement = record { name = a }; path = keys }))
+    (path_said a path))
     (name_of agreement))
     (number_of lots))
     (offer_no_of number)

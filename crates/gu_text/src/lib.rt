@@ -7,12 +7,8 @@ mod numbers;
 mod sheet;
 mod sheet_line;
 mod sheet_parts;
-#[cfg(test)]
-mod sheet_tests;
 mod takes_in_order;
 pub mod texts;
-#[cfg(test)]
-mod verdict_tests;
 mod verdicts;
 mod words;
 

@@ -3,7 +3,7 @@
 ghost use Rattle.std.specs.Prelude.{◌≡◌};
 ghost use Rattle.std.specs.Option.{option_map};
 ghost use Rattle.gu_text.specs.SheetLines.{key_with, key_of, sheet_said, path_said, offer_said, room_said, take_said, cut_said, end_said, words_say, said_by, spoken};
-ghost use Rattle.gu_text.specs.Sheets.{part_of, rank_of};
+ghost use Rattle.gu_text.specs.SheetParts.{part_of, rank_of};
 ghost use Rattle.gu_text.specs.Words.{words_of};
 
 use crate::lines::LONGEST_LINE;

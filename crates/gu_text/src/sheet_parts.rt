@@ -31,13 +31,22 @@ pub(crate) struct Parts {
 impl Model for Parts {
     ghost use Rattle.std.specs.Prelude.{◌≡◌, map, nat_eq, IsSome};
     ghost use Rattle.std.specs.List.{IsDistinct};
-    ghost use Rattle.gu_text.specs.Sheets.{SheetParts};
+    ghost use Rattle.gu_text.specs.SheetParts.{SheetParts};
 
     ghost Value = { SheetParts };
 
-    ghost view = { λ p. record { last = p.last; header = p.header; offers = p.offers.items; rooms = p.rooms.items; takes = p.takes.items; cut = p.cut } };
+    ghost view = { λ p. record {
+      last = p.last;
+      header = p.header;
+      offers = p.offers.items;
+      rooms = p.rooms.items;
+      takes = p.takes.items;
+      cut = p.cut;
+    } };
 
-    ghost invariant = { λ p. (IsSome p.last → IsSome p.header) × (p.taken.keys ≡ map (λ t. t.offer) p.takes.items) × IsDistinct nat_eq (map (λ t. t.offer) p.takes.items) };
+    ghost invariant = { λ p. (IsSome p.last → IsSome p.header)
+        × (p.taken.keys ≡ map (λ t. t.offer) p.takes.items)
+        × IsDistinct nat_eq (map (λ t. t.offer) p.takes.items) };
 }
 
 // By hand, so that who holds parts lets them go by one call.

@@ -57,7 +57,8 @@ pub(crate) fn first_word(text: &[u8]) -> Option<(&[u8], &[u8])>
 
 /// The first three words of a text, and the text behind them.
 pub(crate) fn first_three_words(text: &[u8]) -> Option<(&[u8], &[u8], &[u8], &[u8])>
-    ensures { MatchOption result (length (words_of text.now) < 3) (λ found. words_of text.now ≡ found.0.now ∷ found.1.now ∷ found.2.now ∷ words_of found.3.now) }
+    ensures { MatchOption result (length (words_of text.now) < 3)
+        (λ found. words_of text.now ≡ found.0.now ∷ found.1.now ∷ found.2.now ∷ words_of found.3.now) }
 {
     let (first, rest) = first_word(text)?;
     let (second, rest) = first_word(rest)?;
@@ -67,7 +68,8 @@ pub(crate) fn first_three_words(text: &[u8]) -> Option<(&[u8], &[u8], &[u8], &[u
 
 /// The three words of a text that has three.
 pub(crate) fn three_words(text: &[u8]) -> Option<(&[u8], &[u8], &[u8])>
-    ensures { MatchOption result (length (words_of text.now) ≢ 3) (λ found. words_of text.now ≡ found.0.now ∷ found.1.now ∷ found.2.now ∷ []) }
+    ensures { MatchOption result (length (words_of text.now) ≢ 3)
+        (λ found. words_of text.now ≡ found.0.now ∷ found.1.now ∷ found.2.now ∷ []) }
 {
     let (first, second, third, rest) = first_three_words(text)?;
     match first_word(rest) {

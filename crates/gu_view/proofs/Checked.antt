@@ -24,7 +24,7 @@ use Rattle.gu_view.specs.declared.error.CutFault.TheVariants.{RoomDiffers}
 use Rattle.gu_view.specs.declared.view.Offer.{Offer}
 use Rattle.gu_view.specs.declared.view.Room.{Room}
 use Rattle.gu_view.proofs.CutBounds.{greatest_by_cut}
-use Rattle.gu_view.proofs.ListLemmas.{Later-from_AllPairs, along, any_none, find_none, none_any, none_found, sum_by-zip, sum_by-zip-le}
+use Rattle.gu_terms.proofs.Lists.{Later-from_AllPairs, along, any_none, find_none, none_any, none_found, sum_by-zip, sum_by-zip-le}
 use Rattle.gu_view.proofs.TakesLemmas.{is_too_early, older_is_before}
 
 -- the offers of a view are few and small, and so are its rooms

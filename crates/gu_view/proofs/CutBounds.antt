@@ -16,7 +16,7 @@ use Rattle.gu_view.specs.Takes.{IsAdmissible, IsGreatest, lots_under, total}
 use Rattle.gu_view.specs.View.{GroupView, IsView}
 use Rattle.gu_view.specs.declared.view.Offer.{Offer}
 use Rattle.gu_view.specs.declared.view.Room.{Room}
-use Rattle.gu_view.proofs.ListLemmas.{along, along2, sum_by-add, sum_by-mono, sum_by-swap, sum_by-zeros}
+use Rattle.gu_terms.proofs.Lists.{along, along2, sum_by-add, sum_by-mono, sum_by-swap, sum_by-zeros}
 use Rattle.gu_view.proofs.RoomLemmas.{on_own_path, roomed}
 
 -- a sum over the rooms is at least the term at the room of a key

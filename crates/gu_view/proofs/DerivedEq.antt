@@ -7,7 +7,7 @@ use Rattle.gu_terms.specs.declared.agreement.AgreementId.{AgreementId}
 use Rattle.gu_terms.specs.declared.limit_key.LimitKey.{LimitKey}
 use Rattle.gu_terms.specs.declared.limit_key.LimitKey.TheVariants.{Agr}
 use Rattle.gu_terms.proofs.KeyLemmas.{eq, eq_is, key_eq-sym}
-use Rattle.gu_view.proofs.ListLemmas.{list_any-agree}
+use Rattle.gu_terms.proofs.Lists.{list_any-agree}
 
 -- a set of keys has this one
 pub has_key-eq : (keys : List LimitKey) (k : LimitKey) → list_any (eq k) keys ≡ has_key keys k

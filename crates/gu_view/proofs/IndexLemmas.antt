@@ -12,7 +12,7 @@ use Rattle.gu_view.specs.Making.{MakesView, in_order}
 use Rattle.gu_view.specs.View.{GroupView, IsIndexed, IsView, keys_of, place_among, place_of, places_under}
 use Rattle.gu_view.specs.declared.view.Offer.{Offer}
 use Rattle.gu_view.specs.declared.view.Room.{Room}
-use Rattle.gu_view.proofs.ListLemmas.{position_or_len-map}
+use Rattle.gu_terms.proofs.Lists.{position_or_len-map}
 use Rattle.gu_view.proofs.MakingLemmas.{in_order-keys, view_made}
 use Rattle.gu_view.proofs.RoomLemmas.{apart, places_are_within}
 

@@ -2,12 +2,12 @@ pub mod Checked
 pub mod CutBounds
 pub mod DerivedEq
 pub mod IndexLemmas
-pub mod ListLemmas
 pub mod ListsInOne
 pub mod MakingLemmas
 pub mod MarkLemmas
 pub mod MemberLemmas
 pub mod NestingLemmas
+pub mod PassingPlaces
 pub mod RoomLemmas
 pub mod SameViews
 pub mod TakesLemmas

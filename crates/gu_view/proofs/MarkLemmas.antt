@@ -19,7 +19,7 @@ use Rattle.gu_terms.proofs.KeyLemmas.{key_eq-same, key_eq-refl}
 use Rattle.gu_view.specs.declared.view.Offer.{Offer}
 use Rattle.gu_view.specs.declared.view.Room.{Room}
 use Rattle.gu_view.specs.View.{GroupView, IsView, place_of}
-use Rattle.gu_view.proofs.ListLemmas.{along, marked, position_or_len-within}
+use Rattle.gu_terms.proofs.Lists.{along, marked, position_or_len-within}
 use Rattle.std.proofs.Common.{replicate}
 use Rattle.std.proofs.lemmas.List.{take-replicate, get_or-map}
 use Rattle.gu_terms.specs.Cuts.{CutLists}

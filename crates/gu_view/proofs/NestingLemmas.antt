@@ -18,7 +18,8 @@ use Rattle.gu_view.specs.Paths.{are_kinds, is_whole, is_account, same_key, carry
 use Rattle.gu_view.specs.View.{GroupView, IsNested, IsPath, IsView, next_key, place_of, places_under}
 use Rattle.gu_view.specs.declared.view.Offer.{Offer}
 use Rattle.gu_view.specs.declared.view.Room.{Room}
-use Rattle.gu_view.proofs.ListLemmas.{along, at_places, each_place, position_or_len-within}
+use Rattle.gu_terms.proofs.Lists.{along, position_or_len-within}
+use Rattle.gu_view.proofs.PassingPlaces.{at_places, each_place}
 use Rattle.gu_view.proofs.RoomLemmas.{on_path_at, roomed}
 use Rattle.gu_view.proofs.TakesLemmas.{key_at_place}
 

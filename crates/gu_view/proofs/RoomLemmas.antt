@@ -18,7 +18,8 @@ use Rattle.gu_view.specs.Check.{has_room}
 use Rattle.gu_view.specs.declared.view.Offer.{Offer}
 use Rattle.gu_view.specs.declared.view.Room.{Room}
 use Rattle.gu_view.specs.View.{GroupView, IsView, firsts, keys_of, place_of, places_under}
-use Rattle.gu_view.proofs.ListLemmas.{Later, AllPairs-from_Later, along, list_any-map, list_any-flat_map, position_or_len-agree, position_or_len-map, position_or_len-within, places_where-within}
+use Rattle.gu_terms.proofs.Lists.{Later, AllPairs-from_Later, along, list_any-map, list_any-flat_map, position_or_len-agree, position_or_len-map, position_or_len-within}
+use Rattle.gu_view.proofs.PassingPlaces.{places_where-within}
 
 -- a key that goes takes no other key with it
 pub has_key-others : (k j : LimitKey) (keys : List LimitKey) → key_eq k j ≡ false → has_key (filter (λ i. not (key_eq k i)) keys) j ≡ has_key keys j

@@ -32,7 +32,8 @@ use Rattle.std.specs.Prelude.{slice_get, sum_by, sum}
 use Rattle.std.proofs.Common.{zero-add}
 use Rattle.std.proofs.lemmas.List.{get_or-map}
 use Rattle.std.proofs.lemmas.Option.{slice_get_cases, slice_get_within, slice_get-map, get_or_from_slice_get, IfSome_then}
-use Rattle.gu_view.proofs.ListLemmas.{marked, find_more, sum_by-places, sum_by-places-le, Later, Later-from_AllPairs, along, none_any, none_found}
+use Rattle.gu_terms.proofs.Lists.{marked, find_more, Later, Later-from_AllPairs, along, none_any, none_found}
+use Rattle.gu_view.proofs.PassingPlaces.{sum_by-places, sum_by-places-le}
 
 -- offers of greater numbers have no smaller one
 no_offer_below : (offers : List Offer) (n : ℕ) → AllByRecursion (λ o. n < o.number) offers → has_offer offers n ≡ false

@@ -52,7 +52,8 @@ has_older_rest offers lots o =
 
 -- the least offer that takes lots while an older one of its agreement isn't full
 abbrev pub not_oldest_first : List Offer → (ℕ → ℕ) → Option CutFault
-not_oldest_first offers lots = option_map (λ (o : Offer). NotOldestFirst o.number) (find (λ o. nat_lt 0 (lots o.number) && has_older_rest offers lots o) offers)
+not_oldest_first offers lots =
+    option_map (λ (o : Offer). NotOldestFirst o.number) (find (λ o. nat_lt 0 (lots o.number) && has_older_rest offers lots o) offers)
 
 -- the least offer that is neither in the cut nor has a key in it
 abbrev pub uncovered : List Offer → CutLists → Option CutFault
@@ -76,12 +77,22 @@ unless (Some fault) answer = Err fault
 -- the first fault where takes and cut name only the view's own, or else the lots taken
 abbrev pub verdict_of_known : GroupView → (ℕ → ℕ) → CutLists → Result ℕ CutFault
 verdict_of_known view lots cut =
-    unless (first_found (over_offer view.offers lots ∷ over_limit view.offers view.rooms lots ∷ not_oldest_first view.offers lots ∷ uncovered view.offers cut ∷ room_differs view lots cut ∷ [])) (Ok (total view.offers lots))
+    unless
+    (first_found (
+    over_offer view.offers lots
+    ∷ over_limit view.offers view.rooms lots
+    ∷ not_oldest_first view.offers lots
+    ∷ uncovered view.offers cut
+    ∷ room_differs view lots cut
+    ∷ []))
+    (Ok (total view.offers lots))
 
 -- the first fault, or else the lots taken: what takes and cut name comes first
 abbrev pub verdict : GroupView → List Take → CutLists → Result ℕ CutFault
 verdict view takes cut =
-    unless (first_found (unknown_take view.offers takes ∷ unknown_key view.rooms cut.keys ∷ unknown_offer view.offers cut.offers ∷ [])) (verdict_of_known view (lots_of takes) cut)
+    unless
+    (first_found (unknown_take view.offers takes ∷ unknown_key view.rooms cut.keys ∷ unknown_offer view.offers cut.offers ∷ []))
+    (verdict_of_known view (lots_of takes) cut)
 
 -- takes and cut name only the view's own, the takes are admissible and oldest first, the cut covers, and its room is the lots taken
 pub record IsRight (view : GroupView) (takes : List Take) (cut : CutLists) (lots : ℕ) : Type 0 where

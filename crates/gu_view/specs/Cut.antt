@@ -21,7 +21,8 @@ Covers view cut = All (λ o. IsTrue (is_covered cut o)) view.offers
 -- the rooms of the cut's keys and the lots of its offers, each member once
 abbrev pub room_of : GroupView → CutLists → ℕ
 room_of view cut =
-    sum_by (λ r. if has_key cut.keys r.key then r.lots else 0) view.rooms + sum_by (λ o. if has_number cut.offers o.number then o.lots else 0) view.offers
+    sum_by (λ r. if has_key cut.keys r.key then r.lots else 0) view.rooms
+    + sum_by (λ o. if has_number cut.offers o.number then o.lots else 0) view.offers
 
 -- the takes are greatest and oldest first, and the cut covers, with the lots taken as its room
 pub record IsCertified (view : GroupView) (takes : List Take) (cut : CutLists) (lots : ℕ) : Type 0 where

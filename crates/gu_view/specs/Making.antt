@@ -24,7 +24,9 @@ numbered offers = zip (0 ∷ map (λ o. o.number) offers) offers
 -- the number of the first bad offer among the first 4,096, else of the next one
 abbrev pub bad_offer : List Offer → Option ℕ
 bad_offer offers =
-    option_or (option_map (λ (p : ℕ × Offer). p.1.number) (find (λ (p : ℕ × Offer). is_bad p.0 p.1) (numbered (take 4096 offers)))) (option_map (λ (o : Offer). o.number) (slice_get offers 4096))
+    option_or
+    (option_map (λ (p : ℕ × Offer). p.1.number) (find (λ (p : ℕ × Offer). is_bad p.0 p.1) (numbered (take 4096 offers))))
+    (option_map (λ (o : Offer). o.number) (slice_get offers 4096))
 
 -- two offers are of one agreement
 abbrev pub same_agreement : Offer → Offer → Bool

@@ -60,7 +60,9 @@ pub record IsIndexed (view : GroupView) (keys : List LimitKey) (places members :
 
 -- a path: executing firm, the offer's own agreement, account, carrying firm
 abbrev pub IsPath : Offer → Type 0
-IsPath o = (executing : FirmId) × (account : AccountId) × (carrying : FirmId) × (o.path ≡ Exec executing ∷ Agr o.agreement ∷ Acct account ∷ Carry carrying ∷ [])
+IsPath o =
+    (executing : FirmId) × (account : AccountId) × (carrying : FirmId)
+    × (o.path ≡ Exec executing ∷ Agr o.agreement ∷ Acct account ∷ Carry carrying ∷ [])
 
 -- the key that comes after one on a path
 abbrev pub next_key : List LimitKey → LimitKey → Option LimitKey
@@ -68,7 +70,11 @@ next_key path k = slice_get path (suc (position_or_len (λ j. key_eq j k) path))
 
 -- two paths with one account key go on with one carrying key
 abbrev pub GoOnAlike : List LimitKey → List LimitKey → Type 0
-GoOnAlike a b = (account : AccountId) → IsTrue (has_key a (Acct account)) → IsTrue (has_key b (Acct account)) → next_key a (Acct account) ≡ next_key b (Acct account)
+GoOnAlike a b =
+    (account : AccountId)
+    → IsTrue (has_key a (Acct account))
+    → IsTrue (has_key b (Acct account))
+    → next_key a (Acct account) ≡ next_key b (Acct account)
 
 -- each path is whole, and offers of one account key have one carrying key
 pub record IsNested (view : GroupView) : Type 0 where

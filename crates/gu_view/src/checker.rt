@@ -80,7 +80,10 @@ fn is_marked(places: &[u32], marks: &[bool]) -> bool
 fn first_uncovered(view: &View, keys: &[bool], numbers: &[bool]) -> Option<CutFault>
     requires keys { length keys.now ≡ length view.now.rooms }
     requires numbers { length numbers.now ≡ length view.now.offers }
-    ensures { (cut : CutLists) → AreMarks view.now.rooms keys.now (λ r. has_key cut.keys r.key) → AreMarks view.now.offers numbers.now (λ o. has_number cut.offers o.number) → result ≡ uncovered view.now.offers cut }
+    ensures { (cut : CutLists)
+        → AreMarks view.now.rooms keys.now (λ r. has_key cut.keys r.key)
+        → AreMarks view.now.offers numbers.now (λ o. has_number cut.offers o.number)
+        → result ≡ uncovered view.now.offers cut }
 {
     for (place, offer) in view.offers().iter().enumerate() {
         if !numbers[place] && !is_marked(view.places(place), keys) {
@@ -88,6 +91,13 @@ fn first_uncovered(view: &View, keys: &[bool], numbers: &[bool]) -> Option<CutFa
         }
     }
     None
+}
+
+/// The lots that a limit gives to the room of a cut: its own, once, where the cut has it.
+fn room_of_limit(room: &Room, is_cut: bool) -> u64
+    ensures { result ≡ (if is_cut then room.now.lots else 0) }
+{
+    if is_cut { room.lots } else { 0 }
 }
 
 /// The lots of the marked rooms.
@@ -98,7 +108,7 @@ fn room_in_keys(rooms: &[Room], marks: &[bool]) -> u64
     rooms
         .iter()
         .zip(marks)
-        .map(|(room, marked)| if *marked { room.lots } else { 0 })
+        .map(|(room, marked)| room_of_limit(room, *marked))
         .sum()
 }
 
@@ -124,7 +134,9 @@ fn check_marked(
     requires taken { length taken.now ≡ length view.now.offers }
     requires keys { length keys.now ≡ length view.now.rooms }
     requires numbers { length numbers.now ≡ length view.now.offers }
-    ensures { (lots : ℕ → ℕ) (cut : CutLists) → IsMarked view.now taken.now keys.now numbers.now lots cut → result ≡ verdict_of_known view.now lots cut }
+    ensures { (lots : ℕ → ℕ) (cut : CutLists)
+        → IsMarked view.now taken.now keys.now numbers.now lots cut
+        → result ≡ verdict_of_known view.now lots cut }
 {
     if let Some(fault) = over_offer(view.offers(), taken) {
         return Err(fault);

@@ -9,8 +9,6 @@ mod members;
 mod nesting;
 mod place_lists;
 mod takes;
-#[cfg(test)]
-mod tests;
 mod view;
 
 pub use checker::check;

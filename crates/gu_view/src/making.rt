@@ -100,7 +100,9 @@ pub fn path_differs(alloc: Global, offers: &[Offer]) -> Result<Option<OfferNo>, 
 
 /// Mentions the keys of a path.
 fn mention(keys: &mut IndexSet<LimitKey>, path: &[LimitKey]) -> Result<(), AllocError>
-    ensures first { IfOk result (λ _. (mentioned : List LimitKey) → keys.old.keys ≡ firsts mentioned → keys.new.keys ≡ firsts (mentioned ++ path.now)) }
+    ensures first { IfOk result (λ _. (mentioned : List LimitKey)
+        → keys.old.keys ≡ firsts mentioned
+        → keys.new.keys ≡ firsts (mentioned ++ path.now)) }
     ensures few { IfOk result (λ _. length keys.new.keys ≤ length keys.old.keys + length path.now) }
 {
     for key in path {
@@ -162,7 +164,8 @@ fn given(
     keys: &IndexSet<LimitKey>,
     rooms: &[Room],
 ) -> Result<Option<IndexMap<LimitKey, u64>>, AllocError>
-    ensures { IfOk result (λ given. MatchOption given (¬ AreRooms keys.now.keys rooms.now) (λ lots. IsGiven keys.now.keys rooms.now (get key_eq lots))) }
+    ensures { IfOk result (λ given.
+        MatchOption given (¬ AreRooms keys.now.keys rooms.now) (λ lots. IsGiven keys.now.keys rooms.now (get key_eq lots))) }
 {
     let mut lots = IndexMap::new(alloc);
     for room in rooms {
@@ -185,7 +188,11 @@ fn ordered(
     keys: &[LimitKey],
     lots: &IndexMap<LimitKey, u64>,
 ) -> Result<Option<Vec<Room>>, AllocError>
-    ensures { (rooms : List Room) → ((k : LimitKey) → get key_eq lots.now k ≡ lots_given rooms k) → IfOk result (λ ordered. MatchOption ordered (¬ AreRooms keys.now rooms) (λ made. All (λ k. IsTrue (has_room rooms k)) keys.now × (made.items ≡ in_order keys.now rooms))) }
+    ensures { (rooms : List Room)
+        → ((k : LimitKey) → get key_eq lots.now k ≡ lots_given rooms k)
+        → IfOk result (λ ordered.
+        MatchOption ordered (¬ AreRooms keys.now rooms)
+        (λ made. All (λ k. IsTrue (has_room rooms k)) keys.now × (made.items ≡ in_order keys.now rooms))) }
 {
     let mut made = Vec::new(alloc);
     for key in keys {
@@ -206,7 +213,9 @@ pub fn rooms_in_order(
     keys: &IndexSet<LimitKey>,
     rooms: &[Room],
 ) -> Result<Option<Vec<Room>>, AllocError>
-    ensures { IfOk result (λ ordered. MatchOption ordered (¬ AreRooms keys.now.keys rooms.now) (λ made. AreRooms keys.now.keys rooms.now × (made.items ≡ in_order keys.now.keys rooms.now))) }
+    ensures { IfOk result (λ ordered.
+        MatchOption ordered (¬ AreRooms keys.now.keys rooms.now)
+        (λ made. AreRooms keys.now.keys rooms.now × (made.items ≡ in_order keys.now.keys rooms.now))) }
 {
     match given(alloc, keys, rooms)? {
         Some(lots) => ordered(alloc, keys.as_slice(), &lots),

@@ -69,7 +69,9 @@ fn taken_under(view: &View, room: usize, taken: &[u64]) -> u64
     requires room { room < length view.now.rooms }
     requires size { length taken.now ≡ length view.now.offers }
     requires fits { sum taken.now < 2 ^ 64 }
-    ensures { (lots : ℕ → ℕ) → AreLots view.now.offers taken.now lots → IfSome (slice_get view.now.rooms room) (λ r. result ≡ lots_under view.now.offers r.key lots) }
+    ensures { (lots : ℕ → ℕ)
+        → AreLots view.now.offers taken.now lots
+        → IfSome (slice_get view.now.rooms room) (λ r. result ≡ lots_under view.now.offers r.key lots) }
 {
     lots_at(view.members(room), taken)
 }

@@ -58,7 +58,9 @@ impl Model for View {
 
     ghost view = { λ v. record { group = v.group; version = v.version; offers = v.offers.items; rooms = v.rooms.items } };
 
-    ghost invariant = { λ v. IsIndexed (record { group = v.group; version = v.version; offers = v.offers.items; rooms = v.rooms.items }) v.keys.keys v.places v.members };
+    ghost invariant = { λ v.
+        IsIndexed (record { group = v.group; version = v.version; offers = v.offers.items; rooms = v.rooms.items })
+        v.keys.keys v.places v.members };
 }
 
 // By hand, so that who holds a view lets it go by one call.

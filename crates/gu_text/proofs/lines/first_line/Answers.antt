@@ -1,4 +1,4 @@
-use Rattle.std.proofs.Common.{◌≡◌, ◌+◌, ◌-◌, ◌∙◌, length, drop, sym, rules, arith}
+use Rattle.std.proofs.Common.{◌+◌, ◌-◌, ◌∙◌, length, drop, sym, rules, arith}
 use Rattle.std.proofs.lemmas.List.{take_all, length-drop}
 use Rattle.gu_text.proofs.LineLemmas.{line_in_front, line_alone}
 use Rattle.gu_text.proofs.lines.first_line.Goals as goal

@@ -1,4 +1,4 @@
-use Rattle.std.proofs.Common.{◌<◌, ◌≤◌, length, rules, arith}
+use Rattle.std.proofs.Common.{◌<◌, ◌≤◌, length, rules}
 use Rattle.gu_text.proofs.NumberLemmas.{number_tested}
 use Rattle.gu_text.proofs.numbers.is_number.Goals as goal
 use Rattle.gu_text.proofs.numbers.is_number.Goals.{then-not-is_empty, else-not-is_empty}

@@ -1,4 +1,4 @@
-use Rattle.std.proofs.Common.{◌∙◌, sym, rules}
+use Rattle.std.proofs.Common.{rules}
 use Rattle.gu_text.proofs.NumberLemmas.{number_read}
 use Rattle.gu_text.proofs.numbers.number_of.Goals as goal
 

@@ -1,8 +1,10 @@
-use Rattle.std.proofs.Common.{◌≡◌, ◌+◌, ◌∷◌, [], ◌∙◌, false, true, length, take, drop, sym, refl, ap, inl, inr, arith, length-append, rules}
+use Rattle.std.proofs.Common.{◌≡◌, ◌∷◌, [], ◌∙◌, false, true, length, take, drop, sym, refl, ap, inl, inr, arith, length-append, rules}
 use Rattle.std.specs.Str.Lines.{lines}
 use Rattle.gu_text.specs.Reading.{is_ended, line_fits, with_text_line}
-use Rattle.gu_text.specs.Sheets.{parts_of, said_in}
-use Rattle.gu_text.proofs.Places.{next_taken, nil_from_length}
+use Rattle.gu_text.specs.SheetParts.{parts_of}
+use Rattle.gu_text.specs.Sheets.{said_in}
+use Rattle.std.proofs.lemmas.List.{nil_from_length}
+use Rattle.gu_text.proofs.Places.{next_taken}
 use Rattle.gu_text.proofs.SheetLemmas.{first_bad, unfit_wrong, fits_right, right_last, ends_said, parts_of-said, missing_end}
 use Rattle.gu_text.proofs.sheet.read_parts.Goals as goal
 

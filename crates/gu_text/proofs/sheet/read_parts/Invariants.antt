@@ -1,7 +1,8 @@
 use Rattle.std.proofs.Common.{◌≡◌, ◌+◌, ◌≤◌, false, drop, length, take}
 use Rattle.std.specs.Str.Lines.{lines}
 use Rattle.gu_text.specs.Reading.{is_ended}
-use Rattle.gu_text.specs.Sheets.{AreRight, parts_of, said_in}
+use Rattle.gu_text.specs.SheetParts.{parts_of}
+use Rattle.gu_text.specs.Sheets.{AreRight, said_in}
 use Rattle.gu_text.proofs.sheet.read_parts.Given as goal
 
 abbrev pub invariant-lines : goal.invariant-lines

@@ -1,9 +1,9 @@
-use Rattle.std.proofs.Common.{◌≡◌, ◌+◌, ◌-◌, ◌≤◌, ◌∷◌, [], ◌∙◌, length, take, drop, sym, refl, ap, arith, rules}
+use Rattle.std.proofs.Common.{◌≡◌, ◌+◌, ◌-◌, [], ◌∙◌, length, take, drop, sym, ap, arith, rules}
 use Rattle.std.specs.Str.Lines.{lines}
 use Rattle.std.proofs.lemmas.List.{length-drop, take_all}
-use Rattle.gu_text.specs.Reading.{AreSilent}
 use Rattle.gu_text.specs.declared.error.SheetError.TheVariants.{BadLine}
-use Rattle.gu_text.proofs.Places.{next_taken, nil_from_length}
+use Rattle.std.proofs.lemmas.List.{nil_from_length}
+use Rattle.gu_text.proofs.Places.{next_taken}
 use Rattle.gu_text.proofs.SheetLemmas.{silent_last}
 use Rattle.gu_text.proofs.sheet.read_silence.Goals as goal
 

@@ -4,7 +4,7 @@ use Rattle.std.proofs.lemmas.Option.{slice_get_read}
 use Rattle.gu_view.specs.Cut.{is_covered}
 use Rattle.gu_view.specs.declared.error.CutFault.TheVariants.{Uncovered}
 use Rattle.gu_view.specs.declared.view.Offer.{Offer}
-use Rattle.gu_view.proofs.ListLemmas.{found_here, found_later}
+use Rattle.gu_terms.proofs.Lists.{found_here, found_later}
 use Rattle.gu_view.proofs.MarkLemmas.{cover_told, cover_any}
 use Rattle.gu_view.proofs.checker.first_uncovered.Goals as goal
 use Rattle.gu_view.proofs.checker.first_uncovered.Goals.{else-not-numbers-place-via-then-not-numbers-place+else-not-is_marked, else-not-numbers-place-via-else-not-numbers-place}

@@ -6,7 +6,7 @@ use Rattle.gu_view.specs.Check.{has_room}
 use Rattle.gu_view.specs.declared.error.CutFault.TheVariants.{Unknown}
 use Rattle.gu_view.specs.declared.error.Unknown.TheVariants.{Key}
 use Rattle.gu_view.specs.declared.view.Room.{Room}
-use Rattle.gu_view.proofs.ListLemmas.{found_here, found_later}
+use Rattle.gu_terms.proofs.Lists.{found_here, found_later}
 use Rattle.gu_view.proofs.MarkLemmas.{not_there, there, mark_key}
 use Rattle.gu_view.proofs.checker.mark_keys.Goals as goal
 

@@ -4,7 +4,7 @@ use Rattle.gu_view.specs.Check.{has_offer}
 use Rattle.gu_view.specs.declared.error.CutFault.TheVariants.{Unknown}
 use Rattle.gu_view.specs.declared.error.Unknown.TheVariants.{Offer as UnknownOffer}
 use Rattle.gu_view.specs.declared.view.Offer.{Offer}
-use Rattle.gu_view.proofs.ListLemmas.{found_here, found_later}
+use Rattle.gu_terms.proofs.Lists.{found_here, found_later}
 use Rattle.gu_view.proofs.MarkLemmas.{not_there, there, mark_offer}
 use Rattle.gu_view.proofs.checker.mark_offers.Goals as goal
 

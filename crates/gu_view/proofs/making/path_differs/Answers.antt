@@ -5,7 +5,7 @@ use Rattle.gu_view.specs.declared.view.Offer.{Offer}
 use Rattle.gu_terms.proofs.KeyLemmas.{eq, eq_is}
 use Rattle.gu_view.proofs.DerivedEq.{same, same_is}
 use Rattle.gu_terms.specs.LimitKeys.{key_eq}
-use Rattle.gu_view.proofs.ListLemmas.{found_here}
+use Rattle.gu_terms.proofs.Lists.{found_here}
 use Rattle.gu_view.proofs.MakingLemmas.{agreement_eq, is_odd, odd_known, seen_known, seen_new, lookup-agree, path_eq-same, pointwise-agree}
 use Rattle.gu_view.proofs.making.path_differs.Goals as goal
 use Rattle.gu_view.proofs.making.path_differs.Goals.{in-Some+else-ne, in-None+in_ok-insert-in-None}

@@ -6,7 +6,7 @@ use Rattle.std.proofs.lemmas.List.{set-get_or}
 use Rattle.std.proofs.lemmas.Option.{slice_get_read}
 use Rattle.gu_view.specs.declared.error.CutFault.TheVariants.{NotOldestFirst}
 use Rattle.gu_view.specs.declared.view.Offer.{Offer}
-use Rattle.gu_view.proofs.ListLemmas.{found_here}
+use Rattle.gu_terms.proofs.Lists.{found_here}
 use Rattle.gu_view.proofs.TakesLemmas.{is_too_early, mark_says, walked_more, lots_here}
 use Rattle.gu_view.proofs.takes.first_too_early.Goals as goal
 use Rattle.gu_view.proofs.takes.first_too_early.Goals.{then-taken-place, else-taken-place, else-taken-place-gt0-via-then-taken-place-gt0+else-short-agreement, else-taken-place-gt0-via-else-taken-place-gt0}

@@ -5,7 +5,7 @@ use Rattle.std.proofs.lemmas.Option.{slice_get_read}
 use Rattle.gu_view.specs.Takes.{lots_under}
 use Rattle.gu_view.specs.declared.error.CutFault.TheVariants.{OverLimit}
 use Rattle.gu_view.specs.declared.view.Room.{Room}
-use Rattle.gu_view.proofs.ListLemmas.{found_here, found_later}
+use Rattle.gu_terms.proofs.Lists.{found_here, found_later}
 use Rattle.gu_view.proofs.takes.over_limit.Goals as goal
 
 pub returns-then-room-taken_under : goal.returns-then-room-taken_under

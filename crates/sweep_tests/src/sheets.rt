@@ -1,6 +1,9 @@
 //! Texts that are sheets, and texts that aren't.
 
-use crate::{Sheet, SheetError};
+use crate::fixture::{SHARED, sheet};
+use gu_terms::{LimitKey, Take};
+use gu_text::{Sheet, SheetError};
+use gu_view::Room;
 use std::alloc::Global;
 use std::test::Fail;
 
@@ -18,7 +21,7 @@ fn is_sheet(alloc: Global, text: &str) -> bool {
 }
 
 #[test]
-fn lines_end_by_lf_or_cr_lf(rt: HostRuntime) -> Result<(), Fail> {
+fn have_lines_that_end_by_lf_or_cr_lf(rt: HostRuntime) -> Result<(), Fail> {
     for text in [
         "SHEET G1 0\nEND\n",
         "SHEET G1 0\nEND",
@@ -34,7 +37,7 @@ fn lines_end_by_lf_or_cr_lf(rt: HostRuntime) -> Result<(), Fail> {
 }
 
 #[test]
-fn the_first_bad_line_is_named(rt: HostRuntime) -> Result<(), Fail> {
+fn name_their_first_bad_line(rt: HostRuntime) -> Result<(), Fail> {
     for (text, number) in [
         // The end is missing: the number after the last line, with those that are skipped.
         ("", 1),
@@ -54,9 +57,13 @@ fn the_first_bad_line_is_named(rt: HostRuntime) -> Result<(), Fail> {
             4,
         ),
         ("SHEET G1 0\nCUT OFFER 1\nCUT OFFER 1\nEND\n", 3),
-        // What makes no view is bad at the end.
+        // What makes no view is bad at the end, ahead of what stands behind it.
         ("SHEET G1 0\nROOM EXEC E1 5\nEND\n", 3),
         ("SHEET G1 0\nOFFER 1 5 P1 E1 A1 C1\nEND\nEND\n", 3),
+        (
+            "SHEET G1 0\nOFFER 1 5 P1 E1 A1 C1\nROOM EXEC E1 5\nROOM AGR P1 5\nROOM ACCT A1 5\nROOM CARRY C1 5\nROOM EXEC E1 5\nEND\n",
+            8,
+        ),
         // Words and blanks.
         (" SHEET G1 0\nEND\n", 1),
         ("SHEET G1 0 \nEND\n", 1),
@@ -75,6 +82,7 @@ fn the_first_bad_line_is_named(rt: HostRuntime) -> Result<(), Fail> {
         ("SHEET ABCDEFGHIJKLM 0\nEND\n", 1),
         ("SHEET G1 1000000000000\nEND\n", 1),
         ("SHEET G1 +1\nEND\n", 1),
+        ("SHEET G1 0\nOFFER 0 5 P1 E1 A1 C1\nEND\n", 2),
         ("SHEET G1 0\nTAKE 0 1\nEND\n", 2),
         ("SHEET G1 0\nTAKE 16000001 1\nEND\n", 2),
         ("SHEET G1 0\nTAKE 1 1.0\nEND\n", 2),
@@ -85,53 +93,34 @@ fn the_first_bad_line_is_named(rt: HostRuntime) -> Result<(), Fail> {
     Ok(())
 }
 
-/// A comment of so many bytes.
-fn comment(alloc: Global, length: usize) -> Result<String, Fail> {
-    let mut text = String::new(alloc);
-    for _ in 0..length {
-        text.push('#')?;
-    }
-    Ok(text)
-}
-
 #[test]
-fn a_comment_has_1024_bytes_at_most(rt: HostRuntime) -> Result<(), Fail> {
-    let longest = comment(rt.alloc(), 1_024)?;
-    let longer = comment(rt.alloc(), 1_025)?;
-    assert_eq!(rt; bad_line(rt.alloc(), &longest), Some(2));
-    assert_eq!(rt; bad_line(rt.alloc(), &longer), Some(1));
+fn have_comments_of_1024_bytes_at_most(rt: HostRuntime) -> Result<(), Fail> {
+    for (length, number) in [(1_024, 2), (1_025, 1)] {
+        let comment = "#".repeat(rt.alloc(), length)?;
+        assert_eq!(rt; bad_line(rt.alloc(), &comment), Some(number), "{length}");
+    }
     Ok(())
 }
 
 /// Takes and cuts in any order.
-const SHEET: &str = "SHEET G1 7
-OFFER 1 5 P1 E1 A1 C1
-OFFER 2 5 P1 E1 A1 C1
-ROOM CARRY C1 100
-ROOM ACCT A1 100
-ROOM AGR P1 7
-ROOM EXEC E1 100
-TAKE 2 2
+const REST: &str = "TAKE 2 2
 TAKE 1 5
 CUT OFFER 2
 CUT AGR P1
 CUT EXEC E1
-END
 ";
 
-/// Whether the takes stand in the order of offers.
-fn takes_ascend(sheet: &Sheet) -> bool {
-    let taken = sheet.takes.as_slice();
+/// Whether takes stand in the order of offers.
+fn ascend(takes: &[Take]) -> bool {
     let expected = [(1, 5), (2, 2)];
-    taken.len() == 2
-        && taken.iter().zip(expected).all(|(take, (offer, lots))| {
+    takes.len() == 2
+        && takes.iter().zip(expected).all(|(take, (offer, lots))| {
             take.offer.get() == offer && take.lots == lots
         })
 }
 
-/// Whether the rooms stand in the order of the paths.
-fn rooms_follow_the_paths(sheet: &Sheet) -> bool {
-    let rooms = sheet.view.rooms();
+/// Whether rooms stand in the order of the paths.
+fn follow_the_paths(rooms: &[Room]) -> bool {
     let kinds = ["EXEC", "AGR", "ACCT", "CARRY"];
     rooms.len() == 4
         && rooms
@@ -140,45 +129,21 @@ fn rooms_follow_the_paths(sheet: &Sheet) -> bool {
             .all(|(room, kind)| room.key.kind() == kind)
 }
 
-/// Whether the keys of the cut stand in the order of their lines.
-fn cut_keys_stand_as_read(sheet: &Sheet) -> bool {
-    let keys = sheet.cut.keys();
-    keys.len() == 2
-        && keys
-            .iter()
-            .zip(["AGR", "EXEC"])
-            .all(|(key, kind)| key.kind() == kind)
+/// Whether keys of a cut stand in the order of their lines.
+fn stand_as_read(keys: &[LimitKey]) -> bool {
+    let kinds = ["AGR", "EXEC"];
+    keys.len() == 2 && keys.iter().zip(kinds).all(|(key, kind)| key.kind() == kind)
 }
 
 #[test]
-fn lines_may_stand_in_any_order_inside_their_parts(rt: HostRuntime) -> Result<(), Fail> {
-    let sheet = Sheet::read(rt.alloc(), SHEET.as_bytes())?;
-    assert!(rt; takes_ascend(&sheet));
-    assert!(rt; rooms_follow_the_paths(&sheet));
-    assert!(rt; cut_keys_stand_as_read(&sheet));
-    Ok(())
-}
-
-/// The lots that the sheet takes.
-fn lots_taken(alloc: Global) -> Result<u64, SheetError> {
-    let sheet = Sheet::read(alloc, SHEET.as_bytes())?;
-    let mut lots = 0u64;
-    for take in sheet.takes.as_slice() {
-        lots = lots.saturating_add(take.lots);
-    }
-    Ok(lots)
-}
-
-/// Run with each allocation failing in turn: a sheet that is refused for want of memory is read again.
-#[test]
-fn a_refused_sheet_is_read_again(rt: HostRuntime) -> Result<(), Fail> {
-    let lots = match lots_taken(rt.alloc()) {
-        Ok(lots) => lots,
-        Err(refused) => {
-            assert_eq!(rt; refused, SheetError::Memory);
-            lots_taken(rt.alloc())?
-        }
-    };
-    assert_eq!(rt; lots, 7);
+fn may_have_the_lines_of_a_part_in_any_order(rt: HostRuntime) -> Result<(), Fail> {
+    let sheet = sheet(rt.alloc(), SHARED, REST);
+    assert!(rt;
+        sheet.is_some_and(|sheet| {
+            ascend(sheet.takes.as_slice())
+                && follow_the_paths(sheet.view.rooms())
+                && stand_as_read(sheet.cut.keys())
+        })
+    );
     Ok(())
 }
