@@ -4,7 +4,9 @@ use crate::answers::{position, replied};
 use crate::sample::{book, book_of, largest};
 use crate::words::{day, group, report, reporting};
 use gu_book::{Book, EnterError};
-use gu_terms::{AccountId, AgreementId, Command, Day, Group, Id, LimitKey, MOST_ENTRIES, Report};
+use gu_terms::{
+    AccountId, AgreementId, Command, Day, FirmId, Group, Id, LimitKey, MOST_ENTRIES, Report,
+};
 use std::alloc::Global;
 use std::process::Abort;
 
@@ -46,6 +48,13 @@ fn keys(alloc: Global, n: u32) -> Option<(LimitKey, LimitKey)> {
     Some((LimitKey::Agr(agreement), LimitKey::Acct(account)))
 }
 
+/// The firm with a number, as it executes and as it carries.
+fn firm_keys(alloc: Global, n: u32) -> Option<(LimitKey, LimitKey)> {
+    let name = numbered(alloc, n)?;
+    let firm = FirmId::new(name.as_bytes())?;
+    Some((LimitKey::Exec(firm), LimitKey::Carry(firm)))
+}
+
 /// Sets a limit of seven lots.
 fn set_limit(rt: &impl Abort, book: &mut Book, group: &Group, key: LimitKey) {
     let group = *group;
@@ -69,14 +78,24 @@ fn set_limits(rt: &impl Abort, alloc: Global, book: &mut Book, group: &Group) {
     }
 }
 
+/// Sets a limit on each firm of the largest reference, as it executes and as it carries.
+fn set_firm_limits(rt: &impl Abort, alloc: Global, book: &mut Book, group: &Group) {
+    for n in 0..1_000 {
+        let (executing, carrying) = firm_keys(alloc, n).expect(rt, "keys");
+        set_limit(rt, book, group, executing);
+        set_limit(rt, book, group, carrying);
+    }
+}
+
 #[test]
 fn a_limit_is_set_on_each_key_of_the_largest_reference(rt: HostRuntime) {
     let file = largest(rt.alloc()).expect(&rt, "the largest file");
     let mut book = book_of(rt.alloc(), file.as_bytes()).expect(&rt, "a book");
     let group = group("N99", 0).expect(&rt, "a group");
     set_limits(&rt, rt.alloc(), &mut book, &group);
+    set_firm_limits(&rt, rt.alloc(), &mut book, &group);
     let rows = book.limits(&group).ok().expect(&rt, "limits");
-    assert_eq!(rt; rows.len(), 20_000);
+    assert_eq!(rt; rows.len(), 22_000);
 }
 
 /// The id with a number.

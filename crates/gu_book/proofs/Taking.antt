@@ -18,7 +18,8 @@ use Rattle.gu_ref.specs.Tables.{Tables}
 use Rattle.gu_trades.specs.Matching.{conflicts, is_waiting}
 use Rattle.gu_trades.specs.Reports.{has_report, report_of, with_match}
 use Rattle.gu_book.specs.Answer.{answer_where, first_standing, tests_of}
-use Rattle.gu_book.specs.Legal.{IsKeptLegal, MayFollow}
+use Rattle.gu_book.specs.Beside.{IsKeptLegal}
+use Rattle.gu_book.specs.Legal.{MayFollow}
 use Rattle.gu_book.specs.Reports.{Fits, open_day, report_on, reports_after, reports_of}
 use Rattle.gu_book.proofs.Growing.{legal_push, reports_of-push}
 

@@ -1,11 +1,8 @@
 -- A legal history: each entry may follow from those before it.
-use Rattle.std.specs.Prelude.{◌≡◌, ℕ, ◌+◌, ◌≤◌, List, [], ◌∷◌, ◌++◌, length, take, Option, Some, slice_get}
+use Rattle.std.specs.Prelude.{◌≡◌, ℕ, ◌+◌, ◌≤◌, List, [], ◌∷◌, ◌++◌, length, take, Some, slice_get}
 use Rattle.gu_terms.specs.declared.entry.Entry.{Entry}
 use Rattle.gu_terms.specs.declared.entry.Entry.TheVariants.{Asked}
-use Rattle.gu_terms.specs.declared.day.Day.{Day}
-use Rattle.gu_terms.specs.declared.report.Report.{Report}
 use Rattle.gu_book.specs.Answer.{answer}
-use Rattle.gu_book.specs.Kept.{IsBeside}
 use Rattle.gu_ref.specs.Tables.{Tables}
 
 -- an entry that may come after these: a command has the answer that they give
@@ -16,11 +13,6 @@ MayFollow reference before (Asked command reply) = reply ≡ answer reference be
 pub record IsLegal (reference : Tables) (history : List Entry) : Type 0 where
   pub within : length history ≤ 1000000
   pub each : (k : ℕ) (entry : Entry) → slice_get history k ≡ Some entry → MayFollow reference (take k history) entry
-
--- a legal history, with what is kept beside it
-pub record IsKeptLegal (reference : Tables) (history : List Entry) (today : Option Day) (reports : List Report) : Type 0 where
-  pub legal : IsLegal reference history
-  pub beside : IsBeside today reports history
 
 -- the entry is the last of some legal history of so many entries
 pub record StandsLast (reference : Tables) (number : ℕ) (entry : Entry) : Type 0 where

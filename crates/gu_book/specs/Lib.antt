@@ -1,4 +1,5 @@
 pub mod Answer
+pub mod Beside
 pub mod Kept
 pub mod Legal
 pub mod Limits

@@ -49,12 +49,17 @@ room_of history group key = limit_of history group key - use_of history group ke
 -- a limit as it stands, where one was set
 abbrev pub limit_row : List Entry → Group → LimitKey → Option LimitRow
 limit_row history group key =
-    option_map (λ limit. record { key = key; limit = limit; used = use_of history group key; room = limit - use_of history group key }) (limit_set history group key)
+    option_map
+    (λ limit. record { key = key; limit = limit; used = use_of history group key; room = limit - use_of history group key })
+    (limit_set history group key)
 
 -- all keys: executing firms, agreements, accounts, carrying firms, each in the order of the reference
 abbrev pub keys_in_order : Tables → List LimitKey
 keys_in_order reference =
-    map Exec reference.firms ++ map (λ a. Agr a.id) reference.agreements ++ map (λ a. Acct a.account) reference.accounts ++ map Carry reference.firms
+    map Exec reference.firms
+    ++ map (λ a. Agr a.id) reference.agreements
+    ++ map (λ a. Acct a.account) reference.accounts
+    ++ map Carry reference.firms
 
 -- the limits of a group
 abbrev pub limit_rows : Kept → Group → List LimitRow

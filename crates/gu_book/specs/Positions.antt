@@ -12,7 +12,8 @@ use Rattle.gu_book.specs.Reports.{reports_of}
 
 -- the lots that a report brings to an account on a side of an instrument: its own, once it is a side of a trade
 abbrev pub brought : List Report → Side → AccountId → Symbol → Report → ℕ
-brought reports side account symbol r = if same_side r.side side && same_account r.account account && same_symbol r.symbol symbol && is_of_trade reports r then r.lots else 0
+brought reports side account symbol r =
+    if same_side r.side side && same_account r.account account && same_symbol r.symbol symbol && is_of_trade reports r then r.lots else 0
 
 -- the lots that the trades among these reports bring to an account on a side of an instrument
 abbrev pub traded : List Report → Side → AccountId → Symbol → ℕ

@@ -1,4 +1,4 @@
--- Limits by their keys, as they are gathered from a history.
+-- Machinery: limits by their keys, as they are gathered from a history.
 use Rattle.std.specs.Prelude.{◌≡◌, ℕ, List, Option, Some, None, if◌then◌else◌}
 use Rattle.std.specs.Option.{option_map}
 use Rattle.gu_terms.specs.LimitKeys.{key_eq}

@@ -54,7 +54,7 @@ impl Model for Book {
 
     ghost Value = { Kept };
 
-    ghost use Rattle.gu_book.specs.Legal.{IsKeptLegal};
+    ghost use Rattle.gu_book.specs.Beside.{IsKeptLegal};
 
     ghost view = { λ b. record { reference = b.reference; history = b.history } };
 

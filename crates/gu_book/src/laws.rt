@@ -16,7 +16,8 @@ ghost use Rattle.gu_book.specs.Answer.{answer_where, tests_of};
 pub fn the_least_refusal_is_given()
     ensures ascend { (reference : Tables) (today : Option DayOf) (reports : List ReportOf) (command : CommandOf)
         → IsStrictlyIncreasing (map (λ test. number_of test.1) (tests_of reference today reports command)) }
-    ensures least { (reference : Tables) (today : Option DayOf) (reports : List ReportOf) (command : CommandOf) (given other : RefusalOf) (place : ℕ)
+    ensures least { (reference : Tables) (today : Option DayOf) (reports : List ReportOf) (command : CommandOf)
+        (given other : RefusalOf) (place : ℕ)
         → answer_where reference today reports command ≡ Denied given
         → slice_get (tests_of reference today reports command) place ≡ Some (true, other)
         → number_of given ≤ number_of other }

@@ -37,7 +37,9 @@ fn keep_set(
     entry: &Entry,
     group: &Group,
 ) -> Result<(), AllocError>
-    ensures { OnOk result ((before : List EntryOf) → HasLimits (get ⟦<LimitKey as PartialEq>⟧.eq limits.old) before group.now → HasLimits (get ⟦<LimitKey as PartialEq>⟧.eq limits.new) (before ++ entry.now ∷ []) group.now) }
+    ensures { OnOk result ((before : List EntryOf)
+        → HasLimits (get ⟦<LimitKey as PartialEq>⟧.eq limits.old) before group.now
+        → HasLimits (get ⟦<LimitKey as PartialEq>⟧.eq limits.new) (before ++ entry.now ∷ []) group.now) }
 {
     if let Some((key, lots)) = key_set(entry, group) {
         limits.insert(key, lots)?;
@@ -104,7 +106,8 @@ fn append_rows(
     limits: &IndexMap<LimitKey, u64>,
     keys: &[LimitKey],
 ) -> Result<(), AllocError>
-    ensures { OnOk result (rows.new.items ≡ rows.old.items ++ filter_map (unused_row (get ⟦<LimitKey as PartialEq>⟧.eq limits.now)) keys.now) }
+    ensures { OnOk result (rows.new.items
+        ≡ rows.old.items ++ filter_map (unused_row (get ⟦<LimitKey as PartialEq>⟧.eq limits.now)) keys.now) }
 {
     for key in keys {
         append_row(rows, row_of(limits, *key))?;
@@ -112,7 +115,6 @@ fn append_rows(
     Ok(())
 }
 
-/// The keys of executing firms.
 fn executing_keys(alloc: Global, firms: &[FirmId]) -> Result<Vec<LimitKey>, AllocError>
     ensures { IfOk result (λ keys. keys.items ≡ map LimitKey.Exec firms.now) }
 {
@@ -122,7 +124,6 @@ fn executing_keys(alloc: Global, firms: &[FirmId]) -> Result<Vec<LimitKey>, Allo
         .collect(alloc)
 }
 
-/// The keys of agreements.
 fn agreement_keys(alloc: Global, agreements: &[Agreement]) -> Result<Vec<LimitKey>, AllocError>
     ensures { IfOk result (λ keys. keys.items ≡ map (λ a. LimitKey.Agr a.id) agreements.now) }
 {
@@ -132,7 +133,6 @@ fn agreement_keys(alloc: Global, agreements: &[Agreement]) -> Result<Vec<LimitKe
         .collect(alloc)
 }
 
-/// The keys of accounts.
 fn account_keys(alloc: Global, accounts: &[Account]) -> Result<Vec<LimitKey>, AllocError>
     ensures { IfOk result (λ keys. keys.items ≡ map (λ a. LimitKey.Acct a.account) accounts.now) }
 {
@@ -142,7 +142,6 @@ fn account_keys(alloc: Global, accounts: &[Account]) -> Result<Vec<LimitKey>, Al
         .collect(alloc)
 }
 
-/// The keys of carrying firms.
 fn carrying_keys(alloc: Global, firms: &[FirmId]) -> Result<Vec<LimitKey>, AllocError>
     ensures { IfOk result (λ keys. keys.items ≡ map LimitKey.Carry firms.now) }
 {
@@ -160,7 +159,8 @@ fn rows_in_order(
     reference: &Reference,
     limits: &IndexMap<LimitKey, u64>,
 ) -> Result<Vec<LimitRow>, AllocError>
-    ensures { IfOk result (λ rows. rows.items ≡ filter_map (unused_row (get ⟦<LimitKey as PartialEq>⟧.eq limits.now)) (keys_in_order reference.now)) }
+    ensures { IfOk result (λ rows. rows.items
+        ≡ filter_map (unused_row (get ⟦<LimitKey as PartialEq>⟧.eq limits.now)) (keys_in_order reference.now)) }
 {
     let mut rows = Vec::new(alloc);
     let executing = executing_keys(alloc, reference.firms())?;

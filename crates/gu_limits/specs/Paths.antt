@@ -10,4 +10,7 @@ use Rattle.gu_ref.specs.Tables.{Tables}
 -- the path of an agreement: through its executing firm, itself, its account, and the firm that carries the account
 abbrev pub path_of : Tables → AgreementId → Option (List LimitKey)
 path_of reference id =
-    option_and_then (λ agreement. option_map (λ carried. path_through agreement.executing id agreement.account carried.firm) (account_row reference agreement.account)) (agreement_row reference id)
+    option_and_then
+    (λ agreement.
+    option_map (λ carried. path_through agreement.executing id agreement.account carried.firm) (account_row reference agreement.account))
+    (agreement_row reference id)

@@ -18,7 +18,8 @@ fault_at records place = option_and_then (record_fault (reference_of (take place
 abbrev pub AreAccepted : List (List (List ℕ)) → Type 0
 AreAccepted records = (place : ℕ) → fault_at records place ≡ None
 
--- these are the records of a text: fields parted by commas, quoted or not; empty lines are none, and a byte order mark at the start is dropped
+-- these are the records of a text: fields parted by commas, quoted or not;
+-- empty lines are none, and a byte order mark at the start is dropped
 abbrev pub AreRecordsOf : List ℕ → List (List (List ℕ)) → Type 0
 AreRecordsOf text records = AreRecords default_config st.StartRecord (strip_bom text) records
 

@@ -1,4 +1,4 @@
--- How agreements are kept: under their names, and under their firms and accounts.
+-- Machinery: how agreements are kept: under their names, and under their firms and accounts.
 use Rattle.std.specs.Prelude.{◌≡◌, map}
 use Rattle.indexmap.specs.IndexMap.{keys, values}
 use Rattle.gu_ref.specs.declared.agreements.Agreement.{Agreement}

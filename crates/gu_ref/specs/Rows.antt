@@ -21,14 +21,21 @@ row_of_one kind name =
 -- `INSTRUMENT,symbol,group` and `ACCOUNT,account,firm`
 abbrev pub row_of_two : List ℕ → List ℕ → List ℕ → Option Row
 row_of_two kind first second =
-    if bytes_eq kind (codes "INSTRUMENT") then Some (row.Instrument (record { symbol = record { name = first }; group = record { name = second } }))
-    else if bytes_eq kind (codes "ACCOUNT") then Some (row.Account (record { account = record { name = first }; firm = record { name = second } }))
+    if bytes_eq kind (codes "INSTRUMENT") then
+    Some (row.Instrument (record { symbol = record { name = first }; group = record { name = second } }))
+    else if bytes_eq kind (codes "ACCOUNT") then
+    Some (row.Account (record { account = record { name = first }; firm = record { name = second } }))
     else None
 
 -- `AGREEMENT,id,executing firm,account`
 abbrev pub row_of_three : List ℕ → List ℕ → List ℕ → List ℕ → Option Row
 row_of_three kind first second third =
-    if bytes_eq kind (codes "AGREEMENT") then Some (row.Agreement (record { id = record { name = first }; executing = record { name = second }; account = record { name = third } }))
+    if bytes_eq kind (codes "AGREEMENT") then
+    Some (row.Agreement (record {
+      id = record { name = first };
+      executing = record { name = second };
+      account = record { name = third };
+    }))
     else None
 
 -- the row of this kind with these names

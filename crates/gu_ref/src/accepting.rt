@@ -96,8 +96,11 @@ impl Reference {
 
     /// Accepts one more record: its row is entered, or it is refused by its first fault.
     pub(crate) fn accept(&mut self, fields: &ByteRecord) -> Result<(), RefFault>
-        ensures ok { OnOk result ((record_fault self.old (row_count self.old + 1) (fields_of fields.now) ≡ None) × (self.new ≡ with_record self.old (fields_of fields.now)) × (row_count self.new ≡ row_count self.old + 1)) }
-        ensures err { IfErr result (λ fault. (fault ≡ RefFault.Memory) ⊎ (record_fault self.old (row_count self.old + 1) (fields_of fields.now) ≡ Some fault)) }
+        ensures ok { OnOk result ((record_fault self.old (row_count self.old + 1) (fields_of fields.now) ≡ None)
+            × (self.new ≡ with_record self.old (fields_of fields.now))
+            × (row_count self.new ≡ row_count self.old + 1)) }
+        ensures err { IfErr result (λ fault. (fault ≡ RefFault.Memory)
+            ⊎ (record_fault self.old (row_count self.old + 1) (fields_of fields.now) ≡ Some fault)) }
     {
         let line = self.row_count() + 1;
         let Some(row) = row_of(fields) else {

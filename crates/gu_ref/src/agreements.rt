@@ -54,7 +54,8 @@ impl Model for Agreements {
 
 /// Puts an agreement under its pair.
 fn pair_up(pairs: &mut IndexMap<Pair, Agreement>, agreement: &Agreement) -> Result<(), AllocError>
-    ensures paired { OnOk result (pairs.new.entries ≡ insert_entry ⟦<Pair as PartialEq>⟧.eq pairs.old.entries (record { executing = agreement.now.executing; account = agreement.now.account }) agreement.now) }
+    ensures paired { OnOk result (pairs.new.entries ≡ insert_entry ⟦<Pair as PartialEq>⟧.eq pairs.old.entries
+        (record { executing = agreement.now.executing; account = agreement.now.account }) agreement.now) }
     ensures err { OnErr result (pairs.new.entries ≡ pairs.old.entries) }
 {
     let pair = Pair {
@@ -71,8 +72,10 @@ fn add(
     pairs: &mut IndexMap<Pair, Agreement>,
     agreement: &Agreement,
 ) -> Result<(), AllocError>
-    ensures named { OnOk result (rows.new.entries ≡ insert_entry ⟦<AgreementId as PartialEq>⟧.eq rows.old.entries agreement.now.id agreement.now) }
-    ensures paired { OnOk result (pairs.new.entries ≡ insert_entry ⟦<Pair as PartialEq>⟧.eq pairs.old.entries (record { executing = agreement.now.executing; account = agreement.now.account }) agreement.now) }
+    ensures named { OnOk result (rows.new.entries
+        ≡ insert_entry ⟦<AgreementId as PartialEq>⟧.eq rows.old.entries agreement.now.id agreement.now) }
+    ensures paired { OnOk result (pairs.new.entries ≡ insert_entry ⟦<Pair as PartialEq>⟧.eq pairs.old.entries
+        (record { executing = agreement.now.executing; account = agreement.now.account }) agreement.now) }
     ensures err { OnErr result ((rows.new.entries ≡ rows.old.entries) × (pairs.new.entries ≡ pairs.old.entries)) }
 {
     rows.reserve(1)?;

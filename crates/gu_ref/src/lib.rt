@@ -6,13 +6,13 @@ mod accounts;
 mod agreements;
 mod counted_reads;
 mod error;
-mod firms;
-mod groups;
 mod instruments;
 mod laws;
+mod names;
 mod reading;
 mod reference;
 mod row;
+mod table;
 
 pub use accounts::Account;
 pub use agreements::Agreement;

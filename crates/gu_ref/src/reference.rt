@@ -3,12 +3,12 @@
 ghost use Rattle.std.specs.Prelude.{◌≡◌, ◌≤◌, [], Some, Contains, if◌then◌else◌};
 ghost use Rattle.std.specs.Result.{is_ok};
 
-use crate::accounts::{Account, Accounts};
+use crate::accounts::Account;
 use crate::agreements::{Agreement, Agreements};
-use crate::firms::Firms;
-use crate::groups::Groups;
-use crate::instruments::{Instrument, Instruments};
+use crate::instruments::Instrument;
+use crate::names::Names;
 use crate::row::Row;
+use crate::table::Table;
 use gu_terms::{AccountId, AgreementId, FirmId, Group, Symbol};
 use std::alloc::{AllocError, Global};
 use std::marker::Model;
@@ -16,10 +16,10 @@ use std::marker::Model;
 /// The reference data of one run, each kind in the order in which it was declared.
 /// To a contract it is these five lists.
 pub struct Reference {
-    firms: Firms,
-    groups: Groups,
-    instruments: Instruments,
-    accounts: Accounts,
+    firms: Names<FirmId>,
+    groups: Names<Group>,
+    instruments: Table<Instrument>,
+    accounts: Table<Account>,
     agreements: Agreements,
 }
 
@@ -45,11 +45,23 @@ impl Model for Reference {
 
     ghost Value = { Tables };
 
-    ghost view = { λ r. record { firms = r.firms; groups = r.groups; instruments = r.instruments; accounts = r.accounts; agreements = r.agreements } };
+    ghost view = { λ r. record {
+      firms = r.firms;
+      groups = r.groups;
+      instruments = r.instruments;
+      accounts = r.accounts;
+      agreements = r.agreements;
+    } };
 
     ghost use Rattle.gu_ref.specs.Rules.{IsSound};
 
-    ghost invariant = { λ r. IsSound (record { firms = r.firms; groups = r.groups; instruments = r.instruments; accounts = r.accounts; agreements = r.agreements }) };
+    ghost invariant = { λ r. IsSound (record {
+      firms = r.firms;
+      groups = r.groups;
+      instruments = r.instruments;
+      accounts = r.accounts;
+      agreements = r.agreements;
+    }) };
 }
 
 impl Reference {
@@ -63,7 +75,8 @@ impl Reference {
     pub fn rules(&self)
         ensures sound { IsSound self.now }
         ensures carrier { (row : Account) → Contains self.now.accounts row → account_row self.now row.account ≡ Some row }
-        ensures partner { (row : Agreement) → Contains self.now.agreements row → agreement_between self.now row.executing row.account ≡ Some row.id }
+        ensures partner { (row : Agreement) → Contains self.now.agreements row
+            → agreement_between self.now row.executing row.account ≡ Some row.id }
     {
         // A field that is read shows what the type keeps.
         let _ = &self.firms;
@@ -160,10 +173,10 @@ impl Reference {
         ensures { result ≡ record { firms = []; groups = []; instruments = []; accounts = []; agreements = [] } }
     {
         Reference {
-            firms: Firms::new(alloc),
-            groups: Groups::new(alloc),
-            instruments: Instruments::new(alloc),
-            accounts: Accounts::new(alloc),
+            firms: Names::new(alloc),
+            groups: Names::new(alloc),
+            instruments: Table::new(alloc),
+            accounts: Table::new(alloc),
             agreements: Agreements::new(alloc),
         }
     }

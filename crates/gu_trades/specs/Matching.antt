@@ -10,7 +10,11 @@ use Rattle.gu_trades.specs.Reports.{with_match}
 -- a report is the other side of another: same instrument, lots, price and day, opposite side
 abbrev pub is_other_side : Report → Report → Bool
 is_other_side first second =
-    same_symbol first.symbol second.symbol && first.lots == second.lots && int_eq first.price second.price && same_day first.day second.day && not (same_side first.side second.side)
+    same_symbol first.symbol second.symbol
+    && first.lots == second.lots
+    && int_eq first.price second.price
+    && same_day first.day second.day
+    && not (same_side first.side second.side)
 
 -- the reports with a match id don't go with a new one: they are two, or one that isn't its other side
 abbrev pub conflicts : List Report → Report → Bool

@@ -15,7 +15,17 @@ use Rattle.gu_terms.specs.Same.{same_firm, same_id}
 -- a report, from its nine words; the day is the one that was open
 abbrev pub report_of : FirmId → Id → Id → Symbol → Lots → Price → Day → Side → AccountId → Report
 report_of firm id match_id symbol lots price day side account =
-    record { firm = firm; id = id; match_id = match_id; symbol = symbol; lots = lots; price = price; day = day; side = side; account = account }
+    record {
+      firm = firm;
+      id = id;
+      match_id = match_id;
+      symbol = symbol;
+      lots = lots;
+      price = price;
+      day = day;
+      side = side;
+      account = account;
+    }
 
 -- the report is this firm's, with this id
 abbrev pub is_by : FirmId → Id → Report → Bool

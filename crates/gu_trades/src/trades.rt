@@ -50,14 +50,16 @@ impl Model for Trades {
     ghost invariant = { IsKept };
 }
 
-/// Puts the sides of a report under its match id, and the report under its firm and id. The growths come first, so that a refusal leaves both as they were.
+/// Puts the sides of a report under its match id, and the report under its firm and id. The growths come first, so that a
+/// refusal leaves both as they were.
 fn add(
     reports: &mut IndexMap<ReportKey, Report>,
     sides: &mut IndexMap<Id, Sides>,
     report: &Report,
     with_report: Sides,
 ) -> Result<(), AllocError>
-    ensures named { OnOk result (reports.new.entries ≡ insert_entry ⟦<ReportKey as PartialEq>⟧.eq reports.old.entries (record { firm = report.now.firm; id = report.now.id }) report.now) }
+    ensures named { OnOk result (reports.new.entries ≡ insert_entry ⟦<ReportKey as PartialEq>⟧.eq reports.old.entries
+        (record { firm = report.now.firm; id = report.now.id }) report.now) }
     ensures matched { OnOk result (Updates ⟦<Id as PartialEq>⟧.eq sides.old sides.new report.now.match_id (Some with_report)) }
     ensures err { OnErr result ((reports.new.entries ≡ reports.old.entries) × (sides.new.entries ≡ sides.old.entries)) }
 {

@@ -3,7 +3,8 @@ use Rattle.std.specs.Option.{option_to_list}
 use Rattle.gu_terms.specs.declared.entry.Entry.{Entry}
 use Rattle.gu_terms.specs.declared.report.Report.{Report}
 use Rattle.gu_book.specs.Kept.{Kept}
-use Rattle.gu_book.specs.Legal.{IsKeptLegal, MayFollow, StandsLast}
+use Rattle.gu_book.specs.Beside.{IsKeptLegal}
+use Rattle.gu_book.specs.Legal.{MayFollow, StandsLast}
 use Rattle.gu_book.proofs.Growing.{stands_last}
 use Rattle.gu_book.proofs.Taking.{kept_push, truncated}
 use Rattle.gu_book.proofs.book.Book.append.Goals as goal

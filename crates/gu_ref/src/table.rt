@@ -1,0 +1,77 @@
+//! Rows that are found by their names, in the order of the file.
+
+ghost use Rattle.std.specs.Prelude.{◌≡◌, ◌++◌, ◌∷◌, [], None, if◌then◌else◌};
+ghost use Rattle.std.specs.List.{find};
+ghost use Rattle.std.specs.Result.{is_ok};
+
+use indexmap::IndexMap;
+use std::alloc::{AllocError, Global};
+use std::hash::Hash;
+use std::marker::Model;
+
+/// What has a name, which no other row of its kind has.
+pub(crate) trait Named: Copy {
+    type Name: Copy + Eq + Hash;
+
+    ghost name: { Self → Self.Name };
+
+    fn name(&self) -> Self::Name
+        ensures { result ≡ name self.now };
+}
+
+/// Rows, each name once. To a contract it is the list of them.
+pub(crate) struct Table<R: Named> {
+    rows: IndexMap<R::Name, R>,
+}
+
+impl<R: Named> Drop for Table<R> {
+    fn drop(self) {
+        let Table { rows } = self;
+        drop(rows);
+    }
+}
+
+impl<R: Named> Model for Table<R> {
+    ghost use Rattle.std.specs.Prelude.{◌≡◌, List, map};
+    ghost use Rattle.indexmap.specs.IndexMap.{keys, values};
+
+    ghost Value = { List R };
+
+    ghost view = { λ table. values table.rows };
+
+    ghost invariant = { λ table. keys table.rows ≡ map R.name (values table.rows) };
+}
+
+impl<R: Named> Table<R> {
+    /// No rows.
+    pub(crate) fn new(alloc: Global) -> Self
+        ensures { result ≡ [] }
+    {
+        Table {
+            rows: IndexMap::new(alloc),
+        }
+    }
+
+    /// All of them, in order.
+    pub(crate) fn as_slice(&self) -> &[R]
+        ensures { result.now ≡ self.now }
+    {
+        self.rows.values().as_slice()
+    }
+
+    /// The row of this name.
+    pub(crate) fn get(&self, name: R::Name) -> Option<R>
+        ensures { result ≡ find (λ row. R.Name.eq (R.name row) name) self.now }
+    {
+        self.rows.get(&name).copied()
+    }
+
+    /// Adds a row whose name is new.
+    pub(crate) fn push(&mut self, row: R) -> Result<(), AllocError>
+        requires { find (λ other. R.Name.eq (R.name other) (R.name row)) self.old ≡ None }
+        ensures { self.new ≡ (if is_ok result then self.old ++ row ∷ [] else self.old) }
+    {
+        self.rows.insert(row.name(), row)?;
+        Ok(())
+    }
+}
