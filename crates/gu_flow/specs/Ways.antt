@@ -1,4 +1,4 @@
--- Ways from the sink back towards the source, a list of ends of arcs.
+-- Machinery: ways from the sink back towards the source, a list of ends of arcs.
 use Rattle.std.specs.Prelude.{◌≡◌, ℕ, ◌+◌, ◌-◌, ◌*◌, ◌/◌, ◌<◌, ◌≤◌, ◌==◌, if◌then◌else◌, List, length, slice_index}
 use Rattle.gu_flow.specs.declared.arcs.Arc.{Arc}
 use Rattle.gu_flow.specs.declared.levels.Entry.{Entry}
