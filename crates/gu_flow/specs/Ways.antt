@@ -32,6 +32,12 @@ pub record IsWhole (arcs : List Arc) (way : List ℕ) : Type 0 where
 pub record HasRoom (arcs : List Arc) (way : List ℕ) (steps lots : ℕ) : Type 0 where
   pub room : (i : ℕ) → i < steps → lots ≤ room_in arcs (slice_index way i)
 
+-- some step has room for exactly so many lots
+pub record IsNarrow (arcs : List Arc) (way : List ℕ) (steps lots : ℕ) : Type 0 where
+  pub step : ℕ
+  pub within : step < steps
+  pub room : room_in arcs (slice_index way step) ≡ lots
+
 -- at each node a search for ways goes on at an end of that node
 pub record IsCurrent (arcs : List Arc) (current : List ℕ) : Type 0 where
   pub ends : (n : ℕ) → slice_index current n ≤ 2 * length arcs
