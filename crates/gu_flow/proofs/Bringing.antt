@@ -1,14 +1,14 @@
 -- Lots are brought back along a way, arc by arc.
-use Rattle.std.proofs.Common.{◌≡◌, ◌≢◌, ℕ, ◌+◌, ◌-◌, ◌/◌, ◌<◌, ◌≤◌, ◌==◌, Bool, true, false, cond, List, length, refl, sym, ◌∙◌, ap, subst, arith, inl, inr, below_more, get_or, get_or-set_other}
+use Rattle.std.proofs.Common.{◌≡◌, ◌≢◌, ℕ, ◌+◌, ◌-◌, ◌/◌, ◌<◌, ◌≤◌, ◌==◌, Bool, true, false, cond, List, length, refl, sym, ◌∙◌, ap, subst, arith, inl, inr, below_more, get_or, get_or-set_other, min}
 use Rattle.std.proofs.Math.ListN.{set}
 use Rattle.std.specs.Prelude.{All}
 use Rattle.std.proofs.lemmas.List.Sums.{sum_by-set}
 use Rattle.std.proofs.lemmas.List.Elements.{All-set}
-use Rattle.std.proofs.lemmas.Bool.{cases_eq, eq-eqb, ne_eqb, cond-false, cond-true}
+use Rattle.std.proofs.lemmas.Bool.{cases_eq, cases_lt, eq-eqb, ne_eqb, cond-false, cond-true}
 use Rattle.gu_flow.specs.declared.arcs.Arc.{Arc}
 use Rattle.gu_flow.specs.Ends.{no_arc, arc_at, is_tail, near, far, room_in}
 use Rattle.gu_flow.specs.Flows.{inflow, outflow, worth, pipe, SamePipes, IsFlow}
-use Rattle.gu_flow.specs.Ways.{stand, IsWhole, HasRoom}
+use Rattle.gu_flow.specs.Ways.{stand, IsWhole, IsNarrow, HasRoom}
 use Rattle.gu_flow.proofs.Pipes.{pipes_set, pipes_length, near_same, far_same}
 
 -- the node at which the way stands lacks the lots, all others are balanced, and the steps ahead have room
@@ -45,6 +45,18 @@ room_more arcs way i lots least before less here = record { room = below_more (�
 -- the first steps have it too
 pub room_front : (arcs : List Arc) (way : List ℕ) (few steps lots : ℕ) → few ≤ steps → HasRoom arcs way steps lots → HasRoom arcs way few lots
 room_front arcs way few steps lots fewer all = record { room = λ j j_in. all.room j (omega arith) }
+
+-- one more step, of which the least room is known
+pub narrow_more : (arcs : List Arc) (way : List ℕ) (i least here next : ℕ) → (0 < i → IsNarrow arcs way i least) → (i ≡ 0 → here ≤ least) → here ≡ room_in arcs (get_or way i 0) → next ≡ min least here
+    → IsNarrow arcs way (i + 1) next
+narrow_more arcs way i least here next before first here_is next_is =
+    elim (cases_lt least here) [
+      | inl lower ↦ elim (cases_eq i 0) [
+        | inl none ↦ absurd (omega (arith, first none))
+        | inr some ↦ let old = before (omega arith) in record { step = old.step; within = omega (arith, old.within); room = omega (arith, old.room) }
+      ]
+      | inr narrower ↦ record { step = i; within = omega arith; room = omega arith }
+    ]
 
 -- nothing is brought yet
 pub bring_begins : (arcs : List Arc) (way : List ℕ) (lots : ℕ) → IsFlow arcs 0 1 → HasRoom arcs way (length way) lots → Bringing arcs arcs way lots 0

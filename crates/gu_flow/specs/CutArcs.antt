@@ -1,4 +1,4 @@
--- The cut: the keys and offers between what the last search reached and what it didn't.
+-- Machinery: the cut, as the keys and offers between what the last search reached and what it didn't.
 use Rattle.std.specs.Prelude.{◌≡◌, ℕ, ◌<◌, ◌==◌, ◌&&◌, not, nat_lt, Bool, List, All, IsTrue, length}
 use Rattle.gu_terms.specs.Cuts.{CutLists, has_number}
 use Rattle.gu_terms.specs.LimitKeys.{has_key}

@@ -1,4 +1,4 @@
--- The two ends of each arc: 2k stands for the tail of the arc at place k, and 2k + 1 for its head.
+-- Machinery: the two ends of each arc: 2k stands for the tail of the arc at place k, and 2k + 1 for its head.
 use Rattle.std.specs.Prelude.{◌≡◌, ◌≢◌, ℕ, ◌+◌, ◌-◌, ◌/◌, ◌%◌, ◌<◌, ◌≤◌, ◌==◌, Bool, if◌then◌else◌, List, All, length, slice_index, slice_index_or}
 use Rattle.gu_flow.specs.declared.arcs.Arc.{Arc}
 

@@ -1,4 +1,4 @@
--- Flows in a network, by its arcs.
+-- Machinery: flows in a network, by its arcs.
 use Rattle.std.specs.Prelude.{◌≡◌, ◌≢◌, ℕ, ◌-◌, ◌≤◌, ◌==◌, if◌then◌else◌, Bool, true, false, List, All, map, sum_by}
 use Rattle.gu_flow.specs.declared.arcs.Arc.{Arc}
 

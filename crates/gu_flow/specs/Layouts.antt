@@ -1,4 +1,4 @@
--- The network of ways through places: executing firm, agreement, then one account or carrying firm after another.
+-- Machinery: the network of ways through places: executing firm, agreement, then one account or carrying firm after another.
 use Rattle.std.specs.Prelude.{ℕ, ◌+◌, ◌==◌, if◌then◌else◌, List, [], ◌∷◌}
 
 -- each place has a node; 0 is the source, and 1 the sink

@@ -1,4 +1,4 @@
--- What a search from the source has reached, level by level.
+-- Machinery: what a search from the source has reached, level by level.
 use Rattle.std.specs.Prelude.{◌≡◌, ◌≢◌, ℕ, ◌+◌, ◌*◌, ◌<◌, ◌≤◌, List, length, Bool, count_by, nat_lt, slice_index, slice_index_or}
 use Rattle.gu_flow.specs.declared.arcs.Arc.{Arc}
 use Rattle.gu_flow.specs.declared.levels.Entry.{Entry}

@@ -1,4 +1,4 @@
--- The network of a view: for the room of each key an arc, which lies on the ways of the offers with that key.
+-- Machinery: the network of a view: for the room of each key an arc, which lies on the ways of the offers with that key.
 use Rattle.std.specs.Prelude.{◌≡◌, ℕ, ◌<◌, ◌==◌, min, true, if◌then◌else◌, List, [], length, map, slice_index_or, sum_by}
 use Rattle.std.specs.List.{list_any}
 use Rattle.gu_terms.specs.LimitKeys.{has_key}

@@ -1,4 +1,4 @@
--- What the offers of an agreement get of what flows through its arc: the oldest first.
+-- Machinery: what the offers of an agreement get of what flows through its arc: the oldest first.
 use Rattle.std.specs.Prelude.{◌≡◌, ℕ, ◌-◌, ◌<◌, ◌==◌, min, if◌then◌else◌, List, length, take, slice_index_or, sum_by}
 use Rattle.gu_terms.specs.declared.limit_key.LimitKey.TheVariants.{Agr}
 use Rattle.gu_terms.specs.declared.takes.Take.{Take}

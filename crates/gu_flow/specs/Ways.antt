@@ -1,4 +1,4 @@
--- Ways from the sink back towards the source, a list of ends of arcs.
+-- Machinery: ways from the sink back towards the source, a list of ends of arcs.
 use Rattle.std.specs.Prelude.{◌≡◌, ℕ, ◌+◌, ◌-◌, ◌*◌, ◌/◌, ◌<◌, ◌≤◌, ◌==◌, if◌then◌else◌, List, length, slice_index}
 use Rattle.gu_flow.specs.declared.arcs.Arc.{Arc}
 use Rattle.gu_flow.specs.declared.levels.Entry.{Entry}
@@ -31,6 +31,12 @@ pub record IsWhole (arcs : List Arc) (way : List ℕ) : Type 0 where
 -- each step has room for so many lots
 pub record HasRoom (arcs : List Arc) (way : List ℕ) (steps lots : ℕ) : Type 0 where
   pub room : (i : ℕ) → i < steps → lots ≤ room_in arcs (slice_index way i)
+
+-- some step has room for exactly so many lots
+pub record IsNarrow (arcs : List Arc) (way : List ℕ) (steps lots : ℕ) : Type 0 where
+  pub step : ℕ
+  pub within : step < steps
+  pub room : room_in arcs (slice_index way step) ≡ lots
 
 -- at each node a search for ways goes on at an end of that node
 pub record IsCurrent (arcs : List Arc) (current : List ℕ) : Type 0 where

@@ -58,16 +58,15 @@ pub(crate) fn room_in(arcs: &[Arc], end: u32) -> u64
     }
 }
 
-/// The lots that can still be brought from an end to the other one.
+/// The lots that can still be brought from an end to the other one: along the arc what it can carry more, against it what flows.
 pub(crate) fn room_out(arcs: &[Arc], end: u32) -> u64
     requires end { end < 2 * length arcs.now }
     requires within { All (λ a. a.flow ≤ a.capacity) arcs.now }
     ensures { result ≡ room_out arcs.now end }
 {
     let arc = &arcs[end as usize / 2];
-    if end % 2 == 0 {
-        arc.capacity - arc.flow
-    } else {
-        arc.flow
+    if end % 2 == 1 {
+        return arc.flow;
     }
+    arc.capacity - arc.flow
 }

@@ -2,7 +2,7 @@
 
 ghost use Rattle.std.specs.Prelude.{◌≡◌, ℕ, ◌+◌, ◌*◌, ◌/◌, ◌<◌, ◌≤◌, All, length, slice_index};
 ghost use Rattle.gu_flow.specs.Flows.{IsFlow, SamePipes, worth};
-ghost use Rattle.gu_flow.specs.Ways.{IsWay, IsWhole, HasRoom};
+ghost use Rattle.gu_flow.specs.Ways.{IsWay, IsWhole, IsNarrow, HasRoom};
 
 use crate::arcs::{Arc, room_in};
 
@@ -12,6 +12,7 @@ fn bottleneck(arcs: &[Arc], way: &[u32]) -> u64
     requires way { IsWay arcs.now way.now 1 (length way.now) }
     ensures least { HasRoom arcs.now way.now (length way.now) result }
     ensures some { HasRoom arcs.now way.now (length way.now) 1 → 0 < result }
+    ensures narrow { 0 < length way.now → IsNarrow arcs.now way.now (length way.now) result }
 {
     let mut least = u64::MAX;
     for end in way {

@@ -1,4 +1,4 @@
--- The parts of a sheet while it is read. (Machinery: no other crate names this file.)
+-- Machinery: the parts of a sheet while it is read. (No other crate names this file.)
 use Rattle.std.specs.Prelude.{◌≡◌, ℕ, ◌+◌, ◌≤◌, ◌||◌, Bool, true, false, List, [], ◌++◌, drop, length, take, slice_get, Option, Some, None, IsTrue}
 use Rattle.std.specs.Option.{option_map_or, option_or, option_to_list}
 use Rattle.std.specs.Str.Lines.{lines}

@@ -9,7 +9,8 @@ use Rattle.gu_terms.specs.declared.group.Group.{Group}
 use Rattle.gu_terms.specs.declared.limit_key.LimitKey.{LimitKey}
 use Rattle.gu_terms.proofs.KeyLemmas.{key_eq-from}
 use Rattle.gu_view.specs.Making.{MakesView, in_order}
-use Rattle.gu_view.specs.View.{GroupView, IsIndexed, IsView, keys_of, place_among, place_of, places_under}
+use Rattle.gu_view.specs.Keeping.{IsIndexed}
+use Rattle.gu_view.specs.View.{GroupView, IsView, keys_of, place_among, place_of, places_under}
 use Rattle.gu_view.specs.declared.view.Offer.{Offer}
 use Rattle.gu_view.specs.declared.view.Room.{Room}
 use Rattle.gu_terms.proofs.Lists.{position_or_len-map}

@@ -2,7 +2,7 @@
 use Rattle.std.proofs.Common.{◌≡◌, ℕ, zero, suc, ◌-◌, ◌<◌, ◌≤◌, List, [], ◌∷◌, ◌++◌, Some, length, take, drop, get_or, arith, length-append, ap, ◌∙◌, refl}
 use Rattle.std.specs.Prelude.{slice_range, slice_get}
 use Rattle.std.proofs.lemmas.List.{drop_at, drop-append-le, take_all, take-append-le, length-drop}
-use Rattle.gu_view.specs.Places.{lists_from, AreEnds}
+use Rattle.gu_view.specs.Keeping.{lists_from, AreEnds}
 
 -- what lies behind the first list of a joined pair
 range-behind : (joined list : List ℕ) (from : ℕ) → from ≡ length joined → slice_range (joined ++ list) from (length (joined ++ list)) ≡ list

@@ -39,7 +39,8 @@ use Rattle.std.proofs.lemmas.List.{map_more}
 use Rattle.std.proofs.lemmas.List.Folds.{find-append}
 use Rattle.std.proofs.lemmas.List.Quantifiers.{all_pairs_push}
 use Rattle.gu_view.specs.Check.{has_room}
-use Rattle.gu_view.specs.Making.{AreRooms, IsGiven, in_order, lots_given}
+use Rattle.gu_view.specs.Keeping.{IsGiven}
+use Rattle.gu_view.specs.Making.{AreRooms, in_order, lots_given}
 use Rattle.gu_view.specs.View.{keys_of, place_among}
 use Rattle.gu_terms.proofs.Lists.{Later, AllPairs-from_Later, Later-from_AllPairs, along, any_none, find_more, find_none, list_any-agree, none_any, none_found, position_or_len-agree}
 use Rattle.gu_view.proofs.RoomLemmas.{has_key-others, has_key-keys_of, on_own_path}

@@ -1,6 +1,7 @@
 pub mod Check
 pub mod Cut
 pub mod Faults
+pub mod Keeping
 pub mod Making
 pub mod Marks
 pub mod Paths

@@ -76,10 +76,3 @@ Refuses offers rooms (BadOffer number) = bad_offer offers ≡ Some number
 Refuses offers rooms (PathDiffers number) = (bad_offer offers ≡ None) × (path_differs offers ≡ Some number)
 Refuses offers rooms BadRooms = (bad_offer offers ≡ None) × (path_differs offers ≡ None) × (¬ AreRooms (keys_of offers) rooms)
 Refuses offers rooms Memory = Unit {0}
-
--- each of these rooms is needed, within its limit and given once, and these are the lots that they give
-pub record IsGiven (keys : List LimitKey) (rooms : List Room) (lots : LimitKey → Option ℕ) : Type 0 where
-  pub needed : All (λ r. IsTrue (has_key keys r.key)) rooms
-  pub once : AllPairs (λ a b. a.key ≢ b.key) rooms
-  pub limits : All (λ r. r.lots ≤ 1000000000) rooms
-  pub lots_are : (k : LimitKey) → lots k ≡ lots_given rooms k

@@ -1,4 +1,4 @@
--- Takes, keys and offers by their places.
+-- Machinery: takes, keys and offers by their places.
 use Rattle.std.specs.Prelude.{◌≡◌, ℕ, ◌==◌, Bool, List, [], ◌∷◌, map, if◌then◌else◌}
 use Rattle.gu_terms.specs.declared.takes.Take.{Take}
 use Rattle.gu_terms.specs.Cuts.{CutLists, has_number}

@@ -51,13 +51,6 @@ place_of rooms k = position_or_len (λ r. key_eq r.key k) rooms
 abbrev pub places_under : List Offer → LimitKey → List ℕ
 places_under offers k = places_where (λ o. has_key o.path k) offers
 
--- a view beside its keys, the places of each offer's keys, and of each room's offers
-pub record IsIndexed (view : GroupView) (keys : List LimitKey) (places members : List (List ℕ)) : Type 0 where
-  pub sound : IsView view
-  pub keys_are : keys ≡ map (λ r. r.key) view.rooms
-  pub places_are : places ≡ map (λ o. map (place_of view.rooms) o.path) view.offers
-  pub members_are : members ≡ map (λ r. places_under view.offers r.key) view.rooms
-
 -- a path: executing firm, the offer's own agreement, account, carrying firm
 abbrev pub IsPath : Offer → Type 0
 IsPath o =

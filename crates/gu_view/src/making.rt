@@ -7,7 +7,8 @@ ghost use Rattle.indexmap.specs.IndexMap.{get};
 ghost use Rattle.gu_terms.specs.LimitKeys.{has_key, key_eq};
 ghost use Rattle.gu_view.specs.Check.{has_room};
 ghost use Rattle.gu_terms.specs.declared.limit_key.LimitKey.{LimitKey};
-ghost use Rattle.gu_view.specs.Making.{is_bad, is_own, numbered, bad_offer, path_differs, lots_given, AreRooms, IsGiven, in_order};
+ghost use Rattle.gu_view.specs.Keeping.{IsGiven};
+ghost use Rattle.gu_view.specs.Making.{is_bad, is_own, numbered, bad_offer, path_differs, lots_given, AreRooms, in_order};
 ghost use Rattle.gu_view.specs.View.{keys_of, firsts, place_among};
 
 use crate::place_lists::PlaceLists;

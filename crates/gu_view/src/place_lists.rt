@@ -14,7 +14,7 @@ pub struct PlaceLists {
 
 impl Model for PlaceLists {
     ghost use Rattle.std.specs.Prelude.{List, ℕ, length};
-    ghost use Rattle.gu_view.specs.Places.{lists_from, AreEnds};
+    ghost use Rattle.gu_view.specs.Keeping.{lists_from, AreEnds};
 
     ghost Value = { List (List ℕ) };
 

@@ -52,7 +52,8 @@ pub struct View {
 }
 
 impl Model for View {
-    ghost use Rattle.gu_view.specs.View.{GroupView, IsIndexed};
+    ghost use Rattle.gu_view.specs.Keeping.{IsIndexed};
+    ghost use Rattle.gu_view.specs.View.{GroupView};
 
     ghost Value = { GroupView };
 

@@ -6,6 +6,8 @@ mod checks;
 #[cfg(test)]
 mod fixture;
 #[cfg(test)]
+mod largest;
+#[cfg(test)]
 mod memory;
 #[cfg(test)]
 mod nesting;

@@ -1,0 +1,116 @@
+//! Calls at their largest, and thousands of times over: a body that answers Memory at will meets every contract.
+
+use crate::fixture::{CROSSED, proposal, sheet, view};
+use gu_flow::Proposal;
+use gu_text::{Sheet, SheetError, verdict_text};
+use gu_view::{View, check};
+use std::alloc::Global;
+use std::process::Abort;
+use std::test::Fail;
+
+/// The offers that a view has at most.
+const MOST: u64 = 4_096;
+
+/// A line for each number from 1, with the number in the place of each `#`.
+fn numbered(alloc: Global, line: &str, most: u64) -> Option<String> {
+    let mut text = String::new(alloc);
+    for number in 1..=most {
+        let digits = format!(in alloc; "{number}").ok()?;
+        text.push_str(&line.replace(alloc, '#', &digits).ok()?)
+            .ok()?;
+    }
+    Some(text)
+}
+
+/// The view of so many offers, each of its own agreement, into its own account, under its own firms.
+fn apart(alloc: Global, most: u64) -> Option<String> {
+    let offers = numbered(alloc, "OFFER # 1 P# E# A# C#\n", most)?;
+    let rooms = numbered(
+        alloc,
+        "ROOM EXEC E# 1\nROOM AGR P# 1\nROOM ACCT A# 1\nROOM CARRY C# 1\n",
+        most,
+    )?;
+    format!(in alloc; "SHEET G1 0\n{offers}{rooms}").ok()
+}
+
+/// Takes of so many offers, and a cut of their account's keys and of the offers.
+fn taken(alloc: Global, most: u64) -> Option<String> {
+    let takes = numbered(alloc, "TAKE # 1\n", most)?;
+    let cut = numbered(alloc, "CUT ACCT A#\n", most)?;
+    format!(in alloc; "{takes}{cut}").ok()
+}
+
+/// The line that a check of a sheet answers, and the lots that a proposal for its view takes.
+fn answered(rt: &impl Abort, alloc: Global, view: &str, rest: &str) -> Option<(Vec<u8>, u64)> {
+    let sheet = sheet(alloc, view, rest)?;
+    let verdict = check(&sheet.view, &sheet.takes, &sheet.cut);
+    let line = verdict_text(alloc, &verdict).ok()?;
+    let proposal = proposal(rt, alloc, sheet.view.copy().ok()?)?;
+    Some((line, proposal.copy().ok()?.lots()))
+}
+
+/// Whether these are the line and the lots.
+fn is_answer(answer: Option<(Vec<u8>, u64)>, line: &str, lots: u64) -> bool {
+    answer.is_some_and(|answer| answer.0.as_slice() == line.as_bytes() && answer.1 == lots)
+}
+
+#[test]
+fn sheet_of_4096_offers_is_read_checked_and_swept(rt: HostRuntime) -> Result<(), Fail> {
+    let view = apart(rt.alloc(), MOST).ok_or("a view")?;
+    let rest = taken(rt.alloc(), MOST).ok_or("takes")?;
+    let answer = answered(&rt, rt.alloc(), &view, &rest);
+    assert!(rt; is_answer(answer, "OK 4096\n", 4_096));
+    Ok(())
+}
+
+/// The number of the bad line of the sheet of so many offers.
+fn bad_line(alloc: Global, offers: u64) -> Option<u64> {
+    let text = format!(in alloc; "{}END\n", apart(alloc, offers)?).ok()?;
+    match Sheet::read(alloc, text.as_bytes()) {
+        Ok(_) | Err(SheetError::Memory) => None,
+        Err(SheetError::BadLine(number)) => Some(number),
+    }
+}
+
+#[test]
+fn sheet_of_4097_offers_is_bad_at_its_end(rt: HostRuntime) -> Result<(), Fail> {
+    // SHEET, 4,097 offers with four rooms each, END.
+    assert_eq!(rt; bad_line(rt.alloc(), MOST), None);
+    assert_eq!(rt; bad_line(rt.alloc(), MOST + 1), Some(20_487));
+    Ok(())
+}
+
+/// The view of so many offers of 1,000,000 lots under one agreement, with as much room as there may be.
+fn together(alloc: Global, most: u64) -> Option<View> {
+    let offers = numbered(alloc, "OFFER # 1000000 P1 E1 A1 C1\n", most)?;
+    let rooms =
+        "ROOM EXEC E1 1000000000\nROOM AGR P1 1000000000\nROOM ACCT A1 1000000000\nROOM CARRY C1 1000000000\n";
+    let text = format!(in alloc; "SHEET G1 0\n{offers}{rooms}").ok()?;
+    view(alloc, &text)
+}
+
+/// Whether the first thousand offers are taken in full, and the others not at all.
+fn fills_a_thousand(proposal: &Proposal) -> bool {
+    proposal.takes().as_slice().iter().all(|take| {
+        let is_filled = take.offer.get() <= 1_000;
+        take.lots == if is_filled { 1_000_000 } else { 0 }
+    })
+}
+
+#[test]
+fn view_of_4096_offers_under_one_agreement_is_swept(rt: HostRuntime) -> Result<(), Fail> {
+    let view = together(rt.alloc(), MOST).ok_or("a view")?;
+    let full = proposal(&rt, rt.alloc(), view);
+    assert!(rt; full.is_some_and(|full| full.lots() == 1_000_000_000 && fills_a_thousand(&full)));
+    Ok(())
+}
+
+#[test]
+fn sheet_is_read_checked_and_swept_5000_times(rt: HostRuntime) -> Result<(), Fail> {
+    let rest = "TAKE 2 10\nTAKE 3 10\nCUT EXEC E1\nCUT ACCT A1\n";
+    for turn in 0..5_000 {
+        let answer = answered(&rt, rt.alloc(), CROSSED, rest);
+        assert!(rt; is_answer(answer, "OK 20\n", 20), "in turn {turn}");
+    }
+    Ok(())
+}
