@@ -10,11 +10,10 @@ use gu_msgs::{
 };
 use gu_terms::{AccountId, Day, FirmId, Id, Lots, Moment, OfferNo, Price, Refusal, Side, Symbol};
 use std::alloc::{AllocError, Global};
-use std::test::Fail;
 
 /// The values that the messages here say.
 #[derive(Clone, Copy)]
-pub struct Values {
+struct Values {
     firm: FirmId,
     nine: Moment,
     id: Id,
@@ -28,7 +27,7 @@ pub struct Values {
 }
 
 /// Firm E1, nine o'clock of 2026-01-05, id R1, match M1, account A1, ten lots of XF6 at 101.5, and offer 1.
-pub fn sample() -> Option<Values> {
+fn sample() -> Option<Values> {
     Some(Values {
         firm: FirmId::new(b"E1")?,
         nine: Moment::new(1_767_603_600_000)?,
@@ -306,7 +305,7 @@ fn wrong_answer(alloc: Global, w: &Values) -> Result<Option<&'static str>, Alloc
 }
 
 /// The first notice that isn't written as its row says.
-pub fn wrong_notice(alloc: Global, w: &Values) -> Result<Option<&'static str>, AllocError> {
+fn wrong_notice(alloc: Global, w: &Values) -> Result<Option<&'static str>, AllocError> {
     let rows = [
         (
             side_notice(w, Side::Buy, w.price),
@@ -341,16 +340,6 @@ pub fn wrong_notice(alloc: Global, w: &Values) -> Result<Option<&'static str>, A
     wrong_row(alloc, &rows)
 }
 
-#[test]
-fn each_message_is_written_as_the_standard_has_it(rt: HostRuntime) -> Result<(), Fail> {
-    let w = sample().ok_or("no sample")?;
-    assert_eq!(rt; wrong_session(rt.alloc(), &w)?, None);
-    assert_eq!(rt; wrong_rejection(rt.alloc(), &w)?, None);
-    assert_eq!(rt; wrong_answer(rt.alloc(), &w)?, None);
-    assert_eq!(rt; wrong_notice(rt.alloc(), &w)?, None);
-    Ok(())
-}
-
 /// A price in millionths, and its text.
 const PRICES: [(i64, &str); 6] = [
     (0, "|31=0|"),
@@ -372,37 +361,57 @@ fn wrong_price(alloc: Global, w: &Values) -> Result<Option<&'static str>, AllocE
     Ok(None)
 }
 
-#[test]
-fn prices_have_no_zeros_at_their_end(rt: HostRuntime) -> Result<(), Fail> {
-    let w = sample().ok_or("no sample")?;
-    assert_eq!(rt; wrong_price(rt.alloc(), &w)?, None);
-    Ok(())
+/// The first row of any table that is wrong.
+pub fn wrong_table(alloc: Global) -> Result<Option<&'static str>, AllocError> {
+    let Some(w) = sample() else {
+        return Ok(Some("no sample"));
+    };
+    if let Some(text) = wrong_session(alloc, &w)? {
+        return Ok(Some(text));
+    }
+    if let Some(text) = wrong_rejection(alloc, &w)? {
+        return Ok(Some(text));
+    }
+    if let Some(text) = wrong_answer(alloc, &w)? {
+        return Ok(Some(text));
+    }
+    if let Some(text) = wrong_notice(alloc, &w)? {
+        return Ok(Some(text));
+    }
+    wrong_price(alloc, &w)
+}
+
+/// Whether a TestRequest that is sent again says when it is sent and when it was sent first.
+fn is_marked(alloc: Global) -> Option<bool> {
+    let mut message = at_nine(&sample()?, Body::TestRequest);
+    message.sending_time = Moment::new(253_402_300_799_999)?;
+    message.orig_sending_time = Moment::new(951_868_799_001);
+    let text = written(alloc, &message).ok()?;
+    Some(
+        text.as_str()
+            == "35=1|49=GIVEUP|56=E1|34=3|52=99991231-23:59:59.999|43=Y|122=20000229-23:59:59.001|112=TEST|",
+    )
 }
 
 #[test]
-fn what_is_sent_again_says_when_it_was_sent_first(rt: HostRuntime) -> Result<(), Fail> {
-    let w = sample().ok_or("no sample")?;
-    let mut message = at_nine(&w, Body::TestRequest);
-    message.sending_time = Moment::new(253_402_300_799_999).ok_or("no moment")?;
-    message.orig_sending_time = Moment::new(951_868_799_001);
-    assert_eq!(rt;
-        written(rt.alloc(), &message)?.as_str(),
-        "35=1|49=GIVEUP|56=E1|34=3|52=99991231-23:59:59.999|43=Y|122=20000229-23:59:59.001|112=TEST|"
-    );
-    Ok(())
+fn each_message_is_written_as_the_standard_has_it(rt: HostRuntime) {
+    assert_eq!(rt; wrong_table(rt.alloc()), Ok(None));
+    assert_eq!(rt; is_marked(rt.alloc()), Some(true));
 }
 
 /// How many bytes the text of a Heartbeat has that answers an id of so many bytes.
 fn heartbeat_length(alloc: Global, w: &Values, length: usize) -> Result<usize, AllocError> {
-    let mut id = Vec::new(alloc);
-    id.resize(length, b'x')?;
-    let message = at_nine(w, Body::Heartbeat(Some(id)));
+    let id = "x".repeat(alloc, length)?;
+    let message = at_nine(
+        w,
+        Body::Heartbeat(Some(Vec::from_slice(alloc, id.as_bytes())?)),
+    );
     Ok(written(alloc, &message)?.len())
 }
 
-/// How many bytes the text of a notice has that is written so many times.
-fn notice_length(alloc: Global, w: &Values, times: usize) -> Result<usize, AllocError> {
-    let message = side_notice(w, Side::Buy, w.price);
+/// How many bytes the text of a position has that is written so many times.
+fn position_length(alloc: Global, w: &Values, times: usize) -> Result<usize, AllocError> {
+    let message = position(w);
     let mut length = 0;
     for _ in 0..times {
         length = written(alloc, &message)?.len();
@@ -410,11 +419,14 @@ fn notice_length(alloc: Global, w: &Values, times: usize) -> Result<usize, Alloc
     Ok(length)
 }
 
-/// An id of 65,000 bytes, and 5,000 notices.
+/// The length of a Heartbeat for an id of 65,000 bytes, and of the last of 5,000 positions.
+fn lengths(alloc: Global) -> Option<(usize, usize)> {
+    let w = sample()?;
+    let heartbeat = heartbeat_length(alloc, &w, 65_000).ok()?;
+    Some((heartbeat, position_length(alloc, &w, 5_000).ok()?))
+}
+
 #[test]
-fn long_and_many_messages_are_written(rt: HostRuntime) -> Result<(), Fail> {
-    let w = sample().ok_or("no sample")?;
-    assert_eq!(rt; heartbeat_length(rt.alloc(), &w, 65_000)?, 65_056);
-    assert_eq!(rt; notice_length(rt.alloc(), &w, 5_000)?, 52 + 78);
-    Ok(())
+fn long_messages_and_thousands_in_a_row_are_written(rt: HostRuntime) {
+    assert_eq!(rt; lengths(rt.alloc()), Some((65_056, 52 + 73)));
 }
