@@ -44,7 +44,6 @@ fn first_bad(offers: &[Offer]) -> Option<OfferNo>
     None
 }
 
-/// The number of the offer at a place.
 fn number_at(offers: &[Offer], place: usize) -> Option<OfferNo>
     ensures { result ≡ option_map (λ o. o.number) (slice_get offers.now place) }
 {
