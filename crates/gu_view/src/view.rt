@@ -15,9 +15,6 @@ use indexmap::IndexSet;
 use std::alloc::{AllocError, Global};
 use std::marker::Model;
 
-/// The offers that a view has at most.
-pub const MOST_OFFERS: usize = 4_096;
-
 /// The rooms that a view has at most: a path has at most five keys.
 pub const MOST_ROOMS: usize = 20_480;
 
