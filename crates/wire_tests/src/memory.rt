@@ -1,5 +1,6 @@
 //! Growths that are refused: run with each allocation failing in turn (`rt try --test --fail-alloc N`). A call that is
 //! refused leaves its value as it was, and passes when it is made again.
+use crate::messages::first_of;
 use crate::{encoding, fields, header, reading, writing};
 use gu_fix::{Feed, Fields};
 use gu_terms::{Command, Cut, Day, Done, Entry, FirmId, History, LimitKey, OfferNo, Reply, Takes};
@@ -54,22 +55,15 @@ fn a_piece_is_fed_again_and_a_field_is_appended_again(rt: HostRuntime) {
 
 /// The first row of any table that is wrong.
 fn wrong_table(alloc: Global) -> Result<Option<&'static str>, AllocError> {
-    if let Some(text) = fields::wrong_row(alloc, &fields::ROWS)? {
-        return Ok(Some(text));
-    }
-    if let Some(text) = encoding::wrong_row(alloc, &encoding::ROWS)? {
-        return Ok(Some(text));
-    }
-    if let Some(text) = header::wrong_row(alloc, &header::ROWS)? {
-        return Ok(Some(text));
-    }
-    if let Some(text) = reading::wrong_row(alloc, &reading::SESSION)? {
-        return Ok(Some(text));
-    }
-    if let Some(text) = reading::wrong_row(alloc, &reading::GIVE_UPS)? {
-        return Ok(Some(text));
-    }
-    writing::wrong_table(alloc)
+    let texts = [
+        fields::wrong_row(alloc, &fields::ROWS)?,
+        encoding::wrong_row(alloc, &encoding::ROWS)?,
+        header::wrong_row(alloc, &header::ROWS)?,
+        reading::wrong_row(alloc, &reading::SESSION)?,
+        reading::wrong_row(alloc, &reading::GIVE_UPS)?,
+        writing::wrong_table(alloc)?,
+    ];
+    Ok(first_of(&texts))
 }
 
 #[test]

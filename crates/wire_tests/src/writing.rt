@@ -1,5 +1,5 @@
 //! What messages are written as.
-use crate::messages::text_of;
+use crate::messages::{first_of, text_of};
 use gu_msgs::outbound::{
     AllocationInstructionAck, AllocationReport, Body, BusinessMessageReject, PositionReport,
     Reject, RequestForPositionsAck, TradeCaptureReport, TradeCaptureReportAck,
@@ -140,50 +140,66 @@ fn written(alloc: Global, message: &Outbound) -> Result<String, AllocError> {
     text_of(alloc, &fields)
 }
 
-/// A message that is sent at nine, its type, and what it says behind its header.
-type Row = (Outbound, &'static str, &'static str);
-
-/// The first message that isn't written as its row says.
-fn wrong_row(alloc: Global, rows: &[Row]) -> Result<Option<&'static str>, AllocError> {
-    for row in rows {
-        let expected = format!(in alloc;
-            "35={}|49=GIVEUP|56=E1|34=3|52=20260105-09:00:00.000|{}",
-            row.1, row.2
-        )?;
-        if written(alloc, &row.0)?.as_str() != expected.as_str() {
-            return Ok(Some(row.2));
-        }
-    }
-    Ok(None)
+/// What a message that is sent at nine is to say behind its header, where it isn't of this type or doesn't say it.
+fn wrong(
+    alloc: Global,
+    message: Outbound,
+    msg_type: &str,
+    text: &'static str,
+) -> Result<Option<&'static str>, AllocError> {
+    let head = "49=GIVEUP|56=E1|34=3|52=20260105-09:00:00.000|";
+    let expected = format!(in alloc; "35={msg_type}|{head}{text}")?;
+    let found = written(alloc, &message)?;
+    Ok(if found.as_str() == expected.as_str() {
+        None
+    } else {
+        Some(text)
+    })
 }
 
 /// The first message of the session that isn't written as its row says.
 fn wrong_session(alloc: Global, w: &Values) -> Result<Option<&'static str>, AllocError> {
-    let id = Vec::from_slice(alloc, b"a =b")?;
-    let logon = Body::Logon {
-        heart_bt_int: 30,
-        resets_seq_num: false,
-    };
-    let reset = Body::Logon {
-        heart_bt_int: 0,
-        resets_seq_num: true,
-    };
-    let rows = [
-        (at_nine(w, logon), "A", "98=0|108=30|1137=9|"),
-        (at_nine(w, reset), "A", "98=0|108=0|1137=9|141=Y|"),
-        (at_nine(w, Body::Heartbeat(None)), "0", ""),
-        (at_nine(w, Body::Heartbeat(Some(id))), "0", "112=a =b|"),
-        (at_nine(w, Body::TestRequest), "1", "112=TEST|"),
-        (at_nine(w, Body::ResendRequest(2)), "2", "7=2|16=0|"),
-        (at_nine(w, Body::SequenceReset(106)), "4", "123=Y|36=106|"),
-        (at_nine(w, Body::Logout(None)), "5", ""),
-        (
+    let texts = [
+        wrong(alloc, logon(w, 30, false), "A", "98=0|108=30|1137=9|")?,
+        wrong(alloc, logon(w, 0, true), "A", "98=0|108=0|1137=9|141=Y|")?,
+        wrong(alloc, at_nine(w, Body::Heartbeat(None)), "0", "")?,
+        wrong(alloc, heartbeat(alloc, w, "a =b")?, "0", "112=a =b|")?,
+        wrong(alloc, at_nine(w, Body::TestRequest), "1", "112=TEST|")?,
+        wrong(alloc, at_nine(w, Body::ResendRequest(2)), "2", "7=2|16=0|")?,
+        wrong(
+            alloc,
+            at_nine(w, Body::SequenceReset(106)),
+            "4",
+            "123=Y|36=106|",
+        )?,
+        wrong(alloc, at_nine(w, Body::Logout(None)), "5", "")?,
+        wrong(
+            alloc,
             at_nine(w, Body::Logout(Some(LogoutReason::SeqTooLow))),
             "5",
             "58=SeqTooLow|",
-        ),
+        )?,
     ];
-    wrong_row(alloc, &rows)
+    Ok(first_of(&texts))
+}
+
+/// A Logon.
+fn logon(w: &Values, heart_bt_int: u64, resets_seq_num: bool) -> Outbound {
+    at_nine(
+        w,
+        Body::Logon {
+            heart_bt_int,
+            resets_seq_num,
+        },
+    )
+}
+
+/// A Heartbeat that answers a TestRequest with this id.
+fn heartbeat(alloc: Global, w: &Values, id: &str) -> Result<Outbound, AllocError> {
+    Ok(at_nine(
+        w,
+        Body::Heartbeat(Some(Vec::from_slice(alloc, id.as_bytes())?)),
+    ))
 }
 
 /// A Reject of message 2, of this type.
@@ -226,98 +242,113 @@ fn business_reject(
     Ok(at_nine(w, Body::BusinessMessageReject(body)))
 }
 
-/// The first rejection that isn't written as its row says: the type is named where it has the form of one.
+/// The first rejection that isn't written as it is to be: the type is named where it has the form of one.
 fn wrong_rejection(alloc: Global, w: &Values) -> Result<Option<&'static str>, AllocError> {
-    let missing = reject(
-        alloc,
-        w,
-        880,
-        b"AE",
-        SessionRejectReason::RequiredTagMissing,
-    )?;
-    let no_type = reject(alloc, w, 35, b"A!", SessionRejectReason::InvalidMsgType)?;
-    let no_tag = reject(alloc, w, 0, b"D", SessionRejectReason::InvalidTagNumber)?;
-    let unread = business_reject(
-        alloc,
-        w,
-        None,
-        b"D",
-        BusinessRejectReason::UnsupportedMessageType,
-        None,
-    )?;
+    let missing = SessionRejectReason::RequiredTagMissing;
+    let no_type = SessionRejectReason::InvalidMsgType;
+    let no_tag = SessionRejectReason::InvalidTagNumber;
+    let unread = BusinessRejectReason::UnsupportedMessageType;
+    let other = BusinessRejectReason::Other;
     let why = Some(Rejection::Refused(Refusal::NotYours));
-    let closed = business_reject(
-        alloc,
-        w,
-        Some(w.offer),
-        b"AT",
-        BusinessRejectReason::Other,
-        why,
-    )?;
-    let rows = [
-        (missing, "3", "45=2|371=880|372=AE|373=1|"),
-        (no_type, "3", "45=2|371=35|373=11|"),
-        (no_tag, "3", "45=2|372=D|373=0|"),
-        (unread, "j", "45=4|372=D|380=3|"),
-        (closed, "j", "45=4|379=1|372=AT|380=0|58=NotYours|"),
+    let closed = "45=4|379=1|372=AT|380=0|58=NotYours|";
+    let texts = [
+        wrong(
+            alloc,
+            reject(alloc, w, 880, b"AE", missing)?,
+            "3",
+            "45=2|371=880|372=AE|373=1|",
+        )?,
+        wrong(
+            alloc,
+            reject(alloc, w, 35, b"A!", no_type)?,
+            "3",
+            "45=2|371=35|373=11|",
+        )?,
+        wrong(
+            alloc,
+            reject(alloc, w, 0, b"D", no_tag)?,
+            "3",
+            "45=2|372=D|373=0|",
+        )?,
+        wrong(
+            alloc,
+            business_reject(alloc, w, None, b"D", unread, None)?,
+            "j",
+            "45=4|372=D|380=3|",
+        )?,
+        wrong(
+            alloc,
+            business_reject(alloc, w, Some(w.offer), b"AT", other, why)?,
+            "j",
+            closed,
+        )?,
     ];
-    wrong_row(alloc, &rows)
+    Ok(first_of(&texts))
 }
 
 /// The first answer that isn't written as its row says.
 fn wrong_answer(alloc: Global, w: &Values) -> Result<Option<&'static str>, AllocError> {
     let unknown = Some(Rejection::Refused(Refusal::UnknownAccount));
-    let rows = [
-        (report_ack(w, None), "AR", "571=R1|880=M1|939=0|"),
-        (
+    let texts = [
+        wrong(alloc, report_ack(w, None), "AR", "571=R1|880=M1|939=0|")?,
+        wrong(
+            alloc,
             report_ack(w, unknown),
             "AR",
             "571=R1|880=M1|939=1|751=1|58=UnknownAccount|",
-        ),
-        (
+        )?,
+        wrong(
+            alloc,
             report_ack(w, Some(Rejection::Full)),
             "AR",
             "571=R1|880=M1|939=1|751=99|58=Full|",
-        ),
-        (give_up_ack(w, None), "P", "70=R1|87=0|"),
-        (
+        )?,
+        wrong(alloc, give_up_ack(w, None), "P", "70=R1|87=0|")?,
+        wrong(
+            alloc,
             give_up_ack(w, Some(Rejection::Memory)),
             "P",
             "70=R1|87=1|88=99|58=Memory|",
-        ),
-        (
+        )?,
+        wrong(
+            alloc,
             question_ack(w, PosReqResult::ValidRequest(1)),
             "AO",
             "721=R1-0|710=R1|728=0|729=0|727=1|1=A1|",
-        ),
-        (
+        )?,
+        wrong(
+            alloc,
             question_ack(w, PosReqResult::NoPositionsFound),
             "AO",
             "721=R1-0|710=R1|728=2|729=0|727=0|1=A1|",
-        ),
-        (
+        )?,
+        wrong(
+            alloc,
             question_ack(w, PosReqResult::NotAuthorized),
             "AO",
             "721=R1-0|710=R1|728=3|729=2|727=0|1=A1|",
-        ),
+        )?,
     ];
-    wrong_row(alloc, &rows)
+    Ok(first_of(&texts))
 }
 
 /// The first notice that isn't written as its row says.
 fn wrong_notice(alloc: Global, w: &Values) -> Result<Option<&'static str>, AllocError> {
-    let rows = [
-        (
+    let texts = [
+        wrong(
+            alloc,
             side_notice(w, Side::Buy, w.price),
             "AE",
             "571=7-B|572=R1|573=0|880=M1|55=XF6|32=10|31=101.5|75=20260105|552=1|54=1|1=A1|",
-        ),
-        (
+        )?,
+        wrong(
+            alloc,
             side_notice(w, Side::Sell, w.price),
             "AE",
             "571=7-S|572=R1|573=0|880=M1|55=XF6|32=10|31=101.5|75=20260105|552=1|54=2|1=A1|",
-        ),
-        (
+        )?,
+        wrong(
+            alloc,
             offer_notice(
                 w,
                 AllocReportType::RequestToIntermediary,
@@ -325,19 +356,21 @@ fn wrong_notice(alloc: Global, w: &Values) -> Result<Option<&'static str>, Alloc
             ),
             "AS",
             "755=1|71=0|794=8|87=6|55=XF6|54=1|53=10|6=101.5|75=20260105|78=1|79=A1|80=10|",
-        ),
-        (
+        )?,
+        wrong(
+            alloc,
             offer_notice(w, AllocReportType::Accept, AllocStatus::Accepted),
             "AS",
             "755=1|71=0|794=9|87=0|55=XF6|54=1|53=10|6=101.5|75=20260105|78=1|79=A1|80=10|",
-        ),
-        (
+        )?,
+        wrong(
+            alloc,
             position(w),
             "AP",
             "721=R1-2|710=R1|728=0|715=20260105|1=A1|55=XF6|702=1|703=TQ|704=10|705=0|",
-        ),
+        )?,
     ];
-    wrong_row(alloc, &rows)
+    Ok(first_of(&texts))
 }
 
 /// A price in millionths, and its text.
@@ -366,19 +399,14 @@ pub fn wrong_table(alloc: Global) -> Result<Option<&'static str>, AllocError> {
     let Some(w) = sample() else {
         return Ok(Some("no sample"));
     };
-    if let Some(text) = wrong_session(alloc, &w)? {
-        return Ok(Some(text));
-    }
-    if let Some(text) = wrong_rejection(alloc, &w)? {
-        return Ok(Some(text));
-    }
-    if let Some(text) = wrong_answer(alloc, &w)? {
-        return Ok(Some(text));
-    }
-    if let Some(text) = wrong_notice(alloc, &w)? {
-        return Ok(Some(text));
-    }
-    wrong_price(alloc, &w)
+    let texts = [
+        wrong_session(alloc, &w)?,
+        wrong_rejection(alloc, &w)?,
+        wrong_answer(alloc, &w)?,
+        wrong_notice(alloc, &w)?,
+        wrong_price(alloc, &w)?,
+    ];
+    Ok(first_of(&texts))
 }
 
 /// Whether a TestRequest that is sent again says when it is sent and when it was sent first.
@@ -401,11 +429,7 @@ fn each_message_is_written_as_the_standard_has_it(rt: HostRuntime) {
 
 /// How many bytes the text of a Heartbeat has that answers an id of so many bytes.
 fn heartbeat_length(alloc: Global, w: &Values, length: usize) -> Result<usize, AllocError> {
-    let id = "x".repeat(alloc, length)?;
-    let message = at_nine(
-        w,
-        Body::Heartbeat(Some(Vec::from_slice(alloc, id.as_bytes())?)),
-    );
+    let message = heartbeat(alloc, w, &"x".repeat(alloc, length)?)?;
     Ok(written(alloc, &message)?.len())
 }
 
