@@ -12,6 +12,8 @@ mod error;
 mod error_tests;
 mod field_values;
 mod input;
+#[cfg(test)]
+mod largest_tests;
 mod position_lines;
 #[cfg(test)]
 mod reading_tests;
