@@ -51,8 +51,9 @@ fn keys(alloc: Global, n: u32) -> Option<(LimitKey, LimitKey)> {
 /// The firm with a number, as it executes and as it carries.
 fn firm_keys(alloc: Global, n: u32) -> Option<(LimitKey, LimitKey)> {
     let name = numbered(alloc, n)?;
-    let firm = FirmId::new(name.as_bytes())?;
-    Some((LimitKey::Exec(firm), LimitKey::Carry(firm)))
+    let executing = FirmId::new(name.as_bytes())?;
+    let carrying = FirmId::new(name.as_bytes())?;
+    Some((LimitKey::Exec(executing), LimitKey::Carry(carrying)))
 }
 
 /// Sets a limit of seven lots.

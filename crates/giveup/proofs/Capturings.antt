@@ -79,31 +79,31 @@ module _ (reference : Tables) (day : Day) where
   -- the answers were written, and a front of the lines
   pub captured_but_lines : (last : Capture) (i j o p q : Option (List ℕ)) → Served AnswersFrame (capture_at_start reference day) last i j o p → WrotePart (positions_text last.book) p q → CapturedFront reference day i j o q
   captured_but_lines last i j o p q served part = record {
-    read = served.read;
-    frames = served.frames;
-    first = served.frames;
+    read = served.all.read;
+    frames = served.all.frames;
+    first = served.all.frames;
     others = [];
-    text = served.text;
+    text = served.all.text;
     last = last;
     closing = positions_text last.book;
-    consumed = served.consumed;
-    are_frames = served.are_frames;
-    split = sym (append-nil served.frames);
-    answered = served.answered;
+    consumed = served.all.consumed;
+    are_frames = served.all.are_frames;
+    split = sym (append-nil served.all.frames);
+    answered = served.all.answered;
     closes = inr (refl, served.at_end, refl);
-    wrote = wrote_then served.text (positions_text last.book) o p q served.appended part;
+    wrote = wrote_then served.all.text (positions_text last.book) o p q served.all.appended part;
   }
 
   -- and all of them
   pub captured_all : (last : Capture) (i j o p q : Option (List ℕ)) → Served AnswersFrame (capture_at_start reference day) last i j o p → Appends p q (positions_text last.book) → Captured reference day i j o q
   captured_all last i j o p q served sent = record {
-    read = served.read;
-    frames = served.frames;
-    text = served.text;
+    read = served.all.read;
+    frames = served.all.frames;
+    text = served.all.text;
     last = last;
-    consumed = served.consumed;
+    consumed = served.all.consumed;
     at_end = served.at_end;
-    are_frames = served.are_frames;
-    answered = served.answered;
-    appended = Appends-trans o p q served.text (positions_text last.book) served.appended sent;
+    are_frames = served.all.are_frames;
+    answered = served.all.answered;
+    appended = Appends-trans o p q served.all.text (positions_text last.book) served.all.appended sent;
   }

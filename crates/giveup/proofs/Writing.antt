@@ -1,6 +1,6 @@
 -- A text that is written in parts.
 use Rattle.std.proofs.Common.{◌≡◌, ℕ, ◌+◌, List, [], ◌++◌, take, drop, Option, None, Some, Result, Ok, Err, refl, sym, ap, subst, ◌∙◌, append_assoc}
-use Rattle.std.specs.Prelude.{OnOk, OnErr}
+use Rattle.std.specs.Prelude.{IsErrAnd, OnOk, OnErr}
 use Rattle.std.specs.Io.KnownBytes.{Appends, Keeps}
 use Rattle.std.proofs.KnownBytes.{Appends-trans, Appends-nil, Appends-kept}
 use Rattle.std.proofs.lemmas.List.{take-append-drop, append-nil}
@@ -21,6 +21,11 @@ on_ok_then (Err e) f h = tt
 pub either_way : {T E P Q R : Type 0} (r : Result T E) → (P → R) → (Q → R) → OnOk r P → OnErr r Q → R
 either_way (Ok x) f k h j = f h
 either_way (Err e) f k h j = k j
+
+-- an error that is passed on is the one that is answered
+pub error_passed : {T E : Type 0} (result : Result T E) (passed error : E) → IsErrAnd result (λ e. e ≡ passed) → result ≡ Err error → passed ≡ error
+error_passed (Ok x) passed error h is = cc
+error_passed (Err e) passed error h is = let same : e ≡ error = cc in sym h ∙ same
 
 -- nothing of a text was written yet
 pub wrote_none : (text : List ℕ) (a : Option (List ℕ)) → WrotePart text a a

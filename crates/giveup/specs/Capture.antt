@@ -19,7 +19,7 @@ use Rattle.gu_fix.specs.Stream.{AreFrames}
 use Rattle.gu_fix.specs.TagValue.{TagValue}
 use Rattle.gu_ref.specs.Tables.{Tables}
 use Rattle.giveup.specs.PositionText.{positions_text}
-use Rattle.giveup.specs.Serving.{AnswersEach, WrotePart}
+use Rattle.giveup.specs.Serving.{Answered, AnswersEach, WrotePart}
 use Rattle.giveup.specs.TradeCaptureReport.{IsReport}
 use Rattle.giveup.specs.TradeCaptureReportAck.{ack_fields}
 use Rattle.giveup.specs.declared.trade_capture_report_ack.Rejection.TheVariants.{Refused, NotEntered}
@@ -57,7 +57,9 @@ status_of (Denied refusal) = status.Rejected (Refused refusal)
 -- what becomes of a report: by the book's answer, or not entered where the book is full
 abbrev pub status_in : Kept → Command → TrdRptStatus
 status_in book command =
-    if nat_lt (length book.history) 1000000 then status_of (answer book.reference book.history command) else status.Rejected (NotEntered Full)
+    if nat_lt (length book.history) 1000000
+    then status_of (answer book.reference book.history command)
+    else status.Rejected (NotEntered Full)
 
 -- the number behind a message's: one more, up to the last that a message can have
 abbrev pub number_behind : ℕ → ℕ
@@ -65,7 +67,14 @@ number_behind number = min (number + 1) 1000000000
 
 -- the message that says to a firm what became of its report
 abbrev pub ack_text : Capture → FirmId → Id → Id → TrdRptStatus → List ℕ
-ack_text capture firm id match_id status = message_of (ack_fields (record { firm = firm; number = capture.next; day = capture.day; id = id; match_id = match_id; status = status }))
+ack_text capture firm id match_id status = message_of (ack_fields (record {
+  firm = firm;
+  number = capture.next;
+  day = capture.day;
+  id = id;
+  match_id = match_id;
+  status = status;
+}))
 
 -- the acknowledgement of a report; no other command has one
 abbrev pub acknowledgement : Capture → Command → List ℕ
@@ -76,7 +85,11 @@ acknowledgement capture _ = []
 -- the engine behind a report; it takes no other command
 abbrev pub capture_behind : Capture → Command → Capture
 capture_behind capture (ReportSide firm id match_id symbol lots price day side account) =
-    record { book = book_behind capture.book (ReportSide firm id match_id symbol lots price day side account); day = capture.day; next = number_behind capture.next }
+    record {
+      book = book_behind capture.book (ReportSide firm id match_id symbol lots price day side account);
+      day = capture.day;
+      next = number_behind capture.next;
+    }
 capture_behind capture _ = capture
 
 -- a sound report is answered by its acknowledgement
@@ -112,6 +125,11 @@ pub record Captured (reference : Tables) (day : Day) (input_old input_new output
   pub are_frames : AreFrames read frames
   pub answered : AnswersEach AnswersFrame (capture_at_start reference day) frames text last
   pub appended : Appends output_old output_new (text ++ positions_text last.book)
+
+-- the frames of what was read are answered, and exactly these answers were written
+pub record CapturedSoFar (reference : Tables) (day : Day) (input_old input_new output_old output_new : Option (List ℕ)) : Type 0 where
+  pub last : Capture
+  pub all : Answered AnswersFrame (capture_at_start reference day) last input_old input_new output_old output_new
 
 -- the lines of the positions, where these are all the frames of what the reader had, and none of them before its end
 abbrev pub MayClose : List (List ℕ) → Option (List ℕ) → List ℕ → List ℕ → Type 0

@@ -1,5 +1,5 @@
 -- The check of a sweep sheet: the verdict on it as a line, or its first bad line.
-use Rattle.std.specs.Prelude.{◌≡◌, ℕ, ◌⊎◌, List, [], OnOk, Option, Result}
+use Rattle.std.specs.Prelude.{◌≡◌, ℕ, ◌⊎◌, List, [], OnOk, Option, Result, Ok, Err}
 use Rattle.std.specs.Io.KnownBytes.{Consumes, Appends, Keeps, IsAtEnd}
 use Rattle.gu_text.specs.Sheets.{IsSheet, Refuses}
 use Rattle.gu_text.specs.Verdicts.{verdict_text}
@@ -14,6 +14,8 @@ use Rattle.giveup.specs.Input.{ReadsAll}
 use Rattle.giveup.specs.Serving.{WrotePart}
 use Rattle.giveup.specs.declared.error.EngineError.{EngineError}
 use Rattle.giveup.specs.declared.error.EngineError.TheVariants.{Memory, BadLine}
+use Rattle.giveup.specs.declared.status.Status.{Status}
+use Rattle.giveup.specs.declared.status.Status.TheVariants.{Done, Fault}
 
 -- why the engine stops where a text is no sheet
 abbrev pub error_of : SheetError → EngineError
@@ -27,12 +29,19 @@ pub record IsVerdictOn (text : List ℕ) (answer : Result ℕ CutFault) : Type 0
   pub is_verdict : answer ≡ verdict sheet.view sheet.takes sheet.cut
   pub greatest : OnOk answer (IsGreatest sheet.view (lots_of sheet.takes))
 
--- all that the reader had is a sheet, this is the verdict on it, and the verdict's line was written
-pub record Checked (answer : Result ℕ CutFault) (input_old input_new output_old output_new : Option (List ℕ)) : Type 0 where
+-- the status after a verdict: done where the takes are right, and else a fault
+abbrev pub status_after : Result ℕ CutFault → Status
+status_after (Ok lots) = Done
+status_after (Err fault) = Fault
+
+-- all that the reader had is a sheet, the line of the verdict on it was written, and the status tells of the verdict
+pub record Checked (status : Status) (input_old input_new output_old output_new : Option (List ℕ)) : Type 0 where
   pub read : List ℕ
+  pub answer : Result ℕ CutFault
   pub all : ReadsAll input_old input_new read
   pub on_sheet : IsVerdictOn read answer
   pub appended : Appends output_old output_new (verdict_text answer)
+  pub status_is : status ≡ status_after answer
 
 -- all that the reader had is no sheet, because of this line, and nothing was written
 pub record HasBadLine (number : ℕ) (input_old input_new output_old output_new : Option (List ℕ)) : Type 0 where
@@ -43,7 +52,8 @@ pub record HasBadLine (number : ℕ) (input_old input_new output_old output_new 
 
 -- a line says nothing, or it is the line of the verdict on what was read, where this is all that the reader had
 abbrev pub MaySay : List ℕ → Option (List ℕ) → List ℕ → Type 0
-MaySay read input line = (line ≡ []) ⊎ (IsAtEnd input × (answer : Result ℕ CutFault) × IsVerdictOn read answer × (line ≡ verdict_text answer))
+MaySay read input line =
+    (line ≡ []) ⊎ (IsAtEnd input × (answer : Result ℕ CutFault) × IsVerdictOn read answer × (line ≡ verdict_text answer))
 
 -- what was written is a front of such a line
 pub record CheckedFront (input_old input_new output_old output_new : Option (List ℕ)) : Type 0 where

@@ -4,7 +4,9 @@ pub mod FieldValues
 pub mod Input
 pub mod PositionText
 pub mod ProgramWords
+pub mod RunErrors
 pub mod Serving
 pub mod Standings
+pub mod Statuses
 pub mod TradeCaptureReport
 pub mod TradeCaptureReportAck

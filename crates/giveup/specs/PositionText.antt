@@ -10,7 +10,8 @@ use Rattle.gu_text.specs.Texts.{word, last_word}
 
 -- `POSITION`, the account, the symbol, the lots long and the lots short, parted by blanks and ended by LF
 abbrev pub position_line : AccountId → Symbol → ℕ → ℕ → List ℕ
-position_line account symbol long short = word (codes "POSITION") ++ word account.name ++ word symbol.name ++ word (decimal long) ++ last_word (decimal short)
+position_line account symbol long short =
+    word (codes "POSITION") ++ word account.name ++ word symbol.name ++ word (decimal long) ++ last_word (decimal short)
 
 -- a position's line, or nothing where the account holds nothing of the instrument
 abbrev pub position_text : Kept → AccountId → Symbol → List ℕ

@@ -5,6 +5,8 @@ use Rattle.clap.specs.Words.{App, new_app, with_subcommand, subcommand_of, kind_
 use Rattle.clap.specs.declared.error.Error.{Error}
 use Rattle.clap.specs.declared.error.kind.ErrorKind.{ErrorKind}
 use Rattle.clap.specs.declared.error.kind.ErrorKind.TheVariants.{OutOfMemory, DisplayHelp, DisplayVersion}
+use Rattle.giveup.specs.declared.status.Status.{Status}
+use Rattle.giveup.specs.declared.status.Status.TheVariants.{Done, Refused}
 use Rattle.giveup.specs.declared.words.Task.{Task}
 use Rattle.giveup.specs.declared.words.Task.TheVariants.{Capture, Check}
 
@@ -25,8 +27,8 @@ task_of_words words = task_named (option_map (λ sub. sub.0) (subcommand_of prog
 abbrev pub Reads : Result Task Error → Task → Type 0
 Reads result task = MatchResult result (λ read. read ≡ task) (λ error. kind_of error ≡ OutOfMemory)
 
--- the status where the words ask for no task: 0 where they ask for help, and 2 where they are refused
-abbrev pub status_of : ErrorKind → ℕ
-status_of DisplayHelp = 0
-status_of DisplayVersion = 0
-status_of _ = 2
+-- the status where the words ask for no task: done where they ask for help, and else refused
+abbrev pub status_of : ErrorKind → Status
+status_of DisplayHelp = Done
+status_of DisplayVersion = Done
+status_of _ = Refused

@@ -4,6 +4,7 @@ use crate::capturing::capture;
 use crate::error::EngineError;
 use crate::sample::{sample_day, sample_reference};
 use crate::streams::{Sink, Source, wire};
+use gu_ref::CountedReads;
 use std::alloc::Global;
 use std::test::Fail;
 
@@ -25,7 +26,7 @@ fn ran(
     writes: usize,
 ) -> Result<(Result<(), EngineError>, Vec<u8>), Fail> {
     let input = wire(alloc, INPUT)?;
-    let mut source = Source {
+    let source = Source {
         bytes: &input,
         first,
         piece,
@@ -40,7 +41,7 @@ fn ran(
         alloc,
         sample_reference(alloc)?,
         sample_day(),
-        &mut source,
+        &mut CountedReads::new(source),
         &mut sink,
     );
     Ok((end, sink.held))

@@ -1,8 +1,10 @@
 //! Trade capture without a session.
 
-ghost use Rattle.std.specs.Prelude.{◌≡◌, ◌++◌, List, ℕ, ◌≤◌, OnOk, IfOk, length};
+ghost use Rattle.std.specs.Prelude.{◌≡◌, ◌++◌, IfErr, IfOk, IsErrOf, OnOk};
 ghost use Rattle.gu_terms.specs.declared.day.Day.{Day as DayOf};
-ghost use Rattle.giveup.specs.Capture.{Captured, CapturedFront, ack_text, acknowledgement, number_behind, capture_behind, capture_at_start, status_in, status_of, book_behind};
+ghost use Rattle.gu_ref.specs.Reads.{bytes_left, HasStopped};
+ghost use Rattle.giveup.specs.Serving.{IsStreamFault};
+ghost use Rattle.giveup.specs.Capture.{Captured, CapturedFront, CapturedSoFar, ack_text, acknowledgement, number_behind, capture_behind, capture_at_start, status_in, status_of, book_behind};
 
 use crate::error::EngineError;
 use crate::position_lines::positions_text;
@@ -12,7 +14,7 @@ use crate::trade_capture_report::read_report;
 use crate::trade_capture_report_ack::{Rejection, TradeCaptureReportAck, TrdRptStatus, append_ack};
 use gu_book::{Book, EnterError};
 use gu_fix::{Frame, fields};
-use gu_ref::Reference;
+use gu_ref::{CountedReads, Reference};
 use gu_terms::{Command, Day, Entry, FirmId, Id, Reply};
 use std::alloc::{AllocError, Global};
 use std::io::{Read, Write};
@@ -60,8 +62,9 @@ impl Capturing {
     {
         match self.book.enter(command) {
             Ok(receipt) => {
-                let Entry::Asked { reply, .. } = receipt.entry;
-                Ok(status_of(reply))
+                match receipt.entry {
+                    Entry::Asked { reply, .. } => Ok(status_of(reply)),
+                }
             }
             Err(EnterError::Full) => Ok(TrdRptStatus::Rejected(Rejection::NotEntered(
                 EnterError::Full,
@@ -153,16 +156,24 @@ pub fn capture<R: Read, W: Write>(
     alloc: Global,
     reference: Reference,
     day: Day,
-    reader: &mut R,
+    reads: &mut CountedReads<R>,
     writer: &mut W,
 ) -> Result<(), EngineError>
-    ensures done { OnOk result (Captured reference day (R.remaining reader.old) (R.remaining reader.new) (W.contents writer.old) (W.contents writer.new)) }
+    ensures done { OnOk result (Captured reference day
+        (bytes_left R.remaining reads.old) (bytes_left R.remaining reads.new) (W.contents writer.old) (W.contents writer.new)) }
 
-    // After an error too.
-    ensures front { CapturedFront reference day (R.remaining reader.old) (R.remaining reader.new) (W.contents writer.old) (W.contents writer.new) }
+    // Where the reader failed, or no read was left, all that was read is answered, and exactly that was written.
+    ensures stopped { IsErrOf result EngineError.Read → HasStopped reads.new }
+    ensures answered { IsErrOf result EngineError.Read → CapturedSoFar reference day
+        (bytes_left R.remaining reads.old) (bytes_left R.remaining reads.new) (W.contents writer.old) (W.contents writer.new) }
+    ensures faults { IfErr result IsStreamFault }
+
+    // After any error.
+    ensures front { CapturedFront reference day
+        (bytes_left R.remaining reads.old) (bytes_left R.remaining reads.new) (W.contents writer.old) (W.contents writer.new) }
 {
     let mut capturing = opened(alloc, reference, day)?;
-    serve(alloc, reader, writer, &mut capturing)?;
+    serve(alloc, reads, writer, &mut capturing)?;
     let lines = positions_text(alloc, &capturing.book)?;
     send(writer, &lines)
 }

@@ -2,8 +2,9 @@
 
 use crate::checking::check;
 use crate::error::EngineError;
+use crate::status::Status;
 use crate::streams::{Sink, Source, wire};
-use gu_view::CutFault;
+use gu_ref::CountedReads;
 use std::alloc::Global;
 use std::test::Fail;
 
@@ -12,11 +13,11 @@ const THREE_OFFERS: &str =
     "SHEET G1 11/OFFER 1 10 P1 E1 A1 C1/OFFER 2 12 P2 E1 A2 C1/OFFER 3 15 P3 E2 A1 C1/ROOM EXEC E1 10/ROOM AGR P1 100/ROOM ACCT A1 10/ROOM CARRY C1 100/ROOM AGR P2 100/ROOM ACCT A2 20/ROOM EXEC E2 20/ROOM AGR P3 100/";
 
 /// How a check ends.
-type End = Result<Result<u64, CutFault>, EngineError>;
+type End = Result<Status, EngineError>;
 
 /// How the check of a text ends that comes in pieces and fails after so many reads or writes, and what was written.
 fn ran(alloc: Global, text: &[u8], piece: usize, reads: usize, writes: usize) -> (End, Vec<u8>) {
-    let mut source = Source {
+    let source = Source {
         bytes: text,
         first: piece,
         piece,
@@ -27,17 +28,19 @@ fn ran(alloc: Global, text: &[u8], piece: usize, reads: usize, writes: usize) ->
         most: 4,
         writes,
     };
-    let end = check(alloc, &mut source, &mut sink);
+    let end = check(alloc, &mut CountedReads::new(source), &mut sink);
     (end, sink.held)
 }
 
-/// Whether the check of a text ends in a verdict, and writes this line.
+/// Whether the check of a text writes this line, and its status tells of it.
 fn is_answered(alloc: Global, text: &[u8], line: &str) -> Result<bool, Fail> {
     let (end, written) = ran(alloc, text, 4_096, 1_000, 1_000);
-    let Ok(verdict) = end else {
-        return Ok(false);
+    let status = if line.starts_with("OK") {
+        Status::Done
+    } else {
+        Status::Fault
     };
-    Ok(verdict.is_ok() == line.starts_with("OK") && written == wire(alloc, line)?)
+    Ok(end == Ok(status) && written == wire(alloc, line)?)
 }
 
 /// The view of three offers with takes and a cut.
@@ -148,7 +151,7 @@ fn a_sheet_may_come_in_pieces(rt: HostRuntime) -> Result<(), Fail> {
     for piece in [1, 2, 7, 15] {
         let (end, written) = ran(rt.alloc(), &text, piece, 1_000, 1_000);
         assert!(rt;
-            end == Ok(Ok(0)) && written.as_slice() == "OK 0\n".as_bytes(),
+            end == Ok(Status::Done) && written.as_slice() == "OK 0\n".as_bytes(),
             "{piece}"
         );
     }
@@ -167,7 +170,7 @@ fn a_failing_read_leaves_nothing_written(rt: HostRuntime) -> Result<(), Fail> {
         );
     }
     let (end, _) = ran(rt.alloc(), &text, 8, 3, 1_000);
-    assert!(rt; end == Ok(Ok(0)));
+    assert!(rt; end == Ok(Status::Done));
     Ok(())
 }
 
@@ -176,7 +179,7 @@ fn what_was_taken_of_a_verdict_stays(rt: HostRuntime) -> Result<(), Fail> {
     let text = wire(rt.alloc(), "SHEET G1 0/END/")?;
     let fault = Err(EngineError::Write);
     // At most four bytes a write.
-    for (writes, end, taken) in [(0, fault, 0), (1, fault, 4), (2, Ok(Ok(0)), 5)] {
+    for (writes, end, taken) in [(0, fault, 0), (1, fault, 4), (2, Ok(Status::Done), 5)] {
         let (ended, written) = ran(rt.alloc(), &text, 4_096, 1_000, writes);
         let line = "OK 0\n".as_bytes();
         assert!(rt;

@@ -1,57 +1,64 @@
 //! The check of a sweep sheet.
 
-ghost use Rattle.std.specs.Prelude.{◌≡◌, ℕ, IfOk, IsErr, IsErrOf, IsOk};
-ghost use Rattle.std.specs.Process.{exit_status};
+ghost use Rattle.std.specs.Prelude.{◌≡◌, ℕ, IfOk, IsErrOf};
+ghost use Rattle.std.specs.Io.KnownBytes.{Keeps};
 ghost use Rattle.gu_text.specs.Sheets.{Refuses};
 ghost use Rattle.gu_text.specs.declared.error.SheetError.TheVariants as sheet_error;
-ghost use Rattle.giveup.specs.Checking.{Checked, CheckedFront, HasBadLine, IsVerdictOn};
+ghost use Rattle.gu_ref.specs.Reads.{bytes_left, HasStopped};
+ghost use Rattle.giveup.specs.Checking.{Checked, CheckedFront, HasBadLine, IsVerdictOn, status_after};
 
 use crate::error::EngineError;
 use crate::input::read_all;
 use crate::sending::send;
+use crate::status::Status;
+use gu_ref::CountedReads;
 use gu_text::{Sheet, verdict_text};
 use gu_view::CutFault;
 use std::alloc::Global;
 use std::io::{Read, Write};
-use std::process::ExitCode;
 
 /// The verdict on the sheet that a text is.
 fn verdict_on(alloc: Global, text: &[u8]) -> Result<Result<u64, CutFault>, EngineError>
     ensures sheet { IfOk result (IsVerdictOn text.now) }
     ensures bad_line { (n : ℕ) → IsErrOf result (EngineError.BadLine n) → Refuses text.now (sheet_error.BadLine n) }
+    ensures not_read { ¬ IsErrOf result EngineError.Read }
 {
     let sheet = Sheet::read(alloc, text)?;
     Ok(gu_view::check(&sheet.view, &sheet.takes, &sheet.cut))
 }
 
-/// Checks the sheet that the reader has, writes the verdict on it, and returns that.
+/// The status after a verdict.
+fn status_after(verdict: &Result<u64, CutFault>) -> Status
+    ensures { result ≡ status_after verdict.now }
+{
+    match verdict {
+        Ok(_) => Status::Done,
+        Err(_) => Status::Fault,
+    }
+}
+
+/// Checks the sheet that the reader has, writes the verdict on it, and gives the status that tells of it.
 pub fn check<R: Read, W: Write>(
     alloc: Global,
-    reader: &mut R,
+    reads: &mut CountedReads<R>,
     writer: &mut W,
-) -> Result<Result<u64, CutFault>, EngineError>
-    ensures done { IfOk result (λ verdict. Checked verdict (R.remaining reader.old) (R.remaining reader.new) (W.contents writer.old) (W.contents writer.new)) }
+) -> Result<Status, EngineError>
+    ensures done { IfOk result (λ status. Checked status
+        (bytes_left R.remaining reads.old) (bytes_left R.remaining reads.new) (W.contents writer.old) (W.contents writer.new)) }
 
-    // What is no sheet is answered by its first bad line, and nothing is written.
-    ensures bad_line { (n : ℕ) → IsErrOf result (EngineError.BadLine n) → HasBadLine n (R.remaining reader.old) (R.remaining reader.new) (W.contents writer.old) (W.contents writer.new) }
+    // What is no sheet is answered by its first bad line, and nothing is written; nor is anything where reading stopped.
+    ensures bad_line { (n : ℕ) → IsErrOf result (EngineError.BadLine n) → HasBadLine n
+        (bytes_left R.remaining reads.old) (bytes_left R.remaining reads.new) (W.contents writer.old) (W.contents writer.new) }
+    ensures stopped { IsErrOf result EngineError.Read → HasStopped reads.new }
+    ensures nothing { IsErrOf result EngineError.Read → Keeps (W.contents writer.old) (W.contents writer.new) }
 
-    // After an error too.
-    ensures front { CheckedFront (R.remaining reader.old) (R.remaining reader.new) (W.contents writer.old) (W.contents writer.new) }
+    // After any error.
+    ensures front { CheckedFront
+        (bytes_left R.remaining reads.old) (bytes_left R.remaining reads.new) (W.contents writer.old) (W.contents writer.new) }
 {
-    let text = read_all(alloc, reader)?;
+    let text = read_all(alloc, reads)?;
     let verdict = verdict_on(alloc, &text)?;
     let line = verdict_text(alloc, &verdict)?;
     send(writer, &line)?;
-    Ok(verdict)
-}
-
-/// The status after a verdict: 0 where the takes are right, and else 1.
-pub fn status_after(verdict: &Result<u64, CutFault>) -> ExitCode
-    ensures right { IsOk verdict.now → exit_status result ≡ 0 }
-    ensures fault { IsErr verdict.now → exit_status result ≡ 1 }
-{
-    match verdict {
-        Ok(_) => ExitCode::SUCCESS,
-        Err(_) => ExitCode::FAILURE,
-    }
+    Ok(status_after(&verdict))
 }

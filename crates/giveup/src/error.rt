@@ -71,6 +71,11 @@ pub enum RunError {
 }
 
 impl From<RefFault> for RunError {
+    ghost use Rattle.std.specs.Prelude.{◌≡◌};
+    ghost use Rattle.giveup.specs.RunErrors.{error_after};
+
+    ghost from_gives = { λ fault error. error ≡ error_after fault };
+
     fn from(fault: RefFault) -> Self {
         match fault {
             RefFault::Memory => RunError::Engine(EngineError::Memory),
@@ -80,6 +85,11 @@ impl From<RefFault> for RunError {
 }
 
 impl From<EngineError> for RunError {
+    ghost use Rattle.std.specs.Prelude.{◌≡◌};
+    ghost use Rattle.giveup.specs.declared.error.RunError.TheVariants.{Engine};
+
+    ghost from_gives = { λ engine error. error ≡ Engine engine };
+
     fn from(error: EngineError) -> Self {
         RunError::Engine(error)
     }

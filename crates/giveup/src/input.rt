@@ -1,25 +1,27 @@
 //! All that a reader has.
 
-ghost use Rattle.std.specs.Prelude.{◌≡◌, ◌⊎◌, IfOk, IfErr, OnErr};
+ghost use Rattle.std.specs.Prelude.{◌≡◌, ◌⊎◌, IfOk, IfErr, IsErrOf, OnErr};
+ghost use Rattle.gu_ref.specs.Reads.{bytes_left, HasStopped};
 ghost use Rattle.giveup.specs.Input.{ReadsAll, ReadsPart};
 
 use crate::error::EngineError;
-use crate::serving::{MOST_BYTES, MOST_READS};
+use gu_ref::{CountedReads, LONGEST_READ};
 use std::alloc::Global;
 use std::io::Read;
 
 /// Reads all that the reader has.
-pub fn read_all<R: Read>(alloc: Global, reader: &mut R) -> Result<Vec<u8>, EngineError>
-    ensures all { IfOk result (λ text. ReadsAll (R.remaining reader.old) (R.remaining reader.new) text.items) }
+pub fn read_all<R: Read>(alloc: Global, reads: &mut CountedReads<R>) -> Result<Vec<u8>, EngineError>
+    ensures all { IfOk result (λ text. ReadsAll (bytes_left R.remaining reads.old) (bytes_left R.remaining reads.new) text.items) }
 
     // After an error a part was read.
-    ensures part { OnErr result (ReadsPart (R.remaining reader.old) (R.remaining reader.new)) }
+    ensures part { OnErr result (ReadsPart (bytes_left R.remaining reads.old) (bytes_left R.remaining reads.new)) }
+    ensures stopped { IsErrOf result EngineError.Read → HasStopped reads.new }
     ensures faults { IfErr result (λ error. (error ≡ EngineError.Memory) ⊎ (error ≡ EngineError.Read)) }
 {
     let mut text = Vec::new(alloc);
-    let mut buffer = [0; MOST_BYTES];
-    for _ in 0..MOST_READS {
-        match reader.read(&mut buffer) {
+    let mut buffer = [0; LONGEST_READ];
+    'reading: while !reads.is_spent() {
+        match reads.read(&mut buffer) {
             Ok(0) => return Ok(text),
             Ok(count) => text.extend_from_slice(&buffer[..count])?,
             Err(_) => return Err(EngineError::Read),

@@ -16,8 +16,11 @@ mod position_lines;
 #[cfg(test)]
 mod reading_tests;
 mod sample;
+#[cfg(test)]
+mod sample_tests;
 mod sending;
 mod serving;
+mod status;
 #[cfg(test)]
 mod streams;
 mod tags;
@@ -28,28 +31,31 @@ mod word_tests;
 mod words;
 
 use crate::capturing::capture;
-use crate::checking::{check, status_after};
+use crate::checking::check;
 use crate::error::RunError;
 use crate::sample::{sample_day, sample_reference};
+use crate::status::Status;
 use crate::words::{Task, answer, given, read};
+use gu_ref::CountedReads;
 use std::alloc::Global;
 use std::io;
 use std::process::ExitCode;
 use std::rt::Env;
 
 fn main(rt: HostRuntime) -> ExitCode {
-    match run(&rt) {
+    let status = match run(&rt) {
         Ok(status) => status,
         Err(error) => {
             // Where this can't be written, the status alone tells of the fault.
             let _ = eprintln!(rt; "giveup: {error}");
-            ExitCode::FAILURE
+            Status::Fault
         }
-    }
+    };
+    ExitCode::from(status)
 }
 
 /// Does what the words of this run ask for.
-fn run<R: Input + Print + Eprint + Env + Alloc<A = Global>>(rt: &R) -> Result<ExitCode, RunError> {
+fn run<R: Input + Print + Eprint + Env + Alloc<A = Global>>(rt: &R) -> Result<Status, RunError> {
     match given(rt) {
         Ok(words) => perform(rt, words.as_slice()),
         Err(error) => Ok(answer(rt, &error)?),
@@ -60,7 +66,7 @@ fn run<R: Input + Print + Eprint + Env + Alloc<A = Global>>(rt: &R) -> Result<Ex
 fn perform<R: Input + Print + Eprint + Alloc<A = Global>>(
     rt: &R,
     words: &[String],
-) -> Result<ExitCode, RunError> {
+) -> Result<Status, RunError> {
     match read(rt.alloc(), words) {
         Ok(Task::Capture) => run_capture(rt),
         Ok(Task::Check) => run_check(rt),
@@ -69,19 +75,18 @@ fn perform<R: Input + Print + Eprint + Alloc<A = Global>>(
 }
 
 /// Trade capture on the sample, from standard input to standard output.
-fn run_capture<R: Input + Print + Alloc<A = Global>>(rt: &R) -> Result<ExitCode, RunError> {
+fn run_capture<R: Input + Print + Alloc<A = Global>>(rt: &R) -> Result<Status, RunError> {
     let alloc = rt.alloc();
     let reference = sample_reference(alloc)?;
-    let mut reader = rt.reader();
+    let mut reads = CountedReads::new(rt.reader());
     let mut writer = io::writer(rt);
-    capture(alloc, reference, sample_day(), &mut reader, &mut writer)?;
-    Ok(ExitCode::SUCCESS)
+    capture(alloc, reference, sample_day(), &mut reads, &mut writer)?;
+    Ok(Status::Done)
 }
 
-/// The check of a sheet, from standard input to standard output. A fault is written, and the status tells of it.
-fn run_check<R: Input + Print + Alloc<A = Global>>(rt: &R) -> Result<ExitCode, RunError> {
-    let mut reader = rt.reader();
+/// The check of a sheet, from standard input to standard output.
+fn run_check<R: Input + Print + Alloc<A = Global>>(rt: &R) -> Result<Status, RunError> {
+    let mut reads = CountedReads::new(rt.reader());
     let mut writer = io::writer(rt);
-    let verdict = check(rt.alloc(), &mut reader, &mut writer)?;
-    Ok(status_after(&verdict))
+    Ok(check(rt.alloc(), &mut reads, &mut writer)?)
 }

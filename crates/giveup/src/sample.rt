@@ -4,7 +4,7 @@ ghost use Rattle.std.specs.Prelude.{◌≡◌, Some, IfOk};
 ghost use Rattle.gu_ref.specs.File.{IsReadFrom};
 ghost use Rattle.giveup.specs.declared.sample.TheConstants.{ROWS};
 
-use gu_ref::{RefFault, Reference};
+use gu_ref::{CountedReads, RefFault, Reference};
 use gu_terms::Day;
 use std::alloc::Global;
 
@@ -32,7 +32,7 @@ AGREEMENT,P4,E2,A3
 pub fn sample_reference(alloc: Global) -> Result<Reference, RefFault>
     ensures { IfOk result (λ reference. IsReadFrom (Some ROWS.now) reference) }
 {
-    Reference::read(alloc, ROWS)
+    Reference::read(alloc, &mut CountedReads::new(ROWS))
 }
 
 /// 5 January 2026.

@@ -1,19 +1,15 @@
 //! The loop of every engine: reader, feed, state and writer.
 
-ghost use Rattle.std.specs.Prelude.{◌≡◌, ◌++◌, List, ℕ, OnOk, OnErr};
-ghost use Rattle.giveup.specs.Serving.{AnswersEach, Served, ServedFront, WrotePart};
+ghost use Rattle.std.specs.Prelude.{◌≡◌, ◌++◌, List, ℕ, IfErr, IsErrOf, OnOk};
+ghost use Rattle.gu_ref.specs.Reads.{bytes_left, HasStopped};
+ghost use Rattle.giveup.specs.Serving.{Answered, AnswersEach, IsStreamFault, Served, ServedFront};
 
 use crate::error::EngineError;
 use crate::sending::send;
 use gu_fix::{Feed, Frame};
+use gu_ref::{CountedReads, LONGEST_READ};
 use std::alloc::{AllocError, Global};
 use std::io::{Read, Write};
-
-/// The reads that an engine makes of one stream.
-pub const MOST_READS: u32 = 1_000_000;
-
-/// The bytes that it asks for at once.
-pub const MOST_BYTES: usize = 4_096;
 
 /// What answers frames, one after another.
 pub trait Answerer {
@@ -22,7 +18,8 @@ pub trait Answerer {
 
     /// Appends the answer to the next frame.
     fn answer(&mut self, frame: &Frame, output: &mut Vec<u8>) -> Result<(), AllocError>
-        ensures { OnOk result ((text : List ℕ) × (output.new.items ≡ output.old.items ++ text) × answers self.old frame.now text self.new) };
+        ensures { OnOk result ((text : List ℕ) × (output.new.items ≡ output.old.items ++ text)
+            × answers self.old frame.now text self.new) };
 }
 
 /// Collects the answers to frames.
@@ -31,7 +28,8 @@ fn answer_each<A: Answerer>(
     frames: &[Frame],
     output: &mut Vec<u8>,
 ) -> Result<(), AllocError>
-    ensures { OnOk result ((text : List ℕ) × (output.new.items ≡ output.old.items ++ text) × AnswersEach A.answers answerer.old frames.now text answerer.new) }
+    ensures { OnOk result ((text : List ℕ) × (output.new.items ≡ output.old.items ++ text)
+        × AnswersEach A.answers answerer.old frames.now text answerer.new) }
 {
     for frame in frames {
         answerer.answer(frame, output)?;
@@ -42,20 +40,28 @@ fn answer_each<A: Answerer>(
 /// Answers the frames of each piece that the reader gives, before the next read.
 pub fn serve<R: Read, W: Write, A: Answerer>(
     alloc: Global,
-    reader: &mut R,
+    reads: &mut CountedReads<R>,
     writer: &mut W,
     answerer: &mut A,
 ) -> Result<(), EngineError>
-    ensures done { OnOk result (Served A.answers answerer.old answerer.new (R.remaining reader.old) (R.remaining reader.new) (W.contents writer.old) (W.contents writer.new)) }
+    ensures done { OnOk result (Served A.answers answerer.old answerer.new
+        (bytes_left R.remaining reads.old) (bytes_left R.remaining reads.new) (W.contents writer.old) (W.contents writer.new)) }
 
-    // After an error too: what was written is a front of the answers to the first of the frames.
-    ensures front { ServedFront A.answers answerer.old (R.remaining reader.old) (R.remaining reader.new) (W.contents writer.old) (W.contents writer.new) }
+    // Where the reader failed, or no read was left, all that was read is answered, and exactly that was written.
+    ensures stopped { IsErrOf result EngineError.Read → HasStopped reads.new }
+    ensures answered { IsErrOf result EngineError.Read → Answered A.answers answerer.old answerer.new
+        (bytes_left R.remaining reads.old) (bytes_left R.remaining reads.new) (W.contents writer.old) (W.contents writer.new) }
+    ensures faults { IfErr result IsStreamFault }
+
+    // After any error: what was written is a front of the answers to the first of the frames.
+    ensures front { ServedFront A.answers answerer.old
+        (bytes_left R.remaining reads.old) (bytes_left R.remaining reads.new) (W.contents writer.old) (W.contents writer.new) }
 {
     let mut feed = Feed::new(alloc);
     let mut output = Vec::new(alloc);
-    let mut buffer = [0; MOST_BYTES];
-    for _ in 0..MOST_READS {
-        let count = match reader.read(&mut buffer) {
+    let mut buffer = [0; LONGEST_READ];
+    'reading: while !reads.is_spent() {
+        let count = match reads.read(&mut buffer) {
             Ok(0) => return Ok(()),
             Ok(count) => count,
             Err(_) => return Err(EngineError::Read),

@@ -1,9 +1,85 @@
 //! Words of the command line, each with what it asks for.
 
-use crate::words::{Task, read};
+use crate::error::EngineError;
+use crate::status::Status;
+use crate::words::{Task, answer, read};
 use clap::error::ErrorKind;
 use std::alloc::Global;
+use std::cell::Cell;
+use std::fmt::Display;
+use std::io;
 use std::test::Fail;
+
+/// A standard output and a standard error that count what they are given, or take nothing.
+struct Streams {
+    alloc: Global,
+    is_closed: bool,
+    out: Cell<usize>,
+    err: Cell<usize>,
+}
+
+impl Streams {
+    /// Counts the bytes of a value as text.
+    fn count<D: Display + Drop>(&self, seen: &Cell<usize>, value: D) -> io::Result<()> {
+        if self.is_closed {
+            return Err(io::Error::from(io::ErrorKind::BrokenPipe));
+        }
+        let text = format!(in self.alloc; "{value}")?;
+        seen.set(seen.get().saturating_add(text.len()));
+        Ok(())
+    }
+}
+
+impl Print for Streams {
+    fn print<D: Display + Drop>(&self, value: D) -> io::Result<()> {
+        self.count(&self.out, value)
+    }
+
+    fn println<D: Display + Drop>(&self, value: D) -> io::Result<()> {
+        self.count(&self.out, value)
+    }
+
+    fn write_all(&self, bytes: &[u8]) -> io::Result<()> {
+        if self.is_closed {
+            return Err(io::Error::from(io::ErrorKind::BrokenPipe));
+        }
+        self.out.set(self.out.get().saturating_add(bytes.len()));
+        Ok(())
+    }
+}
+
+impl Eprint for Streams {
+    fn eprint<D: Display + Drop>(&self, value: D) -> io::Result<()> {
+        self.count(&self.err, value)
+    }
+
+    fn eprintln<D: Display + Drop>(&self, value: D) -> io::Result<()> {
+        self.count(&self.err, value)
+    }
+}
+
+/// How words that ask for no task are answered, and how many bytes are shown on standard output and on standard error.
+fn answered(
+    alloc: Global,
+    words: &'static [&'static str],
+    is_closed: bool,
+) -> Option<(Result<Status, EngineError>, usize, usize)> {
+    let error = read(alloc, words).err()?;
+    let streams = Streams {
+        alloc,
+        is_closed,
+        out: Cell::new(0),
+        err: Cell::new(0),
+    };
+    let status = answer(&streams, &error);
+    let Streams {
+        alloc: _,
+        is_closed: _,
+        out,
+        err,
+    } = streams;
+    Some((status, out.get(), err.get()))
+}
 
 /// The task that these words ask for, or the kind of their error and the status that it gives.
 fn asked(alloc: Global, words: &'static [&'static str]) -> Result<Task, (ErrorKind, i32)> {
@@ -67,5 +143,24 @@ fn help_names_each_task(rt: HostRuntime) -> Result<(), Fail> {
         help.as_str()
             == "The desk of a clearing house. Without a command: trade capture on the sample, from standard input\n\nUsage: giveup [COMMAND]\n\nCommands:\n  check  Checks the sweep sheet on standard input: prints OK and its lots, or its first fault\n  help   Print this message or the help of the given subcommand(s)\n\nOptions:\n  -h, --help  Print help\n"
     );
+    Ok(())
+}
+
+#[test]
+fn help_is_written_to_standard_output_and_a_refusal_to_standard_error(
+    rt: HostRuntime,
+) -> Result<(), Fail> {
+    let alloc = rt.alloc();
+    let help = said(alloc, &["giveup", "--help"])?.len();
+    let refusal = said(alloc, &["giveup", "sweep"])?.len();
+    assert!(rt; answered(alloc, &["giveup", "--help"], false) == Some((Ok(Status::Done), help, 0)));
+    assert!(rt;
+        answered(alloc, &["giveup", "sweep"], false) == Some((Ok(Status::Refused), 0, refusal))
+    );
+    // Help that can't be written is a fault; a refusal has its status all the same.
+    assert!(rt;
+        answered(alloc, &["giveup", "--help"], true) == Some((Err(EngineError::Write), 0, 0))
+    );
+    assert!(rt; answered(alloc, &["giveup", "sweep"], true) == Some((Ok(Status::Refused), 0, 0)));
     Ok(())
 }

@@ -1,17 +1,16 @@
 //! The words that the program is called with.
 
 ghost use Rattle.std.specs.Prelude.{◌≡◌, ◌∷◌, [], List, ℕ, Err, IfOk, codes, map};
-ghost use Rattle.std.specs.Process.{exit_status};
 ghost use Rattle.clap.specs.Words.{FailsBy, app_of, fault_of, kind_of, subcommand_name_of};
 ghost use Rattle.clap.specs.declared.error.kind.ErrorKind.TheVariants.{OutOfMemory};
 ghost use Rattle.giveup.specs.ProgramWords.{Reads, program, status_of, task_named, task_of_words};
 
 use crate::error::EngineError;
+use crate::status::Status;
 use clap::error::ErrorKind;
 use clap::{ArgMatches, Command, Error};
 use std::alloc::{AllocError, Global};
 use std::convert::AsStr;
-use std::process::ExitCode;
 use std::rt::Env;
 use std::{env, io};
 
@@ -75,8 +74,8 @@ pub fn given<R: Env + Alloc<A = Global>>(rt: &R) -> Result<Vec<String>, Error> {
 }
 
 /// Says why the words ask for no task, or shows the help that they ask for, and gives the status.
-pub fn answer<R: Print + Eprint>(rt: &R, error: &Error) -> Result<ExitCode, EngineError>
-    ensures status { IfOk result (λ status. exit_status status ≡ status_of (kind_of error.now)) }
+pub fn answer<R: Print + Eprint>(rt: &R, error: &Error) -> Result<Status, EngineError>
+    ensures status { IfOk result (λ status. status ≡ status_of (kind_of error.now)) }
     ensures memory { kind_of error.now ≡ OutOfMemory → result ≡ Err EngineError.Memory }
 {
     if error.kind() == ErrorKind::OutOfMemory {
@@ -86,5 +85,9 @@ pub fn answer<R: Print + Eprint>(rt: &R, error: &Error) -> Result<ExitCode, Engi
     if error.print(rt).is_err() && !error.use_stderr() {
         return Err(EngineError::Write);
     }
-    Ok(ExitCode::from(error.exit_code() as u8))
+    Ok(if error.use_stderr() {
+        Status::Refused
+    } else {
+        Status::Done
+    })
 }

@@ -1,5 +1,5 @@
 -- A group that the reference doesn't have has no limits.
-use Rattle.std.proofs.Common.{◌≡◌, ℕ, ◌&&◌, not, Bool, true, false, cond, List, [], ◌∷◌, take, slice_get, zero, suc, Option, Some, None, inl, inr, refl, sym, ap, ◌∙◌, subst}
+use Rattle.std.proofs.Common.{◌≡◌, ℕ, ◌&&◌, not, Bool, true, false, List, [], ◌∷◌, take, slice_get, zero, suc, Option, Some, None, inl, inr, refl, sym, ap, subst}
 use Rattle.std.specs.List.{filter_map, last_or}
 use Rattle.std.proofs.lemmas.Bool.{cases_Bool}
 use Rattle.std.proofs.lemmas.Slice.Eq.{bytes_eq-Decides}
@@ -8,18 +8,16 @@ use Rattle.gu_terms.specs.declared.entry.Entry.{Entry}
 use Rattle.gu_terms.specs.declared.entry.Entry.TheVariants.{Asked}
 use Rattle.gu_terms.specs.declared.group.Group.{Group}
 use Rattle.gu_terms.specs.declared.limit_key.LimitKey.{LimitKey}
-use Rattle.gu_terms.specs.declared.limit_row.LimitRow.{LimitRow}
 use Rattle.gu_terms.specs.declared.refusal.Refusal.TheVariants.{UnknownKey}
 use Rattle.gu_terms.specs.declared.reply.Done.TheVariants.{Opened, LimitSet, Reported}
 use Rattle.gu_terms.specs.declared.reply.Reply.TheVariants.{Accepted, Denied}
-use Rattle.gu_terms.specs.LimitKeys.{key_eq}
 use Rattle.gu_ref.specs.Reference.{is_group}
 use Rattle.gu_terms.specs.Same.{same_group}
 use Rattle.gu_ref.specs.Tables.{Tables}
 use Rattle.gu_book.specs.Answer.{is_known_key, limit_tests}
 use Rattle.gu_book.specs.Kept.{Kept}
 use Rattle.gu_book.specs.Legal.{IsLegal, MayFollow}
-use Rattle.gu_book.specs.Limits.{keys_in_order, limit_row, limit_rows, limit_set, limit_set_by}
+use Rattle.gu_book.specs.Limits.{keys_in_order, limit_row, limit_rows, limit_set_by}
 use Rattle.gu_book.proofs.LimitLemmas.{limit_row-unset}
 use Rattle.gu_book.proofs.Taking.{none_stands}
 

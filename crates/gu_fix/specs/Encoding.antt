@@ -29,7 +29,8 @@ abbrev pub fields_of_message : List TagValue → List TagValue
 fields_of_message fields =
     let body = fields_text fields in
     let front = front_of (decimal (length body)) body in
-    tag_value BEGIN_STRING (codes "FIXT.1.1") ∷ tag_value BODY_LENGTH (decimal (length body)) ∷ (fields ++ tag_value CHECK_SUM (three_digits (sum front % 256)) ∷ [])
+    tag_value BEGIN_STRING (codes "FIXT.1.1") ∷ tag_value BODY_LENGTH (decimal (length body))
+    ∷ (fields ++ tag_value CHECK_SUM (three_digits (sum front % 256)) ∷ [])
 
 -- a tag that a field of a body may have: at most nine digits, and none of those that the encoding itself writes
 abbrev pub is_body_tag : ℕ → Bool

@@ -1,4 +1,4 @@
--- What stands at one place of a stream, as it is read part by part. (Machinery: no other crate names this file.)
+-- Machinery: what stands at one place of a stream, as it is read part by part. No other crate names this file.
 use Rattle.std.specs.Prelude.{◌≡◌, ℕ, ◌+◌, ◌<◌, ◌≤◌, List, ◌∷◌, ◌++◌, length, take}
 use Rattle.gu_fix.specs.WholeMessage.{IsLengthText, body_of, IsWhole, soh}
 use Rattle.gu_fix.specs.Stream.{IsOpen, IsGarbled}
@@ -24,9 +24,11 @@ pub record IsLength (digits : List ℕ) (n : ℕ) : Type 0 where
 -- what bytes say of the length that is to stand at their front: so many digits with this value, digits that can go on
 -- to such a length, or neither
 abbrev pub ReadsLength : LengthText → List ℕ → Type 0
-ReadsLength (length_text.Read count n) bytes = (digits : List ℕ) × (rest : List ℕ) × (length digits ≡ count) × IsLength digits n × (bytes ≡ digits ++ soh ∷ rest)
+ReadsLength (length_text.Read count n) bytes =
+    (digits : List ℕ) × (rest : List ℕ) × (length digits ≡ count) × IsLength digits n × (bytes ≡ digits ++ soh ∷ rest)
 ReadsLength length_text.Open bytes = (more : List ℕ) × (n : ℕ) × IsLength (bytes ++ more) n
-ReadsLength length_text.Apart bytes = (digits more rest : List ℕ) (n : ℕ) → IsLength digits n → bytes ++ more ≡ digits ++ soh ∷ rest → ⊥
+ReadsLength length_text.Apart bytes =
+    (digits more rest : List ℕ) (n : ℕ) → IsLength digits n → bytes ++ more ≡ digits ++ soh ∷ rest → ⊥
 
 -- how bytes meet a body of n bytes that is to stand at their front
 abbrev pub MeetsBody : Meeting → List ℕ → ℕ → Type 0

@@ -1,4 +1,4 @@
--- What the test before encoding answers. (Machinery: no other crate names this file.)
+-- Machinery: what the test before encoding answers. No other crate names this file.
 use Rattle.std.specs.Prelude.{◌≡◌, ℕ, ◌+◌, ◌≤◌, List, length, true, Some, None}
 use Rattle.std.specs.Fmt.{decimal}
 use Rattle.gu_fix.specs.TagValue.{TagValue}

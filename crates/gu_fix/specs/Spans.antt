@@ -1,4 +1,4 @@
--- Where values lie in one buffer. (Machinery: no other crate names this file.)
+-- Machinery: where values lie in one buffer. No other crate names this file.
 use Rattle.std.specs.Prelude.{ℕ, ◌+◌, ◌≤◌, List, length, take, drop, map}
 use Rattle.std.specs.List.{AllByRecursion}
 use Rattle.gu_fix.specs.TagValue.{TagValue, tag_value}

@@ -44,7 +44,8 @@ AreFrames stream (message ∷ messages) = (rest : List ℕ) × IsFirstFrame stre
 
 -- Whatever comes after these bytes, the frames are those given, and then the frames of what is kept and comes after.
 abbrev pub LeadsOn : List ℕ → List (List ℕ) → List ℕ → Type 0
-LeadsOn bytes given kept = (more : List ℕ) (later : List (List ℕ)) → AreFrames (kept ++ more) later → AreFrames (bytes ++ more) (given ++ later)
+LeadsOn bytes given kept =
+    (more : List ℕ) (later : List (List ℕ)) → AreFrames (kept ++ more) later → AreFrames (bytes ++ more) (given ++ later)
 
 -- a feed that keeps these bytes takes a piece: it gives the frames that are whole with it, and keeps what leads on
 pub record TakesPiece (kept piece : List ℕ) (given : List (List ℕ)) (next : List ℕ) : Type 0 where

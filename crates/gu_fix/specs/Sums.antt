@@ -1,4 +1,4 @@
--- Running sums of bytes, modulo 256. (Machinery: no other crate names this file.)
+-- Machinery: running sums of bytes, modulo 256. No other crate names this file.
 use Rattle.std.specs.Prelude.{◌≡◌, ℕ, ◌+◌, ◌%◌, ◌≤◌, ◌<◌, List, [], ◌∷◌, length}
 
 -- the running sum behind these bytes

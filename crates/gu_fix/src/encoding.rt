@@ -74,7 +74,6 @@ fn has_soh_in_value(fields: &Fields) -> bool
     false
 }
 
-/// Appends a field.
 fn push_field(out: &mut Vec<u8>, field: Field) -> Result<(), AllocError>
     ensures { OnOk result (out.new.items ≡ out.old.items ++ field_text (tag_value field.entry.tag field.entry.value.now)) }
 {
@@ -86,7 +85,6 @@ fn push_field(out: &mut Vec<u8>, field: Field) -> Result<(), AllocError>
     Ok(())
 }
 
-/// Appends fields.
 fn push_fields(out: &mut Vec<u8>, fields: &Fields) -> Result<(), AllocError>
     ensures { OnOk result (out.new.items ≡ out.old.items ++ fields_text fields.now) }
 {
@@ -98,7 +96,8 @@ fn push_fields(out: &mut Vec<u8>, fields: &Fields) -> Result<(), AllocError>
 
 /// The length of the fields' text, unless it is above a message's.
 fn body_length(fields: &Fields) -> Option<usize>
-    ensures { MatchOption result (65536 < length (fields_text fields.now)) (λ n. (n ≡ length (fields_text fields.now)) × (n ≤ 65536)) }
+    ensures { MatchOption result (65536 < length (fields_text fields.now))
+        (λ n. (n ≡ length (fields_text fields.now)) × (n ≤ 65536)) }
 {
     let mut total = 0;
     for field in fields {

@@ -20,7 +20,8 @@ pub fn nothing_stands_and_is_open()
 
 /// A stream has one list of frames.
 pub fn one_list_of_frames()
-    ensures { (stream : List ℕ) (frames others : List (List ℕ)) → AreFrames stream frames → AreFrames stream others → frames ≡ others }
+    ensures { (stream : List ℕ) (frames others : List (List ℕ))
+        → AreFrames stream frames → AreFrames stream others → frames ≡ others }
 {}
 
 /// Each stream has a list of frames.
@@ -30,12 +31,14 @@ pub fn frames_exist()
 
 /// A whole message in front is the first frame, and the frames of what follows it come after.
 pub fn a_message_in_front_is_the_first_frame()
-    ensures { (message rest : List ℕ) (frames : List (List ℕ)) → IsWhole message → AreFrames rest frames → AreFrames (message ++ rest) (message ∷ frames) }
+    ensures { (message rest : List ℕ) (frames : List (List ℕ))
+        → IsWhole message → AreFrames rest frames → AreFrames (message ++ rest) (message ∷ frames) }
 {}
 
 /// However a stream is cut, a new feed gives the frames of the joined stream, and what it keeps leads on from there.
 pub fn frames_are_those_of_the_joined_pieces()
-    ensures { (pieces given : List (List ℕ)) (kept : List ℕ) → TakesPieces [] pieces given kept → AreFrames (concat pieces) given × LeadsOn (concat pieces) given kept }
+    ensures { (pieces given : List (List ℕ)) (kept : List ℕ)
+        → TakesPieces [] pieces given kept → AreFrames (concat pieces) given × LeadsOn (concat pieces) given kept }
 {}
 
 /// Bytes read as fields in one way at most.

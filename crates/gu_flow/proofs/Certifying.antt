@@ -37,7 +37,7 @@ use Rattle.gu_flow.proofs.Sides.{IsLaid, LiesOn, way_walks, way_once, way_lays, 
 use Rattle.gu_terms.proofs.Lists.{sum_by-add, sum_by-swap, sum_by-agree}
 use Rattle.gu_flow.proofs.SumLemmas.{places, sum_by-by, sum_by_place, sum_places_by, sum_one_place, cond-sum, cond-swap}
 use Rattle.gu_flow.proofs.Walks.{has_place, Walking, load, sum_over}
-use Rattle.gu_flow.proofs.WayStages.{stage_of, stage_at, staged_at, key_on, lies_alike}
+use Rattle.gu_flow.proofs.WayLayers.{layer_of, layer_at, layered_at, key_on, lies_alike}
 
 -- a member of a list of small numbers is small
 has_within : (n k : ℕ) (ps : List ℕ) → AllByRecursion (λ p. p < n) ps → list_any (λ p. p == k) ps ≡ true → k < n
@@ -73,7 +73,7 @@ short offers lots capacity (Agr agreement) is other = record { agreement = agree
 short offers lots capacity (Acct account) is other = absurd (other is)
 short offers lots capacity (Carry firm) is other = absurd (other is)
 
--- an arc of stage 0 is an agreement's, with no more than its offers have
+-- an arc of layer 0 is an agreement's, with no more than its offers have
 record IsAgreement (offers : List Offer) (capacity : ℕ) (key : LimitKey) : Type 0 where
   agreement : AgreementId
   is : key ≡ Agr agreement
@@ -97,8 +97,8 @@ module _ (view : GroupView) (sound : IsView view) (nested : IsNested view) (arcs
   abbrev lots : Offer → ℕ
   lots o = lots_of takes o.number
 
-  abbrev stage : ℕ → ℕ
-  stage = stage_at view.rooms
+  abbrev layer : ℕ → ℕ
+  layer = layer_at view.rooms
 
   offer_here : (i : ℕ) (d : Offer) → i < length view.offers → IsOfferOf view (get_or view.offers i d)
   offer_here i d inside = record { place = i; within = inside; is = get_or_default view.offers i d (get_or view.offers i d) inside }
@@ -122,17 +122,17 @@ module _ (view : GroupView) (sound : IsView view) (nested : IsNested view) (arcs
 
   walking : (o : Offer) → IsOfferOf view o → Walking arcs way 0 1 o
   walking o h = record {
-    walk = way_walks arcs stage (way o) (staged_at view sound nested o h) (lies o h);
-    once = way_once arcs stage (way o) (staged_at view sound nested o h);
+    walk = way_walks arcs layer (way o) (layered_at view sound nested o h) (lies o h);
+    once = way_once arcs layer (way o) (layered_at view sound nested o h);
   }
 
   each : AllByRecursion (Walking arcs way 0 1) view.offers
   each = recursion_from_All (Walking arcs way 0 1) view.offers (λ i d inside. walking (get_or view.offers i d) (offer_here i d inside))
 
-  laid : (k : ℕ) → k < length arcs → IsLaid arcs stage k
+  laid : (k : ℕ) → k < length arcs → IsLaid arcs layer k
   laid k k_in =
       let a = are.each k k_in in
-      way_lays arcs stage (way a.offer) k (staged_at view sound nested a.offer a.known) a.goes_by (lies a.offer a.known k a.goes_by)
+      way_lays arcs layer (way a.offer) k (layered_at view sound nested a.offer a.known) a.goes_by (lies a.offer a.known k a.goes_by)
 
   -- what is brought through an arc is what is taken under its key
   load_is : (k : ℕ) → k < length view.rooms → load arcs view.offers way lots 0 1 each k ≡ lots_under view.offers (room_at view.rooms k).key (lots_of takes)
@@ -161,14 +161,14 @@ module _ (view : GroupView) (sound : IsView view) (nested : IsNested view) (arcs
       sum_by-by (IsOfferOf view) (λ o. cond (has_key o.path (room_at view.rooms k).key) (f o) 0) (λ o. cond (agreement_place view.rooms o == k) (f o) 0) view.offers
       (λ o h. ap (λ b. cond b (f o) 0) (on_agreement o h k k_in agreement is)) each_offer
 
-  agreement_of : (k : ℕ) (key : LimitKey) (capacity room : ℕ) → stage k ≡ 0 → (room_at view.rooms k).key ≡ key → capacity ≡ capacity_of view.offers room key → IsAgreement view.offers capacity key
-  agreement_of k (Exec firm) capacity room is at cap = absurd (omega (arith, ap stage_of at))
+  agreement_of : (k : ℕ) (key : LimitKey) (capacity room : ℕ) → layer k ≡ 0 → (room_at view.rooms k).key ≡ key → capacity ≡ capacity_of view.offers room key → IsAgreement view.offers capacity key
+  agreement_of k (Exec firm) capacity room is at cap = absurd (omega (arith, ap layer_of at))
   agreement_of k (Agr agreement) capacity room is at cap = record { agreement = agreement; is = refl; most = omega arith }
-  agreement_of k (Acct account) capacity room is at cap = absurd (omega (arith, ap stage_of at))
-  agreement_of k (Carry firm) capacity room is at cap = absurd (omega (arith, ap stage_of at))
+  agreement_of k (Acct account) capacity room is at cap = absurd (omega (arith, ap layer_of at))
+  agreement_of k (Carry firm) capacity room is at cap = absurd (omega (arith, ap layer_of at))
 
   -- through an agreement's arc flows what its offers take
-  middle : (k : ℕ) → k < length arcs → stage k ≡ 0 → flow_at arcs k ≡ load arcs view.offers way lots 0 1 each k
+  middle : (k : ℕ) → k < length arcs → layer k ≡ 0 → flow_at arcs k ≡ load arcs view.offers way lots 0 1 each k
   middle k k_in is =
       let k_room : k < length view.rooms = omega (arith, are.all) in
       let key = (room_at view.rooms k).key in
@@ -176,18 +176,18 @@ module _ (view : GroupView) (sound : IsView view) (nested : IsNested view) (arcs
       let enough : (arc_at arcs k).flow ≤ agreement_lots view.rooms view.offers k = omega (arith, flow.within k no_arc k_in, a.most, under_agreement (λ o. o.lots) k k_room a.agreement a.is) in
       sym (load_is k k_room ∙ under_agreement lots k k_room a.agreement a.is ∙ shares_together view sound arcs takes shares k enough)
 
-  sided : (k : ℕ) → k < length arcs → Sided arcs view.offers way lots 0 1 stage each flow.kept k
+  sided : (k : ℕ) → k < length arcs → Sided arcs view.offers way lots 0 1 layer each flow.kept k
   sided k k_in = elim (laid k k_in) [
-    | inl first ↦ inr (inl (first_left arcs stage laid k first))
+    | inl first ↦ inr (inl (first_left arcs layer laid k first))
     | inr other ↦ elim other [
       | inl mid ↦ inl (middle k k_in mid.at)
-      | inr later ↦ inr (inr (later_right arcs stage laid k later))
+      | inr later ↦ inr (inr (later_right arcs layer laid k later))
     ]
   ]
 
   -- so each arc's flow is what is taken under its key
   flows_are : (k : ℕ) → k < length arcs → flow_at arcs k ≡ load arcs view.offers way lots 0 1 each k
-  flows_are k k_in = agree arcs view.offers way lots 0 1 stage each flow.kept sided (suc (stage k)) k k_in (omega arith)
+  flows_are k k_in = agree arcs view.offers way lots 0 1 layer each flow.kept sided (suc (layer k)) k k_in (omega arith)
 
   pub admissible : IsAdmissible view (lots_of takes)
   admissible = record {

@@ -12,19 +12,19 @@ use Rattle.gu_flow.proofs.Walks.{sum_over, Walking, load, loads_kept}
 abbrev pub flow_at : List Arc → ℕ → ℕ
 flow_at arcs k = (arc_at arcs k).flow
 
--- a place whose arc alone ends at its node, where the arcs that begin there are of earlier stages
-pub record IsLeft (arcs : List Arc) (s t : ℕ) (stage : ℕ → ℕ) (k : ℕ) : Type 0 where
+-- a place whose arc alone ends at its node, where the arcs that begin there are of earlier layers
+pub record IsLeft (arcs : List Arc) (s t : ℕ) (layer : ℕ → ℕ) (k : ℕ) : Type 0 where
   pub not_s : (arc_at arcs k).to ≢ s
   pub not_t : (arc_at arcs k).to ≢ t
   pub alone : (j : ℕ) → j < length arcs → (arc_at arcs j).to ≡ (arc_at arcs k).to → j ≡ k
-  pub earlier : (j : ℕ) → j < length arcs → (arc_at arcs j).from ≡ (arc_at arcs k).to → stage j < stage k
+  pub earlier : (j : ℕ) → j < length arcs → (arc_at arcs j).from ≡ (arc_at arcs k).to → layer j < layer k
 
--- a place whose arc alone begins at its node, where the arcs that end there are of earlier stages
-pub record IsRight (arcs : List Arc) (s t : ℕ) (stage : ℕ → ℕ) (k : ℕ) : Type 0 where
+-- a place whose arc alone begins at its node, where the arcs that end there are of earlier layers
+pub record IsRight (arcs : List Arc) (s t : ℕ) (layer : ℕ → ℕ) (k : ℕ) : Type 0 where
   pub not_s : (arc_at arcs k).from ≢ s
   pub not_t : (arc_at arcs k).from ≢ t
   pub alone : (j : ℕ) → j < length arcs → (arc_at arcs j).from ≡ (arc_at arcs k).from → j ≡ k
-  pub earlier : (j : ℕ) → j < length arcs → (arc_at arcs j).to ≡ (arc_at arcs k).from → stage j < stage k
+  pub earlier : (j : ℕ) → j < length arcs → (arc_at arcs j).to ≡ (arc_at arcs k).from → layer j < layer k
 
 -- what flows is kept, by places
 flow_kept : (arcs : List Arc) (n : ℕ) → inflow arcs n ≡ outflow arcs n → sum_over arcs (λ a. a.to == n) (flow_at arcs) ≡ sum_over arcs (λ a. a.from == n) (flow_at arcs)
@@ -47,12 +47,12 @@ over_same arcs end n f g same =
     sum_places_by (λ j. cond (end (arc_at arcs j) == n) (f j) 0) (λ j. cond (end (arc_at arcs j) == n) (g j) 0) (length arcs)
     (λ j j_in. at_test (end (arc_at arcs j) == n) (f j) (g j) (λ e. same j j_in (eqb-true (end (arc_at arcs j)) n e)))
 
-module _ {X : Type 0} (arcs : List Arc) (walkers : List X) (way : X → List ℕ) (lots : X → ℕ) (s t : ℕ) (stage : ℕ → ℕ) (each : AllByRecursion (Walking arcs way s t) walkers)
+module _ {X : Type 0} (arcs : List Arc) (walkers : List X) (way : X → List ℕ) (lots : X → ℕ) (s t : ℕ) (layer : ℕ → ℕ) (each : AllByRecursion (Walking arcs way s t) walkers)
     (kept : (n : ℕ) → n ≢ s → n ≢ t → inflow arcs n ≡ outflow arcs n) where
   abbrev loads : ℕ → ℕ
   loads = load arcs walkers way lots s t each
 
-  left_agrees : (k : ℕ) → k < length arcs → IsLeft arcs s t stage k → ((j : ℕ) → j < length arcs → (arc_at arcs j).from ≡ (arc_at arcs k).to → flow_at arcs j ≡ loads j) → flow_at arcs k ≡ loads k
+  left_agrees : (k : ℕ) → k < length arcs → IsLeft arcs s t layer k → ((j : ℕ) → j < length arcs → (arc_at arcs j).from ≡ (arc_at arcs k).to → flow_at arcs j ≡ loads j) → flow_at arcs k ≡ loads k
   left_agrees k k_in left same =
       sym (over_alone arcs (λ a. a.to) k (flow_at arcs) k_in left.alone)
       ∙ flow_kept arcs (arc_at arcs k).to (kept (arc_at arcs k).to left.not_s left.not_t)
@@ -60,7 +60,7 @@ module _ {X : Type 0} (arcs : List Arc) (walkers : List X) (way : X → List ℕ
       ∙ sym (loads_kept arcs walkers way lots s t each (arc_at arcs k).to left.not_s left.not_t)
       ∙ over_alone arcs (λ a. a.to) k loads k_in left.alone
 
-  right_agrees : (k : ℕ) → k < length arcs → IsRight arcs s t stage k → ((j : ℕ) → j < length arcs → (arc_at arcs j).to ≡ (arc_at arcs k).from → flow_at arcs j ≡ loads j) → flow_at arcs k ≡ loads k
+  right_agrees : (k : ℕ) → k < length arcs → IsRight arcs s t layer k → ((j : ℕ) → j < length arcs → (arc_at arcs j).to ≡ (arc_at arcs k).from → flow_at arcs j ≡ loads j) → flow_at arcs k ≡ loads k
   right_agrees k k_in right same =
       sym (over_alone arcs (λ a. a.from) k (flow_at arcs) k_in right.alone)
       ∙ sym (flow_kept arcs (arc_at arcs k).from (kept (arc_at arcs k).from right.not_s right.not_t))
@@ -70,10 +70,10 @@ module _ {X : Type 0} (arcs : List Arc) (walkers : List X) (way : X → List ℕ
 
   -- each place is in the middle, where flow and load agree, or on one side
   abbrev pub Sided : ℕ → Type 0
-  Sided k = (flow_at arcs k ≡ loads k) ⊎ (IsLeft arcs s t stage k ⊎ IsRight arcs s t stage k)
+  Sided k = (flow_at arcs k ≡ loads k) ⊎ (IsLeft arcs s t layer k ⊎ IsRight arcs s t layer k)
 
-  -- so they agree at each stage
-  pub agree : ((k : ℕ) → k < length arcs → Sided k) → (n k : ℕ) → k < length arcs → stage k < n → flow_at arcs k ≡ loads k
+  -- so they agree at each layer
+  pub agree : ((k : ℕ) → k < length arcs → Sided k) → (n k : ℕ) → k < length arcs → layer k < n → flow_at arcs k ≡ loads k
   agree sided zero k k_in below = absurd (omega arith)
   agree sided (suc n) k k_in below = elim (sided k k_in) [
     | inl same ↦ same

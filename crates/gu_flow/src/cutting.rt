@@ -11,7 +11,6 @@ use gu_terms::Cut;
 use gu_view::View;
 use std::alloc::{AllocError, Global};
 
-/// Whether a node was reached.
 fn is_reached(entries: &[Entry], node: u32) -> bool
     ensures { result ≡ is_reached entries.now node }
 {

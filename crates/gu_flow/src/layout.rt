@@ -11,7 +11,6 @@ use gu_terms::LimitKey;
 use gu_view::{Offer, View};
 use std::alloc::{AllocError, Global};
 
-/// The node of the room at a place.
 fn node_of(place: u32) -> u32
     requires { place < 2 ^ 31 }
     ensures { result ≡ node_of place }
@@ -70,7 +69,6 @@ fn head_on(way: &[u32], place: u32) -> u32
     }
 }
 
-/// The lots of the offer at a place.
 fn lots_of(offers: &[Offer], place: u32) -> u64
     requires { place < length offers.now }
     ensures { result ≡ (offer_at offers.now place).lots }

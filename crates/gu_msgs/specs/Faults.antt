@@ -35,7 +35,8 @@ pub record IsDisagreement (kind : MsgType) (fields : List TagValue) (fault : Fau
 
 -- the first fault of a message of this type
 abbrev pub IsFirstFault : MsgType → List TagValue → Fault → Type 0
-IsFirstFault kind fields fault = (shape_fault kind fields ≡ Some fault) ⊎ IsValueFault kind fields fault ⊎ IsDisagreement kind fields fault
+IsFirstFault kind fields fault =
+    (shape_fault kind fields ≡ Some fault) ⊎ IsValueFault kind fields fault ⊎ IsDisagreement kind fields fault
 
 -- the fault of fields without a type: a tag of the header that stands twice, or else the missing type
 abbrev pub untyped_fault : List TagValue → Fault
@@ -49,7 +50,8 @@ IsTypedFault text fields fault =
 
 -- the first fault of these fields
 abbrev pub IsFaultOf : List TagValue → Fault → Type 0
-IsFaultOf fields fault = MatchOption (first_value MSG_TYPE fields) (fault ≡ untyped_fault fields) (λ text. IsTypedFault text fields fault)
+IsFaultOf fields fault =
+    MatchOption (first_value MSG_TYPE fields) (fault ≡ untyped_fault fields) (λ text. IsTypedFault text fields fault)
 
 -- why fields are refused: memory, which may be wanting at any time, or their first fault
 abbrev pub IsRefusal : List TagValue → MsgFault → Type 0

@@ -1,4 +1,4 @@
--- What is known of a message whose shape and values are sound. (Machinery: no other crate names this file.)
+-- Machinery: what is known of a message whose shape and values are sound. No other crate names this file.
 use Rattle.std.specs.Prelude.{◌≡◌, ◌≢◌, List, [], length, None, Some, ⊤}
 use Rattle.std.specs.List.{AllByRecursion}
 use Rattle.gu_fix.specs.TagValue.{TagValue}

@@ -120,7 +120,8 @@ pub record IsUnread (fields : List TagValue) : Type 0 where
 
 -- what a message's fields say
 abbrev pub Says : List TagValue → Inbound → Type 0
-Says fields (inbound.Heartbeat m) = IsOfType kind.Heartbeat fields × (option_map (λ bytes. bytes.items) m.test_req_id ≡ first_value TEST_REQ_ID fields)
+Says fields (inbound.Heartbeat m) =
+    IsOfType kind.Heartbeat fields × (option_map (λ bytes. bytes.items) m.test_req_id ≡ first_value TEST_REQ_ID fields)
 Says fields (inbound.TestRequest m) = IsOfType kind.TestRequest fields × (first_value TEST_REQ_ID fields ≡ Some m.test_req_id.items)
 Says fields (inbound.ResendRequest m) = IsOfType kind.ResendRequest fields × IsResendRequest fields m
 Says fields inbound.Reject = IsOfType kind.Reject fields

@@ -26,7 +26,8 @@ is_among tags tag = list_any (λ t. t == tag) tags
 abbrev pub repeated_after : (ℕ → Bool) → List ℕ → List TagValue → Option ℕ
 repeated_after is_read before [] = None
 repeated_after is_read before (field ∷ fields) =
-    if is_read field.tag then (if is_among before field.tag then Some field.tag else repeated_after is_read (before ++ field.tag ∷ []) fields)
+    if is_read field.tag then
+    (if is_among before field.tag then Some field.tag else repeated_after is_read (before ++ field.tag ∷ []) fields)
     else repeated_after is_read before fields
 
 -- the leftmost second standing of a tag of these rows
@@ -41,7 +42,8 @@ missing (row ∷ rows) fields = if is_required row && not (stands (tag_of row) f
 -- the first fault of these rows: a tag that stands twice comes before one that is missing
 abbrev pub tags_fault : List Row → List TagValue → Option Fault
 tags_fault rows fields =
-    option_or (option_map (fault_at TagAppearsMoreThanOnce) (repeated rows fields)) (option_map (fault_at RequiredTagMissing) (missing rows fields))
+    option_or (option_map (fault_at TagAppearsMoreThanOnce) (repeated rows fields))
+    (option_map (fault_at RequiredTagMissing) (missing rows fields))
 
 -- a counter's fault: its text is no number, or not that of the entries
 abbrev pub count_fault : ℕ → List ℕ → ℕ → Option Fault
@@ -58,7 +60,8 @@ entries_fault rows (entry ∷ entries) = option_or (tags_fault rows entry) (entr
 abbrev pub counted_fault : List Row → ℕ → Option (List ℕ) → List (List TagValue) → Option Fault
 counted_fault [] counter text entries = None
 counted_fault (row ∷ rows) counter None entries = None
-counted_fault (row ∷ rows) counter (Some text) entries = option_or (count_fault counter text (length entries)) (entries_fault (row ∷ rows) entries)
+counted_fault (row ∷ rows) counter (Some text) entries =
+    option_or (count_fault counter text (length entries)) (entries_fault (row ∷ rows) entries)
 
 -- the first fault of the group with this counter
 abbrev pub group_fault : MsgType → List TagValue → ℕ → Option Fault

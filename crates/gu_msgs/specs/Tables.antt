@@ -16,7 +16,8 @@ greatest = 1000000000
 unfoldable pub header_rows : List Row
 header_rows =
     Required BEGIN_STRING Text ∷ Required BODY_LENGTH Text ∷ Required MSG_TYPE Text
-    ∷ Required SENDER_COMP_ID Text ∷ Required TARGET_COMP_ID Text ∷ Required MSG_SEQ_NUM (Number 0 greatest) ∷ Required SENDING_TIME Text
+    ∷ Required SENDER_COMP_ID Text ∷ Required TARGET_COMP_ID Text ∷ Required MSG_SEQ_NUM (Number 0 greatest)
+    ∷ Required SENDING_TIME Text
     ∷ Optional POSS_DUP_FLAG YesOrNo ∷ Optional ORIG_SENDING_TIME Text ∷ Required CHECK_SUM Text ∷ []
 
 -- the tags of a type's own

@@ -34,7 +34,8 @@ date_text year month day = two_digits (year / 100) ++ two_digits (year % 100) ++
 -- the time of a day in milliseconds: hours, minutes, seconds and thousandths
 unfoldable pub time_text : ℕ → List ℕ
 time_text n =
-    two_digits (n / 3600000) ++ codes ":" ++ two_digits (n / 60000 % 60) ++ codes ":" ++ two_digits (n / 1000 % 60) ++ codes "." ++ three_digits (n % 1000)
+    two_digits (n / 3600000) ++ codes ":" ++ two_digits (n / 60000 % 60) ++ codes ":" ++ two_digits (n / 1000 % 60)
+    ++ codes "." ++ three_digits (n % 1000)
 
 -- the date that lies so many days after 1970-01-01
 pub record WritesDateAfter (days : ℕ) (text : List ℕ) : Type 0 where

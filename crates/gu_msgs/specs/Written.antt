@@ -48,7 +48,9 @@ body_fields (body.PositionReport m) = position_fields m
 -- the marks of a message that is sent again: that it is, and when it was sent first
 abbrev pub MarksResend : Option ℕ → List TagValue → Type 0
 MarksResend None marks = marks ≡ []
-MarksResend (Some first) marks = (text : List ℕ) × WritesMoment first text × (marks ≡ tag_value POSS_DUP_FLAG (codes "Y") ∷ tag_value ORIG_SENDING_TIME text ∷ [])
+MarksResend (Some first) marks =
+    (text : List ℕ) × WritesMoment first text
+    × (marks ≡ tag_value POSS_DUP_FLAG (codes "Y") ∷ tag_value ORIG_SENDING_TIME text ∷ [])
 
 -- the header of a message that is sent at a moment with this text
 abbrev pub header_fields : Outbound → List ℕ → List TagValue

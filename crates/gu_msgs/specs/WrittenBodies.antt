@@ -67,7 +67,8 @@ business_fields m =
 abbrev pub report_status : Option Rejection → List TagValue
 report_status None = number_field TRD_RPT_STATUS 0 ∷ []
 report_status (Some rejection) =
-    number_field TRD_RPT_STATUS 1 ∷ number_field TRADE_REPORT_REJECT_REASON (reason_number (reason_of rejection)) ∷ tag_value TEXT (rejection_text rejection) ∷ []
+    number_field TRD_RPT_STATUS 1 ∷ number_field TRADE_REPORT_REJECT_REASON (reason_number (reason_of rejection))
+    ∷ tag_value TEXT (rejection_text rejection) ∷ []
 
 -- a TradeCaptureReportAck
 abbrev pub report_ack_fields : TradeCaptureReportAck → List TagValue
@@ -77,7 +78,8 @@ report_ack_fields m = tag_value TRADE_REPORT_ID m.trade_report_id ∷ tag_value 
 abbrev pub give_up_status : Option Rejection → List TagValue
 give_up_status None = number_field ALLOC_STATUS (status_number Accepted) ∷ []
 give_up_status (Some rejection) =
-    number_field ALLOC_STATUS (status_number BlockLevelReject) ∷ number_field ALLOC_REJ_CODE 99 ∷ tag_value TEXT (rejection_text rejection) ∷ []
+    number_field ALLOC_STATUS (status_number BlockLevelReject) ∷ number_field ALLOC_REJ_CODE 99
+    ∷ tag_value TEXT (rejection_text rejection) ∷ []
 
 -- an AllocationInstructionAck
 abbrev pub instruction_ack_fields : AllocationInstructionAck → List TagValue
@@ -101,18 +103,21 @@ report_fields m =
 abbrev pub offer_fields : AllocationReport → List TagValue
 offer_fields m =
     number_field ALLOC_REPORT_ID m.alloc_report_id ∷ number_field ALLOC_TRANS_TYPE 0
-    ∷ number_field ALLOC_REPORT_TYPE (report_type_number m.alloc_report_type) ∷ number_field ALLOC_STATUS (status_number m.alloc_status) ∷ []
+    ∷ number_field ALLOC_REPORT_TYPE (report_type_number m.alloc_report_type)
+    ∷ number_field ALLOC_STATUS (status_number m.alloc_status) ∷ []
 
 -- the trade that the offer is of
 abbrev pub offered_fields : AllocationReport → List TagValue
 offered_fields m =
-    tag_value SYMBOL m.symbol.name ∷ number_field SIDE (side_number m.side) ∷ number_field QUANTITY m.quantity ∷ tag_value AVG_PX (price_text m.avg_px)
+    tag_value SYMBOL m.symbol.name ∷ number_field SIDE (side_number m.side) ∷ number_field QUANTITY m.quantity
+    ∷ tag_value AVG_PX (price_text m.avg_px)
     ∷ tag_value TRADE_DATE (date_text m.trade_date.year m.trade_date.month m.trade_date.day) ∷ []
 
 -- an AllocationReport: one account with all the lots
 abbrev pub allocation_fields : AllocationReport → List TagValue
 allocation_fields m =
-    offer_fields m ++ offered_fields m ++ number_field NO_ALLOCS 1 ∷ tag_value ALLOC_ACCOUNT m.account.name ∷ number_field ALLOC_QTY m.quantity ∷ []
+    offer_fields m ++ offered_fields m
+    ++ number_field NO_ALLOCS 1 ∷ tag_value ALLOC_ACCOUNT m.account.name ∷ number_field ALLOC_QTY m.quantity ∷ []
 
 -- the id of an answer to a question: the question's, and the answer's place, 0 for the first
 abbrev pub answer_id : List ℕ → ℕ → List ℕ
@@ -128,11 +133,13 @@ request_ack_fields m =
 -- the quantities of a position: one of the type TQ, long and short
 abbrev pub quantity_fields : PositionReport → List TagValue
 quantity_fields m =
-    number_field NO_POSITIONS 1 ∷ tag_value POS_TYPE (codes "TQ") ∷ number_field LONG_QTY m.long_qty ∷ number_field SHORT_QTY m.short_qty ∷ []
+    number_field NO_POSITIONS 1 ∷ tag_value POS_TYPE (codes "TQ") ∷ number_field LONG_QTY m.long_qty
+    ∷ number_field SHORT_QTY m.short_qty ∷ []
 
 -- a PositionReport
 abbrev pub position_fields : PositionReport → List TagValue
 position_fields m =
     tag_value POS_MAINT_RPT_ID (answer_id m.pos_req_id m.place) ∷ tag_value POS_REQ_ID m.pos_req_id ∷ number_field POS_REQ_RESULT 0
-    ∷ tag_value CLEARING_BUSINESS_DATE (date_text m.clearing_business_date.year m.clearing_business_date.month m.clearing_business_date.day)
+    ∷ tag_value CLEARING_BUSINESS_DATE
+    (date_text m.clearing_business_date.year m.clearing_business_date.month m.clearing_business_date.day)
     ∷ tag_value ACCOUNT m.account.name ∷ tag_value SYMBOL m.symbol.name ∷ quantity_fields m

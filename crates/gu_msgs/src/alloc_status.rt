@@ -19,7 +19,8 @@ pub enum AllocStatus {
 impl AllocStatus {
     /// The status with this number.
     pub fn of_number(number: u64) -> Option<AllocStatus>
-        ensures { MatchOption result ((status : StatusOf) → number ≢ status_number status) (λ status. number ≡ status_number status) }
+        ensures { MatchOption result ((status : StatusOf) → number ≢ status_number status)
+            (λ status. number ≡ status_number status) }
     {
         match number {
             0 => Some(AllocStatus::Accepted),

@@ -100,7 +100,6 @@ fn adds_up(quantity: u64, allocs: &[Alloc]) -> bool
     left == 0
 }
 
-/// An AllocationInstruction.
 pub fn read_allocation_instruction(alloc: Global, fields: &Run<'_>) -> Result<Inbound, MsgFault>
     requires { IsWellMade kind.AllocationInstruction fields.now }
     ensures { MatchResult result (Says fields.now) (IsDisagreed kind.AllocationInstruction fields.now) }

@@ -24,7 +24,6 @@ fn report_ack(fields: &Run<'_>) -> AllocationReportAck
     }
 }
 
-/// An AllocationReportAck.
 pub fn read_allocation_report_ack(fields: &Run<'_>) -> Result<Inbound, MsgFault>
     requires { IsWellMade kind.AllocationReportAck fields.now }
     ensures { MatchResult result (Says fields.now) (IsDisagreed kind.AllocationReportAck fields.now) }

@@ -63,7 +63,8 @@ pub fn group_of<'a>(fields: &Run<'a>, msg_type: MsgType, counter: u32) -> Run<'a
 
 /// Takes the next entry of a group, which begins with this tag.
 pub fn next_entry<'a>(rest: &mut Run<'a>, first: u32) -> Option<Run<'a>>
-    ensures { MatchOption result (entries_by first rest.old ≡ []) (λ entry. entries_by first rest.old ≡ entry ∷ entries_by first rest.new) }
+    ensures { MatchOption result (entries_by first rest.old ≡ [])
+        (λ entry. entries_by first rest.old ≡ entry ∷ entries_by first rest.new) }
 {
     let mut here = rest.copy();
     while let Some(field) = rest.next() {

@@ -4,20 +4,20 @@ use crate::alloc_status::AllocStatus;
 use gu_terms::{AccountId, Day, Id, Lots, OfferNo, Price, Side, Symbol};
 
 /// A heartbeat (FIX: Heartbeat, MsgType 0).
-#[derive(Debug, Drop)]
+#[derive(Drop)]
 pub struct Heartbeat {
     /// The id of the TestRequest that it answers.
     pub test_req_id: Option<Vec<u8>>,
 }
 
 /// A question whether the session is alive (FIX: TestRequest, MsgType 1).
-#[derive(Debug, Drop)]
+#[derive(Drop)]
 pub struct TestRequest {
     pub test_req_id: Vec<u8>,
 }
 
 /// A request for messages once more (FIX: ResendRequest, MsgType 2).
-#[derive(Clone, Copy, Debug, PartialEq, Eq)]
+#[derive(Clone, Copy)]
 pub struct ResendRequest {
     pub begin_seq_no: u64,
     /// The last number that is asked for, or 0 for all.
@@ -25,7 +25,7 @@ pub struct ResendRequest {
 }
 
 /// A new number in place of those before it (FIX: SequenceReset, MsgType 4).
-#[derive(Clone, Copy, Debug, PartialEq, Eq)]
+#[derive(Clone, Copy)]
 pub struct SequenceReset {
     /// Whether it stands for messages that aren't sent again.
     pub is_gap_fill: bool,
@@ -33,7 +33,7 @@ pub struct SequenceReset {
 }
 
 /// The start of a session (FIX: Logon, MsgType A).
-#[derive(Clone, Copy, Debug, PartialEq, Eq)]
+#[derive(Clone, Copy)]
 pub struct Logon {
     /// The seconds between heartbeats, or 0 for none.
     pub heart_bt_int: u64,
@@ -41,7 +41,7 @@ pub struct Logon {
 }
 
 /// A report of one side of a trade (FIX: TradeCaptureReport, MsgType AE).
-#[derive(Clone, Copy, Debug, PartialEq, Eq)]
+#[derive(Clone, Copy)]
 pub struct TradeCaptureReport {
     pub trade_report_id: Id,
     pub trd_match_id: Id,
@@ -54,14 +54,14 @@ pub struct TradeCaptureReport {
 }
 
 /// A part of a give-up, for one account.
-#[derive(Clone, Copy, Debug, PartialEq, Eq)]
+#[derive(Clone, Copy)]
 pub struct Alloc {
     pub account: AccountId,
     pub quantity: Lots,
 }
 
 /// A give-up of a trade that was reported (FIX: AllocationInstruction, MsgType J).
-#[derive(Debug, Drop)]
+#[derive(Drop)]
 pub struct AllocationInstruction {
     pub alloc_id: Id,
     pub quantity: Lots,
@@ -71,21 +71,21 @@ pub struct AllocationInstruction {
 }
 
 /// What the carrying firm says to an offer (FIX: AllocationReportAck, MsgType AT).
-#[derive(Clone, Copy, Debug, PartialEq, Eq)]
+#[derive(Clone, Copy)]
 pub struct AllocationReportAck {
     pub alloc_report_id: OfferNo,
     pub alloc_status: AllocStatus,
 }
 
 /// A question for the positions of an account (FIX: RequestForPositions, MsgType AN).
-#[derive(Clone, Copy, Debug, PartialEq, Eq)]
+#[derive(Clone, Copy)]
 pub struct RequestForPositions {
     pub pos_req_id: Id,
     pub account: AccountId,
 }
 
 /// A message that is read, by its type.
-#[derive(Debug, Drop)]
+#[derive(Drop)]
 pub enum Inbound {
     Heartbeat(Heartbeat),
     TestRequest(TestRequest),

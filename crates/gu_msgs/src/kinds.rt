@@ -66,7 +66,8 @@ fn date_fault(text: &[u8]) -> Option<SessionRejectReason>
 
 /// What is wrong with the text of a whole number from one number to another.
 fn number_fault(text: &[u8], least: u64, most: u64) -> Option<SessionRejectReason>
-    ensures { MatchOption result (IsSound (kind.Number least most) text.now) (λ reason. IsAtFault (kind.Number least most) text.now reason) }
+    ensures { MatchOption result (IsSound (kind.Number least most) text.now)
+        (λ reason. IsAtFault (kind.Number least most) text.now reason) }
 {
     if !is_numeral(text) {
         return Some(SessionRejectReason::IncorrectDataFormat);

@@ -6,7 +6,7 @@ ghost use Rattle.gu_msgs.specs.MsgTypes.{code_of, is_type_text, is_type_byte};
 ghost use Rattle.gu_msgs.specs.declared.msg_type.MsgType.{MsgType as TypeOf};
 
 /// A message that is read (FIX: MsgType, tag 35).
-#[derive(Clone, Copy, Debug, PartialEq, Eq)]
+#[derive(Clone, Copy)]
 pub enum MsgType {
     Heartbeat,
     TestRequest,
@@ -43,7 +43,6 @@ impl MsgType {
     }
 }
 
-/// Whether a type's text may have this byte.
 fn is_type_byte(byte: u8) -> bool
     ensures { result ≡ is_type_byte byte }
 {

@@ -7,7 +7,7 @@ use crate::rejection::Rejection;
 use gu_terms::{AccountId, Day, FirmId, Id, Lots, Moment, OfferNo, Price, Side, Symbol};
 
 /// A malformed or misplaced message (FIX: Reject, MsgType 3).
-#[derive(Debug, Drop)]
+#[derive(Drop)]
 pub struct Reject {
     /// The number of the message.
     pub ref_seq_num: u64,
@@ -19,7 +19,7 @@ pub struct Reject {
 }
 
 /// A message that its own kind doesn't answer (FIX: BusinessMessageReject, MsgType j).
-#[derive(Debug, Drop)]
+#[derive(Drop)]
 pub struct BusinessMessageReject {
     pub ref_seq_num: u64,
     /// The offer that was spoken of.
@@ -30,7 +30,7 @@ pub struct BusinessMessageReject {
 }
 
 /// The answer to a report (FIX: TradeCaptureReportAck, MsgType AR).
-#[derive(Clone, Copy, Debug, PartialEq, Eq)]
+#[derive(Clone, Copy)]
 pub struct TradeCaptureReportAck {
     pub trade_report_id: Id,
     pub trd_match_id: Id,
@@ -38,14 +38,14 @@ pub struct TradeCaptureReportAck {
 }
 
 /// The answer to a give-up (FIX: AllocationInstructionAck, MsgType P).
-#[derive(Clone, Copy, Debug, PartialEq, Eq)]
+#[derive(Clone, Copy)]
 pub struct AllocationInstructionAck {
     pub alloc_id: Id,
     pub rejection: Option<Rejection>,
 }
 
 /// One side of a trade that was made (FIX: TradeCaptureReport, MsgType AE).
-#[derive(Clone, Copy, Debug, PartialEq, Eq)]
+#[derive(Clone, Copy)]
 pub struct TradeCaptureReport {
     /// The number of the entry that made the trade.
     pub entry: u64,
@@ -61,7 +61,7 @@ pub struct TradeCaptureReport {
 }
 
 /// What happens to an offer (FIX: AllocationReport, MsgType AS).
-#[derive(Clone, Copy, Debug, PartialEq, Eq)]
+#[derive(Clone, Copy)]
 pub struct AllocationReport {
     pub alloc_report_id: OfferNo,
     pub alloc_report_type: AllocReportType,
@@ -75,7 +75,7 @@ pub struct AllocationReport {
 }
 
 /// The answer to a question for positions (FIX: RequestForPositionsAck, MsgType AO).
-#[derive(Clone, Copy, Debug, PartialEq, Eq)]
+#[derive(Clone, Copy)]
 pub struct RequestForPositionsAck {
     pub pos_req_id: Id,
     pub outcome: PosReqResult,
@@ -83,7 +83,7 @@ pub struct RequestForPositionsAck {
 }
 
 /// A position (FIX: PositionReport, MsgType AP).
-#[derive(Clone, Copy, Debug, PartialEq, Eq)]
+#[derive(Clone, Copy)]
 pub struct PositionReport {
     pub pos_req_id: Id,
     /// Its place among the reports of the question, from 1.
@@ -96,7 +96,7 @@ pub struct PositionReport {
 }
 
 /// What a message says behind its header, by its type.
-#[derive(Debug, Drop)]
+#[derive(Drop)]
 pub enum Body {
     Logon {
         heart_bt_int: u64,
@@ -121,7 +121,7 @@ pub enum Body {
 }
 
 /// A message to a firm.
-#[derive(Debug, Drop)]
+#[derive(Drop)]
 pub struct Outbound {
     pub firm: FirmId,
     pub msg_seq_num: u64,

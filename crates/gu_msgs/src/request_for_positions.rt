@@ -24,7 +24,6 @@ fn request(fields: &Run<'_>) -> RequestForPositions
     }
 }
 
-/// A RequestForPositions.
 pub fn read_request_for_positions(fields: &Run<'_>) -> Result<Inbound, MsgFault>
     requires { IsWellMade kind.RequestForPositions fields.now }
     ensures { MatchResult result (Says fields.now) (IsDisagreed kind.RequestForPositions fields.now) }

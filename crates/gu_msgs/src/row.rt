@@ -4,7 +4,7 @@ ghost use Rattle.std.specs.Prelude.{◌≡◌};
 ghost use Rattle.gu_msgs.specs.Rows.{tag_of, kind_of, is_required};
 
 /// What the text of a field must be.
-#[derive(Clone, Copy, Debug, PartialEq, Eq)]
+#[derive(Clone, Copy)]
 pub enum Kind {
     /// Any bytes.
     Text,
@@ -29,7 +29,7 @@ pub enum Kind {
 }
 
 /// A tag that is read, and what its text must be.
-#[derive(Clone, Copy, Debug, PartialEq, Eq)]
+#[derive(Clone, Copy)]
 pub enum Row {
     /// It must stand.
     Required(u32, Kind),

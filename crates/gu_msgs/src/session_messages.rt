@@ -18,7 +18,6 @@ use crate::tags::{
 use crate::typed_values::{bytes_at, is_set, number_at, optional_bytes_at};
 use std::alloc::Global;
 
-/// A Heartbeat.
 pub fn read_heartbeat(alloc: Global, fields: &Run<'_>) -> Result<Inbound, MsgFault>
     requires { IsWellMade kind.Heartbeat fields.now }
     ensures { MatchResult result (Says fields.now) (IsDisagreed kind.Heartbeat fields.now) }
@@ -27,7 +26,6 @@ pub fn read_heartbeat(alloc: Global, fields: &Run<'_>) -> Result<Inbound, MsgFau
     Ok(Inbound::Heartbeat(Heartbeat { test_req_id }))
 }
 
-/// A TestRequest.
 pub fn read_test_request(alloc: Global, fields: &Run<'_>) -> Result<Inbound, MsgFault>
     requires { IsWellMade kind.TestRequest fields.now }
     ensures { MatchResult result (Says fields.now) (IsDisagreed kind.TestRequest fields.now) }
@@ -55,7 +53,6 @@ fn ends_right(request: ResendRequest) -> bool
     request.end_seq_no == 0 || request.begin_seq_no <= request.end_seq_no
 }
 
-/// A ResendRequest.
 pub fn read_resend_request(fields: &Run<'_>) -> Result<Inbound, MsgFault>
     requires { IsWellMade kind.ResendRequest fields.now }
     ensures { MatchResult result (Says fields.now) (IsDisagreed kind.ResendRequest fields.now) }
@@ -80,7 +77,6 @@ fn sequence_reset(fields: &Run<'_>) -> SequenceReset
     }
 }
 
-/// A SequenceReset.
 pub fn read_sequence_reset(fields: &Run<'_>) -> Result<Inbound, MsgFault>
     requires { IsWellMade kind.SequenceReset fields.now }
     ensures { MatchResult result (Says fields.now) (IsDisagreed kind.SequenceReset fields.now) }
@@ -100,7 +96,6 @@ fn logon(fields: &Run<'_>) -> Logon
     }
 }
 
-/// A Logon.
 pub fn read_logon(fields: &Run<'_>) -> Result<Inbound, MsgFault>
     requires { IsWellMade kind.Logon fields.now }
     ensures { MatchResult result (Says fields.now) (IsDisagreed kind.Logon fields.now) }

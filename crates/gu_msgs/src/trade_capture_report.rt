@@ -51,7 +51,6 @@ fn report(fields: &Run<'_>, entry: &Run<'_>) -> TradeCaptureReport
     }
 }
 
-/// A TradeCaptureReport.
 pub fn read_trade_capture_report(fields: &Run<'_>) -> Result<Inbound, MsgFault>
     requires { IsWellMade kind.TradeCaptureReport fields.now }
     ensures { MatchResult result (Says fields.now) (IsDisagreed kind.TradeCaptureReport fields.now) }

@@ -19,7 +19,8 @@ use crate::tables::{body_rows, entry_rows, header_rows};
 
 /// What is wrong with the value of a row's tag, where it stands.
 fn row_fault(fields: &Run<'_>, row: Row) -> Option<Fault>
-    ensures { MatchOption result (IsSoundItem (item_of fields.now row)) (λ fault. (fault.tag ≡ tag_of row) × IsItemAtFault (item_of fields.now row) fault.reason) }
+    ensures { MatchOption result (IsSoundItem (item_of fields.now row))
+        (λ fault. (fault.tag ≡ tag_of row) × IsItemAtFault (item_of fields.now row) fault.reason) }
 {
     let Some(text) = first_value(fields, row.tag()) else {
         return None;
@@ -44,7 +45,8 @@ fn rows_fault(fields: &Run<'_>, rows: &[Row]) -> Option<Fault>
 
 /// The first of the values of entries that isn't allowed.
 fn entries_fault(group: &Run<'_>, first: u32, rows: &[Row]) -> Option<Fault>
-    ensures { let items = flat_map (items_of rows.now) (entries_by first group.now) in MatchOption result (AreSound items) (λ fault. IsFirstAtFault items fault) }
+    ensures { let items = flat_map (items_of rows.now) (entries_by first group.now) in
+        MatchOption result (AreSound items) (λ fault. IsFirstAtFault items fault) }
 {
     let mut rest = group.copy();
     while let Some(entry) = next_entry(&mut rest, first) {
@@ -57,7 +59,8 @@ fn entries_fault(group: &Run<'_>, first: u32, rows: &[Row]) -> Option<Fault>
 
 /// The first of the values of the group that a tag counts that isn't allowed. A tag that counts nothing costs no walk.
 fn group_fault(fields: &Run<'_>, msg_type: MsgType, counter: u32) -> Option<Fault>
-    ensures { let items = flat_map (items_of (entry_rows counter)) (entries_of msg_type counter fields.now) in MatchOption result (AreSound items) (λ fault. IsFirstAtFault items fault) }
+    ensures { let items = flat_map (items_of (entry_rows counter)) (entries_of msg_type counter fields.now) in
+        MatchOption result (AreSound items) (λ fault. IsFirstAtFault items fault) }
 {
     let rows = entry_rows(counter);
     match rows.first() {
@@ -78,7 +81,8 @@ fn outer_fault(fields: &Run<'_>, msg_type: MsgType, row: Row) -> Option<Fault>
 
 /// The first of the values of these rows, with their groups, that isn't allowed.
 fn table_fault(fields: &Run<'_>, msg_type: MsgType, rows: &[Row]) -> Option<Fault>
-    ensures { let items = flat_map (row_items msg_type fields.now) rows.now in MatchOption result (AreSound items) (λ fault. IsFirstAtFault items fault) }
+    ensures { let items = flat_map (row_items msg_type fields.now) rows.now in
+        MatchOption result (AreSound items) (λ fault. IsFirstAtFault items fault) }
 {
     for row in rows {
         if let Some(fault) = outer_fault(fields, msg_type, *row) {

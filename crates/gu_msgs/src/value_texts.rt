@@ -17,14 +17,12 @@ const UNIT: u64 = 1_000_000;
 /// The milliseconds of a day.
 const DAY: u64 = 86_400_000;
 
-/// A number below a hundred in two digits.
 fn two_digits(number: u8) -> [u8; 2]
     ensures { result ≡ two_digits number }
 {
     [b'0' + number / 10, b'0' + number % 10]
 }
 
-/// A number below a thousand in three digits.
 fn three_digits(number: u16) -> [u8; 3]
     requires { number < 1000 }
     ensures { result ≡ three_digits number }
@@ -36,7 +34,6 @@ fn three_digits(number: u16) -> [u8; 3]
     ]
 }
 
-/// A number below a million in six digits.
 fn six_digits(number: u32) -> [u8; 6]
     requires { number < 1000000 }
     ensures { result ≡ six_digits number }

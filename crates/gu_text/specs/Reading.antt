@@ -49,7 +49,7 @@ line_fits parts line = is_silent line || option_map_or (fits_behind parts) (says
 abbrev pub with_text_line : SheetParts → List ℕ → SheetParts
 with_text_line parts line = option_map_or (with_line parts) (says line) parts
 
--- the line with this number says the end, and may apart from its view; those before it are right; these are their parts, and the text behind
+-- the line with this number says the end, and may apart from its view; those before are right; these are their parts, and the text behind
 pub record EndsAt (text : List ℕ) (parts : SheetParts) (rest : List ℕ) (number : ℕ) : Type 0 where
   pub place : ℕ
   pub end : List ℕ

@@ -5,10 +5,10 @@ use Rattle.std.specs.List.{list_all}
 use Rattle.std.specs.Option.{option_map, option_and_then}
 use Rattle.std.specs.Str.{bytes_eq}
 use Rattle.std.specs.Str.Parse.{digits_value}
+use Rattle.gu_terms.specs.LimitKeys.{key_of}
 use Rattle.gu_terms.specs.Names.{is_name}
 use Rattle.gu_terms.specs.Paths.{path_through}
 use Rattle.gu_terms.specs.declared.limit_key.LimitKey.{LimitKey}
-use Rattle.gu_terms.specs.declared.limit_key.LimitKey.TheVariants.{Exec, Agr, Acct, Carry}
 use Rattle.gu_text.specs.Lines.{is_silent, longest_line}
 use Rattle.gu_text.specs.Words.{is_ragged, words_of}
 use Rattle.gu_text.specs.declared.sheet_line.SheetLine.{SheetLine}
@@ -30,18 +30,9 @@ offer_no_of word = option_and_then (λ n. if nat_le 1 n && nat_le n 16000000 the
 abbrev pub name_of : List ℕ → Option (List ℕ)
 name_of word = if is_name word then Some word else None
 
--- the key of a kind with a name
-abbrev pub key_with : List ℕ → List ℕ → Option LimitKey
-key_with kind name =
-    if bytes_eq kind (codes "EXEC") then Some (Exec (record { name = name }))
-    else if bytes_eq kind (codes "AGR") then Some (Agr (record { name = name }))
-    else if bytes_eq kind (codes "ACCT") then Some (Acct (record { name = name }))
-    else if bytes_eq kind (codes "CARRY") then Some (Carry (record { name = name }))
-    else None
-
 -- the key that a kind and a name say
-abbrev pub key_of : List ℕ → List ℕ → Option LimitKey
-key_of kind word = option_and_then (key_with kind) (name_of word)
+abbrev pub key_said : List ℕ → List ℕ → Option LimitKey
+key_said kind word = option_and_then (key_of kind) (name_of word)
 
 -- `SHEET group version`
 abbrev pub sheet_said : List (List ℕ) → Option SheetLine
@@ -77,7 +68,7 @@ offer_said _ = None
 -- `ROOM KIND name lots`
 abbrev pub room_said : List (List ℕ) → Option SheetLine
 room_said (kind ∷ name ∷ lots ∷ []) =
-    option_and_then (λ k. option_map (λ l. line.Room (record { key = k; lots = l })) (number_of lots)) (key_of kind name)
+    option_and_then (λ k. option_map (λ l. line.Room (record { key = k; lots = l })) (number_of lots)) (key_said kind name)
 room_said _ = None
 
 -- `TAKE number lots`
@@ -90,7 +81,7 @@ take_said _ = None
 abbrev pub cut_said : List (List ℕ) → Option SheetLine
 cut_said (kind ∷ member ∷ []) =
     if bytes_eq kind (codes "OFFER") then option_map line.CutOffer (offer_no_of member)
-    else option_map line.CutKey (key_of kind member)
+    else option_map line.CutKey (key_said kind member)
 cut_said _ = None
 
 -- `END`

@@ -2,7 +2,7 @@
 
 ghost use Rattle.std.specs.Prelude.{◌≡◌};
 ghost use Rattle.std.specs.Option.{option_map};
-ghost use Rattle.gu_text.specs.SheetLines.{key_with, key_of, sheet_said, path_said, offer_said, room_said, take_said, cut_said, end_said, words_say, said_by, spoken};
+ghost use Rattle.gu_text.specs.SheetLines.{key_said, sheet_said, path_said, offer_said, room_said, take_said, cut_said, end_said, words_say, said_by, spoken};
 ghost use Rattle.gu_text.specs.SheetParts.{part_of, rank_of};
 ghost use Rattle.gu_text.specs.Words.{words_of};
 
@@ -23,14 +23,6 @@ const TAKE: &[u8] = b"TAKE";
 const CUT: &[u8] = b"CUT";
 
 const END: &[u8] = b"END";
-
-const EXEC: &[u8] = b"EXEC";
-
-const AGR: &[u8] = b"AGR";
-
-const ACCT: &[u8] = b"ACCT";
-
-const CARRY: &[u8] = b"CARRY";
 
 /// The group of a sheet, and the group's version.
 #[derive(Clone, Copy)]
@@ -96,31 +88,12 @@ impl SheetLine {
     }
 }
 
-/// The key of a kind with a name.
-fn key_with(kind: &[u8], name: Name) -> Option<LimitKey>
-    ensures { result ≡ key_with kind.now name }
-{
-    if kind == EXEC {
-        return Some(LimitKey::Exec(FirmId { name }));
-    }
-    if kind == AGR {
-        return Some(LimitKey::Agr(AgreementId { name }));
-    }
-    if kind == ACCT {
-        return Some(LimitKey::Acct(AccountId { name }));
-    }
-    if kind == CARRY {
-        return Some(LimitKey::Carry(FirmId { name }));
-    }
-    None
-}
-
 /// The key that a kind and a name say.
-fn key_of(kind: &[u8], word: &[u8]) -> Option<LimitKey>
-    ensures { result ≡ key_of kind.now word.now }
+fn key_said(kind: &[u8], word: &[u8]) -> Option<LimitKey>
+    ensures { result ≡ key_said kind.now word.now }
 {
     let name = name_of(word)?;
-    key_with(kind, name)
+    LimitKey::of(kind, name)
 }
 
 /// The group and its version.
@@ -173,7 +146,7 @@ fn room_said(words: &[u8]) -> Option<SheetLine>
     ensures { result ≡ room_said (words_of words.now) }
 {
     let (kind, name, lots) = three_words(words)?;
-    let key = key_of(kind, name)?;
+    let key = key_said(kind, name)?;
     let lots = number_of(lots)?;
     Some(SheetLine::Room(Room { key, lots }))
 }
@@ -197,7 +170,7 @@ fn cut_said(words: &[u8]) -> Option<SheetLine>
         let number = offer_no_of(member)?;
         return Some(SheetLine::CutOffer(number));
     }
-    let key = key_of(kind, member)?;
+    let key = key_said(kind, member)?;
     Some(SheetLine::CutKey(key))
 }
 

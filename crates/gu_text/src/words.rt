@@ -4,7 +4,6 @@ ghost use Rattle.std.specs.Prelude.{◌≡◌, ◌≢◌, ◌<◌, ◌∷◌, []
 ghost use Rattle.std.specs.List.{position};
 ghost use Rattle.gu_text.specs.Words.{is_blank, is_blank_at, is_ragged, words_of};
 
-/// Whether a blank stands at a place of a line.
 fn is_blank_at(line: &[u8], place: usize) -> bool
     ensures { result ≡ is_blank_at line.now place }
 {

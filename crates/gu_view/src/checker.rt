@@ -12,8 +12,8 @@ ghost use Rattle.gu_view.specs.View.{IsView};
 
 use crate::error::{CutFault, Unknown};
 use crate::takes::{fill_lots, not_oldest_first, over_limit, over_offer, sum_of};
-use crate::view::{MOST_OFFERS, MOST_ROOMS, Offer, Room, View};
-use gu_terms::{Cut, LimitKey, OfferNo, Takes};
+use crate::view::{MOST_ROOMS, Offer, Room, View};
+use gu_terms::{Cut, LimitKey, MOST_OPEN_OFFERS, OfferNo, Takes};
 
 /// Marks the rooms of these keys, or answers the first key that has no room.
 fn mark_keys(view: &View, keys: &[LimitKey], marks: &mut [bool]) -> Option<CutFault>
@@ -164,7 +164,7 @@ fn answer(view: &View, takes: &Takes, cut: &Cut) -> Result<u64, CutFault>
     ensures sound { IsView view.now }
 {
     let offers = view.offers();
-    let mut taken = [0; MOST_OFFERS];
+    let mut taken = [0; MOST_OPEN_OFFERS];
     let taken = &mut taken[..offers.len()];
     if let Some(fault) = fill_lots(offers, takes.as_slice(), taken) {
         return Err(fault);
@@ -174,7 +174,7 @@ fn answer(view: &View, takes: &Takes, cut: &Cut) -> Result<u64, CutFault>
     if let Some(fault) = mark_keys(view, cut.keys(), keys) {
         return Err(fault);
     }
-    let mut numbers = [false; MOST_OFFERS];
+    let mut numbers = [false; MOST_OPEN_OFFERS];
     let numbers = &mut numbers[..offers.len()];
     if let Some(fault) = mark_offers(offers, cut.offers(), numbers) {
         return Err(fault);

@@ -12,16 +12,10 @@ ghost use Rattle.gu_view.specs.Making.{is_bad, is_own, numbered, bad_offer, path
 ghost use Rattle.gu_view.specs.View.{keys_of, firsts, place_among};
 
 use crate::place_lists::PlaceLists;
-use crate::view::{MOST_OFFERS, Offer, Room};
-use gu_terms::{AgreementId, LimitKey, OfferNo, Path};
+use crate::view::{Offer, Room};
+use gu_terms::{AgreementId, LimitKey, MOST_LIMIT, MOST_LOTS, MOST_OPEN_OFFERS, OfferNo, Path};
 use indexmap::{IndexMap, IndexSet};
 use std::alloc::{AllocError, Global};
-
-/// The lots that an offer has at most.
-const MOST_LOTS: u64 = 1_000_000;
-
-/// The lots that a room has at most.
-const MOST_ROOM: u64 = 1_000_000_000;
 
 /// Whether an offer's number isn't above the one before it, or its lots are out of range.
 fn is_bad(before: u64, offer: &Offer) -> bool
@@ -44,7 +38,6 @@ fn first_bad(offers: &[Offer]) -> Option<OfferNo>
     None
 }
 
-/// The number of the offer at a place.
 fn number_at(offers: &[Offer], place: usize) -> Option<OfferNo>
     ensures { result ≡ option_map (λ o. o.number) (slice_get offers.now place) }
 {
@@ -55,12 +48,12 @@ fn number_at(offers: &[Offer], place: usize) -> Option<OfferNo>
 pub fn bad_offer(offers: &[Offer]) -> Option<OfferNo>
     ensures { result ≡ bad_offer offers.now }
 {
-    if offers.len() <= MOST_OFFERS {
+    if offers.len() <= MOST_OPEN_OFFERS {
         return first_bad(offers);
     }
-    match first_bad(&offers[..MOST_OFFERS]) {
+    match first_bad(&offers[..MOST_OPEN_OFFERS]) {
         Some(number) => Some(number),
-        None => number_at(offers, MOST_OFFERS),
+        None => number_at(offers, MOST_OPEN_OFFERS),
     }
 }
 
@@ -170,7 +163,7 @@ fn given(
 {
     let mut lots = IndexMap::new(alloc);
     for room in rooms {
-        if MOST_ROOM < room.lots {
+        if MOST_LIMIT < room.lots {
             return Ok(None);
         }
         if !keys.contains(&room.key) {

@@ -37,7 +37,6 @@ fn is_whole(own: AgreementId, path: &[LimitKey]) -> bool
     }
 }
 
-/// Whether each path is whole.
 pub fn are_whole(offers: &[Offer]) -> bool
     ensures { result ≡ list_all (λ o. is_whole o.agreement o.path) offers.now }
 {
@@ -46,7 +45,6 @@ pub fn are_whole(offers: &[Offer]) -> bool
         .all(|offer| is_whole(offer.agreement, offer.path.keys()))
 }
 
-/// Whether a key is of an account.
 fn is_account(key: LimitKey) -> bool
     ensures { result ≡ is_account key }
 {

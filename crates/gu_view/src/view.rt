@@ -15,14 +15,11 @@ use indexmap::IndexSet;
 use std::alloc::{AllocError, Global};
 use std::marker::Model;
 
-/// The offers that a view has at most.
-pub const MOST_OFFERS: usize = 4_096;
-
 /// The rooms that a view has at most: a path has at most five keys.
 pub const MOST_ROOMS: usize = 20_480;
 
 /// An open offer: its number, the lots that are left of it, its agreement and its path.
-#[derive(Clone, Copy, Debug, PartialEq, Eq)]
+#[derive(Clone, Copy, PartialEq, Eq)]
 pub struct Offer {
     pub number: OfferNo,
     pub lots: u64,
@@ -31,7 +28,7 @@ pub struct Offer {
 }
 
 /// The room of a key.
-#[derive(Clone, Copy, Debug, PartialEq, Eq)]
+#[derive(Clone, Copy, PartialEq, Eq)]
 pub struct Room {
     pub key: LimitKey,
     pub lots: u64,

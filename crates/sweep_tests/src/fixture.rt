@@ -4,7 +4,7 @@ use gu_flow::{Proposal, propose};
 use gu_terms::{AccountId, AgreementId, FirmId, Group, LimitKey, OfferNo, Path};
 use gu_text::Sheet;
 use gu_view::{Offer, Room, View, ViewError};
-use std::alloc::Global;
+use std::alloc::{AllocError, Global};
 use std::process::Abort;
 
 /// An offer: number, lots, agreement, and its path: executing firm, agreement, account, carrying firm.
@@ -65,10 +65,21 @@ pub(crate) fn view(alloc: Global, text: &str) -> Option<View> {
     sheet(alloc, text, "")?.view.copy().ok()
 }
 
+/// What is proposed, or nothing where a growth was refused.
+pub(crate) fn proposed(answer: Result<Proposal, (AllocError, View)>) -> Option<Proposal> {
+    match answer {
+        Ok(proposal) => Some(proposal),
+        Err((_, view)) => {
+            drop(view);
+            None
+        }
+    }
+}
+
 /// The proposal for a nested view.
 pub(crate) fn proposal(rt: &impl Abort, alloc: Global, view: View) -> Option<Proposal> {
     assert!(rt; view.nested());
-    propose(alloc, view).ok()
+    proposed(propose(alloc, view))
 }
 
 /// The key of a kind with a name.

@@ -40,26 +40,29 @@ fn taken(alloc: Global, most: u64) -> Option<String> {
     format!(in alloc; "{takes}{cut}").ok()
 }
 
-/// The line that a check of a sheet answers, and the lots that a proposal for its view takes.
-fn answered(rt: &impl Abort, alloc: Global, view: &str, rest: &str) -> Option<(Vec<u8>, u64)> {
+/// Whether a check of a sheet answers this line, and a proposal for its view takes so many lots.
+fn is_answered(
+    rt: &impl Abort,
+    alloc: Global,
+    view: &str,
+    rest: &str,
+    line: &str,
+    lots: u64,
+) -> Option<bool> {
     let sheet = sheet(alloc, view, rest)?;
     let verdict = check(&sheet.view, &sheet.takes, &sheet.cut);
-    let line = verdict_text(alloc, &verdict).ok()?;
+    let text = verdict_text(alloc, &verdict).ok()?;
     let proposal = proposal(rt, alloc, sheet.view.copy().ok()?)?;
-    Some((line, proposal.copy().ok()?.lots()))
-}
-
-/// Whether these are the line and the lots.
-fn is_answer(answer: Option<(Vec<u8>, u64)>, line: &str, lots: u64) -> bool {
-    answer.is_some_and(|answer| answer.0.as_slice() == line.as_bytes() && answer.1 == lots)
+    let copy = proposal.copy().ok()?;
+    Some(text.as_slice() == line.as_bytes() && copy.lots() == lots)
 }
 
 #[test]
 fn sheet_of_4096_offers_is_read_checked_and_swept(rt: HostRuntime) -> Result<(), Fail> {
     let view = apart(rt.alloc(), MOST).ok_or("a view")?;
     let rest = taken(rt.alloc(), MOST).ok_or("takes")?;
-    let answer = answered(&rt, rt.alloc(), &view, &rest);
-    assert!(rt; is_answer(answer, "OK 4096\n", 4_096));
+    let answered = is_answered(&rt, rt.alloc(), &view, &rest, "OK 4096\n", 4_096);
+    assert_eq!(rt; answered, Some(true));
     Ok(())
 }
 
@@ -109,8 +112,8 @@ fn view_of_4096_offers_under_one_agreement_is_swept(rt: HostRuntime) -> Result<(
 fn sheet_is_read_checked_and_swept_5000_times(rt: HostRuntime) -> Result<(), Fail> {
     let rest = "TAKE 2 10\nTAKE 3 10\nCUT EXEC E1\nCUT ACCT A1\n";
     for turn in 0..5_000 {
-        let answer = answered(&rt, rt.alloc(), CROSSED, rest);
-        assert!(rt; is_answer(answer, "OK 20\n", 20), "in turn {turn}");
+        let answered = is_answered(&rt, rt.alloc(), CROSSED, rest, "OK 20\n", 20);
+        assert_eq!(rt; answered, Some(true), "in turn {turn}");
     }
     Ok(())
 }

@@ -1,6 +1,6 @@
 //! Growths that are refused: run with each allocation failing in turn. A call that is refused is made again.
 
-use crate::fixture::{OfferLine, RoomLine, SHARED, made};
+use crate::fixture::{OfferLine, RoomLine, SHARED, made, proposed};
 use gu_flow::{Proposal, propose};
 use gu_text::{Sheet, SheetError, verdict_text};
 use gu_view::{View, ViewError, check};
@@ -68,7 +68,7 @@ fn proposed_again(rt: &impl Abort, alloc: Global, view: View, same: &View) -> Op
         Ok(proposal) => Some(proposal),
         Err((_, view)) => {
             assert!(rt; view.is_same(same));
-            propose(alloc, view).ok()
+            proposed(propose(alloc, view))
         }
     }
 }

@@ -2,7 +2,6 @@
 use crate::messages::{HEARTBEAT, SHORTEST, fields_of, frame_in, longest_value, most_fields, wire};
 use gu_fix::{EncodeError, Fields, encode, fields};
 use std::alloc::{AllocError, Global};
-use std::test::Fail;
 
 /// A text of fields, and the message or the fault.
 type Row = (&'static str, Result<&'static str, EncodeError>);
@@ -48,9 +47,8 @@ pub fn wrong_row(alloc: Global, rows: &[Row]) -> Result<Option<&'static str>, Al
 }
 
 #[test]
-fn fields_are_written_or_their_first_fault_is_named(rt: HostRuntime) -> Result<(), Fail> {
-    assert_eq!(rt; wrong_row(rt.alloc(), &ROWS)?, None);
-    Ok(())
+fn fields_are_written_or_their_first_fault_is_named(rt: HostRuntime) {
+    assert_eq!(rt; wrong_row(rt.alloc(), &ROWS), Ok(None));
 }
 
 /// The fields of a message, but for those that the encoding itself writes.
@@ -66,44 +64,47 @@ fn body_of(alloc: Global, message: &[u8]) -> Result<Fields, AllocError> {
     Ok(body)
 }
 
-/// Whether a message's fields are written as that message, and with one more are too long.
-fn is_longest(alloc: Global, message: &[u8]) -> Result<bool, EncodeError> {
-    let Ok(mut body) = body_of(alloc, message) else {
-        return Err(EncodeError::Memory);
-    };
-    let comes_back = encode(alloc, &body)?.as_slice() == message;
-    if body.push(58, b"x").is_err() {
-        return Err(EncodeError::Memory);
+/// How many bytes the fields are written as, or none where they are too long.
+fn length_of(alloc: Global, fields: &Fields) -> Result<Option<usize>, AllocError> {
+    match encode(alloc, fields) {
+        Ok(bytes) => Ok(Some(bytes.len())),
+        Err(EncodeError::TooLong) => Ok(None),
+        Err(_) => Err(AllocError),
     }
-    Ok(comes_back && encode(alloc, &body).err() == Some(EncodeError::TooLong))
 }
 
-#[test]
-fn messages_of_65_536_bytes_are_written_and_no_longer_ones(rt: HostRuntime) -> Result<(), Fail> {
-    let message = longest_value(rt.alloc())?;
-    assert!(rt; is_longest(rt.alloc(), message.as_bytes())?);
-    let message = most_fields(rt.alloc())?;
-    assert!(rt; is_longest(rt.alloc(), message.as_bytes())?);
-    Ok(())
+/// How many bytes a message's fields are written as, and with one more.
+fn lengths(alloc: Global, message: &str) -> Result<(Option<usize>, Option<usize>), AllocError> {
+    let mut body = body_of(alloc, message.as_bytes())?;
+    let alone = length_of(alloc, &body)?;
+    body.push(58, b"x")?;
+    Ok((alone, length_of(alloc, &body)?))
+}
+
+/// The lengths of the fields of a long value, and of the most fields.
+fn longest(alloc: Global) -> Result<[(Option<usize>, Option<usize>); 2], AllocError> {
+    let value = lengths(alloc, &longest_value(alloc)?)?;
+    Ok([value, lengths(alloc, &most_fields(alloc)?)?])
 }
 
 /// How many bytes the message of a text's fields has, where it is written so many times.
-fn length_of(alloc: Global, text: &str, times: usize) -> Result<usize, EncodeError> {
-    let Ok(fields) = fields_of(alloc, text) else {
-        return Err(EncodeError::Memory);
-    };
-    let mut length = 0;
+fn length_at(alloc: Global, text: &str, times: usize) -> Result<Option<usize>, AllocError> {
+    let fields = fields_of(alloc, text)?;
+    let mut length = None;
     for _ in 0..times {
-        length = encode(alloc, &fields)?.len();
+        length = length_of(alloc, &fields)?;
     }
     Ok(length)
 }
 
 #[test]
-fn thousands_of_messages_are_written_in_a_row(rt: HostRuntime) -> Result<(), Fail> {
+fn messages_of_65_536_bytes_and_thousands_in_a_row_are_written(rt: HostRuntime) {
     assert_eq!(rt;
-        length_of(rt.alloc(), "35=0|49=E1|56=GIVEUP|34=2|52=x|", 5_000)?,
-        54
+        longest(rt.alloc()),
+        Ok([(Some(65_536), None), (Some(65_536), None)])
     );
-    Ok(())
+    assert_eq!(rt;
+        length_at(rt.alloc(), "35=0|49=E1|56=GIVEUP|34=2|52=x|", 5_000),
+        Ok(Some(54))
+    );
 }

@@ -1,8 +1,7 @@
 //! What the fields of a message are.
-use crate::messages::{frame_in, longest_value, most_fields, text_of, wire};
+use crate::messages::{SHORTEST, frame_in, longest_value, most_fields, text_of, wire};
 use gu_fix::fields;
 use std::alloc::{AllocError, Global};
-use std::test::Fail;
 
 /// A message, its fields, and the tag and the reason of the first that is malformed.
 type Row = (&'static str, &'static str, Option<(u32, u32)>);
@@ -94,48 +93,29 @@ pub fn wrong_row(alloc: Global, rows: &[Row]) -> Result<Option<&'static str>, Al
 }
 
 #[test]
-fn the_first_malformed_field_is_named_and_those_behind_it_are_given(
-    rt: HostRuntime,
-) -> Result<(), Fail> {
-    assert_eq!(rt; wrong_row(rt.alloc(), &ROWS)?, None);
-    Ok(())
+fn the_first_malformed_field_is_named_and_those_behind_it_are_given(rt: HostRuntime) {
+    assert_eq!(rt; wrong_row(rt.alloc(), &ROWS), Ok(None));
 }
 
-/// How many fields a message has, and how many bytes their values, where it is split so many times.
-fn counts(alloc: Global, message: &[u8], times: usize) -> Result<(usize, usize), AllocError> {
-    let frame = frame_in(alloc, message)?;
-    let mut counts = (0, 0);
+/// How many fields a message has that is split so many times.
+fn count(alloc: Global, message: &str, times: usize) -> Result<usize, AllocError> {
+    let frame = frame_in(alloc, message.as_bytes())?;
+    let mut count = 0;
     for _ in 0..times {
         let (fields, _) = fields(alloc, &frame)?;
-        counts = (
-            fields.len(),
-            fields.iter().fold(0_usize, |sum, field| sum.saturating_add(field.value.len())),
-        );
+        count = fields.len();
     }
-    Ok(counts)
+    Ok(count)
+}
+
+/// How many fields the longest messages have, and SHORTEST, which is split 5,000 times.
+fn counts(alloc: Global) -> Result<(usize, usize, usize), AllocError> {
+    let value = count(alloc, &longest_value(alloc)?, 1)?;
+    let most = count(alloc, &most_fields(alloc)?, 1)?;
+    Ok((value, most, count(alloc, &wire(alloc, SHORTEST)?, 5_000)?))
 }
 
 #[test]
-fn messages_of_65_536_bytes_are_split(rt: HostRuntime) -> Result<(), Fail> {
-    let message = longest_value(rt.alloc())?;
-    assert_eq!(rt;
-        counts(rt.alloc(), message.as_bytes(), 1)?,
-        (5, 8 + 5 + 1 + 65_501 + 3)
-    );
-    let message = most_fields(rt.alloc())?;
-    assert_eq!(rt;
-        counts(rt.alloc(), message.as_bytes(), 1)?,
-        (16_380, 8 + 5 + 1 + 16_376 + 3)
-    );
-    Ok(())
-}
-
-#[test]
-fn a_message_is_split_thousands_of_times(rt: HostRuntime) -> Result<(), Fail> {
-    let message = wire(rt.alloc(), "8=FIXT.1.1|9=15|35=0|58=x|34=2|10=028|")?;
-    assert_eq!(rt;
-        counts(rt.alloc(), message.as_bytes(), 5_000)?,
-        (6, 8 + 2 + 1 + 1 + 1 + 3)
-    );
-    Ok(())
+fn messages_of_65_536_bytes_and_thousands_in_a_row_are_split(rt: HostRuntime) {
+    assert_eq!(rt; counts(rt.alloc()), Ok((5, 16_380, 4)));
 }

@@ -1,23 +1,31 @@
 //! Histories of many entries.
 use gu_terms::{Command, Day, Done, Entry, History, Reply};
+use std::alloc::Global;
 
 /// How many entries a history has after so many more, each of which opens a day.
 fn push_all(history: &mut History, day: Day, count: usize) -> Option<usize> {
-    let entry = Entry::Asked {
-        command: Command::OpenDay { day },
-        reply: Reply::Accepted(Done::Opened),
-    };
     for _ in 0..count {
-        history.push(entry.copy().ok()?).ok()?;
+        let command = Command::OpenDay { day };
+        history
+            .push(Entry::Asked {
+                command,
+                reply: Reply::Accepted(Done::Opened),
+            })
+            .ok()?;
     }
     Some(history.len())
 }
 
+/// How many entries a history has after 10,000, and after 20,000 more behind the first.
+fn counts(alloc: Global) -> Option<(usize, usize)> {
+    let day = Day::new(2026, 1, 5)?;
+    let mut history = History::new(alloc);
+    let first = push_all(&mut history, day, 10_000)?;
+    history.truncate(1);
+    Some((first, push_all(&mut history, day, 20_000)?))
+}
+
 #[test]
 fn a_history_keeps_thousands_of_entries(rt: HostRuntime) {
-    let day = Day::new(2026, 1, 5).expect(&rt, "no day");
-    let mut history = History::new(rt.alloc());
-    assert_eq!(rt; push_all(&mut history, day, 10_000), Some(10_000));
-    history.truncate(1);
-    assert_eq!(rt; push_all(&mut history, day, 20_000), Some(20_001));
+    assert_eq!(rt; counts(rt.alloc()), Some((10_000, 20_001)));
 }

@@ -1,11 +1,10 @@
 //! Growths that are refused: run with each allocation failing in turn (`rt try --test --fail-alloc N`). A call that is
 //! refused leaves its value as it was, and passes when it is made again.
-use crate::writing::{sample, wrong_notice};
-use crate::{encoding, fields, header, reading};
+use crate::messages::first_of;
+use crate::{encoding, fields, header, reading, writing};
 use gu_fix::{Feed, Fields};
 use gu_terms::{Command, Cut, Day, Done, Entry, FirmId, History, LimitKey, OfferNo, Reply, Takes};
-use std::alloc::AllocError;
-use std::test::Fail;
+use std::alloc::{AllocError, Global};
 
 /// How many messages a feed gives with a piece, at the second try where the first is refused.
 fn count(feed: &mut Feed, piece: &[u8]) -> Option<usize> {
@@ -15,177 +14,160 @@ fn count(feed: &mut Feed, piece: &[u8]) -> Option<usize> {
     }
 }
 
-#[test]
-fn a_piece_is_fed_again(rt: HostRuntime) {
-    let mut feed = Feed::new(rt.alloc());
-    for _ in 0..3 {
-        assert_eq!(rt; count(&mut feed, b"8=FIXT.1."), Some(0));
-        assert_eq!(rt;
-            count(&mut feed, b"1\x019=5\x0135=0\x0110=241\x01"),
-            Some(1)
-        );
-    }
-}
-
 /// How many fields there are when one more is appended, at the second try where the first is refused.
 fn append(fields: &mut Fields, value: &[u8]) -> Option<usize> {
     let before = fields.len();
-    if fields.push(58, value).is_err() {
-        if fields.len() != before {
-            return None;
+    if fields.push(58, value).is_ok() {
+        return Some(fields.len());
+    }
+    if fields.len() == before && fields.push(58, value).is_ok() {
+        Some(fields.len())
+    } else {
+        None
+    }
+}
+
+/// Whether a message comes whole so many times, each time behind a part of it.
+fn comes_whole(feed: &mut Feed, times: usize) -> Option<bool> {
+    for _ in 0..times {
+        if count(feed, b"8=FIXT.1.")? != 0 || count(feed, b"1\x019=5\x0135=0\x0110=241\x01")? != 1 {
+            return Some(false);
         }
-        fields.push(58, value).ok()?;
+    }
+    Some(true)
+}
+
+/// How many fields there are after so many.
+fn append_all(fields: &mut Fields, times: usize) -> Option<usize> {
+    for _ in 0..times {
+        append(fields, b"a text")?;
     }
     Some(fields.len())
 }
 
 #[test]
-fn a_field_is_appended_again(rt: HostRuntime) {
+fn a_piece_is_fed_again_and_a_field_is_appended_again(rt: HostRuntime) {
+    let mut feed = Feed::new(rt.alloc());
+    assert_eq!(rt; comes_whole(&mut feed, 20), Some(true));
     let mut fields = Fields::new(rt.alloc());
-    for count in 1..21 {
-        assert_eq!(rt; append(&mut fields, b"a text"), Some(count));
-    }
+    assert_eq!(rt; append_all(&mut fields, 20), Some(20));
 }
 
-/// The answer of a second try, where the first is refused.
-fn settled(
-    first: Result<Option<&'static str>, AllocError>,
-    second: Result<Option<&'static str>, AllocError>,
-) -> Result<Option<&'static str>, AllocError> {
-    if first.is_ok() { first } else { second }
+/// The first row of any table that is wrong.
+fn wrong_table(alloc: Global) -> Result<Option<&'static str>, AllocError> {
+    let texts = [
+        fields::wrong_row(alloc, &fields::ROWS)?,
+        encoding::wrong_row(alloc, &encoding::ROWS)?,
+        header::wrong_row(alloc, &header::ROWS)?,
+        reading::wrong_row(alloc, &reading::SESSION)?,
+        reading::wrong_row(alloc, &reading::GIVE_UPS)?,
+        writing::wrong_table(alloc)?,
+    ];
+    Ok(first_of(&texts))
 }
 
-/// Each table whole, and once more where a growth is refused.
 #[test]
-fn messages_are_split_read_and_written_again(rt: HostRuntime) -> Result<(), Fail> {
-    let alloc = rt.alloc();
-    let split = settled(
-        fields::wrong_row(alloc, &fields::ROWS),
-        fields::wrong_row(alloc, &fields::ROWS),
-    );
-    assert_eq!(rt; split?, None);
-    let encoded = settled(
-        encoding::wrong_row(alloc, &encoding::ROWS),
-        encoding::wrong_row(alloc, &encoding::ROWS),
-    );
-    assert_eq!(rt; encoded?, None);
-    let heads = settled(
-        header::wrong_row(alloc, &header::ROWS),
-        header::wrong_row(alloc, &header::ROWS),
-    );
-    assert_eq!(rt; heads?, None);
-    let read = settled(
-        reading::wrong_row(alloc, &reading::GIVE_UPS),
-        reading::wrong_row(alloc, &reading::GIVE_UPS),
-    );
-    assert_eq!(rt; read?, None);
-    let asked = settled(
-        reading::wrong_row(alloc, &reading::SESSION),
-        reading::wrong_row(alloc, &reading::SESSION),
-    );
-    assert_eq!(rt; asked?, None);
-    let w = sample().ok_or("no sample")?;
-    assert_eq!(rt;
-        settled(wrong_notice(alloc, &w), wrong_notice(alloc, &w))?,
-        None
-    );
-    Ok(())
+fn messages_are_split_read_and_written_again(rt: HostRuntime) {
+    let first = wrong_table(rt.alloc());
+    let settled = if first.is_ok() {
+        first
+    } else {
+        wrong_table(rt.alloc())
+    };
+    assert_eq!(rt; settled, Ok(None));
 }
 
 /// How many takes there are when one more is added, at the second try where the first is refused.
-fn take(takes: &mut Takes, offer: u64) -> Option<usize> {
-    let offer = OfferNo::new(offer)?;
+fn take(takes: &mut Takes, offer: OfferNo) -> Option<usize> {
     let before = takes.as_slice().len();
-    if takes.add(offer, 1).is_err() {
-        if takes.as_slice().len() != before {
-            return None;
-        }
-        takes.add(offer, 1).ok()?;
+    if takes.add(offer, 1).is_ok() {
+        return Some(takes.as_slice().len());
     }
-    Some(takes.as_slice().len())
-}
-
-/// How many takes a copy has, at the second try where the first is refused.
-fn count_of_copy(takes: &Takes) -> Option<usize> {
-    let copy = match takes.copy() {
-        Ok(copy) => copy,
-        Err(_) => takes.copy().ok()?,
-    };
-    Some(copy.as_slice().len())
-}
-
-#[test]
-fn a_take_is_added_again(rt: HostRuntime) {
-    let mut takes = Takes::new(rt.alloc());
-    for count in 1..21 {
-        assert_eq!(rt; take(&mut takes, 21 - count), Some(count as usize));
+    let is_left = takes.as_slice().len() == before;
+    if is_left && takes.add(offer, 1).is_ok() {
+        Some(takes.as_slice().len())
+    } else {
+        None
     }
-    assert_eq!(rt; count_of_copy(&takes), Some(20));
 }
 
 /// How many offers a cut has when one more is added, at the second try where the first is refused.
-fn cut_offer(cut: &mut Cut, offer: u64) -> Option<usize> {
-    let offer = OfferNo::new(offer)?;
+fn bound_offer(cut: &mut Cut, offer: OfferNo) -> Option<usize> {
     let before = cut.offers().len();
-    if cut.add_offer(offer).is_err() {
-        if cut.offers().len() != before {
-            return None;
-        }
-        cut.add_offer(offer).ok()?;
+    if cut.add_offer(offer).is_ok() {
+        return Some(cut.offers().len());
     }
-    Some(cut.offers().len())
+    let is_left = cut.offers().len() == before;
+    if is_left && cut.add_offer(offer).is_ok() {
+        Some(cut.offers().len())
+    } else {
+        None
+    }
 }
 
-/// How many keys a cut has when a firm's is added, at the second try where the first is refused.
-fn cut_key(cut: &mut Cut, name: &[u8]) -> Option<usize> {
+/// Adds a firm to a cut, at the second try where the first is refused, and answers whether it was new.
+fn bound_firm(cut: &mut Cut, name: &[u8]) -> Option<bool> {
     let key = LimitKey::Exec(FirmId::new(name)?);
     let before = cut.keys().len();
-    if cut.add_key(key).is_err() {
-        if cut.keys().len() != before {
-            return None;
-        }
-        cut.add_key(key).ok()?;
-    }
-    Some(cut.keys().len())
-}
-
-#[test]
-fn a_cut_is_added_to_again(rt: HostRuntime) {
-    let mut cut = Cut::new(rt.alloc());
-    for count in 1..21 {
-        assert_eq!(rt; cut_offer(&mut cut, count), Some(count as usize));
-    }
-    assert_eq!(rt; cut_key(&mut cut, b"E1"), Some(1));
-    assert_eq!(rt; cut_key(&mut cut, b"E2"), Some(2));
-    drop(cut);
-}
-
-/// An entry that opens a day.
-fn opened(day: Day) -> Entry {
-    Entry::Asked {
-        command: Command::OpenDay { day },
-        reply: Reply::Accepted(Done::Opened),
+    match cut.add_key(key) {
+        Ok(added) => Some(added),
+        Err(_) if cut.keys().len() == before => cut.add_key(key).ok(),
+        Err(_) => None,
     }
 }
 
 /// How many entries there are when one more is added, at the second try where the first is refused.
 fn enter(history: &mut History, day: Day) -> Option<usize> {
     let before = history.len();
-    if history.push(opened(day)).is_err() {
-        if history.len() != before {
-            return None;
+    for _ in 0..2 {
+        let command = Command::OpenDay { day };
+        let is_added = history
+            .push(Entry::Asked {
+                command,
+                reply: Reply::Accepted(Done::Opened),
+            })
+            .is_ok();
+        if is_added || history.len() != before {
+            return Some(history.len());
         }
-        history.push(opened(day)).ok()?;
+    }
+    None
+}
+
+/// How many takes there are after so many.
+fn take_all(takes: &mut Takes, times: u64) -> Option<usize> {
+    for number in 0..times {
+        take(takes, OfferNo::new(number.saturating_add(1))?)?;
+    }
+    Some(takes.as_slice().len())
+}
+
+/// How many entries there are after so many.
+fn enter_all(history: &mut History, times: usize) -> Option<usize> {
+    let day = Day::new(2026, 1, 5)?;
+    for _ in 0..times {
+        enter(history, day)?;
     }
     Some(history.len())
 }
 
-#[test]
-fn an_entry_is_added_again(rt: HostRuntime) -> Result<(), Fail> {
-    let day = Day::new(2026, 1, 5).ok_or("no day")?;
-    let mut history = History::new(rt.alloc());
-    for count in 1..21 {
-        assert_eq!(rt; enter(&mut history, day), Some(count));
+/// How many offers and keys a cut has after so many offers and one firm.
+fn bound_all(cut: &mut Cut, times: u64) -> Option<(usize, usize)> {
+    bound_firm(cut, b"E1")?;
+    let mut offers = 0;
+    for number in 0..times {
+        offers = bound_offer(cut, OfferNo::new(number.saturating_add(1))?)?;
     }
-    Ok(())
+    Some((offers, cut.keys().len()))
+}
+
+#[test]
+fn takes_entries_and_members_of_a_cut_are_added_again(rt: HostRuntime) {
+    let mut takes = Takes::new(rt.alloc());
+    assert_eq!(rt; take_all(&mut takes, 20), Some(20));
+    let mut history = History::new(rt.alloc());
+    assert_eq!(rt; enter_all(&mut history, 20), Some(20));
+    let mut cut = Cut::new(rt.alloc());
+    assert_eq!(rt; bound_all(&mut cut, 20), Some((20, 1)));
+    drop(cut);
 }

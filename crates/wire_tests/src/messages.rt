@@ -85,3 +85,13 @@ pub fn text_of(alloc: Global, fields: &Fields) -> Result<String, AllocError> {
     }
     Ok(text)
 }
+
+/// The first of these that is one.
+pub fn first_of(texts: &[Option<&'static str>]) -> Option<&'static str> {
+    for text in texts {
+        if text.is_some() {
+            return *text;
+        }
+    }
+    None
+}

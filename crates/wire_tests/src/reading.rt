@@ -5,7 +5,6 @@ use gu_msgs::inbound::{AllocationInstruction, TradeCaptureReport};
 use gu_msgs::{Inbound, MsgFault, read};
 use gu_terms::Side;
 use std::alloc::{AllocError, Global};
-use std::test::Fail;
 
 /// What stands in front of each row of a table, and the fields of each message with what it is read as: what it says,
 /// or the tag and the reason of its first fault.
@@ -287,74 +286,52 @@ pub fn wrong_row(alloc: Global, table: &Table) -> Result<Option<&'static str>, A
     Ok(None)
 }
 
-#[test]
-fn the_header_comes_first(rt: HostRuntime) -> Result<(), Fail> {
-    assert_eq!(rt; wrong_row(rt.alloc(), &HEADERS)?, None);
-    Ok(())
+/// The first row of any table that is wrong in so many turns.
+fn wrong_in_turns(alloc: Global, turns: usize) -> Result<Option<&'static str>, AllocError> {
+    for _ in 0..turns {
+        for table in [&HEADERS, &SESSION, &HOUSE, &REPORTS, &SIDES, &GIVE_UPS] {
+            if let Some(text) = wrong_row(alloc, table)? {
+                return Ok(Some(text));
+            }
+        }
+    }
+    Ok(None)
 }
 
+/// Each row, and thousands of them in a row.
 #[test]
-fn messages_of_the_session_say_their_numbers(rt: HostRuntime) -> Result<(), Fail> {
-    assert_eq!(rt; wrong_row(rt.alloc(), &SESSION)?, None);
-    Ok(())
+fn messages_say_what_they_ask_or_name_their_first_fault(rt: HostRuntime) {
+    assert_eq!(rt; wrong_in_turns(rt.alloc(), 1), Ok(None));
+    assert_eq!(rt; wrong_in_turns(rt.alloc(), 200), Ok(None));
 }
 
-#[test]
-fn questions_and_answers_say_what_they_ask(rt: HostRuntime) -> Result<(), Fail> {
-    assert_eq!(rt; wrong_row(rt.alloc(), &HOUSE)?, None);
-    Ok(())
-}
-
-#[test]
-fn reports_say_their_trade_or_name_their_first_fault(rt: HostRuntime) -> Result<(), Fail> {
-    assert_eq!(rt; wrong_row(rt.alloc(), &REPORTS)?, None);
-    assert_eq!(rt; wrong_row(rt.alloc(), &SIDES)?, None);
-    Ok(())
-}
-
-#[test]
-fn give_ups_say_their_parts_or_name_their_first_fault(rt: HostRuntime) -> Result<(), Fail> {
-    assert_eq!(rt; wrong_row(rt.alloc(), &GIVE_UPS)?, None);
-    Ok(())
-}
-
-/// What a message of these bytes is read as.
-fn answer_to(alloc: Global, message: &[u8]) -> Result<String, AllocError> {
-    let frame = frame_in(alloc, message)?;
+/// Whether a message is read as this.
+fn is_read_as(alloc: Global, message: &str, expected: &str) -> Result<bool, AllocError> {
+    let frame = frame_in(alloc, message.as_bytes())?;
     let (fields, _) = fields(alloc, &frame)?;
-    answer(alloc, &fields)
+    Ok(answer(alloc, &fields)?.as_str() == expected)
 }
 
-/// A give-up of sixteen parts, of which the last has 16,324 fields that nothing reads, and a message with the most fields.
-#[test]
-fn messages_of_65_536_bytes_are_read(rt: HostRuntime) -> Result<(), Fail> {
-    let message = wire_around(
-        rt.alloc(),
+/// A give-up of 65,536 bytes and sixteen parts, of which the last has 16,324 fields that nothing reads.
+fn longest_give_up(alloc: Global) -> Result<String, AllocError> {
+    wire_around(
+        alloc,
         "8=FIXT.1.1|9=65510|35=J|49=E|56=G|34=1|52=xx|70=L|53=16|124=1|17=R|78=16|79=A|80=1|79=B|80=1|79=C|80=1|79=D|80=1|79=E|80=1|79=F|80=1|79=G|80=1|79=H|80=1|79=I|80=1|79=J|80=1|79=K|80=1|79=L|80=1|79=M|80=1|79=N|80=1|79=O|80=1|79=P|80=1|",
         "2=x|",
         16_324,
         "10=170|",
-    )?;
-    assert_eq!(rt; message.len(), 65_536);
-    assert_eq!(rt;
-        answer_to(rt.alloc(), message.as_bytes())?.as_str(),
-        "L gives up 16 of R: A 1 B 1 C 1 D 1 E 1 F 1 G 1 H 1 I 1 J 1 K 1 L 1 M 1 N 1 O 1 P 1"
-    );
-    let message = most_fields(rt.alloc())?;
-    assert_eq!(rt;
-        answer_to(rt.alloc(), message.as_bytes())?.as_str(),
-        "49: 1"
-    );
-    Ok(())
+    )
 }
 
-/// Each table once more, so that each type is read thousands of times.
+/// Whether the longest give-up says its parts, and the message with the most fields has no sender.
+fn are_read(alloc: Global) -> Result<(bool, bool), AllocError> {
+    let parts =
+        "L gives up 16 of R: A 1 B 1 C 1 D 1 E 1 F 1 G 1 H 1 I 1 J 1 K 1 L 1 M 1 N 1 O 1 P 1";
+    let give_up = is_read_as(alloc, &longest_give_up(alloc)?, parts)?;
+    Ok((give_up, is_read_as(alloc, &most_fields(alloc)?, "49: 1")?))
+}
+
 #[test]
-fn thousands_of_messages_are_read_in_a_row(rt: HostRuntime) -> Result<(), Fail> {
-    for _ in 0..1_000 {
-        assert_eq!(rt; wrong_row(rt.alloc(), &SESSION)?, None);
-        assert_eq!(rt; wrong_row(rt.alloc(), &HOUSE)?, None);
-        assert_eq!(rt; wrong_row(rt.alloc(), &GIVE_UPS)?, None);
-    }
-    Ok(())
+fn messages_of_65_536_bytes_are_read(rt: HostRuntime) {
+    assert_eq!(rt; are_read(rt.alloc()), Ok((true, true)));
 }

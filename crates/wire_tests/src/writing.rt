@@ -1,5 +1,5 @@
 //! What messages are written as.
-use crate::messages::text_of;
+use crate::messages::{first_of, text_of};
 use gu_msgs::outbound::{
     AllocationInstructionAck, AllocationReport, Body, BusinessMessageReject, PositionReport,
     Reject, RequestForPositionsAck, TradeCaptureReport, TradeCaptureReportAck,
@@ -10,11 +10,10 @@ use gu_msgs::{
 };
 use gu_terms::{AccountId, Day, FirmId, Id, Lots, Moment, OfferNo, Price, Refusal, Side, Symbol};
 use std::alloc::{AllocError, Global};
-use std::test::Fail;
 
 /// The values that the messages here say.
 #[derive(Clone, Copy)]
-pub struct Values {
+struct Values {
     firm: FirmId,
     nine: Moment,
     id: Id,
@@ -28,7 +27,7 @@ pub struct Values {
 }
 
 /// Firm E1, nine o'clock of 2026-01-05, id R1, match M1, account A1, ten lots of XF6 at 101.5, and offer 1.
-pub fn sample() -> Option<Values> {
+fn sample() -> Option<Values> {
     Some(Values {
         firm: FirmId::new(b"E1")?,
         nine: Moment::new(1_767_603_600_000)?,
@@ -141,50 +140,66 @@ fn written(alloc: Global, message: &Outbound) -> Result<String, AllocError> {
     text_of(alloc, &fields)
 }
 
-/// A message that is sent at nine, its type, and what it says behind its header.
-type Row = (Outbound, &'static str, &'static str);
-
-/// The first message that isn't written as its row says.
-fn wrong_row(alloc: Global, rows: &[Row]) -> Result<Option<&'static str>, AllocError> {
-    for row in rows {
-        let expected = format!(in alloc;
-            "35={}|49=GIVEUP|56=E1|34=3|52=20260105-09:00:00.000|{}",
-            row.1, row.2
-        )?;
-        if written(alloc, &row.0)?.as_str() != expected.as_str() {
-            return Ok(Some(row.2));
-        }
-    }
-    Ok(None)
+/// What a message that is sent at nine is to say behind its header, where it isn't of this type or doesn't say it.
+fn wrong(
+    alloc: Global,
+    message: Outbound,
+    msg_type: &str,
+    text: &'static str,
+) -> Result<Option<&'static str>, AllocError> {
+    let head = "49=GIVEUP|56=E1|34=3|52=20260105-09:00:00.000|";
+    let expected = format!(in alloc; "35={msg_type}|{head}{text}")?;
+    let found = written(alloc, &message)?;
+    Ok(if found.as_str() == expected.as_str() {
+        None
+    } else {
+        Some(text)
+    })
 }
 
 /// The first message of the session that isn't written as its row says.
 fn wrong_session(alloc: Global, w: &Values) -> Result<Option<&'static str>, AllocError> {
-    let id = Vec::from_slice(alloc, b"a =b")?;
-    let logon = Body::Logon {
-        heart_bt_int: 30,
-        resets_seq_num: false,
-    };
-    let reset = Body::Logon {
-        heart_bt_int: 0,
-        resets_seq_num: true,
-    };
-    let rows = [
-        (at_nine(w, logon), "A", "98=0|108=30|1137=9|"),
-        (at_nine(w, reset), "A", "98=0|108=0|1137=9|141=Y|"),
-        (at_nine(w, Body::Heartbeat(None)), "0", ""),
-        (at_nine(w, Body::Heartbeat(Some(id))), "0", "112=a =b|"),
-        (at_nine(w, Body::TestRequest), "1", "112=TEST|"),
-        (at_nine(w, Body::ResendRequest(2)), "2", "7=2|16=0|"),
-        (at_nine(w, Body::SequenceReset(106)), "4", "123=Y|36=106|"),
-        (at_nine(w, Body::Logout(None)), "5", ""),
-        (
+    let texts = [
+        wrong(alloc, logon(w, 30, false), "A", "98=0|108=30|1137=9|")?,
+        wrong(alloc, logon(w, 0, true), "A", "98=0|108=0|1137=9|141=Y|")?,
+        wrong(alloc, at_nine(w, Body::Heartbeat(None)), "0", "")?,
+        wrong(alloc, heartbeat(alloc, w, "a =b")?, "0", "112=a =b|")?,
+        wrong(alloc, at_nine(w, Body::TestRequest), "1", "112=TEST|")?,
+        wrong(alloc, at_nine(w, Body::ResendRequest(2)), "2", "7=2|16=0|")?,
+        wrong(
+            alloc,
+            at_nine(w, Body::SequenceReset(106)),
+            "4",
+            "123=Y|36=106|",
+        )?,
+        wrong(alloc, at_nine(w, Body::Logout(None)), "5", "")?,
+        wrong(
+            alloc,
             at_nine(w, Body::Logout(Some(LogoutReason::SeqTooLow))),
             "5",
             "58=SeqTooLow|",
-        ),
+        )?,
     ];
-    wrong_row(alloc, &rows)
+    Ok(first_of(&texts))
+}
+
+/// A Logon.
+fn logon(w: &Values, heart_bt_int: u64, resets_seq_num: bool) -> Outbound {
+    at_nine(
+        w,
+        Body::Logon {
+            heart_bt_int,
+            resets_seq_num,
+        },
+    )
+}
+
+/// A Heartbeat that answers a TestRequest with this id.
+fn heartbeat(alloc: Global, w: &Values, id: &str) -> Result<Outbound, AllocError> {
+    Ok(at_nine(
+        w,
+        Body::Heartbeat(Some(Vec::from_slice(alloc, id.as_bytes())?)),
+    ))
 }
 
 /// A Reject of message 2, of this type.
@@ -227,98 +242,113 @@ fn business_reject(
     Ok(at_nine(w, Body::BusinessMessageReject(body)))
 }
 
-/// The first rejection that isn't written as its row says: the type is named where it has the form of one.
+/// The first rejection that isn't written as it is to be: the type is named where it has the form of one.
 fn wrong_rejection(alloc: Global, w: &Values) -> Result<Option<&'static str>, AllocError> {
-    let missing = reject(
-        alloc,
-        w,
-        880,
-        b"AE",
-        SessionRejectReason::RequiredTagMissing,
-    )?;
-    let no_type = reject(alloc, w, 35, b"A!", SessionRejectReason::InvalidMsgType)?;
-    let no_tag = reject(alloc, w, 0, b"D", SessionRejectReason::InvalidTagNumber)?;
-    let unread = business_reject(
-        alloc,
-        w,
-        None,
-        b"D",
-        BusinessRejectReason::UnsupportedMessageType,
-        None,
-    )?;
+    let missing = SessionRejectReason::RequiredTagMissing;
+    let no_type = SessionRejectReason::InvalidMsgType;
+    let no_tag = SessionRejectReason::InvalidTagNumber;
+    let unread = BusinessRejectReason::UnsupportedMessageType;
+    let other = BusinessRejectReason::Other;
     let why = Some(Rejection::Refused(Refusal::NotYours));
-    let closed = business_reject(
-        alloc,
-        w,
-        Some(w.offer),
-        b"AT",
-        BusinessRejectReason::Other,
-        why,
-    )?;
-    let rows = [
-        (missing, "3", "45=2|371=880|372=AE|373=1|"),
-        (no_type, "3", "45=2|371=35|373=11|"),
-        (no_tag, "3", "45=2|372=D|373=0|"),
-        (unread, "j", "45=4|372=D|380=3|"),
-        (closed, "j", "45=4|379=1|372=AT|380=0|58=NotYours|"),
+    let closed = "45=4|379=1|372=AT|380=0|58=NotYours|";
+    let texts = [
+        wrong(
+            alloc,
+            reject(alloc, w, 880, b"AE", missing)?,
+            "3",
+            "45=2|371=880|372=AE|373=1|",
+        )?,
+        wrong(
+            alloc,
+            reject(alloc, w, 35, b"A!", no_type)?,
+            "3",
+            "45=2|371=35|373=11|",
+        )?,
+        wrong(
+            alloc,
+            reject(alloc, w, 0, b"D", no_tag)?,
+            "3",
+            "45=2|372=D|373=0|",
+        )?,
+        wrong(
+            alloc,
+            business_reject(alloc, w, None, b"D", unread, None)?,
+            "j",
+            "45=4|372=D|380=3|",
+        )?,
+        wrong(
+            alloc,
+            business_reject(alloc, w, Some(w.offer), b"AT", other, why)?,
+            "j",
+            closed,
+        )?,
     ];
-    wrong_row(alloc, &rows)
+    Ok(first_of(&texts))
 }
 
 /// The first answer that isn't written as its row says.
 fn wrong_answer(alloc: Global, w: &Values) -> Result<Option<&'static str>, AllocError> {
     let unknown = Some(Rejection::Refused(Refusal::UnknownAccount));
-    let rows = [
-        (report_ack(w, None), "AR", "571=R1|880=M1|939=0|"),
-        (
+    let texts = [
+        wrong(alloc, report_ack(w, None), "AR", "571=R1|880=M1|939=0|")?,
+        wrong(
+            alloc,
             report_ack(w, unknown),
             "AR",
             "571=R1|880=M1|939=1|751=1|58=UnknownAccount|",
-        ),
-        (
+        )?,
+        wrong(
+            alloc,
             report_ack(w, Some(Rejection::Full)),
             "AR",
             "571=R1|880=M1|939=1|751=99|58=Full|",
-        ),
-        (give_up_ack(w, None), "P", "70=R1|87=0|"),
-        (
+        )?,
+        wrong(alloc, give_up_ack(w, None), "P", "70=R1|87=0|")?,
+        wrong(
+            alloc,
             give_up_ack(w, Some(Rejection::Memory)),
             "P",
             "70=R1|87=1|88=99|58=Memory|",
-        ),
-        (
+        )?,
+        wrong(
+            alloc,
             question_ack(w, PosReqResult::ValidRequest(1)),
             "AO",
             "721=R1-0|710=R1|728=0|729=0|727=1|1=A1|",
-        ),
-        (
+        )?,
+        wrong(
+            alloc,
             question_ack(w, PosReqResult::NoPositionsFound),
             "AO",
             "721=R1-0|710=R1|728=2|729=0|727=0|1=A1|",
-        ),
-        (
+        )?,
+        wrong(
+            alloc,
             question_ack(w, PosReqResult::NotAuthorized),
             "AO",
             "721=R1-0|710=R1|728=3|729=2|727=0|1=A1|",
-        ),
+        )?,
     ];
-    wrong_row(alloc, &rows)
+    Ok(first_of(&texts))
 }
 
 /// The first notice that isn't written as its row says.
-pub fn wrong_notice(alloc: Global, w: &Values) -> Result<Option<&'static str>, AllocError> {
-    let rows = [
-        (
+fn wrong_notice(alloc: Global, w: &Values) -> Result<Option<&'static str>, AllocError> {
+    let texts = [
+        wrong(
+            alloc,
             side_notice(w, Side::Buy, w.price),
             "AE",
             "571=7-B|572=R1|573=0|880=M1|55=XF6|32=10|31=101.5|75=20260105|552=1|54=1|1=A1|",
-        ),
-        (
+        )?,
+        wrong(
+            alloc,
             side_notice(w, Side::Sell, w.price),
             "AE",
             "571=7-S|572=R1|573=0|880=M1|55=XF6|32=10|31=101.5|75=20260105|552=1|54=2|1=A1|",
-        ),
-        (
+        )?,
+        wrong(
+            alloc,
             offer_notice(
                 w,
                 AllocReportType::RequestToIntermediary,
@@ -326,29 +356,21 @@ pub fn wrong_notice(alloc: Global, w: &Values) -> Result<Option<&'static str>, A
             ),
             "AS",
             "755=1|71=0|794=8|87=6|55=XF6|54=1|53=10|6=101.5|75=20260105|78=1|79=A1|80=10|",
-        ),
-        (
+        )?,
+        wrong(
+            alloc,
             offer_notice(w, AllocReportType::Accept, AllocStatus::Accepted),
             "AS",
             "755=1|71=0|794=9|87=0|55=XF6|54=1|53=10|6=101.5|75=20260105|78=1|79=A1|80=10|",
-        ),
-        (
+        )?,
+        wrong(
+            alloc,
             position(w),
             "AP",
             "721=R1-2|710=R1|728=0|715=20260105|1=A1|55=XF6|702=1|703=TQ|704=10|705=0|",
-        ),
+        )?,
     ];
-    wrong_row(alloc, &rows)
-}
-
-#[test]
-fn each_message_is_written_as_the_standard_has_it(rt: HostRuntime) -> Result<(), Fail> {
-    let w = sample().ok_or("no sample")?;
-    assert_eq!(rt; wrong_session(rt.alloc(), &w)?, None);
-    assert_eq!(rt; wrong_rejection(rt.alloc(), &w)?, None);
-    assert_eq!(rt; wrong_answer(rt.alloc(), &w)?, None);
-    assert_eq!(rt; wrong_notice(rt.alloc(), &w)?, None);
-    Ok(())
+    Ok(first_of(&texts))
 }
 
 /// A price in millionths, and its text.
@@ -372,37 +394,48 @@ fn wrong_price(alloc: Global, w: &Values) -> Result<Option<&'static str>, AllocE
     Ok(None)
 }
 
-#[test]
-fn prices_have_no_zeros_at_their_end(rt: HostRuntime) -> Result<(), Fail> {
-    let w = sample().ok_or("no sample")?;
-    assert_eq!(rt; wrong_price(rt.alloc(), &w)?, None);
-    Ok(())
+/// The first row of any table that is wrong.
+pub fn wrong_table(alloc: Global) -> Result<Option<&'static str>, AllocError> {
+    let Some(w) = sample() else {
+        return Ok(Some("no sample"));
+    };
+    let texts = [
+        wrong_session(alloc, &w)?,
+        wrong_rejection(alloc, &w)?,
+        wrong_answer(alloc, &w)?,
+        wrong_notice(alloc, &w)?,
+        wrong_price(alloc, &w)?,
+    ];
+    Ok(first_of(&texts))
+}
+
+/// Whether a TestRequest that is sent again says when it is sent and when it was sent first.
+fn is_marked(alloc: Global) -> Option<bool> {
+    let mut message = at_nine(&sample()?, Body::TestRequest);
+    message.sending_time = Moment::new(253_402_300_799_999)?;
+    message.orig_sending_time = Moment::new(951_868_799_001);
+    let text = written(alloc, &message).ok()?;
+    Some(
+        text.as_str()
+            == "35=1|49=GIVEUP|56=E1|34=3|52=99991231-23:59:59.999|43=Y|122=20000229-23:59:59.001|112=TEST|",
+    )
 }
 
 #[test]
-fn what_is_sent_again_says_when_it_was_sent_first(rt: HostRuntime) -> Result<(), Fail> {
-    let w = sample().ok_or("no sample")?;
-    let mut message = at_nine(&w, Body::TestRequest);
-    message.sending_time = Moment::new(253_402_300_799_999).ok_or("no moment")?;
-    message.orig_sending_time = Moment::new(951_868_799_001);
-    assert_eq!(rt;
-        written(rt.alloc(), &message)?.as_str(),
-        "35=1|49=GIVEUP|56=E1|34=3|52=99991231-23:59:59.999|43=Y|122=20000229-23:59:59.001|112=TEST|"
-    );
-    Ok(())
+fn each_message_is_written_as_the_standard_has_it(rt: HostRuntime) {
+    assert_eq!(rt; wrong_table(rt.alloc()), Ok(None));
+    assert_eq!(rt; is_marked(rt.alloc()), Some(true));
 }
 
 /// How many bytes the text of a Heartbeat has that answers an id of so many bytes.
 fn heartbeat_length(alloc: Global, w: &Values, length: usize) -> Result<usize, AllocError> {
-    let mut id = Vec::new(alloc);
-    id.resize(length, b'x')?;
-    let message = at_nine(w, Body::Heartbeat(Some(id)));
+    let message = heartbeat(alloc, w, &"x".repeat(alloc, length)?)?;
     Ok(written(alloc, &message)?.len())
 }
 
-/// How many bytes the text of a notice has that is written so many times.
-fn notice_length(alloc: Global, w: &Values, times: usize) -> Result<usize, AllocError> {
-    let message = side_notice(w, Side::Buy, w.price);
+/// How many bytes the text of a position has that is written so many times.
+fn position_length(alloc: Global, w: &Values, times: usize) -> Result<usize, AllocError> {
+    let message = position(w);
     let mut length = 0;
     for _ in 0..times {
         length = written(alloc, &message)?.len();
@@ -410,11 +443,14 @@ fn notice_length(alloc: Global, w: &Values, times: usize) -> Result<usize, Alloc
     Ok(length)
 }
 
-/// An id of 65,000 bytes, and 5,000 notices.
+/// The length of a Heartbeat for an id of 65,000 bytes, and of the last of 5,000 positions.
+fn lengths(alloc: Global) -> Option<(usize, usize)> {
+    let w = sample()?;
+    let heartbeat = heartbeat_length(alloc, &w, 65_000).ok()?;
+    Some((heartbeat, position_length(alloc, &w, 5_000).ok()?))
+}
+
 #[test]
-fn long_and_many_messages_are_written(rt: HostRuntime) -> Result<(), Fail> {
-    let w = sample().ok_or("no sample")?;
-    assert_eq!(rt; heartbeat_length(rt.alloc(), &w, 65_000)?, 65_056);
-    assert_eq!(rt; notice_length(rt.alloc(), &w, 5_000)?, 52 + 78);
-    Ok(())
+fn long_messages_and_thousands_in_a_row_are_written(rt: HostRuntime) {
+    assert_eq!(rt; lengths(rt.alloc()), Some((65_056, 52 + 73)));
 }

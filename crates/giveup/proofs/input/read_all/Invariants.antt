@@ -1,5 +1,9 @@
 use Rattle.std.specs.Io.KnownBytes.{Consumes}
+use Rattle.gu_ref.specs.Reads.{bytes_left, reads_left}
 use Rattle.giveup.proofs.input.read_all.Given as goal
 
-abbrev pub invariant-loop : goal.invariant-loop
-invariant-loop g l = Consumes (g.R.Read.remaining l.initial.reader) (g.R.Read.remaining l.reader) l.text.items
+abbrev pub invariant-reading : goal.invariant-reading
+invariant-reading g l = Consumes (bytes_left g.R.Read.remaining l.initial.reads) (bytes_left g.R.Read.remaining l.reads) l.text.items
+
+abbrev pub decreases-reading : goal.decreases-reading
+decreases-reading g l = reads_left l.reads

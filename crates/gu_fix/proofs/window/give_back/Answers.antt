@@ -1,4 +1,4 @@
-use Rattle.std.proofs.Common.{◌≡◌, ◌≤◌, length, take, drop, ap, sym, ◌∙◌, arith}
+use Rattle.std.proofs.Common.{◌≡◌, length, take, drop, ap, sym, ◌∙◌, arith}
 use Rattle.gu_fix.specs.Sums.{running_sums, sum_after}
 use Rattle.gu_fix.proofs.SumLemmas.{running-drop, length-running}
 use Rattle.gu_fix.proofs.window.give_back.Goals as goal

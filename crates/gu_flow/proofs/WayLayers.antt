@@ -18,34 +18,34 @@ use Rattle.gu_view.specs.declared.view.Room.{Room}
 use Rattle.gu_flow.specs.Layouts.{node_of, tail_on, head_on}
 use Rattle.gu_flow.specs.Networks.{no_room, room_at, way_of, GoesBy, IsOfferOf}
 use Rattle.gu_flow.proofs.RoomPlaces.{goes_by_key, place_of_room}
-use Rattle.gu_flow.proofs.Sides.{IsStaged}
+use Rattle.gu_flow.proofs.Sides.{IsLayerd}
 
--- the stage of a key on a way: the agreement is the middle
-abbrev pub stage_of : LimitKey → ℕ
-stage_of (Exec firm) = 1
-stage_of (Agr agreement) = 0
-stage_of (Acct account) = 2
-stage_of (Carry firm) = 3
+-- the layer of a key on a way: the agreement is the middle
+abbrev pub layer_of : LimitKey → ℕ
+layer_of (Exec firm) = 1
+layer_of (Agr agreement) = 0
+layer_of (Acct account) = 2
+layer_of (Carry firm) = 3
 
-abbrev pub stage_at : List Room → ℕ → ℕ
-stage_at rooms place = stage_of (room_at rooms place).key
+abbrev pub layer_at : List Room → ℕ → ℕ
+layer_at rooms place = layer_of (room_at rooms place).key
 
 -- a whole path
 abbrev whole : FirmId → AgreementId → AccountId → FirmId → List LimitKey
 whole e a c d = Exec e ∷ Agr a ∷ Acct c ∷ Carry d ∷ []
 
-stage_there : (rooms : List Room) (k : LimitKey) → place_of rooms k < length rooms → stage_at rooms (place_of rooms k) ≡ stage_of k
-stage_there rooms k within = ap stage_of (key_at_place rooms k no_room within)
+layer_there : (rooms : List Room) (k : LimitKey) → place_of rooms k < length rooms → layer_at rooms (place_of rooms k) ≡ layer_of k
+layer_there rooms k within = ap layer_of (key_at_place rooms k no_room within)
 
--- its places are of the four stages
-pub path_staged : (rooms : List Room) (o : Offer) → IsPath o → AllByRecursion (λ k. place_of rooms k < length rooms) o.path → IsStaged (stage_at rooms) (way_of rooms o)
-path_staged rooms o (e, c, d, is) roomed =
+-- its places are of the four layers
+pub path_layered : (rooms : List Room) (o : Offer) → IsPath o → AllByRecursion (λ k. place_of rooms k < length rooms) o.path → IsLayerd (layer_at rooms) (way_of rooms o)
+path_layered rooms o (e, c, d, is) roomed =
     let r : AllByRecursion (λ k. place_of rooms k < length rooms) (whole e o.agreement c d) = subst (λ path. AllByRecursion (λ k. place_of rooms k < length rooms) path) is roomed in
-    let third = stage_there rooms (Acct c) r.1.1.0 in
-    let fourth = stage_there rooms (Carry d) r.1.1.1.0 in
-    let staged : IsStaged (stage_at rooms) (map (place_of rooms) (whole e o.agreement c d)) =
-    (stage_there rooms (Exec e) r.0, stage_there rooms (Agr o.agreement) r.1.0, (omega arith, (omega arith, tt))) in
-    subst (λ path. IsStaged (stage_at rooms) (map (place_of rooms) path)) (sym is) staged
+    let third = layer_there rooms (Acct c) r.1.1.0 in
+    let fourth = layer_there rooms (Carry d) r.1.1.1.0 in
+    let layered : IsLayerd (layer_at rooms) (map (place_of rooms) (whole e o.agreement c d)) =
+    (layer_there rooms (Exec e) r.0, layer_there rooms (Agr o.agreement) r.1.0, (omega arith, (omega arith, tt))) in
+    subst (λ path. IsLayerd (layer_at rooms) (map (place_of rooms) path)) (sym is) layered
 
 -- a key on a whole path is that of its kind
 abbrev OfItsKind : FirmId → AgreementId → AccountId → FirmId → LimitKey → Type 0
@@ -98,8 +98,8 @@ module _ (view : GroupView) (sound : IsView view) (nested : IsNested view) where
   roomed_at : (o : Offer) → IsOfferOf view o → AllByRecursion (λ k. place_of view.rooms k < length view.rooms) o.path
   roomed_at o h = path_inside view sound h.place o h.within h.is
 
-  pub staged_at : (o : Offer) → IsOfferOf view o → IsStaged (stage_at view.rooms) (way_of view.rooms o)
-  staged_at o h = path_staged view.rooms o (path_at o h) (roomed_at o h)
+  pub layered_at : (o : Offer) → IsOfferOf view o → IsLayerd (layer_at view.rooms) (way_of view.rooms o)
+  layered_at o h = path_layered view.rooms o (path_at o h) (roomed_at o h)
 
   -- a way that goes by a place has its room's key on the path
   pub key_on : (o : Offer) → IsOfferOf view o → (k : ℕ) → k < length view.rooms → GoesBy (way_of view.rooms o) k → has_key o.path (room_at view.rooms k).key ≡ true
@@ -119,8 +119,8 @@ module _ (view : GroupView) (sound : IsView view) (nested : IsNested view) where
     here : (j : LimitKey) → at j < length view.rooms → j ≡ (room_at view.rooms k).key → at j ≡ k
     here j within is = ap at is ∙ place_of_room view sound k k_in (subst (λ i. at i < length view.rooms) is within)
 
-    elsewhere : (j key : LimitKey) → at j < length view.rooms → (room_at view.rooms k).key ≡ key → stage_of j ≢ stage_of key → at j ≢ k
-    elsewhere j key within is other same = other (sym (stage_there view.rooms j within) ∙ ap (stage_at view.rooms) same ∙ ap stage_of is)
+    elsewhere : (j key : LimitKey) → at j < length view.rooms → (room_at view.rooms k).key ≡ key → layer_of j ≢ layer_of key → at j ≢ k
+    elsewhere j key within is other same = other (sym (layer_there view.rooms j within) ∙ ap (layer_at view.rooms) same ∙ ap layer_of is)
 
     on_whole : (tail head : ℕ) → Lies (at (Exec (path_at o h).0) ∷ at (Agr o.agreement) ∷ at (Acct (path_at o h).1) ∷ at (Carry (path_at o h).2) ∷ []) k tail head → Lies (way_of view.rooms o) k tail head
     on_whole tail head lies = subst (λ path. Lies (map at path) k tail head) (sym (path_at o h).3) lies
