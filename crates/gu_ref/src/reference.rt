@@ -86,7 +86,8 @@ impl Reference {
         ensures carrier { (row : Account) → Contains self.now.accounts row → account_row self.now row.account ≡ Some row }
         ensures partner { (row : Agreement) → Contains self.now.agreements row
             → agreement_between self.now row.executing row.account ≡ Some row.id }
-        ensures guarantor { (row : Guarantor) → Contains self.now.guarantors row → guarantor_of self.now row.firm ≡ Some row.guarantor }
+        ensures guarantor { (row : Guarantor) → Contains self.now.guarantors row
+            → guarantor_of self.now row.firm ≡ Some row.guarantor }
     {
         // A field that is read shows what the type keeps.
         let _ = &self.firms;
