@@ -48,12 +48,17 @@ fn keys(alloc: Global, n: u32) -> Option<(LimitKey, LimitKey)> {
     Some((LimitKey::Agr(agreement), LimitKey::Acct(account)))
 }
 
-/// The firm with a number, as it executes and as it carries.
-fn firm_keys(alloc: Global, n: u32) -> Option<(LimitKey, LimitKey)> {
+/// The firm with a number: as it executes, as it carries, and as a guarantor.
+fn firm_keys(alloc: Global, n: u32) -> Option<(LimitKey, LimitKey, LimitKey)> {
     let name = numbered(alloc, n)?;
     let executing = FirmId::new(name.as_bytes())?;
     let carrying = FirmId::new(name.as_bytes())?;
-    Some((LimitKey::Exec(executing), LimitKey::Carry(carrying)))
+    let guarantor = FirmId::new(name.as_bytes())?;
+    Some((
+        LimitKey::Exec(executing),
+        LimitKey::Carry(carrying),
+        LimitKey::Guar(guarantor),
+    ))
 }
 
 /// Sets a limit of seven lots.
@@ -79,12 +84,13 @@ fn set_limits(rt: &impl Abort, alloc: Global, book: &mut Book, group: &Group) {
     }
 }
 
-/// Sets a limit on each firm of the largest reference, as it executes and as it carries.
+/// Sets a limit on each firm of the largest reference: as it executes, as it carries, and as a guarantor.
 fn set_firm_limits(rt: &impl Abort, alloc: Global, book: &mut Book, group: &Group) {
     for n in 0..1_000 {
-        let (executing, carrying) = firm_keys(alloc, n).expect(rt, "keys");
+        let (executing, carrying, guarantor) = firm_keys(alloc, n).expect(rt, "keys");
         set_limit(rt, book, group, executing);
         set_limit(rt, book, group, carrying);
+        set_limit(rt, book, group, guarantor);
     }
 }
 
@@ -96,7 +102,7 @@ fn a_limit_is_set_on_each_key_of_the_largest_reference(rt: HostRuntime) {
     set_limits(&rt, rt.alloc(), &mut book, &group);
     set_firm_limits(&rt, rt.alloc(), &mut book, &group);
     let rows = book.limits(&group).ok().expect(&rt, "limits");
-    assert_eq!(rt; rows.len(), 22_000);
+    assert_eq!(rt; rows.len(), 23_000);
 }
 
 /// The id with a number.
