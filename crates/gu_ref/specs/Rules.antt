@@ -11,7 +11,7 @@ use Rattle.gu_ref.specs.Tables.{Tables}
 abbrev pub same_pair : Agreement → Agreement → Bool
 same_pair a b = same_firm a.executing b.executing && same_account a.account b.account
 
--- there are no more of a kind than there may be
+-- there are no more of a kind than there may be, and no more guarantors than there may be firms
 pub record IsWithinLimits (t : Tables) : Type 0 where
   pub firms : length t.firms ≤ 1000
   pub groups : length t.groups ≤ 100
@@ -20,7 +20,7 @@ pub record IsWithinLimits (t : Tables) : Type 0 where
   pub agreements : length t.agreements ≤ 10000
   pub guarantors : length t.guarantors ≤ 1000
 
--- each name stands once in its kind, each pair of executing firm and account has one agreement, and a firm has one guarantor
+-- each name stands once in its kind, each pair of executing firm and account has one agreement, and a firm has one guarantor at most
 pub record IsOnce (t : Tables) : Type 0 where
   pub firms : IsDistinct same_firm t.firms
   pub groups : IsDistinct same_group t.groups
