@@ -1,6 +1,6 @@
 //! Replies of the book to commands, and the positions behind them.
 
-use crate::sample::book;
+use crate::sample::{GUARANTOR, book, book_with};
 use crate::words::{account, command, symbol};
 use gu_book::Book;
 use gu_terms::{Done, Entry, Refusal, Reply};
@@ -144,6 +144,28 @@ fn a_limit_is_refused_for_its_key_before_its_height(rt: HostRuntime) {
             ),
             ("LIMIT G1 EXEC E1 0", Reply::Accepted(Done::LimitSet)),
             ("LIMIT G1 CARRY E1 5", Reply::Accepted(Done::LimitSet)),
+            ("LIMIT G1 GUAR E2 4", Reply::Denied(Refusal::UnknownKey)),
+        ],
+    );
+}
+
+#[test]
+fn a_guarantor_has_a_limit_where_it_guarantees_a_firm(rt: HostRuntime) {
+    let mut book = book_with(rt.alloc(), GUARANTOR).expect(&rt, "a book");
+    answer(
+        &rt,
+        &mut book,
+        &[
+            ("LIMIT G1 GUAR E2 4", Reply::Accepted(Done::LimitSet)),
+            ("LIMIT G1 GUAR C2 5", Reply::Denied(Refusal::UnknownKey)),
+            ("LIMIT G1 GUAR C1 5", Reply::Denied(Refusal::UnknownKey)),
+            ("LIMIT G1 GUAR E9 5", Reply::Denied(Refusal::UnknownKey)),
+            ("LIMIT G9 GUAR E2 4", Reply::Denied(Refusal::UnknownKey)),
+            (
+                "LIMIT G1 GUAR E2 1000000001",
+                Reply::Denied(Refusal::TooHigh),
+            ),
+            ("LIMIT G2 GUAR E2 0", Reply::Accepted(Done::LimitSet)),
         ],
     );
 }

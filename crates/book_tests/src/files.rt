@@ -1,8 +1,8 @@
 //! Files of rows that are accepted and refused.
 
-use crate::sample::{ROWS, largest, read};
+use crate::sample::{ROWS, largest, read, read_with};
 use crate::words::{account, agreement, firm, group, symbol};
-use gu_ref::{Account, Agreement, Instrument, RefFault, Reference};
+use gu_ref::{Account, Agreement, Guarantor, Instrument, RefFault, Reference};
 use std::alloc::Global;
 use std::process::Abort;
 
@@ -125,8 +125,71 @@ fn a_row_behind_the_sample_has_its_first_fault(rt: HostRuntime) {
         (b"GROUP,G1", RefFault::Twice(18)),
         (b"INSTRUMENT,XF6,G2", RefFault::Twice(18)),
         (b"ACCOUNT,A1,C2", RefFault::Twice(18)),
+        (b"GUARANTOR,E1", RefFault::BadRow(18)),
+        (b"GUARANTOR,e1,C1", RefFault::BadRow(18)),
+        (b"GUARANTOR,E2,C1,C2", RefFault::BadRow(18)),
+        (b"GUARANTOR,E9,C1", RefFault::Unknown(18)),
+        (b"GUARANTOR,E2,C9", RefFault::Unknown(18)),
+        (b"GUARANTOR,E9,E9", RefFault::Unknown(18)),
+        (b"GUARANTOR,C1,C1", RefFault::BadRow(18)),
     ] {
         assert_eq!(rt; fault_behind(rt.alloc(), ROWS, row), Some(want), "{row:?}");
+    }
+}
+
+#[test]
+fn a_firm_has_one_guarantor_at_most(rt: HostRuntime) {
+    for (rows, want) in [
+        ("GUARANTOR,E2,C1", None),
+        (
+            "GUARANTOR,E2,C1\nGUARANTOR,E1,C1",
+            Some(RefFault::Twice(19)),
+        ),
+        (
+            "GUARANTOR,E2,C1\nGUARANTOR,E2,C1",
+            Some(RefFault::Twice(19)),
+        ),
+        (
+            "GUARANTOR,E2,C1\nGUARANTOR,C1,C1",
+            Some(RefFault::BadRow(19)),
+        ),
+        (
+            "GUARANTOR,E2,C1\nGUARANTOR,E9,C1",
+            Some(RefFault::Unknown(19)),
+        ),
+        ("GUARANTOR,E2,C1\nGUARANTOR,E2,C2", None),
+        ("GUARANTOR,E2,C1\nGUARANTOR,C1,E2", None),
+        ("GUARANTOR,E2,C1\nGUARANTOR,E1,E2", None),
+        ("GUARANTOR,E3,C1\nFIRM,E3", Some(RefFault::Unknown(18))),
+        ("GUARANTOR,E2,C1\nAGREEMENT,P5,E1,A3", None),
+    ] {
+        let found = read_with(rt.alloc(), rows.as_bytes()).err();
+        assert_eq!(rt; found, want, "{rows:?}");
+    }
+}
+
+/// A guarantor, from a line as `E2 C1`.
+fn guarantor_row(line: &str) -> Option<Guarantor> {
+    Some(Guarantor {
+        guarantor: firm(line, 0)?,
+        firm: firm(line, 1)?,
+    })
+}
+
+#[test]
+fn guarantors_stand_in_the_order_of_their_rows(rt: HostRuntime) {
+    let reference = read_with(
+        rt.alloc(),
+        b"GUARANTOR,C2,E1\nGUARANTOR,E2,C2\nGUARANTOR,E2,C1",
+    )
+    .ok()
+    .expect(&rt, "guarantors are accepted");
+    for (place, line) in ["C2 E1", "E2 C2", "E2 C1", ""].iter().enumerate() {
+        assert_eq!(rt;
+            reference.guarantors().get(place).copied(),
+            guarantor_row(line),
+            "{line}"
+        );
     }
 }
 
@@ -165,9 +228,12 @@ fn one_row_past_each_limit_is_too_many(rt: HostRuntime) {
         ("INSTRUMENT,MORE,N0", RefFault::TooMany),
         ("ACCOUNT,MORE,N0", RefFault::TooMany),
         ("AGREEMENT,MORE,N2,N0", RefFault::TooMany),
-        ("AGREEMENT,MORE,N1,N0", RefFault::Twice(31_101)),
-        ("AGREEMENT,MORE,N0,N0", RefFault::BadRow(31_101)),
-        ("ACCOUNT,MORE,MORE", RefFault::Unknown(31_101)),
+        ("AGREEMENT,MORE,N1,N0", RefFault::Twice(32_101)),
+        ("AGREEMENT,MORE,N0,N0", RefFault::BadRow(32_101)),
+        ("ACCOUNT,MORE,MORE", RefFault::Unknown(32_101)),
+        ("GUARANTOR,N5,N0", RefFault::Twice(32_101)),
+        ("GUARANTOR,N5,MORE", RefFault::Unknown(32_101)),
+        ("GUARANTOR,N5,N5", RefFault::BadRow(32_101)),
     ] {
         let found = fault_behind(rt.alloc(), file.as_bytes(), row.as_bytes());
         assert_eq!(rt; found, Some(want), "{row}");

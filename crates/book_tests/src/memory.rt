@@ -2,7 +2,7 @@
 //! memory says so, leaves all as it was, and succeeds at the second try.
 
 use crate::answers::{position, replied};
-use crate::sample::{ROWS, read};
+use crate::sample::read_with;
 use crate::words::{command, group, id, report};
 use gu_book::{Book, EnterError};
 use gu_ref::{RefFault, Reference};
@@ -11,13 +11,16 @@ use gu_trades::{Matching, Trades};
 use std::alloc::{AllocError, Global};
 use std::process::Abort;
 
-/// The sample's reference, read at the second try where the first is refused.
+/// Guarantors, as rows behind the sample's.
+const GUARANTORS: &[u8] = b"GUARANTOR,E2,C1\nGUARANTOR,E2,C2\nGUARANTOR,C1,E1\n";
+
+/// The reference of the sample with guarantors, read at the second try where the first is refused.
 fn read_again(rt: &impl Abort, alloc: Global) -> Option<Reference> {
-    match read(alloc, ROWS) {
+    match read_with(alloc, GUARANTORS) {
         Ok(reference) => Some(reference),
         Err(fault) => {
             assert_eq!(rt; fault, RefFault::Memory);
-            read(alloc, ROWS).ok()
+            read_with(alloc, GUARANTORS).ok()
         }
     }
 }
@@ -26,6 +29,7 @@ fn read_again(rt: &impl Abort, alloc: Global) -> Option<Reference> {
 fn a_file_is_read_again(rt: HostRuntime) {
     let reference = read_again(&rt, rt.alloc()).expect(&rt, "the sample is accepted");
     assert_eq!(rt; reference.agreements().len(), 4);
+    assert_eq!(rt; reference.guarantors().len(), 3);
 }
 
 /// Takes in a report that is new and conflicts with none, or gives nothing for another.
@@ -114,8 +118,8 @@ fn count_again(book: &Book, group: &Group) -> Option<usize> {
     }
 }
 
-/// Enters a day, five reports, two commands that are refused and four limits; then trades and limits of all of them are there.
-fn enter_twelve(rt: &impl Abort, book: &mut Book) {
+/// Enters a day, five reports, two commands that are refused and five limits; then trades and limits of all of them are there.
+fn enter_thirteen(rt: &impl Abort, book: &mut Book) {
     for line in [
         "DAY 20260105",
         "DAY 20260105",
@@ -129,17 +133,18 @@ fn enter_twelve(rt: &impl Abort, book: &mut Book) {
         "LIMIT G1 AGR P1 100",
         "LIMIT G1 ACCT A1 100",
         "LIMIT G1 CARRY C1 100",
+        "LIMIT G1 GUAR E2 100",
     ] {
         enter_again(rt, book, line);
     }
     assert_eq!(rt; position(book, "H1 XF6"), Some((15, 0)));
     let group = group("G1", 0).expect(rt, "a group");
-    assert_eq!(rt; count_again(book, &group), Some(4));
+    assert_eq!(rt; count_again(book, &group), Some(5));
 }
 
 #[test]
 fn a_command_is_entered_again_and_limits_are_asked_again(rt: HostRuntime) {
     let reference = read_again(&rt, rt.alloc()).expect(&rt, "the sample is accepted");
     let mut book = Book::new(rt.alloc(), reference);
-    enter_twelve(&rt, &mut book);
+    enter_thirteen(&rt, &mut book);
 }

@@ -4,6 +4,7 @@ use gu_book::Book;
 use gu_ref::{CountedReads, RefFault, Reference};
 use std::alloc::{AllocError, Global};
 use std::fmt::Write;
+use std::io::Read;
 
 /// The sample: seventeen rows.
 pub const ROWS: &[u8] = b"FIRM,E1
@@ -25,9 +26,23 @@ AGREEMENT,P3,E2,A1
 AGREEMENT,P4,E2,A3
 ";
 
+/// A guarantor, as the sample's eighteenth row.
+pub const GUARANTOR: &[u8] = b"GUARANTOR,E2,C1\n";
+
 /// The reference of a file.
 pub fn read(alloc: Global, file: &[u8]) -> Result<Reference, RefFault> {
     Reference::read(alloc, &mut CountedReads::new(file))
+}
+
+/// The reference of the sample with more rows.
+pub fn read_with(alloc: Global, rows: &[u8]) -> Result<Reference, RefFault> {
+    Reference::read(alloc, &mut CountedReads::new(ROWS.chain(rows)))
+}
+
+/// A book of the sample with more rows, without entries.
+pub fn book_with(alloc: Global, rows: &[u8]) -> Option<Book> {
+    let reference = read_with(alloc, rows).ok()?;
+    Some(Book::new(alloc, reference))
 }
 
 /// A book of a file, without entries.
@@ -57,13 +72,23 @@ fn push_agreements(file: &mut String, count: u32) -> Result<(), AllocError> {
     Ok(())
 }
 
-/// As many rows as there may be: 1,000 firms, 100 groups and 10,000 of each other kind. Firm N0 carries all accounts.
+/// A guarantor for each firm: the next one, and the first for the last.
+fn push_guarantors(file: &mut String, firms: u32) -> Result<(), AllocError> {
+    for n in 1..firms {
+        writeln!(file, "GUARANTOR,N{n},N{}", n - 1)?;
+    }
+    writeln!(file, "GUARANTOR,N0,N{}", firms.saturating_sub(1))
+}
+
+/// As many rows as there may be: 1,000 firms, 100 groups, 10,000 instruments, accounts and agreements each, and 1,000
+/// guarantors. Firm N0 carries all accounts.
 pub fn push_largest(file: &mut String) -> Result<(), AllocError> {
     push_rows(file, "FIRM", 1_000, "")?;
     push_rows(file, "GROUP", 100, "")?;
     push_rows(file, "INSTRUMENT", 10_000, ",N0")?;
     push_rows(file, "ACCOUNT", 10_000, ",N0")?;
-    push_agreements(file, 10_000)
+    push_agreements(file, 10_000)?;
+    push_guarantors(file, 1_000)
 }
 
 /// The largest file.

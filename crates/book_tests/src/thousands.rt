@@ -4,9 +4,7 @@ use crate::answers::{position, replied};
 use crate::sample::{book, book_of, largest};
 use crate::words::{day, group, report, reporting};
 use gu_book::{Book, EnterError};
-use gu_terms::{
-    AccountId, AgreementId, Command, Day, FirmId, Group, Id, LimitKey, MOST_ENTRIES, Report,
-};
+use gu_terms::{Command, Day, Group, Id, LimitKey, MOST_ENTRIES, Name, Report};
 use std::alloc::Global;
 use std::process::Abort;
 
@@ -40,20 +38,10 @@ fn numbered(alloc: Global, n: u32) -> Option<String> {
     format!(in alloc; "N{n}").ok()
 }
 
-/// The agreement and the account with a number.
-fn keys(alloc: Global, n: u32) -> Option<(LimitKey, LimitKey)> {
+/// The key of a kind with a number.
+fn key(alloc: Global, kind: &[u8], n: u32) -> Option<LimitKey> {
     let name = numbered(alloc, n)?;
-    let agreement = AgreementId::new(name.as_bytes())?;
-    let account = AccountId::new(name.as_bytes())?;
-    Some((LimitKey::Agr(agreement), LimitKey::Acct(account)))
-}
-
-/// The firm with a number, as it executes and as it carries.
-fn firm_keys(alloc: Global, n: u32) -> Option<(LimitKey, LimitKey)> {
-    let name = numbered(alloc, n)?;
-    let executing = FirmId::new(name.as_bytes())?;
-    let carrying = FirmId::new(name.as_bytes())?;
-    Some((LimitKey::Exec(executing), LimitKey::Carry(carrying)))
+    LimitKey::of(kind, Name::new(name.as_bytes())?)
 }
 
 /// Sets a limit of seven lots.
@@ -70,21 +58,31 @@ fn set_limit(rt: &impl Abort, book: &mut Book, group: &Group, key: LimitKey) {
     );
 }
 
-/// Sets a limit on each agreement and on each account of the largest reference.
-fn set_limits(rt: &impl Abort, alloc: Global, book: &mut Book, group: &Group) {
-    for n in 0..10_000 {
-        let (agreement, account) = keys(alloc, n).expect(rt, "keys");
-        set_limit(rt, book, group, agreement);
-        set_limit(rt, book, group, account);
+/// Sets a limit on so many keys of a kind.
+fn set_limits(
+    rt: &impl Abort,
+    alloc: Global,
+    book: &mut Book,
+    group: &Group,
+    kind: &[u8],
+    count: u32,
+) {
+    for n in 0..count {
+        let key = key(alloc, kind, n).expect(rt, "a key");
+        set_limit(rt, book, group, key);
     }
 }
 
-/// Sets a limit on each firm of the largest reference, as it executes and as it carries.
-fn set_firm_limits(rt: &impl Abort, alloc: Global, book: &mut Book, group: &Group) {
-    for n in 0..1_000 {
-        let (executing, carrying) = firm_keys(alloc, n).expect(rt, "keys");
-        set_limit(rt, book, group, executing);
-        set_limit(rt, book, group, carrying);
+/// Sets a limit on each key of the largest reference.
+fn set_all_limits(rt: &impl Abort, alloc: Global, book: &mut Book, group: &Group) {
+    for (kind, count) in [
+        (b"EXEC".as_slice(), 1_000),
+        (b"AGR", 10_000),
+        (b"ACCT", 10_000),
+        (b"CARRY", 1_000),
+        (b"GUAR", 1_000),
+    ] {
+        set_limits(rt, alloc, book, group, kind, count);
     }
 }
 
@@ -93,10 +91,9 @@ fn a_limit_is_set_on_each_key_of_the_largest_reference(rt: HostRuntime) {
     let file = largest(rt.alloc()).expect(&rt, "the largest file");
     let mut book = book_of(rt.alloc(), file.as_bytes()).expect(&rt, "a book");
     let group = group("N99", 0).expect(&rt, "a group");
-    set_limits(&rt, rt.alloc(), &mut book, &group);
-    set_firm_limits(&rt, rt.alloc(), &mut book, &group);
+    set_all_limits(&rt, rt.alloc(), &mut book, &group);
     let rows = book.limits(&group).ok().expect(&rt, "limits");
-    assert_eq!(rt; rows.len(), 22_000);
+    assert_eq!(rt; rows.len(), 23_000);
 }
 
 /// The id with a number.

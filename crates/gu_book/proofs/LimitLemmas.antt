@@ -43,12 +43,14 @@ filter_map_next {X} given items i item within is =
     ap (filter_map given) (take_more items i item within ∙ ap (λ (x : X). take i items ++ x ∷ []) (sym is))
     ∙ filter_map-last given (take i items) item
 
--- what four lists give, one after another
-pub filter_map_four : {X Y : Type 0} (given : X → Option Y) (a b c d : List X) → filter_map given (a ++ b ++ c ++ d) ≡ filter_map given a ++ filter_map given b ++ filter_map given c ++ filter_map given d
-filter_map_four {Y = Y} given a b c d =
-    filter_map-append given (a ++ b ++ c) d
-    ∙ ap (λ (ys : List Y). ys ++ filter_map given d) (filter_map-append given (a ++ b) c)
-    ∙ ap (λ (ys : List Y). ys ++ filter_map given c ++ filter_map given d) (filter_map-append given a b)
+-- what five lists give, one after another
+pub filter_map_five : {X Y : Type 0} (given : X → Option Y) (a b c d e : List X)
+    → filter_map given (a ++ b ++ c ++ d ++ e) ≡ filter_map given a ++ filter_map given b ++ filter_map given c ++ filter_map given d ++ filter_map given e
+filter_map_five {Y = Y} given a b c d e =
+    filter_map-append given (a ++ b ++ c ++ d) e
+    ∙ ap (λ (ys : List Y). ys ++ filter_map given e) (filter_map-append given (a ++ b ++ c) d)
+    ∙ ap (λ (ys : List Y). ys ++ filter_map given d ++ filter_map given e) (filter_map-append given (a ++ b) c)
+    ∙ ap (λ (ys : List Y). ys ++ filter_map given c ++ filter_map given d ++ filter_map given e) (filter_map-append given a b)
 
 -- an entry that sets nothing leaves the limits
 pub limits_kept : (limits : LimitKey → Option ℕ) (before : List Entry) (entry : Entry) (group : Group) → ((key : LimitKey) → limit_set_by group key entry ≡ None) → HasLimits limits before group

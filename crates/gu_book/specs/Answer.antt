@@ -7,7 +7,7 @@ use Rattle.gu_terms.specs.declared.day.Day.{Day}
 use Rattle.gu_terms.specs.declared.firm.FirmId.{FirmId}
 use Rattle.gu_terms.specs.declared.group.Group.{Group}
 use Rattle.gu_terms.specs.declared.limit_key.LimitKey.{LimitKey}
-use Rattle.gu_terms.specs.declared.limit_key.LimitKey.TheVariants.{Exec, Agr, Acct, Carry}
+use Rattle.gu_terms.specs.declared.limit_key.LimitKey.TheVariants.{Exec, Agr, Acct, Carry, Guar}
 use Rattle.gu_terms.specs.declared.report.Report.{Report}
 use Rattle.gu_terms.specs.declared.command.Command.{Command}
 use Rattle.gu_terms.specs.declared.command.Command.TheVariants.{OpenDay, SetLimit, ReportSide}
@@ -18,7 +18,7 @@ use Rattle.gu_terms.specs.declared.reply.Done.TheVariants.{Opened, LimitSet, Rep
 use Rattle.gu_terms.specs.declared.reply.Reply.{Reply}
 use Rattle.gu_terms.specs.declared.reply.Reply.TheVariants.{Accepted, Denied}
 use Rattle.gu_terms.specs.declared.entry.Entry.{Entry}
-use Rattle.gu_ref.specs.Reference.{is_firm, is_group, is_instrument, account_row, agreement_row}
+use Rattle.gu_ref.specs.Reference.{is_firm, is_group, is_instrument, account_row, agreement_row, is_guarantor}
 use Rattle.gu_trades.specs.Matching.{conflicts, is_waiting}
 use Rattle.gu_trades.specs.Reports.{has_report, report_of, with_match}
 use Rattle.gu_terms.specs.Same.{same_day, same_firm}
@@ -44,12 +44,13 @@ is_other_day today (Some day) = not (same_day today day)
 abbrev pub is_another_firms : Tables → AccountId → FirmId → Bool
 is_another_firms reference account firm = option_map_or (λ row. not (same_firm row.firm firm)) (account_row reference account) false
 
--- the reference has what a key names
+-- the reference has what a key names; a guarantor is a firm that guarantees another
 abbrev pub is_known_key : Tables → LimitKey → Bool
 is_known_key reference (Exec firm) = is_firm reference firm
 is_known_key reference (Agr agreement) = is_some (agreement_row reference agreement)
 is_known_key reference (Acct account) = is_some (account_row reference account)
 is_known_key reference (Carry firm) = is_firm reference firm
+is_known_key reference (Guar firm) = is_guarantor reference firm
 
 -- the most lots that a limit may have
 abbrev pub most_limit : ℕ

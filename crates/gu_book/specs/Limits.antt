@@ -8,7 +8,7 @@ use Rattle.gu_terms.specs.declared.entry.Entry.{Entry}
 use Rattle.gu_terms.specs.declared.entry.Entry.TheVariants.{Asked}
 use Rattle.gu_terms.specs.declared.group.Group.{Group}
 use Rattle.gu_terms.specs.declared.limit_key.LimitKey.{LimitKey}
-use Rattle.gu_terms.specs.declared.limit_key.LimitKey.TheVariants.{Exec, Agr, Acct, Carry}
+use Rattle.gu_terms.specs.declared.limit_key.LimitKey.TheVariants.{Exec, Agr, Acct, Carry, Guar}
 use Rattle.gu_terms.specs.declared.limit_row.LimitRow.{LimitRow}
 use Rattle.gu_terms.specs.declared.reply.Done.TheVariants.{LimitSet}
 use Rattle.gu_terms.specs.declared.reply.Reply.TheVariants.{Accepted}
@@ -53,13 +53,15 @@ limit_row history group key =
     (λ limit. record { key = key; limit = limit; used = use_of history group key; room = limit - use_of history group key })
     (limit_set history group key)
 
--- all keys: executing firms, agreements, accounts, carrying firms, each in the order of the reference
+-- all keys: executing firms, agreements, accounts, carrying firms, guarantors, each in the order of the reference,
+-- guarantors in that of the firms
 abbrev pub keys_in_order : Tables → List LimitKey
 keys_in_order reference =
     map Exec reference.firms
     ++ map (λ a. Agr a.id) reference.agreements
     ++ map (λ a. Acct a.account) reference.accounts
     ++ map Carry reference.firms
+    ++ map Guar reference.firms
 
 -- the limits of a group
 abbrev pub limit_rows : Kept → Group → List LimitRow

@@ -38,6 +38,7 @@ fn is_known_key(reference: &Reference, key: LimitKey) -> bool
         LimitKey::Exec(firm) | LimitKey::Carry(firm) => reference.firm(firm),
         LimitKey::Agr(agreement) => reference.agreement(agreement).is_some(),
         LimitKey::Acct(account) => reference.account(account).is_some(),
+        LimitKey::Guar(firm) => reference.guards(firm),
     }
 }
 

@@ -154,8 +154,8 @@ impl Book {
         (long, short)
     }
 
-    /// The limits that were set in a group, as they stand: executing firms, agreements, accounts, carrying firms,
-    /// each in the order of the reference.
+    /// The limits that were set in a group, as they stand: executing firms, agreements, accounts, carrying firms, guarantors,
+    /// each in the order of the reference, guarantors in that of the firms.
     pub fn limits(&self, group: &Group) -> Result<Vec<LimitRow>, AllocError>
         ensures rows { IfOk result (λ rows. rows.items ≡ limit_rows self.now group.now) }
         ensures unknown { is_group self.now.reference group.now ≡ false → IfOk result (λ rows. rows.items ≡ []) }

@@ -151,9 +151,18 @@ fn carrying_keys(alloc: Global, firms: &[FirmId]) -> Result<Vec<LimitKey>, Alloc
         .collect(alloc)
 }
 
-/// The limits that were set on all keys: executing firms, agreements, accounts, carrying firms, each in the order of the
-/// reference.
-#[tactic(auto, using(crate::proofs::LimitLemmas::filter_map_four))]
+fn guarantor_keys(alloc: Global, firms: &[FirmId]) -> Result<Vec<LimitKey>, AllocError>
+    ensures { IfOk result (λ keys. keys.items ≡ map LimitKey.Guar firms.now) }
+{
+    firms
+        .iter()
+        .map(|firm| LimitKey::Guar(*firm))
+        .collect(alloc)
+}
+
+/// The limits that were set on all keys: executing firms, agreements, accounts, carrying firms, guarantors, each in the order
+/// of the reference.
+#[tactic(auto, using(crate::proofs::LimitLemmas::filter_map_five))]
 fn rows_in_order(
     alloc: Global,
     reference: &Reference,
@@ -167,10 +176,12 @@ fn rows_in_order(
     let agreements = agreement_keys(alloc, reference.agreements())?;
     let accounts = account_keys(alloc, reference.accounts())?;
     let carrying = carrying_keys(alloc, reference.firms())?;
+    let guarantors = guarantor_keys(alloc, reference.firms())?;
     append_rows(&mut rows, limits, &executing)?;
     append_rows(&mut rows, limits, &agreements)?;
     append_rows(&mut rows, limits, &accounts)?;
     append_rows(&mut rows, limits, &carrying)?;
+    append_rows(&mut rows, limits, &guarantors)?;
     Ok(rows)
 }
 

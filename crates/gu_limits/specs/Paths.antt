@@ -4,13 +4,16 @@ use Rattle.std.specs.Option.{option_and_then, option_map}
 use Rattle.gu_terms.specs.Paths.{path_through}
 use Rattle.gu_terms.specs.declared.agreement.AgreementId.{AgreementId}
 use Rattle.gu_terms.specs.declared.limit_key.LimitKey.{LimitKey}
-use Rattle.gu_ref.specs.Reference.{account_row, agreement_row}
+use Rattle.gu_ref.specs.Reference.{account_row, agreement_row, guarantor_of}
 use Rattle.gu_ref.specs.Tables.{Tables}
 
--- the path of an agreement: through its executing firm, itself, its account, and the firm that carries the account
+-- the path of an agreement: through its executing firm, itself, its account, the firm that carries the account,
+-- and the guarantor of that firm, where it has one
 abbrev pub path_of : Tables → AgreementId → Option (List LimitKey)
 path_of reference id =
     option_and_then
     (λ agreement.
-    option_map (λ carried. path_through agreement.executing id agreement.account carried.firm) (account_row reference agreement.account))
+    option_map
+    (λ carried. path_through agreement.executing id agreement.account carried.firm (guarantor_of reference carried.firm))
+    (account_row reference agreement.account))
     (agreement_row reference id)

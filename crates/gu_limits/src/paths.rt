@@ -7,8 +7,8 @@ ghost use Rattle.gu_limits.specs.Paths.{path_of};
 use gu_ref::Reference;
 use gu_terms::{AgreementId, Path};
 
-/// The keys that an agreement's offers come under, in order: executing firm, agreement, account, and the firm that
-/// carries the account.
+/// The keys that an agreement's offers come under, in order: executing firm, agreement, account, the firm that carries the
+/// account, and that firm's guarantor, where it has one. A guarantor's own guarantor isn't followed.
 pub fn path(reference: &Reference, agreement: AgreementId) -> Option<Path>
     ensures keys { result ≡ path_of reference.now agreement }
     ensures unknown { IsNone result ↔ (agreement_row reference.now agreement ≡ None) }
@@ -17,5 +17,6 @@ pub fn path(reference: &Reference, agreement: AgreementId) -> Option<Path>
     let parties = reference.agreement(agreement)?;
     let account = parties.account;
     let carrying = reference.account(account)?.firm;
-    Some(Path::new(parties.executing, agreement, account, carrying))
+    let guarantor = reference.guarantor(carrying);
+    Some(Path::new(parties.executing, agreement, account, carrying, guarantor))
 }

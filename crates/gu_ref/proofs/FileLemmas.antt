@@ -57,6 +57,7 @@ tables-row rows (row.Group x) = simp (filter_map-append, append-nil) refl
 tables-row rows (row.Instrument x) = simp (filter_map-append, append-nil) refl
 tables-row rows (row.Account x) = simp (filter_map-append, append-nil) refl
 tables-row rows (row.Agreement x) = simp (filter_map-append, append-nil) refl
+tables-row rows (row.Guarantor x) = simp (filter_map-append, append-nil) refl
 
 tables-said : (rows : List Row) (said : Option Row) → tables_of (rows ++ cons_option said []) ≡ with_said (tables_of rows) said
 tables-said rows None = ap tables_of (append-nil rows)

@@ -9,15 +9,17 @@ use Rattle.gu_terms.specs.declared.group.Group.{Group}
 use Rattle.gu_ref.specs.declared.instruments.Instrument.{Instrument}
 use Rattle.gu_ref.specs.declared.accounts.Account.{Account}
 use Rattle.gu_ref.specs.declared.agreements.Agreement.{Agreement}
+use Rattle.gu_ref.specs.declared.guarantors.Guarantor.{Guarantor}
 use Rattle.gu_ref.specs.declared.row.Row.{Row}
 use Rattle.gu_ref.specs.declared.row.Row.TheVariants as row
 use Rattle.gu_ref.specs.Accepted.{is_known, is_own, is_twice, is_full, row_fault}
 use Rattle.gu_ref.specs.Reference.{is_firm, account_row, agreement_row}
 use Rattle.gu_ref.specs.Growth.{with_row, Passes}
-use Rattle.gu_ref.specs.Listed.{is_between, agreement_for}
+use Rattle.gu_ref.specs.Listed.{is_between, agreement_for, guarantor_for}
 use Rattle.gu_ref.specs.Rules.{IsSound, IsOnce, IsWithinLimits, same_pair}
 use Rattle.gu_terms.specs.Same.{same_firm, same_group, same_account, same_agreement}
 use Rattle.gu_ref.specs.Tables.{Tables}
+use Rattle.gu_ref.proofs.FewGuarantors.{few_guarantors}
 use Rattle.gu_ref.proofs.Lookups.{is_some-find}
 
 tests : {F : Type 0} (p q r s : Bool) (a b c d : F)
@@ -74,6 +76,10 @@ known-more t (row.Account b) (row.Agreement a) h =
     let p = both (is_firm t a.executing) (is_some (account_row t a.account)) h in
     rw (p.0, find-more (λ x. same_account x.account a.account) t.accounts (b ∷ []) p.1, p.1) refl
 known-more t _ (row.Agreement a) h = h
+known-more t (row.Firm f) (row.Guarantor g) h =
+    let p = both (is_firm t g.guarantor) (is_firm t g.firm) h in
+    rw (any-more (λ x. same_firm x g.guarantor) t.firms (f ∷ []) p.0, any-more (λ x. same_firm x g.firm) t.firms (f ∷ []) p.1) refl
+known-more t _ (row.Guarantor g) h = h
 
 -- an account that is there stays the account that it is
 pub foreign-more : (t : Tables) (more row : Row) → is_known t row ≡ true → not (is_own t row) ≡ true → not (is_own (with_row t more) row) ≡ true
@@ -85,6 +91,7 @@ foreign-more t _ (row.Group f) k h = h
 foreign-more t _ (row.Instrument f) k h = h
 foreign-more t _ (row.Account f) k h = h
 foreign-more t _ (row.Agreement a) k h = h
+foreign-more t _ (row.Guarantor g) k h = h
 
 -- one element
 all-one : {X : Type 0} (P : X → Type 0) (x : X) → P x → All P (x ∷ [])
@@ -117,23 +124,27 @@ room-push most xs x h = grind (arith, rules, length-append xs (x ∷ []))
 
 -- each name stands once after a new row, too
 once-more : (t : Tables) (new : Row) → IsOnce t → is_twice t new ≡ false → IsOnce (with_row t new)
-once-more t (row.Firm f) o h = record { firms = distinct-push same_firm t.firms f h o.firms; groups = o.groups; symbols = o.symbols; accounts = o.accounts; agreements = o.agreements; pairs = o.pairs }
-once-more t (row.Group g) o h = record { firms = o.firms; groups = distinct-push same_group t.groups g h o.groups; symbols = o.symbols; accounts = o.accounts; agreements = o.agreements; pairs = o.pairs }
-once-more t (row.Instrument i) o h = record { firms = o.firms; groups = o.groups; symbols = distinct-push _ t.instruments i h o.symbols; accounts = o.accounts; agreements = o.agreements; pairs = o.pairs }
+once-more t (row.Firm f) o h = record { firms = distinct-push same_firm t.firms f h o.firms; groups = o.groups; symbols = o.symbols; accounts = o.accounts; agreements = o.agreements; pairs = o.pairs; guaranteed = o.guaranteed }
+once-more t (row.Group g) o h = record { firms = o.firms; groups = distinct-push same_group t.groups g h o.groups; symbols = o.symbols; accounts = o.accounts; agreements = o.agreements; pairs = o.pairs; guaranteed = o.guaranteed }
+once-more t (row.Instrument i) o h = record { firms = o.firms; groups = o.groups; symbols = distinct-push _ t.instruments i h o.symbols; accounts = o.accounts; agreements = o.agreements; pairs = o.pairs; guaranteed = o.guaranteed }
 once-more t (row.Account a) o h =
-    record { firms = o.firms; groups = o.groups; symbols = o.symbols; accounts = distinct-push _ t.accounts a (none-found (λ x. same_account x.account a.account) t.accounts h) o.accounts; agreements = o.agreements; pairs = o.pairs }
+    record { firms = o.firms; groups = o.groups; symbols = o.symbols; accounts = distinct-push _ t.accounts a (none-found (λ x. same_account x.account a.account) t.accounts h) o.accounts; agreements = o.agreements; pairs = o.pairs; guaranteed = o.guaranteed }
 once-more t (row.Agreement a) o h =
     let p = neither (is_some (agreement_row t a.id)) _ h in
     let pair = none-found (is_between a.executing a.account) t.agreements (sym (is_some-map (λ x. x.id) (agreement_for t.agreements a.executing a.account)) ∙ p.1) in
-    record { firms = o.firms; groups = o.groups; symbols = o.symbols; accounts = o.accounts; agreements = distinct-push _ t.agreements a (none-found (λ x. same_agreement x.id a.id) t.agreements p.0) o.agreements; pairs = distinct-push same_pair t.agreements a pair o.pairs }
+    record { firms = o.firms; groups = o.groups; symbols = o.symbols; accounts = o.accounts; agreements = distinct-push _ t.agreements a (none-found (λ x. same_agreement x.id a.id) t.agreements p.0) o.agreements; pairs = distinct-push same_pair t.agreements a pair o.pairs; guaranteed = o.guaranteed }
+once-more t (row.Guarantor g) o h =
+    let none = none-found (λ x. same_firm x.firm g.firm) t.guarantors (sym (is_some-map (λ x. x.guarantor) (guarantor_for t.guarantors g.firm)) ∙ h) in
+    record { firms = o.firms; groups = o.groups; symbols = o.symbols; accounts = o.accounts; agreements = o.agreements; pairs = o.pairs; guaranteed = distinct-push _ t.guarantors g none o.guaranteed }
 
--- a row for which there is room keeps the limits
-within-more : (t : Tables) (new : Row) → IsWithinLimits t → is_full t new ≡ false → IsWithinLimits (with_row t new)
-within-more t (row.Firm f) w h = record { firms = room-push 1000 t.firms f h; groups = w.groups; instruments = w.instruments; accounts = w.accounts; agreements = w.agreements }
-within-more t (row.Group g) w h = record { firms = w.firms; groups = room-push 100 t.groups g h; instruments = w.instruments; accounts = w.accounts; agreements = w.agreements }
-within-more t (row.Instrument i) w h = record { firms = w.firms; groups = w.groups; instruments = room-push 10000 t.instruments i h; accounts = w.accounts; agreements = w.agreements }
-within-more t (row.Account a) w h = record { firms = w.firms; groups = w.groups; instruments = w.instruments; accounts = room-push 10000 t.accounts a h; agreements = w.agreements }
-within-more t (row.Agreement a) w h = record { firms = w.firms; groups = w.groups; instruments = w.instruments; accounts = w.accounts; agreements = room-push 10000 t.agreements a h }
+-- a row for which there is room keeps the limits; of guarantors there are no more than of firms
+within-more : (t : Tables) (new : Row) → IsWithinLimits t → is_full t new ≡ false → length (with_row t new).guarantors ≤ 1000 → IsWithinLimits (with_row t new)
+within-more t (row.Firm f) w h few = record { firms = room-push 1000 t.firms f h; groups = w.groups; instruments = w.instruments; accounts = w.accounts; agreements = w.agreements; guarantors = few }
+within-more t (row.Group g) w h few = record { firms = w.firms; groups = room-push 100 t.groups g h; instruments = w.instruments; accounts = w.accounts; agreements = w.agreements; guarantors = few }
+within-more t (row.Instrument i) w h few = record { firms = w.firms; groups = w.groups; instruments = room-push 10000 t.instruments i h; accounts = w.accounts; agreements = w.agreements; guarantors = few }
+within-more t (row.Account a) w h few = record { firms = w.firms; groups = w.groups; instruments = w.instruments; accounts = room-push 10000 t.accounts a h; agreements = w.agreements; guarantors = few }
+within-more t (row.Agreement a) w h few = record { firms = w.firms; groups = w.groups; instruments = w.instruments; accounts = w.accounts; agreements = room-push 10000 t.agreements a h; guarantors = few }
+within-more t (row.Guarantor g) w h few = record { firms = w.firms; groups = w.groups; instruments = w.instruments; accounts = w.accounts; agreements = w.agreements; guarantors = few }
 
 not-false : (b : Bool) → b ≡ false → not b ≡ true
 not-false true h = cc
@@ -153,79 +164,117 @@ sound-more t (row.Firm f) s p = record {
   firms = all-more (λ x. is_known t (row.Account x)) (λ x. is_known (with_row t (row.Firm f)) (row.Account x)) t.accounts (λ x. known-more t (row.Firm f) (row.Account x)) s.firms;
   parties = all-more (λ x. is_known t (row.Agreement x)) (λ x. is_known (with_row t (row.Firm f)) (row.Agreement x)) t.agreements (λ x. known-more t (row.Firm f) (row.Agreement x)) s.parties;
   foreign = s.foreign;
+  guarantors = all-more (λ x. is_known t (row.Guarantor x)) (λ x. is_known (with_row t (row.Firm f)) (row.Guarantor x)) t.guarantors (λ x. known-more t (row.Firm f) (row.Guarantor x)) s.guarantors;
+  others = s.others;
   once = once-more t (row.Firm f) s.once p.new;
-  within = within-more t (row.Firm f) s.within p.room;
+  within = within-more t (row.Firm f) s.within p.room s.within.guarantors;
 }
 sound-more t (row.Group g) s p = record {
   groups = all-more (λ x. is_known t (row.Instrument x)) (λ x. is_known (with_row t (row.Group g)) (row.Instrument x)) t.instruments (λ x. known-more t (row.Group g) (row.Instrument x)) s.groups;
   firms = s.firms;
   parties = s.parties;
   foreign = s.foreign;
+  guarantors = s.guarantors;
+  others = s.others;
   once = once-more t (row.Group g) s.once p.new;
-  within = within-more t (row.Group g) s.within p.room;
+  within = within-more t (row.Group g) s.within p.room s.within.guarantors;
 }
 sound-more t (row.Instrument i) s p = record {
   groups = all-push (λ x. is_known t (row.Instrument x)) t.instruments i s.groups p.known;
   firms = s.firms;
   parties = s.parties;
   foreign = s.foreign;
+  guarantors = s.guarantors;
+  others = s.others;
   once = once-more t (row.Instrument i) s.once p.new;
-  within = within-more t (row.Instrument i) s.within p.room;
+  within = within-more t (row.Instrument i) s.within p.room s.within.guarantors;
 }
 sound-more t (row.Account a) s p = record {
   groups = s.groups;
   firms = all-push (λ x. is_known t (row.Account x)) t.accounts a s.firms p.known;
   parties = all-more (λ x. is_known t (row.Agreement x)) (λ x. is_known (with_row t (row.Account a)) (row.Agreement x)) t.agreements (λ x. known-more t (row.Account a) (row.Agreement x)) s.parties;
   foreign = λ k d h. foreign-more t (row.Account a) (row.Agreement (slice_index_or t.agreements k d)) (s.parties k d h) (s.foreign k d h);
+  guarantors = s.guarantors;
+  others = s.others;
   once = once-more t (row.Account a) s.once p.new;
-  within = within-more t (row.Account a) s.within p.room;
+  within = within-more t (row.Account a) s.within p.room s.within.guarantors;
 }
 sound-more t (row.Agreement a) s p = record {
   groups = s.groups;
   firms = s.firms;
   parties = all-push (λ x. is_known t (row.Agreement x)) t.agreements a s.parties p.known;
   foreign = all-push (λ x. not (is_own t (row.Agreement x))) t.agreements a s.foreign (not-false _ p.foreign);
+  guarantors = s.guarantors;
+  others = s.others;
   once = once-more t (row.Agreement a) s.once p.new;
-  within = within-more t (row.Agreement a) s.within p.room;
+  within = within-more t (row.Agreement a) s.within p.room s.within.guarantors;
 }
+sound-more t (row.Guarantor g) s p =
+    let once = once-more t (row.Guarantor g) s.once p.new in
+    let known = all-push (λ x. is_known t (row.Guarantor x)) t.guarantors g s.guarantors p.known in
+    record {
+      groups = s.groups;
+      firms = s.firms;
+      parties = s.parties;
+      foreign = s.foreign;
+      guarantors = known;
+      others = all-push (λ x. not (is_own t (row.Guarantor x))) t.guarantors g s.others (not-false _ p.foreign);
+      once = once;
+      within = within-more t (row.Guarantor g) s.within p.room (few_guarantors (with_row t (row.Guarantor g)) once.guaranteed known s.within.firms);
+    }
 
 -- no rows break no rule
-pub sound-empty : IsSound (record { firms = []; groups = []; instruments = []; accounts = []; agreements = [] })
+pub sound-empty : IsSound (record { firms = []; groups = []; instruments = []; accounts = []; agreements = []; guarantors = [] })
 unfolding IsDistinct
 sound-empty = record {
   groups = λ k d h. absurd (omega arith);
   firms = λ k d h. absurd (omega arith);
   parties = λ k d h. absurd (omega arith);
   foreign = λ k d h. absurd (omega arith);
-  once = record { firms = tt; groups = tt; symbols = tt; accounts = tt; agreements = tt; pairs = tt };
-  within = record { firms = omega arith; groups = omega arith; instruments = omega arith; accounts = omega arith; agreements = omega arith };
+  guarantors = λ k d h. absurd (omega arith);
+  others = λ k d h. absurd (omega arith);
+  once = record { firms = tt; groups = tt; symbols = tt; accounts = tt; agreements = tt; pairs = tt; guaranteed = tt };
+  within = record { firms = omega arith; groups = omega arith; instruments = omega arith; accounts = omega arith; agreements = omega arith; guarantors = omega arith };
 }
 
 -- after a push that went well the rules hold, and after one that was refused they hold as before
 pub firm-pushed : (t : Tables) (f : FirmId) (ok : Bool) (new : List FirmId) → IsSound t → Passes t (row.Firm f) → new ≡ (if ok then t.firms ++ f ∷ [] else t.firms)
-    → IsSound (record { firms = new; groups = t.groups; instruments = t.instruments; accounts = t.accounts; agreements = t.agreements })
-firm-pushed t f true new s p e = subst (λ (rows : List FirmId). IsSound (record { firms = rows; groups = t.groups; instruments = t.instruments; accounts = t.accounts; agreements = t.agreements })) (sym e) (sound-more t (row.Firm f) s p)
-firm-pushed t f false new s p e = subst (λ (rows : List FirmId). IsSound (record { firms = rows; groups = t.groups; instruments = t.instruments; accounts = t.accounts; agreements = t.agreements })) (sym e) s
+    → IsSound (record { firms = new; groups = t.groups; instruments = t.instruments; accounts = t.accounts; agreements = t.agreements; guarantors = t.guarantors })
+firm-pushed t f true new s p e = subst (λ (rows : List FirmId). IsSound (record { firms = rows; groups = t.groups; instruments = t.instruments; accounts = t.accounts; agreements = t.agreements; guarantors = t.guarantors })) (sym e) (sound-more t (row.Firm f) s p)
+firm-pushed t f false new s p e = subst (λ (rows : List FirmId). IsSound (record { firms = rows; groups = t.groups; instruments = t.instruments; accounts = t.accounts; agreements = t.agreements; guarantors = t.guarantors })) (sym e) s
 
 pub group-pushed : (t : Tables) (g : Group) (ok : Bool) (new : List Group) → IsSound t → Passes t (row.Group g) → new ≡ (if ok then t.groups ++ g ∷ [] else t.groups)
-    → IsSound (record { firms = t.firms; groups = new; instruments = t.instruments; accounts = t.accounts; agreements = t.agreements })
-group-pushed t g true new s p e = subst (λ (rows : List Group). IsSound (record { firms = t.firms; groups = rows; instruments = t.instruments; accounts = t.accounts; agreements = t.agreements })) (sym e) (sound-more t (row.Group g) s p)
-group-pushed t g false new s p e = subst (λ (rows : List Group). IsSound (record { firms = t.firms; groups = rows; instruments = t.instruments; accounts = t.accounts; agreements = t.agreements })) (sym e) s
+    → IsSound (record { firms = t.firms; groups = new; instruments = t.instruments; accounts = t.accounts; agreements = t.agreements; guarantors = t.guarantors })
+group-pushed t g true new s p e = subst (λ (rows : List Group). IsSound (record { firms = t.firms; groups = rows; instruments = t.instruments; accounts = t.accounts; agreements = t.agreements; guarantors = t.guarantors })) (sym e) (sound-more t (row.Group g) s p)
+group-pushed t g false new s p e = subst (λ (rows : List Group). IsSound (record { firms = t.firms; groups = rows; instruments = t.instruments; accounts = t.accounts; agreements = t.agreements; guarantors = t.guarantors })) (sym e) s
 
 pub instrument-pushed : (t : Tables) (i : Instrument) (ok : Bool) (new : List Instrument) → IsSound t → Passes t (row.Instrument i) → new ≡ (if ok then t.instruments ++ i ∷ [] else t.instruments)
-    → IsSound (record { firms = t.firms; groups = t.groups; instruments = new; accounts = t.accounts; agreements = t.agreements })
-instrument-pushed t i true new s p e = subst (λ (rows : List Instrument). IsSound (record { firms = t.firms; groups = t.groups; instruments = rows; accounts = t.accounts; agreements = t.agreements })) (sym e) (sound-more t (row.Instrument i) s p)
-instrument-pushed t i false new s p e = subst (λ (rows : List Instrument). IsSound (record { firms = t.firms; groups = t.groups; instruments = rows; accounts = t.accounts; agreements = t.agreements })) (sym e) s
+    → IsSound (record { firms = t.firms; groups = t.groups; instruments = new; accounts = t.accounts; agreements = t.agreements; guarantors = t.guarantors })
+instrument-pushed t i true new s p e = subst (λ (rows : List Instrument). IsSound (record { firms = t.firms; groups = t.groups; instruments = rows; accounts = t.accounts; agreements = t.agreements; guarantors = t.guarantors })) (sym e) (sound-more t (row.Instrument i) s p)
+instrument-pushed t i false new s p e = subst (λ (rows : List Instrument). IsSound (record { firms = t.firms; groups = t.groups; instruments = rows; accounts = t.accounts; agreements = t.agreements; guarantors = t.guarantors })) (sym e) s
 
 pub account-pushed : (t : Tables) (a : Account) (ok : Bool) (new : List Account) → IsSound t → Passes t (row.Account a) → new ≡ (if ok then t.accounts ++ a ∷ [] else t.accounts)
-    → IsSound (record { firms = t.firms; groups = t.groups; instruments = t.instruments; accounts = new; agreements = t.agreements })
-account-pushed t a true new s p e = subst (λ (rows : List Account). IsSound (record { firms = t.firms; groups = t.groups; instruments = t.instruments; accounts = rows; agreements = t.agreements })) (sym e) (sound-more t (row.Account a) s p)
-account-pushed t a false new s p e = subst (λ (rows : List Account). IsSound (record { firms = t.firms; groups = t.groups; instruments = t.instruments; accounts = rows; agreements = t.agreements })) (sym e) s
+    → IsSound (record { firms = t.firms; groups = t.groups; instruments = t.instruments; accounts = new; agreements = t.agreements; guarantors = t.guarantors })
+account-pushed t a true new s p e = subst (λ (rows : List Account). IsSound (record { firms = t.firms; groups = t.groups; instruments = t.instruments; accounts = rows; agreements = t.agreements; guarantors = t.guarantors })) (sym e) (sound-more t (row.Account a) s p)
+account-pushed t a false new s p e = subst (λ (rows : List Account). IsSound (record { firms = t.firms; groups = t.groups; instruments = t.instruments; accounts = rows; agreements = t.agreements; guarantors = t.guarantors })) (sym e) s
 
 pub agreement-pushed : (t : Tables) (a : Agreement) (ok : Bool) (new : List Agreement) → IsSound t → Passes t (row.Agreement a) → new ≡ (if ok then t.agreements ++ a ∷ [] else t.agreements)
-    → IsSound (record { firms = t.firms; groups = t.groups; instruments = t.instruments; accounts = t.accounts; agreements = new })
-agreement-pushed t a true new s p e = subst (λ (rows : List Agreement). IsSound (record { firms = t.firms; groups = t.groups; instruments = t.instruments; accounts = t.accounts; agreements = rows })) (sym e) (sound-more t (row.Agreement a) s p)
-agreement-pushed t a false new s p e = subst (λ (rows : List Agreement). IsSound (record { firms = t.firms; groups = t.groups; instruments = t.instruments; accounts = t.accounts; agreements = rows })) (sym e) s
+    → IsSound (record { firms = t.firms; groups = t.groups; instruments = t.instruments; accounts = t.accounts; agreements = new; guarantors = t.guarantors })
+agreement-pushed t a true new s p e = subst (λ (rows : List Agreement). IsSound (record { firms = t.firms; groups = t.groups; instruments = t.instruments; accounts = t.accounts; agreements = rows; guarantors = t.guarantors })) (sym e) (sound-more t (row.Agreement a) s p)
+agreement-pushed t a false new s p e = subst (λ (rows : List Agreement). IsSound (record { firms = t.firms; groups = t.groups; instruments = t.instruments; accounts = t.accounts; agreements = rows; guarantors = t.guarantors })) (sym e) s
+
+pub guarantor-pushed : (t : Tables) (g : Guarantor) (ok : Bool) (new : List Guarantor) → IsSound t → Passes t (row.Guarantor g) → new ≡ (if ok then t.guarantors ++ g ∷ [] else t.guarantors)
+    → IsSound (record { firms = t.firms; groups = t.groups; instruments = t.instruments; accounts = t.accounts; agreements = t.agreements; guarantors = new })
+guarantor-pushed t g true new s p e = subst (λ (rows : List Guarantor). IsSound (record { firms = t.firms; groups = t.groups; instruments = t.instruments; accounts = t.accounts; agreements = t.agreements; guarantors = rows })) (sym e) (sound-more t (row.Guarantor g) s p)
+guarantor-pushed t g false new s p e = subst (λ (rows : List Guarantor). IsSound (record { firms = t.firms; groups = t.groups; instruments = t.instruments; accounts = t.accounts; agreements = t.agreements; guarantors = rows })) (sym e) s
+
+-- a firm without a guarantor has no row
+pub no_guarantor : (t : Tables) (firm : FirmId) → is_some (option_map (λ g. g.guarantor) (guarantor_for t.guarantors firm)) ≡ false → guarantor_for t.guarantors firm ≡ None
+no_guarantor t firm h = none-of (guarantor_for t.guarantors firm) h
+  where
+    none-of : (o : Option Guarantor) → is_some (option_map (λ g. g.guarantor) o) ≡ false → o ≡ None
+    none-of None e = refl
+    none-of (Some x) e = cc
 
 -- an instrument that is not among them is not found
 pub no_instrument : {X : Type 0} (test : X → Bool) (xs : List X) → list_any test xs ≡ false → find test xs ≡ None

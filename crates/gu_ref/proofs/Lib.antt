@@ -1,6 +1,8 @@
+pub mod FewGuarantors
 pub mod FileLemmas
 pub mod Growing
 pub mod KeptAgreements
+pub mod KeptGuarantors
 pub mod Lookups
 pub mod OneAnswer
 pub mod OwnRow

@@ -13,6 +13,7 @@ with_row t (row.Group group) = record t { groups = t.groups ++ group ∷ [] }
 with_row t (row.Instrument i) = record t { instruments = t.instruments ++ i ∷ [] }
 with_row t (row.Account a) = record t { accounts = t.accounts ++ a ∷ [] }
 with_row t (row.Agreement a) = record t { agreements = t.agreements ++ a ∷ [] }
+with_row t (row.Guarantor g) = record t { guarantors = t.guarantors ++ g ∷ [] }
 
 -- the tables with the row that a record says, if it says one
 abbrev pub with_said : Tables → Option Row → Tables
@@ -25,7 +26,8 @@ with_record t fields = with_said t (row_of fields)
 
 -- how many rows the tables have
 abbrev pub row_count : Tables → ℕ
-row_count t = length t.firms + length t.groups + length t.instruments + length t.accounts + length t.agreements
+row_count t =
+    length t.firms + length t.groups + length t.instruments + length t.accounts + length t.agreements + length t.guarantors
 
 -- the fault of a test, if it found one
 abbrev pub outcome_of : {T E : Type 0} → Result T E → Option E

@@ -9,6 +9,7 @@ use Rattle.gu_terms.specs.declared.agreement.AgreementId.{AgreementId}
 use Rattle.gu_ref.specs.declared.instruments.Instrument.{Instrument}
 use Rattle.gu_ref.specs.declared.accounts.Account.{Account}
 use Rattle.gu_ref.specs.declared.agreements.Agreement.{Agreement}
+use Rattle.gu_ref.specs.declared.guarantors.Guarantor.{Guarantor}
 use Rattle.gu_terms.specs.Same.{same_firm, same_group, same_symbol, same_account, same_agreement}
 
 -- the firm is among these
@@ -38,3 +39,11 @@ is_between executing account a = same_firm a.executing executing && same_account
 -- the agreement of this executing firm and this account
 abbrev pub agreement_for : List Agreement → FirmId → AccountId → Option Agreement
 agreement_for agreements executing account = find (is_between executing account) agreements
+
+-- the row that gives this firm a guarantor
+abbrev pub guarantor_for : List Guarantor → FirmId → Option Guarantor
+guarantor_for guarantors firm = find (λ g. same_firm g.firm firm) guarantors
+
+-- the firm is the guarantor in one of these rows
+abbrev pub is_guarantor_in : List Guarantor → FirmId → Bool
+is_guarantor_in guarantors firm = list_any (λ g. same_firm g.guarantor firm) guarantors

@@ -6,6 +6,7 @@ use Rattle.gu_terms.specs.declared.group.Group.{Group}
 use Rattle.gu_ref.specs.declared.instruments.Instrument.{Instrument}
 use Rattle.gu_ref.specs.declared.accounts.Account.{Account}
 use Rattle.gu_ref.specs.declared.agreements.Agreement.{Agreement}
+use Rattle.gu_ref.specs.declared.guarantors.Guarantor.{Guarantor}
 use Rattle.gu_ref.specs.declared.row.Row.{Row}
 use Rattle.gu_ref.specs.declared.row.Row.TheVariants as row
 use Rattle.gu_ref.specs.Rows.{row_of}
@@ -18,6 +19,7 @@ firm_of (row.Group _) = None
 firm_of (row.Instrument _) = None
 firm_of (row.Account _) = None
 firm_of (row.Agreement _) = None
+firm_of (row.Guarantor _) = None
 
 -- the group that a row declares
 abbrev pub group_of : Row → Option Group
@@ -26,6 +28,7 @@ group_of (row.Group group) = Some group
 group_of (row.Instrument _) = None
 group_of (row.Account _) = None
 group_of (row.Agreement _) = None
+group_of (row.Guarantor _) = None
 
 -- the instrument that a row declares
 abbrev pub instrument_of : Row → Option Instrument
@@ -34,6 +37,7 @@ instrument_of (row.Group _) = None
 instrument_of (row.Instrument instrument) = Some instrument
 instrument_of (row.Account _) = None
 instrument_of (row.Agreement _) = None
+instrument_of (row.Guarantor _) = None
 
 -- the account that a row declares
 abbrev pub account_of : Row → Option Account
@@ -42,6 +46,7 @@ account_of (row.Group _) = None
 account_of (row.Instrument _) = None
 account_of (row.Account account) = Some account
 account_of (row.Agreement _) = None
+account_of (row.Guarantor _) = None
 
 -- the agreement that a row declares
 abbrev pub agreement_of : Row → Option Agreement
@@ -50,6 +55,16 @@ agreement_of (row.Group _) = None
 agreement_of (row.Instrument _) = None
 agreement_of (row.Account _) = None
 agreement_of (row.Agreement agreement) = Some agreement
+agreement_of (row.Guarantor _) = None
+
+-- the guarantor that a row declares, with the firm that it guarantees
+abbrev pub guarantor_of_row : Row → Option Guarantor
+guarantor_of_row (row.Firm _) = None
+guarantor_of_row (row.Group _) = None
+guarantor_of_row (row.Instrument _) = None
+guarantor_of_row (row.Account _) = None
+guarantor_of_row (row.Agreement _) = None
+guarantor_of_row (row.Guarantor guarantor) = Some guarantor
 
 -- what the rows declare, kind by kind
 abbrev pub tables_of : List Row → Tables
@@ -59,6 +74,7 @@ tables_of rows = record {
   instruments = filter_map instrument_of rows;
   accounts = filter_map account_of rows;
   agreements = filter_map agreement_of rows;
+  guarantors = filter_map guarantor_of_row rows;
 }
 
 -- the reference of a file's records

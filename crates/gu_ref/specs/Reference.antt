@@ -11,7 +11,7 @@ use Rattle.gu_ref.specs.declared.instruments.Instrument.{Instrument}
 use Rattle.gu_ref.specs.declared.accounts.Account.{Account}
 use Rattle.gu_ref.specs.declared.agreements.Agreement.{Agreement}
 use Rattle.gu_terms.specs.Same.{same_symbol}
-use Rattle.gu_ref.specs.Listed.{has_firm, has_group, instrument_in, account_in, agreement_in, agreement_for}
+use Rattle.gu_ref.specs.Listed.{has_firm, has_group, instrument_in, account_in, agreement_in, agreement_for, guarantor_for, is_guarantor_in}
 use Rattle.gu_ref.specs.Tables.{Tables}
 
 -- the reference has this firm
@@ -41,3 +41,11 @@ agreement_row reference id = agreement_in reference.agreements id
 -- the agreement by which this firm gives up to this account
 abbrev pub agreement_between : Tables → FirmId → AccountId → Option AgreementId
 agreement_between reference executing account = option_map (λ a. a.id) (agreement_for reference.agreements executing account)
+
+-- the guarantor of this firm, where it has one
+abbrev pub guarantor_of : Tables → FirmId → Option FirmId
+guarantor_of reference firm = option_map (λ g. g.guarantor) (guarantor_for reference.guarantors firm)
+
+-- this firm is a guarantor of another
+abbrev pub is_guarantor : Tables → FirmId → Bool
+is_guarantor reference firm = is_guarantor_in reference.guarantors firm

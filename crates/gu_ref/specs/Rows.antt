@@ -18,13 +18,15 @@ row_of_one kind name =
     else if bytes_eq kind (codes "GROUP") then Some (row.Group (record { name = name }))
     else None
 
--- `INSTRUMENT,symbol,group` and `ACCOUNT,account,firm`
+-- `INSTRUMENT,symbol,group`, `ACCOUNT,account,firm` and `GUARANTOR,guarantor,firm`
 abbrev pub row_of_two : List ℕ → List ℕ → List ℕ → Option Row
 row_of_two kind first second =
     if bytes_eq kind (codes "INSTRUMENT") then
     Some (row.Instrument (record { symbol = record { name = first }; group = record { name = second } }))
     else if bytes_eq kind (codes "ACCOUNT") then
     Some (row.Account (record { account = record { name = first }; firm = record { name = second } }))
+    else if bytes_eq kind (codes "GUARANTOR") then
+    Some (row.Guarantor (record { guarantor = record { name = first }; firm = record { name = second } }))
     else None
 
 -- `AGREEMENT,id,executing firm,account`

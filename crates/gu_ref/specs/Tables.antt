@@ -5,6 +5,7 @@ use Rattle.gu_terms.specs.declared.group.Group.{Group}
 use Rattle.gu_ref.specs.declared.instruments.Instrument.{Instrument}
 use Rattle.gu_ref.specs.declared.accounts.Account.{Account}
 use Rattle.gu_ref.specs.declared.agreements.Agreement.{Agreement}
+use Rattle.gu_ref.specs.declared.guarantors.Guarantor.{Guarantor}
 
 -- the tables of a reference
 pub record Tables : Type 0 where
@@ -13,3 +14,4 @@ pub record Tables : Type 0 where
   pub instruments : List Instrument
   pub accounts : List Account
   pub agreements : List Agreement
+  pub guarantors : List Guarantor

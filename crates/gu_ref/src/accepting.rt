@@ -29,10 +29,11 @@ impl Reference {
             Row::Agreement(agreement) => {
                 self.firm(agreement.executing) && self.account(agreement.account).is_some()
             }
+            Row::Guarantor(row) => self.firm(row.guarantor) && self.firm(row.firm),
         }
     }
 
-    /// Whether the row is an agreement with an account of the executing firm's own.
+    /// Whether the row is an agreement with an account of the executing firm's own, or makes a firm its own guarantor.
     fn is_own(&self, row: &Row) -> bool
         ensures { result ≡ is_own self.now row.now }
     {
@@ -40,6 +41,7 @@ impl Reference {
             Row::Agreement(agreement) => self
                 .account(agreement.account)
                 .map_or(false, |account| account.firm == agreement.executing),
+            Row::Guarantor(row) => row.guarantor == row.firm,
             Row::Firm(_) | Row::Group(_) | Row::Instrument(_) | Row::Account(_) => false,
         }
     }
@@ -59,10 +61,12 @@ impl Reference {
                         .between(agreement.executing, agreement.account)
                         .is_some()
             }
+            Row::Guarantor(row) => self.guarantor(row.firm).is_some(),
         }
     }
 
-    /// Whether there are as many of the row's kind as there may be.
+    /// Whether there are as many of the row's kind as there may be. A firm has one guarantor at most, so that these need
+    /// no limit.
     fn is_full(&self, row: &Row) -> bool
         ensures { result ≡ is_full self.now row.now }
     {
@@ -72,6 +76,7 @@ impl Reference {
             Row::Instrument(_) => self.instruments().len() >= ROWS,
             Row::Account(_) => self.accounts().len() >= ROWS,
             Row::Agreement(_) => self.agreements().len() >= ROWS,
+            Row::Guarantor(_) => false,
         }
     }
 

@@ -1,4 +1,4 @@
-//! Reference data of the house: firms, product groups, instruments, accounts and agreements.
+//! Reference data of the house: firms, product groups, instruments, accounts, agreements and guarantors.
 #![tactic(auto)]
 
 mod accepting;
@@ -6,6 +6,7 @@ mod accounts;
 mod agreements;
 mod counted_reads;
 mod error;
+mod guarantors;
 mod instruments;
 mod laws;
 mod names;
@@ -18,6 +19,7 @@ pub use accounts::Account;
 pub use agreements::Agreement;
 pub use counted_reads::{CountedReads, LONGEST_READ, MOST_READS};
 pub use error::RefFault;
+pub use guarantors::Guarantor;
 pub use instruments::Instrument;
 pub use laws::one_answer;
 pub use reference::Reference;

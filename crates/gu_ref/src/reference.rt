@@ -5,6 +5,7 @@ ghost use Rattle.std.specs.Result.{is_ok};
 
 use crate::accounts::Account;
 use crate::agreements::{Agreement, Agreements};
+use crate::guarantors::{Guarantor, Guarantors};
 use crate::instruments::Instrument;
 use crate::names::Names;
 use crate::row::Row;
@@ -14,13 +15,14 @@ use std::alloc::{AllocError, Global};
 use std::marker::Model;
 
 /// The reference data of one run, each kind in the order in which it was declared.
-/// To a contract it is these five lists.
+/// To a contract it is these six lists.
 pub struct Reference {
     firms: Names<FirmId>,
     groups: Names<Group>,
     instruments: Table<Instrument>,
     accounts: Table<Account>,
     agreements: Agreements,
+    guarantors: Guarantors,
 }
 
 impl Drop for Reference {
@@ -31,12 +33,14 @@ impl Drop for Reference {
             instruments,
             accounts,
             agreements,
+            guarantors,
         } = self;
         drop(firms);
         drop(groups);
         drop(instruments);
         drop(accounts);
         drop(agreements);
+        drop(guarantors);
     }
 }
 
@@ -51,6 +55,7 @@ impl Model for Reference {
       instruments = r.instruments;
       accounts = r.accounts;
       agreements = r.agreements;
+      guarantors = r.guarantors;
     } };
 
     ghost use Rattle.gu_ref.specs.Rules.{IsSound};
@@ -61,22 +66,28 @@ impl Model for Reference {
       instruments = r.instruments;
       accounts = r.accounts;
       agreements = r.agreements;
+      guarantors = r.guarantors;
     }) };
 }
 
 impl Reference {
     ghost use Rattle.gu_ref.specs.declared.accounts.Account.{Account};
     ghost use Rattle.gu_ref.specs.declared.agreements.Agreement.{Agreement};
+    ghost use Rattle.gu_ref.specs.declared.guarantors.Guarantor.{Guarantor};
     ghost use Rattle.gu_ref.specs.Growth.{Passes, with_row, row_count};
     ghost use Rattle.gu_ref.specs.Rules.{IsSound};
     ghost use Rattle.gu_ref.specs.Reference.{is_firm, is_group, is_instrument, instrument_row, account_row, agreement_row, agreement_between};
+    ghost use Rattle.gu_ref.specs.Reference.{guarantor_of, is_guarantor};
 
-    /// The rules of every reference. One firm carries an account, and one agreement stands between a firm and an account.
+    /// The rules of every reference. One firm carries an account, one agreement stands between a firm and an account, and a
+    /// firm has one guarantor at most.
     pub fn rules(&self)
         ensures sound { IsSound self.now }
         ensures carrier { (row : Account) → Contains self.now.accounts row → account_row self.now row.account ≡ Some row }
         ensures partner { (row : Agreement) → Contains self.now.agreements row
             → agreement_between self.now row.executing row.account ≡ Some row.id }
+        ensures guarantor { (row : Guarantor) → Contains self.now.guarantors row
+            → guarantor_of self.now row.firm ≡ Some row.guarantor }
     {
         // A field that is read shows what the type keeps.
         let _ = &self.firms;
@@ -115,6 +126,13 @@ impl Reference {
         ensures { result.now ≡ self.now.agreements }
     {
         self.agreements.as_slice()
+    }
+
+    /// The guarantors, each with the firm that it guarantees, in order.
+    pub fn guarantors(&self) -> &[Guarantor]
+        ensures { result.now ≡ self.now.guarantors }
+    {
+        self.guarantors.as_slice()
     }
 
     /// Whether there is such a firm.
@@ -168,9 +186,23 @@ impl Reference {
             .map(|row| row.id)
     }
 
+    /// The guarantor of a firm, where it has one.
+    pub fn guarantor(&self, firm: FirmId) -> Option<FirmId>
+        ensures { result ≡ guarantor_of self.now firm }
+    {
+        self.guarantors.get(firm).map(|row| row.guarantor)
+    }
+
+    /// Whether the firm is a guarantor of another.
+    pub fn guards(&self, firm: FirmId) -> bool
+        ensures { result ≡ is_guarantor self.now firm }
+    {
+        self.guarantors.guards(firm)
+    }
+
     /// No rows.
     pub(crate) fn empty(alloc: Global) -> Self
-        ensures { result ≡ record { firms = []; groups = []; instruments = []; accounts = []; agreements = [] } }
+        ensures { result ≡ record { firms = []; groups = []; instruments = []; accounts = []; agreements = []; guarantors = [] } }
     {
         Reference {
             firms: Names::new(alloc),
@@ -178,20 +210,22 @@ impl Reference {
             instruments: Table::new(alloc),
             accounts: Table::new(alloc),
             agreements: Agreements::new(alloc),
+            guarantors: Guarantors::new(alloc),
         }
     }
 
     /// How many rows there are.
     pub(crate) fn row_count(&self) -> u64
         ensures count { result ≡ row_count self.now }
-        ensures few { result ≤ 31100 }
+        ensures few { result ≤ 32100 }
     {
         let firms = self.firms.as_slice().len();
         let groups = self.groups.as_slice().len();
         let instruments = self.instruments.as_slice().len();
         let accounts = self.accounts.as_slice().len();
         let agreements = self.agreements.as_slice().len();
-        (firms + groups + instruments + accounts + agreements) as u64
+        let guarantors = self.guarantors.as_slice().len();
+        (firms + groups + instruments + accounts + agreements + guarantors) as u64
     }
 
     /// Adds a row that has no fault after these.
@@ -205,6 +239,7 @@ impl Reference {
             Row::Instrument(instrument) => self.instruments.push(instrument),
             Row::Account(account) => self.accounts.push(account),
             Row::Agreement(agreement) => self.agreements.push(agreement),
+            Row::Guarantor(guarantor) => self.guarantors.push(guarantor),
         }
     }
 }

@@ -6,6 +6,7 @@ ghost use Rattle.csv.specs.Records.{fields_of};
 
 use crate::accounts::Account;
 use crate::agreements::Agreement;
+use crate::guarantors::Guarantor;
 use crate::instruments::Instrument;
 use csv::ByteRecord;
 use gu_terms::{AccountId, AgreementId, FirmId, Group, Name, Symbol};
@@ -20,6 +21,8 @@ const ACCOUNT: &[u8] = b"ACCOUNT";
 
 const AGREEMENT: &[u8] = b"AGREEMENT";
 
+const GUARANTOR: &[u8] = b"GUARANTOR";
+
 /// A row of the file: what it declares.
 #[derive(Clone, Copy)]
 pub(crate) enum Row {
@@ -28,6 +31,7 @@ pub(crate) enum Row {
     Instrument(Instrument),
     Account(Account),
     Agreement(Agreement),
+    Guarantor(Guarantor),
 }
 
 ghost use Rattle.gu_ref.specs.Rows.{name_in, row_of_one, row_of_two, row_of_three, row_of as row_said};
@@ -68,6 +72,12 @@ fn two_names(kind: &[u8], first: Name, second: Name) -> Option<Row>
     if kind == ACCOUNT {
         return Some(Row::Account(Account {
             account: AccountId { name: first },
+            firm: FirmId { name: second },
+        }));
+    }
+    if kind == GUARANTOR {
+        return Some(Row::Guarantor(Guarantor {
+            guarantor: FirmId { name: first },
             firm: FirmId { name: second },
         }));
     }

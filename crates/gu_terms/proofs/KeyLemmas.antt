@@ -5,7 +5,7 @@ use Rattle.std.proofs.lemmas.Bool.{cases_Bool, false_from_ne_true}
 use Rattle.std.proofs.lemmas.Slice.Eq.{bytes_eq-Decides}
 use Rattle.gu_terms.specs.contracts.limit_key.LimitKeyPartialEq.TheImpl as limit_key
 use Rattle.gu_terms.specs.declared.limit_key.LimitKey.{LimitKey}
-use Rattle.gu_terms.specs.declared.limit_key.LimitKey.TheVariants.{Exec, Agr, Acct, Carry}
+use Rattle.gu_terms.specs.declared.limit_key.LimitKey.TheVariants.{Exec, Agr, Acct, Carry, Guar}
 use Rattle.gu_terms.specs.LimitKeys.{key_eq}
 
 -- keys that pass are one
@@ -14,6 +14,7 @@ key_eq-same (Exec a) (Exec b) h = ap (λ n. Exec (record { name = n })) ((bytes_
 key_eq-same (Agr a) (Agr b) h = ap (λ n. Agr (record { name = n })) ((bytes_eq-Decides a.name b.name).0 h)
 key_eq-same (Acct a) (Acct b) h = ap (λ n. Acct (record { name = n })) ((bytes_eq-Decides a.name b.name).0 h)
 key_eq-same (Carry a) (Carry b) h = ap (λ n. Carry (record { name = n })) ((bytes_eq-Decides a.name b.name).0 h)
+key_eq-same (Guar a) (Guar b) h = ap (λ n. Guar (record { name = n })) ((bytes_eq-Decides a.name b.name).0 h)
 key_eq-same _ _ h = cc
 
 -- a key passes with itself
@@ -22,6 +23,7 @@ key_eq-refl (Exec a) = (bytes_eq-Decides a.name a.name).1 refl
 key_eq-refl (Agr a) = (bytes_eq-Decides a.name a.name).1 refl
 key_eq-refl (Acct a) = (bytes_eq-Decides a.name a.name).1 refl
 key_eq-refl (Carry a) = (bytes_eq-Decides a.name a.name).1 refl
+key_eq-refl (Guar a) = (bytes_eq-Decides a.name a.name).1 refl
 
 -- and with equal keys
 pub key_eq-from : (a b : LimitKey) → a ≡ b → key_eq a b ≡ true

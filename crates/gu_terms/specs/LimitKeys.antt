@@ -3,7 +3,7 @@ use Rattle.std.specs.Prelude.{ℕ, Bool, false, List, [], ◌∷◌, Option, cod
 use Rattle.std.specs.List.{find, list_any}
 use Rattle.std.specs.Str.{bytes_eq}
 use Rattle.gu_terms.specs.declared.limit_key.LimitKey.{LimitKey}
-use Rattle.gu_terms.specs.declared.limit_key.LimitKey.TheVariants.{Exec, Agr, Acct, Carry}
+use Rattle.gu_terms.specs.declared.limit_key.LimitKey.TheVariants.{Exec, Agr, Acct, Carry, Guar}
 use Rattle.gu_terms.specs.declared.name.Name.{Name}
 
 -- the word for a key's kind
@@ -12,6 +12,7 @@ kind_of (Exec _) = codes "EXEC"
 kind_of (Agr _) = codes "AGR"
 kind_of (Acct _) = codes "ACCT"
 kind_of (Carry _) = codes "CARRY"
+kind_of (Guar _) = codes "GUAR"
 
 -- the name of the firm, the agreement or the account
 abbrev pub name_of_key : LimitKey → List ℕ
@@ -19,11 +20,13 @@ name_of_key (Exec firm) = firm.name
 name_of_key (Agr agreement) = agreement.name
 name_of_key (Acct account) = account.name
 name_of_key (Carry firm) = firm.name
+name_of_key (Guar firm) = firm.name
 
 -- the keys of a name, one of each kind
 abbrev pub keys_named : Name → List LimitKey
 keys_named name =
-    Exec (record { name = name }) ∷ Agr (record { name = name }) ∷ Acct (record { name = name }) ∷ Carry (record { name = name }) ∷ []
+    Exec (record { name = name }) ∷ Agr (record { name = name }) ∷ Acct (record { name = name })
+    ∷ Carry (record { name = name }) ∷ Guar (record { name = name }) ∷ []
 
 -- the key of a kind, by its word, and a name
 abbrev pub key_of : List ℕ → Name → Option LimitKey
@@ -35,6 +38,7 @@ key_eq (Exec a) (Exec b) = bytes_eq a.name b.name
 key_eq (Agr a) (Agr b) = bytes_eq a.name b.name
 key_eq (Acct a) (Acct b) = bytes_eq a.name b.name
 key_eq (Carry a) (Carry b) = bytes_eq a.name b.name
+key_eq (Guar a) (Guar b) = bytes_eq a.name b.name
 key_eq _ _ = false
 
 -- a key is among these

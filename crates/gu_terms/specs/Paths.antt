@@ -1,16 +1,22 @@
 -- The path of an offer: the keys that it comes under.
-use Rattle.std.specs.Prelude.{◌≡◌, ℕ, ◌==◌, List, [], ◌∷◌, length, if◌then◌else◌, refl}
+use Rattle.std.specs.Prelude.{◌≡◌, ℕ, ◌==◌, List, [], ◌∷◌, length, Option, None, Some, if◌then◌else◌, refl}
 use Rattle.gu_terms.specs.declared.account.AccountId.{AccountId}
 use Rattle.gu_terms.specs.declared.agreement.AgreementId.{AgreementId}
 use Rattle.gu_terms.specs.declared.firm.FirmId.{FirmId}
 use Rattle.gu_terms.specs.declared.limit_key.LimitKey.{LimitKey}
-use Rattle.gu_terms.specs.declared.limit_key.LimitKey.TheVariants.{Exec, Agr, Acct, Carry}
+use Rattle.gu_terms.specs.declared.limit_key.LimitKey.TheVariants.{Exec, Agr, Acct, Carry, Guar}
 use Rattle.gu_terms.specs.declared.path.Keys.{Keys}
 use Rattle.gu_terms.specs.declared.path.Keys.TheVariants.{Four, Five}
 
--- the keys of a path, in order: executing firm, agreement, account, carrying firm
-abbrev pub path_through : FirmId → AgreementId → AccountId → FirmId → List LimitKey
-path_through executing agreement account carrying = Exec executing ∷ Agr agreement ∷ Acct account ∷ Carry carrying ∷ []
+-- the key of a guarantor, where there is one
+abbrev pub guarantor_key : Option FirmId → List LimitKey
+guarantor_key None = []
+guarantor_key (Some firm) = Guar firm ∷ []
+
+-- the keys of a path, in order: executing firm, agreement, account, carrying firm, and its guarantor, where it has one
+abbrev pub path_through : FirmId → AgreementId → AccountId → FirmId → Option FirmId → List LimitKey
+path_through executing agreement account carrying guarantor =
+    Exec executing ∷ Agr agreement ∷ Acct account ∷ Carry carrying ∷ guarantor_key guarantor
 
 -- ---- how a path is kept
 

@@ -19,6 +19,8 @@ pub enum LimitKey {
     Acct(AccountId),
     /// All that a firm carries.
     Carry(FirmId),
+    /// All that is carried by the firms that a firm guarantees.
+    Guar(FirmId),
 }
 
 impl LimitKey {
@@ -31,6 +33,7 @@ impl LimitKey {
             LimitKey::Agr(_) => "AGR",
             LimitKey::Acct(_) => "ACCT",
             LimitKey::Carry(_) => "CARRY",
+            LimitKey::Guar(_) => "GUAR",
         }
     }
 
@@ -43,6 +46,7 @@ impl LimitKey {
             LimitKey::Agr(AgreementId { name }),
             LimitKey::Acct(AccountId { name }),
             LimitKey::Carry(FirmId { name }),
+            LimitKey::Guar(FirmId { name }),
         ]
         .iter()
         .copied()
@@ -54,7 +58,7 @@ impl LimitKey {
         ensures { result.now ≡ name_of_key self.now }
     {
         match self {
-            LimitKey::Exec(firm) | LimitKey::Carry(firm) => firm.get(),
+            LimitKey::Exec(firm) | LimitKey::Carry(firm) | LimitKey::Guar(firm) => firm.get(),
             LimitKey::Agr(agreement) => agreement.get(),
             LimitKey::Acct(account) => account.get(),
         }

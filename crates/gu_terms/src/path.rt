@@ -44,23 +44,31 @@ impl Model for Path {
 }
 
 impl Path {
-    /// The path of an agreement's offers.
+    /// The path of an agreement's offers, with the guarantor of the carrying firm, where it has one.
     pub fn new(
         executing: FirmId,
         agreement: AgreementId,
         account: AccountId,
         carrying: FirmId,
+        guarantor: Option<FirmId>,
     ) -> Self
-        ensures { result ≡ path_through executing agreement account carrying }
+        ensures { result ≡ path_through executing agreement account carrying guarantor }
     {
-        Path {
-            keys: Keys::Four([
-                LimitKey::Exec(executing),
-                LimitKey::Agr(agreement),
-                LimitKey::Acct(account),
-                LimitKey::Carry(carrying),
+        let executing = LimitKey::Exec(executing);
+        let agreement = LimitKey::Agr(agreement);
+        let account = LimitKey::Acct(account);
+        let carrying = LimitKey::Carry(carrying);
+        let keys = match guarantor {
+            None => Keys::Four([executing, agreement, account, carrying]),
+            Some(firm) => Keys::Five([
+                executing,
+                agreement,
+                account,
+                carrying,
+                LimitKey::Guar(firm),
             ]),
-        }
+        };
+        Path { keys }
     }
 
     /// The path of these keys, where they are four or five.

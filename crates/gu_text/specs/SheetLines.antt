@@ -47,7 +47,7 @@ abbrev pub path_said : List ℕ → List (List ℕ) → Option (List LimitKey)
 path_said agreement (executing ∷ account ∷ carrying ∷ []) =
     if is_name executing && is_name account && is_name carrying
     then Some
-    (path_through (record { name = executing }) (record { name = agreement }) (record { name = account }) (record { name = carrying }))
+    (path_through (record { name = executing }) (record { name = agreement }) (record { name = account }) (record { name = carrying }) None)
     else None
 path_said agreement _ = None
 

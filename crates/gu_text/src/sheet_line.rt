@@ -120,6 +120,7 @@ fn path_said(agreement: Name, words: &[u8]) -> Option<Path>
         AgreementId { name: agreement },
         AccountId { name: account },
         FirmId { name: carrying },
+        None,
     ))
 }
 

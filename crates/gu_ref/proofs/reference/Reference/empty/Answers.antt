@@ -2,4 +2,4 @@ use Rattle.gu_ref.proofs.Growing.{sound-empty}
 use Rattle.gu_ref.proofs.reference.Reference.empty.Goals as goal
 
 pub invariant_of-result : goal.invariant_of-result
-invariant_of-result c = rw (c.new.ensures, c.new-2.ensures, c.new-3.ensures, c.new-4.ensures, c.new-5.ensures) sound-empty
+invariant_of-result c = rw (c.new.ensures, c.new-2.ensures, c.new-3.ensures, c.new-4.ensures, c.new-5.ensures, c.new-6.ensures) sound-empty

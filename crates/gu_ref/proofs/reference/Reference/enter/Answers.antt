@@ -1,6 +1,6 @@
 use Rattle.gu_terms.specs.Same.{same_symbol}
 use Rattle.std.specs.Result.{is_ok}
-use Rattle.gu_ref.proofs.Growing.{firm-pushed, group-pushed, instrument-pushed, account-pushed, agreement-pushed, no_instrument}
+use Rattle.gu_ref.proofs.Growing.{firm-pushed, group-pushed, instrument-pushed, account-pushed, agreement-pushed, guarantor-pushed, no_instrument}
 use Rattle.gu_ref.proofs.reference.Reference.enter.Goals as goal
 
 pub invariant_of-self : goal.invariant_of-self
@@ -32,3 +32,8 @@ pub invariant_of-self-in-Agreement : goal.invariant_of-self-in-Agreement
 invariant_of-self-in-Agreement c =
     let p = rw (← c.self.view_is, c.in-Agreement.is) at c.requires in
     agreement-pushed _ c.in-Agreement.agreement (is_ok c.push-in-Agreement.result) _ c.self.invariant p c.push-in-Agreement.ensures
+
+pub invariant_of-self-in-Guarantor : goal.invariant_of-self-in-Guarantor
+invariant_of-self-in-Guarantor c =
+    let p = rw (← c.self.view_is, c.in-Guarantor.is) at c.requires in
+    guarantor-pushed _ c.in-Guarantor.guarantor (is_ok c.push-in-Guarantor.result) _ c.self.invariant p c.push-in-Guarantor.ensures

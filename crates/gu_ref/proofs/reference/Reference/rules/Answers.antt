@@ -2,8 +2,9 @@ use Rattle.std.proofs.Common.{ap}
 use Rattle.std.specs.Option.{option_map}
 use Rattle.gu_ref.specs.declared.accounts.Account.{Account}
 use Rattle.gu_ref.specs.declared.agreements.Agreement.{Agreement}
+use Rattle.gu_ref.specs.declared.guarantors.Guarantor.{Guarantor}
 use Rattle.gu_ref.specs.Rules.{same_pair}
-use Rattle.gu_terms.specs.Same.{same_account}
+use Rattle.gu_terms.specs.Same.{same_account, same_firm}
 use Rattle.gu_ref.proofs.Lookups.{by_name, by_names}
 use Rattle.gu_ref.proofs.OwnRow.{found_by_own_name}
 use Rattle.gu_ref.proofs.reference.Reference.rules.Goals as goal
@@ -17,4 +18,6 @@ returns c =
           found_by_own_name (λ a b. same_account a.account b.account) (λ a. (by_name (λ (k : Account). k.account.name)).refl a) c.args.self.now.accounts row sound.once.accounts there;
       partner = λ row there.
           ap (option_map (λ a. a.id)) (found_by_own_name same_pair (λ a. (by_names (λ (k : Agreement). k.executing.name) (λ k. k.account.name)).refl a) c.args.self.now.agreements row sound.once.pairs there);
+      guarantor = λ row there.
+          ap (option_map (λ g. g.guarantor)) (found_by_own_name (λ a b. same_firm a.firm b.firm) (λ a. (by_name (λ (k : Guarantor). k.firm.name)).refl a) c.args.self.now.guarantors row sound.once.guaranteed there);
     }

@@ -1,0 +1,11 @@
+use Rattle.std.proofs.Common.{◌∙◌, ap}
+use Rattle.gu_ref.specs.Listed.{guarantor_for}
+use Rattle.gu_terms.specs.Same.{same_firm}
+use Rattle.gu_ref.proofs.Lookups.{by_name, lookup-by_key}
+use Rattle.gu_ref.proofs.guarantors.Guarantors.get.Goals as goal
+
+pub returns : goal.returns
+returns c =
+    c.copied.ensures ∙ c.get.ensures.value
+    ∙ lookup-by_key same_firm (by_name (λ k. k.name)) (λ row. row.firm) c.args.firm c.self.inside.rows.entries c.self.invariant.named
+    ∙ ap (λ rows. guarantor_for rows c.args.firm) c.self.view_is
