@@ -12,6 +12,9 @@ use crate::waiting::Waiting;
 /// How many turns nodes have at most; what they leave is left to the searches.
 const MOST_TURNS: u32 = 1 << 24;
 
+/// What it costs to lift a node, as a number of ends, besides those that are looked at.
+const LIFT: usize = 12;
+
 /// Makes each node as high as there are nodes, and the sink the lowest.
 fn raise(heights: &mut [u32])
     requires few { (1 < length heights.old) × (length heights.old < 2 ^ 31) }
@@ -123,7 +126,7 @@ fn push_down(
     }
 }
 
-/// Makes a node one higher than the lowest to which it can push, and returns how many ends were looked at.
+/// Makes a node one higher than the lowest to which it can push, and returns what that cost.
 fn lift(arcs: &[Arc], first: &[u32], next: &[u32], heights: &mut [u32], node: u32) -> usize
     requires within { All (λ a. a.flow ≤ a.capacity) arcs.now }
     requires joins { JoinsNodes arcs.now (length heights.old) }
@@ -133,22 +136,22 @@ fn lift(arcs: &[Arc], first: &[u32], next: &[u32], heights: &mut [u32], node: u3
     requires node { node < length heights.old }
 {
     let mut least = heights.len() as u32;
-    let mut seen = 0_usize;
+    let mut cost = LIFT;
     let mut ends = first[node as usize];
     'ends: while ends > 0 {
         let end = ends - 1;
         if room_out(arcs, end) > 0 {
             least = least.min(heights[far(arcs, end) as usize].saturating_add(1));
         }
-        seen = seen.saturating_add(1);
+        cost = cost.saturating_add(1);
         ends = next[end as usize];
     }
     heights[node as usize] = least;
-    seen
+    cost
 }
 
 /// A node's turn: it pushes what it has too much to lower nodes, and with what is left it is lifted, and waits again.
-/// Returns how many ends were looked at to lift it.
+/// Returns what lifting it cost.
 fn discharge(
     arcs: &mut [Arc],
     excess: &mut [u64],
@@ -179,12 +182,12 @@ fn discharge(
     if excess[node as usize] == 0 {
         return 0;
     }
-    let seen = lift(arcs, first, next, heights, node);
+    let cost = lift(arcs, first, next, heights, node);
     current[node as usize] = first[node as usize];
     if (heights[node as usize] as usize) < heights.len() {
         waiting.add(node);
     }
-    seen
+    cost
 }
 
 /// Leaves no node with too much but the source, which has as much as it can give.
@@ -244,16 +247,16 @@ fn take_turns(
     ensures worth { worth arcs.old 1 ≤ worth arcs.new 1 }
     ensures ring { vec_len waiting.new.ring ≡ vec_len waiting.old.ring }
 {
-    let mut seen = 0_usize;
+    let mut cost = 0_usize;
     'turns: for _ in 0..MOST_TURNS {
         let Some(node) = waiting.take() else {
             return;
         };
-        let looked = discharge(arcs, excess, first, next, heights, current, waiting, node);
-        seen = seen.saturating_add(looked);
-        if seen > next.len() {
+        let lifting = discharge(arcs, excess, first, next, heights, current, waiting, node);
+        cost = cost.saturating_add(lifting);
+        if cost > arcs.len() {
             start_over(arcs, first, next, heights, current, queue);
-            seen = 0;
+            cost = 0;
         }
     }
 }

@@ -14,8 +14,9 @@ use crate::waiting::Waiting;
 use crate::ways::block;
 use std::alloc::{AllocError, Global};
 
-/// After so many searches the rest is pushed all at once: where ways grow longer a little at a time, there would be many more.
-const FEW_SEARCHES: u32 = 8;
+/// When searches and ways have had as many steps as the network has nodes so many times over, the rest is pushed all at once:
+/// where each search finds little, or ways grow long, there would be many more.
+const MOST_ROUNDS: usize = 12;
 
 /// Makes the flow greatest, over lists that are there.
 fn fill(
@@ -46,15 +47,16 @@ fn fill(
     ensures not_to_sink { is_reached entries.new 1 ≡ false }
     ensures closed { IsClosed arcs.new (is_reached entries.new) }
 {
-    let mut searches = 0;
+    let nodes = entries.len();
+    let mut left = MOST_ROUNDS * nodes;
     'searches: while search(arcs, first, next, entries, queue) {
-        if searches == FEW_SEARCHES {
+        if left == 0 {
             surge(arcs, excess, first, next, heights, current, queue, waiting);
+            left = MOST_ROUNDS * nodes;
         } else {
             current.copy_from_slice(first);
-            block(arcs, next, entries, current, way);
+            left = block(arcs, next, entries, current, way, left).saturating_sub(nodes);
         }
-        searches = searches.saturating_add(1);
     }
 }
 

@@ -14,4 +14,4 @@ invariant-searches l = record {
 }
 
 abbrev pub decreases-searches : goal.decreases-searches
-decreases-searches l = capacities l.initial.arcs - worth l.arcs 1 + (9 - l.searches)
+decreases-searches l = 2 * (capacities l.initial.arcs - worth l.arcs 1) + (1 - l.left)
