@@ -1,18 +1,22 @@
 -- Lists of arcs that are laid out one room after another.
 use Rattle.std.proofs.Math.Seq.{take-append_seam}
-use Rattle.std.proofs.Common.{take, drop, ◌≡◌, ℕ, ◌+◌, ◌<◌, ◌==◌, Bool, true, false, cond, List, [], ◌∷◌, ◌++◌, map, length, sym, ◌∙◌, ap, subst, arith}
+use Rattle.std.proofs.Common.{take, drop, ◌≡◌, ℕ, ◌+◌, ◌^◌, ◌<◌, ◌≤◌, ◌==◌, Bool, true, false, cond, List, [], ◌∷◌, ◌++◌, map, length, sym, ◌∙◌, ap, subst, arith}
 use Rattle.std.specs.Prelude.{All}
 use Rattle.std.specs.List.{AllByRecursion}
 use Rattle.std.proofs.lemmas.List.Elements.{All-from_get_or}
+use Rattle.std.proofs.lemmas.List.Sums.{sum_by-le}
 use Rattle.gu_view.proofs.MarkLemmas.{path_inside}
 use Rattle.gu_view.specs.View.{GroupView, IsView, place_of}
 use Rattle.gu_flow.specs.Ends.{no_arc, arc_at, JoinsNodes}
 use Rattle.gu_flow.proofs.Pipes.{pipes_at, pipes_length}
 use Rattle.gu_flow.specs.Flows.{SamePipes}
 use Rattle.gu_flow.specs.Layouts.{first_node, next_node, tail_on, head_on}
-use Rattle.gu_flow.specs.Networks.{way_of, IsArcOf, AreArcs}
+use Rattle.gu_flow.specs.Networks.{no_room, room_at, capacity_of, way_of, IsArcOf, AreArcs}
+use Rattle.gu_flow.specs.Preflows.{capacities}
 use Rattle.gu_flow.specs.declared.arcs.Arc.{Arc}
 use Rattle.gu_terms.specs.declared.limit_key.LimitKey.{LimitKey}
+use Rattle.gu_terms.specs.declared.limit_key.LimitKey.TheVariants.{Exec, Agr, Acct, Carry}
+use Rattle.gu_view.specs.declared.view.Offer.{Offer}
 
 -- each arc is that of the room at its place, and empty
 pub record IsLaidOut (view : GroupView) (arcs : List Arc) : Type 0 where
@@ -61,6 +65,20 @@ arcs_join view arcs sound long laid = All-from_get_or (λ a. (a.from < length vi
     let each : AllByRecursion (λ p. p < n) way = places_within n (place_of view.rooms) h.offer.path (path_inside view sound h.known.place h.offer h.known.within h.known.is) in
     let inside : k < n = omega arith in
     (subst (λ m. m < n + 2) (sym h.from) (tail_within n k way inside each), subst (λ m. m < n + 2) (sym h.to) (head_within n k way each)))
+
+-- an arc carries no more than its key's room
+capacity-le : (offers : List Offer) (lots : ℕ) (key : LimitKey) → capacity_of offers lots key ≤ lots
+capacity-le offers lots (Agr agreement) = omega arith
+capacity-le offers lots (Exec firm) = omega arith
+capacity-le offers lots (Acct account) = omega arith
+capacity-le offers lots (Carry firm) = omega arith
+
+-- what all arcs can carry fits a number of 64 bits
+pub arcs_fit : (view : GroupView) (arcs : List Arc) → IsView view → AreArcs view arcs → capacities arcs < 2 ^ 64
+arcs_fit view arcs sound are =
+    let small : All (λ a. a.capacity ≤ 1000000000) arcs = All-from_get_or (λ a. a.capacity ≤ 1000000000) arcs no_arc (λ k k_in.
+    omega (arith, (are.each k k_in).capacity, capacity-le view.offers (room_at view.rooms k).lots (room_at view.rooms k).key, sound.limits k no_room (omega (arith, are.all)))) in
+    omega (arith, sum_by-le (λ a. a.capacity) 1000000000 arcs small, are.all, sound.few_rooms)
 
 -- another flow through the same network leaves its arcs those of the rooms
 pub pipes_arcs : (view : GroupView) (old new : List Arc) → SamePipes old new → AreArcs view old → AreArcs view new

@@ -4,8 +4,9 @@ use Rattle.gu_flow.specs.declared.arcs.Arc.{Arc}
 use Rattle.gu_flow.specs.declared.levels.Entry.{Entry}
 use Rattle.gu_flow.specs.Ends.{IsIndex}
 use Rattle.gu_flow.specs.Flows.{IsFlow, SamePipes, worth}
+use Rattle.gu_flow.specs.Preflows.{capacities}
 use Rattle.gu_flow.specs.Ways.{HasRoom, IsCurrent, IsAhead, IsDescent}
-use Rattle.gu_flow.proofs.Pipes.{capacities, pipes_capacities, pipes_way, pipes_falling, pipes_current, pipes_ahead, worth-le}
+use Rattle.gu_flow.proofs.Pipes.{pipes_capacities, pipes_way, pipes_falling, pipes_current, pipes_ahead, worth-le}
 use Rattle.gu_flow.proofs.Descents.{way_front, falling_front, front_kept}
 
 -- more flows than at the start, and the steps that are kept have room

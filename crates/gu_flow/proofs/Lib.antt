@@ -3,6 +3,7 @@ pub mod Reaching
 pub mod Spreading
 pub mod Linking
 pub mod Pipes
+pub mod Pushing
 pub mod Bringing
 pub mod Descents
 pub mod Blocking

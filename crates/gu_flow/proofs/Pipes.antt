@@ -11,6 +11,7 @@ use Rattle.gu_flow.specs.declared.levels.Entry.{Entry}
 use Rattle.gu_flow.specs.Levels.{level_at}
 use Rattle.gu_flow.specs.Ways.{stand, IsWay, IsFalling, IsCurrent, IsAhead}
 use Rattle.gu_flow.specs.Flows.{inflow, worth, pipe, SamePipes}
+use Rattle.gu_flow.specs.Preflows.{capacities}
 
 heads : {X : Type 0} (x y : X) (xs ys : List X) → x ∷ xs ≡ y ∷ ys → x ≡ y
 heads x y xs ys e = cc
@@ -45,12 +46,8 @@ near_same old new e same = ap (λ (p : ℕ × ℕ × ℕ). cond (is_tail e) p.0 
 pub far_same : (old new : List Arc) (e : ℕ) → SamePipes old new → far new e ≡ far old e
 far_same old new e same = ap (λ (p : ℕ × ℕ × ℕ). cond (is_tail e) p.1 p.0) (pipes_at old new same (e / 2) no_arc)
 
--- what all arcs can carry
-pub capacities : List Arc → ℕ
-capacities arcs = sum_by (λ a. a.capacity) arcs
-
+-- they can carry as much
 pub pipes_capacities : (old new : List Arc) → SamePipes old new → capacities new ≡ capacities old
-unfolding capacities
 pipes_capacities [] [] e = refl
 pipes_capacities [] (b ∷ new) e = cc
 pipes_capacities (a ∷ old) [] e = cc
@@ -59,8 +56,8 @@ pipes_capacities (a ∷ old) (b ∷ new) e =
     let here : b.capacity ≡ a.capacity = ap (λ p. p.2) (heads (pipe b) (pipe a) (map pipe new) (map pipe old) e) in
     omega (arith, sum_by-cons (λ c. c.capacity) a old, sum_by-cons (λ c. c.capacity) b new)
 
-inflow-le : (n : ℕ) (arcs : List Arc) → AllByRecursion (λ a. a.flow ≤ a.capacity) arcs → inflow arcs n ≤ capacities arcs
-unfolding capacities
+-- no more comes to a node than all arcs can carry
+pub inflow-le : (n : ℕ) (arcs : List Arc) → AllByRecursion (λ a. a.flow ≤ a.capacity) arcs → inflow arcs n ≤ capacities arcs
 inflow-le n [] within = omega arith
 inflow-le n (a ∷ arcs) within =
     let here = part (a.to == n) a.flow in

@@ -1,6 +1,7 @@
 pub mod Ends
 pub mod Levels
 pub mod Flows
+pub mod Preflows
 pub mod Ways
 pub mod Layouts
 pub mod CutArcs

@@ -1,15 +1,22 @@
 //! Greatest flows from the source, node 0, to the sink, node 1.
 
-ghost use Rattle.std.specs.Prelude.{◌≡◌, ◌*◌, ◌^◌, ◌<◌, ◌≤◌, true, false, IfOk, OnErr, length};
+ghost use Rattle.std.specs.Prelude.{◌≡◌, ◌*◌, ◌^◌, ◌<◌, ◌≤◌, true, false, IfOk, OnErr, length, vec_len};
 ghost use Rattle.gu_flow.specs.Ends.{IsIndex, JoinsNodes};
 ghost use Rattle.gu_flow.specs.Flows.{IsFlow, IsClosed, SamePipes};
 ghost use Rattle.gu_flow.specs.Levels.{is_reached};
+ghost use Rattle.gu_flow.specs.Preflows.{capacities};
 
 use crate::arcs::Arc;
 use crate::chains::link;
+use crate::heights::surge;
 use crate::levels::{Entry, search};
+use crate::waiting::Waiting;
 use crate::ways::block;
 use std::alloc::{AllocError, Global};
+
+/// When searches and ways have had as many steps as the network has nodes so many times over, the rest is pushed all at once:
+/// where each search finds little, or ways grow long, there would be many more.
+const MOST_ROUNDS: usize = 12;
 
 /// Makes the flow greatest, over lists that are there.
 fn fill(
@@ -20,6 +27,9 @@ fn fill(
     queue: &mut [u32],
     current: &mut [u32],
     way: &mut [u32],
+    excess: &mut [u64],
+    heights: &mut [u32],
+    waiting: &mut Waiting,
 )
     requires flow { IsFlow arcs.old 0 1 }
     requires joins { JoinsNodes arcs.old (length entries.old) }
@@ -28,15 +38,25 @@ fn fill(
     requires lists { (length first.now ≡ length entries.old) × (length next.now ≡ 2 * length arcs.old) }
     requires rooms { (length entries.old ≤ length queue.old) × (length current.old ≡ length entries.old)
         × (length entries.old ≤ length way.old) }
+    requires fits { capacities arcs.old < 2 ^ 64 }
+    requires nodes { (length excess.old ≡ length entries.old) × (length heights.old ≡ length entries.old)
+        × (vec_len waiting.old.ring ≡ length entries.old) }
     ensures flow { IsFlow arcs.new 0 1 }
     ensures pipes { SamePipes arcs.old arcs.new }
     ensures from_source { is_reached entries.new 0 ≡ true }
     ensures not_to_sink { is_reached entries.new 1 ≡ false }
     ensures closed { IsClosed arcs.new (is_reached entries.new) }
 {
+    let nodes = entries.len();
+    let mut left = MOST_ROUNDS * nodes;
     'searches: while search(arcs, first, next, entries, queue) {
-        current.copy_from_slice(first);
-        block(arcs, next, entries, current, way);
+        if left == 0 {
+            surge(arcs, excess, first, next, heights, current, queue, waiting);
+            left = MOST_ROUNDS * nodes;
+        } else {
+            current.copy_from_slice(first);
+            left = block(arcs, next, entries, current, way, left).saturating_sub(nodes);
+        }
     }
 }
 
@@ -49,6 +69,7 @@ pub(crate) fn maximize(
     requires flow { IsFlow arcs.old 0 1 }
     requires joins { JoinsNodes arcs.old nodes }
     requires few { (nodes < 2 ^ 31) × (1 < nodes) × (length arcs.old < 2 ^ 31) }
+    requires fits { capacities arcs.old < 2 ^ 64 }
     ensures flow { IsFlow arcs.new 0 1 }
     ensures pipes { SamePipes arcs.old arcs.new }
     ensures from_source { IfOk result (λ entries. is_reached entries.items 0 ≡ true) }
@@ -62,6 +83,9 @@ pub(crate) fn maximize(
     let mut queue = vec![in alloc; 0; nodes]?;
     let mut current = vec![in alloc; 0; nodes]?;
     let mut way = vec![in alloc; 0; nodes]?;
+    let mut excess = vec![in alloc; 0; nodes]?;
+    let mut heights = vec![in alloc; 0; nodes]?;
+    let mut waiting = Waiting::new(alloc, nodes)?;
     link(arcs, &mut first, &mut next);
     fill(
         arcs,
@@ -71,6 +95,9 @@ pub(crate) fn maximize(
         &mut queue,
         &mut current,
         &mut way,
+        &mut excess,
+        &mut heights,
+        &mut waiting,
     );
     Ok(entries)
 }

@@ -81,6 +81,24 @@ impl Proposal {
         self.lots
     }
 
+    /// The view, the takes, the cut, and the lots taken in all, for who keeps them.
+    pub fn into_parts(self) -> (View, Takes, Cut, u64)
+        ensures view { result.0 ≡ self.view }
+        ensures takes { result.1 ≡ self.takes }
+        ensures cut { result.2 ≡ self.cut }
+        ensures lots { result.3 ≡ self.lots }
+        ensures sound { IsSound (record { view = result.0; takes = result.1; cut = result.2; lots = result.3 }) }
+        ensures checked { verdict result.0 result.1 result.2 ≡ Ok result.3 }
+    {
+        let Proposal {
+            view,
+            takes,
+            cut,
+            lots,
+        } = self;
+        (view, takes, cut, lots)
+    }
+
     /// A copy.
     pub fn copy(&self) -> Result<Proposal, AllocError>
         ensures { IfOk result (λ proposal. proposal ≡ self.now) }

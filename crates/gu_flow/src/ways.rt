@@ -158,15 +158,16 @@ pub(crate) fn extend(
     Some(steps)
 }
 
-/// Brings lots along ways that fall a level at each step, until the search for one ends;
-/// at least along the way on which the sink was reached.
+/// Brings lots along ways that fall a level at each step, until the search for one ends or no more steps are left;
+/// at least along the way on which the sink was reached. Returns how many steps are left.
 pub(crate) fn block(
     arcs: &mut [Arc],
     next: &[u32],
     entries: &[Entry],
     current: &mut [u32],
     way: &mut [u32],
-)
+    most: usize,
+) -> usize
     requires flow { IsFlow arcs.old 0 1 }
     requires joins { JoinsNodes arcs.old (length entries.now) }
     requires few { (length entries.now < 2 ^ 31) × (1 < length entries.now) × (length arcs.old < 2 ^ 31) }
@@ -182,9 +183,15 @@ pub(crate) fn block(
 {
     let steps = trace(arcs, entries, way);
     augment(arcs, &way[..steps]);
+    let mut left = most.saturating_sub(steps);
     let mut kept = 0;
     'ways: while let Some(steps) = extend(arcs, next, entries, current, way, kept) {
         augment(arcs, &way[..steps]);
+        left = left.saturating_sub(steps);
+        if left == 0 {
+            return 0;
+        }
         kept = clear_steps(arcs, &way[..steps]);
     }
+    left
 }

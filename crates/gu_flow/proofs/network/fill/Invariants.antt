@@ -1,7 +1,7 @@
-use Rattle.std.proofs.Common.{◌-◌, ◌*◌, length}
+use Rattle.std.proofs.Common.{◌+◌, ◌-◌, ◌*◌, ◌≡◌, length, vec_len}
 use Rattle.gu_flow.specs.Ends.{IsIndex, JoinsNodes}
 use Rattle.gu_flow.specs.Flows.{IsFlow, SamePipes, worth}
-use Rattle.gu_flow.proofs.Pipes.{capacities}
+use Rattle.gu_flow.specs.Preflows.{capacities}
 use Rattle.gu_flow.proofs.network.fill.Given as goal
 
 abbrev pub invariant-searches : goal.invariant-searches
@@ -10,7 +10,8 @@ invariant-searches l = record {
   pipes : SamePipes l.initial.arcs l.arcs;
   joins : JoinsNodes l.arcs (length l.entries);
   index : IsIndex l.arcs l.first l.next (2 * length l.arcs);
+  ring : vec_len l.waiting.ring ≡ vec_len l.initial.waiting.ring;
 }
 
 abbrev pub decreases-searches : goal.decreases-searches
-decreases-searches l = capacities l.initial.arcs - worth l.arcs 1
+decreases-searches l = 2 * (capacities l.initial.arcs - worth l.arcs 1) + (1 - l.left)

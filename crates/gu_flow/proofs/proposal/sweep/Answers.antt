@@ -1,7 +1,7 @@
 use Rattle.std.proofs.Common.{◌≡◌, arith, ap, ◌∙◌, length, sum_by}
 use Rattle.gu_terms.specs.declared.takes.Take.{Take}
 use Rattle.gu_flow.specs.Levels.{is_reached}
-use Rattle.gu_flow.proofs.ArcLists.{pipes_arcs, written_back}
+use Rattle.gu_flow.proofs.ArcLists.{arcs_fit, pipes_arcs, written_back}
 use Rattle.gu_flow.proofs.Certifying.{certified}
 use Rattle.gu_flow.proofs.Pipes.{pipes_length}
 use Rattle.gu_flow.proofs.ShareLemmas.{shares_total, shares_fit}
@@ -10,6 +10,9 @@ use Rattle.gu_flow.proofs.proposal.sweep.Goals as goal
 
 pub maximize-requires-clause-flow : goal.maximize-requires-clause-flow
 maximize-requires-clause-flow c = rw c.deref_mut.ensures.value (empty_flow c.in_ok-arcs.arcs.items 0 1 c.in_ok-arcs.ensures.empty)
+
+pub maximize-requires-clause-fits : goal.maximize-requires-clause-fits
+maximize-requires-clause-fits c = rw c.deref_mut.ensures.value (arcs_fit c.args.view.now c.in_ok-arcs.arcs.items c.rooms.ensures.sound c.in_ok-arcs.ensures.arcs)
 
 pub sum_of-lots-requires : goal.sum_of-lots-requires
 sum_of-lots-requires c =

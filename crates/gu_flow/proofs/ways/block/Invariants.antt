@@ -1,6 +1,6 @@
 use Rattle.std.proofs.Common.{◌-◌}
 use Rattle.gu_flow.specs.Flows.{worth}
-use Rattle.gu_flow.proofs.Pipes.{capacities}
+use Rattle.gu_flow.specs.Preflows.{capacities}
 use Rattle.gu_flow.proofs.Blocking.{Blocking}
 use Rattle.gu_flow.proofs.ways.block.Given as goal
 
