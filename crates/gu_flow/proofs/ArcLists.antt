@@ -15,7 +15,7 @@ use Rattle.gu_flow.specs.Networks.{no_room, room_at, capacity_of, way_of, IsArcO
 use Rattle.gu_flow.specs.Preflows.{capacities}
 use Rattle.gu_flow.specs.declared.arcs.Arc.{Arc}
 use Rattle.gu_terms.specs.declared.limit_key.LimitKey.{LimitKey}
-use Rattle.gu_terms.specs.declared.limit_key.LimitKey.TheVariants.{Exec, Agr, Acct, Carry}
+use Rattle.gu_terms.specs.declared.limit_key.LimitKey.TheVariants.{Exec, Agr, Acct, Carry, Guar}
 use Rattle.gu_view.specs.declared.view.Offer.{Offer}
 
 -- each arc is that of the room at its place, and empty
@@ -72,6 +72,7 @@ capacity-le offers lots (Agr agreement) = omega arith
 capacity-le offers lots (Exec firm) = omega arith
 capacity-le offers lots (Acct account) = omega arith
 capacity-le offers lots (Carry firm) = omega arith
+capacity-le offers lots (Guar firm) = omega arith
 
 -- what all arcs can carry fits a number of 64 bits
 pub arcs_fit : (view : GroupView) (arcs : List Arc) → IsView view → AreArcs view arcs → capacities arcs < 2 ^ 64

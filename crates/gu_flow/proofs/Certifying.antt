@@ -12,7 +12,7 @@ use Rattle.gu_terms.specs.LimitKeys.{key_eq, has_key}
 use Rattle.gu_terms.specs.Takes.{lots_of}
 use Rattle.gu_terms.specs.declared.agreement.AgreementId.{AgreementId}
 use Rattle.gu_terms.specs.declared.limit_key.LimitKey.{LimitKey}
-use Rattle.gu_terms.specs.declared.limit_key.LimitKey.TheVariants.{Exec, Agr, Acct, Carry}
+use Rattle.gu_terms.specs.declared.limit_key.LimitKey.TheVariants.{Exec, Agr, Acct, Carry, Guar}
 use Rattle.gu_terms.specs.declared.takes.Take.{Take}
 use Rattle.gu_view.proofs.CutBounds.{greatest_by_cut}
 use Rattle.gu_view.proofs.MarkLemmas.{path_inside}
@@ -61,6 +61,7 @@ capacity-le offers lots (Exec firm) = omega arith
 capacity-le offers lots (Agr agreement) = omega arith
 capacity-le offers lots (Acct account) = omega arith
 capacity-le offers lots (Carry firm) = omega arith
+capacity-le offers lots (Guar firm) = omega arith
 
 record IsShort (offers : List Offer) (capacity : ℕ) (key : LimitKey) : Type 0 where
   agreement : AgreementId
@@ -72,6 +73,7 @@ short offers lots capacity (Exec firm) is other = absurd (other is)
 short offers lots capacity (Agr agreement) is other = record { agreement = agreement; is = refl; all = omega arith }
 short offers lots capacity (Acct account) is other = absurd (other is)
 short offers lots capacity (Carry firm) is other = absurd (other is)
+short offers lots capacity (Guar firm) is other = absurd (other is)
 
 -- an arc of layer 0 is an agreement's, with no more than its offers have
 record IsAgreement (offers : List Offer) (capacity : ℕ) (key : LimitKey) : Type 0 where
@@ -166,6 +168,7 @@ module _ (view : GroupView) (sound : IsView view) (nested : IsNested view) (arcs
   agreement_of k (Agr agreement) capacity room is at cap = record { agreement = agreement; is = refl; most = omega arith }
   agreement_of k (Acct account) capacity room is at cap = absurd (omega (arith, ap layer_of at))
   agreement_of k (Carry firm) capacity room is at cap = absurd (omega (arith, ap layer_of at))
+  agreement_of k (Guar firm) capacity room is at cap = absurd (omega (arith, ap layer_of at))
 
   -- through an agreement's arc flows what its offers take
   middle : (k : ℕ) → k < length arcs → layer k ≡ 0 → flow_at arcs k ≡ load arcs view.offers way lots 0 1 each k

@@ -9,7 +9,7 @@ use Rattle.gu_terms.specs.declared.account.AccountId.{AccountId}
 use Rattle.gu_terms.specs.declared.agreement.AgreementId.{AgreementId}
 use Rattle.gu_terms.specs.declared.firm.FirmId.{FirmId}
 use Rattle.gu_terms.specs.declared.limit_key.LimitKey.{LimitKey}
-use Rattle.gu_terms.specs.declared.limit_key.LimitKey.TheVariants.{Exec, Agr, Acct, Carry}
+use Rattle.gu_terms.specs.declared.limit_key.LimitKey.TheVariants.{Exec, Agr, Acct, Carry, Guar}
 use Rattle.gu_view.proofs.MarkLemmas.{path_inside}
 use Rattle.gu_view.proofs.TakesLemmas.{key_at_place}
 use Rattle.gu_view.specs.View.{GroupView, IsView, IsNested, IsPath, GoOnAlike, next_key, place_of}
@@ -26,6 +26,7 @@ layer_of (Exec firm) = 1
 layer_of (Agr agreement) = 0
 layer_of (Acct account) = 2
 layer_of (Carry firm) = 3
+layer_of (Guar firm) = 4
 
 abbrev pub layer_at : List Room → ℕ → ℕ
 layer_at rooms place = layer_of (room_at rooms place).key
@@ -53,6 +54,7 @@ OfItsKind e a c d (Exec firm) = Exec e ≡ Exec firm
 OfItsKind e a c d (Agr agreement) = Agr a ≡ Agr agreement
 OfItsKind e a c d (Acct account) = Acct c ≡ Acct account
 OfItsKind e a c d (Carry firm) = Carry d ≡ Carry firm
+OfItsKind e a c d (Guar firm) = ⊥
 
 only_true : (b : Bool) → (b || false) ≡ true → b ≡ true
 only_true true h = refl
@@ -63,6 +65,7 @@ of_its_kind e a c d (Exec firm) on = key_eq-same (Exec e) (Exec firm) (only_true
 of_its_kind e a c d (Agr agreement) on = key_eq-same (Agr a) (Agr agreement) (only_true (key_eq (Agr a) (Agr agreement)) on)
 of_its_kind e a c d (Acct account) on = key_eq-same (Acct c) (Acct account) (only_true (key_eq (Acct c) (Acct account)) on)
 of_its_kind e a c d (Carry firm) on = key_eq-same (Carry d) (Carry firm) (only_true (key_eq (Carry d) (Carry firm)) on)
+of_its_kind e a c d (Guar firm) on = cc
 
 -- the arc of the first place, of the third and of the fourth
 pub record Lies (way : List ℕ) (k tail head : ℕ) : Type 0 where
@@ -195,6 +198,7 @@ module _ (view : GroupView) (sound : IsView view) (nested : IsNested view) where
       let x = carry_lies o h k k_in firm is on_o in
       let y = carry_lies p g k k_in firm is on_p in
       record { from = x.from ∙ sym y.from; to = x.to ∙ sym y.to }
+  same_by_kind o p h g k k_in (Guar firm) is on_o on_p = absurd (kind_on o h (Guar firm) on_o)
 
   -- so all ways that go by a place lay out one arc there
   pub lies_alike : (o p : Offer) → (h : IsOfferOf view o) → (g : IsOfferOf view p) → (k : ℕ) → k < length view.rooms → GoesBy (way_of view.rooms o) k → GoesBy (way_of view.rooms p) k

@@ -1,7 +1,7 @@
 //! Sheets, offers, rooms and names that several tests speak of.
 
 use gu_flow::{Proposal, propose};
-use gu_terms::{AccountId, AgreementId, FirmId, Group, LimitKey, OfferNo, Path};
+use gu_terms::{AccountId, AgreementId, FirmId, Group, LimitKey, Name, OfferNo, Path};
 use gu_text::Sheet;
 use gu_view::{Offer, Room, View, ViewError};
 use std::alloc::{AllocError, Global};
@@ -84,13 +84,7 @@ pub(crate) fn proposal(rt: &impl Abort, alloc: Global, view: View) -> Option<Pro
 
 /// The key of a kind with a name.
 pub(crate) fn key(kind: &str, name: &str) -> Option<LimitKey> {
-    let name = name.as_bytes();
-    match kind {
-        "EXEC" => FirmId::new(name).map(LimitKey::Exec),
-        "AGR" => AgreementId::new(name).map(LimitKey::Agr),
-        "ACCT" => AccountId::new(name).map(LimitKey::Acct),
-        _ => FirmId::new(name).map(LimitKey::Carry),
-    }
+    LimitKey::of(kind.as_bytes(), Name::new(name.as_bytes())?)
 }
 
 /// The path of these names.
@@ -100,6 +94,7 @@ fn path([executing, agreement, account, carrying]: [&str; 4]) -> Option<Path> {
         AgreementId::new(agreement.as_bytes())?,
         AccountId::new(account.as_bytes())?,
         FirmId::new(carrying.as_bytes())?,
+        None,
     ))
 }
 
