@@ -100,6 +100,7 @@ fn path([executing, agreement, account, carrying]: [&str; 4]) -> Option<Path> {
         AgreementId::new(agreement.as_bytes())?,
         AccountId::new(account.as_bytes())?,
         FirmId::new(carrying.as_bytes())?,
+        None,
     ))
 }
 

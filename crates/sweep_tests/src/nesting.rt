@@ -21,12 +21,12 @@ fn stands_where_an_account_has_one_carrying_firm(rt: HostRuntime) -> Result<(), 
 
 /// The path of one offer, with the account in front.
 fn account_first() -> Option<Path> {
-    Some(Path::of([
+    Path::of(&[
         key("ACCT", "A1")?,
         key("AGR", "P1")?,
         key("EXEC", "E1")?,
         key("CARRY", "C1")?,
-    ]))
+    ])
 }
 
 /// The view of one offer with that path.
