@@ -59,6 +59,7 @@ fn name_their_first_bad_line(rt: HostRuntime) -> Result<(), Fail> {
         ("SHEET G1 0\nCUT OFFER 1\nCUT OFFER 1\nEND\n", 3),
         // What makes no view is bad at the end, ahead of what stands behind it.
         ("SHEET G1 0\nROOM EXEC E1 5\nEND\n", 3),
+        ("SHEET G1 0\nROOM GUAR E2 5\nEND\n", 3),
         ("SHEET G1 0\nOFFER 1 5 P1 E1 A1 C1\nEND\nEND\n", 3),
         (
             "SHEET G1 0\nOFFER 1 5 P1 E1 A1 C1\nROOM EXEC E1 5\nROOM AGR P1 5\nROOM ACCT A1 5\nROOM CARRY C1 5\nROOM EXEC E1 5\nEND\n",
@@ -76,7 +77,7 @@ fn name_their_first_bad_line(rt: HostRuntime) -> Result<(), Fail> {
         ("SHEET G1\nEND\n", 1),
         ("SHEET G1 0 0\nEND\n", 1),
         ("SHEET G1 0\nOFFER 1 5 P1 E1 A1 C1 C2\nEND\n", 2),
-        ("SHEET G1 0\nROOM GUAR E2 5\nEND\n", 2),
+        ("SHEET G1 0\nROOM GUARD E2 5\nEND\n", 2),
         // Names and numbers.
         ("SHEET g1 0\nEND\n", 1),
         ("SHEET ABCDEFGHIJKLM 0\nEND\n", 1),
