@@ -10,11 +10,8 @@ mod checking;
 mod error;
 #[cfg(test)]
 mod error_tests;
-mod field_values;
 mod input;
 mod position_lines;
-#[cfg(test)]
-mod reading_tests;
 mod sample;
 #[cfg(test)]
 mod sample_tests;
@@ -23,9 +20,6 @@ mod serving;
 mod status;
 #[cfg(test)]
 mod streams;
-mod tags;
-mod trade_capture_report;
-mod trade_capture_report_ack;
 #[cfg(test)]
 mod word_tests;
 mod words;
