@@ -1,43 +1,117 @@
 -- Frames that ask for nothing, and the ends of a capture.
-use Rattle.std.proofs.Common.{◌≡◌, ℕ, List, [], ◌++◌, Option, Some, None, true, false, Result, Ok, Err, refl, sym, ap, subst, append-nil, inl, inr, is_some}
-use Rattle.std.specs.Prelude.{OnOk}
+use Rattle.std.proofs.Common.{◌≡◌, ◌∙◌, ℕ, List, [], ◌++◌, Option, Some, None, true, false, Result, Ok, Err, refl, sym, ap, subst, append-nil, inl, inr, is_some}
+use Rattle.std.specs.Prelude.{OnOk, MatchOption}
 use Rattle.std.specs.Io.KnownBytes.{Appends}
 use Rattle.std.proofs.KnownBytes.{Appends-nil, Appends-trans, Consumes-nil}
-use Rattle.gu_terms.specs.declared.command.Command.{Command}
 use Rattle.gu_terms.specs.declared.day.Day.{Day}
+use Rattle.gu_terms.specs.declared.firm.FirmId.{FirmId}
 use Rattle.gu_ref.specs.Tables.{Tables}
 use Rattle.gu_fix.specs.Fields.{HasFields}
 use Rattle.gu_fix.specs.TagValue.{TagValue}
 use Rattle.gu_fix.specs.declared.error.FieldFault.{FieldFault}
 use Rattle.gu_fix.proofs.OneReading.{one_reading}
 use Rattle.gu_fix.proofs.StreamLaws.{none_at_start}
-use Rattle.giveup.specs.Capture.{Capture, PassesOver, AnswersFrame, Captured, CapturedFront, acknowledgement, capture_behind, capture_at_start}
+use Rattle.gu_msgs.specs.Asking.{report_in, side_of}
+use Rattle.gu_msgs.specs.Messages.{Says}
+use Rattle.gu_msgs.specs.Sender.{IsSentBy}
+use Rattle.gu_msgs.specs.declared.inbound.Inbound.{Inbound}
+use Rattle.gu_msgs.specs.declared.inbound.Inbound.TheVariants as inbound
+use Rattle.gu_msgs.specs.declared.inbound.TradeCaptureReport.{TradeCaptureReport}
+use Rattle.gu_msgs.proofs.OneReport.{one_report}
+use Rattle.giveup.specs.Capture.{Capture, IsReportOf, IsTextOf, Reports, PassesOver, AnswersFrame, Captured, CapturedFront, acknowledgement, capture_behind, capture_at_start}
 use Rattle.giveup.specs.PositionText.{positions_text}
 use Rattle.giveup.specs.Serving.{Served, ServedFront, WrotePart}
-use Rattle.giveup.specs.TradeCaptureReport.{IsReport}
 use Rattle.giveup.proofs.Writing.{wrote_all, wrote_then}
 
 -- a frame with a malformed field asks for nothing
 pub passes_faulty : (old : Capture) (frame : List ℕ) (fields : List TagValue) (fault : Option FieldFault) → HasFields frame fields fault → is_some fault ≡ true → PassesOver old frame [] old
-passes_faulty old frame fields fault read some = record { nothing = λ command asks. let same = (one_reading frame fields asks.fields fault None read asks.read).1 in let none = ap is_some same in cc; text_is = refl; new_is = refl }
-
--- and one whose fields are no sound report
-pub passes_unsound : (old : Capture) (frame : List ℕ) (fields : List TagValue) (fault : Option FieldFault) → HasFields frame fields fault → ((command : Command) → IsReport fields command → ⊥) → PassesOver old frame [] old
-passes_unsound old frame fields fault read unsound = record {
-  nothing = λ command asks. unsound command (subst (λ (fs : List TagValue). IsReport fs command) (sym (one_reading frame fields asks.fields fault None read asks.read).0) asks.report);
+passes_faulty old frame fields fault read some = record {
+  nothing = λ firm report asks. let same = (one_reading frame fields asks.fields fault None read asks.read).1 in let none = ap is_some same in cc;
   text_is = refl;
   new_is = refl;
 }
 
--- a sound report is answered, where its acknowledgement is appended
-pub acknowledged : {E : Type 0} (result : Result (Unit {0}) E) (old new : Capture) (frame : List ℕ) (fields : List TagValue) (fault : Option FieldFault) (command : Command) (before behind : List ℕ)
-    → HasFields frame fields fault → is_some fault ≡ false → IsReport fields command
-    → OnOk result (behind ≡ before ++ acknowledgement old command) → OnOk result (new ≡ capture_behind old command)
+-- the fields of a report of a frame are those that are read
+report_moved : (frame : List ℕ) (fields : List TagValue) (fault : Option FieldFault) (firm : FirmId) (report : TradeCaptureReport) → HasFields frame fields fault → Reports frame firm report → IsReportOf fields firm report
+report_moved frame fields fault firm report read asks =
+    subst (λ (fs : List TagValue). IsReportOf fs firm report) (sym (one_reading frame fields asks.fields fault None read asks.read).0) asks.report_of
+
+-- and one whose fields say no report
+pub passes_unsaid : (old : Capture) (frame : List ℕ) (fields : List TagValue) (fault : Option FieldFault) → HasFields frame fields fault
+    → ((report : TradeCaptureReport) → Says fields (inbound.TradeCaptureReport report) → ⊥) → PassesOver old frame [] old
+passes_unsaid old frame fields fault read unsaid = record {
+  nothing = λ firm report asks. unsaid report (report_moved frame fields fault firm report read asks).says;
+  text_is = refl;
+  new_is = refl;
+}
+
+-- and one that no firm sent
+pub passes_unsent : (old : Capture) (frame : List ℕ) (fields : List TagValue) (fault : Option FieldFault) → HasFields frame fields fault
+    → ((firm : FirmId) → IsSentBy fields firm → ⊥) → PassesOver old frame [] old
+passes_unsent old frame fields fault read unsent = record {
+  nothing = λ firm report asks. unsent firm (report_moved frame fields fault firm report read asks).sent;
+  text_is = refl;
+  new_is = refl;
+}
+
+-- a firm's report is answered, where its acknowledgement is appended
+pub acknowledged : {E : Type 0} (result : Result (Unit {0}) E) (old new : Capture) (frame : List ℕ) (fields : List TagValue) (fault : Option FieldFault) (firm : FirmId) (report : TradeCaptureReport) (before behind : List ℕ)
+    → HasFields frame fields fault → is_some fault ≡ false → Says fields (inbound.TradeCaptureReport report) → IsSentBy fields firm
+    → OnOk result ((text : List ℕ) × IsTextOf (acknowledgement old firm report) text × (behind ≡ before ++ text)) → OnOk result (new ≡ capture_behind old (side_of firm report))
     → OnOk result ((text : List ℕ) × (behind ≡ before ++ text) × AnswersFrame old frame text new)
-acknowledged (Ok _) old new frame fields None command before behind read none report text_is new_is =
-    (acknowledgement old command, text_is, inl (record { command = command; asked = record { fields = fields; read = read; report = report }; text_is = refl; new_is = new_is }))
-acknowledged (Ok _) old new frame fields (Some fault) command before behind read none report text_is new_is = absurd (let e : true ≡ false = none in cc)
-acknowledged (Err _) old new frame fields fault command before behind read none report text_is new_is = text_is
+acknowledged (Ok _) old new frame fields None firm report before behind read none says sent text_is new_is = (
+  text_is.0,
+  text_is.2,
+  inl (record {
+    firm = firm;
+    report = report;
+    reported = record { fields = fields; read = read; report_of = record { says = says; sent = sent } };
+    answered = text_is.1;
+    new_is = new_is;
+  }),
+)
+acknowledged (Ok _) old new frame fields (Some fault) firm report before behind read none says sent text_is new_is = absurd (let e : true ≡ false = none in cc)
+acknowledged (Err _) old new frame fields fault firm report before behind read none says sent text_is new_is = text_is
+
+-- fields that are read as another message say no report
+pub says_no_report : (fields : List TagValue) (message : Inbound) → Says fields message → report_in message ≡ None → (report : TradeCaptureReport) → Says fields (inbound.TradeCaptureReport report) → ⊥
+says_no_report fields message says none report other =
+    let same : report_in message ≡ Some report = ap report_in (one_report fields message report says other) in
+    let both : None ≡ Some report = sym none ∙ same in
+    cc
+
+-- a message that is a report is this one
+is_report : (message : Inbound) (report : TradeCaptureReport) → report_in message ≡ Some report → message ≡ inbound.TradeCaptureReport report
+is_report (inbound.Heartbeat m) report e = cc
+is_report (inbound.TestRequest m) report e = cc
+is_report (inbound.ResendRequest m) report e = cc
+is_report inbound.Reject report e = cc
+is_report (inbound.SequenceReset m) report e = cc
+is_report inbound.Logout report e = cc
+is_report (inbound.Logon m) report e = cc
+is_report (inbound.TradeCaptureReport m) report e = cc
+is_report (inbound.AllocationInstruction m) report e = cc
+is_report (inbound.AllocationReportAck m) report e = cc
+is_report (inbound.RequestForPositions m) report e = cc
+is_report inbound.Unread report e = cc
+
+-- the report that a message is, if it is one, is what the fields say
+pub found_report : (fields : List TagValue) (message : Inbound) (found : Option TradeCaptureReport) → Says fields message → found ≡ report_in message
+    → MatchOption found ((report : TradeCaptureReport) → Says fields (inbound.TradeCaptureReport report) → ⊥) (λ report. Says fields (inbound.TradeCaptureReport report))
+found_report fields message None says is = says_no_report fields message says (sym is)
+found_report fields message (Some report) says is = subst (Says fields) (is_report message report (sym is)) says
+
+-- a report that was found is said
+pub said : (fields : List TagValue) (found : Option TradeCaptureReport) (report : TradeCaptureReport)
+    → MatchOption found ((report : TradeCaptureReport) → Says fields (inbound.TradeCaptureReport report) → ⊥) (λ report. Says fields (inbound.TradeCaptureReport report))
+    → found ≡ Some report → Says fields (inbound.TradeCaptureReport report)
+said fields found report all is = rw is at all
+
+-- and where none was found, none is
+pub unsaid : (fields : List TagValue) (found : Option TradeCaptureReport)
+    → MatchOption found ((report : TradeCaptureReport) → Says fields (inbound.TradeCaptureReport report) → ⊥) (λ report. Says fields (inbound.TradeCaptureReport report))
+    → found ≡ None → (report : TradeCaptureReport) → Says fields (inbound.TradeCaptureReport report) → ⊥
+unsaid fields found all is = rw is at all
 
 module _ (reference : Tables) (day : Day) where
   -- nothing was read or written

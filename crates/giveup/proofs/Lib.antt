@@ -1,9 +1,5 @@
-pub mod AckLemmas
 pub mod Capturings
 pub mod Checkings
-pub mod GroupLemmas
-pub mod OneReport
-pub mod ReportLemmas
 pub mod Servings
 pub mod WordLemmas
 pub mod Writing

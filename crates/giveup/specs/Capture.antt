@@ -1,46 +1,54 @@
 -- Trade capture without a session: the answer to each frame, and the positions at the end.
-use Rattle.std.specs.Prelude.{◌≡◌, ℕ, ◌+◌, ◌⊎◌, ◌++◌, List, [], ◌∷◌, length, min, nat_lt, None, Option, if◌then◌else◌}
+use Rattle.std.specs.Prelude.{◌≡◌, ℕ, ◌+◌, ◌⊎◌, ◌++◌, List, [], ◌∷◌, length, min, nat_lt, None, Some, Option, if◌then◌else◌}
 use Rattle.std.specs.Io.KnownBytes.{Consumes, Appends, IsAtEnd}
 use Rattle.gu_terms.specs.declared.command.Command.{Command}
-use Rattle.gu_terms.specs.declared.command.Command.TheVariants.{OpenDay, ReportSide}
+use Rattle.gu_terms.specs.declared.command.Command.TheVariants.{OpenDay}
 use Rattle.gu_terms.specs.declared.day.Day.{Day}
 use Rattle.gu_terms.specs.declared.firm.FirmId.{FirmId}
-use Rattle.gu_terms.specs.declared.id.Id.{Id}
 use Rattle.gu_terms.specs.declared.entry.Entry.TheVariants.{Asked}
 use Rattle.gu_terms.specs.declared.reply.Done.TheVariants.{Opened}
-use Rattle.gu_terms.specs.declared.reply.Reply.{Reply}
-use Rattle.gu_terms.specs.declared.reply.Reply.TheVariants.{Accepted, Denied}
+use Rattle.gu_terms.specs.declared.reply.Reply.TheVariants.{Accepted}
 use Rattle.gu_book.specs.Answer.{answer}
 use Rattle.gu_book.specs.Kept.{Kept}
-use Rattle.gu_book.specs.declared.error.EnterError.TheVariants.{Full}
 use Rattle.gu_fix.specs.Encoding.{message_of}
 use Rattle.gu_fix.specs.Fields.{HasFields}
 use Rattle.gu_fix.specs.Stream.{AreFrames}
 use Rattle.gu_fix.specs.TagValue.{TagValue}
+use Rattle.gu_msgs.specs.Answering.{answer_to, rejection_of}
+use Rattle.gu_msgs.specs.Asking.{side_of}
+use Rattle.gu_msgs.specs.Messages.{Says}
+use Rattle.gu_msgs.specs.Midnight.{midnight_of}
+use Rattle.gu_msgs.specs.Sender.{IsSentBy}
+use Rattle.gu_msgs.specs.Written.{IsWritten}
+use Rattle.gu_msgs.specs.declared.inbound.Inbound.TheVariants as inbound
+use Rattle.gu_msgs.specs.declared.inbound.TradeCaptureReport.{TradeCaptureReport}
+use Rattle.gu_msgs.specs.declared.outbound.Outbound.{Outbound}
+use Rattle.gu_msgs.specs.declared.rejection.Rejection.{Rejection}
+use Rattle.gu_msgs.specs.declared.rejection.Rejection.TheVariants.{Full}
 use Rattle.gu_ref.specs.Tables.{Tables}
 use Rattle.giveup.specs.PositionText.{positions_text}
 use Rattle.giveup.specs.Serving.{Answered, AnswersEach, WrotePart}
-use Rattle.giveup.specs.TradeCaptureReport.{IsReport}
-use Rattle.giveup.specs.TradeCaptureReportAck.{ack_fields}
-use Rattle.giveup.specs.declared.trade_capture_report_ack.Rejection.TheVariants.{Refused, NotEntered}
-use Rattle.giveup.specs.declared.trade_capture_report_ack.TrdRptStatus.{TrdRptStatus}
-use Rattle.giveup.specs.declared.trade_capture_report_ack.TrdRptStatus.TheVariants as status
 
--- what the engine has: its book, the day whose midnight is the sending time, and the number of the next message
+-- what the engine has: its book, the moment at which its messages are sent, and the number of the next one
 pub record Capture : Type 0 where
   pub book : Kept
-  pub day : Day
+  pub sending_time : ℕ
   pub next : ℕ
 
--- a frame is a sound report, and asks for this command
-pub record AsksFor (frame : List ℕ) (command : Command) : Type 0 where
+-- fields say this report, and this firm sent it
+pub record IsReportOf (fields : List TagValue) (firm : FirmId) (report : TradeCaptureReport) : Type 0 where
+  pub says : Says fields (inbound.TradeCaptureReport report)
+  pub sent : IsSentBy fields firm
+
+-- a frame is this firm's report: it has no malformed field, and its fields say so
+pub record Reports (frame : List ℕ) (firm : FirmId) (report : TradeCaptureReport) : Type 0 where
   pub fields : List TagValue
   pub read : HasFields frame fields None
-  pub report : IsReport fields command
+  pub report_of : IsReportOf fields firm report
 
--- a frame is no sound report
-abbrev pub AsksNothing : List ℕ → Type 0
-AsksNothing frame = (command : Command) → ¬ AsksFor frame command
+-- a frame is no firm's report
+abbrev pub ReportsNothing : List ℕ → Type 0
+ReportsNothing frame = (firm : FirmId) (report : TradeCaptureReport) → ¬ Reports frame firm report
 
 -- the book behind a command: with the command and its answer as a further entry, or as it was where it is full
 abbrev pub book_behind : Kept → Command → Kept
@@ -49,59 +57,56 @@ book_behind book command =
     then record { reference = book.reference; history = book.history ++ Asked command (answer book.reference book.history command) ∷ [] }
     else book
 
--- what became of a report by the reply to it
-abbrev pub status_of : Reply → TrdRptStatus
-status_of (Accepted done) = status.Accepted
-status_of (Denied refusal) = status.Rejected (Refused refusal)
-
--- what becomes of a report: by the book's answer, or not entered where the book is full
-abbrev pub status_in : Kept → Command → TrdRptStatus
-status_in book command =
+-- why a command isn't in the book, if it isn't: by the book's answer, or since the book is full
+abbrev pub rejection_in : Kept → Command → Option Rejection
+rejection_in book command =
     if nat_lt (length book.history) 1000000
-    then status_of (answer book.reference book.history command)
-    else status.Rejected (NotEntered Full)
+    then rejection_of (answer book.reference book.history command)
+    else Some Full
 
 -- the number behind a message's: one more, up to the last that a message can have
 abbrev pub number_behind : ℕ → ℕ
 number_behind number = min (number + 1) 1000000000
 
--- the message that says to a firm what became of its report
-abbrev pub ack_text : Capture → FirmId → Id → Id → TrdRptStatus → List ℕ
-ack_text capture firm id match_id status = message_of (ack_fields (record {
+-- the message that answers a firm's report that was taken, or was rejected so
+abbrev pub message_to : Capture → FirmId → TradeCaptureReport → Option Rejection → Outbound
+message_to capture firm report rejection = record {
   firm = firm;
-  number = capture.next;
-  day = capture.day;
-  id = id;
-  match_id = match_id;
-  status = status;
-}))
+  msg_seq_num = capture.next;
+  sending_time = capture.sending_time;
+  orig_sending_time = None;
+  body = answer_to report rejection;
+}
 
--- the acknowledgement of a report; no other command has one
-abbrev pub acknowledgement : Capture → Command → List ℕ
-acknowledgement capture (ReportSide firm id match_id symbol lots price day side account) =
-    ack_text capture firm id match_id (status_in capture.book (ReportSide firm id match_id symbol lots price day side account))
-acknowledgement capture _ = []
+-- the acknowledgement of a firm's report
+abbrev pub acknowledgement : Capture → FirmId → TradeCaptureReport → Outbound
+acknowledgement capture firm report = message_to capture firm report (rejection_in capture.book (side_of firm report))
 
--- the engine behind a report; it takes no other command
+-- the engine behind a command and its acknowledgement
 abbrev pub capture_behind : Capture → Command → Capture
-capture_behind capture (ReportSide firm id match_id symbol lots price day side account) =
-    record {
-      book = book_behind capture.book (ReportSide firm id match_id symbol lots price day side account);
-      day = capture.day;
-      next = number_behind capture.next;
-    }
-capture_behind capture _ = capture
+capture_behind capture command = record {
+  book = book_behind capture.book command;
+  sending_time = capture.sending_time;
+  next = number_behind capture.next;
+}
 
--- a sound report is answered by its acknowledgement
+-- a text is that of a message's fields
+pub record IsTextOf (message : Outbound) (text : List ℕ) : Type 0 where
+  pub fields : List TagValue
+  pub written : IsWritten message fields
+  pub text_is : text ≡ message_of fields
+
+-- a firm's report is entered, and answered by its acknowledgement
 pub record Acknowledges (old : Capture) (frame text : List ℕ) (new : Capture) : Type 0 where
-  pub command : Command
-  pub asked : AsksFor frame command
-  pub text_is : text ≡ acknowledgement old command
-  pub new_is : new ≡ capture_behind old command
+  pub firm : FirmId
+  pub report : TradeCaptureReport
+  pub reported : Reports frame firm report
+  pub answered : IsTextOf (acknowledgement old firm report) text
+  pub new_is : new ≡ capture_behind old (side_of firm report)
 
 -- anything else by nothing
 pub record PassesOver (old : Capture) (frame text : List ℕ) (new : Capture) : Type 0 where
-  pub nothing : AsksNothing frame
+  pub nothing : ReportsNothing frame
   pub text_is : text ≡ []
   pub new_is : new ≡ old
 
@@ -109,10 +114,13 @@ pub record PassesOver (old : Capture) (frame text : List ℕ) (new : Capture) : 
 abbrev pub AnswersFrame : Capture → List ℕ → List ℕ → Capture → Type 0
 AnswersFrame old frame text new = Acknowledges old frame text new ⊎ PassesOver old frame text new
 
--- the engine at its start: the day is open, and nothing else was entered
+-- the engine at its start: the day is open, nothing else was entered, and messages are sent at the day's midnight
 abbrev pub capture_at_start : Tables → Day → Capture
-capture_at_start reference day =
-    record { book = record { reference = reference; history = Asked (OpenDay day) (Accepted Opened) ∷ [] }; day = day; next = 1 }
+capture_at_start reference day = record {
+  book = record { reference = reference; history = Asked (OpenDay day) (Accepted Opened) ∷ [] };
+  sending_time = midnight_of day;
+  next = 1;
+}
 
 -- all that the reader had is read, its frames are answered, and the lines of the positions are written behind the answers
 pub record Captured (reference : Tables) (day : Day) (input_old input_new output_old output_new : Option (List ℕ)) : Type 0 where

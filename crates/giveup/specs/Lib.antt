@@ -1,12 +1,8 @@
 pub mod Capture
 pub mod Checking
-pub mod FieldValues
 pub mod Input
 pub mod PositionText
 pub mod ProgramWords
 pub mod RunErrors
 pub mod Serving
-pub mod Standings
 pub mod Statuses
-pub mod TradeCaptureReport
-pub mod TradeCaptureReportAck

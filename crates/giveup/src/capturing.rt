@@ -1,21 +1,26 @@
 //! Trade capture without a session.
 
-ghost use Rattle.std.specs.Prelude.{◌≡◌, ◌++◌, IfErr, IfOk, IsErrOf, OnOk};
-ghost use Rattle.gu_terms.specs.declared.day.Day.{Day as DayOf};
+ghost use Rattle.std.specs.Prelude.{◌≡◌, ◌++◌, IfErr, IfOk, IsErrOf, List, MatchOption, None, OnErr, OnOk, ℕ};
+ghost use Rattle.gu_fix.specs.Encoding.{fault_of, message_of};
 ghost use Rattle.gu_ref.specs.Reads.{bytes_left, HasStopped};
+ghost use Rattle.gu_msgs.specs.Asking.{side_of};
+ghost use Rattle.gu_msgs.specs.Messages.{Says};
+ghost use Rattle.gu_msgs.specs.Written.{IsWritten};
+ghost use Rattle.gu_msgs.specs.declared.inbound.Inbound.TheVariants as inbound;
+ghost use Rattle.gu_msgs.specs.declared.inbound.TradeCaptureReport.{TradeCaptureReport as ReportOf};
 ghost use Rattle.giveup.specs.Serving.{IsStreamFault};
-ghost use Rattle.giveup.specs.Capture.{Captured, CapturedFront, CapturedSoFar, ack_text, acknowledgement, number_behind, capture_behind, capture_at_start, status_in, status_of, book_behind};
+ghost use Rattle.giveup.specs.Capture.{Captured, CapturedFront, CapturedSoFar, IsTextOf, acknowledgement, message_to, number_behind, capture_behind, capture_at_start, rejection_in, book_behind};
 
 use crate::error::EngineError;
 use crate::position_lines::positions_text;
 use crate::sending::send;
 use crate::serving::{Answerer, serve};
-use crate::trade_capture_report::read_report;
-use crate::trade_capture_report_ack::{Rejection, TradeCaptureReportAck, TrdRptStatus, append_ack};
 use gu_book::{Book, EnterError};
-use gu_fix::{Frame, fields};
+use gu_fix::{EncodeError, Fields, Frame, encode, fields};
+use gu_msgs::inbound::TradeCaptureReport;
+use gu_msgs::{MsgFault, Outbound, Rejection, answer_to, midnight_of, read, sender, write};
 use gu_ref::{CountedReads, Reference};
-use gu_terms::{Command, Day, Entry, FirmId, Id, Reply};
+use gu_terms::{Command, Day, Entry, FirmId, Moment};
 use std::alloc::{AllocError, Global};
 use std::io::{Read, Write};
 use std::marker::Model;
@@ -23,12 +28,44 @@ use std::marker::Model;
 /// The last number that a message can have.
 const LAST_NUMBER: u64 = 1_000_000_000;
 
+/// The report that fields say.
+fn report_of(alloc: Global, fields: &Fields) -> Result<Option<TradeCaptureReport>, AllocError>
+    ensures { IfOk result (λ found. MatchOption found
+        ((report : ReportOf) → Says fields.now (inbound.TradeCaptureReport report) → ⊥)
+        (λ report. Says fields.now (inbound.TradeCaptureReport report))) }
+{
+    match read(alloc, fields) {
+        Ok(message) => Ok(message.report()),
+        Err(MsgFault::Rejected(_)) => Ok(None),
+        Err(MsgFault::Memory) => Err(AllocError),
+    }
+}
+
+/// Appends the message of these fields.
+fn append(alloc: Global, fields: &Fields, output: &mut Vec<u8>) -> Result<(), AllocError>
+    requires { fault_of fields.now ≡ None }
+    ensures message { OnOk result (output.new.items ≡ output.old.items ++ message_of fields.now) }
+    ensures kept { OnErr result (output.new.items ≡ output.old.items) }
+{
+    match encode(alloc, fields) {
+        Ok(message) => output.extend_from_slice(&message),
+        Err(EncodeError::Memory) => Err(AllocError),
+        Err(
+            EncodeError::BadTag
+            | EncodeError::EmptyValue
+            | EncodeError::SohInValue
+            | EncodeError::TooLong,
+        ) => unreachable!(),
+    }
+}
+
 /// What the engine has.
 #[derive(Drop)]
 pub struct Capturing {
     alloc: Global,
     book: Book,
-    day: Day,
+    /// When its messages are sent.
+    sending_time: Moment,
     /// The number of the next message.
     next: u64,
 }
@@ -39,82 +76,80 @@ impl Model for Capturing {
 
     ghost Value = { Capture };
 
-    ghost view = { λ c. record { book = c.book; day = c.day; next = c.next } };
+    ghost view = { λ c. record { book = c.book; sending_time = c.sending_time; next = c.next } };
 
     ghost invariant = { λ c. c.next ≤ 1000000000 };
 }
 
-/// What became of a report by the reply to it.
-fn status_of(reply: Reply) -> TrdRptStatus
-    ensures { result ≡ status_of reply }
-{
-    match reply {
-        Reply::Accepted(_) => TrdRptStatus::Accepted,
-        Reply::Denied(refusal) => TrdRptStatus::Rejected(Rejection::Refused(refusal)),
-    }
-}
-
 impl Capturing {
-    /// Enters a command, and says what became of it.
-    fn enter(&mut self, command: Command) -> Result<TrdRptStatus, AllocError>
-        ensures status { IfOk result (λ status. status ≡ status_in self.old.book command) }
+    /// Enters a command, and says why it isn't in the book, if it isn't.
+    fn enter(&mut self, command: Command) -> Result<Option<Rejection>, AllocError>
+        ensures rejection { IfOk result (λ rejection. rejection ≡ rejection_in self.old.book command) }
         ensures behind { OnOk result (self.new ≡ record self.old { book = book_behind self.old.book command }) }
     {
         match self.book.enter(command) {
             Ok(receipt) => {
                 match receipt.entry {
-                    Entry::Asked { reply, .. } => Ok(status_of(reply)),
+                    Entry::Asked { reply, .. } => Ok(Rejection::of_reply(reply)),
                 }
             }
-            Err(EnterError::Full) => Ok(TrdRptStatus::Rejected(Rejection::NotEntered(
-                EnterError::Full,
-            ))),
+            Err(EnterError::Full) => Ok(Some(Rejection::Full)),
             Err(EnterError::Memory) => Err(AllocError),
         }
     }
 
-    /// Appends the message that says what became of a report.
-    fn append(
+    /// The fields of the message that says to a firm what became of its report.
+    fn ack_fields(
+        &self,
+        firm: &FirmId,
+        report: &TradeCaptureReport,
+        rejection: Option<Rejection>,
+    ) -> Result<Fields, AllocError>
+        ensures written { IfOk result (λ fields. IsWritten (message_to self.now firm.now report.now rejection) fields) }
+        ensures encodable { IfOk result (λ fields. fault_of fields ≡ None) }
+    {
+        let message = Outbound {
+            firm: *firm,
+            msg_seq_num: self.next,
+            sending_time: self.sending_time,
+            orig_sending_time: None,
+            body: answer_to(report, rejection),
+        };
+        write(self.alloc, &message)
+    }
+
+    /// Appends the message that says to a firm what became of its report.
+    fn answer_report(
         &mut self,
-        firm: FirmId,
-        id: Id,
-        match_id: Id,
-        status: TrdRptStatus,
+        firm: &FirmId,
+        report: &TradeCaptureReport,
+        rejection: Option<Rejection>,
         output: &mut Vec<u8>,
     ) -> Result<(), AllocError>
-        ensures text { OnOk result (output.new.items ≡ output.old.items ++ ack_text self.old firm id match_id status) }
+        ensures text { OnOk result ((text : List ℕ) × IsTextOf (message_to self.old firm.now report.now rejection) text
+            × (output.new.items ≡ output.old.items ++ text)) }
         ensures behind { OnOk result (self.new ≡ record self.old { next = number_behind self.old.next }) }
     {
-        let ack = TradeCaptureReportAck {
-            firm,
-            number: self.next,
-            day: self.day,
-            id,
-            match_id,
-            status,
-        };
-        append_ack(self.alloc, &ack, output)?;
+        let fields = self.ack_fields(firm, report, rejection)?;
+        append(self.alloc, &fields, output)?;
         self.next = (self.next + 1).min(LAST_NUMBER);
         Ok(())
     }
 
-    /// Enters a report, and appends its acknowledgement.
-    fn acknowledge(&mut self, command: Command, output: &mut Vec<u8>) -> Result<(), AllocError>
-        ensures text { OnOk result (output.new.items ≡ output.old.items ++ acknowledgement self.old command) }
-        ensures behind { OnOk result (self.new ≡ capture_behind self.old command) }
+    /// Enters a firm's report, and appends its acknowledgement.
+    fn acknowledge(
+        &mut self,
+        firm: &FirmId,
+        report: &TradeCaptureReport,
+        output: &mut Vec<u8>,
+    ) -> Result<(), AllocError>
+        ensures text { OnOk result ((text : List ℕ) × IsTextOf (acknowledgement self.old firm.now report.now) text
+            × (output.new.items ≡ output.old.items ++ text)) }
+        ensures behind { OnOk result (self.new ≡ capture_behind self.old (side_of firm.now report.now)) }
     {
-        let Command::ReportSide {
-            firm,
-            id,
-            match_id,
-            ..
-        } = &command
-        else {
-            return Ok(());
-        };
-        let (firm, id, match_id) = (*firm, *id, *match_id);
-        let status = self.enter(command)?;
-        self.append(firm, id, match_id, status, output)
+        let command = report.side_of(*firm);
+        let rejection = self.enter(command)?;
+        self.answer_report(firm, report, rejection, output)
     }
 }
 
@@ -128,8 +163,11 @@ impl Answerer for Capturing {
         if fault.is_some() {
             return Ok(());
         }
-        match read_report(&fields) {
-            Some(command) => self.acknowledge(command, output),
+        let Some(report) = report_of(self.alloc, &fields)? else {
+            return Ok(());
+        };
+        match sender(&fields) {
+            Some(firm) => self.acknowledge(&firm, &report, output),
             None => Ok(()),
         }
     }
@@ -144,7 +182,7 @@ fn opened(alloc: Global, reference: Reference, day: Day) -> Result<Capturing, Al
         Ok(_) => Ok(Capturing {
             alloc,
             book,
-            day,
+            sending_time: midnight_of(day),
             next: 1,
         }),
         Err(_) => Err(AllocError),

@@ -10,13 +10,10 @@ mod checking;
 mod error;
 #[cfg(test)]
 mod error_tests;
-mod field_values;
 mod input;
 #[cfg(test)]
 mod largest_tests;
 mod position_lines;
-#[cfg(test)]
-mod reading_tests;
 mod sample;
 #[cfg(test)]
 mod sample_tests;
@@ -25,9 +22,6 @@ mod serving;
 mod status;
 #[cfg(test)]
 mod streams;
-mod tags;
-mod trade_capture_report;
-mod trade_capture_report_ack;
 #[cfg(test)]
 mod word_tests;
 mod words;

@@ -7,5 +7,8 @@ mod HeldLemmas
 mod TextLemmas
 mod AllocLemmas
 mod DateLemmas
-mod NoFault
+pub mod NoFault
 mod OneFault
+mod EncodableAck
+pub mod OneReport
+mod Midnights

@@ -19,3 +19,8 @@ pub mod CodedValues
 pub mod ValueTexts
 pub mod WrittenBodies
 pub mod Written
+pub mod Asking
+pub mod Answering
+pub mod Sender
+pub mod Midnight
+pub mod Encodable

@@ -1,6 +1,7 @@
 //! What answers to a firm say, as fields.
 
 ghost use Rattle.std.specs.Prelude.{◌≡◌, ◌++◌, OnOk, IfOk};
+ghost use Rattle.gu_terms.specs.Names.{IsId};
 ghost use Rattle.gu_msgs.specs.WrittenBodies.{answer_id, give_up_status, instruction_ack_fields, position_fields, quantity_fields, report_ack_fields, report_status, request_ack_fields};
 
 use crate::alloc_status::AllocStatus;
@@ -41,7 +42,8 @@ pub fn push_report_ack(
     fields: &mut Fields,
     message: &TradeCaptureReportAck,
 ) -> Result<(), AllocError>
-    ensures { OnOk result (fields.new ≡ fields.old ++ report_ack_fields message.now) }
+    ensures fields { OnOk result (fields.new ≡ fields.old ++ report_ack_fields message.now) }
+    ensures ids { OnOk result (IsId message.now.trade_report_id × IsId message.now.trd_match_id) }
 {
     fields.push(TRADE_REPORT_ID, message.trade_report_id.get())?;
     fields.push(TRD_MATCH_ID, message.trd_match_id.get())?;

@@ -19,7 +19,7 @@ use crate::tags::{
 use gu_fix::{BEGIN_STRING, BODY_LENGTH, CHECK_SUM, MSG_TYPE};
 
 /// The greatest whole number of a message.
-const GREATEST: u64 = 1_000_000_000;
+pub const GREATEST: u64 = 1_000_000_000;
 
 const HEADER: [Row; 10] = [
     Required(BEGIN_STRING, Text),

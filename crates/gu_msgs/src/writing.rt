@@ -1,9 +1,11 @@
 //! Fields from messages.
 
-ghost use Rattle.std.specs.Prelude.{◌≡◌, ◌∷◌, ◌++◌, [], List, IfOk, OnOk, codes};
+ghost use Rattle.std.specs.Prelude.{◌≡◌, ◌∷◌, ◌++◌, [], List, None, IfOk, OnOk, codes};
+ghost use Rattle.gu_fix.specs.Encoding.{fault_of};
 ghost use Rattle.gu_fix.specs.TagValue.{TagValue, tag_value};
+ghost use Rattle.gu_msgs.specs.Encodable.{HasAckIds, IsSoundMessage};
 ghost use Rattle.gu_msgs.specs.WrittenBodies.{number_field};
-ghost use Rattle.gu_msgs.specs.Written.{IsWritten, MarksResend, body_code, body_fields};
+ghost use Rattle.gu_msgs.specs.Written.{AnswersReport, IsWritten, MarksResend, body_code, body_fields};
 
 use crate::answer_fields::{
     push_instruction_ack, push_position, push_report_ack, push_request_ack,
@@ -66,7 +68,8 @@ fn push_gap_fill(fields: &mut Fields, to: u64) -> Result<(), AllocError>
 
 /// Appends what a message says.
 fn push_body(alloc: Global, fields: &mut Fields, body: &Body) -> Result<(), AllocError>
-    ensures { OnOk result (fields.new ≡ fields.old ++ body_fields body.now) }
+    ensures fields { OnOk result (fields.new ≡ fields.old ++ body_fields body.now) }
+    ensures ids { OnOk result (HasAckIds body.now) }
 {
     match body {
         Body::Logon {
@@ -101,9 +104,10 @@ fn push_marks(fields: &mut Fields, first: Option<Moment>) -> Result<(), AllocErr
     Ok(())
 }
 
-/// The fields of a message.
-pub fn write(alloc: Global, message: &Outbound) -> Result<Fields, AllocError>
-    ensures { IfOk result (λ fields. IsWritten message.now fields) }
+/// The fields of a message, in order.
+fn fields_of(alloc: Global, message: &Outbound) -> Result<Fields, AllocError>
+    ensures written { IfOk result (λ fields. IsWritten message.now fields) }
+    ensures sound { OnOk result (IsSoundMessage message.now) }
 {
     let mut fields = Fields::new(alloc);
     fields.push(MSG_TYPE, message.body.code().as_bytes())?;
@@ -114,4 +118,12 @@ pub fn write(alloc: Global, message: &Outbound) -> Result<Fields, AllocError>
     push_marks(&mut fields, message.orig_sending_time)?;
     push_body(alloc, &mut fields, &message.body)?;
     Ok(fields)
+}
+
+/// The fields of a message. Those of the acknowledgement of a report can always be encoded.
+pub fn write(alloc: Global, message: &Outbound) -> Result<Fields, AllocError>
+    ensures written { IfOk result (λ fields. IsWritten message.now fields) }
+    ensures encodable { AnswersReport message.now.body → IfOk result (λ fields. fault_of fields ≡ None) }
+{
+    fields_of(alloc, message)
 }
