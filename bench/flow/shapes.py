@@ -103,6 +103,65 @@ def staircase(count, rng):
     return offers, lambda kind, name, lots: 500 if kind in ("exec", "acct") else 1_000_000_000
 
 
+def creeping(count, rng):
+    """Firm i with accounts i and i - 1, and each account with room for one lot more than a firm fills: each way is two steps longer than the last."""
+    links = max(1, min(1000, count // 2))
+    pairs = [(i, i) for i in range(links, 0, -1)] + [(i + 1, i) for i in range(links, 0, -1)]
+    offers = [(1_000_000, e, n, c, 0) for n, (e, c) in enumerate(pairs)]
+    rooms = dict(acct=1001, exec=1000)
+    return offers, lambda kind, name, lots: 1000 + links if (kind, name) == ("exec", 1) else rooms.get(kind, 1_000_000_000)
+
+
+class Links:
+    """A network as offers: each firm has an account of its own name, which its own last offer would fill."""
+
+    MOST = 1_000_000
+
+    def __init__(self):
+        self.count, self.links = 0, []
+
+    def node(self):
+        self.count += 1
+        return self.count - 1
+
+    def join(self, tail, head, lots=MOST):
+        self.links.append((lots, tail, head))
+
+    def offers(self, entry, leave):
+        inside, outside = self.count, self.count + 1
+        ends = [(self.MOST, leave, outside), (self.MOST, inside, entry)] + self.links
+        ends += [(self.MOST, node, node) for node in range(self.count)]
+        return [(lots, e, n, c, 0) for n, (lots, e, c) in enumerate(ends)]
+
+
+def zigzag(count, rng):
+    """A bundle of ways of one lot, crossed forwards and backwards in turn, and entered and left ever later on two chains."""
+    side, gap = max(1, int((0.475 * count) ** 0.5)), 5
+    turns = max(1, (count - side * side - 6 * side - 8) // (2 + 4 * gap))
+    net = Links()
+    hubs = [net.node(), net.node()]
+    sides = [[net.node() for _ in range(side)] for _ in hubs]
+    for hub, nodes in zip(hubs, sides):
+        for node in nodes:
+            net.join(hub, node)
+            net.join(node, hub)
+    for left in sides[0]:
+        for right in sides[1]:
+            net.join(left, right, 1)
+    entry, leave = net.node(), net.node()
+    into, out = entry, leave
+    for turn in range(turns):
+        net.join(into, hubs[turn % 2], side * side)
+        net.join(hubs[1 - turn % 2], out, side * side)
+        if turn + 1 < turns:
+            for _ in range(gap):
+                after, before = net.node(), net.node()
+                net.join(into, after)
+                net.join(before, out)
+                into, out = after, before
+    return net.offers(entry, leave), lambda kind, name, lots: Links.MOST if kind in ("exec", "acct") else 1_000_000_000
+
+
 def turned(shape):
     """The same offers, the last first."""
 
@@ -138,6 +197,8 @@ SHAPES = dict(
     any_combs=shuffled(combs),
     spread=spread,
     stairs=staircase,
+    creep=creeping,
+    zigzag=zigzag,
 )
 
 

@@ -5,10 +5,10 @@ use Rattle.std.specs.Prelude.{All}
 use Rattle.std.proofs.lemmas.List.{get_or_default}
 use Rattle.std.proofs.lemmas.List.Sums.{sum_by-set, sum_by-le}
 use Rattle.std.proofs.lemmas.List.Elements.{All-set, recursion_from_All}
-use Rattle.std.proofs.lemmas.Bool.{cases_Bool, cases_eq, cases_lt, eqb-true, eq-eqb, ne_eqb, cond-false, cond-true}
+use Rattle.std.proofs.lemmas.Bool.{cases_Bool, cases_eq, eqb-true, eq-eqb, ne_eqb, cond-true}
 use Rattle.gu_flow.specs.declared.arcs.Arc.{Arc}
 use Rattle.gu_flow.specs.Ends.{no_arc, arc_at, is_tail, near, far, room_out}
-use Rattle.gu_flow.specs.Flows.{inflow, outflow, worth, pipe, SamePipes, IsFlow}
+use Rattle.gu_flow.specs.Flows.{inflow, outflow, worth, SamePipes, IsFlow}
 use Rattle.gu_flow.specs.Preflows.{capacities, flowing, pushed, IsPreflow, AreSettled}
 use Rattle.gu_flow.proofs.Pipes.{pipes_set, pipes_capacities, inflow-le}
 

@@ -16,7 +16,7 @@ use std::alloc::{AllocError, Global};
 
 /// When searches and ways have had as many steps as the network has nodes so many times over, the rest is pushed all at once:
 /// where each search finds little, or ways grow long, there would be many more.
-const MOST_ROUNDS: usize = 12;
+const MOST_ROUNDS: usize = 6;
 
 /// Makes the flow greatest, over lists that are there.
 fn fill(

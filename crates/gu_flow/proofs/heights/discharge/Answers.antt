@@ -1,4 +1,4 @@
-use Rattle.std.proofs.Common.{length, sym, subst, ◌∙◌}
+use Rattle.std.proofs.Common.{sym, subst}
 use Rattle.gu_flow.specs.Ends.{JoinsNodes}
 use Rattle.gu_flow.proofs.Pipes.{pipes_join, pipes_index, pipes_length}
 use Rattle.gu_flow.proofs.heights.discharge.Goals as goal

@@ -1,7 +1,6 @@
-use Rattle.std.proofs.Common.{◌≡◌, ◌<◌, ◌≤◌, true, false, length}
-use Rattle.gu_flow.specs.Ends.{JoinsNodes}
+use Rattle.std.proofs.Common.{◌≡◌, ◌<◌, ◌≤◌, true, false}
 use Rattle.gu_flow.specs.Flows.{SamePipes, worth}
-use Rattle.gu_flow.specs.Preflows.{capacities, flowing, IsPreflow, AreSettled}
+use Rattle.gu_flow.specs.Preflows.{flowing, IsPreflow, AreSettled}
 use Rattle.gu_flow.proofs.preflow.give_back_once.Given as goal
 
 abbrev pub invariant-loop-place : goal.invariant-loop-place

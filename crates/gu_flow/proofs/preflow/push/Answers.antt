@@ -1,6 +1,6 @@
 use Rattle.std.proofs.Common.{◌≢◌, ◌≤◌, arith, get_or}
 use Rattle.gu_flow.specs.Ends.{near, far, room_out}
-use Rattle.gu_flow.proofs.Pushing.{pushed_fits, pushed_less, pushed_pipes, pushed_preflow, pushed_worth}
+use Rattle.gu_flow.proofs.Pushing.{pushed_fits, pushed_pipes, pushed_preflow}
 use Rattle.gu_flow.proofs.preflow.push.Goals as goal
 
 pub credit-requires-clause-fits : goal.credit-requires-clause-fits
