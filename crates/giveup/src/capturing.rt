@@ -2,6 +2,7 @@
 
 ghost use Rattle.std.specs.Prelude.{◌≡◌, ◌++◌, IfErr, IfOk, IsErrOf, List, MatchOption, None, OnErr, OnOk, ℕ};
 ghost use Rattle.gu_fix.specs.Encoding.{fault_of, message_of};
+ghost use Rattle.gu_fix.specs.WholeMessage.{IsWhole};
 ghost use Rattle.gu_ref.specs.Reads.{bytes_left, HasStopped};
 ghost use Rattle.gu_msgs.specs.Asking.{side_of};
 ghost use Rattle.gu_msgs.specs.Messages.{Says};
@@ -45,6 +46,7 @@ fn report_of(alloc: Global, fields: &Fields) -> Result<Option<TradeCaptureReport
 fn append(alloc: Global, fields: &Fields, output: &mut Vec<u8>) -> Result<(), AllocError>
     requires { fault_of fields.now ≡ None }
     ensures message { OnOk result (output.new.items ≡ output.old.items ++ message_of fields.now) }
+    ensures whole { OnOk result (IsWhole (message_of fields.now)) }
     ensures kept { OnErr result (output.new.items ≡ output.old.items) }
 {
     match encode(alloc, fields) {
