@@ -1,5 +1,5 @@
 -- Fields that can be encoded, and those of the acknowledgement of a report among them.
-use Rattle.std.proofs.Common.{◌≡◌, ℕ, ◌+◌, ◌*◌, ◌/◌, ◌%◌, ◌^◌, ◌<◌, ◌≤◌, true, false, List, [], ◌∷◌, ◌++◌, length, codes, Option, None, Some, refl, arith, append_assoc}
+use Rattle.std.proofs.Common.{◌≡◌, ℕ, ◌+◌, ◌*◌, ◌/◌, ◌%◌, ◌^◌, ◌<◌, ◌≤◌, true, false, List, [], ◌∷◌, ◌++◌, length, codes, Option, None, Some, refl, arith}
 use Rattle.std.specs.Fmt.{decimal}
 use Rattle.std.specs.List.{All, AllByRecursion, list_any, list_all}
 use Rattle.std.specs.Str.Parse.{AllDigits}
@@ -23,11 +23,9 @@ use Rattle.gu_msgs.specs.Encodable.{HasAckIds, IsSoundMessage}
 use Rattle.gu_msgs.specs.Rejections.{reason_number, reason_of, rejection_text}
 use Rattle.gu_msgs.specs.ValueTexts.{WritesMoment, date_text, time_text, two_digits}
 use Rattle.gu_msgs.specs.Written.{AnswersReport, IsWritten, MarksResend, body_code, body_fields, header_fields}
-use Rattle.gu_msgs.specs.WrittenBodies.{report_ack_fields, report_status}
+use Rattle.gu_msgs.specs.WrittenBodies.{report_status}
 use Rattle.gu_msgs.specs.declared.outbound.Body.{Body}
-use Rattle.gu_msgs.specs.declared.outbound.Body.TheVariants as body
 use Rattle.gu_msgs.specs.declared.outbound.Outbound.{Outbound}
-use Rattle.gu_msgs.specs.declared.outbound.TradeCaptureReportAck.{TradeCaptureReportAck}
 use Rattle.gu_msgs.specs.declared.rejection.Rejection.{Rejection}
 use Rattle.gu_msgs.specs.declared.rejection.Rejection.TheVariants.{Refused, Memory, Full}
 use Rattle.gu_msgs.specs.declared.rejection.TradeReportRejectReason.{TradeReportRejectReason}

@@ -24,6 +24,8 @@ mod numbers;
 #[cfg(test)]
 mod reading;
 #[cfg(test)]
+mod reports;
+#[cfg(test)]
 mod takes;
 #[cfg(test)]
 mod writing;

@@ -174,7 +174,7 @@ pub const GIVE_UPS: Table = (
 );
 
 /// Bytes that are a text.
-fn text_in(bytes: &[u8]) -> &str {
+pub fn text_in(bytes: &[u8]) -> &str {
     str::from_utf8(bytes).unwrap_or("?")
 }
 
@@ -260,7 +260,7 @@ fn said(alloc: Global, inbound: &Inbound) -> Result<String, AllocError> {
 }
 
 /// What fields say, or the tag and the reason of their first fault.
-fn answer(alloc: Global, fields: &Fields) -> Result<String, AllocError> {
+pub fn answer(alloc: Global, fields: &Fields) -> Result<String, AllocError> {
     match read(alloc, fields) {
         Ok(inbound) => said(alloc, &inbound),
         Err(MsgFault::Rejected(fault)) => {

@@ -1,5 +1,4 @@
-use Rattle.std.proofs.Common.{◌≡◌, ◌*◌, ap, ◌∙◌}
-use Rattle.gu_msgs.specs.Midnight.{from_zero}
+use Rattle.std.proofs.Common.{◌*◌, ap, ◌∙◌}
 use Rattle.gu_msgs.proofs.Midnights.{midnight_text}
 use Rattle.gu_msgs.proofs.midnight.midnight_of.Goals as goal
 
