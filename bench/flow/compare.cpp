@@ -14,9 +14,10 @@
 using namespace lemon;
 using Clock = std::chrono::steady_clock;
 
+// The rooms of an offer's keys, in the order of its path; the fifth is -1 where its carrying firm has no guarantor.
 struct Offer {
     long lots;
-    std::array<int, 4> rooms;
+    std::array<int, 5> rooms;
 };
 
 struct View {
@@ -26,24 +27,22 @@ struct View {
 };
 
 static int kind_of(const char *word) {
-    return !strcmp(word, "exec") ? 0 : !strcmp(word, "agr") ? 1 : !strcmp(word, "acct") ? 2 : 3;
+    return !strcmp(word, "exec") ? 0 : !strcmp(word, "agr") ? 1 : !strcmp(word, "acct") ? 2 : !strcmp(word, "carry") ? 3 : 4;
 }
 
 static View read(const char *path) {
     View view;
-    std::vector<std::array<long, 4>> names;
+    std::vector<std::vector<long>> names;
     std::map<std::pair<int, long>, int> places;
     FILE *in = fopen(path, "r");
-    char word[16], kind[16];
-    long number, lots, name;
-    while (in && fscanf(in, "%15s", word) == 1) {
-        if (word[0] == 'o') {
-            std::array<long, 4> keys;
-            if (fscanf(in, "%ld%ld%ld%ld%ld%ld", &number, &lots, &keys[0], &keys[1], &keys[2], &keys[3]) != 6) break;
+    char line[256], kind[16];
+    while (in && fgets(line, sizeof line, in)) {
+        long number, lots, name, keys[5];
+        int words = sscanf(line, "offer%ld%ld%ld%ld%ld%ld%ld", &number, &lots, &keys[0], &keys[1], &keys[2], &keys[3], &keys[4]);
+        if (words >= 6) {
             view.offers.push_back({lots, {}});
-            names.push_back(keys);
-        } else {
-            if (fscanf(in, "%15s%ld%ld", kind, &name, &lots) != 3) break;
+            names.emplace_back(keys, keys + words - 2);
+        } else if (sscanf(line, "room%15s%ld%ld", kind, &name, &lots) == 3) {
             places[{kind_of(kind), name}] = view.rooms.size();
             view.rooms.push_back(lots);
             view.is_agreement.push_back(kind_of(kind) == 1);
@@ -51,7 +50,7 @@ static View read(const char *path) {
     }
     if (in) fclose(in);
     for (size_t i = 0; i < names.size(); i++)
-        for (int k = 0; k < 4; k++) view.offers[i].rooms[k] = places[{k, names[i][k]}];
+        for (int k = 0; k < 5; k++) view.offers[i].rooms[k] = k < (int)names[i].size() ? places[{k, names[i][k]}] : -1;
     return view;
 }
 
@@ -61,11 +60,12 @@ static long greatest(const View &view) {
     std::vector<long> capacity(view.rooms);
     std::vector<long> supply(count, 0);
     for (const Offer &offer : view.offers) {
-        auto [e, a, c, d] = offer.rooms;
+        auto [e, a, c, d, g] = offer.rooms;
         ends[e] = {0, e + 2};
         ends[a] = {e + 2, c + 2};
         ends[c] = {c + 2, d + 2};
-        ends[d] = {d + 2, 1};
+        ends[d] = {d + 2, g < 0 ? 1 : g + 2};
+        if (g >= 0) ends[g] = {g + 2, 1};
         supply[a] += offer.lots;
     }
     SmartDigraph graph;

@@ -1,7 +1,7 @@
 #!/usr/bin/env python3
-"""Writes seeded views in plain text: shapes.py SHAPE OFFERS SEED > view.txt
+"""Writes seeded views in plain text: shapes.py SHAPE OFFERS SEED [guarantors] > view.txt
 
-offer NUMBER LOTS EXEC AGREEMENT ACCOUNT CARRY
+offer NUMBER LOTS EXEC AGREEMENT ACCOUNT CARRY [GUAR]      with guarantors: of each three carrying firms two have one in common
 room KIND NAME LOTS      in the order in which the keys are first mentioned
 """
 import sys
@@ -202,18 +202,26 @@ SHAPES = dict(
 )
 
 
+def keys_of(offer, guarantors):
+    _, e, a, c, d = offer
+    keys = [("exec", e), ("agr", a), ("acct", c), ("carry", d)]
+    return keys + [("guar", d // 3)] if guarantors and d % 3 < 2 else keys
+
+
 def main():
     shape, count, seed = sys.argv[1], int(sys.argv[2]), int(sys.argv[3])
+    guarantors = sys.argv[4:] == ["guarantors"]
     rng = Seeded(seed)
     offers, room = SHAPES[shape](count, rng)
-    keys = {}
+    totals = {}
     out = []
-    for number, (lots, e, a, c, d) in enumerate(offers, 1):
-        lots = min(lots, 1_000_000)
-        out.append(f"offer {number} {lots} {e} {a} {c} {d}")
-        for key in (("exec", e), ("agr", a), ("acct", c), ("carry", d)):
-            keys[key] = keys.get(key, 0) + lots
-    for (kind, name), lots in keys.items():
+    for number, offer in enumerate(offers, 1):
+        lots = min(offer[0], 1_000_000)
+        keys = keys_of(offer, guarantors)
+        out.append(" ".join(map(str, ["offer", number, lots] + [name for _, name in keys])))
+        for key in keys:
+            totals[key] = totals.get(key, 0) + lots
+    for (kind, name), lots in totals.items():
         out.append(f"room {kind} {name} {min(1_000_000_000, room(kind, name, lots))}")
     print("\n".join(out))
 

@@ -2,7 +2,6 @@
 use Rattle.std.proofs.Common.{◌≡◌, ◌≢◌, ℕ, ◌+◌, ◌<◌, ◌≤◌, ◌==◌, ◌&&◌, not, Bool, true, false, cond, List, [], ◌∷◌, suc, length, get_or, refl, sym, ◌∙◌, ap, subst, arith, inl, inr}
 use Rattle.std.specs.Prelude.{sum_by}
 use Rattle.std.specs.List.{AllByRecursion, list_any}
-use Rattle.std.proofs.Math.Bool.{or-false}
 use Rattle.std.proofs.lemmas.Bool.{cases_eq, or_cases, or_left, or_right, eq-eqb, ne_eqb, eqb-true, lt-ltb, and_from}
 use Rattle.std.proofs.lemmas.List.{get_or_default}
 use Rattle.std.proofs.lemmas.List.Elements.{All-from_get_or, recursion_from_All}
@@ -37,7 +36,7 @@ use Rattle.gu_flow.proofs.Sides.{IsLaid, LiesOn, way_walks, way_once, way_lays, 
 use Rattle.gu_terms.proofs.Lists.{sum_by-add, sum_by-swap, sum_by-agree}
 use Rattle.gu_flow.proofs.SumLemmas.{places, sum_by-by, sum_by_place, sum_places_by, sum_one_place, cond-sum, cond-swap}
 use Rattle.gu_flow.proofs.Walks.{has_place, Walking, load, sum_over}
-use Rattle.gu_flow.proofs.WayLayers.{layer_of, layer_at, layered_at, key_on, lies_alike}
+use Rattle.gu_flow.proofs.WayLayers.{agreement_on, layer_of, layer_at, layered_at, key_on, lies_alike}
 
 -- a member of a list of small numbers is small
 has_within : (n k : ℕ) (ps : List ℕ) → AllByRecursion (λ p. p < n) ps → list_any (λ p. p == k) ps ≡ true → k < n
@@ -146,15 +145,15 @@ module _ (view : GroupView) (sound : IsView view) (nested : IsNested view) (arcs
   agreement_in : (o : Offer) → IsOfferOf view o → agreement_place view.rooms o < length arcs
   agreement_in o h =
       let p : IsPath o = subst IsPath (sym h.is) (nested.paths h.place o h.within) in
-      let within = subst (λ path. AllByRecursion (λ k. place_of view.rooms k < length view.rooms) path) p.3 (roomed o h) in
+      let within = subst (λ path. AllByRecursion (λ k. place_of view.rooms k < length view.rooms) path) p.4 (roomed o h) in
       omega (arith, within.1.0, are.all)
 
   -- an offer is under an agreement where the agreement is its own
   on_agreement : (o : Offer) → IsOfferOf view o → (k : ℕ) → k < length view.rooms → (agreement : AgreementId) → (room_at view.rooms k).key ≡ Agr agreement → has_key o.path (room_at view.rooms k).key ≡ (agreement_place view.rooms o == k)
   on_agreement o h k k_in agreement is =
       let p : IsPath o = subst IsPath (sym h.is) (nested.paths h.place o h.within) in
-      let within = subst (λ path. AllByRecursion (λ k. place_of view.rooms k < length view.rooms) path) p.3 (roomed o h) in
-      ap (has_key o.path) is ∙ ap (λ path. has_key path (Agr agreement)) p.3 ∙ or-false (key_eq (Agr o.agreement) (Agr agreement)) ∙ ap (key_eq (Agr o.agreement)) (sym is) ∙ sym (at_place view sound k (Agr o.agreement) k_in within.1.0)
+      let within = subst (λ path. AllByRecursion (λ k. place_of view.rooms k < length view.rooms) path) p.4 (roomed o h) in
+      ap (has_key o.path) is ∙ ap (λ path. has_key path (Agr agreement)) p.4 ∙ agreement_on p.0 o.agreement p.1 p.2 p.3 agreement ∙ ap (key_eq (Agr o.agreement)) (sym is) ∙ sym (at_place view sound k (Agr o.agreement) k_in within.1.0)
 
   -- sums under an agreement, by the places of the offers' agreements
   under_agreement : (f : Offer → ℕ) (k : ℕ) → k < length view.rooms → (agreement : AgreementId) → (room_at view.rooms k).key ≡ Agr agreement

@@ -8,6 +8,7 @@ use Rattle.std.specs.Str.Parse.{digits_value}
 use Rattle.gu_terms.specs.LimitKeys.{key_of}
 use Rattle.gu_terms.specs.Names.{is_name}
 use Rattle.gu_terms.specs.Paths.{path_through}
+use Rattle.gu_terms.specs.declared.firm.FirmId.{FirmId}
 use Rattle.gu_terms.specs.declared.limit_key.LimitKey.{LimitKey}
 use Rattle.gu_text.specs.Lines.{is_silent, longest_line}
 use Rattle.gu_text.specs.Words.{is_ragged, words_of}
@@ -42,12 +43,19 @@ sheet_said (group ∷ version ∷ []) =
     (name_of group)
 sheet_said _ = None
 
--- the path of an offer: executing firm, agreement, account, carrying firm
+-- the guarantor of an offer's carrying firm: none, where no word names one
+abbrev pub guarantor_said : List (List ℕ) → Option (Option FirmId)
+guarantor_said [] = Some None
+guarantor_said (firm ∷ []) = option_map (λ name. Some (record { name = name })) (name_of firm)
+guarantor_said _ = None
+
+-- the path of an offer: executing firm, agreement, account, carrying firm, and its guarantor, where it has one
 abbrev pub path_said : List ℕ → List (List ℕ) → Option (List LimitKey)
-path_said agreement (executing ∷ account ∷ carrying ∷ []) =
+path_said agreement (executing ∷ account ∷ carrying ∷ rest) =
     if is_name executing && is_name account && is_name carrying
-    then Some
-    (path_through (record { name = executing }) (record { name = agreement }) (record { name = account }) (record { name = carrying }) None)
+    then option_map
+    (path_through (record { name = executing }) (record { name = agreement }) (record { name = account }) (record { name = carrying }))
+    (guarantor_said rest)
     else None
 path_said agreement _ = None
 

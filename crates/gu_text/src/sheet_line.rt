@@ -2,7 +2,7 @@
 
 ghost use Rattle.std.specs.Prelude.{◌≡◌};
 ghost use Rattle.std.specs.Option.{option_map};
-ghost use Rattle.gu_text.specs.SheetLines.{key_said, sheet_said, path_said, offer_said, room_said, take_said, cut_said, end_said, words_say, said_by, spoken};
+ghost use Rattle.gu_text.specs.SheetLines.{key_said, sheet_said, guarantor_said, path_said, offer_said, room_said, take_said, cut_said, end_said, words_say, said_by, spoken};
 ghost use Rattle.gu_text.specs.SheetParts.{part_of, rank_of};
 ghost use Rattle.gu_text.specs.Words.{words_of};
 
@@ -107,20 +107,35 @@ fn sheet_said(words: &[u8]) -> Option<SheetLine>
     Some(SheetLine::Sheet(Header { group, version }))
 }
 
+/// The guarantor of an offer's carrying firm: none, where no word is left.
+fn guarantor_said(words: &[u8]) -> Option<Option<FirmId>>
+    ensures { result ≡ guarantor_said (words_of words.now) }
+{
+    let Some((word, rest)) = first_word(words) else {
+        return Some(None);
+    };
+    let name = name_of(word)?;
+    match first_word(rest) {
+        None => Some(Some(FirmId { name })),
+        Some(_) => None,
+    }
+}
+
 /// The path of an offer of an agreement.
 fn path_said(agreement: Name, words: &[u8]) -> Option<Path>
     ensures { result ≡ path_said agreement (words_of words.now) }
 {
-    let (executing, account, carrying) = three_words(words)?;
+    let (executing, account, carrying, rest) = first_three_words(words)?;
     let executing = name_of(executing)?;
     let account = name_of(account)?;
     let carrying = name_of(carrying)?;
+    let guarantor = guarantor_said(rest)?;
     Some(Path::new(
         FirmId { name: executing },
         AgreementId { name: agreement },
         AccountId { name: account },
         FirmId { name: carrying },
-        None,
+        guarantor,
     ))
 }
 

@@ -1,8 +1,8 @@
 -- Nested offers, by tests of their paths.
-use Rattle.std.proofs.Common.{◌≡◌, ℕ, ◌<◌, ◌||◌, not, Bool, true, false, List, [], ◌∷◌, Option, None, Some, length, get_or, slice_get, refl, sym, ap, ◌∙◌, zero-add, inl, inr}
+use Rattle.std.proofs.Common.{◌≡◌, ℕ, ◌<◌, Bool, true, false, List, [], ◌∷◌, Option, None, Some, length, get_or, slice_get, refl, sym, ap, ◌∙◌, zero-add, inl, inr}
 use Rattle.std.specs.Prelude.{All}
 use Rattle.std.specs.List.{AllByRecursion, list_all, list_any}
-use Rattle.std.specs.Option.{option_and_then}
+use Rattle.std.specs.Option.{option_and_then, option_map_or}
 use Rattle.std.proofs.lemmas.Bool.{false≢true, or_cases}
 use Rattle.std.proofs.lemmas.List.Elements.{All-from_recursion, recursion_from_All}
 use Rattle.std.proofs.lemmas.List.Sums.{AllPass-from_list_all, list_all-from_AllPass}
@@ -12,55 +12,90 @@ use Rattle.gu_terms.specs.declared.account.AccountId.{AccountId}
 use Rattle.gu_terms.specs.declared.agreement.AgreementId.{AgreementId}
 use Rattle.gu_terms.specs.declared.firm.FirmId.{FirmId}
 use Rattle.gu_terms.specs.declared.limit_key.LimitKey.{LimitKey}
-use Rattle.gu_terms.specs.declared.limit_key.LimitKey.TheVariants.{Exec, Agr, Acct, Carry}
+use Rattle.gu_terms.specs.declared.limit_key.LimitKey.TheVariants.{Exec, Agr, Acct, Carry, Guar}
+use Rattle.gu_terms.specs.Paths.{guarantor_key, path_through}
 use Rattle.gu_terms.proofs.KeyLemmas.{key_eq-same, key_eq-refl}
-use Rattle.gu_view.specs.Paths.{are_kinds, is_whole, is_account, same_key, carrying_key, have_one_carrier, room_agrees}
-use Rattle.gu_view.specs.View.{GroupView, IsNested, IsPath, IsView, next_key, place_of, places_under}
+use Rattle.gu_view.specs.Paths.{are_kinds, behind, have_one_key, is_guarantor, is_whole, key_on, room_agrees, same_key}
+use Rattle.gu_view.specs.View.{GoOnAlike, GroupView, IsNested, IsPath, IsView, next_key, place_of, places_under}
 use Rattle.gu_view.specs.declared.view.Offer.{Offer}
 use Rattle.gu_view.specs.declared.view.Room.{Room}
+use Rattle.gu_terms.proofs.SameValues.{both}
 use Rattle.gu_terms.proofs.Lists.{along, position_or_len-within}
 use Rattle.gu_view.proofs.PassingPlaces.{at_places, each_place}
 use Rattle.gu_view.proofs.RoomLemmas.{on_path_at, roomed}
 use Rattle.gu_view.proofs.TakesLemmas.{key_at_place}
 
--- keys that pass are of the four kinds
-kinds : (own : AgreementId) (a b c d : LimitKey) → are_kinds own a b c d ≡ true → (e : FirmId) × (x : AccountId) × (f : FirmId) × (a ∷ b ∷ c ∷ d ∷ [] ≡ Exec e ∷ Agr own ∷ Acct x ∷ Carry f ∷ [])
-kinds own (Exec e) (Agr g) (Acct x) (Carry f) h = (e, x, f, ap (λ k. Exec e ∷ k ∷ Acct x ∷ Carry f ∷ []) (key_eq-same (Agr g) (Agr own) h))
-kinds own _ _ _ _ h = absurd (false≢true h)
+-- a path of these keys
+abbrev IsPathOf : AgreementId → List LimitKey → Type 0
+IsPathOf own path = (e : FirmId) × (x : AccountId) × (f : FirmId) × (g : Option FirmId) × (path ≡ path_through e own x f g)
+
+-- four keys that pass are of the four kinds, whatever comes behind them
+kinds : (own : AgreementId) (a b c d : LimitKey) (rest : List LimitKey) → are_kinds own a b c d ≡ true
+    → (e : FirmId) × (x : AccountId) × (f : FirmId) × (a ∷ b ∷ c ∷ d ∷ rest ≡ Exec e ∷ Agr own ∷ Acct x ∷ Carry f ∷ rest)
+kinds own (Exec e) (Agr g) (Acct x) (Carry f) rest h = (e, x, f, ap (λ k. Exec e ∷ k ∷ Acct x ∷ Carry f ∷ rest) (key_eq-same (Agr g) (Agr own) h))
+kinds own _ _ _ _ rest h = absurd (false≢true h)
+
+-- a key that passes is a guarantor's
+guarantor_is : (k : LimitKey) → is_guarantor k ≡ true → (g : FirmId) × (k ≡ Guar g)
+guarantor_is (Guar g) h = (g, refl)
+guarantor_is _ h = absurd (false≢true h)
+
+-- five keys that pass
+five : (own : AgreementId) (a b c d e : LimitKey) → are_kinds own a b c d ≡ true → is_guarantor e ≡ true → IsPathOf own (a ∷ b ∷ c ∷ d ∷ e ∷ [])
+five own a b c d e four last =
+    let k = kinds own a b c d (e ∷ []) four in
+    let g = guarantor_is e last in
+    (k.0, k.1, k.2, Some g.0, k.3 ∙ ap (λ j. Exec k.0 ∷ Agr own ∷ Acct k.1 ∷ Carry k.2 ∷ j ∷ []) g.1)
 
 -- a path that passes is whole
-whole_path : (own : AgreementId) (path : List LimitKey) → is_whole own path ≡ true → (e : FirmId) × (x : AccountId) × (f : FirmId) × (path ≡ Exec e ∷ Agr own ∷ Acct x ∷ Carry f ∷ [])
+whole_path : (own : AgreementId) (path : List LimitKey) → is_whole own path ≡ true → IsPathOf own path
 whole_path own [] h = absurd (false≢true h)
 whole_path own (a ∷ []) h = absurd (false≢true h)
 whole_path own (a ∷ b ∷ []) h = absurd (false≢true h)
 whole_path own (a ∷ b ∷ c ∷ []) h = absurd (false≢true h)
-whole_path own (a ∷ b ∷ c ∷ d ∷ []) h = kinds own a b c d h
-whole_path own (a ∷ b ∷ c ∷ d ∷ e ∷ path) h = absurd (false≢true h)
+whole_path own (a ∷ b ∷ c ∷ d ∷ []) h = let k = kinds own a b c d [] h in (k.0, k.1, k.2, None, k.3)
+whole_path own (a ∷ b ∷ c ∷ d ∷ e ∷ []) h = let parts = both (are_kinds own a b c d) (is_guarantor e) h in five own a b c d e parts.0 parts.1
+whole_path own (a ∷ b ∷ c ∷ d ∷ e ∷ f ∷ path) h = absurd (false≢true h)
 
 -- and a whole path passes
 path_whole : (o : Offer) → IsPath o → is_whole o.agreement o.path ≡ true
-path_whole o (e, x, c, is) = rw is (key_eq-refl (Agr o.agreement))
+path_whole o (e, x, c, None, is) = rw is (key_eq-refl (Agr o.agreement))
+path_whole o (e, x, c, Some g, is) = rw is (rw (key_eq-refl (Agr o.agreement)) refl)
 
 -- the account of a path that has an account key
-account_is : (e : FirmId) (g : AgreementId) (a : AccountId) (c : FirmId) (x : AccountId) → has_key (Exec e ∷ Agr g ∷ Acct a ∷ Carry c ∷ []) (Acct x) ≡ true → key_eq (Acct a) (Acct x) ≡ true
-account_is e g a c x h = elim (or_cases (key_eq (Acct a) (Acct x)) false h) [ inl hit ↦ hit | inr never ↦ absurd (false≢true never) ]
+account_is : (e : FirmId) (own : AgreementId) (a : AccountId) (c : FirmId) (g : Option FirmId) (x : AccountId) → has_key (path_through e own a c g) (Acct x) ≡ true → key_eq (Acct a) (Acct x) ≡ true
+account_is e own a c None x h = elim (or_cases (key_eq (Acct a) (Acct x)) false h) [ inl hit ↦ hit | inr never ↦ absurd (false≢true never) ]
+account_is e own a c (Some g) x h = elim (or_cases (key_eq (Acct a) (Acct x)) false h) [ inl hit ↦ hit | inr never ↦ absurd (false≢true never) ]
 
--- and what comes after it
-after_account : (e : FirmId) (g : AgreementId) (a : AccountId) (c : FirmId) (x : AccountId) → key_eq (Acct a) (Acct x) ≡ true → next_key (Exec e ∷ Agr g ∷ Acct a ∷ Carry c ∷ []) (Acct x) ≡ Some (Carry c)
-after_account e g a c x h = rw h refl
+-- the carrying firm of a path that has a carrying firm's key
+carrying_is : (e : FirmId) (own : AgreementId) (a : AccountId) (c : FirmId) (g : Option FirmId) (x : FirmId) → has_key (path_through e own a c g) (Carry x) ≡ true → key_eq (Carry c) (Carry x) ≡ true
+carrying_is e own a c None x h = elim (or_cases (key_eq (Carry c) (Carry x)) false h) [ inl hit ↦ hit | inr never ↦ absurd (false≢true never) ]
+carrying_is e own a c (Some g) x h = elim (or_cases (key_eq (Carry c) (Carry x)) false h) [ inl hit ↦ hit | inr never ↦ absurd (false≢true never) ]
 
--- of a whole path it is the fourth key
-after_account_on : (o : Offer) (x : AccountId) → IsPath o → has_key o.path (Acct x) ≡ true → next_key o.path (Acct x) ≡ slice_get o.path 3
-after_account_on o x (e, a, c, is) on = rw is (after_account e o.agreement a c x (account_is e o.agreement a c x (rw is at on)))
+-- what comes behind a key that paths share
+after : (e : FirmId) (own : AgreementId) (a : AccountId) (c : FirmId) (g : Option FirmId) (k : LimitKey) (depth : ℕ) → behind k ≡ Some depth
+    → has_key (path_through e own a c g) k ≡ true → next_key (path_through e own a c g) k ≡ slice_get (path_through e own a c g) depth
+after e own a c g (Acct x) depth at h = let here : 3 ≡ depth = cc in rw (← here) (rw (account_is e own a c g x h) refl)
+after e own a c None (Carry x) depth at h = let here : 4 ≡ depth = cc in rw (← here) (rw (carrying_is e own a c None x h) refl)
+after e own a c (Some g) (Carry x) depth at h = let here : 4 ≡ depth = cc in rw (← here) (rw (carrying_is e own a c (Some g) x h) refl)
+after e own a c g (Exec x) depth at h = cc
+after e own a c g (Agr x) depth at h = cc
+after e own a c g (Guar x) depth at h = cc
 
--- a whole path has one
-fourth : (o : Offer) → IsPath o → same_key (slice_get o.path 3) (slice_get o.path 3) ≡ true
-fourth o (e, a, c, is) = rw is (key_eq-refl (Carry c))
+-- and on the path of an offer
+after_on : (o : Offer) (k : LimitKey) (depth : ℕ) → behind k ≡ Some depth → IsPath o → has_key o.path k ≡ true → next_key o.path k ≡ slice_get o.path depth
+after_on o k depth at (e, a, c, g, is) on = rw is (after e o.agreement a c g k depth at (rw is at on))
 
 -- keys that pass are one
 same_key-same : (j k : Option LimitKey) → same_key j k ≡ true → j ≡ k
 same_key-same (Some j) (Some k) h = ap (λ k. Some k) (key_eq-same j k h)
+same_key-same None None h = refl
 same_key-same _ _ h = absurd (false≢true h)
+
+-- and one key passes
+same_key-refl : (k : Option LimitKey) → same_key k k ≡ true
+same_key-refl (Some k) = key_eq-refl k
+same_key-refl None = refl
 
 -- each path is whole
 pub all_paths : (offers : List Offer) → list_all (λ o. is_whole o.agreement o.path) offers ≡ true → All IsPath offers
@@ -69,77 +104,94 @@ all_paths offers h i d inside = whole_path (get_or offers i d).agreement (get_or
 pub paths_pass : (offers : List Offer) → All IsPath offers → list_all (λ o. is_whole o.agreement o.path) offers ≡ true
 paths_pass offers h = list_all-from_AllPass (λ o. is_whole o.agreement o.path) offers (λ i d inside. path_whole (get_or offers i d) (h i d inside))
 
-module _ (offers : List Offer) where
-  -- the carrying key of the offer at a place
-  carrying_key-inside : (i : ℕ) (d : Offer) → i < length offers → carrying_key offers i ≡ slice_get (get_or offers i d).path 3
-  carrying_key-inside i d inside = ap (option_and_then (λ (o : Offer). slice_get o.path 3)) (slice_get-get_or offers i d inside)
+module _ (offers : List Offer) (depth : ℕ) where
+  -- the key there on the path of the offer at a place
+  key_on-inside : (i : ℕ) (d : Offer) → i < length offers → key_on offers depth i ≡ slice_get (get_or offers i d).path depth
+  key_on-inside i d inside = ap (option_and_then (λ (o : Offer). slice_get o.path depth)) (slice_get-get_or offers i d inside)
 
   -- that of the first of these places
-  abbrev first_carrying : List ℕ → Option LimitKey
-  first_carrying [] = None
-  first_carrying (place ∷ places) = carrying_key offers place
+  abbrev first_key : List ℕ → Option LimitKey
+  first_key [] = None
+  first_key (place ∷ places) = key_on offers depth place
 
-  -- where the offers at these places have one carrying key, it is that of the first
-  like_first : (places : List ℕ) → have_one_carrier offers places ≡ true → AllByRecursion (λ p. carrying_key offers p ≡ first_carrying places) places
+  -- where the offers at these places have one key there, it is that of the first
+  like_first : (places : List ℕ) → have_one_key offers depth places ≡ true → AllByRecursion (λ p. key_on offers depth p ≡ first_key places) places
   like_first [] h = tt
   like_first (first ∷ others) h =
-      let test : ℕ → Bool = λ p. same_key (carrying_key offers first) (carrying_key offers p) in
-      (refl, along (λ p. test p ≡ true) (λ p. carrying_key offers p ≡ carrying_key offers first) others (λ p hit. sym (same_key-same (carrying_key offers first) (carrying_key offers p) hit)) (recursion_from_All (λ p. test p ≡ true) others (AllPass-from_list_all test others h)))
+      let test : ℕ → Bool = λ p. same_key (key_on offers depth first) (key_on offers depth p) in
+      (refl, along (λ p. test p ≡ true) (λ p. key_on offers depth p ≡ key_on offers depth first) others (λ p hit. sym (same_key-same (key_on offers depth first) (key_on offers depth p) hit)) (recursion_from_All (λ p. test p ≡ true) others (AllPass-from_list_all test others h)))
 
   -- so any two of the offers under a key have one
-  carried_alike : (k : LimitKey) (i j : ℕ) (d e : Offer) → have_one_carrier offers (places_under offers k) ≡ true → i < length offers → j < length offers
-      → has_key (get_or offers i d).path k ≡ true → has_key (get_or offers j e).path k ≡ true → slice_get (get_or offers i d).path 3 ≡ slice_get (get_or offers j e).path 3
-  carried_alike k i j d e one inside within on also =
+  alike_under : (k : LimitKey) (i j : ℕ) (d e : Offer) → have_one_key offers depth (places_under offers k) ≡ true → i < length offers → j < length offers
+      → has_key (get_or offers i d).path k ≡ true → has_key (get_or offers j e).path k ≡ true → slice_get (get_or offers i d).path depth ≡ slice_get (get_or offers j e).path depth
+  alike_under k i j d e one inside within on also =
       let under : Offer → Bool = λ o. has_key o.path k in
-      let key = first_carrying (places_under offers k) in
+      let key = first_key (places_under offers k) in
       let all = like_first (places_under offers k) one in
-      let mine : carrying_key offers i ≡ key = rw zero-add at (at_places (λ p. carrying_key offers p ≡ key) under 0 offers all i d inside on) in
-      let theirs : carrying_key offers j ≡ key = rw zero-add at (at_places (λ p. carrying_key offers p ≡ key) under 0 offers all j e within also) in
-      sym (carrying_key-inside i d inside) ∙ mine ∙ sym theirs ∙ carrying_key-inside j e within
+      let mine : key_on offers depth i ≡ key = rw zero-add at (at_places (λ p. key_on offers depth p ≡ key) under 0 offers all i d inside on) in
+      let theirs : key_on offers depth j ≡ key = rw zero-add at (at_places (λ p. key_on offers depth p ≡ key) under 0 offers all j e within also) in
+      sym (key_on-inside i d inside) ∙ mine ∙ sym theirs ∙ key_on-inside j e within
 
   -- a place of an offer under a key
   abbrev IsUnder : LimitKey → ℕ → Type 0
   IsUnder k place = (d : Offer) × (place < length offers) × (has_key (get_or offers place d).path k ≡ true)
 
-  -- places any two of which have one carrying key
-  one_carrier : (P : ℕ → Type 0) (places : List ℕ) → ((p q : ℕ) → P p → P q → same_key (carrying_key offers p) (carrying_key offers q) ≡ true) → AllByRecursion P places → have_one_carrier offers places ≡ true
-  one_carrier P [] alike h = refl
-  one_carrier P (first ∷ others) alike h =
-      let test : ℕ → Bool = λ p. same_key (carrying_key offers first) (carrying_key offers p) in
+  -- places any two of which have one key there
+  one_key : (P : ℕ → Type 0) (places : List ℕ) → ((p q : ℕ) → P p → P q → same_key (key_on offers depth p) (key_on offers depth q) ≡ true) → AllByRecursion P places → have_one_key offers depth places ≡ true
+  one_key P [] alike h = refl
+  one_key P (first ∷ others) alike h =
+      let test : ℕ → Bool = λ p. same_key (key_on offers depth first) (key_on offers depth p) in
       list_all-from_AllPass test others (All-from_recursion (λ p. test p ≡ true) others (along P (λ p. test p ≡ true) others (λ p k. alike first p h.0 k) h.1))
 
 -- nested, where the paths are whole and the rooms agree
 pub nested_from : (view : GroupView) → IsView view → list_all (λ o. is_whole o.agreement o.path) view.offers ≡ true → list_all (room_agrees view.offers) view.rooms ≡ true → IsNested view
 nested_from view sound whole agree =
-    let offers = view.offers in
-    let paths = all_paths offers whole in
+    let paths = all_paths view.offers whole in
     record {
       paths = paths;
-      carriers = λ i d inside j e within x on also.
-          after_account_on (get_or offers i d) x (paths i d inside) on
-          ∙ carried_alike offers (Acct x) i j d e (one x (on_path_at offers i (get_or offers i d) (Acct x) (slice_get-get_or offers i d inside) on)) inside within on also
-          ∙ sym (after_account_on (get_or offers j e) x (paths j e within) also);
+      carriers = λ i d inside j e within x. go_on (Acct x) 3 refl i d inside j e within;
+      guarantors = λ i d inside j e within x. go_on (Carry x) 4 refl i d inside j e within;
     }
   where
-    one : (x : AccountId) → list_any (λ (o : Offer). has_key o.path (Acct x)) view.offers ≡ true → have_one_carrier view.offers (places_under view.offers (Acct x)) ≡ true
-    one x on =
-        let d : Room = record { key = Acct x; lots = 0 } in
-        let inside : place_of view.rooms (Acct x) < length view.rooms = position_or_len-within (λ r. key_eq r.key (Acct x)) view.rooms (roomed view sound (Acct x) on) in
-        rw (key_at_place view.rooms (Acct x) d inside) at (AllPass-from_list_all (room_agrees view.offers) view.rooms agree (place_of view.rooms (Acct x)) d inside)
+    one : (k : LimitKey) (depth : ℕ) → behind k ≡ Some depth → list_any (λ (o : Offer). has_key o.path k) view.offers ≡ true → have_one_key view.offers depth (places_under view.offers k) ≡ true
+    one k depth at on =
+        let d : Room = record { key = k; lots = 0 } in
+        let inside : place_of view.rooms k < length view.rooms = position_or_len-within (λ r. key_eq r.key k) view.rooms (roomed view sound k on) in
+        rw at at (rw (key_at_place view.rooms k d inside) at (AllPass-from_list_all (room_agrees view.offers) view.rooms agree (place_of view.rooms k) d inside))
+
+    go_on : (k : LimitKey) (depth : ℕ) → behind k ≡ Some depth → (i : ℕ) (d : Offer) → i < length view.offers → (j : ℕ) (e : Offer) → j < length view.offers → GoOnAlike k (get_or view.offers i d).path (get_or view.offers j e).path
+    go_on k depth at i d inside j e within on also =
+        let offers = view.offers in
+        let paths = all_paths offers whole in
+        after_on (get_or offers i d) k depth at (paths i d inside) on
+        ∙ alike_under offers depth k i j d e (one k depth at (on_path_at offers i (get_or offers i d) k (slice_get-get_or offers i d inside) on)) inside within on also
+        ∙ sym (after_on (get_or offers j e) k depth at (paths j e within) also)
 
 -- and the rooms of a nested view agree
 pub rooms_agree : (view : GroupView) → IsNested view → list_all (room_agrees view.offers) view.rooms ≡ true
 rooms_agree view nested = list_all-from_AllPass (room_agrees view.offers) view.rooms (λ i d inside. under (get_or view.rooms i d).key)
   where
-    alike : (x : AccountId) (p q : ℕ) → IsUnder view.offers (Acct x) p → IsUnder view.offers (Acct x) q → same_key (carrying_key view.offers p) (carrying_key view.offers q) ≡ true
-    alike x p q (d, inside, on) (e, within, also) =
+    alike : (k : LimitKey) (depth : ℕ) → behind k ≡ Some depth
+        → ((p : ℕ) (d : Offer) → p < length view.offers → (q : ℕ) (e : Offer) → q < length view.offers → GoOnAlike k (get_or view.offers p d).path (get_or view.offers q e).path)
+        → (p q : ℕ) → IsUnder view.offers depth k p → IsUnder view.offers depth k q → same_key (key_on view.offers depth p) (key_on view.offers depth q) ≡ true
+    alike k depth at go p q (d, inside, on) (e, within, also) =
         let offers = view.offers in
         let a = get_or offers p d in
         let b = get_or offers q e in
-        let a-whole = nested.paths p d inside in
-        let same : slice_get a.path 3 ≡ slice_get b.path 3 = sym (after_account_on a x a-whole on) ∙ nested.carriers p d inside q e within x on also ∙ after_account_on b x (nested.paths q e within) also in
-        rw (carrying_key-inside offers p d inside, carrying_key-inside offers q e within, sym same) (fourth a a-whole)
+        let same : slice_get a.path depth ≡ slice_get b.path depth =
+        sym (after_on a k depth at (nested.paths p d inside) on) ∙ go p d inside q e within on also ∙ after_on b k depth at (nested.paths q e within) also in
+        rw (key_on-inside offers depth p d inside, key_on-inside offers depth q e within, sym same) (same_key-refl (slice_get a.path depth))
 
-    under : (k : LimitKey) → (not (is_account k) || have_one_carrier view.offers (places_under view.offers k)) ≡ true
-    under (Acct x) = one_carrier view.offers (IsUnder view.offers (Acct x)) (places_under view.offers (Acct x)) (alike x) (each_place (IsUnder view.offers (Acct x)) (λ (o : Offer). has_key o.path (Acct x)) 0 view.offers (λ k d inside hit. (d, rw zero-add inside, rw zero-add hit)))
-    under _ = refl
+    all_under : (k : LimitKey) (depth : ℕ) → behind k ≡ Some depth
+        → ((p : ℕ) (d : Offer) → p < length view.offers → (q : ℕ) (e : Offer) → q < length view.offers → GoOnAlike k (get_or view.offers p d).path (get_or view.offers q e).path)
+        → have_one_key view.offers depth (places_under view.offers k) ≡ true
+    all_under k depth at go =
+        one_key view.offers depth (IsUnder view.offers depth k) (places_under view.offers k) (alike k depth at go)
+        (each_place (IsUnder view.offers depth k) (λ (o : Offer). has_key o.path k) 0 view.offers (λ j d inside hit. (d, rw zero-add inside, rw zero-add hit)))
+
+    under : (k : LimitKey) → option_map_or (λ depth. have_one_key view.offers depth (places_under view.offers k)) (behind k) true ≡ true
+    under (Acct x) = all_under (Acct x) 3 refl (λ p d inside q e within. nested.carriers p d inside q e within x)
+    under (Carry x) = all_under (Carry x) 4 refl (λ p d inside q e within. nested.guarantors p d inside q e within x)
+    under (Exec x) = refl
+    under (Agr x) = refl
+    under (Guar x) = refl

@@ -5,9 +5,10 @@ use Rattle.gu_terms.specs.declared.account.AccountId.{AccountId}
 use Rattle.gu_terms.specs.declared.firm.FirmId.{FirmId}
 use Rattle.gu_terms.specs.declared.group.Group.{Group}
 use Rattle.gu_terms.specs.declared.limit_key.LimitKey.{LimitKey}
-use Rattle.gu_terms.specs.declared.limit_key.LimitKey.TheVariants.{Exec, Agr, Acct, Carry}
+use Rattle.gu_terms.specs.declared.limit_key.LimitKey.TheVariants.{Agr, Acct, Carry}
 use Rattle.gu_terms.specs.LimitKeys.{key_eq, has_key}
 use Rattle.gu_terms.specs.Numbers.{IsLots}
+use Rattle.gu_terms.specs.Paths.{path_through}
 use Rattle.gu_view.specs.declared.view.Offer.{Offer}
 use Rattle.gu_view.specs.declared.view.Room.{Room}
 use Rattle.gu_view.specs.Places.{places_where}
@@ -51,25 +52,23 @@ place_of rooms k = position_or_len (λ r. key_eq r.key k) rooms
 abbrev pub places_under : List Offer → LimitKey → List ℕ
 places_under offers k = places_where (λ o. has_key o.path k) offers
 
--- a path: executing firm, the offer's own agreement, account, carrying firm
+-- a path: executing firm, the offer's own agreement, account, carrying firm, and that firm's guarantor, where it has one
 abbrev pub IsPath : Offer → Type 0
 IsPath o =
-    (executing : FirmId) × (account : AccountId) × (carrying : FirmId)
-    × (o.path ≡ Exec executing ∷ Agr o.agreement ∷ Acct account ∷ Carry carrying ∷ [])
+    (executing : FirmId) × (account : AccountId) × (carrying : FirmId) × (guarantor : Option FirmId)
+    × (o.path ≡ path_through executing o.agreement account carrying guarantor)
 
 -- the key that comes after one on a path
 abbrev pub next_key : List LimitKey → LimitKey → Option LimitKey
 next_key path k = slice_get path (suc (position_or_len (λ j. key_eq j k) path))
 
--- two paths with one account key go on with one carrying key
-abbrev pub GoOnAlike : List LimitKey → List LimitKey → Type 0
-GoOnAlike a b =
-    (account : AccountId)
-    → IsTrue (has_key a (Acct account))
-    → IsTrue (has_key b (Acct account))
-    → next_key a (Acct account) ≡ next_key b (Acct account)
+-- where two paths both have this key, they go on behind it with one key, or both end with it
+abbrev pub GoOnAlike : LimitKey → List LimitKey → List LimitKey → Type 0
+GoOnAlike k a b = IsTrue (has_key a k) → IsTrue (has_key b k) → next_key a k ≡ next_key b k
 
--- each path is whole, and offers of one account key have one carrying key
+-- each path is whole, offers of one account key have one carrying key, and those of one carrying key have one
+-- guarantor key, or none has one
 pub record IsNested (view : GroupView) : Type 0 where
   pub paths : All IsPath view.offers
-  pub carriers : All (λ a. All (λ b. GoOnAlike a.path b.path) view.offers) view.offers
+  pub carriers : All (λ a. All (λ b. (account : AccountId) → GoOnAlike (Acct account) a.path b.path) view.offers) view.offers
+  pub guarantors : All (λ a. All (λ b. (carrying : FirmId) → GoOnAlike (Carry carrying) a.path b.path) view.offers) view.offers

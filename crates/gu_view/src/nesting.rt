@@ -1,8 +1,8 @@
 //! Whether the offers of a view are nested.
 
-ghost use Rattle.std.specs.Prelude.{◌≡◌};
+ghost use Rattle.std.specs.Prelude.{◌≡◌, ◌<◌, IfSome, length, slice_get};
 ghost use Rattle.std.specs.List.{list_all};
-ghost use Rattle.gu_view.specs.Paths.{are_kinds, is_whole, is_account, same_key, carrying_key, have_one_carrier, room_agrees};
+ghost use Rattle.gu_view.specs.Paths.{are_kinds, behind, have_one_key, is_guarantor, is_whole, key_on, room_agrees, same_key};
 
 use crate::view::{Offer, View};
 use gu_terms::{AgreementId, LimitKey};
@@ -25,7 +25,14 @@ fn are_kinds(
     }
 }
 
-/// Whether a path has executing firm, this agreement, account and carrying firm.
+/// Whether a key is of a guarantor.
+fn is_guarantor(key: LimitKey) -> bool
+    ensures { result ≡ is_guarantor key }
+{
+    matches!(&key, LimitKey::Guar(_))
+}
+
+/// Whether a path has executing firm, this agreement, account and carrying firm, and nothing else but a guarantor.
 fn is_whole(own: AgreementId, path: &[LimitKey]) -> bool
     ensures { result ≡ is_whole own path.now }
 {
@@ -33,10 +40,14 @@ fn is_whole(own: AgreementId, path: &[LimitKey]) -> bool
         [executing, agreement, account, carrying] => {
             are_kinds(own, *executing, *agreement, *account, *carrying)
         }
+        [executing, agreement, account, carrying, guarantor] => {
+            are_kinds(own, *executing, *agreement, *account, *carrying) && is_guarantor(*guarantor)
+        }
         _ => false,
     }
 }
 
+/// Whether each path is whole.
 pub fn are_whole(offers: &[Offer]) -> bool
     ensures { result ≡ list_all (λ o. is_whole o.agreement o.path) offers.now }
 {
@@ -45,52 +56,72 @@ pub fn are_whole(offers: &[Offer]) -> bool
         .all(|offer| is_whole(offer.agreement, offer.path.keys()))
 }
 
-fn is_account(key: LimitKey) -> bool
-    ensures { result ≡ is_account key }
+/// The place on a path of what comes behind an account's key, and behind a carrying firm's.
+fn behind(key: LimitKey) -> Option<usize>
+    ensures { result ≡ behind key }
 {
-    matches!(&key, LimitKey::Acct(_))
+    match key {
+        LimitKey::Acct(_) => Some(3),
+        LimitKey::Carry(_) => Some(4),
+        _ => None,
+    }
 }
 
-/// The fourth key on the path of the offer at a place: on a whole path the carrying firm's.
-fn carrying_key(offers: &[Offer], place: u32) -> Option<LimitKey>
-    ensures { result ≡ carrying_key offers.now place }
+/// The key at a place on the path of an offer.
+fn key_on(offers: &[Offer], depth: usize, place: u32) -> Option<LimitKey>
+    ensures { result ≡ key_on offers.now depth place }
 {
-    offers.get(place as usize)?.path.keys().get(3).copied()
+    offers.get(place as usize)?.path.keys().get(depth).copied()
 }
 
-/// Whether both are keys, and one key.
+/// Whether both are one key, or none.
 fn is_same_key(a: Option<LimitKey>, b: Option<LimitKey>) -> bool
     ensures { result ≡ same_key a b }
 {
     match (a, b) {
         (Some(j), Some(k)) => j == k,
+        (None, None) => true,
         _ => false,
     }
 }
 
-/// Whether the offers at these places have this carrying key.
-fn all_have_carrier(offers: &[Offer], places: &[u32], carrying: Option<LimitKey>) -> bool
-    ensures { result ≡ list_all (λ place. same_key carrying (carrying_key offers.now place)) places.now }
+/// Whether the offers at these places have this key there.
+fn all_have_key(offers: &[Offer], depth: usize, places: &[u32], key: Option<LimitKey>) -> bool
+    ensures { result ≡ list_all (λ place. same_key key (key_on offers.now depth place)) places.now }
 {
-    places.iter().all(|place| is_same_key(carrying, carrying_key(offers, *place)))
+    places
+        .iter()
+        .all(|place| is_same_key(key, key_on(offers, depth, *place)))
 }
 
-/// Whether the offers at these places have one carrying key: that of the first.
-fn have_one_carrier(offers: &[Offer], places: &[u32]) -> bool
-    ensures { result ≡ have_one_carrier offers.now places.now }
+/// Whether the offers at these places have one key there: that of the first.
+fn have_one_key(offers: &[Offer], depth: usize, places: &[u32]) -> bool
+    ensures { result ≡ have_one_key offers.now depth places.now }
 {
     match places {
-        [first, others @ ..] => all_have_carrier(offers, others, carrying_key(offers, *first)),
+        [first, others @ ..] => all_have_key(offers, depth, others, key_on(offers, depth, *first)),
         [] => true,
     }
 }
 
-/// Whether offers of one account have one carrying key. Of whole paths each is looked at once.
-pub fn carriers_agree(view: &View) -> bool
+/// Whether the offers under the room at a place go on with one key.
+fn agrees(view: &View, place: usize, key: LimitKey) -> bool
+    requires { IfSome (slice_get view.now.rooms place) (λ r. r.key ≡ key) × (place < length view.now.rooms) }
+    ensures { IfSome (slice_get view.now.rooms place) (λ r. result ≡ room_agrees view.now.offers r) }
+{
+    match behind(key) {
+        Some(depth) => have_one_key(view.offers(), depth, view.members(place)),
+        None => true,
+    }
+}
+
+/// Whether offers of one account have one carrying key, and those of one carrying firm one guarantor's, or none has one. Of
+/// whole paths each is looked at twice.
+pub fn keys_agree(view: &View) -> bool
     ensures { result ≡ list_all (room_agrees view.now.offers) view.now.rooms }
 {
     for (place, room) in view.rooms().iter().enumerate() {
-        if is_account(room.key) && !have_one_carrier(view.offers(), view.members(place)) {
+        if !agrees(view, place, room.key) {
             return false;
         }
     }

@@ -8,7 +8,7 @@ ghost use Rattle.gu_view.specs.View.{IsView, IsNested, place_of, places_under};
 use crate::error::ViewError;
 use crate::making::{all_places, bad_offer, first_mentions, path_differs, rooms_in_order};
 use crate::members::all_members;
-use crate::nesting::{are_whole, carriers_agree};
+use crate::nesting::{are_whole, keys_agree};
 use crate::place_lists::PlaceLists;
 use gu_terms::{AgreementId, Group, LimitKey, OfferNo, Path};
 use indexmap::IndexSet;
@@ -177,11 +177,12 @@ impl View {
         self.keys.get_index_of(&key)
     }
 
-    /// Whether each path is whole, and offers of one account have one carrying firm. It takes no memory.
+    /// Whether each path is whole, offers of one account have one carrying firm, and those of one carrying firm one
+    /// guarantor, or none has one. It takes no memory.
     pub fn nested(&self) -> bool
         ensures { IsTrue result ↔ IsNested self.now }
     {
-        are_whole(&self.offers) && carriers_agree(self)
+        are_whole(&self.offers) && keys_agree(self)
     }
 
     /// Whether two views show the same. It takes no memory.

@@ -1,6 +1,8 @@
 //! Takes and a cut of a view, and the line that a check of them answers.
 
-use crate::fixture::{CROSSED, EMPTY, SHARED, sheet};
+use crate::fixture::{
+    CROSSED, EMPTY, GUARANTEED, MIXED, SHARED, UNDER_ONE_GUARANTOR, WITHOUT_THE_LIMIT, sheet,
+};
 use gu_text::verdict_text;
 use gu_view::check;
 use std::alloc::Global;
@@ -106,6 +108,39 @@ fn name_the_first_fault_or_the_lots_taken(rt: HostRuntime) -> Result<(), Fail> {
             FOUR,
             "TAKE 2 10\nTAKE 3 10\nTAKE 4 0\nCUT EXEC E1\nCUT ACCT A1\nCUT AGR P4\n",
             "OK 20\n",
+        ),
+        // A guarantor's room bounds all that its firms carry, and one key of the cut covers them.
+        (GUARANTEED, "TAKE 1 4\nCUT GUAR E2\n", "OK 4\n"),
+        (
+            GUARANTEED,
+            "TAKE 1 5\nCUT GUAR E2\n",
+            "FAULT 2 OverLimit GUAR E2\n",
+        ),
+        (WITHOUT_THE_LIMIT, "TAKE 1 0\nCUT GUAR E2\n", "OK 0\n"),
+        (
+            UNDER_ONE_GUARANTOR,
+            "TAKE 1 8\nTAKE 2 2\nCUT GUAR E2\n",
+            "OK 10\n",
+        ),
+        (
+            UNDER_ONE_GUARANTOR,
+            "TAKE 1 8\nTAKE 2 8\nCUT CARRY C1\nCUT CARRY C2\n",
+            "FAULT 2 OverLimit GUAR E2\n",
+        ),
+        (
+            MIXED,
+            "TAKE 1 3\nTAKE 2 8\nCUT GUAR E2\nCUT CARRY C2\n",
+            "OK 11\n",
+        ),
+        (
+            MIXED,
+            "TAKE 1 3\nTAKE 2 8\nCUT GUAR E2\n",
+            "FAULT 3 Uncovered 2\n",
+        ),
+        (
+            CROSSED,
+            "TAKE 2 10\nTAKE 3 10\nCUT GUAR E2\n",
+            "FAULT 5 Unknown GUAR E2\n",
         ),
         // No offers.
         (EMPTY, "", "OK 0\n"),

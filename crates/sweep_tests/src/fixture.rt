@@ -7,8 +7,15 @@ use gu_view::{Offer, Room, View, ViewError};
 use std::alloc::{AllocError, Global};
 use std::process::Abort;
 
-/// An offer: number, lots, agreement, and its path: executing firm, agreement, account, carrying firm.
-pub(crate) type OfferLine = (u64, u64, &'static str, [&'static str; 4]);
+/// An offer: number, lots, agreement, its path (executing firm, agreement, account, carrying firm), and the carrying firm's
+/// guarantor, where it has one.
+pub(crate) type OfferLine = (
+    u64,
+    u64,
+    &'static str,
+    [&'static str; 4],
+    Option<&'static str>,
+);
 
 /// A room: the kind and the name of its key, and its lots.
 pub(crate) type RoomLine = (&'static str, &'static str, u64);
@@ -51,6 +58,56 @@ ROOM CARRY C1 100
 ROOM CARRY C2 100
 ";
 
+/// The view of an offer whose carrying firm has a guarantor, with room for it everywhere but under the guarantor.
+pub(crate) const GUARANTEED: &str = "SHEET G1 7
+OFFER 1 10 P1 E1 A1 C1 E2
+ROOM EXEC E1 100
+ROOM AGR P1 100
+ROOM ACCT A1 100
+ROOM CARRY C1 100
+ROOM GUAR E2 4
+";
+
+/// The same offer, where no limit was set for the guarantor.
+pub(crate) const WITHOUT_THE_LIMIT: &str = "SHEET G1 6
+OFFER 1 10 P1 E1 A1 C1 E2
+ROOM EXEC E1 100
+ROOM AGR P1 100
+ROOM ACCT A1 100
+ROOM CARRY C1 100
+ROOM GUAR E2 0
+";
+
+/// The view of two carrying firms under one guarantor.
+pub(crate) const UNDER_ONE_GUARANTOR: &str = "SHEET G1 12
+OFFER 1 10 P1 E1 A1 C1 E2
+OFFER 2 10 P4 E2 A3 C2 E2
+ROOM EXEC E1 100
+ROOM AGR P1 100
+ROOM ACCT A1 100
+ROOM CARRY C1 8
+ROOM GUAR E2 10
+ROOM EXEC E2 100
+ROOM AGR P4 100
+ROOM ACCT A3 100
+ROOM CARRY C2 8
+";
+
+/// The view of two carrying firms, of which the first alone has a guarantor.
+pub(crate) const MIXED: &str = "SHEET G1 0
+OFFER 1 10 P1 E1 A1 C1 E2
+OFFER 2 10 P4 E2 A3 C2
+ROOM EXEC E1 100
+ROOM AGR P1 100
+ROOM ACCT A1 100
+ROOM CARRY C1 8
+ROOM GUAR E2 3
+ROOM EXEC E2 100
+ROOM AGR P4 100
+ROOM ACCT A3 100
+ROOM CARRY C2 8
+";
+
 /// The view of no offers.
 pub(crate) const EMPTY: &str = "SHEET G1 0\n";
 
@@ -87,20 +144,31 @@ pub(crate) fn key(kind: &str, name: &str) -> Option<LimitKey> {
     LimitKey::of(kind.as_bytes(), Name::new(name.as_bytes())?)
 }
 
+/// The firm of a name, where there is one.
+fn firm(name: Option<&str>) -> Option<Option<FirmId>> {
+    match name {
+        Some(name) => Some(Some(FirmId::new(name.as_bytes())?)),
+        None => Some(None),
+    }
+}
+
 /// The path of these names.
-fn path([executing, agreement, account, carrying]: [&str; 4]) -> Option<Path> {
+fn path(
+    [executing, agreement, account, carrying]: [&str; 4],
+    guarantor: Option<&str>,
+) -> Option<Path> {
     Some(Path::new(
         FirmId::new(executing.as_bytes())?,
         AgreementId::new(agreement.as_bytes())?,
         AccountId::new(account.as_bytes())?,
         FirmId::new(carrying.as_bytes())?,
-        None,
+        firm(guarantor)?,
     ))
 }
 
 /// The offer of a line.
 fn offer(line: &OfferLine) -> Option<Offer> {
-    let path = path(line.3)?;
+    let path = path(line.3, line.4)?;
     Some(Offer {
         number: OfferNo::new(line.0)?,
         lots: line.1,

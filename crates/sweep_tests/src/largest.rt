@@ -22,12 +22,12 @@ fn numbered(alloc: Global, line: &str, most: u64) -> Option<String> {
     Some(text)
 }
 
-/// The view of so many offers, each of its own agreement, into its own account, under its own firms.
+/// The view of so many offers, each of its own agreement, into its own account, under its own firms, the guarantor among them.
 fn apart(alloc: Global, most: u64) -> Option<String> {
-    let offers = numbered(alloc, "OFFER # 1 P# E# A# C#\n", most)?;
+    let offers = numbered(alloc, "OFFER # 1 P# E# A# C# F#\n", most)?;
     let rooms = numbered(
         alloc,
-        "ROOM EXEC E# 1\nROOM AGR P# 1\nROOM ACCT A# 1\nROOM CARRY C# 1\n",
+        "ROOM EXEC E# 1\nROOM AGR P# 1\nROOM ACCT A# 1\nROOM CARRY C# 1\nROOM GUAR F# 1\n",
         most,
     )?;
     format!(in alloc; "SHEET G1 0\n{offers}{rooms}").ok()
@@ -77,9 +77,9 @@ fn bad_line(alloc: Global, offers: u64) -> Option<u64> {
 
 #[test]
 fn sheet_of_4097_offers_is_bad_at_its_end(rt: HostRuntime) -> Result<(), Fail> {
-    // SHEET, 4,097 offers with four rooms each, END.
+    // SHEET, 4,097 offers with five rooms each, END.
     assert_eq!(rt; bad_line(rt.alloc(), MOST), None);
-    assert_eq!(rt; bad_line(rt.alloc(), MOST + 1), Some(20_487));
+    assert_eq!(rt; bad_line(rt.alloc(), MOST + 1), Some(24_584));
     Ok(())
 }
 

@@ -10,8 +10,8 @@ use std::test::Fail;
 
 /// The offers and rooms of one agreement.
 const OFFERS: [OfferLine; 2] = [
-    (1, 5, "P1", ["E1", "P1", "A1", "C1"]),
-    (2, 5, "P1", ["E1", "P1", "A1", "C1"]),
+    (1, 5, "P1", ["E1", "P1", "A1", "C1"], None),
+    (2, 5, "P1", ["E1", "P1", "A1", "C1"], None),
 ];
 
 const ROOMS: [RoomLine; 4] = [

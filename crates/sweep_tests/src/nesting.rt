@@ -1,6 +1,8 @@
 //! Which views are nested.
 
-use crate::fixture::{CROSSED, EMPTY, UNDER_TWO_FIRMS, key, rooms, view};
+use crate::fixture::{
+    CROSSED, EMPTY, MIXED, UNDER_ONE_GUARANTOR, UNDER_TWO_FIRMS, key, rooms, view,
+};
 use gu_terms::{AgreementId, Group, OfferNo, Path};
 use gu_view::{Offer, View};
 use std::alloc::Global;
@@ -14,6 +16,46 @@ fn is_nested(alloc: Global, text: &str) -> Option<bool> {
 #[test]
 fn stands_where_an_account_has_one_carrying_firm(rt: HostRuntime) -> Result<(), Fail> {
     for (text, nested) in [(CROSSED, true), (UNDER_TWO_FIRMS, false), (EMPTY, true)] {
+        assert_eq!(rt; is_nested(rt.alloc(), text), Some(nested), "{text}");
+    }
+    Ok(())
+}
+
+/// The view of one carrying firm under two guarantors.
+const UNDER_TWO_GUARANTORS: &str = "SHEET G1 0
+OFFER 1 5 P1 E1 A1 C1 E2
+OFFER 2 5 P2 E1 A2 C1 C2
+ROOM EXEC E1 100
+ROOM AGR P1 100
+ROOM AGR P2 100
+ROOM ACCT A1 100
+ROOM ACCT A2 100
+ROOM CARRY C1 100
+ROOM GUAR E2 100
+ROOM GUAR C2 100
+";
+
+/// The view of one carrying firm that has a guarantor on one path alone.
+const GUARANTEED_ONCE: &str = "SHEET G1 0
+OFFER 1 5 P1 E1 A1 C1
+OFFER 2 5 P2 E1 A2 C1 E2
+ROOM EXEC E1 100
+ROOM AGR P1 100
+ROOM AGR P2 100
+ROOM ACCT A1 100
+ROOM ACCT A2 100
+ROOM CARRY C1 100
+ROOM GUAR E2 100
+";
+
+#[test]
+fn stands_where_a_carrying_firm_has_one_guarantor_or_none(rt: HostRuntime) -> Result<(), Fail> {
+    for (text, nested) in [
+        (UNDER_ONE_GUARANTOR, true),
+        (MIXED, true),
+        (UNDER_TWO_GUARANTORS, false),
+        (GUARANTEED_ONCE, false),
+    ] {
         assert_eq!(rt; is_nested(rt.alloc(), text), Some(nested), "{text}");
     }
     Ok(())

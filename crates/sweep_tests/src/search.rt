@@ -11,14 +11,19 @@ const FIRMS: [&str; 2] = ["E1", "E2"];
 
 const ACCOUNTS: [&str; 3] = ["A1", "A2", "A3"];
 
-/// The firms that carry these accounts.
-const CARRIERS: [&str; 3] = ["C1", "C2", "C1"];
+const CARRYING: [&str; 2] = ["C1", "C2"];
+
+/// The places of the firms that carry these accounts.
+const CARRIERS: [usize; 3] = [0, 1, 0];
+
+/// The guarantor of a carrying firm.
+type Guarantor = Option<&'static str>;
 
 /// The agreements of each firm with each account.
 const AGREEMENTS: [[&str; 3]; 2] = [["P1", "P2", "P3"], ["P4", "P5", "P6"]];
 
 /// The keys that offers may come under.
-const KEYS: [(&str, &str); 13] = [
+const KEYS: [(&str, &str); 15] = [
     ("EXEC", "E1"),
     ("EXEC", "E2"),
     ("AGR", "P1"),
@@ -32,6 +37,16 @@ const KEYS: [(&str, &str); 13] = [
     ("ACCT", "A3"),
     ("CARRY", "C1"),
     ("CARRY", "C2"),
+    ("GUAR", "F1"),
+    ("GUAR", "F2"),
+];
+
+/// The guarantors of both carrying firms, turn by turn.
+const GUARANTORS: [[Guarantor; 2]; 4] = [
+    [None, None],
+    [Some("F1"), None],
+    [Some("F1"), Some("F1")],
+    [Some("F1"), Some("F2")],
 ];
 
 /// The next number of a series, and a part of it below a bound.
@@ -46,26 +61,32 @@ fn draw(seed: &mut u64, below: u64) -> u64
 }
 
 /// An offer of one to four lots.
-fn draw_offer(seed: &mut u64, number: u64) -> OfferLine {
+fn draw_offer(seed: &mut u64, number: u64, guarantors: &[Guarantor; 2]) -> OfferLine {
     let firm = draw(seed, 2) as usize;
     let account = draw(seed, 3) as usize;
     let agreement = AGREEMENTS[firm][account];
-    let path = [FIRMS[firm], agreement, ACCOUNTS[account], CARRIERS[account]];
-    (number, draw(seed, 4) + 1, agreement, path)
+    let carrier = CARRIERS[account];
+    let path = [FIRMS[firm], agreement, ACCOUNTS[account], CARRYING[carrier]];
+    let lots = draw(seed, 4) + 1;
+    (number, lots, agreement, path, guarantors[carrier])
 }
 
 /// One to five offers.
-fn draw_offers(alloc: Global, seed: &mut u64) -> Option<Vec<OfferLine>> {
+fn draw_offers(
+    alloc: Global,
+    seed: &mut u64,
+    guarantors: &[Guarantor; 2],
+) -> Option<Vec<OfferLine>> {
     let mut offers = Vec::new(alloc);
     for number in 1..=draw(seed, 5) + 1 {
-        offers.push(draw_offer(seed, number)).ok()?;
+        offers.push(draw_offer(seed, number, guarantors)).ok()?;
     }
     Some(offers)
 }
 
 /// Whether an offer comes under a key with this name: no two kinds have a name in common.
 fn is_under(offer: &OfferLine, name: &str) -> bool {
-    offer.3.contains(&name)
+    offer.3.contains(&name) || offer.4 == Some(name)
 }
 
 /// A room of 0 to 7 lots for each key of an offer.
@@ -151,7 +172,8 @@ fn proposed(
 fn finds_no_admissible_lots_that_are_more(rt: HostRuntime) -> Result<(), Fail> {
     let mut seed = 20_260_105;
     for turn in 0..60 {
-        let offers = draw_offers(rt.alloc(), &mut seed).ok_or("offers")?;
+        let guarantors = &GUARANTORS[turn % 4];
+        let offers = draw_offers(rt.alloc(), &mut seed, guarantors).ok_or("offers")?;
         let rooms = draw_rooms(rt.alloc(), &offers, &mut seed).ok_or("rooms")?;
         let lots = proposed(&rt, rt.alloc(), &offers, &rooms);
         assert_eq!(rt; lots, Some(most(&offers, &rooms)), "in turn {turn}");

@@ -1,9 +1,9 @@
 //! Texts that are sheets, and texts that aren't.
 
-use crate::fixture::{SHARED, sheet};
+use crate::fixture::{MIXED, SHARED, UNDER_ONE_GUARANTOR, sheet};
 use gu_terms::{LimitKey, Take};
 use gu_text::{Sheet, SheetError};
-use gu_view::Room;
+use gu_view::{Room, View};
 use std::alloc::Global;
 use std::test::Fail;
 
@@ -76,7 +76,10 @@ fn name_their_first_bad_line(rt: HostRuntime) -> Result<(), Fail> {
         ("SHEET G1 0\nEND END\n", 2),
         ("SHEET G1\nEND\n", 1),
         ("SHEET G1 0 0\nEND\n", 1),
-        ("SHEET G1 0\nOFFER 1 5 P1 E1 A1 C1 C2\nEND\n", 2),
+        ("SHEET G1 0\nOFFER 1 5 P1 E1 A1\nEND\n", 2),
+        ("SHEET G1 0\nOFFER 1 5 P1 E1 A1 C1 C2\nEND\n", 3),
+        ("SHEET G1 0\nOFFER 1 5 P1 E1 A1 C1 C2 C2\nEND\n", 2),
+        ("SHEET G1 0\nOFFER 1 5 P1 E1 A1 C1 c2\nEND\n", 2),
         ("SHEET G1 0\nROOM GUARD E2 5\nEND\n", 2),
         // Names and numbers.
         ("SHEET g1 0\nEND\n", 1),
@@ -146,5 +149,36 @@ fn may_have_the_lines_of_a_part_in_any_order(rt: HostRuntime) -> Result<(), Fail
                 && stand_as_read(sheet.cut.keys())
         })
     );
+    Ok(())
+}
+
+/// The kinds of the keys on the paths of a view, offer by offer.
+fn have_kinds(view: &View, paths: [&[&str]; 2]) -> bool {
+    view.offers().len() == 2
+        && view.offers().iter().zip(paths).all(|(offer, kinds)| {
+            let keys = offer.path.keys();
+            keys.len() == kinds.len()
+                && keys
+                    .iter()
+                    .zip(kinds)
+                    .all(|(key, kind)| key.kind() == *kind)
+        })
+}
+
+#[test]
+fn name_a_guarantor_where_there_is_one(rt: HostRuntime) -> Result<(), Fail> {
+    let four = ["EXEC", "AGR", "ACCT", "CARRY"].as_slice();
+    let five = ["EXEC", "AGR", "ACCT", "CARRY", "GUAR"].as_slice();
+    for (text, paths) in [
+        (SHARED, [four, four]),
+        (MIXED, [five, four]),
+        (UNDER_ONE_GUARANTOR, [five, five]),
+    ] {
+        let sheet = sheet(rt.alloc(), text, "");
+        assert!(rt;
+            sheet.is_some_and(|sheet| have_kinds(&sheet.view, paths)),
+            "{text}"
+        );
+    }
     Ok(())
 }

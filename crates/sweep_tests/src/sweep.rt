@@ -1,6 +1,9 @@
 //! Proposals whose takes and cuts are known.
 
-use crate::fixture::{CROSSED, EMPTY, SHARED, key, proposal, view};
+use crate::fixture::{
+    CROSSED, EMPTY, GUARANTEED, MIXED, SHARED, UNDER_ONE_GUARANTOR, WITHOUT_THE_LIMIT, key,
+    proposal, view,
+};
 use gu_flow::Proposal;
 use gu_terms::{Cut, Take};
 use std::alloc::Global;
@@ -61,6 +64,27 @@ fn takes_what_greedy_misses_and_shows_why_no_more(rt: HostRuntime) -> Result<(),
             0,
         ),
         (SHARED, 7, [5, 2].as_slice(), [("AGR", "P1")].as_slice(), 0),
+        (
+            GUARANTEED,
+            4,
+            [4].as_slice(),
+            [("GUAR", "E2")].as_slice(),
+            0,
+        ),
+        (
+            WITHOUT_THE_LIMIT,
+            0,
+            [0].as_slice(),
+            [("GUAR", "E2")].as_slice(),
+            0,
+        ),
+        (
+            MIXED,
+            11,
+            [3, 8].as_slice(),
+            [("GUAR", "E2"), ("CARRY", "C2")].as_slice(),
+            0,
+        ),
         (EMPTY, 0, [].as_slice(), [].as_slice(), 0),
     ] {
         let proposal = proposed(&rt, rt.alloc(), text);
@@ -82,6 +106,23 @@ fn stays_within_the_carrying_firm(rt: HostRuntime) -> Result<(), Fail> {
     assert!(rt;
         narrow.is_some_and(|proposal| {
             proposal.lots() == 13 && has(proposal.cut(), &[("CARRY", "C1")], 0)
+        })
+    );
+    Ok(())
+}
+
+#[test]
+fn stays_within_the_guarantor_of_two_carrying_firms(rt: HostRuntime) -> Result<(), Fail> {
+    let two = proposed(&rt, rt.alloc(), UNDER_ONE_GUARANTOR);
+    assert!(rt;
+        two.is_some_and(|proposal| {
+            proposal.lots() == 10
+                && proposal
+                    .takes()
+                    .as_slice()
+                    .iter()
+                    .all(|take| take.lots <= 8)
+                && has(proposal.cut(), &[("GUAR", "E2")], 0)
         })
     );
     Ok(())

@@ -62,6 +62,8 @@ fn name_the_key_at_fault(rt: HostRuntime) -> Result<(), Fail> {
         (lacking("EXEC", "E2"), "FAULT 5 Unknown EXEC E2\n"),
         (lacking("AGR", "P4"), "FAULT 5 Unknown AGR P4\n"),
         (lacking("ACCT", "A-3"), "FAULT 5 Unknown ACCT A-3\n"),
+        (lacking("GUAR", "E2"), "FAULT 5 Unknown GUAR E2\n"),
+        (over("GUAR", "E2"), "FAULT 2 OverLimit GUAR E2\n"),
         (
             over("CARRY", "ABCDEFGHIJKL"),
             "FAULT 2 OverLimit CARRY ABCDEFGHIJKL\n",

@@ -10,20 +10,20 @@ use std::test::Fail;
 type RefusedLine = (&'static [OfferLine], &'static [RoomLine], &'static str, u64);
 
 const DESCENDING: [OfferLine; 2] = [
-    (2, 5, "P1", ["E1", "P1", "A1", "C1"]),
-    (1, 5, "P1", ["E1", "P1", "A1", "C1"]),
+    (2, 5, "P1", ["E1", "P1", "A1", "C1"], None),
+    (1, 5, "P1", ["E1", "P1", "A1", "C1"], None),
 ];
 
-const OF_NO_LOTS: [OfferLine; 1] = [(1, 0, "P1", ["E1", "P1", "A1", "C1"])];
+const OF_NO_LOTS: [OfferLine; 1] = [(1, 0, "P1", ["E1", "P1", "A1", "C1"], None)];
 
 const OF_TWO_PATHS: [OfferLine; 2] = [
-    (1, 5, "P1", ["E1", "P1", "A1", "C1"]),
-    (2, 5, "P1", ["E1", "P1", "A2", "C1"]),
+    (1, 5, "P1", ["E1", "P1", "A1", "C1"], None),
+    (2, 5, "P1", ["E1", "P1", "A2", "C1"], None),
 ];
 
-const OF_ANOTHER_AGREEMENT: [OfferLine; 1] = [(1, 5, "P1", ["E1", "P2", "A1", "C1"])];
+const OF_ANOTHER_AGREEMENT: [OfferLine; 1] = [(1, 5, "P1", ["E1", "P2", "A1", "C1"], None)];
 
-const ALONE: [OfferLine; 1] = [(1, 5, "P1", ["E1", "P1", "A1", "C1"])];
+const ALONE: [OfferLine; 1] = [(1, 5, "P1", ["E1", "P1", "A1", "C1"], None)];
 
 const THREE_ROOMS: [RoomLine; 3] = [("EXEC", "E1", 100), ("AGR", "P1", 100), ("ACCT", "A1", 100)];
 

@@ -6,8 +6,8 @@ use Rattle.gu_view.proofs.view.View.nested.Goals as goal
 pub returns-then-are_whole : goal.returns-then-are_whole
 returns-then-are_whole c =
     rw (← c.self.view_is) (
-      λ agree. nested_from _ c.self.invariant.sound (rw c.deref.ensures.value at (sym c.are_whole.ensures ∙ c.if-are_whole.true)) (rw (← c.self.view_is) at (sym c.carriers_agree.ensures ∙ agree)),
-      λ nested. rw (← c.self.view_is) at c.carriers_agree.ensures ∙ rooms_agree _ nested,
+      λ agree. nested_from _ c.self.invariant.sound (rw c.deref.ensures.value at (sym c.are_whole.ensures ∙ c.if-are_whole.true)) (rw (← c.self.view_is) at (sym c.keys_agree.ensures ∙ agree)),
+      λ nested. rw (← c.self.view_is) at c.keys_agree.ensures ∙ rooms_agree _ nested,
     )
 
 pub returns-else-are_whole : goal.returns-else-are_whole
