@@ -2,6 +2,7 @@ pub mod Cuts
 pub mod Days
 pub mod Histories
 pub mod LimitKeys
+pub mod Lines
 pub mod Names
 pub mod NumberText
 pub mod Numbers

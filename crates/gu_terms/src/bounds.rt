@@ -6,6 +6,9 @@ pub const MOST_LOTS: u64 = 1_000_000;
 /// The lots that a daily limit may have at most, and so the room under one.
 pub const MOST_LIMIT: u64 = 1_000_000_000;
 
+/// The lines that a give-up has at most.
+pub const MOST_LINES: usize = 16;
+
 /// The highest number of an offer, over the whole book: sixteen an entry.
 pub const MOST_OFFERS: u64 = 16_000_000;
 

@@ -1,0 +1,95 @@
+//! The lines of a give-up.
+
+ghost use Rattle.std.specs.Prelude.{◌≡◌, ◌↔◌, ◌≤◌, length, sum_by, IsSome, IfSome, IfOk};
+ghost use Rattle.std.specs.Cmp.{partial_equiv_from_equiv};
+ghost use Rattle.std.specs.Cmp.Lexicographic.{pointwise};
+ghost use Rattle.std.proofs.lemmas.Cmp.{lists_equiv};
+ghost use Rattle.gu_terms.specs.Lines.{AreLines, lots_in_all};
+ghost use Rattle.gu_terms.specs.contracts.lines.LineEq.TheImpl.Laws.{laws-law as lines_equiv};
+
+use crate::account::AccountId;
+use crate::bounds::MOST_LINES;
+use crate::lots::Lots;
+use std::alloc::AllocError;
+use std::marker::Model;
+
+/// A part of a give-up: an account, and the lots that it is to take up.
+#[derive(Clone, Copy, Debug, PartialEq, Eq)]
+pub struct Line {
+    pub account: AccountId,
+    pub lots: Lots,
+}
+
+/// The lines of a give-up, 1 to 16. An account may have several. To a contract it is their list.
+#[derive(Debug, Drop)]
+pub struct Lines {
+    list: Vec<Line>,
+}
+
+impl Model for Lines {
+    ghost use Rattle.std.specs.Prelude.{List};
+    ghost use Rattle.gu_terms.specs.Lines.{AreLines};
+    ghost use Rattle.gu_terms.specs.declared.lines.Line.{Line};
+
+    ghost Value = { List Line };
+
+    ghost view = { λ l. l.list.items };
+
+    ghost invariant = { λ l. AreLines l.list.items };
+}
+
+impl Lines {
+    /// These lines, where they are 1 to 16.
+    pub fn new(list: Vec<Line>) -> Option<Self>
+        ensures sound { IsSome result ↔ AreLines list.items }
+        ensures same { IfSome result (λ lines. lines ≡ list.items) }
+    {
+        if list.is_empty() || list.len() > MOST_LINES {
+            return None;
+        }
+        Some(Lines { list })
+    }
+
+    /// The lines, in order.
+    pub fn as_slice(&self) -> &[Line]
+        ensures lines { result.now ≡ self.now }
+        ensures sound { AreLines self.now }
+    {
+        self.list.as_slice()
+    }
+
+    /// The lots of all lines.
+    pub fn lots(&self) -> u64
+        ensures lots { result ≡ lots_in_all self.now }
+        ensures most { result ≤ 16000000 }
+    {
+        let mut total = 0;
+        for line in &self.list {
+            total += line.lots.get();
+        }
+        total
+    }
+
+    /// A copy.
+    pub fn copy(&self) -> Result<Lines, AllocError>
+        ensures { IfOk result (λ lines. lines ≡ self.now) }
+    {
+        let list = self.list.clone()?;
+        Ok(Lines { list })
+    }
+}
+
+// Two lists of lines are equal where their lines are, in order.
+impl PartialEq for Lines {
+    ghost eq = { pointwise ⟦<Line as PartialEq>⟧.eq };
+
+    ghost laws = { partial_equiv_from_equiv (lists_equiv lines_equiv) };
+
+    fn eq(&self, other: &Self) -> bool {
+        self.as_slice() == other.as_slice()
+    }
+}
+
+impl Eq for Lines {
+    ghost laws = { lists_equiv lines_equiv };
+}

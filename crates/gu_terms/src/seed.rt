@@ -1,0 +1,29 @@
+//! Seeds of tables.
+
+use std::hash::{BuildHasher, FoldHasher, Hasher};
+
+/// What a table's hasher begins with, so that nobody who doesn't know it can choose ids that fall together. What a table
+/// holds doesn't depend on it.
+#[derive(Clone, Copy)]
+pub struct Seed {
+    begun: FoldHasher,
+}
+
+impl Seed {
+    /// The seed of this number.
+    pub fn new(number: u64) -> Self {
+        let mut begun = FoldHasher::default();
+        begun.write_u64(number);
+        Seed { begun }
+    }
+}
+
+impl BuildHasher for Seed {
+    type Hasher = FoldHasher;
+
+    ghost build_hasher = { λ seed. seed.begun };
+
+    fn build_hasher(&self) -> FoldHasher {
+        self.begun
+    }
+}
