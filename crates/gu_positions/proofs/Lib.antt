@@ -1,0 +1,5 @@
+pub mod Adding
+pub mod Changed
+pub mod KeptLots
+pub mod OneRowMore
+pub mod Places

@@ -1,0 +1,138 @@
+-- An empty row that is new goes last, and changes no answer.
+use Rattle.std.proofs.Common.{◌≡◌, ◌∙◌, sym, refl, ap, subst, ℕ, ◌-◌, ◌<◌, ◌^◌, Bool, true, false, cond, ◌&&◌, ◌||◌, List, [], ◌∷◌, ◌++◌, map, Option, Some, None, is_some, unwrap_or, arith, if◌then◌else◌}
+use Rattle.std.specs.List.{AllByRecursion, IsDistinct, find, sum_by}
+use Rattle.std.specs.Option.{option_map_or}
+use Rattle.std.proofs.lemmas.List.{map-append}
+use Rattle.std.proofs.lemmas.List.Folds.{list_any-append}
+use Rattle.std.proofs.lemmas.List.Sums.{sum_by-append, sum_by-cons}
+use Rattle.std.proofs.lemmas.Cmp.{nat_list_eq_equiv}
+use Rattle.indexmap.specs.IndexMap.{get, insert_entry}
+use Rattle.indexmap.proofs.CallerLemmas.{insert_entry-new}
+use Rattle.gu_terms.specs.declared.account.AccountId.{AccountId}
+use Rattle.gu_terms.specs.declared.side.Side.{Side}
+use Rattle.gu_terms.specs.declared.side.Side.TheVariants.{Buy, Sell}
+use Rattle.gu_terms.specs.declared.symbol.Symbol.{Symbol}
+use Rattle.gu_terms.specs.Same.{same_symbol}
+use Rattle.gu_positions.specs.declared.holding.Holding.{Holding}
+use Rattle.gu_positions.specs.declared.positions.Place.{Place}
+use Rattle.gu_positions.specs.declared.positions.Positions.TheInside.{Inside}
+use Rattle.gu_positions.specs.Changes.{KeepsLots, empty_row, same_place}
+use Rattle.gu_positions.specs.Kept.{IsKept, row_of, rows_of, same_key}
+use Rattle.gu_positions.specs.Rows.{Row, has_row, is_of, lots_in, lots_of, lots_on, open_interest_in, same_row}
+use Rattle.gu_positions.proofs.KeptLots.{has_row-lookup}
+use Rattle.gu_positions.proofs.Places.{same_place-true, same_symbol-own}
+
+-- two places are one whichever is named first
+pub same_place-sym : (a : AccountId) (s : Symbol) (b : AccountId) (t : Symbol) → same_place a s b t ≡ same_place b t a s
+same_place-sym a s b t = λ i. nat_list_eq_equiv.symm a.name b.name i && nat_list_eq_equiv.symm s.name t.name i
+
+or_neither : (p : Bool) → (p || false) ≡ p
+or_neither true = refl
+or_neither false = refl
+
+neither : (p q : Bool) → (p || q) ≡ false → (p ≡ false) × (q ≡ false)
+neither true q h = cc
+neither false true h = cc
+neither false false h = (refl, refl)
+
+either : (p q : Bool) → q ≡ true → (p || q) ≡ true
+either true q h = refl
+either false q h = h
+
+none : {X : Type 0} (o : Option X) → is_some o ≡ false → o ≡ None
+none None h = refl
+none (Some x) h = cc
+
+module _ (account : AccountId) (symbol : Symbol) where
+  no_lots : (t : Side) → lots_of t (empty_row account symbol) ≡ 0
+  no_lots Buy = refl
+  no_lots Sell = refl
+
+  -- the row is there
+  pub has_row-one_more : (rows : List Row) (a : AccountId) (s : Symbol)
+      → has_row (rows ++ empty_row account symbol ∷ []) a s ≡ (has_row rows a s || same_place a s account symbol)
+  has_row-one_more rows a s =
+      list_any-append (is_of a s) rows (empty_row account symbol ∷ []) ∙ ap (λ b. has_row rows a s || b) (or_neither (same_place a s account symbol))
+
+  -- the lots of each account are what they were
+  pub lots_in-one_more : (rows : List Row) (t : Side) (a : AccountId) (s : Symbol) → lots_in (rows ++ empty_row account symbol ∷ []) t a s ≡ lots_in rows t a s
+  lots_in-one_more [] t a s = by (same_place a s account symbol)
+    where
+      by : (b : Bool) → option_map_or (lots_of t) (cond b (Some (empty_row account symbol)) None) 0 ≡ 0
+      by true = no_lots t
+      by false = refl
+  lots_in-one_more (r ∷ rows) t a s = by (is_of a s r) (lots_in-one_more rows t a s)
+    where
+      by : (b : Bool) → lots_in (rows ++ empty_row account symbol ∷ []) t a s ≡ lots_in rows t a s
+          → option_map_or (lots_of t) (cond b (Some r) (find (is_of a s) (rows ++ empty_row account symbol ∷ []))) 0 ≡ option_map_or (lots_of t) (cond b (Some r) (find (is_of a s) rows)) 0
+      by true rest = refl
+      by false rest = rest
+
+  nothing : (b : Bool) (n : ℕ) → n ≡ 0 → (if b then n else 0) ≡ 0
+  nothing true n e = e
+  nothing false n e = refl
+
+  sum-one_more : (f : Row → ℕ) (rows : List Row) → f (empty_row account symbol) ≡ 0 → sum_by f (rows ++ empty_row account symbol ∷ []) ≡ sum_by f rows
+  sum-one_more f rows e = omega (arith, sum_by-append f rows (empty_row account symbol ∷ []), sum_by-cons f (empty_row account symbol) [], e)
+
+  -- no answer changes
+  pub keeps_lots-one_more : (rows : List Row) → KeepsLots rows (rows ++ empty_row account symbol ∷ [])
+  keeps_lots-one_more rows = record {
+    lots = λ t a s. lots_in-one_more rows t a s;
+    sums = λ t s. sum-one_more (λ r. if same_symbol r.symbol s then lots_of t r else 0) rows (nothing (same_symbol symbol s) _ (no_lots t));
+    interest = λ s. sum-one_more (λ r. if same_symbol r.symbol s then r.long - r.short else 0) rows (nothing (same_symbol symbol s) _ refl);
+  }
+
+  apart-one_more : (x : Row) (rows : List Row) → is_of account symbol x ≡ false → AllByRecursion (λ r. same_row x r ≡ false) rows
+      → AllByRecursion (λ r. same_row x r ≡ false) (rows ++ empty_row account symbol ∷ [])
+  apart-one_more x [] new apart = (same_place-sym x.account x.symbol account symbol ∙ new, tt)
+  apart-one_more x (r ∷ rows) new apart = (apart.0, apart-one_more x rows new apart.1)
+
+  -- no row is there twice
+  pub distinct-one_more : (rows : List Row) → has_row rows account symbol ≡ false → IsDistinct same_row rows → IsDistinct same_row (rows ++ empty_row account symbol ∷ [])
+  unfolding IsDistinct
+  distinct-one_more [] new once = (tt, tt)
+  distinct-one_more (r ∷ rows) new once =
+      let p = neither (is_of account symbol r) (has_row rows account symbol) new in
+      (apart-one_more r rows p.0 once.0, distinct-one_more rows p.1 once.1)
+
+implied : (p q : Bool) → (q ≡ true → p ≡ true) → p ≡ (p || q)
+implied true q h = refl
+implied false true h = h refl
+implied false false h = refl
+
+-- a row that is there is no further one
+pub has_row-present : (rows : List Row) (account : AccountId) (symbol : Symbol) → has_row rows account symbol ≡ true
+    → (a : AccountId) (s : Symbol) → has_row rows a s ≡ (has_row rows a s || same_place a s account symbol)
+has_row-present rows account symbol there a s =
+    implied (has_row rows a s) (same_place a s account symbol)
+    (λ same. let one = same_place-true a s account symbol same in (λ i. has_row rows (one.0 i) (one.1 i)) ∙ there)
+
+-- after an empty row is put last and its instrument has an open interest
+pub kept-one_more : (old new : Inside) (place : Place) → IsKept old → has_row (rows_of old) place.account place.symbol ≡ false
+    → new.rows.entries ≡ insert_entry same_key old.rows.entries place (record { long = 0; short = 0 })
+    → ((other : Symbol) → is_some (get same_symbol new.interests other) ≡ (is_some (get same_symbol old.interests other) || same_symbol place.symbol other))
+    → ((other : Symbol) → unwrap_or (get same_symbol new.interests other) 0 ≡ unwrap_or (get same_symbol old.interests other) 0)
+    → IsKept new × (rows_of new ≡ rows_of old ++ empty_row place.account place.symbol ∷ [])
+kept-one_more old new place kept absent made known same =
+    let empty : Holding = record { long = 0; short = 0 } in
+    let nowhere : get same_key old.rows place ≡ None = none (get same_key old.rows place) (sym (has_row-lookup place.account place.symbol old.rows.entries) ∙ absent) in
+    let view : rows_of new ≡ rows_of old ++ empty_row place.account place.symbol ∷ [] =
+    ap (map row_of) (made ∙ insert_entry-new same_key old.rows place empty nowhere) ∙ map-append row_of old.rows.entries ((place, empty) ∷ []) in
+    let lots = keeps_lots-one_more place.account place.symbol (rows_of old) in (
+      record {
+        once = subst (IsDistinct same_row) (sym view) (distinct-one_more place.account place.symbol (rows_of old) absent kept.once);
+        few = λ side s. subst (λ n. n < 2 ^ 64) (sym (ap (λ rows. lots_on rows side s) view ∙ lots.sums side s)) (kept.few side s);
+        known = λ a s has. known s ∙ there a s (has_row (rows_of old) a s) refl (sym (has_row-one_more place.account place.symbol (rows_of old) a s) ∙ ap (λ rows. has_row rows a s) (sym view) ∙ has);
+        interests = λ s. same s ∙ kept.interests s ∙ sym (ap (λ rows. open_interest_in rows s) view ∙ lots.interest s);
+      },
+      view,
+    )
+  where
+    there : (a : AccountId) (s : Symbol) (b : Bool) → has_row (rows_of old) a s ≡ b → (b || same_place a s place.account place.symbol) ≡ true
+        → (is_some (get same_symbol old.interests s) || same_symbol place.symbol s) ≡ true
+    there a s true e h = rw (kept.known a s e) refl
+    there a s false e h =
+        let one = (same_place-true a s place.account place.symbol h).1 in
+        let own : same_symbol place.symbol s ≡ true = (λ i. same_symbol place.symbol (one i)) ∙ same_symbol-own place.symbol in
+        either (is_some (get same_symbol old.interests s)) (same_symbol place.symbol s) own

@@ -1,0 +1,44 @@
+-- Machinery: how positions are kept: the lots of each row under its account and instrument, and each instrument's open interest.
+use Rattle.std.specs.Prelude.{◌≡◌, ℕ, ◌-◌, ◌<◌, ◌^◌, Bool, true, ◌&&◌, List, map, Some, is_some, unwrap_or}
+use Rattle.std.specs.List.{IsDistinct}
+use Rattle.std.specs.Map.{lookup, set_value}
+use Rattle.indexmap.specs.IndexMap.{get}
+use Rattle.gu_terms.specs.declared.account.AccountId.{AccountId}
+use Rattle.gu_terms.specs.declared.side.Side.{Side}
+use Rattle.gu_terms.specs.declared.symbol.Symbol.{Symbol}
+use Rattle.gu_terms.specs.Same.{same_account, same_symbol}
+use Rattle.gu_positions.specs.declared.holding.Holding.{Holding}
+use Rattle.gu_positions.specs.declared.positions.Place.{Place}
+use Rattle.gu_positions.specs.declared.positions.Positions.TheInside.{Inside}
+use Rattle.gu_positions.specs.Rows.{Row, has_row, lots_on, open_interest_in, same_row}
+
+-- a row, from its account and instrument and from its lots
+abbrev pub row_of : Place × Holding → Row
+row_of e = record { account = e.0.account; symbol = e.0.symbol; long = e.1.long; short = e.1.short }
+
+-- an account and an instrument, as a row is kept under them
+abbrev pub place_of : AccountId → Symbol → Place
+place_of account symbol = record { account = account; symbol = symbol }
+
+-- one place
+abbrev pub same_key : Place → Place → Bool
+same_key a b = same_account a.account b.account && same_symbol a.symbol b.symbol
+
+-- a row that is there was changed in this way; before and after are what its long lots were above its short ones
+pub record IsWritten (old new : List (Place × Holding)) (account : AccountId) (symbol : Symbol) (change : Holding → Holding) (before after : ℕ) : Type 0 where
+  pub was : Holding
+  pub there : lookup (same_key (place_of account symbol)) old ≡ Some was
+  pub written : new ≡ set_value (same_key (place_of account symbol)) old (change was)
+  pub excess_before : before ≡ was.long - was.short
+  pub excess_after : after ≡ (change was).long - (change was).short
+
+-- the rows, in order
+abbrev pub rows_of : Inside → List Row
+rows_of kept = map row_of kept.rows.entries
+
+-- each row once, few enough lots, and beside each instrument that has rows its open interest
+pub record IsKept (kept : Inside) : Type 0 where
+  pub once : IsDistinct same_row (rows_of kept)
+  pub few : (side : Side) (symbol : Symbol) → lots_on (rows_of kept) side symbol < 2 ^ 64
+  pub known : (account : AccountId) (symbol : Symbol) → has_row (rows_of kept) account symbol ≡ true → is_some (get same_symbol kept.interests symbol) ≡ true
+  pub interests : (symbol : Symbol) → unwrap_or (get same_symbol kept.interests symbol) 0 ≡ open_interest_in (rows_of kept) symbol

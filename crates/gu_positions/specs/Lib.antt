@@ -1,0 +1,4 @@
+pub mod Changes
+pub mod Holdings
+pub mod Kept
+pub mod Rows
