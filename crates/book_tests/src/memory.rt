@@ -2,9 +2,11 @@
 //! memory says so, leaves all as it was, and succeeds at the second try.
 
 use crate::answers::{position, replied};
+use crate::limits::set;
 use crate::sample::read_with;
-use crate::words::{command, group, id, report};
+use crate::words::{command, group, id, key, report};
 use gu_book::{Book, EnterError};
+use gu_limits::{LimitTable, SetError};
 use gu_ref::{RefFault, Reference};
 use gu_terms::{Group, Report};
 use gu_trades::{Matching, Trades};
@@ -96,6 +98,40 @@ fn make_nine(rt: &impl Abort, trades: &mut Trades) {
 fn a_report_is_taken_in_again(rt: HostRuntime) {
     let mut trades = Trades::new(rt.alloc());
     make_nine(&rt, &mut trades);
+}
+
+/// Sets a limit of nine lots in a group, at the second try where the first is refused.
+fn set_again(rt: &impl Abort, limits: &mut LimitTable, line: &str) {
+    let group = group(line, 0).expect(rt, "a group");
+    let key = key(line, 1).expect(rt, "a key");
+    let before = limits.row(&group, &key);
+    let first = set(limits, line);
+    if first != Some(Ok(())) {
+        assert_eq!(rt; first, Some(Err(SetError::Memory)));
+        assert_eq!(rt; limits.row(&group, &key), before);
+        assert_eq!(rt; set(limits, line), Some(Ok(())));
+    }
+    assert_eq!(rt; limits.room(&group, &key), 9);
+}
+
+#[test]
+fn a_limit_is_set_again(rt: HostRuntime) {
+    let mut limits = LimitTable::new(rt.alloc());
+    for line in [
+        "G1 EXEC E1 9",
+        "G1 EXEC E2 9",
+        "G1 AGR P1 9",
+        "G1 AGR P2 9",
+        "G1 ACCT A1 9",
+        "G1 ACCT A2 9",
+        "G1 CARRY C1 9",
+        "G1 CARRY C2 9",
+        "G1 GUAR E2 9",
+        "G2 GUAR E2 9",
+        "G1 EXEC E1 9",
+    ] {
+        set_again(&rt, &mut limits, line);
+    }
 }
 
 /// Enters the command of a line, at the second try where the first is refused.

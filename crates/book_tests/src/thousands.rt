@@ -4,6 +4,7 @@ use crate::answers::{position, replied};
 use crate::sample::{book, book_of, largest};
 use crate::words::{day, group, report, reporting};
 use gu_book::{Book, EnterError};
+use gu_limits::LimitTable;
 use gu_terms::{Command, Day, Group, Id, LimitKey, MOST_ENTRIES, Name, Report};
 use std::alloc::Global;
 use std::process::Abort;
@@ -94,6 +95,32 @@ fn a_limit_is_set_on_each_key_of_the_largest_reference(rt: HostRuntime) {
     set_all_limits(&rt, rt.alloc(), &mut book, &group);
     let rows = book.limits(&group).ok().expect(&rt, "limits");
     assert_eq!(rt; rows.len(), 23_000);
+}
+
+/// Sets a limit in a table twice, on so many keys of a kind.
+fn set_in_table(
+    rt: &impl Abort,
+    alloc: Global,
+    limits: &mut LimitTable,
+    group: &Group,
+    kind: &[u8],
+    count: u32,
+) {
+    for n in 0..count {
+        let key = key(alloc, kind, n).expect(rt, "a key");
+        assert_eq!(rt; limits.set(group, &key, 5), Ok(()));
+        assert_eq!(rt; limits.set(group, &key, u64::from(n)), Ok(()));
+        assert_eq!(rt; limits.room(group, &key), u64::from(n));
+    }
+}
+
+#[test]
+fn ten_thousand_limits_are_set_twice_in_two_groups(rt: HostRuntime) {
+    let mut limits = LimitTable::new(rt.alloc());
+    for name in ["G1", "G2"] {
+        let group = group(name, 0).expect(&rt, "a group");
+        set_in_table(&rt, rt.alloc(), &mut limits, &group, b"ACCT", 10_000);
+    }
 }
 
 /// The id with a number.

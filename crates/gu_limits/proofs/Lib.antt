@@ -1,1 +1,5 @@
+pub mod Bookings
 mod CarriedAccounts
+pub mod KeptLimits
+pub mod LimitLemmas
+pub mod PathKeys

@@ -1,1 +1,4 @@
+pub mod Changes
+pub mod Kept
+pub mod Limits
 pub mod Paths

@@ -1,6 +1,10 @@
-//! Limits: the keys that an agreement's offers come under.
+//! Limits: the keys that an agreement's offers come under, and the lots that may be taken under each.
 #![tactic(auto)]
 
+mod error;
 mod paths;
+mod table;
 
+pub use error::SetError;
 pub use paths::path;
+pub use table::LimitTable;

@@ -1,0 +1,39 @@
+-- How limits change: one is set, lots are charged and given back, a day begins.
+use Rattle.std.specs.Prelude.{◌≡◌, ℕ, ◌+◌, ◌-◌, ◌&&◌, ◌++◌, List, [], ◌∷◌, map, if◌then◌else◌}
+use Rattle.gu_terms.specs.LimitKeys.{has_key}
+use Rattle.gu_terms.specs.Same.{same_group}
+use Rattle.gu_terms.specs.declared.group.Group.{Group}
+use Rattle.gu_terms.specs.declared.limit_key.LimitKey.{LimitKey}
+use Rattle.gu_limits.specs.Limits.{GroupLimit, is_of, has_limit, limit_in, used_in}
+
+-- the lots that count under a limit, where they are taken in a group under these keys
+abbrev pub lots_under : Group → List LimitKey → ℕ → Group → LimitKey → ℕ
+lots_under group keys lots at key = if same_group at group && has_key keys key then lots else 0
+
+-- the limits after one is set: in its place where it was set before, and else last, with nothing used of it
+abbrev pub limits_after_setting : List GroupLimit → Group → LimitKey → ℕ → List GroupLimit
+limits_after_setting limits group key lots =
+    if has_limit limits group key
+    then map (λ (l : GroupLimit). record l { limit = if is_of group key l then lots else l.limit }) limits
+    else limits ++ record { group = group; key = key; limit = lots; used = 0 } ∷ []
+
+-- the limits after lots are charged in a group under these keys
+abbrev pub limits_after_charge : List GroupLimit → Group → List LimitKey → ℕ → List GroupLimit
+limits_after_charge limits group keys lots = map (λ (l : GroupLimit). record l { used = l.used + lots_under group keys lots l.group l.key }) limits
+
+-- the limits after lots that were charged are given back
+abbrev pub limits_after_return : List GroupLimit → Group → List LimitKey → ℕ → List GroupLimit
+limits_after_return limits group keys lots = map (λ (l : GroupLimit). record l { used = l.used - lots_under group keys lots l.group l.key }) limits
+
+-- the limits as a day begins: nothing is used
+abbrev pub limits_of_new_day : List GroupLimit → List GroupLimit
+limits_of_new_day limits = map (λ (l : GroupLimit). record l { used = 0 }) limits
+
+-- no limit is set or changed
+pub record SameLimits (old new : List GroupLimit) : Type 0 where
+  pub known : (group : Group) (key : LimitKey) → has_limit new group key ≡ has_limit old group key
+  pub lots : (group : Group) (key : LimitKey) → limit_in new group key ≡ limit_in old group key
+
+-- no use changes
+abbrev pub SameUses : List GroupLimit → List GroupLimit → Type 0
+SameUses old new = (group : Group) (key : LimitKey) → used_in new group key ≡ used_in old group key

@@ -1,0 +1,42 @@
+-- Machinery: limits as they are kept, each with the number of the day on which it was charged last.
+use Rattle.std.specs.Prelude.{ℕ, ◌≤◌, ◌==◌, Bool, List, All, map, if◌then◌else◌}
+use Rattle.std.specs.Map.{lookup, set_value}
+use Rattle.std.specs.Option.{option_map_or}
+use Rattle.gu_limits.specs.declared.table.GroupKey.{GroupKey}
+use Rattle.gu_limits.specs.declared.table.KeptLimit.{KeptLimit}
+use Rattle.gu_limits.specs.declared.table.LimitTable.TheInside.{Inside}
+use Rattle.gu_limits.specs.Limits.{GroupLimit}
+
+-- what is used on a day
+abbrev pub used_on : ℕ → KeptLimit → ℕ
+used_on day kept = if kept.day == day then kept.used else 0
+
+-- a limit, on a day
+abbrev pub limit_on : ℕ → GroupKey × KeptLimit → GroupLimit
+limit_on day entry = record { group = entry.0.group; key = entry.0.key; limit = entry.1.limit; used = used_on day entry.1 }
+
+-- all limits, on the day of the table
+abbrev pub limits_kept : Inside → List GroupLimit
+limits_kept table = map (limit_on table.day) table.limits.entries
+
+-- with the use of one of them changed, on a day
+abbrev pub with_use : (GroupKey → GroupKey → Bool) → GroupKey → ℕ → (ℕ → ℕ) → List (GroupKey × KeptLimit) → List (GroupKey × KeptLimit)
+with_use same on day change entries =
+    option_map_or
+    (λ kept. set_value (same on) entries (record kept { used = change (used_on day kept); day = day }))
+    (lookup (same on) entries)
+    entries
+
+-- with no use, on day 0
+abbrev pub unused : GroupKey × KeptLimit → GroupKey × KeptLimit
+unused entry = (entry.0, record entry.1 { used = 0; day = 0 })
+
+-- limit and use are within what a limit may be, and it was charged on no later day
+pub record IsWithin (day : ℕ) (kept : KeptLimit) : Type 0 where
+  pub limit : kept.limit ≤ 1000000000
+  pub used : kept.used ≤ 1000000000
+  pub charged : kept.day ≤ day
+
+-- all of them are
+abbrev pub IsKept : Inside → Type 0
+IsKept table = All (λ entry. IsWithin table.day entry.1) table.limits.entries

@@ -1,0 +1,55 @@
+-- Limits: what was set for the keys of a product group, what is used of it today, and the room that is left.
+use Rattle.std.specs.Prelude.{ℕ, ◌-◌, ◌&&◌, Bool, List, Option, Some, None, is_some, if◌then◌else◌}
+use Rattle.std.specs.List.{find}
+use Rattle.std.specs.Option.{option_map_or}
+use Rattle.gu_terms.specs.LimitKeys.{key_eq}
+use Rattle.gu_terms.specs.Same.{same_group}
+use Rattle.gu_terms.specs.declared.group.Group.{Group}
+use Rattle.gu_terms.specs.declared.limit_key.LimitKey.{LimitKey}
+use Rattle.gu_terms.specs.declared.limit_row.LimitRow.{LimitRow}
+
+-- a limit of a group, and the lots that are used of it today
+pub record GroupLimit : Type 0 where
+  pub group : Group
+  pub key : LimitKey
+  pub limit : ℕ
+  pub used : ℕ
+
+-- two groups and keys are one
+abbrev pub same_place : Group → LimitKey → Group → LimitKey → Bool
+same_place group key other_group other_key = same_group group other_group && key_eq key other_key
+
+-- the limit is of this group and key
+abbrev pub is_of : Group → LimitKey → GroupLimit → Bool
+is_of group key l = same_place l.group l.key group key
+
+-- the limit of a group and key, where one was set
+abbrev pub limit_for : List GroupLimit → Group → LimitKey → Option GroupLimit
+limit_for limits group key = find (is_of group key) limits
+
+-- a limit was set for a group and key
+abbrev pub has_limit : List GroupLimit → Group → LimitKey → Bool
+has_limit limits group key = is_some (limit_for limits group key)
+
+-- the lots that were set: 0 where none were
+abbrev pub limit_in : List GroupLimit → Group → LimitKey → ℕ
+limit_in limits group key = option_map_or (λ l. l.limit) (limit_for limits group key) 0
+
+-- the lots that are used today
+abbrev pub used_in : List GroupLimit → Group → LimitKey → ℕ
+used_in limits group key = option_map_or (λ l. l.used) (limit_for limits group key) 0
+
+-- the room that is left: 0 where the limit was set below its use
+abbrev pub room_in : List GroupLimit → Group → LimitKey → ℕ
+room_in limits group key = limit_in limits group key - used_in limits group key
+
+-- a limit as it stands, where one was set
+abbrev pub row_in : List GroupLimit → Group → LimitKey → Option LimitRow
+row_in limits group key =
+    if has_limit limits group key
+    then Some (record { key = key; limit = limit_in limits group key; used = used_in limits group key; room = room_in limits group key })
+    else None
+
+-- two limits are of one group and key
+abbrev pub same_limit : GroupLimit → GroupLimit → Bool
+same_limit a b = same_place a.group a.key b.group b.key

@@ -1,0 +1,277 @@
+//! The limits of the house, and what is used of them today.
+
+ghost use Rattle.std.specs.Prelude.{◌≡◌, ◌+◌, ◌-◌, ◌^◌, ◌<◌, ◌≤◌, ◌↔◌, ◌||◌, [], ◌∷◌, All, IsErrOf, OnErr, OnOk, if◌then◌else◌, map};
+ghost use Rattle.std.specs.List.{IsDistinct};
+ghost use Rattle.std.specs.Option.{ForSome};
+ghost use Rattle.indexmap.specs.IndexMap.{get, insert_entry, IsUnique};
+ghost use Rattle.gu_terms.specs.LimitKeys.{key_eq};
+ghost use Rattle.gu_terms.specs.declared.group.Group.{Group as GroupOf};
+ghost use Rattle.gu_terms.specs.declared.limit_key.LimitKey.{LimitKey as LimitKeyOf};
+ghost use Rattle.gu_limits.specs.Changes.{limits_after_charge, limits_after_return, limits_after_setting, limits_of_new_day, lots_under, SameLimits, SameUses};
+ghost use Rattle.gu_limits.specs.Kept.{unused, used_on, with_use};
+ghost use Rattle.gu_limits.specs.Limits.{has_limit, limit_in, room_in, row_in, same_limit, same_place, used_in};
+
+use crate::error::SetError;
+use gu_terms::{Group, LimitKey, LimitRow, MOST_LIMIT, Path};
+use indexmap::IndexMap;
+use std::alloc::{AllocError, Global};
+use std::marker::Model;
+
+/// What a limit is set on. No two limits have the same.
+#[derive(Clone, Copy, Debug, PartialEq, Eq, Hash)]
+struct GroupKey {
+    group: Group,
+    key: LimitKey,
+}
+
+/// A limit, and its use on the day of its last charge. On another day nothing is used of it.
+#[derive(Clone, Copy, Debug)]
+struct KeptLimit {
+    limit: u64,
+    used: u64,
+    day: u64,
+}
+
+/// The limits that were set, each group and key once. To a contract it is the list of them, in the order in which they were set
+/// first.
+pub struct LimitTable {
+    limits: IndexMap<GroupKey, KeptLimit>,
+    /// The number of the day, so that a day begins without a walk.
+    day: u64,
+}
+
+impl Drop for LimitTable {
+    fn drop(self) {
+        let LimitTable { limits, day: _ } = self;
+        drop(limits);
+    }
+}
+
+impl Model for LimitTable {
+    ghost use Rattle.std.specs.Prelude.{List};
+    ghost use Rattle.gu_limits.specs.Limits.{GroupLimit};
+
+    ghost Value = { List GroupLimit };
+
+    ghost use Rattle.gu_limits.specs.Kept.{limits_kept, IsKept};
+
+    ghost view = { limits_kept };
+
+    ghost invariant = { IsKept };
+}
+
+impl KeptLimit {
+    /// What is used on a day.
+    fn used_on(&self, day: u64) -> u64
+        ensures { result ≡ used_on day self.now }
+    {
+        if self.day == day { self.used } else { 0 }
+    }
+}
+
+impl LimitTable {
+    /// No limits.
+    pub fn new(alloc: Global) -> Self
+        ensures { result ≡ [] }
+    {
+        LimitTable {
+            limits: IndexMap::new(alloc),
+            day: 0,
+        }
+    }
+
+    /// What holds of all limits: a group and key has one at most, and neither a limit nor a use is above 1,000,000,000 lots.
+    pub fn rules(&self)
+        ensures once { IsDistinct same_limit self.now }
+        ensures limits { (group : GroupOf) (key : LimitKeyOf) → limit_in self.now group key ≤ MOST_LIMIT }
+        ensures uses { (group : GroupOf) (key : LimitKeyOf) → used_in self.now group key ≤ MOST_LIMIT }
+    {
+        // The map tells that its keys are apart.
+        let _ = self.limits.len();
+    }
+
+    /// A limit as it stands, where one was set.
+    pub fn row(&self, group: &Group, key: &LimitKey) -> Option<LimitRow>
+        ensures { result ≡ row_in self.now group.now key.now }
+    {
+        let on = GroupKey {
+            group: *group,
+            key: *key,
+        };
+        let kept = self.limits.get(&on)?;
+        let limit = kept.limit;
+        let used = kept.used_on(self.day);
+        Some(LimitRow {
+            key: *key,
+            limit,
+            used,
+            room: limit.saturating_sub(used),
+        })
+    }
+
+    /// The room that is left under a limit. A limit that was never set has none.
+    pub fn room(&self, group: &Group, key: &LimitKey) -> u64
+        ensures { result ≡ room_in self.now group.now key.now }
+    {
+        match self.row(group, key) {
+            Some(row) => row.room,
+            None => 0,
+        }
+    }
+
+    /// Sets a limit. What is used of it stays, also where that is more.
+    pub fn set(&mut self, group: &Group, key: &LimitKey, lots: u64) -> Result<(), SetError>
+        ensures rows { OnOk result (self.new ≡ limits_after_setting self.old group.now key.now lots) }
+        ensures known { OnOk result ((at : GroupOf) (on : LimitKeyOf) →
+            has_limit self.new at on ≡ (same_place at on group.now key.now || has_limit self.old at on)) }
+        ensures limits { OnOk result ((at : GroupOf) (on : LimitKeyOf) →
+            limit_in self.new at on ≡ (if same_place at on group.now key.now then lots else limit_in self.old at on)) }
+        ensures uses { OnOk result (SameUses self.old self.new) }
+
+        ensures within { OnOk result (lots ≤ MOST_LIMIT) }
+        ensures too_high { IsErrOf result SetError.TooHigh ↔ (MOST_LIMIT < lots) }
+        ensures refused { OnErr result (self.new ≡ self.old) }
+    {
+        if lots > MOST_LIMIT {
+            return Err(SetError::TooHigh);
+        }
+        let on = GroupKey {
+            group: *group,
+            key: *key,
+        };
+        let kept = match self.limits.get(&on) {
+            Some(before) => KeptLimit {
+                limit: lots,
+                ..*before
+            },
+            None => KeptLimit {
+                limit: lots,
+                used: 0,
+                day: self.day,
+            },
+        };
+        put(&mut self.limits, group, key, kept)?;
+        Ok(())
+    }
+
+    /// Charges lots to all limits of a path in a group.
+    pub fn charge(&mut self, group: &Group, path: &Path, lots: u64)
+        requires room { All (λ key. lots ≤ room_in self.old group.now key) path.now }
+        requires once { IsDistinct key_eq path.now }
+        ensures rows { self.new ≡ limits_after_charge self.old group.now path.now lots }
+        ensures limits { SameLimits self.old self.new }
+        ensures uses { (at : GroupOf) (on : LimitKeyOf) →
+            used_in self.new at on ≡ used_in self.old at on + lots_under group.now path.now lots at on }
+    {
+        for key in path.keys() {
+            self.charge_key(group, key, lots);
+        }
+    }
+
+    /// Charges lots to one limit.
+    fn charge_key(&mut self, group: &Group, key: &LimitKey, lots: u64)
+        requires { lots ≤ room_in self.old group.now key.now }
+        ensures { self.new ≡ limits_after_charge self.old group.now (key.now ∷ []) lots }
+    {
+        let on = GroupKey {
+            group: *group,
+            key: *key,
+        };
+        add_use(&mut self.limits, &on, self.day, lots);
+    }
+
+    /// Gives back lots that were charged today to all limits of a path in a group.
+    pub fn give_back(&mut self, group: &Group, path: &Path, lots: u64)
+        requires used { All (λ key. lots ≤ used_in self.old group.now key) path.now }
+        requires once { IsDistinct key_eq path.now }
+        ensures rows { self.new ≡ limits_after_return self.old group.now path.now lots }
+        ensures limits { SameLimits self.old self.new }
+        ensures uses { (at : GroupOf) (on : LimitKeyOf) →
+            used_in self.new at on + lots_under group.now path.now lots at on ≡ used_in self.old at on }
+    {
+        for key in path.keys() {
+            self.give_back_key(group, key, lots);
+        }
+    }
+
+    /// Gives back lots to one limit.
+    fn give_back_key(&mut self, group: &Group, key: &LimitKey, lots: u64)
+        requires { lots ≤ used_in self.old group.now key.now }
+        ensures { self.new ≡ limits_after_return self.old group.now (key.now ∷ []) lots }
+    {
+        let on = GroupKey {
+            group: *group,
+            key: *key,
+        };
+        take_use(&mut self.limits, &on, self.day, lots);
+    }
+
+    /// Begins a day: nothing is used of any limit, and the limits stay.
+    pub fn new_day(&mut self)
+        ensures rows { self.new ≡ limits_of_new_day self.old }
+        ensures limits { SameLimits self.old self.new }
+        ensures uses { (group : GroupOf) (key : LimitKeyOf) → used_in self.new group key ≡ 0 }
+    {
+        if self.day < u64::MAX {
+            self.day += 1;
+        } else {
+            forget_uses(&mut self.limits);
+            self.day = 0;
+        }
+    }
+}
+
+/// Puts a limit in its place, or last where it has none yet.
+fn put(
+    limits: &mut IndexMap<GroupKey, KeptLimit>,
+    group: &Group,
+    key: &LimitKey,
+    kept: KeptLimit,
+) -> Result<(), AllocError>
+    ensures put { OnOk result (limits.new.entries
+        ≡ insert_entry ⟦<GroupKey as PartialEq>⟧.eq limits.old.entries (record { group = group.now; key = key.now }) kept) }
+    ensures apart { OnOk result (IsUnique ⟦<GroupKey as PartialEq>⟧.eq limits.new) }
+    ensures refused { OnErr result (limits.new.entries ≡ limits.old.entries) }
+{
+    let on = GroupKey {
+        group: *group,
+        key: *key,
+    };
+    limits.insert(on, kept)?;
+    Ok(())
+}
+
+/// Adds lots to the use of a limit on a day.
+fn add_use(limits: &mut IndexMap<GroupKey, KeptLimit>, on: &GroupKey, day: u64, lots: u64)
+    requires { ForSome (get ⟦<GroupKey as PartialEq>⟧.eq limits.old on.now) (λ kept. used_on day kept + lots < 2 ^ 64) }
+    ensures written { limits.new.entries ≡ with_use ⟦<GroupKey as PartialEq>⟧.eq on.now day (λ used. used + lots) limits.old.entries }
+    ensures apart { IsUnique ⟦<GroupKey as PartialEq>⟧.eq limits.old }
+{
+    if let Some(kept) = limits.get_mut(on) {
+        kept.used = kept.used_on(day) + lots;
+        kept.day = day;
+    }
+}
+
+/// Takes lots off the use of a limit on a day.
+fn take_use(limits: &mut IndexMap<GroupKey, KeptLimit>, on: &GroupKey, day: u64, lots: u64)
+    requires { ForSome (get ⟦<GroupKey as PartialEq>⟧.eq limits.old on.now) (λ kept. lots ≤ used_on day kept) }
+    ensures written { limits.new.entries ≡ with_use ⟦<GroupKey as PartialEq>⟧.eq on.now day (λ used. used - lots) limits.old.entries }
+    ensures apart { IsUnique ⟦<GroupKey as PartialEq>⟧.eq limits.old }
+{
+    if let Some(kept) = limits.get_mut(on) {
+        kept.used = kept.used_on(day) - lots;
+        kept.day = day;
+    }
+}
+
+/// Forgets all uses, on day 0.
+fn forget_uses(limits: &mut IndexMap<GroupKey, KeptLimit>)
+    ensures { limits.new.entries ≡ map unused limits.old.entries }
+{
+    for place in 0..limits.len() {
+        let kept = &mut limits[place];
+        kept.used = 0;
+        kept.day = 0;
+    }
+}
