@@ -155,8 +155,7 @@ agreement_capacity offers r q agreement lots n same key all is =
 pub own_way : (view : GroupView) (number : ℕ) (way : List ℕ) → number < length view.offers → IfSome (slice_get view.offers number) (λ (o : Offer). way ≡ map (place_of view.rooms) o.path) → way ≡ way_of view.rooms (offer_at view.offers number)
 own_way view number way inside are = rw (slice_get-get_or view.offers number no_offer inside) at are
 
--- the second place that is read of an offer's way
-pub agreement_read : (view : GroupView) (number : ℕ) (way : List ℕ) → number < length view.offers → IfSome (slice_get view.offers number) (λ (o : Offer). slice_get way 1 ≡ Some (place_of view.rooms (Agr o.agreement)))
-    → get_or way 1 0 ≡ agreement_place view.rooms (offer_at view.offers number)
-agreement_read view number way inside at =
-    get_or_from_slice_get way 1 (agreement_place view.rooms (offer_at view.offers number)) 0 (rw (slice_get-get_or view.offers number no_offer inside) at at)
+-- the place of an offer's agreement
+pub agreement_read : (view : GroupView) (number place : ℕ) → number < length view.offers → IfSome (slice_get view.offers number) (λ (o : Offer). place ≡ place_of view.rooms (Agr o.agreement))
+    → place ≡ agreement_place view.rooms (offer_at view.offers number)
+agreement_read view number place inside at = rw (slice_get-get_or view.offers number no_offer inside) at at

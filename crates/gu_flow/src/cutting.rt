@@ -6,7 +6,6 @@ ghost use Rattle.gu_flow.specs.Levels.{is_reached};
 
 use crate::arcs::Arc;
 use crate::levels::Entry;
-use crate::sharing::agreement_place;
 use gu_terms::Cut;
 use gu_view::View;
 use std::alloc::{AllocError, Global};
@@ -68,7 +67,7 @@ fn add_offers(cut: &mut Cut, view: &View, arcs: &[Arc], entries: &[Entry]) -> Re
     ensures keys { cut.new.keys ≡ cut.old.keys }
 {
     for (number, offer) in view.offers().iter().enumerate() {
-        if cuts_offers(view, arcs, entries, agreement_place(view, number)) {
+        if cuts_offers(view, arcs, entries, view.agreement_place(number)) {
             cut.add_offer(offer.number)?;
         }
     }

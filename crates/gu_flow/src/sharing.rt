@@ -1,22 +1,12 @@
 //! What each offer gets of what flows through its agreement's arc.
 
-ghost use Rattle.std.specs.Prelude.{◌≡◌, ◌<◌, IfOk, length, map};
-ghost use Rattle.gu_flow.specs.Networks.{offer_at};
-ghost use Rattle.gu_flow.specs.Shares.{agreement_place, AreShares};
+ghost use Rattle.std.specs.Prelude.{◌≡◌, IfOk, length, map};
+ghost use Rattle.gu_flow.specs.Shares.{AreShares};
 
 use crate::arcs::Arc;
 use gu_terms::Takes;
 use gu_view::View;
 use std::alloc::{AllocError, Global};
-
-/// The place of the room of an offer's agreement: the second on its way.
-pub(crate) fn agreement_place(view: &View, offer: usize) -> usize
-    requires { offer < length view.now.offers }
-    ensures place { result ≡ agreement_place view.now.rooms (offer_at view.now.offers offer) }
-    ensures within { result < length view.now.rooms }
-{
-    view.places(offer)[1] as usize
-}
 
 /// What flows through each arc.
 fn flows(alloc: Global, arcs: &[Arc]) -> Result<Vec<u64>, AllocError>
@@ -33,7 +23,7 @@ pub(crate) fn share_out(alloc: Global, view: &View, arcs: &[Arc]) -> Result<Take
     let mut rests = flows(alloc, arcs)?;
     let mut takes = Takes::new(alloc);
     for (number, offer) in view.offers().iter().enumerate() {
-        let place = agreement_place(view, number);
+        let place = view.agreement_place(number);
         let lots = offer.lots.min(rests[place]);
         rests[place] -= lots;
         takes.add(offer.number, lots)?;

@@ -458,6 +458,9 @@ pub in_order-keys : (keys : List LimitKey) (rooms : List Room) → map (λ (r : 
 in_order-keys [] rooms = refl
 in_order-keys (k ∷ keys) rooms = ap (λ l. k ∷ l) (in_order-keys keys rooms)
 
+pub length-in_order : (keys : List LimitKey) (rooms : List Room) → length (in_order keys rooms) ≡ length keys
+length-in_order keys rooms = length-map keys (λ k. let r : Room = record { key = k; lots = unwrap_or (lots_given rooms k) 0 } in r)
+
 in_order-limits : (keys : List LimitKey) (rooms : List Room) → All (λ r. r.lots ≤ 1000000000) rooms → AllByRecursion (λ (r : Room). r.lots ≤ 1000000000) (in_order keys rooms)
 in_order-limits [] rooms limits = tt
 in_order-limits (k ∷ keys) rooms limits = (given rooms (recursion_from_All (λ (r : Room). r.lots ≤ 1000000000) rooms limits), in_order-limits keys rooms limits)
@@ -478,6 +481,6 @@ view_made group version offers rooms makes few =
       own = paths.own;
       one_path = paths.one_path;
       rooms = in_order-keys (keys_of offers) rooms;
-      few_rooms = omega (arith, few, length-map (keys_of offers) (λ k. let r : Room = record { key = k; lots = unwrap_or (lots_given rooms k) 0 } in r));
+      few_rooms = omega (arith, few, length-in_order (keys_of offers) rooms);
       limits = All-from_recursion (λ (r : Room). r.lots ≤ 1000000000) (in_order (keys_of offers) rooms) (in_order-limits (keys_of offers) rooms makes.exact.limits);
     }

@@ -13,7 +13,7 @@ use Rattle.gu_terms.specs.declared.agreement.AgreementId.{AgreementId}
 use Rattle.gu_terms.specs.declared.firm.FirmId.{FirmId}
 use Rattle.gu_terms.specs.declared.limit_key.LimitKey.{LimitKey}
 use Rattle.gu_terms.specs.declared.limit_key.LimitKey.TheVariants.{Exec, Agr, Acct, Carry, Guar}
-use Rattle.gu_terms.specs.Paths.{guarantor_key, path_through}
+use Rattle.gu_terms.specs.Paths.{path_through}
 use Rattle.gu_terms.proofs.KeyLemmas.{key_eq-same, key_eq-refl}
 use Rattle.gu_view.specs.Paths.{are_kinds, behind, have_one_key, is_guarantor, is_whole, key_on, room_agrees, same_key}
 use Rattle.gu_view.specs.View.{GoOnAlike, GroupView, IsNested, IsPath, IsView, next_key, place_of, places_under}

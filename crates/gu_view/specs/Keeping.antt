@@ -1,8 +1,10 @@
 -- Machinery: what a view keeps beside what it shows, and what is known while it is made.
-use Rattle.std.specs.Prelude.{◌≡◌, ◌≢◌, ℕ, ◌≤◌, Bool, List, [], ◌∷◌, ◌++◌, Option, All, AllPairs, IsTrue, map, slice_range, if◌then◌else◌}
+use Rattle.std.specs.Prelude.{◌≡◌, ◌≢◌, ℕ, ◌+◌, ◌<◌, ◌≤◌, List, [], ◌∷◌, ◌==◌, Option, All, AllPairs, IsTrue, length, map, slice_index, slice_range}
+use Rattle.std.specs.List.{list_any}
 use Rattle.gu_terms.specs.LimitKeys.{has_key}
 use Rattle.gu_terms.specs.declared.limit_key.LimitKey.{LimitKey}
 use Rattle.gu_view.specs.Making.{lots_given}
+use Rattle.gu_view.specs.Places.{places_where}
 use Rattle.gu_view.specs.View.{GroupView, IsView, place_of, places_under}
 use Rattle.gu_view.specs.declared.view.Room.{Room}
 
@@ -15,10 +17,6 @@ lists_from joined from (end ∷ ends) = slice_range joined from end ∷ lists_fr
 abbrev pub AreEnds : ℕ → ℕ → List ℕ → Type 0
 AreEnds whole from [] = from ≡ whole
 AreEnds whole from (end ∷ ends) = (from ≤ end) × AreEnds whole end ends
-
--- lists, of which those that pass have one more element
-abbrev pub longer : {X : Type 0} → (X → List ℕ) → (X → Bool) → ℕ → X → List ℕ
-longer list test more x = if test x then list x ++ more ∷ [] else list x
 
 -- a view beside its keys, the places of each offer's keys, and of each room's offers
 pub record IsIndexed (view : GroupView) (keys : List LimitKey) (places members : List (List ℕ)) : Type 0 where
@@ -33,3 +31,12 @@ pub record IsGiven (keys : List LimitKey) (rooms : List Room) (lots : LimitKey �
   pub once : AllPairs (λ a b. a.key ≢ b.key) rooms
   pub limits : All (λ r. r.lots ≤ 1000000000) rooms
   pub lots_are : (k : LimitKey) → lots k ≡ lots_given rooms k
+
+-- the places of the lists that have a number
+abbrev pub places_with : ℕ → List (List ℕ) → List ℕ
+places_with n lists = places_where (λ l. list_any (λ m. m == n) l) lists
+
+-- where the lists of each number start, one behind another
+abbrev pub AreStarts : List (List ℕ) → List ℕ → Type 0
+AreStarts lists starts =
+    (p : ℕ) → p + 1 < length starts → slice_index starts (p + 1) ≡ slice_index starts p + length (places_with p lists)

@@ -1,6 +1,6 @@
 //! What a view is made of: offers in order, paths, rooms by first mention.
 
-ghost use Rattle.std.specs.Prelude.{◌≡◌, ◌+◌, ◌*◌, ◌<◌, ◌≤◌, ◌++◌, List, All, AllPairs, IfOk, IsTrue, MatchOption, find, length, map, slice_get};
+ghost use Rattle.std.specs.Prelude.{◌≡◌, ◌+◌, ◌*◌, ◌<◌, ◌≤◌, ◌++◌, List, All, AllPairs, IfOk, IsTrue, MatchOption, find, length, map, slice_get, take};
 ghost use Rattle.std.specs.Option.{option_map};
 ghost use Rattle.std.specs.List.{flat_map};
 ghost use Rattle.indexmap.specs.IndexMap.{get};
@@ -16,6 +16,9 @@ use crate::view::{Offer, Room};
 use gu_terms::{AgreementId, LimitKey, MOST_LIMIT, MOST_LOTS, MOST_OPEN_OFFERS, OfferNo, Path};
 use indexmap::{IndexMap, IndexSet};
 use std::alloc::{AllocError, Global};
+
+/// The keys that a path has at most.
+const MOST_KEYS: usize = 5;
 
 /// Whether an offer's number isn't above the one before it, or its lots are out of range.
 fn is_bad(before: u64, offer: &Offer) -> bool
@@ -68,12 +71,16 @@ fn is_own(offer: &Offer) -> bool
         .is_some_and(|key| LimitKey::Agr(offer.agreement).is_same(*key))
 }
 
-/// The first offer whose path isn't that of its agreement.
-pub fn path_differs(alloc: Global, offers: &[Offer]) -> Result<Option<OfferNo>, AllocError>
+/// The first offer whose path isn't that of its agreement. So many agreements are expected at most.
+pub fn path_differs(
+    alloc: Global,
+    offers: &[Offer],
+    expected: usize,
+) -> Result<Option<OfferNo>, AllocError>
     requires { AllPairs (λ a b. a.number < b.number) offers.now }
     ensures { IfOk result (λ found. found ≡ path_differs offers.now) }
 {
-    let mut paths: IndexMap<AgreementId, Path> = IndexMap::new(alloc);
+    let mut paths: IndexMap<AgreementId, Path> = IndexMap::with_capacity(alloc, expected)?;
     for offer in offers {
         if !is_own(offer) {
             return Ok(Some(offer.number));
@@ -105,34 +112,35 @@ fn mention(keys: &mut IndexSet<LimitKey>, path: &[LimitKey]) -> Result<(), Alloc
     Ok(())
 }
 
-/// The keys of the paths, in order of first mention.
-pub fn first_mentions(alloc: Global, offers: &[Offer]) -> Result<IndexSet<LimitKey>, AllocError>
+/// The keys of the paths, in order of first mention. So many are expected.
+pub fn first_mentions(
+    alloc: Global,
+    offers: &[Offer],
+    expected: usize,
+) -> Result<IndexSet<LimitKey>, AllocError>
     ensures keys { IfOk result (λ keys. keys.keys ≡ keys_of offers.now) }
     ensures few { IfOk result (λ keys. length keys.keys ≤ 5 * length offers.now) }
 {
-    let mut keys = IndexSet::new(alloc);
+    let mut keys = IndexSet::with_capacity(alloc, expected)?;
     for offer in offers {
         mention(&mut keys, offer.path.keys())?;
     }
     Ok(keys)
 }
 
-/// The places of a path's keys among the keys.
-fn places_among(
-    alloc: Global,
-    keys: &IndexSet<LimitKey>,
-    path: &[LimitKey],
-) -> Result<Vec<u32>, AllocError>
+/// The places of a path's keys among the keys, and 0 behind them.
+fn places_among(keys: &IndexSet<LimitKey>, path: &[LimitKey]) -> [u32; MOST_KEYS]
     requires few { length keys.now.keys ≤ 20480 }
+    requires short { length path.now ≤ 5 }
     requires known { All (λ k. IsTrue (has_key keys.now.keys k)) path.now }
-    ensures { IfOk result (λ places. places.items ≡ map (place_among keys.now.keys) path.now) }
+    ensures { take (length path.now) result ≡ map (place_among keys.now.keys) path.now }
 {
-    let mut places = Vec::new(alloc);
-    for key in path {
+    let mut places = [0; MOST_KEYS];
+    for (at, key) in path.iter().enumerate() {
         let place = keys.get_index_of(key).unwrap();
-        places.push(place as u32)?;
+        places[at] = place as u32;
     }
-    Ok(places)
+    places
 }
 
 /// For each offer the places of its path's keys.
@@ -145,9 +153,11 @@ pub fn all_places(
     requires known { keys.now.keys ≡ keys_of offers.now }
     ensures { IfOk result (λ places. places ≡ map (λ o. map (place_among keys.now.keys) o.path) offers.now) }
 {
-    let mut places = PlaceLists::new(alloc);
+    let most = offers.len().saturating_mul(MOST_KEYS);
+    let mut places = PlaceLists::with_room(alloc, offers.len(), most)?;
     for offer in offers {
-        places.push(&places_among(alloc, keys, offer.path.keys())?)?;
+        let path = offer.path.keys();
+        places.push(&places_among(keys, path)[..path.len()])?;
     }
     Ok(places)
 }
@@ -161,7 +171,7 @@ fn given(
     ensures { IfOk result (λ given.
         MatchOption given (¬ AreRooms keys.now.keys rooms.now) (λ lots. IsGiven keys.now.keys rooms.now (get key_eq lots))) }
 {
-    let mut lots = IndexMap::new(alloc);
+    let mut lots = IndexMap::with_capacity(alloc, keys.len())?;
     for room in rooms {
         if MOST_LIMIT < room.lots {
             return Ok(None);
@@ -188,7 +198,7 @@ fn ordered(
         MatchOption ordered (¬ AreRooms keys.now rooms)
         (λ made. All (λ k. IsTrue (has_room rooms k)) keys.now × (made.items ≡ in_order keys.now rooms))) }
 {
-    let mut made = Vec::new(alloc);
+    let mut made = Vec::with_capacity(alloc, keys.len())?;
     for key in keys {
         let Some(lots) = lots.get(key) else {
             return Ok(None);

@@ -1,6 +1,7 @@
 //! Lists of places, one behind another in one buffer.
 
 ghost use Rattle.std.specs.Prelude.{◌≡◌, ◌<◌, ◌≤◌, ◌∷◌, ◌++◌, [], length, OnOk, OnErr, IfOk, slice_get, slice_index, slice_range};
+ghost use Rattle.gu_view.specs.Keeping.{lists_from, AreEnds};
 
 use std::alloc::{AllocError, Global};
 use std::marker::Model;
@@ -41,14 +42,21 @@ fn part(joined: &[u32], start: usize, end: usize) -> &[u32]
 }
 
 impl PlaceLists {
-    /// No lists.
-    pub fn new(alloc: Global) -> Self
-        ensures { result ≡ [] }
+    /// No lists, with room for so many of so many places together.
+    pub fn with_room(alloc: Global, lists: usize, places: usize) -> Result<Self, AllocError>
+        ensures { IfOk result (λ made. made ≡ []) }
     {
-        PlaceLists {
-            joined: Vec::new(alloc),
-            ends: Vec::new(alloc),
-        }
+        let joined = Vec::with_capacity(alloc, places)?;
+        let ends = Vec::with_capacity(alloc, lists)?;
+        Ok(PlaceLists { joined, ends })
+    }
+
+    /// The lists that end at these places of one list.
+    pub fn of(joined: Vec<u32>, ends: Vec<usize>) -> Self
+        requires { AreEnds (length joined.items) 0 ends.items }
+        ensures { result ≡ lists_from joined.items 0 ends.items }
+    {
+        PlaceLists { joined, ends }
     }
 
     /// Adds a list behind the others.

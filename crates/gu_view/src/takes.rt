@@ -3,8 +3,6 @@
 ghost use Rattle.std.specs.Prelude.{◌≡◌, ℕ, false, ◌<◌, ◌≤◌, ◌^◌, AllPairs, All, IfNone, IfSome, None, find, length, map, nat_lt, slice_get, slice_index, sum, sum_by};
 ghost use Rattle.gu_terms.specs.Takes.{IsAscending, lots_of};
 ghost use Rattle.gu_view.specs.Check.{unknown_take, over_offer, over_limit, not_oldest_first};
-ghost use Rattle.gu_terms.specs.declared.limit_key.LimitKey.TheVariants.{Agr};
-ghost use Rattle.gu_view.specs.View.{place_of};
 ghost use Rattle.gu_view.specs.Takes.{lots_under};
 ghost use Rattle.gu_view.specs.Marks.{split_of, AreLots, AreMarks};
 
@@ -90,15 +88,6 @@ pub fn over_limit(view: &View, taken: &[u64]) -> Option<CutFault>
     None
 }
 
-/// The place of the room of an offer's agreement.
-fn agreement_place(view: &View, offer: usize) -> usize
-    requires { offer < length view.now.offers }
-    ensures place { IfSome (slice_get view.now.offers offer) (λ o. result ≡ place_of view.now.rooms (Agr o.agreement)) }
-    ensures within { result < length view.now.rooms }
-{
-    view.places(offer)[1] as usize
-}
-
 /// Walks the offers, marking by the place of an agreement's room that an offer of it isn't full.
 fn first_too_early(view: &View, taken: &[u64], short: &mut [bool]) -> Option<CutFault>
     requires size { length taken.now ≡ length view.now.offers }
@@ -106,7 +95,7 @@ fn first_too_early(view: &View, taken: &[u64], short: &mut [bool]) -> Option<Cut
     ensures { (lots : ℕ → ℕ) → AreLots view.now.offers taken.now lots → result ≡ not_oldest_first view.now.offers lots }
 {
     for (place, offer) in view.offers().iter().enumerate() {
-        let agreement = agreement_place(view, place);
+        let agreement = view.agreement_place(place);
         if 0 < taken[place] && short[agreement] {
             return Some(CutFault::NotOldestFirst(offer.number));
         }

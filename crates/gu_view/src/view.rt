@@ -2,6 +2,7 @@
 
 ghost use Rattle.std.specs.Prelude.{◌≡◌, ℕ, ◌<◌, ◌↔◌, IfErr, IfOk, IfSome, IsTrue, OnOk, length, map, All, position, slice_get};
 ghost use Rattle.gu_terms.specs.LimitKeys.{key_eq};
+ghost use Rattle.gu_terms.specs.declared.limit_key.LimitKey.TheVariants.{Agr};
 ghost use Rattle.gu_view.specs.Making.{bad_offer, view_of, MakesView, Refuses};
 ghost use Rattle.gu_view.specs.View.{IsView, IsNested, place_of, places_under};
 
@@ -100,10 +101,10 @@ impl View {
         if let Some(number) = bad_offer(&offers) {
             return Err(ViewError::BadOffer(number));
         }
-        if let Some(number) = path_differs(alloc, &offers)? {
+        if let Some(number) = path_differs(alloc, &offers, rooms.len().min(offers.len()))? {
             return Err(ViewError::PathDiffers(number));
         }
-        let keys = first_mentions(alloc, &offers)?;
+        let keys = first_mentions(alloc, &offers, rooms.len().min(MOST_ROOMS))?;
         let Some(rooms) = rooms_in_order(alloc, &keys, &rooms)? else {
             return Err(ViewError::BadRooms);
         };
@@ -158,6 +159,15 @@ impl View {
         ensures sound { IsView self.now }
     {
         self.places.list(offer)
+    }
+
+    /// The place among the rooms of an offer's agreement.
+    pub fn agreement_place(&self, offer: usize) -> usize
+        requires { offer < length self.now.offers }
+        ensures place { IfSome (slice_get self.now.offers offer) (λ o. result ≡ place_of self.now.rooms (Agr o.agreement)) }
+        ensures within { result < length self.now.rooms }
+    {
+        self.places(offer)[1] as usize
     }
 
     /// The places of the offers with the key of the room at a place, in number order.

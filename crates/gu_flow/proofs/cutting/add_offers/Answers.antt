@@ -5,6 +5,7 @@ use Rattle.gu_flow.specs.CutArcs.{cuts_offers}
 use Rattle.gu_flow.specs.Levels.{is_reached}
 use Rattle.gu_flow.specs.Networks.{no_offer, offer_at}
 use Rattle.gu_flow.proofs.CutMembers.{offer_cut, offer_not_cut}
+use Rattle.gu_flow.proofs.RoomPlaces.{agreement_read}
 use Rattle.gu_flow.proofs.cutting.add_offers.Goals as goal
 use Rattle.gu_flow.proofs.cutting.add_offers.Goals.{then-cuts_offers+in_ok-add_offer, else-cuts_offers}
 
@@ -19,7 +20,7 @@ loop-number-preserved c =
     let h = c.loop-number.invariant in
     let inside = rw offers at c.loop-number-test.true in
     let number : c.offer-item.result.number ≡ (offer_at view.offers i).number = ap (λ (o : Offer). o.number) (rw offers at c.offer-item.is ∙ get_or_default view.offers i c.offer-item.result no_offer inside) in
-    let told = c.cuts_offers.ensures ∙ ap (cuts_offers reached arcs view.rooms) c.agreement_place.ensures.place in
+    let told = c.cuts_offers.ensures ∙ ap (cuts_offers reached arcs view.rooms) (agreement_read view i c.agreement_place.result inside c.agreement_place.ensures.place) in
     elim c.if-cuts_offers.branch [
       | then-cuts_offers+in_ok-add_offer w ↦ record {
         offers = rw w.cut-is (offer_cut view sound reached arcs c.loop-number.cut.offers w.add_offer.new.self.offers i w.in_ok-add_offer.field-0 inside h.offers (sym told ∙ w.if-cuts_offers.true) (rw number at w.in_ok-add_offer.ensures.added) (rw number at w.in_ok-add_offer.ensures.offers));

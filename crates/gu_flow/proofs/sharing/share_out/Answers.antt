@@ -3,6 +3,7 @@ use Rattle.std.proofs.lemmas.List.{get_or_default}
 use Rattle.gu_view.specs.declared.view.Offer.{Offer}
 use Rattle.gu_flow.specs.Networks.{no_offer, offer_at}
 use Rattle.gu_terms.proofs.LastTake.{added_last}
+use Rattle.gu_flow.proofs.RoomPlaces.{agreement_read}
 use Rattle.gu_flow.proofs.ShareLemmas.{shares_before, one_more_share}
 use Rattle.gu_flow.proofs.sharing.share_out.Goals as goal
 
@@ -25,4 +26,4 @@ loop-number-preserved c =
     let lots_are : lots ≡ min (offer_at view.offers i).lots (get_or rests place 0) = c.min-lots.ensures ∙ ap (min o.lots) read ∙ ap (λ (o : Offer). min o.lots (get_or rests place 0)) is in
     let taken = added_last c.loop-number.takes c.add.new.self (record { offer = o.number; lots = lots }) c.in_ok-add.field-0
     (rw number (shares_before view c.args.arcs.now c.offers-offer-items.ensures.sound c.loop-number.takes i inside h.shares)) c.in_ok-add.ensures.added c.in_ok-add.ensures.takes in
-    rw (taken, number, written) (one_more_share view c.args.arcs.now c.loop-number.takes rests i place lots inside h c.agreement_place-place.ensures.place within lots_are)
+    rw (taken, number, written) (one_more_share view c.args.arcs.now c.loop-number.takes rests i place lots inside h (agreement_read view i place inside c.agreement_place-place.ensures.place) within lots_are)
