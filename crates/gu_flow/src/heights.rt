@@ -1,6 +1,6 @@
 //! Lots pushed down from node to node: a node is as high as it is far from the sink.
 
-ghost use Rattle.std.specs.Prelude.{◌≡◌, ℕ, ◌*◌, ◌^◌, ◌<◌, ◌≤◌, All, length, slice_index, vec_len};
+ghost use Rattle.std.specs.Prelude.{◌≡◌, ℕ, ◌*◌, ◌^◌, ◌<◌, ◌≤◌, All, OnErr, OnOk, length, slice_index, vec_len};
 ghost use Rattle.gu_flow.specs.Ends.{IsIndex, JoinsNodes};
 ghost use Rattle.gu_flow.specs.Flows.{IsFlow, SamePipes, worth};
 ghost use Rattle.gu_flow.specs.Preflows.{capacities, IsPreflow};
@@ -8,6 +8,7 @@ ghost use Rattle.gu_flow.specs.Preflows.{capacities, IsPreflow};
 use crate::arcs::{Arc, SINK, SOURCE, far, room_in, room_out};
 use crate::preflow::{give_back, push};
 use crate::waiting::Waiting;
+use std::alloc::{AllocError, Global};
 
 /// How many turns nodes have at most; what they leave is left to the searches.
 const MOST_TURNS: u32 = 1 << 24;
@@ -261,8 +262,9 @@ fn take_turns(
     }
 }
 
-/// Pushes what the source can give towards the sink all at once, and gives back what doesn't come there.
-pub(crate) fn surge(
+/// Pushes what the source can give towards the sink all at once, and gives back what doesn't come there, over lists that are
+/// there.
+fn push_all(
     arcs: &mut [Arc],
     excess: &mut [u64],
     first: &[u32],
@@ -272,7 +274,7 @@ pub(crate) fn surge(
     queue: &mut [u32],
     waiting: &mut Waiting,
 )
-    requires flow { IsFlow arcs.old 0 1 }
+    requires preflow { IsPreflow arcs.old excess.old }
     requires joins { JoinsNodes arcs.old (length excess.old) }
     requires fits { capacities arcs.old < 2 ^ 64 }
     requires few { (length excess.old < 2 ^ 31) × (1 < length excess.old) × (length arcs.old < 2 ^ 31) }
@@ -283,11 +285,48 @@ pub(crate) fn surge(
     ensures flow { IsFlow arcs.new 0 1 }
     ensures pipes { SamePipes arcs.old arcs.new }
     ensures worth { worth arcs.old 1 ≤ worth arcs.new 1 }
-    ensures ring { vec_len waiting.new.ring ≡ vec_len waiting.old.ring }
 {
-    begin(excess);
     start_over(arcs, first, next, heights, current, queue);
     push_down(arcs, excess, next, heights, current, waiting, SOURCE);
     take_turns(arcs, excess, first, next, heights, current, queue, waiting);
     give_back(arcs, excess);
+}
+
+/// Pushes what the source can give towards the sink all at once, and gives back what doesn't come there. What it needs beside
+/// the lists that are there it takes first.
+pub(crate) fn surge(
+    alloc: Global,
+    arcs: &mut [Arc],
+    first: &[u32],
+    next: &[u32],
+    current: &mut [u32],
+    queue: &mut [u32],
+) -> Result<(), AllocError>
+    requires flow { IsFlow arcs.old 0 1 }
+    requires joins { JoinsNodes arcs.old (length current.old) }
+    requires fits { capacities arcs.old < 2 ^ 64 }
+    requires few { (length current.old < 2 ^ 31) × (1 < length current.old) × (length arcs.old < 2 ^ 31) }
+    requires index { IsIndex arcs.old first.now next.now (2 * length arcs.old) }
+    requires lists { (length first.now ≡ length current.old) × (length next.now ≡ 2 * length arcs.old) × (0 < length queue.old) }
+    ensures flow { OnOk result (IsFlow arcs.new 0 1) }
+    ensures pipes { OnOk result (SamePipes arcs.old arcs.new) }
+    ensures worth { OnOk result (worth arcs.old 1 ≤ worth arcs.new 1) }
+    ensures refused { OnErr result (arcs.new ≡ arcs.old) }
+{
+    let nodes = current.len();
+    let mut excess = vec![in alloc; 0; nodes]?;
+    let mut heights = vec![in alloc; 0; nodes]?;
+    let mut waiting = Waiting::new(alloc, nodes)?;
+    begin(&mut excess);
+    push_all(
+        arcs,
+        &mut excess,
+        first,
+        next,
+        &mut heights,
+        current,
+        queue,
+        &mut waiting,
+    );
+    Ok(())
 }

@@ -19,14 +19,13 @@ kept old new first next same index = rw (pipes_length old new same) (pipes_index
 
 pub searches-preserved-then-left-eq0 : goal.searches-preserved-then-left-eq0
 searches-preserved-then-left-eq0 c =
-    let e = c.surge.ensures in
+    let e = c.in_ok-surge.ensures in
     let i = c.searches.invariant in
     record {
       flow = e.flow;
       pipes = e.pipes ∙ i.pipes;
       joins = subst (JoinsNodes c.surge.new.arcs) (sym c.search.auto.entries) (pipes_join c.searches.arcs c.surge.new.arcs _ e.pipes i.joins);
       index = kept c.searches.arcs c.surge.new.arcs c.args.first.now c.args.next.now e.pipes i.index;
-      ring = e.ring ∙ i.ring;
     }
 
 pub searches-preserved : goal.searches-preserved
@@ -38,7 +37,6 @@ searches-preserved c =
       pipes = e.pipes ∙ i.pipes;
       joins = subst (JoinsNodes c.block.new.arcs) (sym c.search.auto.entries) (pipes_join c.searches.arcs c.block.new.arcs _ e.pipes i.joins);
       index = kept c.searches.arcs c.block.new.arcs c.args.first.now c.args.next.now e.pipes i.index;
-      ring = i.ring;
     }
 
 -- what is left to be brought falls by more than a surge that comes next can count

@@ -1,4 +1,4 @@
-use Rattle.std.proofs.Common.{◌+◌, ◌-◌, ◌*◌, ◌≡◌, length, vec_len}
+use Rattle.std.proofs.Common.{◌+◌, ◌-◌, ◌*◌, length}
 use Rattle.gu_flow.specs.Ends.{IsIndex, JoinsNodes}
 use Rattle.gu_flow.specs.Flows.{IsFlow, SamePipes, worth}
 use Rattle.gu_flow.specs.Preflows.{capacities}
@@ -10,7 +10,6 @@ invariant-searches l = record {
   pipes : SamePipes l.initial.arcs l.arcs;
   joins : JoinsNodes l.arcs (length l.entries);
   index : IsIndex l.arcs l.first l.next (2 * length l.arcs);
-  ring : vec_len l.waiting.ring ≡ vec_len l.initial.waiting.ring;
 }
 
 abbrev pub decreases-searches : goal.decreases-searches
