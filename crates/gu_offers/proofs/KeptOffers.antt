@@ -1,0 +1,197 @@
+-- One offer that is kept is changed: all stays kept, and the others are as they were.
+use Rattle.std.proofs.Common.{◌≡◌, ◌≢◌, ◌∙◌, sym, refl, ap, subst, ℕ, suc, ◌+◌, ◌-◌, ◌≤◌, Bool, true, false, ◌&&◌, List, length, map, set, slice_get, Some, nat_lt, arith, if◌then◌else◌}
+use Rattle.std.specs.List.{AllByRecursion}
+use Rattle.std.specs.Option.{option_map, option_map_or}
+use Rattle.std.proofs.lemmas.List.{length-set, map-set}
+use Rattle.std.proofs.lemmas.Bool.{ltb-false}
+use Rattle.std.proofs.lemmas.Option.{slice_get-map}
+use Rattle.std.proofs.lemmas.Slice.Eq.{bytes_eq-Decides}
+use Rattle.gu_terms.specs.declared.firm.FirmId.{FirmId}
+use Rattle.gu_terms.specs.declared.group.Group.{Group}
+use Rattle.gu_terms.specs.declared.id.Id.{Id}
+use Rattle.gu_terms.specs.declared.offer.Offer.{Offer}
+use Rattle.gu_terms.specs.Same.{same_firm, same_group, same_id}
+use Rattle.gu_offers.specs.declared.given.Given.{Given}
+use Rattle.gu_offers.specs.declared.offers.Offers.TheInside.{Inside}
+use Rattle.gu_offers.specs.Changes.{changed, closed, reversed, taken}
+use Rattle.gu_offers.specs.Counts.{lots_under}
+use Rattle.gu_offers.specs.Given.{row_of}
+use Rattle.gu_offers.specs.Groups.{numbers_in}
+use Rattle.gu_offers.specs.Kept.{IsKept, IsSoundAt, IsWritten, rows_of}
+use Rattle.gu_offers.specs.Numbers.{IsAscending}
+use Rattle.gu_offers.specs.Rows.{IsSound, Row, counted_of, counted_under, is_of_report, is_open, left_of, open_numbers}
+use Rattle.gu_offers.proofs.Listed.{all-at, all-set, counted-set, numbers-ascend, numbers-closed, numbers-same}
+use Rattle.gu_offers.proofs.NumberLists.{without}
+use Rattle.gu_offers.proofs.Written.{left-fits}
+
+closed-one : (p q : Bool) → q ≡ false → (p && q) ≡ false
+closed-one true q e = e
+closed-one false q e = refl
+
+other-one : (p p' q q' : Bool) → p ≡ false → p' ≡ false → (p && q) ≡ (p' && q')
+other-one true p' q q' e f = cc
+other-one false true q q' e f = cc
+other-one false false q q' e f = refl
+
+-- a number that isn't 0 is above it
+pub above_zero : (n : ℕ) → n ≢ 0 → nat_lt 0 n ≡ true
+above_zero n some = by (nat_lt 0 n) refl
+  where
+    by : (b : Bool) → nat_lt 0 n ≡ b → nat_lt 0 n ≡ true
+    by true e = e
+    by false e = absurd (some (omega (arith, ltb-false 0 n e)))
+
+as_before : (b : Bool) (m l lots : ℕ) → lots ≤ (if b then 0 else l - m) → (if b then m else l) ≡ (if b then m + lots else l) + 0
+as_before true m l lots h = omega arith
+as_before false m l lots h = omega arith
+
+-- a move changes nothing of what is held of the report
+pub counted-taken : (r : Row) (lots : ℕ) → lots ≤ left_of r → counted_of r ≡ counted_of (taken lots r) + 0
+counted-taken r lots h = as_before r.is_shut r.moved r.offer.lots lots h
+
+closing : (b : Bool) (m l : ℕ) → m ≤ l → (if b then m else l) ≡ m + (if b then 0 else l - m)
+closing true m l h = omega arith
+closing false m l h = omega arith
+
+-- what is left of an offer is held no longer once it is closed
+pub counted-closed : (r : Row) → IsSound r → counted_of r ≡ counted_of (closed r) + left_of r
+counted-closed r sound = closing r.is_shut r.moved r.offer.lots sound.moved
+
+reversing : (b : Bool) (m l today : ℕ) → m ≤ l → today ≤ m → (if b then 0 else l - m) ≡ 0 → (if b then m else l) ≡ m - today + today
+reversing true m l today h k left = omega arith
+reversing false m l today h k left = omega arith
+
+-- what is moved no longer of a closed offer is held no longer
+pub counted-reversed : (r : Row) → IsSound r → left_of r ≡ 0 → counted_of r ≡ counted_of (reversed r) + r.today
+counted-reversed r sound left = reversing r.is_shut r.moved r.offer.lots r.today sound.moved sound.today left
+
+-- lots that are left may be moved
+pub sound-taken : (r : Row) (lots : ℕ) → IsSound r → lots ≤ left_of r → IsSound (taken lots r)
+sound-taken r lots sound h = record {
+  lots = sound.lots;
+  moved = left-fits r.is_shut r.offer.lots r.moved lots h sound.moved;
+  today = omega (arith, sound.today);
+}
+
+pub sound-closed : (r : Row) → IsSound r → IsSound (closed r)
+sound-closed r sound = record { lots = sound.lots; moved = sound.moved; today = sound.today }
+
+pub sound-reversed : (r : Row) → IsSound r → IsSound (reversed r)
+sound-reversed r sound = record { lots = sound.lots; moved = omega (arith, sound.moved); today = omega arith }
+
+still_left : (b : Bool) (l m lots : ℕ) → (if b then 0 else l - (m + lots)) ≢ 0 → (if b then 0 else l - m) ≢ 0
+still_left true l m lots h e = h e
+still_left false l m lots h e = h (omega arith)
+
+-- an offer of which lots are left after a move was open, and is
+pub open-taken : (r : Row) (lots : ℕ) → left_of (taken lots r) ≢ 0 → is_open (taken lots r) ≡ is_open r
+open-taken r lots h = above_zero (left_of (taken lots r)) h ∙ sym (above_zero (left_of r) (still_left r.is_shut r.offer.lots r.moved lots h))
+
+-- each offer that is kept is sound on its day
+pub sound_at : (kept : Inside) → IsKept kept → (place : ℕ) → IsSoundAt kept.rows.items place kept.day
+sound_at kept is_kept place g at =
+    all-at IsSound (rows_of kept) place (row_of kept.day g) is_kept.sound (slice_get-map (row_of kept.day) kept.rows.items place ∙ ap (option_map (row_of kept.day)) at)
+
+-- the numbers that are kept of a group ascend
+pub ascending : (kept : Inside) → IsKept kept → (group : Group) → IsAscending (numbers_in kept.groups group)
+ascending kept is_kept group = subst IsAscending (sym (is_kept.numbers group)) (numbers-ascend group 1 (rows_of kept))
+
+nothing : (b : Bool) → ◌≡◌ {A = ℕ} (if b then 0 else 0) 0
+nothing true = refl
+nothing false = refl
+
+module _ (kept : Inside) (is_kept : IsKept kept) (place : ℕ) (new : List Given) (change : Row → Row) (offer : Offer) (written : IsWritten kept.rows.items new place kept.day change offer) where
+  -- the offer before
+  abbrev before : Row
+  before = row_of kept.day written.was
+
+  -- it stands at its place
+  pub stands_there : slice_get (rows_of kept) place ≡ Some before
+  stands_there = slice_get-map (row_of kept.day) kept.rows.items place ∙ ap (option_map (row_of kept.day)) written.there
+
+  pub is_sound : IsSound before
+  is_sound = all-at IsSound (rows_of kept) place before is_kept.sound stands_there
+
+  -- the offers after
+  pub after : map (row_of kept.day) new ≡ set (rows_of kept) place (change before)
+  after = ap (map (row_of kept.day)) written.written ∙ map-set (row_of kept.day) kept.rows.items place written.now ∙ ap (set (rows_of kept) place) written.row
+
+  pub after-changed : map (row_of kept.day) new ≡ changed (rows_of kept) (suc place) change
+  after-changed = after ∙ sym (ap (λ o. option_map_or (λ r. set (rows_of kept) place (change r)) o (rows_of kept)) stands_there)
+
+  module _ (same : (change before).offer ≡ before.offer) where
+    -- what is as open as it was
+    pub numbers-as_they_were : is_open (change before) ≡ is_open before → (group : Group) → numbers_in kept.groups group ≡ open_numbers (set (rows_of kept) place (change before)) group
+    numbers-as_they_were open_as group =
+        is_kept.numbers group
+        ∙ sym (numbers-same group 1 (rows_of kept) place before (change before) stands_there (λ i. same_group (same i).group group && open_as i))
+
+    -- what is closed is taken out of its group's
+    pub numbers-taken_out : is_open (change before) ≡ false → (group : Group)
+        → (if same_group offer.group group then without (place + 1) (numbers_in kept.groups group) else numbers_in kept.groups group)
+        ≡ open_numbers (set (rows_of kept) place (change before)) group
+    numbers-taken_out shut group = by (same_group offer.group group) refl
+      where
+        by : (b : Bool) → same_group offer.group group ≡ b
+            → (if b then without (place + 1) (numbers_in kept.groups group) else numbers_in kept.groups group) ≡ open_numbers (set (rows_of kept) place (change before)) group
+        by true e =
+            let one : place + 1 ≡ 1 + place = omega arith in
+            ap (without (place + 1)) (is_kept.numbers group) ∙ ap (λ m. without m (open_numbers (rows_of kept) group)) one
+            ∙ sym (numbers-closed group 1 (rows_of kept) place before (change before) stands_there (closed-one (same_group (change before).offer.group group) (is_open (change before)) shut))
+        by false e =
+            is_kept.numbers group
+            ∙ sym (numbers-same group 1 (rows_of kept) place before (change before) stands_there
+            (other-one (same_group (change before).offer.group group) (same_group before.offer.group group) (is_open (change before)) (is_open before)
+            ((λ i. same_group (same i).group group) ∙ (λ i. same_group (sym written.own i).group group) ∙ e) ((λ i. same_group (sym written.own i).group group) ∙ e)))
+
+    -- of its report so much less is held
+    pub counts-less : (less : ℕ) → counted_of before ≡ counted_of (change before) + less → (firm : FirmId) (id : Id)
+        → (if same_firm offer.firm firm && same_id offer.report id then lots_under kept.counts firm id - less else lots_under kept.counts firm id)
+        ≡ counted_under (set (rows_of kept) place (change before)) firm id
+    counts-less less is firm id =
+        by (same_firm offer.firm firm && same_id offer.report id)
+        (counted-set firm id (rows_of kept) place before (change before) less stands_there same is)
+        (λ i. same_firm (written.own i).firm firm && same_id (written.own i).report id)
+      where
+        by : (b : Bool) → counted_under (set (rows_of kept) place (change before)) firm id + (if is_of_report firm id before then less else 0) ≡ counted_under (rows_of kept) firm id
+            → b ≡ is_of_report firm id before
+            → (if b then lots_under kept.counts firm id - less else lots_under kept.counts firm id) ≡ counted_under (set (rows_of kept) place (change before)) firm id
+        by true sums e =
+            let own : (if is_of_report firm id before then less else 0) ≡ less = λ i. if sym e i then less else 0 in
+            omega (arith, sums, own, is_kept.counts firm id)
+        by false sums e =
+            let none : (if is_of_report firm id before then less else 0) ≡ 0 = λ i. if sym e i then less else 0 in
+            omega (arith, sums, none, is_kept.counts firm id)
+
+    -- what is held of a report is at least what one of its offers holds
+    pub held-within : (less : ℕ) → counted_of before ≡ counted_of (change before) + less → less ≤ lots_under kept.counts offer.firm offer.report
+    held-within less is =
+        let own : is_of_report offer.firm offer.report before ≡ true =
+        (λ i. same_firm (sym written.own i).firm offer.firm && same_id (sym written.own i).report offer.report)
+        ∙ (λ i. (bytes_eq-Decides offer.firm.name offer.firm.name).1 refl i && (bytes_eq-Decides offer.report offer.report).1 refl i) in
+        let held : (if is_of_report offer.firm offer.report before then less else 0) ≡ less = λ i. if own i then less else 0 in
+        omega (arith, counted-set offer.firm offer.report (rows_of kept) place before (change before) less stands_there same is, held, is_kept.counts offer.firm offer.report)
+
+    -- what is held of reports stays where this offer holds what it held
+    pub counts-as_they_were : counted_of before ≡ counted_of (change before) + 0 → (firm : FirmId) (id : Id)
+        → lots_under kept.counts firm id ≡ counted_under (set (rows_of kept) place (change before)) firm id
+    counts-as_they_were is firm id =
+        omega (arith, counted-set firm id (rows_of kept) place before (change before) 0 stands_there same is, nothing (is_of_report firm id before), is_kept.counts firm id)
+
+    -- all is kept then
+    pub kept-changed : (later : Inside) → later.rows.items ≡ new → later.day ≡ kept.day → IsSound (change before)
+        → ((group : Group) → numbers_in later.groups group ≡ open_numbers (set (rows_of kept) place (change before)) group)
+        → ((firm : FirmId) (id : Id) → lots_under later.counts firm id ≡ counted_under (set (rows_of kept) place (change before)) firm id)
+        → IsKept later
+    kept-changed later is today sound numbers counts =
+        let view : rows_of later ≡ set (rows_of kept) place (change before) = (λ i. map (row_of (today i)) (is i)) ∙ after in
+        record {
+          sound = subst (AllByRecursion IsSound) (sym view) (all-set IsSound (rows_of kept) place (change before) is_kept.sound sound);
+          days = subst (λ (d : ℕ). AllByRecursion (λ (g : Given). g.moved_on ≤ d) later.rows.items) (sym today)
+              (subst (AllByRecursion (λ (g : Given). g.moved_on ≤ kept.day)) (sym (is ∙ written.written))
+              (all-set (λ (g : Given). g.moved_on ≤ kept.day) kept.rows.items place written.now is_kept.days
+              (written.on (all-at (λ (g : Given). g.moved_on ≤ kept.day) kept.rows.items place written.was is_kept.days written.there))));
+          few = let same_length : length later.rows.items ≡ length kept.rows.items = ap length (is ∙ written.written) ∙ length-set kept.rows.items place written.now in omega (arith, same_length, is_kept.few);
+          numbers = λ group. numbers group ∙ ap (λ rows. open_numbers rows group) (sym view);
+          counts = λ firm id. counts firm id ∙ ap (λ rows. counted_under rows firm id) (sym view);
+        }

@@ -1,0 +1,84 @@
+-- The tables beside the offers: lots of reports, and numbers of groups.
+use Rattle.std.proofs.Common.{◌≡◌, ◌∙◌, sym, refl, ap, ℕ, Bool, true, false, cond, ◌&&◌, List, [], Option, Some, None, is_some, unwrap_or, Result, Ok, Err, OnErr, if◌then◌else◌}
+use Rattle.std.specs.Option.{option_map_or}
+use Rattle.std.proofs.lemmas.Slice.Eq.{bytes_eq-Decides}
+use Rattle.indexmap.specs.IndexMap.{IndexMap, get, Updates}
+use Rattle.gu_terms.specs.declared.firm.FirmId.{FirmId}
+use Rattle.gu_terms.specs.declared.group.Group.{Group}
+use Rattle.gu_terms.specs.declared.id.Id.{Id}
+use Rattle.gu_terms.specs.Same.{same_firm, same_group, same_id}
+use Rattle.gu_offers.specs.declared.counts.Counts.{Counts}
+use Rattle.gu_offers.specs.Counts.{lots_under, report_key, same_key}
+
+-- two tests that both pass
+pub both : (p q : Bool) → (p && q) ≡ true → (p ≡ true) × (q ≡ true)
+both true true h = (refl, refl)
+both true false h = cc
+both false q h = cc
+
+-- nothing is there
+pub none : {X : Type 0} (o : Option X) → is_some o ≡ false → o ≡ None
+none None h = refl
+none (Some x) h = cc
+
+-- firms of one name are one
+pub same_firm-true : (a b : FirmId) → same_firm a b ≡ true → a ≡ b
+same_firm-true a b h = λ i. record { name = (bytes_eq-Decides a.name b.name).0 h i }
+
+-- ids of the same bytes are one
+pub same_id-true : (a b : Id) → same_id a b ≡ true → a ≡ b
+same_id-true a b h = (bytes_eq-Decides a b).0 h
+
+-- groups of one name are one
+pub same_group-true : (a b : Group) → same_group a b ≡ true → a ≡ b
+same_group-true a b h = λ i. record { name = (bytes_eq-Decides a.name b.name).0 h i }
+
+module _ (old new : Counts) (firm : FirmId) (id : Id) where
+  -- the lots of one report are changed
+  pub lots_under-changed : (f : ℕ → ℕ) (v w : ℕ) → Updates same_key old.lots new.lots (report_key firm id) (Some w) → Some v ≡ get same_key old.lots (report_key firm id) → w ≡ f v
+      → (other : FirmId) (another : Id) → lots_under new other another ≡ (if same_firm firm other && same_id id another then f (lots_under old other another) else lots_under old other another)
+  lots_under-changed f v w updated was is other another =
+      ap (λ o. unwrap_or o 0) (updated.0 (report_key other another)) ∙ by (same_firm firm other && same_id id another) refl
+    where
+      by : (b : Bool) → (same_firm firm other && same_id id another) ≡ b
+          → unwrap_or (cond b (Some w) (get same_key old.lots (report_key other another))) 0 ≡ (if b then f (lots_under old other another) else lots_under old other another)
+      by true e =
+          let p = both (same_firm firm other) (same_id id another) e in
+          is ∙ ap f (ap (λ o. unwrap_or o 0) was ∙ (λ i. lots_under old (same_firm-true firm other p.0 i) (same_id-true id another p.1 i)))
+      by false e = refl
+
+  -- a report that is new has no lots, as before
+  pub lots_under-new : Updates same_key old.lots new.lots (report_key firm id) (Some 0) → get same_key old.lots (report_key firm id) ≡ None
+      → (other : FirmId) (another : Id) → lots_under new other another ≡ lots_under old other another
+  lots_under-new updated none other another =
+      ap (λ o. unwrap_or o 0) (updated.0 (report_key other another)) ∙ by (same_firm firm other && same_id id another) refl
+    where
+      by : (b : Bool) → (same_firm firm other && same_id id another) ≡ b → unwrap_or (cond b (Some 0) (get same_key old.lots (report_key other another))) 0 ≡ lots_under old other another
+      by true e =
+          let p = both (same_firm firm other) (same_id id another) e in
+          sym (ap (λ o. unwrap_or o 0) none) ∙ (λ i. lots_under old (same_firm-true firm other p.0 i) (same_id-true id another p.1 i))
+      by false e = refl
+
+module _ {V S : Type 0} (list : V → List ℕ) (old new : IndexMap Group V S) (group : Group) where
+  -- a group that is new has no numbers, as before
+  pub listed-new : (v : V) → Updates same_group old new group (Some v) → list v ≡ [] → get same_group old group ≡ None
+      → (other : Group) → option_map_or list (get same_group new other) [] ≡ option_map_or list (get same_group old other) []
+  listed-new v updated empty none other = ap (λ o. option_map_or list o []) (updated.0 other) ∙ by (same_group group other) refl
+    where
+      by : (b : Bool) → same_group group other ≡ b → option_map_or list (cond b (Some v) (get same_group old other)) [] ≡ option_map_or list (get same_group old other) []
+      by true e = empty ∙ sym (ap (λ o. option_map_or list o []) none) ∙ (λ i. option_map_or list (get same_group old (same_group-true group other e i)) [])
+      by false e = refl
+
+  -- a list that is written as it was leaves all
+  pub listed-same : (v w : V) → Updates same_group old new group (Some w) → Some v ≡ get same_group old group → list w ≡ list v
+      → (other : Group) → option_map_or list (get same_group new other) [] ≡ option_map_or list (get same_group old other) []
+  listed-same v w updated was same other = ap (λ o. option_map_or list o []) (updated.0 other) ∙ by (same_group group other) refl
+    where
+      by : (b : Bool) → same_group group other ≡ b → option_map_or list (cond b (Some w) (get same_group old other)) [] ≡ option_map_or list (get same_group old other) []
+      by true e = same ∙ ap (λ o. option_map_or list o []) was ∙ (λ i. option_map_or list (get same_group old (same_group-true group other e i)) [])
+      by false e = refl
+
+-- what a refusal leaves, said in another way
+pub on_err : {T E : Type 0} (r : Result T E) (P Q : Type 0) → (P → Q) → OnErr r P → OnErr r Q
+on_err (Ok x) P Q f p = p
+on_err (Err e) P Q f p = f p

@@ -1,0 +1,7 @@
+pub mod Found
+pub mod Growing
+pub mod KeptOffers
+pub mod KeptTables
+pub mod Listed
+pub mod NumberLists
+pub mod Written

@@ -1,0 +1,131 @@
+-- What the rows at a place, or more rows, do to the numbers of open offers and to the lots of reports.
+use Rattle.std.proofs.Common.{◌≡◌, ◌≢◌, ◌∙◌, sym, refl, ap, subst, ℕ, zero, suc, ◌+◌, ◌<◌, ◌≤◌, ◌==◌, Bool, true, false, not, cond, ◌&&◌, List, [], ◌∷◌, ◌++◌, length, set, slice_get, Some, arith, if◌then◌else◌}
+use Rattle.std.specs.List.{AllByRecursion}
+use Rattle.std.proofs.lemmas.List.Sums.{sum_by-cons}
+use Rattle.gu_terms.specs.declared.firm.FirmId.{FirmId}
+use Rattle.gu_terms.specs.declared.group.Group.{Group}
+use Rattle.gu_terms.specs.declared.id.Id.{Id}
+use Rattle.gu_terms.specs.Same.{same_firm, same_id}
+use Rattle.gu_offers.specs.Numbers.{IsAscending}
+use Rattle.gu_offers.specs.Rows.{Row, counted_of, counted_under, is_of_report, is_open_in, numbers_from}
+use Rattle.gu_offers.proofs.NumberLists.{other_than, own_number, without, without-above}
+
+module _ {X : Type 0} (P : X → Type 0) where
+  -- what holds of each holds of the one at a place
+  pub all-at : (xs : List X) (place : ℕ) (x : X) → AllByRecursion P xs → slice_get xs place ≡ Some x → P x
+  all-at [] place x all at = cc
+  all-at (y ∷ xs) zero x all at = let one : y ≡ x = cc in subst P one all.0
+  all-at (y ∷ xs) (suc place) x all at = all-at xs place x all.1 at
+
+  -- and of each after one is changed of which it holds
+  pub all-set : (xs : List X) (place : ℕ) (x : X) → AllByRecursion P xs → P x → AllByRecursion P (set xs place x)
+  all-set [] place x all one = tt
+  all-set (y ∷ xs) zero x all one = (one, all.1)
+  all-set (y ∷ xs) (suc place) x all one = (all.0, all-set xs place x all.1 one)
+
+  -- and of each of both lists
+  pub all-append : (xs ys : List X) → AllByRecursion P xs → AllByRecursion P ys → AllByRecursion P (xs ++ ys)
+  all-append [] ys all more = more
+  all-append (x ∷ xs) ys all more = (all.0, all-append xs ys all.1 more)
+
+  -- and another fact follows
+  pub all-imply : (Q : X → Type 0) → ((x : X) → P x → Q x) → (xs : List X) → AllByRecursion P xs → AllByRecursion Q xs
+  all-imply Q f [] all = tt
+  all-imply Q f (x ∷ xs) all = (f x all.0, all-imply Q f xs all.1)
+
+module _ (group : Group) where
+  -- the numbers lie from the first on
+  pub numbers-within : (n : ℕ) (rows : List Row) → AllByRecursion (λ m. (n ≤ m) × (m < n + length rows)) (numbers_from n rows group)
+  numbers-within n [] = tt
+  numbers-within n (r ∷ rows) =
+      by (is_open_in group r) (all-imply (λ m. (n + 1 ≤ m) × (m < n + 1 + length rows)) (λ m. (n ≤ m) × (m < n + length (r ∷ rows))) (λ m h. (omega arith, omega arith))
+      (numbers_from (n + 1) rows group) (numbers-within (n + 1) rows))
+    where
+      by : (b : Bool) → AllByRecursion (λ m. (n ≤ m) × (m < n + length (r ∷ rows))) (numbers_from (n + 1) rows group)
+          → AllByRecursion (λ m. (n ≤ m) × (m < n + length (r ∷ rows))) (cond b (n ∷ numbers_from (n + 1) rows group) (numbers_from (n + 1) rows group))
+      by true rest = ((omega arith, omega arith), rest)
+      by false rest = rest
+
+  -- they ascend
+  pub numbers-ascend : (n : ℕ) (rows : List Row) → IsAscending (numbers_from n rows group)
+  numbers-ascend n [] = tt
+  numbers-ascend n (r ∷ rows) =
+      by (is_open_in group r)
+      (all-imply (λ m. (n + 1 ≤ m) × (m < n + 1 + length rows)) (λ m. n < m) (λ m h. omega arith) (numbers_from (n + 1) rows group) (numbers-within (n + 1) rows))
+      (numbers-ascend (n + 1) rows)
+    where
+      by : (b : Bool) → AllByRecursion (λ m. n < m) (numbers_from (n + 1) rows group) → IsAscending (numbers_from (n + 1) rows group)
+          → IsAscending (cond b (n ∷ numbers_from (n + 1) rows group) (numbers_from (n + 1) rows group))
+      by true above up = (above, up)
+      by false above up = up
+
+  -- a row that is as open as it was leaves them
+  pub numbers-same : (n : ℕ) (rows : List Row) (place : ℕ) (old new : Row) → slice_get rows place ≡ Some old → is_open_in group new ≡ is_open_in group old
+      → numbers_from n (set rows place new) group ≡ numbers_from n rows group
+  numbers-same n [] place old new at same = refl
+  numbers-same n (r ∷ rows) zero old new at same =
+      let one : r ≡ old = cc in
+      ap (λ b. cond b (n ∷ numbers_from (n + 1) rows group) (numbers_from (n + 1) rows group)) (same ∙ ap (is_open_in group) (sym one))
+  numbers-same n (r ∷ rows) (suc place) old new at same =
+      ap (λ l. cond (is_open_in group r) (n ∷ l) l) (numbers-same (n + 1) rows place old new at same)
+
+  -- a row that is closed takes its number out
+  pub numbers-closed : (n : ℕ) (rows : List Row) (place : ℕ) (old new : Row) → slice_get rows place ≡ Some old → is_open_in group new ≡ false
+      → numbers_from n (set rows place new) group ≡ without (n + place) (numbers_from n rows group)
+  numbers-closed n [] place old new at shut = refl
+  numbers-closed n (r ∷ rows) zero old new at shut =
+      let rest : without n (numbers_from (n + 1) rows group) ≡ numbers_from (n + 1) rows group =
+      without-above n (numbers_from (n + 1) rows group)
+      (all-imply (λ m. (n + 1 ≤ m) × (m < n + 1 + length rows)) (λ m. n < m) (λ m h. omega arith) (numbers_from (n + 1) rows group) (numbers-within (n + 1) rows)) in
+      let here : n + 0 ≡ n = omega arith in
+      ap (λ b. cond b (n ∷ numbers_from (n + 1) rows group) (numbers_from (n + 1) rows group)) shut
+      ∙ by (is_open_in group r) rest
+      ∙ ap (λ m. without m (cond (is_open_in group r) (n ∷ numbers_from (n + 1) rows group) (numbers_from (n + 1) rows group))) (sym here)
+    where
+      by : (b : Bool) → without n (numbers_from (n + 1) rows group) ≡ numbers_from (n + 1) rows group
+          → numbers_from (n + 1) rows group ≡ without n (cond b (n ∷ numbers_from (n + 1) rows group) (numbers_from (n + 1) rows group))
+      by true rest = rw (own_number n) (sym rest)
+      by false rest = sym rest
+  numbers-closed n (r ∷ rows) (suc place) old new at shut =
+      let later : n + 1 + place ≡ n + suc place = omega arith in
+      let apart : n ≢ n + suc place = λ same. omega arith in
+      ap (λ l. cond (is_open_in group r) (n ∷ l) l) (numbers-closed (n + 1) rows place old new at shut ∙ ap (λ m. without m (numbers_from (n + 1) rows group)) later)
+      ∙ by (is_open_in group r) (other_than n (n + suc place) apart)
+    where
+      by : (b : Bool) → not (n == n + suc place) ≡ true
+          → cond b (n ∷ without (n + suc place) (numbers_from (n + 1) rows group)) (without (n + suc place) (numbers_from (n + 1) rows group))
+          ≡ without (n + suc place) (cond b (n ∷ numbers_from (n + 1) rows group) (numbers_from (n + 1) rows group))
+      by true other = rw other refl
+      by false other = refl
+
+  -- more rows have their numbers behind
+  pub numbers-append : (n : ℕ) (rows more : List Row) → numbers_from n (rows ++ more) group ≡ numbers_from n rows group ++ numbers_from (n + length rows) more group
+  numbers-append n [] more = let e : n + 0 ≡ n = omega arith in ap (λ m. numbers_from m more group) (sym e)
+  numbers-append n (r ∷ rows) more =
+      let e : n + 1 + length rows ≡ n + length (r ∷ rows) = omega arith in
+      ap (λ l. cond (is_open_in group r) (n ∷ l) l) (numbers-append (n + 1) rows more ∙ ap (λ m. numbers_from (n + 1) rows group ++ numbers_from m more group) e)
+      ∙ by (is_open_in group r) (numbers_from (n + 1) rows group) (numbers_from (n + length (r ∷ rows)) more group)
+    where
+      by : (b : Bool) (xs ys : List ℕ) → cond b (n ∷ (xs ++ ys)) (xs ++ ys) ≡ cond b (n ∷ xs) xs ++ ys
+      by true xs ys = refl
+      by false xs ys = refl
+
+module _ (firm : FirmId) (report : Id) where
+  -- a row of which less is counted
+  pub counted-set : (rows : List Row) (place : ℕ) (old new : Row) (less : ℕ) → slice_get rows place ≡ Some old → new.offer ≡ old.offer → counted_of old ≡ counted_of new + less
+      → counted_under (set rows place new) firm report + (if is_of_report firm report old then less else 0) ≡ counted_under rows firm report
+  counted-set [] place old new less at own less_is = cc
+  counted-set (r ∷ rows) zero old new less at own less_is =
+      let one : r ≡ old = cc in
+      let f : Row → ℕ = λ x. if is_of_report firm report x then counted_of x else 0 in
+      let same : is_of_report firm report new ≡ is_of_report firm report old = λ i. same_firm (own i).firm firm && same_id (own i).report report in
+      omega (arith, sum_by-cons f new rows, sum_by-cons f r rows, ap f one, by (is_of_report firm report old) (is_of_report firm report new) same)
+    where
+      by : (b c : Bool) → c ≡ b → (if c then counted_of new else 0) + (if b then less else 0) ≡ (if b then counted_of old else 0)
+      by true true e = sym less_is
+      by false false e = refl
+      by true false e = cc
+      by false true e = cc
+  counted-set (r ∷ rows) (suc place) old new less at own less_is =
+      let f : Row → ℕ = λ x. if is_of_report firm report x then counted_of x else 0 in
+      omega (arith, sum_by-cons f r rows, sum_by-cons f r (set rows place new), counted-set rows place old new less at own less_is)

@@ -1,0 +1,37 @@
+use Rattle.std.proofs.Common.{◌≡◌, ◌∙◌, sym, ap, subst, ◌+◌, ◌<◌, ◌≤◌, ◌++◌, ◌∷◌, [], length, map, take, get_or, arith}
+use Rattle.std.specs.List.{AllByRecursion, filter_map}
+use Rattle.std.proofs.lemmas.List.{length-map, take_more}
+use Rattle.gu_offers.specs.Given.{row_of}
+use Rattle.gu_offers.specs.Kept.{rows_of}
+use Rattle.gu_offers.specs.Rows.{open_offer_at}
+use Rattle.gu_offers.proofs.Listed.{numbers-within}
+use Rattle.gu_offers.proofs.NumberLists.{at_place}
+use Rattle.gu_offers.proofs.Written.{filter_map-one_more}
+use Rattle.gu_offers.proofs.offers.Offers.of_group.Goals as goal
+
+pub open_offer-requires-clause-some : goal.open_offer-requires-clause-some
+open_offer-requires-clause-some c =
+    (at_place (λ m. (1 ≤ m) × (m < 1 + length (rows_of c.self.inside))) c.of-number-items.result.now c.loop-number.number-index
+    (subst (AllByRecursion (λ m. (1 ≤ m) × (m < 1 + length (rows_of c.self.inside)))) (sym (c.of-number-items.ensures ∙ c.self.invariant.numbers c.args.group))
+    (numbers-within c.args.group 1 (rows_of c.self.inside)))
+    c.loop-number-test.true).0
+
+pub open_offer-requires-clause-inside : goal.open_offer-requires-clause-inside
+open_offer-requires-clause-inside c =
+    let within : get_or c.of-number-items.result.now c.loop-number.number-index 0 < 1 + length (rows_of c.self.inside) =
+    (at_place (λ m. (1 ≤ m) × (m < 1 + length (rows_of c.self.inside))) c.of-number-items.result.now c.loop-number.number-index
+    (subst (AllByRecursion (λ m. (1 ≤ m) × (m < 1 + length (rows_of c.self.inside)))) (sym (c.of-number-items.ensures ∙ c.self.invariant.numbers c.args.group))
+    (numbers-within c.args.group 1 (rows_of c.self.inside)))
+    c.loop-number-test.true).1 in
+    let rows : length (rows_of c.self.inside) ≡ length c.self.inside.rows.items = length-map c.self.inside.rows.items (row_of c.self.inside.day) in
+    let slice : length c.as_slice.result.now ≡ length c.self.inside.rows.items = ap length c.as_slice.ensures.value in
+    omega (arith, within, rows, slice)
+
+pub loop-number-preserved : goal.loop-number-preserved
+loop-number-preserved c =
+    c.in_ok-push.ensures.items ∙ ap (λ offers. offers ++ c.open_offer.result ∷ []) c.loop-number.invariant
+    ∙ sym (ap (filter_map (open_offer_at (rows_of c.self.inside))) (take_more c.of-number-items.result.now c.loop-number.number-index 0 c.loop-number-test.true)
+    ∙ filter_map-one_more (open_offer_at (rows_of c.self.inside)) (take c.loop-number.number-index c.of-number-items.result.now)
+    (get_or c.of-number-items.result.now c.loop-number.number-index 0) c.open_offer.result
+    (ap (λ items. open_offer_at (map (row_of c.self.inside.day) items) (get_or c.of-number-items.result.now c.loop-number.number-index 0)) (sym c.as_slice.ensures.value)
+    ∙ c.open_offer.ensures c.self.inside.day))

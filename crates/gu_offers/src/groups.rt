@@ -1,0 +1,115 @@
+//! The numbers of open offers, by product group.
+
+ghost use Rattle.std.specs.Prelude.{◌≡◌, ◌+◌, ◌<◌, ◌==◌, ◌^◌, ◌++◌, [], not, filter, OnOk, OnErr, if◌then◌else◌};
+ghost use Rattle.std.specs.List.{range_with_len};
+ghost use Rattle.gu_terms.specs.declared.group.Group.{Group as GroupOf};
+ghost use Rattle.gu_terms.specs.Same.{same_group};
+ghost use Rattle.gu_offers.specs.Numbers.{IsAscending};
+
+use gu_terms::Group;
+use indexmap::IndexMap;
+use std::alloc::{AllocError, Global};
+
+/// The numbers of the open offers of each product group, ascending.
+pub(crate) struct Groups {
+    pub(crate) numbers: IndexMap<Group, Vec<u64>>,
+    pub(crate) alloc: Global,
+}
+
+impl Drop for Groups {
+    fn drop(self) {
+        let Groups { numbers, alloc: _ } = self;
+        drop(numbers);
+    }
+}
+
+/// Appends as many numbers, from the first on, or none.
+fn append_to(numbers: &mut Vec<u64>, first: u64, count: usize) -> Result<(), AllocError>
+    requires { first + count < 2 ^ 64 }
+    ensures appended { OnOk result (numbers.new.items ≡ numbers.old.items ++ range_with_len first count) }
+    ensures refused { OnErr result (numbers.new.items ≡ numbers.old.items) }
+{
+    numbers.reserve(count)?;
+    for i in 0..count {
+        numbers.push_reserved(first + i as u64);
+    }
+    Ok(())
+}
+
+/// Takes a number out of ascending ones, where it is among them.
+fn take_from(numbers: &mut Vec<u64>, number: u64)
+    requires { IsAscending numbers.old.items }
+    ensures { numbers.new.items ≡ filter (λ other. not (other == number)) numbers.old.items }
+{
+    if let Ok(at) = numbers.binary_search(&number) {
+        numbers.remove(at);
+    }
+}
+
+impl Groups {
+    ghost use Rattle.std.specs.Prelude.{true, Some, is_some};
+    ghost use Rattle.indexmap.specs.IndexMap.{get};
+    ghost use Rattle.gu_offers.specs.Groups.{numbers_in};
+
+    /// No numbers.
+    pub(crate) fn new(alloc: Global) -> Self
+        ensures { (group : GroupOf) → numbers_in result group ≡ [] }
+    {
+        Groups {
+            numbers: IndexMap::new(alloc),
+            alloc,
+        }
+    }
+
+    /// The numbers of a group's open offers.
+    pub(crate) fn of(&self, group: &Group) -> &[u64]
+        ensures { result.now ≡ numbers_in self.now group.now }
+    {
+        match self.numbers.get(group) {
+            Some(numbers) => numbers.as_slice(),
+            None => &[],
+        }
+    }
+
+    /// Sees to it that a group has its list: an empty one, where it is new.
+    fn know(&mut self, group: &Group) -> Result<(), AllocError>
+        ensures known { OnOk result (is_some (get ⟦<Group as PartialEq>⟧.eq self.new.numbers group.now) ≡ true) }
+        ensures same { (other : GroupOf) → numbers_in self.new other ≡ numbers_in self.old other }
+    {
+        if self.numbers.contains_key(group) {
+            return Ok(());
+        }
+        self.numbers.insert(*group, Vec::new(self.alloc))?;
+        Ok(())
+    }
+
+    /// Appends as many numbers to a group's, from the first on, or none.
+    pub(crate) fn append(
+        &mut self,
+        group: &Group,
+        first: u64,
+        count: usize,
+    ) -> Result<(), AllocError>
+        requires { first + count < 2 ^ 64 }
+        ensures appended { OnOk result ((other : GroupOf)
+            → numbers_in self.new other ≡ (if same_group group.now other then numbers_in self.old other ++ range_with_len first count else numbers_in self.old other)) }
+        ensures refused { OnErr result ((other : GroupOf) → numbers_in self.new other ≡ numbers_in self.old other) }
+    {
+        self.know(group)?;
+        let Some(numbers) = self.numbers.get_mut(group) else {
+            unreachable!();
+        };
+        append_to(numbers, first, count)
+    }
+
+    /// Takes a number out of a group's, where it is among them.
+    pub(crate) fn take_out(&mut self, group: &Group, number: u64)
+        requires { IsAscending (numbers_in self.old group.now) }
+        ensures { (other : GroupOf)
+            → numbers_in self.new other ≡ (if same_group group.now other then filter (λ m. not (m == number)) (numbers_in self.old other) else numbers_in self.old other) }
+    {
+        if let Some(numbers) = self.numbers.get_mut(group) {
+            take_from(numbers, number);
+        }
+    }
+}

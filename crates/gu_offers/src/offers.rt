@@ -1,0 +1,323 @@
+//! The offers of the house, by their numbers.
+
+ghost use Rattle.std.specs.Prelude.{◌≡◌, ℕ, ◌+◌, ◌<◌, ◌≤◌, ◌++◌, [], length, map, slice_get, All, Some, vec_len, vec_capacity, OnOk, OnErr, IfOk};
+ghost use Rattle.std.specs.Option.{option_map};
+ghost use Rattle.gu_offers.specs.Changes.{changed, closed, next_day, reversed, taken, with_lines};
+ghost use Rattle.gu_offers.specs.declared.given.Given.{Given as GivenOf};
+ghost use Rattle.gu_terms.specs.Numbers.{IsLots};
+ghost use Rattle.gu_offers.specs.Given.{forgotten, given_for, row_of};
+ghost use Rattle.gu_offers.specs.Kept.{IsSoundAt, IsWritten};
+ghost use Rattle.gu_offers.specs.Rows.{IsSound, counted_under, left_in, left_of, open_count, open_offer_at, open_offers, row_at, today_in};
+
+use crate::counts::Counts;
+use crate::given::Given;
+use crate::groups::Groups;
+use crate::open_offer::OpenOffer;
+use gu_terms::{FirmId, Group, Id, Line, Lines, Offer, OfferNo};
+use std::alloc::{AllocError, Global};
+use std::marker::Model;
+
+/// The offers of the house, numbered from 1. To a contract it is their list, the offer of number n at place n - 1.
+pub struct Offers {
+    rows: Vec<Given>,
+    groups: Groups,
+    counts: Counts,
+    /// The number of the day, by which it is known what was moved since it was opened.
+    day: u64,
+}
+
+impl Drop for Offers {
+    fn drop(self) {
+        let Offers {
+            rows,
+            groups,
+            counts,
+            day: _,
+        } = self;
+        drop(rows);
+        drop(groups);
+        drop(counts);
+    }
+}
+
+impl Model for Offers {
+    ghost use Rattle.std.specs.Prelude.{List};
+    ghost use Rattle.gu_offers.specs.Rows.{Row};
+
+    ghost Value = { List Row };
+
+    ghost use Rattle.gu_offers.specs.Kept.{rows_of, IsKept};
+
+    ghost view = { rows_of };
+
+    ghost invariant = { IsKept };
+}
+
+/// The place of a number.
+fn place_of(number: OfferNo) -> usize
+    ensures { result + 1 ≡ number }
+{
+    number.get() as usize - 1
+}
+
+/// Lots of an offer are moved. Answers what is offered, and the lots that are left of it.
+fn take_of(rows: &mut Vec<Given>, place: usize, lots: u64, day: u64) -> (Offer, u64)
+    requires inside { place < length rows.old.items }
+    requires sound { IsSoundAt rows.old.items place day }
+    requires left { (g : GivenOf) → slice_get rows.old.items place ≡ Some g → lots ≤ left_of (row_of day g) }
+    ensures written { IsWritten rows.old.items rows.new.items place day (taken lots) result.0 }
+    ensures left { (g : GivenOf) → slice_get rows.old.items place ≡ Some g → result.1 ≡ left_of (taken lots (row_of day g)) }
+{
+    let given = &mut rows[place];
+    given.take(lots, day);
+    let left = given.left();
+    (given.offer, left)
+}
+
+/// An offer is closed. Answers what is offered, and the lots that were left of it.
+fn close_of(rows: &mut Vec<Given>, place: usize, day: u64) -> (Offer, u64)
+    requires { place < length rows.old.items }
+    ensures written { IsWritten rows.old.items rows.new.items place day closed result.0 }
+    ensures left { (g : GivenOf) → slice_get rows.old.items place ≡ Some g → result.1 ≡ left_of (row_of day g) }
+{
+    let given = &mut rows[place];
+    let left = given.left();
+    given.is_shut = true;
+    (given.offer, left)
+}
+
+/// What was moved of an offer on this day is moved no longer, and it is closed. Answers what is offered, and these lots.
+fn reverse_of(rows: &mut Vec<Given>, place: usize, day: u64) -> (Offer, u64)
+    requires inside { place < length rows.old.items }
+    requires sound { IsSoundAt rows.old.items place day }
+    ensures written { IsWritten rows.old.items rows.new.items place day reversed result.0 }
+    ensures lots { (g : GivenOf) → slice_get rows.old.items place ≡ Some g → result.1 ≡ (row_of day g).today }
+{
+    let given = &mut rows[place];
+    let lots = given.reverse(day);
+    (given.offer, lots)
+}
+
+/// The lots of each line are in their range.
+fn are_lots(lines: &[Line])
+    ensures { All (λ line. IsLots line.lots) lines.now }
+{
+    for line in lines {
+        let _lots = line.lots.get();
+    }
+}
+
+/// Appends what the lines of a give-up offer. There is room.
+fn push_offers(rows: &mut Vec<Given>, firm: &FirmId, report: &Id, group: &Group, lines: &[Line])
+    requires { vec_len rows.old + length lines.now ≤ vec_capacity rows.old }
+    ensures { rows.new.items ≡ rows.old.items ++ map (given_for firm.now report.now group.now) lines.now }
+{
+    for line in lines {
+        let offer = Offer {
+            firm: *firm,
+            report: *report,
+            group: *group,
+            account: line.account,
+            lots: line.lots,
+        };
+        rows.push_reserved(Given {
+            offer,
+            moved: 0,
+            moved_on: 0,
+            today: 0,
+            is_shut: false,
+        });
+    }
+}
+
+/// Forgets what was moved on a day.
+fn forget(rows: &mut Vec<Given>)
+    ensures { rows.new.items ≡ map forgotten rows.old.items }
+{
+    for given in rows.iter_mut() {
+        given.today = 0;
+    }
+}
+
+/// The offer of a number, with what is left of it.
+fn open_offer(rows: &[Given], number: u64) -> OpenOffer
+    requires some { 1 ≤ number }
+    requires inside { number ≤ length rows.now }
+    requires few { length rows.now ≤ 16000000 }
+    ensures { (day : ℕ) → open_offer_at (map (row_of day) rows.now) number ≡ Some result }
+{
+    let given = &rows[number as usize - 1];
+    let Some(number) = OfferNo::new(number) else {
+        unreachable!();
+    };
+    OpenOffer {
+        number,
+        offer: given.offer,
+        left: given.left(),
+    }
+}
+
+impl Offers {
+    /// No offers.
+    pub fn new(alloc: Global) -> Self
+        ensures { result ≡ [] }
+    {
+        Offers {
+            rows: Vec::new(alloc),
+            groups: Groups::new(alloc),
+            counts: Counts::new(alloc),
+            day: 0,
+        }
+    }
+
+    /// The rules of all offers.
+    pub fn rules(&self)
+        ensures sound { All IsSound self.now }
+        ensures few { length self.now ≤ 16000000 }
+    {
+        // A field that is read shows what the type keeps.
+        let _ = &self.rows;
+    }
+
+    /// How many offers there are.
+    pub fn count(&self) -> usize
+        ensures { result ≡ length self.now }
+    {
+        self.rows.len()
+    }
+
+    /// The offer of a number.
+    pub fn get(&self, number: OfferNo) -> Option<Offer>
+        ensures { result ≡ option_map (λ r. r.offer) (row_at self.now number) }
+    {
+        let given = self.rows.get(place_of(number))?;
+        Some(given.offer)
+    }
+
+    /// The lots that are left of an offer, 0 where there is none of this number.
+    pub fn left(&self, number: OfferNo) -> u64
+        ensures { result ≡ left_in self.now number }
+    {
+        match self.rows.get(place_of(number)) {
+            Some(given) => given.left(),
+            None => 0,
+        }
+    }
+
+    /// The lots of an offer that were moved since the last opening of a day, 0 where there is none of this number.
+    pub fn moved_today(&self, number: OfferNo) -> u64
+        ensures { result ≡ today_in self.now number }
+    {
+        match self.rows.get(place_of(number)) {
+            Some(given) => given.moved_on(self.day),
+            None => 0,
+        }
+    }
+
+    /// The lots of a report that its offers hold.
+    pub fn counted(&self, firm: FirmId, report: Id) -> u64
+        ensures { result ≡ counted_under self.now firm report }
+    {
+        self.counts.of(firm, report)
+    }
+
+    /// How many open offers a product group has.
+    pub fn open_count(&self, group: Group) -> usize
+        ensures { result ≡ open_count self.now group }
+    {
+        self.groups.of(&group).len()
+    }
+
+    /// Lots of an offer are moved, as many as are left of it at most.
+    pub fn take(&mut self, number: OfferNo, lots: u64)
+        requires { lots ≤ left_in self.old number }
+        ensures { self.new ≡ changed self.old number (taken lots) }
+    {
+        let place = place_of(number);
+        if place >= self.rows.len() {
+            return;
+        }
+        let day = self.day;
+        let (offer, left) = take_of(&mut self.rows, place, lots, day);
+        if left == 0 {
+            self.groups.take_out(&offer.group, number.get());
+        }
+    }
+
+    /// An offer is closed: nothing is left of it. What was moved stays moved.
+    pub fn close(&mut self, number: OfferNo)
+        ensures { self.new ≡ changed self.old number closed }
+    {
+        let place = place_of(number);
+        if place >= self.rows.len() {
+            return;
+        }
+        let day = self.day;
+        let (offer, left) = close_of(&mut self.rows, place, day);
+        self.groups.take_out(&offer.group, number.get());
+        self.counts.take(&offer.firm, &offer.report, left);
+    }
+
+    /// What was moved of a closed offer since the last opening of a day is moved no longer. It stays closed, for good.
+    pub fn reverse(&mut self, number: OfferNo)
+        requires closed { left_in self.old number ≡ 0 }
+        requires moved { 0 < today_in self.old number }
+        ensures { self.new ≡ changed self.old number reversed }
+    {
+        let place = place_of(number);
+        if place >= self.rows.len() {
+            return;
+        }
+        let day = self.day;
+        let (offer, lots) = reverse_of(&mut self.rows, place, day);
+        self.counts.take(&offer.firm, &offer.report, lots);
+    }
+
+    /// Offers the lines of a give-up, all of them or none, and answers the number of the first.
+    pub fn give_up(
+        &mut self,
+        firm: FirmId,
+        report: Id,
+        group: Group,
+        lines: &Lines,
+    ) -> Result<OfferNo, AllocError>
+        requires { length self.old + length lines.now ≤ 16000000 }
+        ensures offered { OnOk result (self.new ≡ with_lines self.old firm report group lines.now) }
+        ensures first { IfOk result (λ number. number ≡ length self.old + 1) }
+        ensures refused { OnErr result (self.new ≡ self.old) }
+    {
+        let total = lines.lots();
+        let lines = lines.as_slice();
+        are_lots(lines);
+        let Some(first) = OfferNo::new(self.rows.len() as u64 + 1) else {
+            unreachable!();
+        };
+        self.rows.reserve(lines.len())?;
+        self.counts.know(&firm, &report)?;
+        self.groups.append(&group, first.get(), lines.len())?;
+        push_offers(&mut self.rows, &firm, &report, &group, lines);
+        self.counts.add(&firm, &report, total);
+        Ok(first)
+    }
+
+    /// A day is opened: nothing was moved since.
+    pub fn new_day(&mut self)
+        ensures { self.new ≡ map next_day self.old }
+    {
+        match self.day.checked_add(1) {
+            Some(day) => self.day = day,
+            None => forget(&mut self.rows),
+        }
+    }
+
+    /// A product group's open offers, in the order of their numbers.
+    pub fn of_group(&self, group: Group) -> Result<Vec<OpenOffer>, AllocError>
+        ensures { IfOk result (λ offers. offers.items ≡ open_offers self.now group) }
+    {
+        let mut offers = Vec::new(self.groups.alloc);
+        for number in self.groups.of(&group) {
+            offers.push(open_offer(self.rows.as_slice(), *number))?;
+        }
+        Ok(offers)
+    }
+}
