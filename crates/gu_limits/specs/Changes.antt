@@ -19,11 +19,13 @@ limits_after_setting limits group key lots =
 
 -- the limits after lots are charged in a group under these keys
 abbrev pub limits_after_charge : List GroupLimit → Group → List LimitKey → ℕ → List GroupLimit
-limits_after_charge limits group keys lots = map (λ (l : GroupLimit). record l { used = l.used + lots_under group keys lots l.group l.key }) limits
+limits_after_charge limits group keys lots =
+    map (λ (l : GroupLimit). record l { used = l.used + lots_under group keys lots l.group l.key }) limits
 
 -- the limits after lots that were charged are given back
 abbrev pub limits_after_return : List GroupLimit → Group → List LimitKey → ℕ → List GroupLimit
-limits_after_return limits group keys lots = map (λ (l : GroupLimit). record l { used = l.used - lots_under group keys lots l.group l.key }) limits
+limits_after_return limits group keys lots =
+    map (λ (l : GroupLimit). record l { used = l.used - lots_under group keys lots l.group l.key }) limits
 
 -- the limits as a day begins: nothing is used
 abbrev pub limits_of_new_day : List GroupLimit → List GroupLimit

@@ -20,7 +20,8 @@ abbrev pub limits_kept : Inside → List GroupLimit
 limits_kept table = map (limit_on table.day) table.limits.entries
 
 -- with the use of one of them changed, on a day
-abbrev pub with_use : (GroupKey → GroupKey → Bool) → GroupKey → ℕ → (ℕ → ℕ) → List (GroupKey × KeptLimit) → List (GroupKey × KeptLimit)
+abbrev pub with_use : (GroupKey → GroupKey → Bool) → GroupKey → ℕ → (ℕ → ℕ)
+    → List (GroupKey × KeptLimit) → List (GroupKey × KeptLimit)
 with_use same on day change entries =
     option_map_or
     (λ kept. set_value (same on) entries (record kept { used = change (used_on day kept); day = day }))

@@ -244,7 +244,8 @@ fn put(
 /// Adds lots to the use of a limit on a day.
 fn add_use(limits: &mut IndexMap<GroupKey, KeptLimit>, on: &GroupKey, day: u64, lots: u64)
     requires { ForSome (get ⟦<GroupKey as PartialEq>⟧.eq limits.old on.now) (λ kept. used_on day kept + lots < 2 ^ 64) }
-    ensures written { limits.new.entries ≡ with_use ⟦<GroupKey as PartialEq>⟧.eq on.now day (λ used. used + lots) limits.old.entries }
+    ensures written { limits.new.entries
+        ≡ with_use ⟦<GroupKey as PartialEq>⟧.eq on.now day (λ used. used + lots) limits.old.entries }
     ensures apart { IsUnique ⟦<GroupKey as PartialEq>⟧.eq limits.old }
 {
     if let Some(kept) = limits.get_mut(on) {
@@ -256,7 +257,8 @@ fn add_use(limits: &mut IndexMap<GroupKey, KeptLimit>, on: &GroupKey, day: u64, 
 /// Takes lots off the use of a limit on a day.
 fn take_use(limits: &mut IndexMap<GroupKey, KeptLimit>, on: &GroupKey, day: u64, lots: u64)
     requires { ForSome (get ⟦<GroupKey as PartialEq>⟧.eq limits.old on.now) (λ kept. lots ≤ used_on day kept) }
-    ensures written { limits.new.entries ≡ with_use ⟦<GroupKey as PartialEq>⟧.eq on.now day (λ used. used - lots) limits.old.entries }
+    ensures written { limits.new.entries
+        ≡ with_use ⟦<GroupKey as PartialEq>⟧.eq on.now day (λ used. used - lots) limits.old.entries }
     ensures apart { IsUnique ⟦<GroupKey as PartialEq>⟧.eq limits.old }
 {
     if let Some(kept) = limits.get_mut(on) {

@@ -1,2 +1,4 @@
-pub mod KeptReports
+pub mod LastPlaces
 pub mod OneMore
+pub mod ReportPlaces
+pub mod Rows

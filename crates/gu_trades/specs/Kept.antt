@@ -1,23 +1,34 @@
--- Machinery: how reports are kept: under their firms and ids, and once more under their match ids.
-use Rattle.std.specs.Prelude.{◌≡◌, map, unwrap_or}
-use Rattle.indexmap.specs.IndexMap.{keys, values, get}
+-- Machinery: how reports are kept: in order, and their places by firm and id and by match id.
+use Rattle.std.specs.Prelude.{◌≡◌, ℕ, ◌∷◌, [], Bool, false, List, map, slice_get}
+use Rattle.std.specs.Option.{option_map_or}
+use Rattle.gu_terms.specs.Same.{same_id}
+use Rattle.gu_terms.specs.declared.firm.FirmId.{FirmId}
 use Rattle.gu_terms.specs.declared.id.Id.{Id}
 use Rattle.gu_terms.specs.declared.report.Report.{Report}
-use Rattle.gu_trades.specs.declared.sides.Sides.TheVariants.{Neither}
+use Rattle.gu_terms.specs.declared.seed.Seed.{Seed}
 use Rattle.gu_trades.specs.declared.trades.Trades.TheInside.{Inside}
-use Rattle.gu_trades.specs.declared.trades.ReportKey.{ReportKey}
-use Rattle.gu_trades.specs.Reports.{with_match}
+use Rattle.gu_trades.specs.Numbered.{number_of}
+use Rattle.gu_trades.specs.Reports.{is_by}
 use Rattle.gu_trades.specs.Rules.{IsSound}
-use Rattle.gu_terms.specs.Same.{same_id}
-use Rattle.gu_trades.specs.Sides.{reports_in}
 
--- the firm and the id of a report
-abbrev pub key_of : Report → ReportKey
-key_of r = record { firm = r.firm; id = r.id }
+-- the number that is kept of a firm and an id
+abbrev pub id_number : Seed → FirmId → Id → ℕ
+id_number seed firm id = number_of seed (firm.name ∷ id ∷ [])
 
--- each report stands under its firm and id, the reports with a match id stand under it in the same order, and the rules hold
+-- the number that is kept of a match id
+abbrev pub match_number : Seed → Id → ℕ
+match_number seed match_id = number_of seed (match_id ∷ [])
+
+-- the report at a place is the firm's with this id
+abbrev pub is_by_at : List Report → FirmId → Id → ℕ → Bool
+is_by_at reports firm id place = option_map_or (is_by firm id) (slice_get reports place) false
+
+-- the report at a place has this match id
+abbrev pub is_with_at : List Report → Id → ℕ → Bool
+is_with_at reports match_id place = option_map_or (λ (r : Report). same_id r.match_id match_id) (slice_get reports place) false
+
+-- each report has its numbers, at its place, and the rules hold
 pub record IsKept (kept : Inside) : Type 0 where
-  pub named : keys kept.reports ≡ map key_of (values kept.reports)
-  pub matched : (match_id : Id)
-      → reports_in (unwrap_or (get same_id kept.sides match_id) Neither) ≡ with_match match_id (values kept.reports)
-  pub sound : IsSound (values kept.reports)
+  pub named : kept.by_id.numbers ≡ map (λ (r : Report). id_number kept.seed r.firm r.id) kept.reports.items
+  pub matched : kept.by_match.numbers ≡ map (λ (r : Report). match_number kept.seed r.match_id) kept.reports.items
+  pub sound : IsSound kept.reports.items

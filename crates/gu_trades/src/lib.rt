@@ -2,6 +2,7 @@
 #![tactic(auto)]
 
 mod matching;
+mod places;
 mod sides;
 mod trades;
 

@@ -1,6 +1,6 @@
 //! The reports with one match id.
 
-ghost use Rattle.std.specs.Prelude.{◌≡◌, ◌++◌, ◌∷◌, [], false};
+ghost use Rattle.std.specs.Prelude.{◌≡◌};
 ghost use Rattle.gu_trades.specs.Sides.{reports_in};
 ghost use Rattle.gu_trades.specs.Matching.{conflicts, is_other_side, is_trade, is_waiting, matching_of};
 
@@ -62,18 +62,6 @@ impl Sides {
         match self {
             Sides::Neither => Matching::Opened,
             Sides::One(_) | Sides::Both(..) => Matching::Matched,
-        }
-    }
-
-    /// These, and a report that conflicts with none of them.
-    pub(crate) fn with(self, report: Report) -> Self
-        requires { conflicts (reports_in self) report ≡ false }
-        ensures { reports_in result ≡ reports_in self ++ report ∷ [] }
-    {
-        match self {
-            Sides::Neither => Sides::One(report),
-            Sides::One(first) => Sides::Both(first, report),
-            Sides::Both(..) => unreachable!(),
         }
     }
 }

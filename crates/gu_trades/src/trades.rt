@@ -1,75 +1,150 @@
 //! The reports of the house, in the order in which they were taken in.
 
-ghost use Rattle.std.specs.Prelude.{◌≡◌, ◌++◌, ◌∷◌, [], false, Some, Contains, is_some, OnOk, OnErr, IfOk};
-ghost use Rattle.indexmap.specs.IndexMap.{insert_entry, Updates};
+ghost use Rattle.std.specs.Prelude.{◌≡◌, ◌++◌, ◌∷◌, [], false, Some, Contains, is_some, OnOk, OnErr, IfOk, ◌-◌, ◌<◌, ◌≤◌, length, map, slice_index, true, unwrap_or};
+ghost use Rattle.std.specs.Option.{ForSome};
 ghost use Rattle.gu_terms.specs.declared.report.Report.{Report as ReportOf};
+ghost use Rattle.gu_trades.specs.Kept.{id_number, is_by_at, is_with_at, match_number};
 ghost use Rattle.gu_trades.specs.Matching.{conflicts, matching_of};
-ghost use Rattle.gu_trades.specs.Reports.{has_report, report_by, report_of, with_match};
+ghost use Rattle.gu_trades.specs.Numbered.{last_before};
+ghost use Rattle.gu_terms.specs.Same.{same_id};
+ghost use Rattle.gu_trades.specs.Reports.{has_report, is_by, report_by, report_of, with_match};
 ghost use Rattle.gu_trades.specs.Rules.{IsSound};
 ghost use Rattle.gu_trades.specs.Sides.{reports_in};
 
 use crate::matching::Matching;
+use crate::places::{Places, number_of};
 use crate::sides::Sides;
-use gu_terms::{AccountId, Day, FirmId, Id, Lots, Price, Report, Side, Symbol};
-use indexmap::IndexMap;
+use gu_terms::{AccountId, Day, FirmId, Id, Lots, Price, Report, Seed, Side, Symbol};
 use std::alloc::{AllocError, Global};
 use std::marker::Model;
 
-/// What a firm knows its report by. No two reports have the same.
-#[derive(Clone, Copy, Debug, PartialEq, Eq, Hash)]
-struct ReportKey {
-    firm: FirmId,
-    id: Id,
-}
-
 /// The reports that were taken in, each id of a firm once, and each match id once or as a trade. To a contract it is the list of them.
 pub struct Trades {
-    reports: IndexMap<ReportKey, Report>,
-    sides: IndexMap<Id, Sides>,
+    reports: Vec<Report>,
+    by_id: Places,
+    by_match: Places,
+    seed: Seed,
 }
 
 impl Drop for Trades {
     fn drop(self) {
-        let Trades { reports, sides } = self;
+        let Trades {
+            reports,
+            by_id,
+            by_match,
+            seed: _,
+        } = self;
         drop(reports);
-        drop(sides);
+        drop(by_id);
+        drop(by_match);
     }
 }
 
 impl Model for Trades {
     ghost use Rattle.std.specs.Prelude.{List};
-    ghost use Rattle.indexmap.specs.IndexMap.{values};
     ghost use Rattle.gu_terms.specs.declared.report.Report.{Report as Row};
 
     ghost Value = { List Row };
 
     ghost use Rattle.gu_trades.specs.Kept.{IsKept};
 
-    ghost view = { λ t. values t.reports };
+    ghost view = { λ t. t.reports.items };
 
     ghost invariant = { IsKept };
 }
 
-/// Puts the sides of a report under its match id, and the report under its firm and id. The growths come first, so that a
-/// refusal leaves both as they were.
-fn add(
-    reports: &mut IndexMap<ReportKey, Report>,
-    sides: &mut IndexMap<Id, Sides>,
-    report: &Report,
-    with_report: Sides,
-) -> Result<(), AllocError>
-    ensures named { OnOk result (reports.new.entries ≡ insert_entry ⟦<ReportKey as PartialEq>⟧.eq reports.old.entries
-        (record { firm = report.now.firm; id = report.now.id }) report.now) }
-    ensures matched { OnOk result (Updates ⟦<Id as PartialEq>⟧.eq sides.old sides.new report.now.match_id (Some with_report)) }
-    ensures err { OnErr result ((reports.new.entries ≡ reports.old.entries) × (sides.new.entries ≡ sides.old.entries)) }
+/// The number that is kept of a firm and an id.
+fn id_number(seed: &Seed, firm: &FirmId, id: &Id) -> u32
+    ensures { result ≡ id_number seed.now firm.now id.now }
 {
-    let key = ReportKey {
-        firm: report.firm,
-        id: report.id,
+    number_of(seed, (*firm, *id))
+}
+
+/// The number that is kept of a match id.
+fn match_number(seed: &Seed, match_id: &Id) -> u32
+    ensures { result ≡ match_number seed.now match_id.now }
+{
+    number_of(seed, *match_id)
+}
+
+/// Whether a report is the firm's with this id.
+fn is_by(report: &Report, firm: &FirmId, id: &Id) -> bool
+    ensures { result ≡ is_by firm.now id.now report.now }
+{
+    report.firm == *firm && report.id == *id
+}
+
+/// The place of the firm's last report with this id, counted from 1; 0 where there is none.
+fn last_by(reports: &[Report], places: &Places, seed: &Seed, firm: &FirmId, id: &Id) -> u32
+    requires { places.now.numbers ≡ map (λ (r : ReportOf). id_number seed.now r.firm r.id) reports.now }
+    ensures { result ≡ last_before (is_by_at reports.now firm.now id.now) (length reports.now) }
+{
+    let mut at = places.last(id_number(seed, firm, id));
+    while at > 0 {
+        let place = at as usize - 1;
+        if is_by(&reports[place], firm, id) {
+            return at;
+        }
+        at = places.before(place);
+    }
+    0
+}
+
+/// Whether a report has this match id.
+fn is_with(report: &Report, match_id: &Id) -> bool
+    ensures { result ≡ same_id report.now.match_id match_id.now }
+{
+    report.match_id == *match_id
+}
+
+/// The place of the last report with this match id, or of the last one below a place that has it, counted from 1; 0 where
+/// there is none.
+fn last_with(
+    reports: &[Report],
+    places: &Places,
+    seed: &Seed,
+    match_id: &Id,
+    below: Option<usize>,
+) -> u32
+    requires numbers { places.now.numbers ≡ map (λ (r : ReportOf). match_number seed.now r.match_id) reports.now }
+    requires with { ForSome below (λ place. is_with_at reports.now match_id.now place ≡ true) }
+    ensures { result ≡ last_before (is_with_at reports.now match_id.now) (unwrap_or below (length reports.now)) }
+{
+    let mut at = match below {
+        None => places.last(match_number(seed, match_id)),
+        Some(place) => places.before(place),
     };
+    while at > 0 {
+        let place = at as usize - 1;
+        if is_with(&reports[place], match_id) {
+            return at;
+        }
+        at = places.before(place);
+    }
+    0
+}
+
+/// Puts a report behind the others, and its place under its firm and id and under its match id. The growths come first, so that a
+/// refusal leaves all as it was.
+fn add(
+    reports: &mut Vec<Report>,
+    by_id: &mut Places,
+    by_match: &mut Places,
+    seed: &Seed,
+    report: &Report,
+) -> Result<(), AllocError>
+    ensures added { OnOk result (reports.new.items ≡ reports.old.items ++ report.now ∷ []) }
+    ensures named { OnOk result (by_id.new.numbers ≡ by_id.old.numbers ++ id_number seed.now report.now.firm report.now.id ∷ []) }
+    ensures matched { OnOk result (by_match.new.numbers ≡ by_match.old.numbers ++ match_number seed.now report.now.match_id ∷ []) }
+    ensures err { OnErr result ((reports.new.items ≡ reports.old.items)
+        × (by_id.new.numbers ≡ by_id.old.numbers) × (by_match.new.numbers ≡ by_match.old.numbers)) }
+{
     reports.reserve(1)?;
-    sides.insert(report.match_id, with_report)?;
-    let _ = reports.insert(key, *report);
+    by_id.reserve()?;
+    by_match.reserve()?;
+    let _ = reports.push(*report);
+    by_id.push(id_number(seed, &report.firm, &report.id));
+    by_match.push(match_number(seed, &report.match_id));
     Ok(())
 }
 
@@ -78,9 +153,18 @@ impl Trades {
     pub fn new(alloc: Global) -> Self
         ensures { result ≡ [] }
     {
+        Trades::seeded(alloc, Seed::new(0))
+    }
+
+    /// No reports, with a seed by which ids are found. What is answered doesn't depend on it.
+    pub fn seeded(alloc: Global, seed: Seed) -> Self
+        ensures { result ≡ [] }
+    {
         Trades {
-            reports: IndexMap::new(alloc),
-            sides: IndexMap::new(alloc),
+            reports: Vec::new(alloc),
+            by_id: Places::new(alloc),
+            by_match: Places::new(alloc),
+            seed,
         }
     }
 
@@ -97,14 +181,31 @@ impl Trades {
     pub fn as_slice(&self) -> &[Report]
         ensures { result.now ≡ self.now }
     {
-        self.reports.values().as_slice()
+        self.reports.as_slice()
     }
 
     /// The reports with this match id, two at most, in the order in which they came.
     pub fn trade(&self, match_id: Id) -> Sides
         ensures { reports_in result ≡ with_match match_id self.now }
     {
-        self.sides.get(&match_id).copied().unwrap_or(Sides::Neither)
+        let last = last_with(&self.reports, &self.by_match, &self.seed, &match_id, None);
+        if last == 0 {
+            return Sides::Neither;
+        }
+        let place = last as usize - 1;
+        let first = last_with(
+            &self.reports,
+            &self.by_match,
+            &self.seed,
+            &match_id,
+            Some(place),
+        );
+        if first == 0 {
+            Sides::One(self.reports[place])
+        } else {
+            let earlier = self.reports[first as usize - 1];
+            Sides::Both(earlier, self.reports[place])
+        }
     }
 
     /// The firm's report with this id.
@@ -112,7 +213,11 @@ impl Trades {
         ensures found { result ≡ report_by self.now firm id }
         ensures known { is_some result ≡ has_report self.now firm id }
     {
-        self.reports.get(&ReportKey { firm, id }).copied()
+        let at = last_by(&self.reports, &self.by_id, &self.seed, &firm, &id);
+        if at == 0 {
+            return None;
+        }
+        Some(self.reports[at as usize - 1])
     }
 
     /// Takes in a report whose id is new, and whose match id has no report or its other side alone.
@@ -146,8 +251,13 @@ impl Trades {
             account,
         };
         let sides = self.trade(match_id);
-        let with_report = sides.with(report);
-        add(&mut self.reports, &mut self.sides, &report, with_report)?;
+        add(
+            &mut self.reports,
+            &mut self.by_id,
+            &mut self.by_match,
+            &self.seed,
+            &report,
+        )?;
         Ok(sides.matching())
     }
 }

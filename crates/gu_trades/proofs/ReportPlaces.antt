@@ -1,0 +1,138 @@
+-- Reports that are found by their places, and one more report.
+use Rattle.std.proofs.Common.{◌≡◌, ◌∙◌, sym, refl, ap, subst, ℕ, suc, ◌-◌, ◌<◌, Bool, true, false, filter, List, [], ◌∷◌, ◌++◌, map, length, take, get_or, Some, None, arith}
+use Rattle.std.proofs.lemmas.List.{map-append, take_all}
+use Rattle.std.proofs.lemmas.Option.{slice_get_read}
+use Rattle.std.proofs.lemmas.Slice.Eq.{bytes_eq-Decides}
+use Rattle.gu_terms.proofs.SameValues.{both}
+use Rattle.gu_terms.specs.Same.{same_firm, same_id}
+use Rattle.gu_terms.specs.declared.firm.FirmId.{FirmId}
+use Rattle.gu_terms.specs.declared.id.Id.{Id}
+use Rattle.gu_terms.specs.declared.report.Report.{Report}
+use Rattle.gu_terms.specs.declared.seed.Seed.{Seed}
+use Rattle.gu_trades.specs.declared.trades.Trades.TheInside.{Inside}
+use Rattle.gu_trades.specs.Kept.{IsKept, id_number, is_by_at, is_with_at, match_number}
+use Rattle.gu_trades.specs.Matching.{conflicts}
+use Rattle.gu_trades.specs.Numbered.{last_before}
+use Rattle.gu_trades.specs.Reports.{has_report, is_by, report_by, with_match}
+use Rattle.gu_trades.specs.Rules.{IsSound, are_sides, same_report}
+use Rattle.gu_trades.proofs.LastPlaces.{at, at-is, find-none, find-some, front-none, front-some, two_sides}
+use Rattle.gu_trades.proofs.OneMore.{sound-empty, sound-push}
+use Rattle.gu_trades.proofs.Rows.{last_before-le, last_before-passes}
+
+-- ---- numbers
+
+-- the firm's report with an id has the number of these
+pub by-agree : (seed : Seed) (firm : FirmId) (id : Id) (r : Report) → is_by firm id r ≡ true → id_number seed r.firm r.id ≡ id_number seed firm id
+by-agree seed firm id r own =
+    let p = both (same_firm r.firm firm) (same_id r.id id) own in
+    ap (λ f. id_number seed f r.id) (ap (λ n. record { name = n }) ((bytes_eq-Decides r.firm.name firm.name).0 p.0)) ∙ ap (id_number seed firm) ((bytes_eq-Decides r.id id).0 p.1)
+
+-- a report with a match id has its number
+pub with-agree : (seed : Seed) (match_id : Id) (r : Report) → same_id r.match_id match_id ≡ true → match_number seed r.match_id ≡ match_number seed match_id
+with-agree seed match_id r own = ap (match_number seed) ((bytes_eq-Decides r.match_id match_id).0 own)
+
+-- a firm's reports with one id are the same report
+by-both : (firm : FirmId) (id : Id) (a b : Report) → is_by firm id a ≡ true → is_by firm id b ≡ true → same_report a b ≡ true
+by-both firm id a b own other =
+    let p = both (same_firm a.firm firm) (same_id a.id id) own in
+    let q = both (same_firm b.firm firm) (same_id b.id id) other in
+    let names : a.firm.name ≡ b.firm.name = (bytes_eq-Decides a.firm.name firm.name).0 p.0 ∙ sym ((bytes_eq-Decides b.firm.name firm.name).0 q.0) in
+    let ids : a.id ≡ b.id = (bytes_eq-Decides a.id id).0 p.1 ∙ sym ((bytes_eq-Decides b.id id).0 q.1) in
+    rw ((bytes_eq-Decides a.firm.name b.firm.name).1 names, (bytes_eq-Decides a.id b.id).1 ids) refl
+
+-- a walk that has come to a place that passes has found it
+pub found-here : (test : ℕ → Bool) (here : ℕ) → 0 < here → test (here - 1) ≡ true → last_before test here ≡ here
+found-here test here some hit =
+    let one : here ≡ suc (here - 1) = omega arith in
+    let inner : last_before test (suc (here - 1)) ≡ suc (here - 1) = rw hit refl in
+    ap (last_before test) one ∙ inner ∙ sym one
+
+-- what stands at a place that is read
+pub read-at : {X : Type 0} (test : X → Bool) (xs : List X) (place : ℕ) (x : X) → place < length xs → x ≡ get_or xs place x → at test xs place ≡ test x
+read-at test xs place x inside is = at-is test xs place x (slice_get_read xs (length xs) place x refl inside is)
+
+-- ---- by firm and id
+
+module _ (reports : List Report) (firm : FirmId) (id : Id) (last : ℕ) (sound : IsSound reports) (is : last ≡ last_before (is_by_at reports firm id) (length reports)) where
+  pub by-none : last ≡ 0 → report_by reports firm id ≡ None
+  by-none none = find-none (is_by firm id) same_report (by-both firm id) reports (sym is ∙ none)
+
+  pub by-within : (last ≡ 0 → ⊥) → last - 1 < length reports
+  by-within some = omega (arith, is, last_before-le (is_by_at reports firm id) (length reports))
+
+  pub by-some : (last ≡ 0 → ⊥) → (r : Report) → r ≡ get_or reports (last - 1) r → report_by reports firm id ≡ Some r
+  by-some some r read =
+      let one : last ≡ suc (last - 1) = omega arith in
+      find-some (is_by firm id) same_report (by-both firm id) reports (last - 1) sound.once (sym is ∙ one)
+      ∙ slice_get_read reports (length reports) (last - 1) r refl (by-within some) read
+
+-- ---- by match id
+
+module _ (reports : List Report) (match_id : Id) (last : ℕ) (is : last ≡ last_before (is_with_at reports match_id) (length reports)) where
+  pub with-none : last ≡ 0 → with_match match_id reports ≡ []
+  with-none none = ap (filter (λ (r : Report). same_id r.match_id match_id)) (sym (take_all (length reports) reports (omega arith)))
+      ∙ front-none (λ (r : Report). same_id r.match_id match_id) reports (length reports) (omega arith) (sym is ∙ none)
+
+  pub with-within : (last ≡ 0 → ⊥) → last - 1 < length reports
+  with-within some = omega (arith, is, last_before-le (is_with_at reports match_id) (length reports))
+
+  -- the last one has it
+  pub with-passes : (last ≡ 0 → ⊥) → is_with_at reports match_id (last - 1) ≡ true
+  with-passes some = let one : last ≡ suc (last - 1) = omega arith in last_before-passes (is_with_at reports match_id) (length reports) (last - 1) (sym is ∙ one)
+
+  pub with-last : (last ≡ 0 → ⊥) → (r : Report) → r ≡ get_or reports (last - 1) r
+      → with_match match_id reports ≡ with_match match_id (take (last - 1) reports) ++ r ∷ []
+  with-last some r read =
+      let one : last ≡ suc (last - 1) = omega arith in
+      ap (filter (λ (r : Report). same_id r.match_id match_id)) (sym (take_all (length reports) reports (omega arith)))
+      ∙ front-some (λ (r : Report). same_id r.match_id match_id) reports (length reports) (last - 1) r (omega arith) (sym is ∙ one)
+      (slice_get_read reports (length reports) (last - 1) r refl (with-within some) read)
+
+  pub first-within : (last ≡ 0 → ⊥) → (first : ℕ) → first ≡ last_before (is_with_at reports match_id) (last - 1) → (first ≡ 0 → ⊥) → first - 1 < length reports
+  first-within some first is_first there = omega (arith, with-within some, is_first, last_before-le (is_with_at reports match_id) (last - 1))
+
+  module _ (some : last ≡ 0 → ⊥) (r : Report) (read : r ≡ get_or reports (last - 1) r) (first : ℕ) (is_first : first ≡ last_before (is_with_at reports match_id) (last - 1)) where
+    pub with-one : first ≡ 0 → with_match match_id reports ≡ r ∷ []
+    with-one none =
+        with-last some r read
+        ∙ ap (λ rs. rs ++ r ∷ []) (front-none (λ (r : Report). same_id r.match_id match_id) reports (last - 1) (omega (arith, with-within some)) (sym is_first ∙ none))
+
+    pub with-two : (first ≡ 0 → ⊥) → (s : Report) → s ≡ get_or reports (first - 1) s → are_sides (with_match match_id reports) ≡ true → with_match match_id reports ≡ s ∷ r ∷ []
+    with-two there s reads sound =
+        let one : first ≡ suc (first - 1) = omega arith in
+        let front : with_match match_id (take (last - 1) reports) ≡ with_match match_id (take (first - 1) reports) ++ s ∷ [] =
+        front-some (λ (r : Report). same_id r.match_id match_id) reports (last - 1) (first - 1) s (omega (arith, with-within some)) (sym is_first ∙ one)
+        (slice_get_read reports (length reports) (first - 1) s refl (first-within some first is_first there) reads) in
+        let whole : with_match match_id reports ≡ (with_match match_id (take (first - 1) reports) ++ s ∷ []) ++ r ∷ [] = with-last some r read ∙ ap (λ rs. rs ++ r ∷ []) front in
+        let none : with_match match_id (take (first - 1) reports) ≡ [] = two_sides (with_match match_id (take (first - 1) reports)) s r (sym (ap are_sides whole) ∙ sound) in
+        whole ∙ ap (λ rs. (rs ++ s ∷ []) ++ r ∷ []) none
+
+-- ---- what is kept
+
+-- of no reports
+pub kept-empty : (kept : Inside) → kept.reports.items ≡ [] → kept.by_id.numbers ≡ [] → kept.by_match.numbers ≡ [] → IsKept kept
+kept-empty kept none nothing none_with = record {
+  named = nothing ∙ sym (ap (map (λ (r : Report). id_number kept.seed r.firm r.id)) none);
+  matched = none_with ∙ sym (ap (map (λ (r : Report). match_number kept.seed r.match_id)) none);
+  sound = subst IsSound (sym none) sound-empty;
+}
+
+-- of one report more, which is new and doesn't conflict
+pub kept-push : (old new : Inside) (reports : List Report) (r : Report) → old.reports.items ≡ reports → IsKept old → has_report reports r.firm r.id ≡ false → conflicts (with_match r.match_id reports) r ≡ false
+    → new.seed ≡ old.seed → new.reports.items ≡ old.reports.items ++ r ∷ []
+    → new.by_id.numbers ≡ old.by_id.numbers ++ id_number old.seed r.firm r.id ∷ [] → new.by_match.numbers ≡ old.by_match.numbers ++ match_number old.seed r.match_id ∷ []
+    → IsKept new
+kept-push old new reports r view kept absent fit seed added named matched =
+    let by : Seed → List Report → List ℕ = λ seed. map (λ (r : Report). id_number seed r.firm r.id) in
+    let with_match_id : Seed → List Report → List ℕ = λ seed. map (λ (r : Report). match_number seed r.match_id) in
+    record {
+      named =
+          named ∙ ap (λ ns. ns ++ id_number old.seed r.firm r.id ∷ []) kept.named
+          ∙ sym (map-append (λ (r : Report). id_number old.seed r.firm r.id) old.reports.items (r ∷ []))
+          ∙ ap (by old.seed) (sym added) ∙ ap (λ seed. by seed new.reports.items) (sym seed);
+      matched =
+          matched ∙ ap (λ ns. ns ++ match_number old.seed r.match_id ∷ []) kept.matched
+          ∙ sym (map-append (λ (r : Report). match_number old.seed r.match_id) old.reports.items (r ∷ []))
+          ∙ ap (with_match_id old.seed) (sym added) ∙ ap (λ seed. with_match_id seed new.reports.items) (sym seed);
+      sound = subst IsSound (sym (added ∙ ap (λ rs. rs ++ r ∷ []) view)) (sound-push reports r (subst IsSound view kept.sound) absent fit);
+    }

@@ -1,5 +1,0 @@
-use Rattle.gu_trades.proofs.KeptReports.{kept-empty}
-use Rattle.gu_trades.proofs.trades.Trades.new.Goals as goal
-
-pub invariant_of-result : goal.invariant_of-result
-invariant_of-result c = kept-empty _ c.new.ensures.empty c.new-2.ensures.empty
