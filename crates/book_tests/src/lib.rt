@@ -10,6 +10,8 @@ mod limits;
 #[cfg(test)]
 mod memory;
 #[cfg(test)]
+mod offers;
+#[cfg(test)]
 mod positions;
 #[cfg(test)]
 mod readers;
