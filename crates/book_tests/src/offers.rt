@@ -1,5 +1,5 @@
-//! Offers: give-ups of lines, what is taken of them, closed and reversed. Each of these tests but the last passes with each of its
-//! allocations refused in turn.
+//! Offers: give-ups of lines, what is taken of them, closed and reversed. Each of these tests but the last makes a call that is
+//! refused memory once more, so that it passes where one allocation is refused.
 
 use crate::words::{account, firm, group, id};
 use gu_offers::{Offers, OpenOffer};
