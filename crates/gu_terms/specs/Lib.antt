@@ -1,3 +1,4 @@
+pub mod AllocRejects
 pub mod Cuts
 pub mod Days
 pub mod Histories

@@ -1,7 +1,10 @@
--- Why a command is refused: each refusal's number and its name.
-use Rattle.std.specs.Prelude.{ℕ, List, codes}
+-- Why a command is refused: each refusal's number, its name and its text.
+use Rattle.std.specs.Prelude.{ℕ, ◌++◌, ◌∷◌, List, Option, None, Some, codes}
+use Rattle.std.specs.Option.{option_map_or}
+use Rattle.gu_terms.specs.LimitKeys.{kind_of, name_of_key}
+use Rattle.gu_terms.specs.declared.limit_key.LimitKey.{LimitKey}
 use Rattle.gu_terms.specs.declared.refusal.Refusal.{Refusal}
-use Rattle.gu_terms.specs.declared.refusal.Refusal.TheVariants.{NoDay, WrongDay, UnknownInstrument, UnknownAccount, NotYours, DuplicateId, MatchConflict, UnknownKey, TooHigh}
+use Rattle.gu_terms.specs.declared.refusal.Refusal.TheVariants.{NoDay, WrongDay, UnknownInstrument, UnknownAccount, NotYours, DuplicateId, MatchConflict, UnknownTrade, NotMatched, NoAgreement, TooManyLots, TooManyOffers, UnknownOffer, OfferClosed, LimitReached, UnknownKey, TooHigh, OfferOpen, NothingToReverse}
 
 -- its number: of those that stand the least is the reply
 abbrev pub number_of : Refusal → ℕ
@@ -12,8 +15,18 @@ number_of UnknownAccount = 4
 number_of NotYours = 5
 number_of DuplicateId = 6
 number_of MatchConflict = 7
+number_of UnknownTrade = 8
+number_of NotMatched = 9
+number_of NoAgreement = 10
+number_of TooManyLots = 11
+number_of TooManyOffers = 12
+number_of UnknownOffer = 13
+number_of OfferClosed = 14
+number_of (LimitReached key) = 15
 number_of UnknownKey = 16
 number_of TooHigh = 17
+number_of OfferOpen = 18
+number_of NothingToReverse = 19
 
 -- its name in a reply
 abbrev pub name_of : Refusal → List ℕ
@@ -24,5 +37,28 @@ name_of UnknownAccount = codes "UnknownAccount"
 name_of NotYours = codes "NotYours"
 name_of DuplicateId = codes "DuplicateId"
 name_of MatchConflict = codes "MatchConflict"
+name_of UnknownTrade = codes "UnknownTrade"
+name_of NotMatched = codes "NotMatched"
+name_of NoAgreement = codes "NoAgreement"
+name_of TooManyLots = codes "TooManyLots"
+name_of TooManyOffers = codes "TooManyOffers"
+name_of UnknownOffer = codes "UnknownOffer"
+name_of OfferClosed = codes "OfferClosed"
+name_of (LimitReached key) = codes "LimitReached"
 name_of UnknownKey = codes "UnknownKey"
 name_of TooHigh = codes "TooHigh"
+name_of OfferOpen = codes "OfferOpen"
+name_of NothingToReverse = codes "NothingToReverse"
+
+-- a name, and behind it a blank, the kind of a key, a blank and its name
+abbrev pub named_with_key : List ℕ → LimitKey → List ℕ
+named_with_key name key = name ++ 32 ∷ kind_of key ++ 32 ∷ name_of_key key
+
+-- the key that it names
+abbrev pub key_in : Refusal → Option LimitKey
+key_in (LimitReached key) = Some key
+key_in _ = None
+
+-- its text in a reply: its name, and behind it the key that it names
+abbrev pub text_of : Refusal → List ℕ
+text_of refusal = option_map_or (named_with_key (name_of refusal)) (key_in refusal) (name_of refusal)

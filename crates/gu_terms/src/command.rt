@@ -3,19 +3,22 @@
 ghost use Rattle.std.specs.Prelude.{◌≡◌, ◌↔◌, IsTrue, IfOk};
 
 use crate::account::AccountId;
+use crate::alloc_reject::AllocReject;
 use crate::day::Day;
 use crate::firm::FirmId;
 use crate::group::Group;
 use crate::id::Id;
 use crate::limit_key::LimitKey;
+use crate::lines::Lines;
 use crate::lots::Lots;
+use crate::offer_no::OfferNo;
 use crate::price::Price;
 use crate::side::Side;
 use crate::symbol::Symbol;
 use std::alloc::AllocError;
 
 /// What a caller asks to be entered.
-#[derive(Debug, Drop, PartialEq, Eq)]
+#[derive(Debug, Drop)]
 pub enum Command {
     /// The house opens a day, which is later than the one before.
     OpenDay {
@@ -40,6 +43,44 @@ pub enum Command {
         side: Side,
         account: AccountId,
     },
+    /// An executing firm gives lots of a report of its own up, a line an account (FIX: Allocation Instruction).
+    GiveUp {
+        firm: FirmId,
+        /// The firm's own id of the give-up. Reports have ids apart from these.
+        id: Id,
+        /// The firm's id of the report.
+        report: Id,
+        lines: Lines,
+    },
+    /// A carrying firm claims all that is left of an offer (FIX: Allocation Report Ack).
+    Claim {
+        firm: FirmId,
+        offer: OfferNo,
+    },
+    /// A carrying firm refuses what is left of an offer.
+    Refuse {
+        firm: FirmId,
+        offer: OfferNo,
+        why: AllocReject,
+    },
+    /// A carrying firm takes back what was moved of an offer since the day was opened.
+    Reverse {
+        firm: FirmId,
+        offer: OfferNo,
+    },
+}
+
+/// Whether two reports name one day, or neither a day.
+fn is_same_day(day: Option<Day>, other: Option<Day>) -> bool
+    ensures { IsTrue result ↔ (day ≡ other) }
+{
+    match day {
+        Some(day) => match other {
+            Some(day_of_other) => day.is_same(day_of_other),
+            None => false,
+        },
+        None => other.is_none(),
+    }
 }
 
 impl Command {
@@ -75,6 +116,33 @@ impl Command {
                 side: *side,
                 account: *account,
             }),
+            Command::GiveUp {
+                firm,
+                id,
+                report,
+                lines,
+            } => {
+                let lines = lines.copy()?;
+                Ok(Command::GiveUp {
+                    firm: *firm,
+                    id: *id,
+                    report: *report,
+                    lines,
+                })
+            }
+            Command::Claim { firm, offer } => Ok(Command::Claim {
+                firm: *firm,
+                offer: *offer,
+            }),
+            Command::Refuse { firm, offer, why } => Ok(Command::Refuse {
+                firm: *firm,
+                offer: *offer,
+                why: *why,
+            }),
+            Command::Reverse { firm, offer } => Ok(Command::Reverse {
+                firm: *firm,
+                offer: *offer,
+            }),
         }
     }
 
@@ -82,6 +150,90 @@ impl Command {
     pub fn is_same(&self, other: &Command) -> bool
         ensures { IsTrue result ↔ (self.now ≡ other.now) }
     {
-        *self == *other
+        match self {
+            Command::OpenDay { day } => match other {
+                Command::OpenDay { day: day_of_other } => day.is_same(*day_of_other),
+                _ => false,
+            },
+            Command::SetLimit { group, key, lots } => match other {
+                Command::SetLimit {
+                    group: group_of_other,
+                    key: key_of_other,
+                    lots: lots_of_other,
+                } => *group == *group_of_other && *key == *key_of_other && *lots == *lots_of_other,
+                _ => false,
+            },
+            Command::ReportSide {
+                firm,
+                id,
+                match_id,
+                symbol,
+                lots,
+                price,
+                day,
+                side,
+                account,
+            } => match other {
+                Command::ReportSide {
+                    firm: firm_of_other,
+                    id: id_of_other,
+                    match_id: match_id_of_other,
+                    symbol: symbol_of_other,
+                    lots: lots_of_other,
+                    price: price_of_other,
+                    day: day_of_other,
+                    side: side_of_other,
+                    account: account_of_other,
+                } => *firm == *firm_of_other
+                    && *id == *id_of_other
+                    && *match_id == *match_id_of_other
+                    && *symbol == *symbol_of_other
+                    && *lots == *lots_of_other
+                    && *price == *price_of_other
+                    && is_same_day(*day, *day_of_other)
+                    && *side == *side_of_other
+                    && *account == *account_of_other,
+                _ => false,
+            },
+            Command::GiveUp {
+                firm,
+                id,
+                report,
+                lines,
+            } => match other {
+                Command::GiveUp {
+                    firm: firm_of_other,
+                    id: id_of_other,
+                    report: report_of_other,
+                    lines: lines_of_other,
+                } => *firm == *firm_of_other
+                    && *id == *id_of_other
+                    && *report == *report_of_other
+                    && lines.is_same(lines_of_other),
+                _ => false,
+            },
+            Command::Claim { firm, offer } => match other {
+                Command::Claim {
+                    firm: firm_of_other,
+                    offer: offer_of_other,
+                } => *firm == *firm_of_other && *offer == *offer_of_other,
+                _ => false,
+            },
+            Command::Refuse { firm, offer, why } => match other {
+                Command::Refuse {
+                    firm: firm_of_other,
+                    offer: offer_of_other,
+                    why: why_of_other,
+                } => *firm == *firm_of_other && *offer == *offer_of_other && *why == *why_of_other,
+                _ => false,
+            },
+            Command::Reverse { firm, offer } => match other {
+                Command::Reverse {
+                    firm: firm_of_other,
+                    offer: offer_of_other,
+                } => *firm == *firm_of_other && *offer == *offer_of_other,
+                _ => false,
+            },
+        }
     }
 }

@@ -90,6 +90,13 @@ impl Day {
         }
     }
 
+    /// Whether two days are one.
+    pub fn is_same(self, other: Day) -> bool
+        ensures { IsTrue result ↔ (self ≡ other) }
+    {
+        self.year == other.year && self.month == other.month && self.day == other.day
+    }
+
     /// Whether it comes before another day.
     pub fn is_before(self, other: Day) -> bool
         ensures { IsTrue result ↔ (date_number self.year self.month self.day < date_number other.year other.month other.day) }

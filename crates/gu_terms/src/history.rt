@@ -9,7 +9,7 @@ use std::alloc::{AllocError, Global};
 use std::marker::Model;
 
 /// Entries, numbered from 1. To a contract it is their list.
-#[derive(Debug, Drop)]
+#[derive(Drop)]
 pub struct History {
     entries: Vec<Entry>,
 }
@@ -65,6 +65,7 @@ impl History {
         // Taken apart and made again, so that the check is told of the types within.
         match entry {
             Entry::Asked { command, reply } => self.entries.push(Entry::Asked { command, reply })?,
+            Entry::Swept(sweep) => self.entries.push(Entry::Swept(sweep))?,
         }
         Ok(())
     }

@@ -1,11 +1,7 @@
 //! The lines of a give-up.
 
-ghost use Rattle.std.specs.Prelude.{◌≡◌, ◌↔◌, ◌≤◌, length, sum_by, IsSome, IfSome, IfOk};
-ghost use Rattle.std.specs.Cmp.{partial_equiv_from_equiv};
-ghost use Rattle.std.specs.Cmp.Lexicographic.{pointwise};
-ghost use Rattle.std.proofs.lemmas.Cmp.{lists_equiv};
+ghost use Rattle.std.specs.Prelude.{◌≡◌, ◌↔◌, ◌≤◌, length, sum_by, IsTrue, IsSome, IfSome, IfOk};
 ghost use Rattle.gu_terms.specs.Lines.{AreLines, lots_in_all};
-ghost use Rattle.gu_terms.specs.contracts.lines.LineEq.TheImpl.Laws.{laws-law as lines_equiv};
 
 use crate::account::AccountId;
 use crate::bounds::MOST_LINES;
@@ -70,6 +66,13 @@ impl Lines {
         total
     }
 
+    /// Whether two lists of lines are the same.
+    pub fn is_same(&self, other: &Lines) -> bool
+        ensures { IsTrue result ↔ (self.now ≡ other.now) }
+    {
+        self.as_slice() == other.as_slice()
+    }
+
     /// A copy.
     pub fn copy(&self) -> Result<Lines, AllocError>
         ensures { IfOk result (λ lines. lines ≡ self.now) }
@@ -77,19 +80,4 @@ impl Lines {
         let list = self.list.clone()?;
         Ok(Lines { list })
     }
-}
-
-// Two lists of lines are equal where their lines are, in order.
-impl PartialEq for Lines {
-    ghost eq = { pointwise ⟦<Line as PartialEq>⟧.eq };
-
-    ghost laws = { partial_equiv_from_equiv (lists_equiv lines_equiv) };
-
-    fn eq(&self, other: &Self) -> bool {
-        self.as_slice() == other.as_slice()
-    }
-}
-
-impl Eq for Lines {
-    ghost laws = { lists_equiv lines_equiv };
 }

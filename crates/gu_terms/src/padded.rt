@@ -1,6 +1,6 @@
 //! Short texts, kept in place.
 
-ghost use Rattle.std.specs.Prelude.{◌≡◌, ◌∷◌, [], ◌<◌, ◌≤◌, length};
+ghost use Rattle.std.specs.Prelude.{◌≡◌, ◌+◌, ◌++◌, ◌∷◌, [], ◌<◌, ◌≤◌, length};
 ghost use Rattle.std.specs.Str.{bytes_eq};
 ghost use Rattle.std.specs.Cmp.{partial_equiv_from_equiv};
 ghost use Rattle.std.specs.Cmp.Rules.{hashing};
@@ -45,6 +45,22 @@ impl<const N: usize> Padded<N> {
         Padded {
             bytes,
             len: text.len() as u8,
+        }
+    }
+
+    /// The text, and more behind it.
+    pub(crate) fn with(&self, more: &[u8]) -> Self
+        requires fits { length self.now + length more.now ≤ N }
+        requires short { length self.now + length more.now < 256 }
+        ensures { result ≡ self.now ++ more.now }
+    {
+        let len = self.len as usize + more.len();
+        let mut bytes = self.bytes;
+        let all = &mut bytes[..];
+        all[self.len as usize..len].copy_from_slice(more);
+        Padded {
+            bytes,
+            len: len as u8,
         }
     }
 

@@ -6,7 +6,7 @@ use crate::entry::Entry;
 use std::alloc::AllocError;
 
 /// What was entered, and its number in the history.
-#[derive(Debug, Drop)]
+#[derive(Drop)]
 pub struct Receipt {
     pub number: u64,
     pub entry: Entry,

@@ -1,9 +1,10 @@
 //! Why commands are refused.
 
-ghost use Rattle.std.specs.Prelude.{◌≡◌, Some};
-ghost use Rattle.gu_terms.specs.Refusals.{number_of, name_of};
+ghost use Rattle.std.specs.Prelude.{◌≡◌, ◌↔◌, ◌≤◌, length, IsTrue};
+ghost use Rattle.gu_terms.specs.Refusals.{key_in, number_of, name_of, text_of};
 
-use std::fmt;
+use crate::limit_key::LimitKey;
+use crate::refusal_text::RefusalText;
 
 /// Why a command is refused, in the order in which the tests are made.
 #[derive(Clone, Copy, Debug, PartialEq, Eq)]
@@ -16,16 +17,36 @@ pub enum Refusal {
     UnknownInstrument,
     /// The reference has no such account.
     UnknownAccount,
-    /// The account is another firm's.
+    /// The account is another firm's, or the offer is to one.
     NotYours,
-    /// The firm has used this id already.
+    /// The firm has used this id already, for a report or for a give-up.
     DuplicateId,
     /// The trade has both its sides, or its one side disagrees.
     MatchConflict,
+    /// The firm has no report with this id.
+    UnknownTrade,
+    /// The report has no other side yet.
+    NotMatched,
+    /// The firm has no agreement for the account.
+    NoAgreement,
+    /// The lines have more lots than the report has free.
+    TooManyLots,
+    /// The product group would have more than 4,096 open offers.
+    TooManyOffers,
+    /// There is no such offer.
+    UnknownOffer,
+    /// Nothing is left of the offer.
+    OfferClosed,
+    /// Under this key there is less room than is left of the offer.
+    LimitReached(LimitKey),
     /// The reference has no such group, or nothing that the key names.
     UnknownKey,
     /// The limit is above 1,000,000,000 lots.
     TooHigh,
+    /// Lots of the offer are left.
+    OfferOpen,
+    /// Nothing of the offer was moved since the day was opened, or it was reversed.
+    NothingToReverse,
 }
 
 impl Refusal {
@@ -41,14 +62,25 @@ impl Refusal {
             Refusal::NotYours => 5,
             Refusal::DuplicateId => 6,
             Refusal::MatchConflict => 7,
+            Refusal::UnknownTrade => 8,
+            Refusal::NotMatched => 9,
+            Refusal::NoAgreement => 10,
+            Refusal::TooManyLots => 11,
+            Refusal::TooManyOffers => 12,
+            Refusal::UnknownOffer => 13,
+            Refusal::OfferClosed => 14,
+            Refusal::LimitReached(_) => 15,
             Refusal::UnknownKey => 16,
             Refusal::TooHigh => 17,
+            Refusal::OfferOpen => 18,
+            Refusal::NothingToReverse => 19,
         }
     }
 
     /// Its name in a reply.
     pub fn name(self) -> &'static str
-        ensures { result.now ≡ name_of self }
+        ensures name { result.now ≡ name_of self }
+        ensures short { length result.now ≤ 20 }
     {
         match self {
             Refusal::NoDay => "NoDay",
@@ -58,16 +90,49 @@ impl Refusal {
             Refusal::NotYours => "NotYours",
             Refusal::DuplicateId => "DuplicateId",
             Refusal::MatchConflict => "MatchConflict",
+            Refusal::UnknownTrade => "UnknownTrade",
+            Refusal::NotMatched => "NotMatched",
+            Refusal::NoAgreement => "NoAgreement",
+            Refusal::TooManyLots => "TooManyLots",
+            Refusal::TooManyOffers => "TooManyOffers",
+            Refusal::UnknownOffer => "UnknownOffer",
+            Refusal::OfferClosed => "OfferClosed",
+            Refusal::LimitReached(_) => "LimitReached",
             Refusal::UnknownKey => "UnknownKey",
             Refusal::TooHigh => "TooHigh",
+            Refusal::OfferOpen => "OfferOpen",
+            Refusal::NothingToReverse => "NothingToReverse",
         }
     }
-}
 
-impl fmt::Display for Refusal {
-    ghost output = { λ refusal. Some (name_of refusal) };
+    /// The key that it names.
+    pub fn key(&self) -> Option<LimitKey>
+        ensures { result ≡ key_in self.now }
+    {
+        match self {
+            Refusal::LimitReached(key) => Some(*key),
+            _ => None,
+        }
+    }
 
-    fn fmt<W: fmt::Write>(&self, f: &mut fmt::Formatter<W>) -> fmt::Result {
-        f.write_str(self.name())
+    /// Whether two refusals are the same.
+    pub fn is_same(&self, other: &Refusal) -> bool
+        ensures { IsTrue result ↔ (self.now ≡ other.now) }
+    {
+        let key = self.key();
+        let key_of_other = other.key();
+        self.number() == other.number() && key == key_of_other
+    }
+
+    /// Its text in a reply: its name, and behind LimitReached the kind and the name of the key.
+    pub fn text(&self) -> RefusalText
+        ensures { result ≡ text_of self.now }
+    {
+        let key = self.key();
+        let name = self.name();
+        match key {
+            Some(key) => RefusalText::of_key(name, key),
+            None => RefusalText::of_name(name),
+        }
     }
 }
