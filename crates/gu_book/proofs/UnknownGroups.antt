@@ -3,13 +3,13 @@ use Rattle.std.proofs.Common.{◌≡◌, ℕ, ◌&&◌, not, Bool, true, false, 
 use Rattle.std.specs.List.{filter_map, last_or}
 use Rattle.std.proofs.lemmas.Bool.{cases_Bool}
 use Rattle.std.proofs.lemmas.Slice.Eq.{bytes_eq-Decides}
-use Rattle.gu_terms.specs.declared.command.Command.TheVariants.{OpenDay, SetLimit, ReportSide}
+use Rattle.gu_terms.specs.declared.command.Command.TheVariants.{OpenDay, SetLimit, ReportSide, GiveUp, Claim, Refuse, Reverse}
 use Rattle.gu_terms.specs.declared.entry.Entry.{Entry}
-use Rattle.gu_terms.specs.declared.entry.Entry.TheVariants.{Asked}
+use Rattle.gu_terms.specs.declared.entry.Entry.TheVariants.{Asked, Swept}
 use Rattle.gu_terms.specs.declared.group.Group.{Group}
 use Rattle.gu_terms.specs.declared.limit_key.LimitKey.{LimitKey}
 use Rattle.gu_terms.specs.declared.refusal.Refusal.TheVariants.{UnknownKey}
-use Rattle.gu_terms.specs.declared.reply.Done.TheVariants.{Opened, LimitSet, Reported}
+use Rattle.gu_terms.specs.declared.reply.Done.TheVariants.{Opened, LimitSet, Reported, Offered, Claimed, Refused, Reversed}
 use Rattle.gu_terms.specs.declared.reply.Reply.TheVariants.{Accepted, Denied}
 use Rattle.gu_ref.specs.Reference.{is_group}
 use Rattle.gu_terms.specs.Same.{same_group}
@@ -19,7 +19,7 @@ use Rattle.gu_book.specs.Kept.{Kept}
 use Rattle.gu_book.specs.Legal.{IsLegal, MayFollow}
 use Rattle.gu_book.specs.Limits.{keys_in_order, limit_row, limit_rows, limit_set_by}
 use Rattle.gu_book.proofs.LimitLemmas.{limit_row-unset}
-use Rattle.gu_book.proofs.Taking.{none_stands}
+use Rattle.gu_book.proofs.Passing.{none_stands}
 
 known : (a b : Bool) → not (a && b) ≡ false → a ≡ true
 known true b h = refl
@@ -34,8 +34,17 @@ limit_group reference before at on lots may =
 -- so that no entry sets one for an unknown group
 sets_nothing : (reference : Tables) (before : List Entry) (group : Group) (key : LimitKey) (entry : Entry) → is_group reference group ≡ false → MayFollow reference before entry
     → limit_set_by group key entry ≡ None
+sets_nothing reference before group key (Swept sweep) unknown may = refl
 sets_nothing reference before group key (Asked (OpenDay day) reply) unknown may = refl
 sets_nothing reference before group key (Asked (ReportSide firm id match_id symbol lots price day side account) reply) unknown may = refl
+sets_nothing reference before group key (Asked (GiveUp firm id report lines) reply) unknown may = refl
+sets_nothing reference before group key (Asked (Claim firm offer) reply) unknown may = refl
+sets_nothing reference before group key (Asked (Refuse firm offer why) reply) unknown may = refl
+sets_nothing reference before group key (Asked (Reverse firm offer) reply) unknown may = refl
+sets_nothing reference before group key (Asked (SetLimit at on lots) (Accepted (Offered given first count))) unknown may = refl
+sets_nothing reference before group key (Asked (SetLimit at on lots) (Accepted (Claimed moved))) unknown may = refl
+sets_nothing reference before group key (Asked (SetLimit at on lots) (Accepted (Refused closed))) unknown may = refl
+sets_nothing reference before group key (Asked (SetLimit at on lots) (Accepted (Reversed moved))) unknown may = refl
 sets_nothing reference before group key (Asked (SetLimit at on lots) (Denied why)) unknown may = refl
 sets_nothing reference before group key (Asked (SetLimit at on lots) (Accepted Opened)) unknown may = refl
 sets_nothing reference before group key (Asked (SetLimit at on lots) (Accepted (Reported matched))) unknown may = refl
@@ -55,7 +64,7 @@ gives_nothing given (x ∷ items) none = rw (none zero x refl) (gives_nothing gi
 -- the limits of an unknown group
 pub unknown_group : (book : Kept) (group : Group) → IsLegal book.reference book.history → is_group book.reference group ≡ false → limit_rows book group ≡ []
 unknown_group book group legal unknown =
-    gives_nothing (limit_row book.history group) (keys_in_order book.reference)
-    (λ k key at. limit_row-unset book.history group key
+    gives_nothing (limit_row book.reference book.history group) (keys_in_order book.reference)
+    (λ k key at. limit_row-unset book.reference book.history group key
     (ap (last_or None)
     (gives_nothing (limit_set_by group key) book.history (λ j entry there. sets_nothing book.reference (take j book.history) group key entry unknown (legal.each j entry there)))))

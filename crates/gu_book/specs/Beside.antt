@@ -1,18 +1,61 @@
 -- Machinery: what a book keeps beside its history, so that an answer reads none of it.
-use Rattle.std.specs.Prelude.{◌≡◌, List, Option}
-use Rattle.gu_terms.specs.declared.day.Day.{Day}
+use Rattle.std.specs.Prelude.{◌≡◌, ℕ, ◌*◌, ◌≤◌, ◌&&◌, Bool, List, length, is_some}
+use Rattle.std.specs.List.{list_any}
+use Rattle.gu_terms.specs.Same.{same_firm, same_id}
+use Rattle.gu_terms.specs.declared.account.AccountId.{AccountId}
 use Rattle.gu_terms.specs.declared.entry.Entry.{Entry}
-use Rattle.gu_terms.specs.declared.report.Report.{Report}
+use Rattle.gu_terms.specs.declared.firm.FirmId.{FirmId}
+use Rattle.gu_terms.specs.declared.group.Group.{Group}
+use Rattle.gu_terms.specs.declared.id.Id.{Id}
+use Rattle.gu_terms.specs.declared.limit_key.LimitKey.{LimitKey}
+use Rattle.gu_terms.specs.declared.side.Side.{Side}
+use Rattle.gu_terms.specs.declared.symbol.Symbol.{Symbol}
 use Rattle.gu_ref.specs.Tables.{Tables}
+use Rattle.gu_limits.specs.Limits.{has_limit, limit_in, room_in, used_in}
+use Rattle.gu_positions.specs.Rows.{lots_in, lots_on}
+use Rattle.gu_book.specs.Answer.{State}
 use Rattle.gu_book.specs.Legal.{IsLegal}
+use Rattle.gu_book.specs.Limits.{limit_of, limit_set, use_of}
+use Rattle.gu_book.specs.Offers.{has_give_up, standing_of}
+use Rattle.gu_book.specs.Orderly.{IsOrderly}
+use Rattle.gu_book.specs.Positions.{held_of}
 use Rattle.gu_book.specs.Reports.{open_day, reports_of}
+use Rattle.gu_book.specs.declared.totals.GiveUpKey.{GiveUpKey}
+use Rattle.gu_book.specs.declared.totals.Totals.{Totals}
 
--- what is kept beside a history: the open day, and the reports that were taken in
-pub record IsBeside (today : Option Day) (reports : List Report) (history : List Entry) : Type 0 where
-  pub today_is : today ≡ open_day history
-  pub reports_are : reports ≡ reports_of history
+-- a give-up of this firm with this id is among those that are kept
+abbrev pub is_kept_give_up : List GiveUpKey → FirmId → Id → Bool
+is_kept_give_up keys firm id = list_any (λ (k : GiveUpKey). same_firm k.firm firm && same_id k.id id) keys
+
+-- what is kept, as answers depend on it
+abbrev pub state_in : Totals → State
+state_in totals =
+    record {
+      today = totals.today;
+      reports = totals.trades;
+      offers = totals.offers;
+      has_give_up = is_kept_give_up totals.give_ups.keys;
+      room = room_in totals.limits;
+    }
+
+-- what is kept beside a history
+pub record IsBeside (reference : Tables) (history : List Entry) (totals : Totals) : Type 0 where
+  pub today : totals.today ≡ open_day history
+  pub reports : totals.trades ≡ reports_of history
+  pub offers : totals.offers ≡ standing_of history
+  pub give_ups : (firm : FirmId) (id : Id) → is_kept_give_up totals.give_ups.keys firm id ≡ has_give_up history firm id
+  pub set : (group : Group) (key : LimitKey) → has_limit totals.limits group key ≡ is_some (limit_set history group key)
+  pub limits : (group : Group) (key : LimitKey) → limit_in totals.limits group key ≡ limit_of history group key
+  pub uses : (group : Group) (key : LimitKey) → used_in totals.limits group key ≡ use_of reference history group key
+  pub positions : (side : Side) (account : AccountId) (symbol : Symbol) → lots_in totals.positions side account symbol ≡ held_of history side account symbol
+  pub sums : (side : Side) (symbol : Symbol) → lots_on totals.positions side symbol ≤ 2000000 * length history
+
+-- an orderly history, with what is kept beside it
+pub record IsKept (reference : Tables) (history : List Entry) (totals : Totals) : Type 0 where
+  pub orderly : IsOrderly history
+  pub beside : IsBeside reference history totals
 
 -- a legal history, with what is kept beside it
-pub record IsKeptLegal (reference : Tables) (history : List Entry) (today : Option Day) (reports : List Report) : Type 0 where
+pub record IsKeptLegal (reference : Tables) (history : List Entry) (totals : Totals) : Type 0 where
   pub legal : IsLegal reference history
-  pub beside : IsBeside today reports history
+  pub kept : IsKept reference history totals

@@ -1,8 +1,14 @@
+pub mod Accepted
 pub mod Answer
 pub mod Beside
+pub mod Effects
 pub mod Kept
 pub mod Legal
 pub mod Limits
+pub mod Offers
+pub mod Orderly
 pub mod Positions
 pub mod Reports
-pub mod SetLimits
+pub mod Sweeps
+pub mod Versions
+pub mod Views

@@ -1,8 +1,8 @@
 -- Limits: what was set, what is used of it today, and the room that is left.
-use Rattle.std.specs.Prelude.{ℕ, ◌-◌, ◌&&◌, ◌++◌, List, Option, Some, None, is_some, map, sum_by, unwrap_or, if◌then◌else◌}
-use Rattle.std.specs.List.{after_last, filter_map, last_or}
-use Rattle.std.specs.Option.{option_map}
-use Rattle.gu_terms.specs.LimitKeys.{key_eq}
+use Rattle.std.specs.Prelude.{ℕ, ◌-◌, ◌&&◌, ◌++◌, Bool, List, [], Option, Some, None, map, sum_by, unwrap_or, if◌then◌else◌}
+use Rattle.std.specs.List.{filter_map, last_or}
+use Rattle.std.specs.Option.{option_and_then, option_map}
+use Rattle.gu_terms.specs.LimitKeys.{has_key, key_eq}
 use Rattle.gu_terms.specs.declared.command.Command.TheVariants.{SetLimit}
 use Rattle.gu_terms.specs.declared.entry.Entry.{Entry}
 use Rattle.gu_terms.specs.declared.entry.Entry.TheVariants.{Asked}
@@ -13,9 +13,13 @@ use Rattle.gu_terms.specs.declared.limit_row.LimitRow.{LimitRow}
 use Rattle.gu_terms.specs.declared.reply.Done.TheVariants.{LimitSet}
 use Rattle.gu_terms.specs.declared.reply.Reply.TheVariants.{Accepted}
 use Rattle.gu_terms.specs.Same.{same_group}
+use Rattle.gu_terms.specs.declared.offer.Offer.{Offer}
+use Rattle.gu_ref.specs.Reference.{agreement_between}
 use Rattle.gu_ref.specs.Tables.{Tables}
+use Rattle.gu_limits.specs.Paths.{path_of}
+use Rattle.gu_offers.specs.Rows.{Row}
 use Rattle.gu_book.specs.Kept.{Kept}
-use Rattle.gu_book.specs.Reports.{opened_day}
+use Rattle.gu_book.specs.Offers.{standing_of}
 
 -- the lots that an entry sets for a key in a group
 abbrev pub limit_set_by : Group → LimitKey → Entry → Option ℕ
@@ -30,27 +34,31 @@ limit_set history group key = last_or None (filter_map (limit_set_by group key) 
 abbrev pub limit_of : List Entry → Group → LimitKey → ℕ
 limit_of history group key = unwrap_or (limit_set history group key) 0
 
--- the entries since the last accepted opening of a day
-abbrev pub entries_today : List Entry → List Entry
-entries_today history = after_last (λ e. is_some (opened_day e)) history
+-- the keys that an offer comes under: the path of the agreement between its firm and its account
+abbrev pub path_behind : Tables → Offer → List LimitKey
+path_behind reference offer = unwrap_or (option_and_then (path_of reference) (agreement_between reference offer.firm offer.account)) []
 
--- the lots that an entry takes of the group's offers with the key on their path (no command takes lots yet)
-abbrev pub taken_under : Group → LimitKey → Entry → ℕ
-taken_under group key (Asked command reply) = 0
+-- an offer comes under a key in a group
+abbrev pub is_under : Tables → Group → LimitKey → Row → Bool
+is_under reference group key row = same_group group row.offer.group && has_key (path_behind reference row.offer) key
 
--- the use of a limit: the lots taken under it since the last opening
-abbrev pub use_of : List Entry → Group → LimitKey → ℕ
-use_of history group key = sum_by (taken_under group key) (entries_today history)
+-- what is used under a key in a group: what was moved since the last opening of the offers that come under it
+abbrev pub use_in : Tables → List Row → Group → LimitKey → ℕ
+use_in reference rows group key = sum_by (λ (row : Row). if is_under reference group key row then row.today else 0) rows
+
+-- the use of a limit
+abbrev pub use_of : Tables → List Entry → Group → LimitKey → ℕ
+use_of reference history group key = use_in reference (standing_of history) group key
 
 -- the room that is left, 0 where the limit was set below its use
-abbrev pub room_of : List Entry → Group → LimitKey → ℕ
-room_of history group key = limit_of history group key - use_of history group key
+abbrev pub room_of : Tables → List Entry → Group → LimitKey → ℕ
+room_of reference history group key = limit_of history group key - use_of reference history group key
 
 -- a limit as it stands, where one was set
-abbrev pub limit_row : List Entry → Group → LimitKey → Option LimitRow
-limit_row history group key =
+abbrev pub limit_row : Tables → List Entry → Group → LimitKey → Option LimitRow
+limit_row reference history group key =
     option_map
-    (λ limit. record { key = key; limit = limit; used = use_of history group key; room = limit - use_of history group key })
+    (λ limit. record { key = key; limit = limit; used = use_of reference history group key; room = limit - use_of reference history group key })
     (limit_set history group key)
 
 -- all keys: executing firms, agreements, accounts, carrying firms, guarantors, each in the order of the reference,
@@ -65,4 +73,4 @@ keys_in_order reference =
 
 -- the limits of a group
 abbrev pub limit_rows : Kept → Group → List LimitRow
-limit_rows book group = filter_map (limit_row book.history group) (keys_in_order book.reference)
+limit_rows book group = filter_map (limit_row book.reference book.history group) (keys_in_order book.reference)

@@ -1,5 +1,6 @@
 -- Positions: what an account holds of an instrument.
-use Rattle.std.specs.Prelude.{ℕ, ◌&&◌, List, sum_by, if◌then◌else◌}
+use Rattle.std.specs.Prelude.{ℕ, ◌+◌, ◌-◌, ◌&&◌, Bool, false, List, Option, sum_by, if◌then◌else◌}
+use Rattle.std.specs.Option.{option_map_or}
 use Rattle.gu_terms.specs.declared.account.AccountId.{AccountId}
 use Rattle.gu_terms.specs.declared.side.Side.{Side}
 use Rattle.gu_terms.specs.declared.side.Side.TheVariants.{Buy, Sell}
@@ -8,6 +9,11 @@ use Rattle.gu_terms.specs.declared.report.Report.{Report}
 use Rattle.gu_terms.specs.declared.entry.Entry.{Entry}
 use Rattle.gu_trades.specs.Matching.{is_of_trade}
 use Rattle.gu_terms.specs.Same.{same_side, same_account, same_symbol}
+use Rattle.gu_ref.specs.declared.accounts.Account.{Account}
+use Rattle.gu_trades.specs.Reports.{report_by}
+use Rattle.gu_offers.specs.Rows.{Row}
+use Rattle.gu_book.specs.Kept.{Kept}
+use Rattle.gu_book.specs.Offers.{standing_of}
 use Rattle.gu_book.specs.Reports.{reports_of}
 
 -- the lots that a report brings to an account on a side of an instrument: its own, once it is a side of a trade
@@ -19,10 +25,46 @@ brought reports side account symbol r =
 abbrev pub traded : List Report → Side → AccountId → Symbol → ℕ
 traded reports side account symbol = sum_by (brought reports side account symbol) reports
 
+-- the report that an offer gives up
+abbrev pub report_behind : List Report → Row → Option Report
+report_behind reports row = report_by reports row.offer.firm row.offer.report
+
+-- an offer gives up a report on this side of this instrument
+abbrev pub is_on : List Report → Side → Symbol → Row → Bool
+is_on reports side symbol row = option_map_or (λ (r : Report). same_side r.side side && same_symbol r.symbol symbol) (report_behind reports row) false
+
+-- an offer gives up a report of this account
+abbrev pub is_from : List Report → AccountId → Row → Bool
+is_from reports account row = option_map_or (λ (r : Report). same_account r.account account) (report_behind reports row) false
+
+-- the lots that were moved into an account, on a side of an instrument
+abbrev pub moved_into : List Report → List Row → Side → AccountId → Symbol → ℕ
+moved_into reports rows side account symbol =
+    sum_by (λ (row : Row). if is_on reports side symbol row && same_account row.offer.account account then row.moved else 0) rows
+
+-- the lots that were moved out of it
+abbrev pub moved_out : List Report → List Row → Side → AccountId → Symbol → ℕ
+moved_out reports rows side account symbol =
+    sum_by (λ (row : Row). if is_on reports side symbol row && is_from reports account row then row.moved else 0) rows
+
+-- what it holds there: what trades brought and what was moved in, less what was moved out
+abbrev pub held_in : List Report → List Row → Side → AccountId → Symbol → ℕ
+held_in reports rows side account symbol =
+    traded reports side account symbol + moved_into reports rows side account symbol - moved_out reports rows side account symbol
+
+-- the lots that an account holds on a side of an instrument
+abbrev pub held_of : List Entry → Side → AccountId → Symbol → ℕ
+held_of history side account symbol = held_in (reports_of history) (standing_of history) side account symbol
+
 -- the lots that an account holds long in an instrument
 abbrev pub long_of : List Entry → AccountId → Symbol → ℕ
-long_of history account symbol = traded (reports_of history) Buy account symbol
+long_of history account symbol = held_of history Buy account symbol
 
 -- and short
 abbrev pub short_of : List Entry → AccountId → Symbol → ℕ
-short_of history account symbol = traded (reports_of history) Sell account symbol
+short_of history account symbol = held_of history Sell account symbol
+
+-- the open interest of an instrument: over the accounts, what each holds long above what it holds short
+abbrev pub open_interest_of : Kept → Symbol → ℕ
+open_interest_of book symbol =
+    sum_by (λ (a : Account). long_of book.history a.account symbol - short_of book.history a.account symbol) book.reference.accounts

@@ -1,6 +1,6 @@
 -- What the accepted entries of a history say: the open day, and the reports.
-use Rattle.std.specs.Prelude.{◌≡◌, false, List, [], ◌∷◌, ◌++◌, Option, Some, None}
-use Rattle.std.specs.List.{filter_map, last_or}
+use Rattle.std.specs.Prelude.{◌≡◌, false, List, [], ◌∷◌, ◌++◌, Option, Some, None, is_some}
+use Rattle.std.specs.List.{after_last, filter_map, last_or}
 use Rattle.std.specs.Option.{option_to_list}
 use Rattle.gu_terms.specs.declared.day.Day.{Day}
 use Rattle.gu_terms.specs.declared.report.Report.{Report}
@@ -20,6 +20,10 @@ opened_day _ = None
 -- the open day: that of the last accepted opening
 abbrev pub open_day : List Entry → Option Day
 open_day history = last_or None (filter_map opened_day history)
+
+-- the entries since the last accepted opening of a day
+abbrev pub entries_today : List Entry → List Entry
+entries_today history = after_last (λ e. is_some (opened_day e)) history
 
 -- the report that was taken in by an entry, made while this day was open
 abbrev pub report_on : Option Day → Entry → Option Report

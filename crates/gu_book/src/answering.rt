@@ -1,13 +1,24 @@
 //! Answers to commands.
 
-ghost use Rattle.std.specs.Prelude.{◌≡◌};
+ghost use Rattle.std.specs.Prelude.{◌≡◌, ◌<◌, [], nat_lt, length, unwrap_or, IfSome};
+ghost use Rattle.std.specs.List.{find, IsDistinct};
+ghost use Rattle.gu_terms.specs.LimitKeys.{key_eq};
+ghost use Rattle.std.specs.Option.{option_map};
+ghost use Rattle.gu_limits.specs.Limits.{room_in};
 ghost use Rattle.gu_trades.specs.Matching.{is_waiting};
 ghost use Rattle.gu_trades.specs.Reports.{with_match};
-ghost use Rattle.gu_book.specs.Answer.{answer_where, first_standing, is_known_key, is_later, is_other_day};
-ghost use Rattle.gu_book.specs.Answer.{limit_tests, opening_tests, report_tests};
+ghost use Rattle.gu_book.specs.Answer.{answer_in, claim_tests, first_standing, give_up_tests, given_up, has_unknown_account, is_known_key, is_later, is_other_day};
+ghost use Rattle.gu_book.specs.Answer.{lacks_agreement, limit_tests, lines_tests, offer_tests, opening_tests, refusal_in, refuse_tests, report_tests, reverse_tests, room_tests};
+ghost use Rattle.gu_book.specs.Beside.{state_in};
+ghost use Rattle.gu_book.specs.Limits.{path_behind};
 
+use crate::totals::Totals;
+use gu_limits::{LimitTable, path};
 use gu_ref::Reference;
-use gu_terms::{Command, Day, Done, Group, LimitKey, MOST_LIMIT, Refusal, Reply, Report};
+use gu_terms::{
+    AllocReject, Command, Day, Done, FirmId, Group, Id, LimitKey, Line, Lines, MOST_LIMIT,
+    MOST_OPEN_OFFERS, Offer, OfferNo, Path, Refusal, Reply, Report,
+};
 use gu_trades::Trades;
 
 /// Whether a day comes after the open one.
@@ -100,17 +111,229 @@ fn answer_to_opening(today: Option<Day>, day: Day) -> Reply
     }
 }
 
-/// The answer to a command, where this day is open and these reports were taken in.
-pub fn answer_of(
+/// The firm's report with this id, and the product group of its instrument.
+pub fn given_up(
     reference: &Reference,
-    today: Option<Day>,
-    trades: &Trades,
-    command: &Command,
+    totals: &Totals,
+    firm: &FirmId,
+    report: &Id,
+) -> Option<(Report, Group)>
+    ensures { result ≡ given_up reference.now (state_in totals.now) firm.now report.now }
+{
+    let report = totals.trades.side_of(*firm, *report)?;
+    let instrument = reference.instrument(report.symbol)?;
+    Some((report, instrument.group))
+}
+
+/// Whether the account of one of the lines isn't in the reference.
+fn has_unknown_account(reference: &Reference, lines: &[Line]) -> bool
+    ensures { result ≡ has_unknown_account reference.now lines.now }
+{
+    lines
+        .iter()
+        .any(|line| reference.account(line.account).is_none())
+}
+
+/// Whether the firm has no agreement for the account of one of the lines.
+fn lacks_agreement(reference: &Reference, firm: FirmId, lines: &[Line]) -> bool
+    ensures { result ≡ lacks_agreement reference.now firm lines.now }
+{
+    lines
+        .iter()
+        .any(|line| reference.between(firm, line.account).is_none())
+}
+
+/// Why lines of a report can't be given up in its group, if they can't.
+fn refusal_of_lines(
+    reference: &Reference,
+    totals: &Totals,
+    report: &Report,
+    group: &Group,
+    lines: &Lines,
+) -> Option<Refusal>
+    ensures { result ≡ refusal_in (lines_tests reference.now (state_in totals.now) report.now group.now lines.now) }
+{
+    if !totals.trades.trade(report.match_id).is_trade() {
+        return Some(Refusal::NotMatched);
+    }
+    if lacks_agreement(reference, report.firm, lines.as_slice()) {
+        return Some(Refusal::NoAgreement);
+    }
+    let counted = totals.offers.counted(report.firm, report.id);
+    if report.lots.get().saturating_sub(counted) < lines.lots() {
+        return Some(Refusal::TooManyLots);
+    }
+    if MOST_OPEN_OFFERS - lines.as_slice().len() < totals.offers.open_count(*group) {
+        return Some(Refusal::TooManyOffers);
+    }
+    None
+}
+
+/// The answer to a give-up.
+
+fn answer_to_give_up(
+    reference: &Reference,
+    totals: &Totals,
+    firm: &FirmId,
+    id: &Id,
+    report: &Id,
+    lines: &Lines,
 ) -> Reply
-    ensures { result ≡ answer_where reference.now today trades.now command.now }
+    requires { length totals.now.offers < 16000000 }
+    ensures { result ≡ answer_in reference.now (state_in totals.now) (Command.GiveUp firm.now id.now report.now lines.now) }
+{
+    if totals.today.is_none() {
+        return Reply::Denied(Refusal::NoDay);
+    }
+    if has_unknown_account(reference, lines.as_slice()) {
+        return Reply::Denied(Refusal::UnknownAccount);
+    }
+    if totals.has_give_up(firm, id) {
+        return Reply::Denied(Refusal::DuplicateId);
+    }
+    let Some((report, group)) = given_up(reference, totals, firm, report) else {
+        return Reply::Denied(Refusal::UnknownTrade);
+    };
+    if let Some(refusal) = refusal_of_lines(reference, totals, &report, &group, lines) {
+        return Reply::Denied(refusal);
+    }
+    let Some(first) = OfferNo::new(totals.offers.count() as u64 + 1) else {
+        unreachable!();
+    };
+    Reply::Accepted(Done::Offered {
+        group,
+        first,
+        count: lines.as_slice().len() as u64,
+    })
+}
+
+/// Why a firm may say nothing to an offer, if it may not.
+fn refusal_of_firm(
+    reference: &Reference,
+    totals: &Totals,
+    firm: FirmId,
+    number: OfferNo,
+) -> Option<Refusal>
+    ensures { result ≡ refusal_in (offer_tests reference.now (state_in totals.now) firm number) }
+{
+    if totals.today.is_none() {
+        return Some(Refusal::NoDay);
+    }
+    let Some(offer) = totals.offers.get(number) else {
+        return Some(Refusal::UnknownOffer);
+    };
+    match reference.account(offer.account) {
+        Some(row) if row.firm != firm => Some(Refusal::NotYours),
+        _ => None,
+    }
+}
+
+/// The path of the agreement by which an offer was made.
+pub fn path_of_offer(reference: &Reference, offer: &Offer) -> Option<Path>
+    ensures keys { unwrap_or result [] ≡ path_behind reference.now offer.now }
+    ensures once { IfSome result (IsDistinct key_eq) }
+{
+    path(reference, reference.between(offer.firm, offer.account)?)
+}
+
+/// The first key of a path under which there is less room than these lots.
+fn first_short(limits: &LimitTable, group: &Group, path: &Path, lots: u64) -> Option<LimitKey>
+    ensures { result ≡ find (λ key. nat_lt (room_in limits.now group.now key) lots) path.now }
+{
+    for key in path.keys() {
+        if limits.room(group, key) < lots {
+            return Some(*key);
+        }
+    }
+    None
+}
+
+/// Why what is left of an offer can't be claimed by the firm that it is to, if it can't.
+#[tactic(auto, using(crate::proofs::Passing::room_first))]
+fn refusal_of_claim(reference: &Reference, totals: &Totals, number: OfferNo) -> Option<Refusal>
+    ensures { result ≡ refusal_in (claim_tests reference.now (state_in totals.now) number) }
+{
+    let left = totals.offers.left(number);
+    if left == 0 {
+        return Some(Refusal::OfferClosed);
+    }
+    let offer = totals.offers.get(number)?;
+    let path = path_of_offer(reference, &offer)?;
+    let key = first_short(&totals.limits, &offer.group, &path, left)?;
+    Some(Refusal::LimitReached(key))
+}
+
+/// Why an offer can't be reversed by the firm that it is to, if it can't.
+fn refusal_of_reversal(totals: &Totals, number: OfferNo) -> Option<Refusal>
+    ensures { result ≡ refusal_in (reverse_tests (state_in totals.now) number) }
+{
+    if totals.offers.left(number) > 0 {
+        return Some(Refusal::OfferOpen);
+    }
+    if totals.offers.moved_today(number) == 0 {
+        return Some(Refusal::NothingToReverse);
+    }
+    None
+}
+
+/// The answer to a claim.
+
+fn answer_to_claim(reference: &Reference, totals: &Totals, firm: FirmId, offer: OfferNo) -> Reply
+    ensures { result ≡ answer_in reference.now (state_in totals.now) (Command.Claim firm offer) }
+{
+    if let Some(refusal) = refusal_of_firm(reference, totals, firm, offer) {
+        return Reply::Denied(refusal);
+    }
+    if let Some(refusal) = refusal_of_claim(reference, totals, offer) {
+        return Reply::Denied(refusal);
+    }
+    Reply::Accepted(Done::Claimed {
+        lots: totals.offers.left(offer),
+    })
+}
+
+/// The answer to a refusal.
+fn answer_to_refusal(
+    reference: &Reference,
+    totals: &Totals,
+    firm: FirmId,
+    offer: OfferNo,
+    why: AllocReject,
+) -> Reply
+    ensures { result ≡ answer_in reference.now (state_in totals.now) (Command.Refuse firm offer why) }
+{
+    if let Some(refusal) = refusal_of_firm(reference, totals, firm, offer) {
+        return Reply::Denied(refusal);
+    }
+    let lots = totals.offers.left(offer);
+    if lots == 0 {
+        return Reply::Denied(Refusal::OfferClosed);
+    }
+    Reply::Accepted(Done::Refused { lots })
+}
+
+/// The answer to a reversal.
+fn answer_to_reversal(reference: &Reference, totals: &Totals, firm: FirmId, offer: OfferNo) -> Reply
+    ensures { result ≡ answer_in reference.now (state_in totals.now) (Command.Reverse firm offer) }
+{
+    if let Some(refusal) = refusal_of_firm(reference, totals, firm, offer) {
+        return Reply::Denied(refusal);
+    }
+    if let Some(refusal) = refusal_of_reversal(totals, offer) {
+        return Reply::Denied(refusal);
+    }
+    Reply::Accepted(Done::Reversed {
+        lots: totals.offers.moved_today(offer),
+    })
+}
+
+/// The answer to a command, where a history comes to this.
+pub fn answer_of(reference: &Reference, totals: &Totals, command: &Command) -> Reply
+    requires { length totals.now.offers < 16000000 }
+    ensures { result ≡ answer_in reference.now (state_in totals.now) command.now }
 {
     match command {
-        Command::OpenDay { day } => answer_to_opening(today, *day),
+        Command::OpenDay { day } => answer_to_opening(totals.today, *day),
         Command::SetLimit { group, key, lots } => {
             answer_to_limit(reference, *group, *key, *lots)
         }
@@ -125,7 +348,7 @@ pub fn answer_of(
             side,
             account,
         } => {
-            let Some(today) = today else {
+            let Some(today) = totals.today else {
                 return Reply::Denied(Refusal::NoDay);
             };
             let report = Report {
@@ -139,7 +362,18 @@ pub fn answer_of(
                 side: *side,
                 account: *account,
             };
-            answer_to_report(reference, trades, &report, *day)
+            answer_to_report(reference, &totals.trades, &report, *day)
         }
+        Command::GiveUp {
+            firm,
+            id,
+            report,
+            lines,
+        } => answer_to_give_up(reference, totals, firm, id, report, lines),
+        Command::Claim { firm, offer } => answer_to_claim(reference, totals, *firm, *offer),
+        Command::Refuse { firm, offer, why } => {
+            answer_to_refusal(reference, totals, *firm, *offer, *why)
+        }
+        Command::Reverse { firm, offer } => answer_to_reversal(reference, totals, *firm, *offer),
     }
 }

@@ -1,25 +1,24 @@
 //! The book.
 
 ghost use Rattle.std.specs.Prelude.{◌≡◌, ◌↔◌, ◌<◌, ◌≤◌, ◌+◌, ◌++◌, ◌∷◌, [], false, length, IfOk, IfSome, OnOk, OnErr, IsErrOf};
-ghost use Rattle.std.specs.Option.{option_to_list};
 ghost use Rattle.gu_ref.specs.Reference.{is_group};
+ghost use Rattle.gu_book.specs.Accepted.{accepts};
 ghost use Rattle.gu_book.specs.Answer.{answer};
 ghost use Rattle.gu_book.specs.Legal.{IsLegal, MayFollow, StandsLast};
 ghost use Rattle.gu_book.specs.Limits.{limit_rows};
-ghost use Rattle.gu_book.specs.Positions.{long_of, short_of};
-ghost use Rattle.gu_book.specs.Reports.{open_day, Fits};
+ghost use Rattle.gu_book.specs.Positions.{long_of, open_interest_of, short_of};
+ghost use Rattle.gu_book.specs.Reports.{open_day};
 
 use crate::answering::answer_of;
 use crate::error::EnterError;
-use crate::limits::limit_rows;
-use crate::positions::traded;
-use crate::reports::{day_behind, report_on};
+use crate::limits::rows_in_order;
+use crate::taking::take_in;
+use crate::totals::Totals;
 use gu_ref::Reference;
 use gu_terms::{
-    AccountId, Command, Day, Entry, Group, History, LimitRow, MOST_ENTRIES, Receipt, Report, Side,
-    Symbol,
+    AccountId, Command, Day, Done, Entry, Group, History, LimitRow, MOST_ENTRIES, Receipt, Reply,
+    Report, Symbol,
 };
-use gu_trades::Trades;
 use std::alloc::{AllocError, Global};
 use std::marker::Model;
 
@@ -27,10 +26,8 @@ use std::marker::Model;
 pub struct Book {
     reference: Reference,
     history: History,
-    /// The open day.
-    today: Option<Day>,
-    /// The reports that the history took in.
-    trades: Trades,
+    /// What the history comes to.
+    totals: Totals,
     alloc: Global,
 }
 
@@ -39,13 +36,12 @@ impl Drop for Book {
         let Book {
             reference,
             history,
-            today: _,
-            trades,
+            totals,
             alloc: _,
         } = self;
         drop(reference);
         drop(history);
-        drop(trades);
+        drop(totals);
     }
 }
 
@@ -58,29 +54,14 @@ impl Model for Book {
 
     ghost view = { λ b. record { reference = b.reference; history = b.history } };
 
-    ghost invariant = { λ b. IsKeptLegal b.reference b.history b.today b.trades };
+    ghost invariant = { λ b. IsKeptLegal b.reference b.history b.totals };
 }
 
-/// Takes in the report of an entry that has one.
-fn take_in(trades: &mut Trades, report: Option<Report>) -> Result<(), AllocError>
-    requires { IfSome report (Fits trades.old) }
-    ensures taken { OnOk result (trades.new ≡ trades.old ++ option_to_list report) }
-    ensures refused { OnErr result (trades.new ≡ trades.old) }
+/// Whether a reply accepts.
+fn accepts(reply: &Reply) -> bool
+    ensures { result ≡ accepts reply.now }
 {
-    if let Some(report) = report {
-        trades.report(
-            report.firm,
-            report.id,
-            report.match_id,
-            report.symbol,
-            report.lots,
-            report.price,
-            report.day,
-            report.side,
-            report.account,
-        )?;
-    }
-    Ok(())
+    matches!(reply, Reply::Accepted(_))
 }
 
 impl Book {
@@ -91,37 +72,40 @@ impl Book {
         Book {
             reference,
             history: History::new(alloc),
-            today: None,
-            trades: Trades::new(alloc),
+            totals: Totals::new(alloc),
             alloc,
         }
     }
 
-    /// Adds an entry, and makes its receipt.
-    #[tactic(auto, using(crate::proofs::Growing::legal_push, crate::proofs::Growing::stands_last, crate::proofs::Taking::follower_fits, crate::proofs::Taking::kept_push))]
-    fn append(&mut self, entry: Entry) -> Result<Receipt, AllocError>
+    /// Adds a command with its answer, and makes its receipt.
+    fn append(&mut self, command: Command, reply: &Reply) -> Result<Receipt, AllocError>
         requires room { length self.old.history < 1000000 }
-        requires may { MayFollow self.old.reference self.old.history entry }
-        ensures entered { IfOk result (λ r. self.new.history ≡ self.old.history ++ entry ∷ []) }
+        requires answered { reply.now ≡ answer self.old.reference self.old.history command }
+        ensures entered { IfOk result (λ r. self.new.history ≡ self.old.history ++ r.entry ∷ []) }
         ensures number { IfOk result (λ r. r.number ≡ length self.old.history + 1) }
-        ensures entry { IfOk result (λ r. r.entry ≡ entry) }
-        ensures stands { IfOk result (λ r. StandsLast self.old.reference r.number entry) }
+        ensures entry { IfOk result (λ r. r.entry ≡ Entry.Asked command reply.now) }
+        ensures stands { IfOk result (λ r. StandsLast self.old.reference r.number r.entry) }
         ensures reference { self.new.reference ≡ self.old.reference }
         ensures refused { OnErr result (self.new.history ≡ self.old.history) }
     {
         let count = self.history.len();
-        let shown = entry.copy()?;
-        let report = report_on(self.today, &entry);
-        let today = day_behind(self.today, &entry);
-        self.history.push(entry)?;
-        if let Err(refused) = take_in(&mut self.trades, report) {
-            self.history.truncate(count);
-            return Err(refused);
+        let kept = command.copy()?;
+        self.history.push(Entry::Asked {
+            command: kept,
+            reply: *reply,
+        })?;
+        if accepts(reply) {
+            if let Err(refused) = take_in(&mut self.totals, &self.reference, &command) {
+                self.history.truncate(count);
+                return Err(refused);
+            }
         }
-        self.today = today;
         Ok(Receipt {
             number: count as u64 + 1,
-            entry: shown,
+            entry: Entry::Asked {
+                command,
+                reply: *reply,
+            },
         })
     }
 
@@ -140,8 +124,8 @@ impl Book {
         if self.history.len() >= MOST_ENTRIES {
             return Err(EnterError::Full);
         }
-        let reply = answer_of(&self.reference, self.today, &self.trades, &command);
-        Ok(self.append(Entry::Asked { command, reply })?)
+        let reply = answer_of(&self.reference, &self.totals, &command);
+        Ok(self.append(command, &reply)?)
     }
 
     /// What an account holds of an instrument: the lots long, and the lots short.
@@ -149,9 +133,7 @@ impl Book {
         ensures long { result.0 ≡ long_of self.now.history account symbol }
         ensures short { result.1 ≡ short_of self.now.history account symbol }
     {
-        let long = traded(&self.trades, Side::Buy, &account, &symbol);
-        let short = traded(&self.trades, Side::Sell, &account, &symbol);
-        (long, short)
+        self.totals.positions.of(account, symbol)
     }
 
     /// The limits that were set in a group, as they stand: executing firms, agreements, accounts, carrying firms, guarantors,
@@ -160,14 +142,14 @@ impl Book {
         ensures rows { IfOk result (λ rows. rows.items ≡ limit_rows self.now group.now) }
         ensures unknown { is_group self.now.reference group.now ≡ false → IfOk result (λ rows. rows.items ≡ []) }
     {
-        limit_rows(self.alloc, &self.reference, self.history.as_slice(), group)
+        rows_in_order(self.alloc, &self.reference, &self.totals.limits, group)
     }
 
     /// The open day.
     pub fn day(&self) -> Option<Day>
         ensures { result ≡ open_day self.now.history }
     {
-        self.today
+        self.totals.today
     }
 
     /// All that was entered.

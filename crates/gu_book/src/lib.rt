@@ -6,8 +6,8 @@ mod book;
 mod error;
 mod laws;
 mod limits;
-mod positions;
-mod reports;
+mod taking;
+mod totals;
 
 pub use book::Book;
 pub use error::EnterError;

@@ -1,0 +1,240 @@
+-- What is kept beside a history takes accepted commands in.
+use Rattle.std.proofs.Common.{◌≡◌, ℕ, zero, suc, ◌+◌, ◌*◌, ◌-◌, ◌<◌, ◌≤◌, ◌^◌, ◌&&◌, ◌||◌, ◌++◌, Bool, true, false, not, nat_lt, List, [], ◌∷◌, length, map, slice_get, slice_index_or, Option, Some, None, is_none, is_some, Result, Ok, Err, refl, sym, ap, ◌∙◌, arith, if◌then◌else◌, subst}
+use Rattle.std.specs.Result.{OnOk}
+use Rattle.std.specs.Option.{option_and_then, option_map, option_map_or}
+use Rattle.std.proofs.lemmas.Bool.{ltb-false}
+use Rattle.std.proofs.lemmas.Cmp.{nat_list_eq_equiv}
+use Rattle.gu_terms.specs.LimitKeys.{has_key, key_eq}
+use Rattle.gu_terms.specs.Lines.{lots_in_all}
+use Rattle.gu_terms.proofs.KeyLemmas.{key_eq-refl}
+use Rattle.gu_terms.specs.Same.{same_account, same_group, same_side, same_symbol}
+use Rattle.gu_terms.specs.declared.account.AccountId.{AccountId}
+use Rattle.gu_terms.specs.declared.alloc_reject.AllocReject.{AllocReject}
+use Rattle.gu_terms.specs.declared.command.Command.{Command}
+use Rattle.gu_terms.specs.declared.command.Command.TheVariants.{OpenDay, SetLimit, ReportSide, GiveUp, Claim, Refuse, Reverse}
+use Rattle.gu_terms.specs.declared.entry.Entry.{Entry}
+use Rattle.gu_terms.specs.declared.firm.FirmId.{FirmId}
+use Rattle.gu_terms.specs.declared.group.Group.{Group}
+use Rattle.gu_terms.specs.declared.limit_key.LimitKey.{LimitKey}
+use Rattle.gu_terms.specs.declared.offer.Offer.{Offer}
+use Rattle.gu_terms.specs.declared.refusal.Refusal.{Refusal}
+use Rattle.gu_terms.specs.declared.reply.Done.{Done}
+use Rattle.gu_terms.specs.declared.reply.Reply.TheVariants.{Accepted}
+use Rattle.gu_terms.specs.declared.report.Report.{Report}
+use Rattle.gu_terms.specs.declared.side.Side.{Side}
+use Rattle.gu_terms.specs.declared.side.Side.TheVariants.{Buy, Sell}
+use Rattle.gu_terms.specs.declared.symbol.Symbol.{Symbol}
+use Rattle.gu_ref.specs.Tables.{Tables}
+use Rattle.gu_trades.specs.Reports.{report_by}
+use Rattle.gu_limits.specs.Limits.{room_in, used_in}
+use Rattle.gu_offers.specs.Changes.{changed, closed, reversed, taken}
+use Rattle.gu_offers.specs.Rows.{Row, left_in, row_at, today_in}
+use Rattle.gu_positions.specs.Changes.{lots_at}
+use Rattle.gu_positions.specs.Rows.{lots_in, lots_on}
+use Rattle.gu_book.specs.Accepted.{IsAccepted, MayClaim, MayReverse, MayTakeIn, TakesIn}
+use Rattle.gu_book.specs.Answer.{State, answer, answer_in, first_standing, state_of}
+use Rattle.gu_book.specs.Beside.{IsBeside, IsKept, state_in}
+use Rattle.gu_book.specs.Effects.{HoldsMoved, SameAnswers, SameEntries, UsesLess, UsesMore}
+use Rattle.gu_book.specs.Limits.{is_under, path_behind, room_of, use_in}
+use Rattle.gu_book.specs.Offers.{offers_of, standing_of}
+use Rattle.gu_book.specs.Positions.{held_of, report_behind}
+use Rattle.gu_book.specs.Reports.{reports_of}
+use Rattle.gu_book.specs.declared.totals.Totals.{Totals}
+use Rattle.gu_book.proofs.ChangedPositions.{held_in-has, held_in-moved}
+use Rattle.gu_book.proofs.ChangedSums.{today-le-use_in}
+use Rattle.gu_book.proofs.Covered.{covered-taken}
+use Rattle.gu_book.proofs.Facts.{IsThere, MayBeClaimed, MayBeReversed, claimable, refusable, reversible, today-is}
+use Rattle.gu_book.proofs.KeptOffers.{kept-claimed, kept-refused, kept-taken_back, within-taken}
+use Rattle.gu_book.proofs.OrderlyLemmas.{today-le-moved}
+use Rattle.gu_book.proofs.Spoken.{taken_back}
+use Rattle.gu_book.proofs.StandingLemmas.{length-standing_from}
+
+-- what follows from two facts of a result, and from three
+pub on_ok_two : {T E P Q R : Type 0} (r : Result T E) → (P → Q → R) → OnOk r P → OnOk r Q → OnOk r R
+on_ok_two (Ok x) f p q = f p q
+on_ok_two (Err e) f p q = tt
+
+pub on_ok_three : {T E P Q R S : Type 0} (r : Result T E) → (P → Q → R → S) → OnOk r P → OnOk r Q → OnOk r R → OnOk r S
+on_ok_three (Ok x) f p q s = f p q s
+on_ok_three (Err e) f p q s = tt
+
+-- what is kept is the state that the history comes to
+pub state_is : (reference : Tables) (history : List Entry) (totals : Totals) → IsBeside reference history totals → state_in totals ≡ state_of reference history
+state_is reference history totals b =
+    λ i. record {
+      today = b.today i;
+      reports = b.reports i;
+      offers = b.offers i;
+      has_give_up = λ firm id. b.give_ups firm id i;
+      room = λ group key. b.limits group key i - b.uses group key i;
+    }
+
+-- so that the answer by it is the answer
+pub answer_is : (reference : Tables) (history : List Entry) (totals : Totals) (command : Command) → IsBeside reference history totals
+    → answer_in reference (state_in totals) command ≡ answer reference history command
+answer_is reference history totals command b = ap (λ (s : State). answer_in reference s command) (state_is reference history totals b)
+
+-- an accepted command did what it does where no test stands
+pub accepted-done : (tests : List (Bool × Refusal)) (done given : Done) → first_standing tests done ≡ Accepted given → first_standing tests done ≡ Accepted done
+accepted-done [] done given e = refl
+accepted-done ((true, why) ∷ tests) done given e = cc
+accepted-done ((false, why) ∷ tests) done given e = accepted-done tests done given e
+
+-- there are 16 offers an entry at most
+pub few_offers : (reference : Tables) (history : List Entry) (totals : Totals) → IsKept reference history totals → length totals.offers ≤ 16 * length history
+few_offers reference history totals kept =
+    omega (arith, ap (λ (rs : List Row). length rs) kept.beside.offers, length-standing_from history 1 (offers_of history), kept.orderly.few)
+
+-- the lots of a place lie in it
+own_place : (side : Side) (account : AccountId) (symbol : Symbol) (lots : ℕ) → lots_at side account symbol lots side account symbol ≡ lots
+own_place Buy account symbol lots = rw (nat_list_eq_equiv.refl account.name, nat_list_eq_equiv.refl symbol.name) refl
+own_place Sell account symbol lots = rw (nat_list_eq_equiv.refl account.name, nat_list_eq_equiv.refl symbol.name) refl
+
+-- an offer and its report, as they are found
+pub record IsSeen (totals : Totals) (n : ℕ) (offer : Offer) (report : Report) : Type 0 where
+  pub shown : Some offer ≡ option_map (λ (r : Row). r.offer) (row_at totals.offers n)
+  pub found : Some report ≡ report_by totals.trades offer.firm offer.report
+
+-- are those of the history
+seen-is : (reference : Tables) (history : List Entry) (totals : Totals) (n : ℕ) (offer : Offer) (report found : Report) (row : Row) → IsBeside reference history totals
+    → IsSeen totals n offer report → IsThere history n row found → (offer ≡ row.offer) × (report ≡ found)
+seen-is reference history totals n offer report found row b seen there =
+    let shown : Some offer ≡ Some row.offer = seen.shown ∙ ap (λ (rs : List Row). option_map (λ (r : Row). r.offer) (row_at rs n)) b.offers ∙ ap (λ (o : Option Row). option_map (λ (r : Row). r.offer) o) there.at in
+    let same : offer ≡ row.offer = cc in
+    let reported : Some report ≡ Some found = seen.found ∙ (λ i. report_by (b.reports i) (same i).firm (same i).report) ∙ there.behind in
+    let one : report ≡ found = cc in (same, one)
+
+-- ---- claims
+
+-- a claim has room
+pub claim-room : (reference : Tables) (totals : Totals) (n : ℕ) (offer : Offer) (report : Report) → IsSeen totals n offer report → MayClaim reference totals n → (k : ℕ) (d : LimitKey)
+    → k < length (path_behind reference offer) → left_in totals.offers n ≤ room_in totals.limits offer.group (slice_index_or (path_behind reference offer) k d)
+claim-room reference totals n offer report seen may k d within =
+    let history = may.may.history in
+    let b = may.may.kept.beside in
+    let f = claimable reference history may.firm n may.may.kept.orderly may.may.accepted in
+    let same = (seen-is reference history totals n offer report f.1 f.0 b seen f.2.there).0 in
+    let Room : Offer → Type 0 = λ o. k < length (path_behind reference o) → left_in (standing_of history) n ≤ room_of reference history o.group (slice_index_or (path_behind reference o) k d) in
+    let has = subst Room (sym same) (f.2.room k d) within in
+    let key = slice_index_or (path_behind reference offer) k d in
+    omega (arith, has, ap (λ (rs : List Row). left_in rs n) b.offers, b.limits offer.group key, b.uses offer.group key)
+
+-- and its lots are there
+pub claim-there : (reference : Tables) (totals : Totals) (n : ℕ) (offer : Offer) (report : Report) → IsSeen totals n offer report → MayClaim reference totals n
+    → left_in totals.offers n ≤ lots_in totals.positions report.side report.account report.symbol
+claim-there reference totals n offer report seen may =
+    let history = may.may.history in
+    let b = may.may.kept.beside in
+    let o = may.may.kept.orderly in
+    let f = claimable reference history may.firm n o may.may.accepted in
+    let row = f.0 in
+    let found = f.1 in
+    let same = (seen-is reference history totals n offer report found row b seen f.2.there).1 in
+    let left = left_in (standing_of history) n in
+    let has =
+    held_in-has (reports_of history) (standing_of history) n row f.2.there.at found.side found.account found.symbol found left f.2.there.behind
+    (covered-taken (reports_of history) (standing_of history) n row left f.2.there.at f.2.stands o.covered)
+    (within-taken history n left row f.2.there.at f.2.less o.within) in
+    let fits : left_in totals.offers n ≤ lots_in totals.positions found.side found.account found.symbol =
+    omega (arith, has, own_place found.side found.account found.symbol left, ap (λ (rs : List Row). left_in rs n) b.offers, b.positions found.side found.account found.symbol) in
+    subst (λ (r : Report). left_in totals.offers n ≤ lots_in totals.positions r.side r.account r.symbol) (sym same) fits
+
+-- a claim is taken in
+pub claim-taken : (reference : Tables) (old new : Totals) (n : ℕ) (offer : Offer) (report : Report) → IsSeen old n offer report → SameEntries old new
+    → new.offers ≡ changed old.offers n (taken (left_in old.offers n)) → UsesMore reference old.limits new.limits offer (left_in old.offers n)
+    → HoldsMoved old.positions new.positions report report.account offer.account (left_in old.offers n) → (firm : FirmId) → TakesIn reference old new (Claim firm n)
+claim-taken reference old new n offer report seen same offers uses holds firm history kept accepted =
+    let f = claimable reference history firm n kept.orderly accepted in
+    let row = f.0 in
+    let found = f.1 in
+    let is = seen-is reference history old n offer report found row kept.beside seen f.2.there in
+    let left : left_in old.offers n ≡ left_in (standing_of history) n = ap (λ (rs : List Row). left_in rs n) kept.beside.offers in
+    kept-claimed reference history old new firm n (left_in (standing_of history) n) row found kept f.2.there f.2.stands f.2.less same
+    (offers ∙ ap (λ (lots : ℕ). changed old.offers n (taken lots)) left)
+    (subst (λ (lots : ℕ). UsesMore reference old.limits new.limits row.offer lots) left (subst (λ (o : Offer). UsesMore reference old.limits new.limits o (left_in old.offers n)) is.0 uses))
+    (subst (λ (lots : ℕ). HoldsMoved old.positions new.positions found found.account row.offer.account lots) left
+    (subst (λ (r : Report). HoldsMoved old.positions new.positions r r.account row.offer.account (left_in old.offers n)) is.1
+    (subst (λ (o : Offer). HoldsMoved old.positions new.positions report report.account o.account (left_in old.offers n)) is.0 holds)))
+
+-- ---- refusals
+
+-- a refusal is taken in
+pub refusal-taken : (reference : Tables) (old new : Totals) (n : ℕ) → SameEntries old new → new.offers ≡ changed old.offers n closed → new.limits ≡ old.limits → new.positions ≡ old.positions
+    → (firm : FirmId) (why : AllocReject) → TakesIn reference old new (Refuse firm n why)
+refusal-taken reference old new n same offers limits positions firm why history kept accepted =
+    let f = refusable reference history firm n why kept.orderly accepted in
+    kept-refused reference history old new firm n why (left_in (standing_of history) n) f.0 f.1 kept f.2 same offers limits positions
+
+-- ---- reversals
+
+-- a key of a path stands in it
+key_at : (path : List LimitKey) (k : ℕ) (d : LimitKey) → k < length path → has_key path (slice_index_or path k d) ≡ true
+key_at [] k d within = absurd (omega arith)
+key_at (key ∷ path) zero d within = rw (key_eq-refl key) refl
+key_at (key ∷ path) (suc k) d within = either (key_eq key (slice_index_or path k d)) (has_key path (slice_index_or path k d)) (key_at path k d (omega arith))
+  where
+    either : (p q : Bool) → q ≡ true → (p || q) ≡ true
+    either true q h = refl
+    either false q h = h
+
+-- what is reversed was used
+pub reversal-used : (reference : Tables) (totals : Totals) (n : ℕ) (offer : Offer) (report : Report) → IsSeen totals n offer report → MayReverse reference totals n → (k : ℕ) (d : LimitKey)
+    → k < length (path_behind reference offer) → today_in totals.offers n ≤ used_in totals.limits offer.group (slice_index_or (path_behind reference offer) k d)
+reversal-used reference totals n offer report seen may k d within =
+    let history = may.may.history in
+    let b = may.may.kept.beside in
+    let f = reversible reference history may.firm n may.may.kept.orderly may.may.accepted in
+    let row = f.0 in
+    let there = f.2.there in
+    let same = (seen-is reference history totals n offer report f.1 row b seen there).0 in
+    let key = slice_index_or (path_behind reference offer) k d in
+    let own : is_under reference offer.group key (record row { offer = offer }) ≡ true = rw (nat_list_eq_equiv.refl offer.group.name, key_at (path_behind reference offer) k d within) refl in
+    let under : is_under reference offer.group key row ≡ true = ap (λ (o : Offer). same_group offer.group o.group && has_key (path_behind reference o) key) (sym same) ∙ own in
+    let counts = today-le-use_in reference (standing_of history) n row there.at offer.group key under in
+    omega (arith, counts, today-is (standing_of history) n row there.at, ap (λ (rs : List Row). today_in rs n) b.offers, b.uses offer.group key)
+
+-- and its lots are there
+pub reversal-there : (reference : Tables) (totals : Totals) (n : ℕ) (offer : Offer) (report : Report) → IsSeen totals n offer report → MayReverse reference totals n
+    → today_in totals.offers n ≤ lots_in totals.positions report.side offer.account report.symbol
+reversal-there reference totals n offer report seen may =
+    let history = may.may.history in
+    let b = may.may.kept.beside in
+    let o = may.may.kept.orderly in
+    let f = reversible reference history may.firm n o may.may.accepted in
+    let row = f.0 in
+    let found = f.1 in
+    let there = f.2.there in
+    let is = seen-is reference history totals n offer report found row b seen there in
+    let has =
+    held_in-moved (reports_of history) (standing_of history) n row there.at found.side row.offer.account found.symbol found there.behind o.covered o.within
+    (today-le-moved history n row o.balanced there.at) in
+    let fits : today_in totals.offers n ≤ lots_in totals.positions found.side row.offer.account found.symbol =
+    omega (
+      arith,
+      has,
+      own_place found.side row.offer.account found.symbol row.today,
+      today-is (standing_of history) n row there.at,
+      ap (λ (rs : List Row). today_in rs n) b.offers,
+      b.positions found.side row.offer.account found.symbol,
+    ) in
+    subst (λ (r : Report). today_in totals.offers n ≤ lots_in totals.positions r.side offer.account r.symbol) (sym is.1)
+    (subst (λ (at : Offer). today_in totals.offers n ≤ lots_in totals.positions found.side at.account found.symbol) (sym is.0) fits)
+
+-- a reversal is taken in
+pub reversal-taken : (reference : Tables) (old new : Totals) (n : ℕ) (offer : Offer) (report : Report) → IsSeen old n offer report → SameEntries old new
+    → new.offers ≡ changed old.offers n reversed → UsesLess reference old.limits new.limits offer (today_in old.offers n)
+    → HoldsMoved old.positions new.positions report offer.account report.account (today_in old.offers n) → (firm : FirmId) → TakesIn reference old new (Reverse firm n)
+reversal-taken reference old new n offer report seen same offers uses holds firm history kept accepted =
+    let f = reversible reference history firm n kept.orderly accepted in
+    let row = f.0 in
+    let found = f.1 in
+    let there = f.2.there in
+    let is = seen-is reference history old n offer report found row kept.beside seen there in
+    let own : today_in (standing_of history) n ≡ row.today = today-is (standing_of history) n row there.at in
+    let today : today_in old.offers n ≡ row.today = ap (λ (rs : List Row). today_in rs n) kept.beside.offers ∙ own in
+    subst (λ (lots : ℕ). IsKept reference (history ++ taken_back firm n lots ∷ []) new) (sym own)
+    (kept-taken_back reference history old new firm n row found kept there same offers
+    (subst (λ (lots : ℕ). UsesLess reference old.limits new.limits row.offer lots) today (subst (λ (o : Offer). UsesLess reference old.limits new.limits o (today_in old.offers n)) is.0 uses))
+    (subst (λ (lots : ℕ). HoldsMoved old.positions new.positions found row.offer.account found.account lots) today
+    (subst (λ (r : Report). HoldsMoved old.positions new.positions r row.offer.account r.account (today_in old.offers n)) is.1
+    (subst (λ (o : Offer). HoldsMoved old.positions new.positions report o.account report.account (today_in old.offers n)) is.0 holds))))

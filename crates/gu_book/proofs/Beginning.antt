@@ -1,0 +1,113 @@
+-- What is kept beside no history, and behind what was refused.
+use Rattle.std.proofs.Common.{◌≡◌, Bool, true, false, ℕ, ◌+◌, ◌*◌, ◌-◌, ◌<◌, ◌≤◌, ◌++◌, List, [], ◌∷◌, length, slice_get, Option, Some, None, is_some, unwrap_or, refl, sym, ap, ◌∙◌, arith, subst}
+use Rattle.gu_terms.specs.declared.command.Command.{Command}
+use Rattle.gu_terms.specs.declared.entry.Entry.{Entry}
+use Rattle.gu_terms.specs.declared.entry.Entry.TheVariants.{Asked}
+use Rattle.gu_terms.specs.declared.reply.Done.{Done}
+use Rattle.gu_terms.specs.declared.reply.Reply.{Reply}
+use Rattle.gu_terms.specs.declared.reply.Reply.TheVariants.{Accepted, Denied}
+use Rattle.gu_terms.specs.declared.refusal.Refusal.{Refusal}
+use Rattle.gu_ref.specs.Tables.{Tables}
+use Rattle.gu_limits.specs.Limits.{GroupLimit, has_limit, limit_in, used_in}
+use Rattle.gu_offers.specs.Rows.{Row}
+use Rattle.gu_positions.specs.Rows.{Row as PositionRow, lots_in, lots_on}
+use Rattle.gu_terms.specs.declared.report.Report.{Report}
+use Rattle.gu_book.specs.Accepted.{IsAccepted, TakesIn, accepts}
+use Rattle.gu_book.specs.Answer.{answer, done_of, state_of, tests_of}
+use Rattle.gu_book.specs.Beside.{IsBeside, IsKept, IsKeptLegal, is_kept_give_up}
+use Rattle.gu_book.specs.Effects.{SameAnswers}
+use Rattle.gu_book.specs.Legal.{IsLegal}
+use Rattle.gu_book.specs.Orderly.{IsOrderly}
+use Rattle.gu_book.specs.declared.totals.GiveUpKey.{GiveUpKey}
+use Rattle.gu_book.specs.declared.totals.Totals.{Totals}
+use Rattle.gu_book.proofs.Accepting.{accepted-done}
+use Rattle.gu_book.proofs.Growing.{legal_push}
+use Rattle.gu_book.proofs.Quiet.{kept-denied}
+
+-- nothing is orderly
+nothing-orderly : IsOrderly []
+nothing-orderly = record {
+  balanced = record { all = λ n. omega arith; today = λ n. omega arith; within = λ n. omega arith };
+  named = record { takes = λ n beyond. refl; today = λ n beyond. refl; closed = λ n beyond. refl };
+  covered = tt;
+  found = tt;
+  within = tt;
+  own = tt;
+  few = omega arith;
+}
+
+-- what is kept beside no history
+pub nothing-kept : (reference : Tables) (totals : Totals) → totals.today ≡ None → totals.trades ≡ [] → totals.offers ≡ [] → totals.give_ups.keys ≡ [] → totals.limits ≡ [] → totals.positions ≡ []
+    → IsKeptLegal reference [] totals
+nothing-kept reference totals today trades offers give_ups limits positions = record {
+  legal = record { within = omega arith; each = λ k entry at. cc };
+  kept = record {
+    orderly = nothing-orderly;
+    beside = record {
+      today = today;
+      reports = trades;
+      offers = offers;
+      give_ups = λ firm id. ap (λ (keys : List GiveUpKey). is_kept_give_up keys firm id) give_ups;
+      set = λ group key. ap (λ (ls : List GroupLimit). has_limit ls group key) limits;
+      limits = λ group key. ap (λ (ls : List GroupLimit). limit_in ls group key) limits;
+      uses = λ group key. ap (λ (ls : List GroupLimit). used_in ls group key) limits;
+      positions = λ side account symbol. ap (λ (rs : List PositionRow). lots_in rs side account symbol) positions;
+      sums = λ side symbol. omega (arith, ap (λ (rs : List PositionRow). lots_on rs side symbol) positions);
+    };
+  };
+}
+
+-- where a growth was refused, what was kept still is
+pub still-kept : (reference : Tables) (history : List Entry) (old new : Totals) → IsKept reference history old → SameAnswers old new → IsKept reference history new
+still-kept reference history old new kept same =
+    let b = kept.beside in
+    record {
+      orderly = kept.orderly;
+      beside = record {
+        today = same.entries.today ∙ b.today;
+        reports = same.entries.trades ∙ b.reports;
+        offers = same.offers ∙ b.offers;
+        give_ups = λ firm id. ap (λ (keys : List GiveUpKey). is_kept_give_up keys firm id) same.entries.give_ups ∙ b.give_ups firm id;
+        set = λ group key. ap (λ (ls : List GroupLimit). has_limit ls group key) same.limits ∙ b.set group key;
+        limits = λ group key. ap (λ (ls : List GroupLimit). limit_in ls group key) same.limits ∙ b.limits group key;
+        uses = λ group key. ap (λ (ls : List GroupLimit). used_in ls group key) same.limits ∙ b.uses group key;
+        positions = λ side account symbol. same.positions.lots side account symbol ∙ b.positions side account symbol;
+        sums = λ side symbol. omega (arith, same.positions.sums side symbol, b.sums side symbol);
+      };
+    }
+
+-- a reply that accepts did something, and any other refused
+did : (reply : Reply) → accepts reply ≡ true → (done : Done) × (reply ≡ Accepted done)
+did (Accepted done) e = (done, refl)
+did (Denied why) e = cc
+
+refused : (reply : Reply) → accepts reply ≡ false → (why : Refusal) × (reply ≡ Denied why)
+refused (Denied why) e = (why, refl)
+refused (Accepted done) e = cc
+
+-- a command whose answer accepts is accepted
+pub is-accepted : (reference : Tables) (history : List Entry) (command : Command) (reply : Reply) → length history < 1000000 → reply ≡ answer reference history command → accepts reply ≡ true
+    → IsAccepted reference history command
+is-accepted reference history command reply room is accepted =
+    let one = did reply accepted in
+    record { room = room; accepted = accepted-done (tests_of reference (state_of reference history) command) (done_of reference (state_of reference history) command) one.0 (sym is ∙ one.1) }
+
+-- a legal history grows by it
+pub legal-accepted : (reference : Tables) (history : List Entry) (old new : Totals) (command : Command) (reply : Reply) → IsKeptLegal reference history old → length history < 1000000
+    → reply ≡ answer reference history command → accepts reply ≡ true → TakesIn reference old new command → IsKeptLegal reference (history ++ Asked command reply ∷ []) new
+legal-accepted reference history old new command reply kept room is accepted takes =
+    let it = is-accepted reference history command reply room is accepted in
+    record {
+      legal = legal_push reference history (Asked command reply) kept.legal room is;
+      kept = subst (λ (r : Reply). IsKept reference (history ++ Asked command r ∷ []) new) (sym (is ∙ it.accepted)) (takes history kept.kept it);
+    }
+
+-- and by one that was refused
+pub legal-denied : (reference : Tables) (history : List Entry) (totals : Totals) (command : Command) (reply : Reply) → IsKeptLegal reference history totals → length history < 1000000
+    → reply ≡ answer reference history command → accepts reply ≡ false → IsKeptLegal reference (history ++ Asked command reply ∷ []) totals
+legal-denied reference history totals command reply kept room is denied =
+    let one = refused reply denied in
+    record {
+      legal = legal_push reference history (Asked command reply) kept.legal room is;
+      kept = subst (λ (r : Reply). IsKept reference (history ++ Asked command r ∷ []) totals) (sym one.1) (kept-denied reference history totals command one.0 kept.kept);
+    }

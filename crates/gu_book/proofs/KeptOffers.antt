@@ -1,0 +1,119 @@
+-- What is kept beside a history behind an entry that changes one offer.
+use Rattle.std.proofs.Common.{◌≡◌, ℕ, ◌+◌, ◌-◌, ◌<◌, ◌≤◌, ◌++◌, Bool, true, false, List, [], ◌∷◌, length, Option, Some, None, refl, sym, ap, ◌∙◌, arith}
+use Rattle.std.specs.List.{AllByRecursion}
+use Rattle.gu_terms.specs.declared.account.AccountId.{AccountId}
+use Rattle.gu_terms.specs.declared.alloc_reject.AllocReject.{AllocReject}
+use Rattle.gu_terms.specs.declared.entry.Entry.{Entry}
+use Rattle.gu_terms.specs.declared.firm.FirmId.{FirmId}
+use Rattle.gu_terms.specs.declared.group.Group.{Group}
+use Rattle.gu_terms.specs.declared.limit_key.LimitKey.{LimitKey}
+use Rattle.gu_terms.specs.declared.report.Report.{Report}
+use Rattle.gu_terms.specs.declared.side.Side.{Side}
+use Rattle.gu_terms.specs.declared.symbol.Symbol.{Symbol}
+use Rattle.gu_ref.specs.Tables.{Tables}
+use Rattle.gu_limits.specs.Changes.{SameLimits, lots_under}
+use Rattle.gu_limits.specs.Limits.{used_in}
+use Rattle.gu_offers.specs.Changes.{changed, closed, reversed, taken}
+use Rattle.gu_offers.specs.Rows.{Row, row_at}
+use Rattle.gu_positions.specs.Changes.{lots_at}
+use Rattle.gu_positions.specs.Rows.{lots_in, lots_on}
+use Rattle.gu_book.specs.Beside.{IsBeside, IsKept}
+use Rattle.gu_book.specs.Effects.{HoldsMoved, SameEntries, UsesLess, UsesMore}
+use Rattle.gu_book.specs.Limits.{path_behind, use_in, use_of}
+use Rattle.gu_book.specs.Offers.{standing_of}
+use Rattle.gu_book.specs.Orderly.{AreWithin, IsCovered}
+use Rattle.gu_book.specs.Positions.{held_in, held_of, report_behind}
+use Rattle.gu_book.specs.Reports.{open_day, reports_of}
+use Rattle.gu_book.specs.declared.totals.Totals.{Totals}
+use Rattle.gu_book.proofs.ChangedPositions.{held_in-closed, held_in-reversed, held_in-taken}
+use Rattle.gu_book.proofs.ChangedSums.{use_in-closed, use_in-reversed, use_in-taken}
+use Rattle.gu_book.proofs.Covered.{covered-taken}
+use Rattle.gu_book.proofs.Facts.{IsThere}
+use Rattle.gu_book.proofs.OrderlyLemmas.{all-changed, orderly-claimed, orderly-refused, orderly-taken_back, today-le-moved}
+use Rattle.gu_book.proofs.Quiet.{IsQuiet, beside-quiet, unreported}
+use Rattle.gu_book.proofs.Spoken.{claimed, claimed-others, claimed-own, refused, refused-others, refused-own, taken_back, taken_back-others, taken_back-own}
+use Rattle.gu_book.proofs.Stepping.{standing_of-one}
+
+-- the three entries open no day, report nothing, give nothing up and set no limit
+quiet-claimed : (history : List Entry) (firm : FirmId) (n lots : ℕ) → IsQuiet history (claimed firm n lots)
+quiet-claimed history firm n lots = record { opens = refl; reports = unreported (claimed firm n lots) (λ d. refl) (open_day history); gives_up = λ f i. refl; sets = λ g k. refl }
+
+quiet-refused : (history : List Entry) (firm : FirmId) (n : ℕ) (why : AllocReject) (lots : ℕ) → IsQuiet history (refused firm n why lots)
+quiet-refused history firm n why lots = record { opens = refl; reports = unreported (refused firm n why lots) (λ d. refl) (open_day history); gives_up = λ f i. refl; sets = λ g k. refl }
+
+quiet-taken_back : (history : List Entry) (firm : FirmId) (n lots : ℕ) → IsQuiet history (taken_back firm n lots)
+quiet-taken_back history firm n lots = record { opens = refl; reports = unreported (taken_back firm n lots) (λ d. refl) (open_day history); gives_up = λ f i. refl; sets = λ g k. refl }
+
+-- no more is moved than an offer has, where lots are taken that are left
+pub within-taken : (history : List Entry) (n lots : ℕ) (row : Row) → row_at (standing_of history) n ≡ Some row → row.moved + lots ≤ row.offer.lots → AreWithin (standing_of history)
+    → AreWithin (changed (standing_of history) n (taken lots))
+within-taken history n lots row at less within = all-changed (λ r. r.moved ≤ r.offer.lots) (standing_of history) n row (taken lots) at less within
+
+-- a claim
+pub kept-claimed : (reference : Tables) (history : List Entry) (old new : Totals) (firm : FirmId) (n lots : ℕ) (row : Row) (report : Report) → IsKept reference history old → IsThere history n row report
+    → row.is_shut ≡ false → row.moved + lots ≤ row.offer.lots → SameEntries old new → new.offers ≡ changed old.offers n (taken lots)
+    → UsesMore reference old.limits new.limits row.offer lots → HoldsMoved old.positions new.positions report report.account row.offer.account lots
+    → IsKept reference (history ++ claimed firm n lots ∷ []) new
+kept-claimed reference history old new firm n lots row report kept there stands less same offers uses holds =
+    let rows = standing_of history in
+    let reports = reports_of history in
+    let quiet = quiet-claimed history firm n lots in
+    let covered = covered-taken reports rows n row lots there.at stands kept.orderly.covered in
+    let within = within-taken history n lots row there.at less kept.orderly.within in
+    record {
+      orderly = orderly-claimed history firm n lots row kept.orderly there.at stands less;
+      beside = beside-quiet reference history (claimed firm n lots) (changed rows n (taken lots)) old new quiet kept.beside same uses.limits
+          (standing_of-one history (claimed firm n lots) n row (taken lots) refl refl kept.orderly.balanced (claimed-others firm n lots) there.at (claimed-own firm n lots row))
+          (offers ∙ ap (λ (rs : List Row). changed rs n (taken lots)) kept.beside.offers)
+          (λ group key. omega (arith, uses.uses group key, kept.beside.uses group key, use_in-taken reference rows n row lots there.at group key))
+          (λ side account symbol.
+          holds.lots side account symbol
+          ∙ ap
+          (λ (held : ℕ). held - lots_at report.side report.account report.symbol lots side account symbol + lots_at report.side row.offer.account report.symbol lots side account symbol)
+          (kept.beside.positions side account symbol)
+          ∙ sym (held_in-taken reports rows n row there.at side account symbol report lots there.behind covered within))
+          (λ side symbol. omega (arith, holds.sums side symbol));
+    }
+
+-- a refusal
+pub kept-refused : (reference : Tables) (history : List Entry) (old new : Totals) (firm : FirmId) (n : ℕ) (why : AllocReject) (lots : ℕ) (row : Row) (report : Report) → IsKept reference history old → IsThere history n row report
+    → SameEntries old new → new.offers ≡ changed old.offers n closed → new.limits ≡ old.limits → new.positions ≡ old.positions
+    → IsKept reference (history ++ refused firm n why lots ∷ []) new
+kept-refused reference history old new firm n why lots row report kept there same offers limits positions =
+    let rows = standing_of history in
+    let reports = reports_of history in
+    let quiet = quiet-refused history firm n why lots in
+    record {
+      orderly = orderly-refused history firm n why lots row kept.orderly there.at;
+      beside = beside-quiet reference history (refused firm n why lots) (changed rows n closed) old new quiet kept.beside same
+          (rw limits (record { known = λ group key. refl; lots = λ group key. refl }))
+          (standing_of-one history (refused firm n why lots) n row closed refl refl kept.orderly.balanced (refused-others firm n why lots) there.at (refused-own firm n why lots row))
+          (offers ∙ ap (λ (rs : List Row). changed rs n closed) kept.beside.offers)
+          (λ group key. rw limits (kept.beside.uses group key ∙ sym (use_in-closed reference rows n row there.at group key)))
+          (λ side account symbol. rw positions (kept.beside.positions side account symbol ∙ sym (held_in-closed reports rows n row there.at side account symbol)))
+          (λ side symbol. rw positions (omega arith));
+    }
+
+-- a reversal
+pub kept-taken_back : (reference : Tables) (history : List Entry) (old new : Totals) (firm : FirmId) (n : ℕ) (row : Row) (report : Report) → IsKept reference history old → IsThere history n row report
+    → SameEntries old new → new.offers ≡ changed old.offers n reversed
+    → UsesLess reference old.limits new.limits row.offer row.today → HoldsMoved old.positions new.positions report row.offer.account report.account row.today
+    → IsKept reference (history ++ taken_back firm n row.today ∷ []) new
+kept-taken_back reference history old new firm n row report kept there same offers uses holds =
+    let rows = standing_of history in
+    let reports = reports_of history in
+    let quiet = quiet-taken_back history firm n row.today in
+    record {
+      orderly = orderly-taken_back history firm n row kept.orderly there.at;
+      beside = beside-quiet reference history (taken_back firm n row.today) (changed rows n reversed) old new quiet kept.beside same uses.limits
+          (standing_of-one history (taken_back firm n row.today) n row reversed refl refl kept.orderly.balanced (taken_back-others firm n row.today) there.at (taken_back-own firm n row))
+          (offers ∙ ap (λ (rs : List Row). changed rs n reversed) kept.beside.offers)
+          (λ group key. omega (arith, uses.uses group key, kept.beside.uses group key, use_in-reversed reference rows n row there.at group key))
+          (λ side account symbol.
+          holds.lots side account symbol
+          ∙ ap
+          (λ (held : ℕ). held - lots_at report.side row.offer.account report.symbol row.today side account symbol + lots_at report.side report.account report.symbol row.today side account symbol)
+          (kept.beside.positions side account symbol)
+          ∙ sym (held_in-reversed reports rows n row there.at side account symbol report there.behind kept.orderly.covered kept.orderly.within (today-le-moved history n row kept.orderly.balanced there.at)))
+          (λ side symbol. omega (arith, holds.sums side symbol));
+    }

@@ -1,0 +1,163 @@
+-- What is kept beside a history takes openings, limits, reports and give-ups in.
+use Rattle.std.proofs.Common.{◌≡◌, ℕ, zero, suc, ◌+◌, ◌-◌, ◌<◌, ◌≤◌, ◌&&◌, ◌++◌, Bool, true, false, not, nat_lt, List, [], ◌∷◌, length, map, slice_get, Option, Some, None, is_none, is_some, refl, sym, ap, ◌∙◌, arith, subst}
+use Rattle.std.specs.List.{find}
+use Rattle.std.specs.Option.{option_and_then, option_map, option_map_or}
+use Rattle.std.proofs.lemmas.Bool.{ltb-false}
+use Rattle.std.proofs.lemmas.Slice.Eq.{bytes_eq-Decides}
+use Rattle.gu_terms.specs.Lines.{lots_in_all}
+use Rattle.gu_terms.specs.declared.account.AccountId.{AccountId}
+use Rattle.gu_terms.specs.declared.command.Command.TheVariants.{OpenDay, SetLimit, ReportSide, GiveUp}
+use Rattle.gu_terms.specs.declared.day.Day.{Day}
+use Rattle.gu_terms.specs.declared.entry.Entry.{Entry}
+use Rattle.gu_terms.specs.declared.entry.Entry.TheVariants.{Asked}
+use Rattle.gu_terms.specs.declared.firm.FirmId.{FirmId}
+use Rattle.gu_terms.specs.declared.group.Group.{Group}
+use Rattle.gu_terms.specs.declared.id.Id.{Id}
+use Rattle.gu_terms.specs.declared.limit_key.LimitKey.{LimitKey}
+use Rattle.gu_terms.specs.declared.lines.Line.{Line}
+use Rattle.gu_terms.specs.declared.lots.Lots.{Lots}
+use Rattle.gu_terms.specs.declared.price.Price.{Price}
+use Rattle.gu_terms.specs.declared.refusal.Refusal.{Refusal}
+use Rattle.gu_terms.specs.declared.refusal.Refusal.TheVariants.{DuplicateId, MatchConflict, NotMatched, TooManyLots}
+use Rattle.gu_terms.specs.declared.reply.Done.{Done}
+use Rattle.gu_terms.specs.declared.reply.Done.TheVariants.{Offered, Opened}
+use Rattle.gu_terms.specs.declared.reply.Reply.TheVariants.{Accepted}
+use Rattle.gu_terms.specs.declared.report.Report.{Report}
+use Rattle.gu_terms.specs.declared.side.Side.{Side}
+use Rattle.gu_terms.specs.declared.symbol.Symbol.{Symbol}
+use Rattle.gu_terms.proofs.SameValues.{both}
+use Rattle.gu_ref.specs.Tables.{Tables}
+use Rattle.gu_positions.proofs.Changed.{find-passes}
+use Rattle.gu_trades.specs.Matching.{conflicts, is_of_trade}
+use Rattle.gu_trades.specs.Reports.{has_report, is_by, report_by, report_of, with_match}
+use Rattle.gu_offers.specs.Changes.{next_day, with_lines}
+use Rattle.gu_offers.specs.Rows.{Row, counted_under}
+use Rattle.gu_book.specs.Accepted.{IsAccepted, MayTakeIn, TakesIn}
+use Rattle.gu_book.specs.Answer.{State, done_of, given_up, group_of, lines_tests, report_tests, state_of, tests_of}
+use Rattle.gu_book.specs.Beside.{IsKept, state_in}
+use Rattle.gu_book.specs.Effects.{HoldsMore, SetsLimit, UsesNothing, made_a_trade}
+use Rattle.gu_book.specs.Offers.{standing_of}
+use Rattle.gu_book.specs.Reports.{Fits, open_day, report_on, reports_of}
+use Rattle.gu_book.specs.declared.totals.Totals.{Totals}
+use Rattle.gu_book.proofs.Accepting.{few_offers, state_is}
+use Rattle.gu_book.proofs.KeptDays.{giving_up, kept-given_up, kept-opened, kept-set}
+use Rattle.gu_book.proofs.KeptReports.{kept-reported}
+use Rattle.gu_book.proofs.Passing.{none_stands}
+use Rattle.gu_book.proofs.StandingLemmas.{IsIdle}
+
+-- ---- openings and limits
+
+pub opening-taken : (reference : Tables) (old new : Totals) (day : Day) → new.today ≡ Some day → new.trades ≡ old.trades → new.give_ups.keys ≡ old.give_ups.keys → new.offers ≡ map next_day old.offers
+    → UsesNothing old.limits new.limits → new.positions ≡ old.positions → TakesIn reference old new (OpenDay day)
+opening-taken reference old new day today trades give_ups offers uses positions history kept accepted =
+    kept-opened reference history old new day kept today trades give_ups offers uses positions
+
+pub limit-taken : (reference : Tables) (old new : Totals) (group : Group) (key : LimitKey) (lots : ℕ) → new.today ≡ old.today → new.trades ≡ old.trades → new.give_ups.keys ≡ old.give_ups.keys → new.offers ≡ old.offers
+    → new.positions ≡ old.positions → SetsLimit old.limits new.limits group key lots → TakesIn reference old new (SetLimit group key lots)
+limit-taken reference old new group key lots today trades give_ups offers positions sets history kept accepted =
+    kept-set reference history old new group key lots kept today trades give_ups offers sets positions
+
+-- ---- reports
+
+module _
+    (reference : Tables)
+    (firm : FirmId)
+    (id match_id : Id)
+    (symbol : Symbol)
+    (lots : Lots)
+    (price : Price)
+    (given : Option Day)
+    (side : Side)
+    (account : AccountId)
+    (day : Day) where
+  -- the report that is made
+  abbrev made : Report
+  made = report_of firm id match_id symbol lots price day side account
+
+  -- one that is accepted fits those before it
+  fits-in : (history : List Entry) → open_day history ≡ Some day → IsAccepted reference history (ReportSide firm id match_id symbol lots price given side account) → Fits (reports_of history) made
+  fits-in history opened is =
+      let state = state_of reference history in
+      let command = ReportSide firm id match_id symbol lots price given side account in
+      let tests = tests_of reference state command in
+      let done = done_of reference state command in
+      let tail : option_map_or (λ today. report_tests reference (reports_of history) (report_of firm id match_id symbol lots price today side account) given) (open_day history) [] ≡ report_tests reference (reports_of history) made given =
+      ap (λ (d : Option Day). option_map_or (λ today. report_tests reference (reports_of history) (report_of firm id match_id symbol lots price today side account) given) d []) opened in
+      let at : (k : ℕ) → slice_get tests (suc k) ≡ slice_get (report_tests reference (reports_of history) made given) k = λ k. ap (λ (ts : List (Bool × Refusal)). slice_get ts k) tail in
+      record {
+        new_id = none_stands tests done done is.accepted 5 (has_report (reports_of history) firm id) DuplicateId (at 4);
+        fits = none_stands tests done done is.accepted 6 (conflicts (with_match match_id (reports_of history)) made) MatchConflict (at 5);
+      }
+
+  -- by what is kept
+  pub report-fits : (totals : Totals) → totals.today ≡ Some day → MayTakeIn reference totals (ReportSide firm id match_id symbol lots price given side account) → Fits totals.trades made
+  report-fits totals today may =
+      subst (λ (rs : List Report). Fits rs made) (sym may.kept.beside.reports) (fits-in may.history (sym may.kept.beside.today ∙ today) may.accepted)
+
+  -- it is taken in
+  pub report-taken : (old new : Totals) → old.today ≡ Some day → new.today ≡ old.today → new.give_ups.keys ≡ old.give_ups.keys → new.offers ≡ old.offers → new.limits ≡ old.limits
+      → new.trades ≡ old.trades ++ made ∷ [] → HoldsMore old.positions new.positions (made_a_trade (with_match match_id old.trades) made)
+      → TakesIn reference old new (ReportSide firm id match_id symbol lots price given side account)
+  report-taken old new day_is today give_ups offers limits trades holds history kept accepted =
+      let command = ReportSide firm id match_id symbol lots price given side account in
+      let entry : Entry = Asked command (Accepted (done_of reference (state_of reference history) command)) in
+      let opened : open_day history ≡ Some day = sym kept.beside.today ∙ day_is in
+      kept-reported reference history entry old new made kept (ap (λ (d : Option Day). report_on d entry) opened) refl refl
+      (record { takes = λ n. refl; gives = λ n. refl; closed = λ n. refl }) (λ f i. refl) (λ g k. refl) (fits-in history opened accepted) today give_ups trades offers limits holds
+
+-- ---- give-ups
+
+-- the report that is given up is the firm's with this id
+report-is : (reference : Tables) (state : State) (firm : FirmId) (own : Id) (report : Report) (group : Group) → given_up reference state firm own ≡ Some (report, group) → report_by state.reports firm own ≡ Some report
+report-is reference state firm own report group e = by (report_by state.reports firm own) e
+  where
+    by : (found : Option Report) → option_and_then {U = Report × Group} (λ r. option_map {U = Report × Group} (λ at. (r, at)) (group_of reference r)) found ≡ Some (report, group) → found ≡ Some report
+    by None e = cc
+    by (Some r) e = of (group_of reference r) e
+      where
+        of : (at : Option Group) → option_map {U = Report × Group} (λ g. (r, g)) at ≡ Some (report, group) → Some r ≡ Some report
+        of None e = cc
+        of (Some g) e = ap (λ (o : Option (Report × Group)). option_map {U = Report} (λ p. p.0) o) e
+
+names-are : (reports : List Report) (firm : FirmId) (own : Id) (report : Report) → report_by reports firm own ≡ Some report → (report.firm ≡ firm) × (report.id ≡ own)
+names-are reports firm own report found =
+    let parts = both _ _ (find-passes (is_by firm own) reports report found) in
+    (ap (λ (name : List ℕ). let it : FirmId = record { name = name } in it) ((bytes_eq-Decides report.firm.name firm.name).0 parts.0), (bytes_eq-Decides report.id own).0 parts.1)
+
+not_not : (b : Bool) → not b ≡ false → b ≡ true
+not_not true e = refl
+not_not false e = cc
+
+-- there are numbers for the lines
+pub give_up-numbers : (reference : Tables) (totals : Totals) (firm : FirmId) (id own : Id) (lines : List Line) → length lines ≤ 16 → MayTakeIn reference totals (GiveUp firm id own lines)
+    → length totals.offers + length lines ≤ 16000000
+give_up-numbers reference totals firm id own lines few may = omega (arith, few_offers reference may.history totals may.kept, may.accepted.room, few)
+
+-- a give-up is taken in
+pub give_up-taken : (reference : Tables) (old new : Totals) (firm : FirmId) (id own : Id) (lines : List Line) (report : Report) (group : Group) → length lines ≤ 16
+    → given_up reference (state_in old) firm own ≡ Some (report, group) → new.today ≡ old.today → new.trades ≡ old.trades → new.limits ≡ old.limits → new.positions ≡ old.positions
+    → new.give_ups.keys ≡ old.give_ups.keys ++ record { firm = firm; id = id } ∷ [] → new.offers ≡ with_lines old.offers firm own group lines
+    → TakesIn reference old new (GiveUp firm id own lines)
+give_up-taken reference old new firm id own lines report group few given today trades limits positions give_ups offers history kept is =
+    let state = state_of reference history in
+    let command = GiveUp firm id own lines in
+    let tests = tests_of reference state command in
+    let done = done_of reference state command in
+    let first = length (standing_of history) + 1 in
+    let here : given_up reference state firm own ≡ Some (report, group) = ap (λ (s : State). given_up reference s firm own) (sym (state_is reference history old kept.beside)) ∙ given in
+    let found = report-is reference state firm own report group here in
+    let names = names-are (reports_of history) firm own report found in
+    let there : report_by (reports_of history) report.firm report.id ≡ Some report = (λ i. report_by (reports_of history) (names.0 i) (names.1 i)) ∙ found in
+    let tail : option_map_or (λ g. lines_tests reference state g.0 g.1 lines) (given_up reference state firm own) [] ≡ lines_tests reference state report group lines =
+    ap (λ (g : Option (Report × Group)). option_map_or (λ g. lines_tests reference state g.0 g.1 lines) g []) here in
+    let at : (k : ℕ) → slice_get tests (suc (suc (suc (suc k)))) ≡ slice_get (lines_tests reference state report group lines) k = λ k. ap (λ (ts : List (Bool × Refusal)). slice_get ts k) tail in
+    let matched = not_not (is_of_trade (reports_of history) report) (none_stands tests done done is.accepted 4 (not (is_of_trade (reports_of history) report)) NotMatched (at 0)) in
+    let free = report.lots - counted_under (standing_of history) report.firm report.id in
+    let fits = ltb-false free (lots_in_all lines) (none_stands tests done done is.accepted 6 (nat_lt free (lots_in_all lines)) TooManyLots (at 2)) in
+    let did : done ≡ Offered group first (length lines) = ap (λ (g : Option (Report × Group)). option_map_or (λ g. Offered g.1 first (length lines)) g Opened) here in
+    subst (λ (d : Done). IsKept reference (history ++ Asked (GiveUp firm id own lines) (Accepted d) ∷ []) new) (sym did)
+    (subst (λ (f : FirmId). IsKept reference (history ++ giving_up f id own lines group first ∷ []) new) names.0
+    (subst (λ (o : Id). IsKept reference (history ++ giving_up report.firm id o lines group first ∷ []) new) names.1
+    (kept-given_up reference history old new id report lines group first kept today trades
+    (give_ups ∙ (λ i. old.give_ups.keys ++ record { firm = sym names.0 i; id = id } ∷ []))
+    (offers ∙ (λ i. with_lines old.offers (sym names.0 i) (sym names.1 i) group lines)) limits positions there matched fits few)))

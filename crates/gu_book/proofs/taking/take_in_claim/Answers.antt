@@ -1,0 +1,21 @@
+use Rattle.gu_book.proofs.Accepting.{IsSeen, claim-room, claim-taken, claim-there, on_ok_three}
+use Rattle.gu_book.proofs.taking.take_in_claim.Goals as goal
+
+pub claim-requires-clause-room : goal.claim-requires-clause-room
+claim-requires-clause-room c =
+    rw c.left-lots.ensures
+    (claim-room c.args.reference.now c.args.totals.now c.args.number c.in-Some.offer c.in-Some-side_of.report (record { shown = c.in-Some.ensures; found = c.in-Some-side_of.ensures.found })
+    c.requires)
+
+pub claim-requires-clause-there : goal.claim-requires-clause-there
+claim-requires-clause-there c =
+    rw c.left-lots.ensures
+    (claim-there c.args.reference.now c.args.totals.now c.args.number c.in-Some.offer c.in-Some-side_of.report
+    (record { shown = c.in-Some.ensures; found = c.in-Some-side_of.ensures.found }) c.requires)
+
+pub returns-clause-taken : goal.returns-clause-taken
+returns-clause-taken c =
+    on_ok_three c.claim.result
+    (claim-taken c.args.reference.now c.args.totals.now c.claim.new.self c.args.number c.in-Some.offer c.in-Some-side_of.report
+    (record { shown = c.in-Some.ensures; found = c.in-Some-side_of.ensures.found }) c.claim.ensures.entries)
+    (rw c.left-lots.ensures at c.claim.ensures.offers) (rw c.left-lots.ensures at c.claim.ensures.limits) (rw c.left-lots.ensures at c.claim.ensures.positions)

@@ -1,0 +1,15 @@
+use Rattle.std.proofs.Common.{sym}
+use Rattle.gu_book.proofs.Accepting.{on_ok_two}
+use Rattle.gu_book.proofs.TakenIn.{give_up-numbers, give_up-taken}
+use Rattle.gu_book.proofs.taking.take_in_give_up.Goals as goal
+
+pub give_up-requires-clause-numbers : goal.give_up-requires-clause-numbers
+give_up-requires-clause-numbers c =
+    give_up-numbers c.args.reference.now c.args.totals.now c.args.firm.now c.args.id.now c.args.report.now c.args.lines.now c.as_slice.ensures.sound.most c.requires
+
+pub returns-clause-taken : goal.returns-clause-taken
+returns-clause-taken c =
+    on_ok_two c.give_up.result
+    (give_up-taken c.args.reference.now c.args.totals.now c.give_up.new.self c.args.firm.now c.args.id.now c.args.report.now c.args.lines.now c.in-Some.field-0-0 c.in-Some.group
+    c.as_slice.ensures.sound.most (sym c.in-Some.ensures) c.give_up.ensures.today c.give_up.ensures.trades c.give_up.ensures.limits c.give_up.ensures.positions)
+    c.give_up.ensures.give_ups c.give_up.ensures.offers

@@ -1,0 +1,78 @@
+-- Machinery: what one entry makes of what a book keeps beside its history.
+use Rattle.std.specs.Prelude.{◌≡◌, ℕ, ◌+◌, ◌-◌, ◌≤◌, ◌==◌, ◌||◌, ◌++◌, Bool, List, [], ◌∷◌, Option, Some, None, map, sum_by, if◌then◌else◌}
+use Rattle.gu_terms.specs.Same.{same_firm, same_id}
+use Rattle.gu_terms.specs.declared.account.AccountId.{AccountId}
+use Rattle.gu_terms.specs.declared.day.Day.{Day}
+use Rattle.gu_terms.specs.declared.firm.FirmId.{FirmId}
+use Rattle.gu_terms.specs.declared.group.Group.{Group}
+use Rattle.gu_terms.specs.declared.id.Id.{Id}
+use Rattle.gu_terms.specs.declared.limit_key.LimitKey.{LimitKey}
+use Rattle.gu_terms.specs.declared.lines.Line.{Line}
+use Rattle.gu_terms.specs.declared.offer.Offer.{Offer}
+use Rattle.gu_terms.specs.declared.report.Report.{Report}
+use Rattle.gu_terms.specs.declared.side.Side.{Side}
+use Rattle.gu_terms.specs.declared.symbol.Symbol.{Symbol}
+use Rattle.gu_ref.specs.Tables.{Tables}
+use Rattle.gu_trades.specs.Reports.{with_match}
+use Rattle.gu_limits.specs.Changes.{SameLimits, lots_under}
+use Rattle.gu_limits.specs.Limits.{GroupLimit, has_limit, limit_in, same_place, used_in}
+use Rattle.gu_positions.specs.Changes.{KeepsLots, lots_at}
+use Rattle.gu_positions.specs.Rows.{Row, lots_in, lots_on}
+use Rattle.gu_book.specs.Limits.{path_behind}
+use Rattle.gu_book.specs.declared.totals.GiveUpKey.{GiveUpKey}
+use Rattle.gu_book.specs.declared.totals.Totals.{Totals}
+
+-- the lots of reports on a side of an instrument, for an account
+abbrev pub lots_of_reports : List Report → Side → AccountId → Symbol → ℕ
+lots_of_reports reports side account symbol = sum_by (λ (r : Report). lots_at r.side r.account r.symbol r.lots side account symbol) reports
+
+-- the reports that one more report makes a trade: itself and the one that waits for it, or none
+abbrev pub made_a_trade : List Report → Report → List Report
+made_a_trade [] report = []
+made_a_trade (waiting ∷ more) report = waiting ∷ report ∷ []
+
+-- lots of reports are held more
+pub record HoldsMore (old new : List Row) (reports : List Report) : Type 0 where
+  pub lots : (side : Side) (account : AccountId) (symbol : Symbol) → lots_in new side account symbol ≡ lots_in old side account symbol + lots_of_reports reports side account symbol
+  pub sums : (side : Side) (symbol : Symbol) → lots_on new side symbol ≤ lots_on old side symbol + 2000000
+
+-- lots of a report leave one account for another
+pub record HoldsMoved (old new : List Row) (report : Report) (from to : AccountId) (moved : ℕ) : Type 0 where
+  pub lots : (side : Side) (account : AccountId) (symbol : Symbol)
+      → lots_in new side account symbol
+      ≡ lots_in old side account symbol - lots_at report.side from report.symbol moved side account symbol + lots_at report.side to report.symbol moved side account symbol
+  pub sums : (side : Side) (symbol : Symbol) → lots_on new side symbol ≡ lots_on old side symbol
+
+-- a limit is set in its place, and no other
+pub record SetsLimit (old new : List GroupLimit) (group : Group) (key : LimitKey) (lots : ℕ) : Type 0 where
+  pub known : (at : Group) (on : LimitKey) → has_limit new at on ≡ (same_place at on group key || has_limit old at on)
+  pub limits : (at : Group) (on : LimitKey) → limit_in new at on ≡ (if same_place at on group key then lots else limit_in old at on)
+  pub uses : (at : Group) (on : LimitKey) → used_in new at on ≡ used_in old at on
+
+-- lots are used more under the keys of an offer
+pub record UsesMore (reference : Tables) (old new : List GroupLimit) (offer : Offer) (lots : ℕ) : Type 0 where
+  pub limits : SameLimits old new
+  pub uses : (at : Group) (on : LimitKey) → used_in new at on ≡ used_in old at on + lots_under offer.group (path_behind reference offer) lots at on
+
+-- lots are used less under them
+pub record UsesLess (reference : Tables) (old new : List GroupLimit) (offer : Offer) (lots : ℕ) : Type 0 where
+  pub limits : SameLimits old new
+  pub uses : (at : Group) (on : LimitKey) → used_in new at on + lots_under offer.group (path_behind reference offer) lots at on ≡ used_in old at on
+
+-- nothing is used of any limit
+pub record UsesNothing (old new : List GroupLimit) : Type 0 where
+  pub limits : SameLimits old new
+  pub uses : (at : Group) (on : LimitKey) → used_in new at on ≡ 0
+
+-- the day, the reports, the offers and the give-ups are what they were
+pub record SameEntries (old new : Totals) : Type 0 where
+  pub today : new.today ≡ old.today
+  pub trades : new.trades ≡ old.trades
+  pub give_ups : new.give_ups.keys ≡ old.give_ups.keys
+
+-- no answer changes
+pub record SameAnswers (old new : Totals) : Type 0 where
+  pub entries : SameEntries old new
+  pub offers : new.offers ≡ old.offers
+  pub limits : new.limits ≡ old.limits
+  pub positions : KeepsLots old.positions new.positions

@@ -1,0 +1,36 @@
+-- The view of a group after a history: its open offers, and the rooms of the keys that they come under.
+use Rattle.std.specs.Prelude.{List, map, Option}
+use Rattle.std.specs.List.{filter_map}
+use Rattle.std.specs.Option.{option_map}
+use Rattle.gu_terms.specs.declared.entry.Entry.{Entry}
+use Rattle.gu_terms.specs.declared.group.Group.{Group}
+use Rattle.gu_ref.specs.Reference.{agreement_between}
+use Rattle.gu_ref.specs.Tables.{Tables}
+use Rattle.gu_offers.specs.Rows.{open_offers}
+use Rattle.gu_offers.specs.declared.open_offer.OpenOffer.{OpenOffer}
+use Rattle.gu_view.specs.View.{GroupView, keys_of}
+use Rattle.gu_view.specs.declared.view.Offer.{Offer}
+use Rattle.gu_book.specs.Limits.{path_behind, room_of}
+use Rattle.gu_book.specs.Offers.{standing_of}
+use Rattle.gu_book.specs.Versions.{version_of}
+
+-- an open offer as a view shows it: what is left of it, its agreement and its path
+abbrev pub shown : Tables → OpenOffer → Option Offer
+shown reference o =
+    option_map
+    (λ agreement. record { number = o.number; lots = o.left; agreement = agreement; path = path_behind reference o.offer })
+    (agreement_between reference o.offer.firm o.offer.account)
+
+-- the open offers of a group, in the order of their numbers
+abbrev pub offers_shown : Tables → List Entry → Group → List Offer
+offers_shown reference history group = filter_map (shown reference) (open_offers (standing_of history) group)
+
+-- the view of a group
+abbrev pub group_view : Tables → List Entry → Group → GroupView
+group_view reference history group =
+    record {
+      group = group;
+      version = version_of history group;
+      offers = offers_shown reference history group;
+      rooms = map (λ key. record { key = key; lots = room_of reference history group key }) (keys_of (offers_shown reference history group));
+    }

@@ -1,0 +1,325 @@
+//! What a book keeps beside its history, so that no answer reads it.
+
+ghost use Rattle.std.specs.Prelude.{◌≡◌, ◌<◌, ◌≤◌, ◌+◌, ◌^◌, ◌++◌, ◌∷◌, ◌↔◌, [], true, false, All, Some, None, IfSome, IsSome, OnOk, OnErr, length, map};
+ghost use Rattle.gu_limits.specs.Limits.{room_in, used_in};
+ghost use Rattle.gu_offers.specs.Changes.{changed, closed, next_day, reversed, taken, with_lines};
+ghost use Rattle.gu_offers.specs.Rows.{left_in, row_at, today_in};
+ghost use Rattle.gu_positions.specs.Changes.{KeepsLots, KeepsRows, lots_at};
+ghost use Rattle.gu_positions.specs.Rows.{has_row, lots_in, lots_on};
+ghost use Rattle.gu_terms.specs.declared.account.AccountId.{AccountId as AccountOf};
+ghost use Rattle.gu_terms.specs.declared.side.Side.{Side as SideOf};
+ghost use Rattle.gu_terms.specs.declared.symbol.Symbol.{Symbol as SymbolOf};
+ghost use Rattle.gu_trades.specs.Matching.{conflicts, is_waiting};
+ghost use Rattle.gu_trades.specs.Sides.{reports_in};
+ghost use Rattle.gu_trades.specs.Reports.{has_report, report_by, with_match};
+ghost use Rattle.gu_book.specs.Beside.{is_kept_give_up};
+ghost use Rattle.gu_book.specs.Effects.{HoldsMore, HoldsMoved, SameAnswers, SameEntries, SetsLimit, UsesLess, UsesMore, UsesNothing, made_a_trade};
+ghost use Rattle.gu_book.specs.Limits.{path_behind};
+ghost use Rattle.gu_book.specs.Reports.{Fits};
+
+use crate::answering::path_of_offer;
+use gu_limits::{LimitTable, SetError};
+use gu_offers::Offers;
+use gu_positions::Positions;
+use gu_ref::Reference;
+use gu_terms::{
+    Command, Day, Done, Entry, FirmId, Group, Id, LimitKey, Lines, Offer, OfferNo, Reply, Report,
+};
+use gu_trades::{Sides, Trades};
+use indexmap::IndexSet;
+use std::alloc::{AllocError, Global};
+
+/// What a firm knows its give-up by. No two give-ups have the same.
+#[derive(Clone, Copy, Debug, PartialEq, Eq, Hash)]
+pub struct GiveUpKey {
+    pub firm: FirmId,
+    pub id: Id,
+}
+
+/// What a history comes to.
+pub struct Totals {
+    /// The open day.
+    pub today: Option<Day>,
+    /// The reports that were taken in.
+    pub trades: Trades,
+    /// The offers that were made, as they stand.
+    pub offers: Offers,
+    /// The give-ups that were accepted.
+    pub give_ups: IndexSet<GiveUpKey>,
+    /// The limits that were set, with what is used of them today.
+    pub limits: LimitTable,
+    /// What each account holds.
+    pub positions: Positions,
+}
+
+impl Drop for Totals {
+    fn drop(self) {
+        let Totals {
+            today: _,
+            trades,
+            offers,
+            give_ups,
+            limits,
+            positions,
+        } = self;
+        drop(trades);
+        drop(offers);
+        drop(give_ups);
+        drop(limits);
+        drop(positions);
+    }
+}
+
+impl Totals {
+    /// What no history comes to.
+    pub fn new(alloc: Global) -> Self
+        ensures today { result.today ≡ None }
+        ensures trades { result.trades ≡ [] }
+        ensures offers { result.offers ≡ [] }
+        ensures give_ups { result.give_ups.keys ≡ [] }
+        ensures limits { result.limits ≡ [] }
+        ensures positions { result.positions ≡ [] }
+    {
+        Totals {
+            today: None,
+            trades: Trades::new(alloc),
+            offers: Offers::new(alloc),
+            give_ups: IndexSet::new(alloc),
+            limits: LimitTable::new(alloc),
+            positions: Positions::new(alloc),
+        }
+    }
+
+    /// Whether the firm has given up with this id.
+    pub fn has_give_up(&self, firm: &FirmId, id: &Id) -> bool
+        ensures { result ≡ is_kept_give_up self.now.give_ups.keys firm.now id.now }
+    {
+        self.give_ups.contains(&GiveUpKey {
+            firm: *firm,
+            id: *id,
+        })
+    }
+
+    /// A day is opened.
+    pub fn open(&mut self, day: Day)
+        ensures today { self.new.today ≡ Some day }
+        ensures trades { self.new.trades ≡ self.old.trades }
+        ensures give_ups { self.new.give_ups.keys ≡ self.old.give_ups.keys }
+        ensures offers { self.new.offers ≡ map next_day self.old.offers }
+        ensures limits { UsesNothing self.old.limits self.new.limits }
+        ensures positions { self.new.positions ≡ self.old.positions }
+    {
+        self.today = Some(day);
+        self.offers.new_day();
+        self.limits.new_day();
+    }
+
+    /// A limit is set.
+    pub fn set_limit(&mut self, group: &Group, key: &LimitKey, lots: u64) -> Result<(), AllocError>
+        requires { lots ≤ 1000000000 }
+        ensures entries { SameEntries self.old self.new }
+        ensures offers { self.new.offers ≡ self.old.offers }
+        ensures limits { OnOk result (SetsLimit self.old.limits self.new.limits group.now key.now lots) }
+        ensures positions { self.new.positions ≡ self.old.positions }
+        ensures refused { OnErr result (SameAnswers self.old self.new) }
+    {
+        match self.limits.set(group, key, lots) {
+            Ok(()) => Ok(()),
+            Err(SetError::Memory) => Err(AllocError),
+            Err(SetError::TooHigh) => unreachable!(),
+        }
+    }
+
+    /// A report is taken in. Once it makes a trade with one that waits, the lots of both are held.
+    pub fn report(&mut self, report: &Report) -> Result<(), AllocError>
+        requires fits { Fits self.old.trades report.now }
+        requires room { (side : SideOf) (symbol : SymbolOf) → lots_on self.old.positions side symbol + 2000000 < 2 ^ 64 }
+        ensures today { self.new.today ≡ self.old.today }
+        ensures give_ups { self.new.give_ups.keys ≡ self.old.give_ups.keys }
+        ensures trades { OnOk result (self.new.trades ≡ self.old.trades ++ report.now ∷ []) }
+        ensures offers { self.new.offers ≡ self.old.offers }
+        ensures limits { self.new.limits ≡ self.old.limits }
+        ensures positions { OnOk result
+            (HoldsMore self.old.positions self.new.positions (made_a_trade (with_match report.now.match_id self.old.trades) report.now)) }
+        ensures refused { OnErr result (SameAnswers self.old self.new) }
+    {
+        let waiting = first_side(self.trades.trade(report.match_id));
+        make_rows(&mut self.positions, &waiting, report)?;
+        self.trades.report(
+            report.firm,
+            report.id,
+            report.match_id,
+            report.symbol,
+            report.lots,
+            report.price,
+            report.day,
+            report.side,
+            report.account,
+        )?;
+        if let Some(waiting) = &waiting {
+            hold(&mut self.positions, waiting);
+            hold(&mut self.positions, report);
+        }
+        Ok(())
+    }
+
+    /// Lines of a report are given up.
+    pub fn give_up(
+        &mut self,
+        firm: &FirmId,
+        id: &Id,
+        report: &Id,
+        group: &Group,
+        lines: &Lines,
+    ) -> Result<(), AllocError>
+        requires new_id { is_kept_give_up self.old.give_ups.keys firm.now id.now ≡ false }
+        requires numbers { length self.old.offers + length lines.now ≤ 16000000 }
+        ensures today { self.new.today ≡ self.old.today }
+        ensures trades { self.new.trades ≡ self.old.trades }
+        ensures give_ups { OnOk result (self.new.give_ups.keys ≡ self.old.give_ups.keys ++ record { firm = firm.now; id = id.now } ∷ []) }
+        ensures offers { OnOk result (self.new.offers ≡ with_lines self.old.offers firm.now report.now group.now lines.now) }
+        ensures limits { self.new.limits ≡ self.old.limits }
+        ensures positions { self.new.positions ≡ self.old.positions }
+        ensures refused { OnErr result (SameAnswers self.old self.new) }
+    {
+        self.give_ups.reserve(1)?;
+        self.offers.give_up(*firm, *report, *group, lines)?;
+        self.give_ups.insert(GiveUpKey {
+            firm: *firm,
+            id: *id,
+        })?;
+        Ok(())
+    }
+
+    /// Lots of an offer are claimed: they are used under the keys of its path, and leave the account of its report for its own.
+    pub fn claim(
+        &mut self,
+        reference: &Reference,
+        number: OfferNo,
+        offer: &Offer,
+        report: &Report,
+        lots: u64,
+    ) -> Result<(), AllocError>
+        requires left { lots ≤ left_in self.old.offers number }
+        requires room { All (λ key. lots ≤ room_in self.old.limits offer.now.group key) (path_behind reference.now offer.now) }
+        requires there { lots ≤ lots_in self.old.positions report.now.side report.now.account report.now.symbol }
+        ensures entries { SameEntries self.old self.new }
+        ensures offers { OnOk result (self.new.offers ≡ changed self.old.offers number (taken lots)) }
+        ensures limits { OnOk result (UsesMore reference.now self.old.limits self.new.limits offer.now lots) }
+        ensures positions { OnOk result
+            (HoldsMoved self.old.positions self.new.positions report.now report.now.account offer.now.account lots) }
+        ensures refused { OnErr result (SameAnswers self.old self.new) }
+    {
+        self.positions.row(report.account, report.symbol)?;
+        self.positions.row(offer.account, report.symbol)?;
+        self.offers.take(number, lots);
+        charge(&mut self.limits, reference, offer, lots);
+        self.positions.shift(
+            report.account,
+            offer.account,
+            report.symbol,
+            report.side,
+            lots,
+        );
+        Ok(())
+    }
+
+    /// Lots that were moved of an offer today are moved back.
+    pub fn reverse(
+        &mut self,
+        reference: &Reference,
+        number: OfferNo,
+        offer: &Offer,
+        report: &Report,
+        lots: u64,
+    ) -> Result<(), AllocError>
+        requires closed { left_in self.old.offers number ≡ 0 }
+        requires moved { 0 < today_in self.old.offers number }
+        requires used { All (λ key. lots ≤ used_in self.old.limits offer.now.group key) (path_behind reference.now offer.now) }
+        requires there { lots ≤ lots_in self.old.positions report.now.side offer.now.account report.now.symbol }
+        ensures entries { SameEntries self.old self.new }
+        ensures offers { OnOk result (self.new.offers ≡ changed self.old.offers number reversed) }
+        ensures limits { OnOk result (UsesLess reference.now self.old.limits self.new.limits offer.now lots) }
+        ensures positions { OnOk result
+            (HoldsMoved self.old.positions self.new.positions report.now offer.now.account report.now.account lots) }
+        ensures refused { OnErr result (SameAnswers self.old self.new) }
+    {
+        self.positions.row(report.account, report.symbol)?;
+        self.positions.row(offer.account, report.symbol)?;
+        self.offers.reverse(number);
+        give_back(&mut self.limits, reference, offer, lots);
+        self.positions.shift(
+            offer.account,
+            report.account,
+            report.symbol,
+            report.side,
+            lots,
+        );
+        Ok(())
+    }
+}
+
+/// The report that waits for its other side, if one does.
+fn first_side(sides: Sides) -> Option<Report>
+    ensures waits { IfSome result (λ waiting. reports_in sides ≡ waiting ∷ []) }
+    ensures some { IsSome result ↔ (is_waiting (reports_in sides) ≡ true) }
+{
+    match sides {
+        Sides::One(waiting) => Some(waiting),
+        Sides::Neither | Sides::Both(..) => None,
+    }
+}
+
+/// Makes the rows of a report and of the one that waits for it, where one does.
+fn make_rows(
+    positions: &mut Positions,
+    waiting: &Option<Report>,
+    report: &Report,
+) -> Result<(), AllocError>
+    ensures waiting { OnOk result (IfSome waiting.now (λ w. has_row positions.new w.account w.symbol ≡ true)) }
+    ensures report { OnOk result (IfSome waiting.now (λ w. has_row positions.new report.now.account report.now.symbol ≡ true)) }
+    ensures same_lots { KeepsLots positions.old positions.new }
+{
+    let Some(waiting) = waiting else {
+        return Ok(());
+    };
+    positions.row(waiting.account, waiting.symbol)?;
+    positions.row(report.account, report.symbol)
+}
+
+/// Holds the lots of a report.
+fn hold(positions: &mut Positions, report: &Report)
+    requires made { has_row positions.old report.now.account report.now.symbol ≡ true }
+    requires fits { lots_on positions.old report.now.side report.now.symbol + report.now.lots < 2 ^ 64 }
+    ensures same_rows { KeepsRows positions.old positions.new }
+    ensures lots { (on : SideOf) (other : AccountOf) (another : SymbolOf) → lots_in positions.new on other another
+        ≡ lots_in positions.old on other another + lots_at report.now.side report.now.account report.now.symbol report.now.lots on other another }
+    ensures sums { (on : SideOf) (another : SymbolOf) → lots_on positions.new on another ≤ lots_on positions.old on another + 1000000 }
+{
+    positions.add(
+        report.account,
+        report.symbol,
+        report.side,
+        report.lots.get(),
+    );
+}
+
+/// Uses lots under the keys of an offer's path.
+fn charge(limits: &mut LimitTable, reference: &Reference, offer: &Offer, lots: u64)
+    requires { All (λ key. lots ≤ room_in limits.old offer.now.group key) (path_behind reference.now offer.now) }
+    ensures { UsesMore reference.now limits.old limits.new offer.now lots }
+{
+    if let Some(path) = path_of_offer(reference, offer) {
+        limits.charge(&offer.group, &path, lots);
+    }
+}
+
+/// Gives back lots that were used under them.
+fn give_back(limits: &mut LimitTable, reference: &Reference, offer: &Offer, lots: u64)
+    requires { All (λ key. lots ≤ used_in limits.old offer.now.group key) (path_behind reference.now offer.now) }
+    ensures { UsesLess reference.now limits.old limits.new offer.now lots }
+{
+    if let Some(path) = path_of_offer(reference, offer) {
+        limits.give_back(&offer.group, &path, lots);
+    }
+}
