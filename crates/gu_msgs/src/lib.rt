@@ -43,7 +43,8 @@ mod whole_number;
 mod writing;
 
 pub use alloc_status::AllocStatus;
-pub use answering::answer_to;
+pub use answering::{answer_to, notice_body, positions_answer};
+pub use asking::{Question, Request};
 pub use coded_values::{AllocReportType, BusinessRejectReason, LogoutReason, PosReqResult};
 pub use fault::{Fault, MsgFault};
 pub use header_reading::header;
