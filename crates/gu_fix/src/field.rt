@@ -67,7 +67,7 @@ impl Fields {
     }
 
     /// No fields yet, with room for those of a message of so many bytes, eight bytes to a field.
-    pub(crate) fn with_room(alloc: Global, bytes: usize) -> Result<Self, AllocError>
+    pub fn with_room(alloc: Global, bytes: usize) -> Result<Self, AllocError>
         ensures { IfOk result (λ fields. fields ≡ []) }
     {
         Ok(Fields {

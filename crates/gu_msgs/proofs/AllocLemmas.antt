@@ -1,27 +1,42 @@
--- The lots of a give-up's parts.
-use Rattle.std.proofs.Common.{List, [], ◌∷◌, map}
+-- The lots of a give-up's lines.
+use Rattle.std.proofs.Common.{◌≡◌, List, [], ◌∷◌, map, sum, length, refl}
 use Rattle.std.specs.List.{filter_map}
+use Rattle.std.proofs.lemmas.List.Sums.{sum-map}
+use Rattle.gu_terms.specs.Lines.{lots_in_all}
+use Rattle.gu_terms.specs.NumberText.{MeansLots}
+use Rattle.gu_terms.specs.declared.lines.Line.{Line}
+use Rattle.gu_terms.specs.declared.lots.Lots.{Lots}
 use Rattle.gu_fix.specs.TagValue.{TagValue}
 use Rattle.gu_msgs.specs.Agreement.{AreLots, HasQuantities}
 use Rattle.gu_msgs.specs.Groups.{entries_of}
-use Rattle.gu_msgs.specs.Messages.{AreAllocs, IsInstruction}
-use Rattle.gu_msgs.specs.Values.{first_value}
-use Rattle.gu_msgs.specs.declared.inbound.Alloc.{Alloc}
-use Rattle.gu_msgs.specs.declared.inbound.AllocationInstruction.{AllocationInstruction}
+use Rattle.gu_msgs.specs.Messages.{AreAllocs}
+use Rattle.gu_msgs.specs.Values.{Holds, first_value}
 use Rattle.gu_msgs.specs.declared.msg_type.MsgType.TheVariants as kind
-use Rattle.gu_msgs.specs.declared.tags.TheConstants.{ALLOC_QTY, NO_ALLOCS}
+use Rattle.gu_msgs.specs.declared.tags.TheConstants.{ALLOC_QTY, NO_ALLOCS, QUANTITY}
 
--- the texts of entries stand for the lots of the parts that they say
-lots_of_allocs : (entries : List (List TagValue)) (allocs : List Alloc) → AreAllocs entries allocs
-    → AreLots (filter_map (first_value ALLOC_QTY) entries) (map (λ (a : Alloc). a.quantity) allocs)
+-- there are as many lines as entries
+pub length-allocs : (entries : List (List TagValue)) (lines : List Line) → AreAllocs entries lines → length entries ≡ length lines
+length-allocs [] [] are = refl
+length-allocs (entry ∷ entries) (line ∷ lines) are = let same = length-allocs entries lines are.1 in cc
+length-allocs [] (line ∷ lines) are = absurd are
+length-allocs (entry ∷ entries) [] are = absurd are
+
+-- the texts of entries stand for the lots of the lines that they say
+lots_of_allocs : (entries : List (List TagValue)) (lines : List Line) → AreAllocs entries lines
+    → AreLots (filter_map (first_value ALLOC_QTY) entries) (map (λ (l : Line). l.lots) lines)
 lots_of_allocs [] [] are = tt
-lots_of_allocs (entry ∷ entries) (alloc ∷ allocs) are = rw are.0.quantity.first (are.0.quantity.such, lots_of_allocs entries allocs are.1)
-lots_of_allocs [] (alloc ∷ allocs) are = absurd are
+lots_of_allocs (entry ∷ entries) (line ∷ lines) are = rw are.0.lots.first (are.0.lots.such, lots_of_allocs entries lines are.1)
+lots_of_allocs [] (line ∷ lines) are = absurd are
 lots_of_allocs (entry ∷ entries) [] are = absurd are
 
--- the quantities that a give-up says
-pub quantities : (fields : List TagValue) (m : AllocationInstruction) → IsInstruction fields m → HasQuantities fields m.quantity (map (λ (a : Alloc). a.quantity) m.allocs.items)
-quantities fields m is = record {
-  quantity = is.quantity;
-  allocs = lots_of_allocs (entries_of kind.AllocationInstruction NO_ALLOCS fields) m.allocs.items is.allocs;
+-- the quantities of a give-up with these lines
+pub quantities : (fields : List TagValue) (whole : Lots) (lines : List Line) → Holds QUANTITY (λ text. MeansLots text whole) fields
+    → AreAllocs (entries_of kind.AllocationInstruction NO_ALLOCS fields) lines → HasQuantities fields whole (map (λ (l : Line). l.lots) lines)
+quantities fields whole lines quantity are = record {
+  quantity = quantity;
+  allocs = lots_of_allocs (entries_of kind.AllocationInstruction NO_ALLOCS fields) lines are;
 }
+
+-- the lots of all lines
+pub sum_of_lines : (lines : List Line) → sum (map (λ (l : Line). l.lots) lines) ≡ lots_in_all lines
+sum_of_lines lines = sum-map (λ (l : Line). l.lots) lines

@@ -9,6 +9,7 @@ mod AllocLemmas
 mod DateLemmas
 pub mod NoFault
 mod OneFault
-mod EncodableAck
+mod PlainTexts
+mod Encodables
 pub mod OneReport
 mod Midnights

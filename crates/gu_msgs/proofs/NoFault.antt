@@ -26,7 +26,7 @@ use Rattle.gu_msgs.specs.declared.row.Kind.TheVariants as kind
 -- what is allowed is in its format
 sound_formatted : (k : Kind) (text : List ℕ) → IsSound k text → IsFormatted k text
 sound_formatted kind.Text text sound = tt
-sound_formatted kind.ShortText text sound = tt
+sound_formatted kind.TestReqId text sound = tt
 sound_formatted kind.YesOrNo text sound = tt
 sound_formatted kind.Id text sound = tt
 sound_formatted kind.Name text sound = tt
@@ -191,7 +191,7 @@ no_unread_fault fields fault is at =
 
 -- a message that is read has no fault
 pub no_fault : (fields : List TagValue) (message : Inbound) (fault : Fault) → Says fields message → IsFaultOf fields fault → ⊥
-no_fault fields (inbound.Heartbeat m) fault says at = no_fault_of Heartbeat fields fault says.0 at
+no_fault fields inbound.Heartbeat fault says at = no_fault_of Heartbeat fields fault says at
 no_fault fields (inbound.TestRequest m) fault says at = no_fault_of TestRequest fields fault says.0 at
 no_fault fields (inbound.ResendRequest m) fault says at = no_fault_of ResendRequest fields fault says.0 at
 no_fault fields inbound.Reject fault says at = no_fault_of Reject fields fault says at

@@ -128,7 +128,7 @@ other_type k fields other p q =
 -- nor do they say another message
 pub one_report : (fields : List TagValue) (message : Inbound) (report : TradeCaptureReport)
     → Says fields message → Says fields (inbound.TradeCaptureReport report) → message ≡ inbound.TradeCaptureReport report
-one_report fields (inbound.Heartbeat m) report p q = absurd (other_type kind.Heartbeat fields refl p.0 q.0)
+one_report fields inbound.Heartbeat report p q = absurd (other_type kind.Heartbeat fields refl p q.0)
 one_report fields (inbound.TestRequest m) report p q = absurd (other_type kind.TestRequest fields refl p.0 q.0)
 one_report fields (inbound.ResendRequest m) report p q = absurd (other_type kind.ResendRequest fields refl p.0 q.0)
 one_report fields inbound.Reject report p q = absurd (other_type kind.Reject fields refl p q.0)

@@ -1,5 +1,7 @@
 -- Values that messages write as numbers or words of the house.
 use Rattle.std.specs.Prelude.{ℕ, List, codes}
+use Rattle.gu_terms.specs.declared.notice.OfferEvent.{OfferEvent}
+use Rattle.gu_terms.specs.declared.notice.OfferEvent.TheVariants as event
 use Rattle.gu_terms.specs.declared.side.Side.{Side}
 use Rattle.gu_terms.specs.declared.side.Side.TheVariants.{Buy, Sell}
 use Rattle.gu_msgs.specs.declared.coded_values.AllocReportType.{AllocReportType}
@@ -21,14 +23,21 @@ logout_text Silent = codes "Silent"
 
 -- BusinessRejectReason, tag 380
 abbrev pub business_number : BusinessRejectReason → ℕ
-business_number Other = 0
-business_number UnsupportedMessageType = 3
+business_number (Other offer rejection) = 0
+business_number (UnsupportedMessageType code) = 3
 
 -- AllocReportType, tag 794
 abbrev pub report_type_number : AllocReportType → ℕ
 report_type_number RequestToIntermediary = 8
 report_type_number Accept = 9
 report_type_number Reject = 10
+
+-- what a report of an event of an offer is for: lots that are taken back are told as those that are taken
+abbrev pub report_type_of : OfferEvent → AllocReportType
+report_type_of event.Offered = RequestToIntermediary
+report_type_of event.Claimed = Accept
+report_type_of (event.Refused reject) = Reject
+report_type_of event.Reversed = Accept
 
 -- PosReqResult, tag 728
 abbrev pub request_result : PosReqResult → ℕ

@@ -1,17 +1,13 @@
--- Machinery: what is known of a message that was written. No other crate names this file.
-use Rattle.std.specs.Prelude.{◌<◌, ◌^◌, ⊤}
-use Rattle.gu_terms.specs.Names.{IsId, IsName}
-use Rattle.gu_msgs.specs.declared.outbound.Body.{Body}
-use Rattle.gu_msgs.specs.declared.outbound.Body.TheVariants as body
-use Rattle.gu_msgs.specs.declared.outbound.Outbound.{Outbound}
+-- Machinery: fields that a message is encoded with. No other crate names this file.
+use Rattle.std.specs.Prelude.{◌≡◌, ◌&&◌, ℕ, Bool, true, not, nat_le, List, length}
+use Rattle.std.specs.List.{list_all}
+use Rattle.gu_fix.specs.TagValue.{TagValue}
+use Rattle.gu_fix.specs.Encoding.{has_soh, is_empty}
 
--- the ids of an acknowledgement of a report are such
-abbrev pub HasAckIds : Body → Type 0
-HasAckIds (body.TradeCaptureReportAck m) = IsId m.trade_report_id × IsId m.trd_match_id
-HasAckIds _ = ⊤
+-- a value that can be encoded: 1 to 1,024 bytes, none of them SOH
+abbrev pub is_plain : List ℕ → Bool
+is_plain value = not (is_empty value) && not (has_soh value) && nat_le (length value) 1024
 
--- and so is the firm's name, and its number has 64 bits
-pub record IsSoundMessage (m : Outbound) : Type 0 where
-  pub firm : IsName m.firm.name
-  pub number : m.msg_seq_num < 2 ^ 64
-  pub ids : HasAckIds m.body
+-- each field has such a value
+abbrev pub ArePlain : List TagValue → Type 0
+ArePlain fields = list_all (λ f. is_plain f.value) fields ≡ true

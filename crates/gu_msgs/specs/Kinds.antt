@@ -1,16 +1,17 @@
 -- What the text of a field must be, and what is wrong with one that isn't.
-use Rattle.std.specs.Prelude.{◌≡◌, ◌≤◌, ◌⊎◌, ℕ, List, length, codes, IsTrue, ⊤, ℤ}
+use Rattle.std.specs.Prelude.{◌≡◌, ◌≤◌, ◌⊎◌, ℕ, List, codes, IsTrue, ⊤, ℤ}
 use Rattle.std.specs.Str.Parse.{digits_value}
 use Rattle.gu_terms.specs.Days.{IsDay, IsDayText, year_of, month_of, day_of}
 use Rattle.gu_terms.specs.Names.{IsName, IsId}
 use Rattle.gu_terms.specs.NumberText.{IsNumberText, MeansLots, MeansPrice}
 use Rattle.gu_msgs.specs.AllocStatuses.{status_number}
+use Rattle.gu_msgs.specs.TestReqIds.{IsTestReqId}
 use Rattle.gu_msgs.specs.Values.{is_numeral}
 use Rattle.gu_msgs.specs.declared.alloc_status.AllocStatus.{AllocStatus}
 use Rattle.gu_msgs.specs.declared.reject_reason.SessionRejectReason.{SessionRejectReason}
 use Rattle.gu_msgs.specs.declared.reject_reason.SessionRejectReason.TheVariants.{ValueIsIncorrect, IncorrectDataFormat}
 use Rattle.gu_msgs.specs.declared.row.Kind.{Kind}
-use Rattle.gu_msgs.specs.declared.row.Kind.TheVariants.{Text, ShortText, YesOrNo, Id, Name, Lots, Price, Date, Number, Status}
+use Rattle.gu_msgs.specs.declared.row.Kind.TheVariants.{Text, TestReqId, YesOrNo, Id, Name, Lots, Price, Date, Number, Status}
 
 -- the text of this whole number: digits alone, leading zeros allowed
 pub record IsNumber (text : List ℕ) (n : ℕ) : Type 0 where
@@ -35,7 +36,7 @@ pub record IsDate (text : List ℕ) : Type 0 where
 -- the text is in its format: lots and prices are number texts, dates have eight digits, whole numbers are digits
 abbrev pub IsFormatted : Kind → List ℕ → Type 0
 IsFormatted Text text = ⊤
-IsFormatted ShortText text = ⊤
+IsFormatted TestReqId text = ⊤
 IsFormatted YesOrNo text = ⊤
 IsFormatted Id text = ⊤
 IsFormatted Name text = ⊤
@@ -48,7 +49,7 @@ IsFormatted Status text = IsTrue (is_numeral text)
 -- the text is allowed
 abbrev pub IsSound : Kind → List ℕ → Type 0
 IsSound Text text = ⊤
-IsSound ShortText text = length text ≤ 1024
+IsSound TestReqId text = IsTestReqId text
 IsSound YesOrNo text = IsYesOrNo text
 IsSound Id text = IsId text
 IsSound Name text = IsName text

@@ -6,6 +6,7 @@ pub mod Runs
 pub mod Values
 pub mod StandardHeader
 pub mod AllocStatuses
+pub mod TestReqIds
 pub mod Kinds
 pub mod Groups
 pub mod Shape

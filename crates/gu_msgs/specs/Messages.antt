@@ -1,11 +1,12 @@
 -- What the fields of a message without a fault say, type by type.
 use Rattle.std.specs.Prelude.{◌≡◌, ◌≢◌, ℕ, Bool, true, false, List, [], ◌∷◌, Option, None, Some, codes, IsTrue, ⊤}
-use Rattle.std.specs.Option.{option_map}
 use Rattle.gu_fix.specs.TagValue.{TagValue}
 use Rattle.gu_fix.specs.declared.tag.TheConstants.{MSG_TYPE}
 use Rattle.gu_terms.specs.Days.{WritesDay}
+use Rattle.gu_terms.specs.Lines.{lots_in_all}
 use Rattle.gu_terms.specs.NumberText.{MeansLots, MeansPrice}
 use Rattle.gu_terms.specs.declared.day.Day.{Day}
+use Rattle.gu_terms.specs.declared.lines.Line.{Line}
 use Rattle.gu_terms.specs.declared.side.Side.{Side}
 use Rattle.gu_terms.specs.declared.side.Side.TheVariants.{Buy, Sell}
 use Rattle.gu_msgs.specs.Agreement.{number_at}
@@ -14,7 +15,6 @@ use Rattle.gu_msgs.specs.Faults.{IsFaultless}
 use Rattle.gu_msgs.specs.Groups.{entries_of}
 use Rattle.gu_msgs.specs.MsgTypes.{code_of, is_type_text}
 use Rattle.gu_msgs.specs.Values.{Holds, first_value}
-use Rattle.gu_msgs.specs.declared.inbound.Alloc.{Alloc}
 use Rattle.gu_msgs.specs.declared.inbound.AllocationInstruction.{AllocationInstruction}
 use Rattle.gu_msgs.specs.declared.inbound.AllocationReportAck.{AllocationReportAck}
 use Rattle.gu_msgs.specs.declared.inbound.Inbound.{Inbound}
@@ -75,26 +75,30 @@ pub record IsReport (fields : List TagValue) (m : TradeCaptureReport) : Type 0 w
   pub one_side : entries_of kind.TradeCaptureReport NO_SIDES fields ≡ entry ∷ []
   pub is_side : IsSide entry m
 
--- an entry says this part of a give-up
-pub record IsAlloc (entry : List TagValue) (alloc : Alloc) : Type 0 where
-  pub account : first_value ALLOC_ACCOUNT entry ≡ Some alloc.account.name
-  pub quantity : Holds ALLOC_QTY (λ text. MeansLots text alloc.quantity) entry
+-- an entry says this line of a give-up
+pub record IsAlloc (entry : List TagValue) (line : Line) : Type 0 where
+  pub account : first_value ALLOC_ACCOUNT entry ≡ Some line.account.name
+  pub lots : Holds ALLOC_QTY (λ text. MeansLots text line.lots) entry
 
--- entries say these parts, each one
-abbrev pub AreAllocs : List (List TagValue) → List Alloc → Type 0
+-- entries say these lines, each one
+abbrev pub AreAllocs : List (List TagValue) → List Line → Type 0
 AreAllocs [] [] = ⊤
-AreAllocs (entry ∷ entries) (alloc ∷ allocs) = IsAlloc entry alloc × AreAllocs entries allocs
-AreAllocs [] (alloc ∷ allocs) = ⊥
+AreAllocs (entry ∷ entries) (line ∷ lines) = IsAlloc entry line × AreAllocs entries lines
+AreAllocs [] (line ∷ lines) = ⊥
 AreAllocs (entry ∷ entries) [] = ⊥
 
--- an AllocationInstruction
-pub record IsInstruction (fields : List TagValue) (m : AllocationInstruction) : Type 0 where
+-- an AllocationInstruction but for its quantity
+pub record HasAllocs (fields : List TagValue) (m : AllocationInstruction) : Type 0 where
   pub alloc_id : first_value ALLOC_ID fields ≡ Some m.alloc_id
-  pub quantity : Holds QUANTITY (λ text. MeansLots text m.quantity) fields
   pub entry : List TagValue
   pub one_exec : entries_of kind.AllocationInstruction NO_EXECS fields ≡ entry ∷ []
   pub exec_id : first_value EXEC_ID entry ≡ Some m.exec_id
-  pub allocs : AreAllocs (entries_of kind.AllocationInstruction NO_ALLOCS fields) m.allocs.items
+  pub allocs : AreAllocs (entries_of kind.AllocationInstruction NO_ALLOCS fields) m.lines
+
+-- an AllocationInstruction: its quantity is the lots of all its lines
+pub record IsInstruction (fields : List TagValue) (m : AllocationInstruction) : Type 0 where
+  pub parts : HasAllocs fields m
+  pub quantity : Holds QUANTITY (λ text. MeansLots text (lots_in_all m.lines)) fields
 
 -- an AllocationReportAck
 pub record IsReportAck (fields : List TagValue) (m : AllocationReportAck) : Type 0 where
@@ -120,9 +124,8 @@ pub record IsUnread (fields : List TagValue) : Type 0 where
 
 -- what a message's fields say
 abbrev pub Says : List TagValue → Inbound → Type 0
-Says fields (inbound.Heartbeat m) =
-    IsOfType kind.Heartbeat fields × (option_map (λ bytes. bytes.items) m.test_req_id ≡ first_value TEST_REQ_ID fields)
-Says fields (inbound.TestRequest m) = IsOfType kind.TestRequest fields × (first_value TEST_REQ_ID fields ≡ Some m.test_req_id.items)
+Says fields inbound.Heartbeat = IsOfType kind.Heartbeat fields
+Says fields (inbound.TestRequest m) = IsOfType kind.TestRequest fields × (first_value TEST_REQ_ID fields ≡ Some m.test_req_id)
 Says fields (inbound.ResendRequest m) = IsOfType kind.ResendRequest fields × IsResendRequest fields m
 Says fields inbound.Reject = IsOfType kind.Reject fields
 Says fields (inbound.SequenceReset m) = IsOfType kind.SequenceReset fields × IsSequenceReset fields m

@@ -1,6 +1,6 @@
 -- Why what a firm asked for isn't in the book, as messages say it (TradeReportRejectReason, tag 751, and Text, tag 58).
 use Rattle.std.specs.Prelude.{ℕ, List, codes}
-use Rattle.gu_terms.specs.Refusals.{name_of}
+use Rattle.gu_terms.specs.Refusals.{text_of}
 use Rattle.gu_terms.specs.declared.refusal.Refusal.TheVariants.{UnknownInstrument, UnknownAccount, NotYours}
 use Rattle.gu_msgs.specs.declared.rejection.Rejection.{Rejection}
 use Rattle.gu_msgs.specs.declared.rejection.Rejection.TheVariants.{Refused, Memory, Full}
@@ -20,8 +20,8 @@ reason_number reason.InvalidPartyInformation = 1
 reason_number reason.UnknownInstrument = 2
 reason_number reason.Other = 99
 
--- the text of a rejection: the refusal's name, or why nothing was entered
+-- the text of a rejection: the refusal's, or why nothing was entered
 abbrev pub rejection_text : Rejection → List ℕ
-rejection_text (Refused refusal) = name_of refusal
+rejection_text (Refused refusal) = text_of refusal
 rejection_text Memory = codes "Memory"
 rejection_text Full = codes "Full"

@@ -3,7 +3,7 @@ use Rattle.std.specs.Prelude.{ℕ, ◌==◌, List, [], ◌∷◌, ◌++◌, if�
 use Rattle.gu_fix.specs.declared.tag.TheConstants.{BEGIN_STRING, BODY_LENGTH, CHECK_SUM, MSG_TYPE}
 use Rattle.gu_msgs.specs.declared.msg_type.MsgType.{MsgType}
 use Rattle.gu_msgs.specs.declared.msg_type.MsgType.TheVariants.{Heartbeat, TestRequest, ResendRequest, Reject, SequenceReset, Logout, Logon, TradeCaptureReport, AllocationInstruction, AllocationReportAck, RequestForPositions}
-use Rattle.gu_msgs.specs.declared.row.Kind.TheVariants.{Text, ShortText, YesOrNo, Id, Name, Lots, Price, Date, Number, Status}
+use Rattle.gu_msgs.specs.declared.row.Kind.TheVariants.{Text, TestReqId, YesOrNo, Id, Name, Lots, Price, Date, Number, Status}
 use Rattle.gu_msgs.specs.declared.row.Row.{Row}
 use Rattle.gu_msgs.specs.declared.row.Row.TheVariants.{Required, Optional}
 use Rattle.gu_msgs.specs.declared.tags.TheConstants.{ACCOUNT, BEGIN_SEQ_NO, END_SEQ_NO, EXEC_ID, LAST_PX, LAST_QTY, MSG_SEQ_NUM, NEW_SEQ_NO, POSS_DUP_FLAG, SENDER_COMP_ID, SENDING_TIME, QUANTITY, SIDE, SYMBOL, TARGET_COMP_ID, ALLOC_ID, ALLOC_TRANS_TYPE, TRADE_DATE, NO_ALLOCS, ALLOC_ACCOUNT, ALLOC_QTY, ALLOC_STATUS, ENCRYPT_METHOD, HEART_BT_INT, TEST_REQ_ID, ORIG_SENDING_TIME, GAP_FILL_FLAG, NO_EXECS, RESET_SEQ_NUM_FLAG, TRADE_REPORT_TRANS_TYPE, NO_SIDES, TRADE_REPORT_ID, POS_REQ_ID, POS_REQ_TYPE, ALLOC_REPORT_ID, TRADE_REPORT_TYPE, TRD_MATCH_ID, DEFAULT_APPL_VER_ID}
@@ -23,7 +23,7 @@ header_rows =
 -- the tags of a type's own
 unfoldable pub body_rows : MsgType → List Row
 body_rows Heartbeat = Optional TEST_REQ_ID Text ∷ []
-body_rows TestRequest = Required TEST_REQ_ID ShortText ∷ []
+body_rows TestRequest = Required TEST_REQ_ID TestReqId ∷ []
 body_rows ResendRequest = Required BEGIN_SEQ_NO (Number 1 greatest) ∷ Required END_SEQ_NO (Number 0 greatest) ∷ []
 body_rows Reject = []
 body_rows SequenceReset = Optional GAP_FILL_FLAG YesOrNo ∷ Required NEW_SEQ_NO (Number 1 greatest) ∷ []

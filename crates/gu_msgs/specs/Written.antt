@@ -8,7 +8,6 @@ use Rattle.gu_msgs.specs.ValueTexts.{WritesMoment}
 use Rattle.gu_msgs.specs.declared.outbound.Body.{Body}
 use Rattle.gu_msgs.specs.declared.outbound.Body.TheVariants as body
 use Rattle.gu_msgs.specs.declared.outbound.Outbound.{Outbound}
-use Rattle.gu_msgs.specs.declared.outbound.TradeCaptureReportAck.{TradeCaptureReportAck}
 use Rattle.gu_msgs.specs.declared.tags.TheConstants.{BEGIN_SEQ_NO, END_SEQ_NO, GAP_FILL_FLAG, MSG_SEQ_NUM, NEW_SEQ_NO, ORIG_SENDING_TIME, POSS_DUP_FLAG, SENDER_COMP_ID, SENDING_TIME, TARGET_COMP_ID, TEST_REQ_ID, TEXT}
 use Rattle.gu_msgs.specs.WrittenBodies.{number_field, optional_field, logon_fields, reject_fields, business_fields, report_ack_fields, instruction_ack_fields, report_fields, allocation_fields, request_ack_fields, position_fields}
 
@@ -32,7 +31,7 @@ body_code (body.PositionReport m) = codes "AP"
 -- what a message says behind its header
 abbrev pub body_fields : Body → List TagValue
 body_fields (body.Logon interval resets) = logon_fields interval resets
-body_fields (body.Heartbeat id) = optional_field TEST_REQ_ID (option_map_or (λ bytes. Some bytes.items) id None)
+body_fields (body.Heartbeat id) = optional_field TEST_REQ_ID id
 body_fields body.TestRequest = tag_value TEST_REQ_ID (codes "TEST") ∷ []
 body_fields (body.ResendRequest from) = number_field BEGIN_SEQ_NO from ∷ number_field END_SEQ_NO 0 ∷ []
 body_fields (body.Reject m) = reject_fields m
@@ -66,8 +65,3 @@ pub record IsWritten (m : Outbound) (fields : List TagValue) : Type 0 where
   pub marks : List TagValue
   pub marks_resend : MarksResend m.orig_sending_time marks
   pub parts : fields ≡ header_fields m time ++ marks ++ body_fields m.body
-
--- the message is the acknowledgement of a report
-pub record AnswersReport (b : Body) : Type 0 where
-  pub ack : TradeCaptureReportAck
-  pub is : b ≡ body.TradeCaptureReportAck ack

@@ -1,16 +1,19 @@
 -- What messages that are written say behind their headers, in order.
 use Rattle.std.specs.Prelude.{◌==◌, ◌++◌, ℕ, Bool, List, [], ◌∷◌, Option, None, Some, codes, if◌then◌else◌}
-use Rattle.std.specs.Option.{option_map_or}
 use Rattle.std.specs.Fmt.{decimal}
 use Rattle.gu_fix.specs.TagValue.{TagValue, tag_value}
-use Rattle.gu_msgs.specs.AllocStatuses.{status_number}
-use Rattle.gu_msgs.specs.CodedValues.{business_number, report_type_number, request_result, request_status, reports_count, side_letter}
+use Rattle.gu_terms.specs.declared.alloc_reject.AllocReject.TheVariants.{BlockLevel}
+use Rattle.gu_msgs.specs.AllocStatuses.{status_number, status_of}
+use Rattle.gu_msgs.specs.CodedValues.{business_number, report_type_number, report_type_of, request_result, request_status, reports_count, side_letter}
 use Rattle.gu_msgs.specs.Messages.{side_number}
-use Rattle.gu_msgs.specs.MsgTypes.{is_type_text}
+use Rattle.gu_msgs.specs.MsgTypes.{code_of}
 use Rattle.gu_msgs.specs.RejectReasons.{number_of}
 use Rattle.gu_msgs.specs.Rejections.{reason_number, reason_of, rejection_text}
 use Rattle.gu_msgs.specs.ValueTexts.{date_text, price_text}
-use Rattle.gu_msgs.specs.declared.alloc_status.AllocStatus.TheVariants.{Accepted, BlockLevelReject}
+use Rattle.gu_msgs.specs.declared.alloc_status.AllocStatus.TheVariants.{Accepted, Rejected}
+use Rattle.gu_msgs.specs.declared.coded_values.BusinessRejectReason.{BusinessRejectReason}
+use Rattle.gu_msgs.specs.declared.coded_values.BusinessRejectReason.TheVariants.{Other, UnsupportedMessageType}
+use Rattle.gu_msgs.specs.declared.msg_type.MsgType.TheVariants.{AllocationReportAck}
 use Rattle.gu_msgs.specs.declared.outbound.AllocationInstructionAck.{AllocationInstructionAck}
 use Rattle.gu_msgs.specs.declared.outbound.AllocationReport.{AllocationReport}
 use Rattle.gu_msgs.specs.declared.outbound.BusinessMessageReject.{BusinessMessageReject}
@@ -37,31 +40,26 @@ logon_fields interval resets =
     number_field ENCRYPT_METHOD 0 ∷ number_field HEART_BT_INT interval ∷ number_field DEFAULT_APPL_VER_ID 9
     ∷ (if resets then tag_value RESET_SEQ_NUM_FLAG (codes "Y") ∷ [] else [])
 
--- the type of a message that is named in a Reject, where it has the form of one
-abbrev pub named_type : Option (List ℕ) → List TagValue
-named_type None = []
-named_type (Some text) = if is_type_text text then tag_value REF_MSG_TYPE text ∷ [] else []
-
--- a Reject: the tag at fault only where one can be read
+-- a Reject: the tag at fault only where one can be read, and the message's type only where it has the form of one
 abbrev pub reject_fields : Reject → List TagValue
 reject_fields m =
     number_field REF_SEQ_NUM m.ref_seq_num
     ∷ ((if m.ref_tag_id == 0 then [] else number_field REF_TAG_ID m.ref_tag_id ∷ [])
-    ++ named_type (option_map_or (λ bytes. Some bytes.items) m.ref_msg_type None)
+    ++ optional_field REF_MSG_TYPE m.ref_msg_type
     ++ number_field SESSION_REJECT_REASON (number_of m.reason) ∷ [])
 
--- why something was rejected, as text
-abbrev pub text_fields : Option Rejection → List TagValue
-text_fields None = []
-text_fields (Some rejection) = tag_value TEXT (rejection_text rejection) ∷ []
+-- why a message isn't answered by its own kind: an AllocationReportAck with its offer and the text of its rejection, any other
+-- message with its type
+abbrev pub reason_fields : BusinessRejectReason → List TagValue
+reason_fields (Other offer rejection) =
+    number_field BUSINESS_REJECT_REF_ID offer ∷ tag_value REF_MSG_TYPE (code_of AllocationReportAck)
+    ∷ number_field BUSINESS_REJECT_REASON (business_number (Other offer rejection)) ∷ tag_value TEXT (rejection_text rejection) ∷ []
+reason_fields (UnsupportedMessageType code) =
+    tag_value REF_MSG_TYPE code ∷ number_field BUSINESS_REJECT_REASON (business_number (UnsupportedMessageType code)) ∷ []
 
--- a BusinessMessageReject: the offer and the text only where they are given
+-- a BusinessMessageReject
 abbrev pub business_fields : BusinessMessageReject → List TagValue
-business_fields m =
-    number_field REF_SEQ_NUM m.ref_seq_num
-    ∷ (optional_field BUSINESS_REJECT_REF_ID (option_map_or (λ offer. Some (decimal offer)) m.ref_id None)
-    ++ tag_value REF_MSG_TYPE m.ref_msg_type.items ∷ number_field BUSINESS_REJECT_REASON (business_number m.reason)
-    ∷ text_fields m.rejection)
+business_fields m = number_field REF_SEQ_NUM m.ref_seq_num ∷ reason_fields m.reason
 
 -- whether a report was taken: 0, or 1 with the kind of the rejection and its text
 abbrev pub report_status : Option Rejection → List TagValue
@@ -78,7 +76,7 @@ report_ack_fields m = tag_value TRADE_REPORT_ID m.trade_report_id ∷ tag_value 
 abbrev pub give_up_status : Option Rejection → List TagValue
 give_up_status None = number_field ALLOC_STATUS (status_number Accepted) ∷ []
 give_up_status (Some rejection) =
-    number_field ALLOC_STATUS (status_number BlockLevelReject) ∷ number_field ALLOC_REJ_CODE 99
+    number_field ALLOC_STATUS (status_number (Rejected BlockLevel)) ∷ number_field ALLOC_REJ_CODE 99
     ∷ tag_value TEXT (rejection_text rejection) ∷ []
 
 -- an AllocationInstructionAck
@@ -103,8 +101,8 @@ report_fields m =
 abbrev pub offer_fields : AllocationReport → List TagValue
 offer_fields m =
     number_field ALLOC_REPORT_ID m.alloc_report_id ∷ number_field ALLOC_TRANS_TYPE 0
-    ∷ number_field ALLOC_REPORT_TYPE (report_type_number m.alloc_report_type)
-    ∷ number_field ALLOC_STATUS (status_number m.alloc_status) ∷ []
+    ∷ number_field ALLOC_REPORT_TYPE (report_type_number (report_type_of m.event))
+    ∷ number_field ALLOC_STATUS (status_number (status_of m.event)) ∷ []
 
 -- the trade that the offer is of
 abbrev pub offered_fields : AllocationReport → List TagValue
@@ -123,11 +121,15 @@ allocation_fields m =
 abbrev pub answer_id : List ℕ → ℕ → List ℕ
 answer_id id place = id ++ 45 ∷ decimal place
 
+-- the ids of an answer to a question: its own, and the question's
+abbrev pub answer_ids : List ℕ → ℕ → List TagValue
+answer_ids id place = tag_value POS_MAINT_RPT_ID (answer_id id place) ∷ tag_value POS_REQ_ID id ∷ []
+
 -- a RequestForPositionsAck
 abbrev pub request_ack_fields : RequestForPositionsAck → List TagValue
 request_ack_fields m =
-    tag_value POS_MAINT_RPT_ID (answer_id m.pos_req_id 0) ∷ tag_value POS_REQ_ID m.pos_req_id
-    ∷ number_field POS_REQ_RESULT (request_result m.outcome) ∷ number_field POS_REQ_STATUS (request_status m.outcome)
+    answer_ids m.pos_req_id 0
+    ++ number_field POS_REQ_RESULT (request_result m.outcome) ∷ number_field POS_REQ_STATUS (request_status m.outcome)
     ∷ number_field TOTAL_NUM_POS_REPORTS (reports_count m.outcome) ∷ tag_value ACCOUNT m.account.name ∷ []
 
 -- the quantities of a position: one of the type TQ, long and short
@@ -139,7 +141,7 @@ quantity_fields m =
 -- a PositionReport
 abbrev pub position_fields : PositionReport → List TagValue
 position_fields m =
-    tag_value POS_MAINT_RPT_ID (answer_id m.pos_req_id m.place) ∷ tag_value POS_REQ_ID m.pos_req_id ∷ number_field POS_REQ_RESULT 0
+    answer_ids m.pos_req_id m.place ++ number_field POS_REQ_RESULT 0
     ∷ tag_value CLEARING_BUSINESS_DATE
     (date_text m.clearing_business_date.year m.clearing_business_date.month m.clearing_business_date.day)
     ∷ tag_value ACCOUNT m.account.name ∷ tag_value SYMBOL m.symbol.name ∷ quantity_fields m

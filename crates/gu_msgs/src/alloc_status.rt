@@ -1,19 +1,22 @@
 //! What became of an allocation.
 
 ghost use Rattle.std.specs.Prelude.{◌≡◌, ◌≢◌, MatchOption};
-ghost use Rattle.gu_msgs.specs.AllocStatuses.{status_number};
+ghost use Rattle.gu_msgs.specs.AllocStatuses.{status_number, status_of};
 ghost use Rattle.gu_msgs.specs.declared.alloc_status.AllocStatus.{AllocStatus as StatusOf};
+
+use gu_terms::{AllocReject, OfferEvent};
 
 /// What became of an allocation (FIX: AllocStatus, tag 87).
 #[derive(Clone, Copy, Debug, PartialEq, Eq)]
 pub enum AllocStatus {
     /// It is taken: the carrying firm claims it.
     Accepted,
-    BlockLevelReject,
-    AccountLevelReject,
-    RejectedByIntermediary,
+    /// It is refused: BlockLevelReject, AccountLevelReject or RejectedByIntermediary.
+    Rejected(AllocReject),
     /// It waits for the carrying firm.
     AllocationPending,
+    /// What was taken on this day is taken back.
+    Reversed,
 }
 
 impl AllocStatus {
@@ -24,11 +27,24 @@ impl AllocStatus {
     {
         match number {
             0 => Some(AllocStatus::Accepted),
-            1 => Some(AllocStatus::BlockLevelReject),
-            2 => Some(AllocStatus::AccountLevelReject),
-            5 => Some(AllocStatus::RejectedByIntermediary),
             6 => Some(AllocStatus::AllocationPending),
-            _ => None,
+            7 => Some(AllocStatus::Reversed),
+            _ => match AllocReject::of(number) {
+                Some(reject) => Some(AllocStatus::Rejected(reject)),
+                None => None,
+            },
+        }
+    }
+
+    /// The status of an offer after an event.
+    pub fn of_event(event: OfferEvent) -> AllocStatus
+        ensures { result ≡ status_of event }
+    {
+        match event {
+            OfferEvent::Offered => AllocStatus::AllocationPending,
+            OfferEvent::Claimed => AllocStatus::Accepted,
+            OfferEvent::Refused(reject) => AllocStatus::Rejected(reject),
+            OfferEvent::Reversed => AllocStatus::Reversed,
         }
     }
 
@@ -38,10 +54,9 @@ impl AllocStatus {
     {
         match self {
             AllocStatus::Accepted => 0,
-            AllocStatus::BlockLevelReject => 1,
-            AllocStatus::AccountLevelReject => 2,
-            AllocStatus::RejectedByIntermediary => 5,
+            AllocStatus::Rejected(reject) => reject.number(),
             AllocStatus::AllocationPending => 6,
+            AllocStatus::Reversed => 7,
         }
     }
 }

@@ -1,10 +1,13 @@
 //! Values that messages write as numbers or words of the house.
 
-ghost use Rattle.std.specs.Prelude.{◌≡◌};
-ghost use Rattle.gu_msgs.specs.CodedValues.{business_number, logout_text, report_type_number, request_result, request_status, reports_count, side_letter};
+ghost use Rattle.std.specs.Prelude.{◌≡◌, IsTrue};
+ghost use Rattle.gu_msgs.specs.CodedValues.{business_number, logout_text, report_type_number, report_type_of, request_result, request_status, reports_count, side_letter};
+ghost use Rattle.gu_msgs.specs.Encodable.{is_plain};
 ghost use Rattle.gu_msgs.specs.Messages.{side_number};
 
-use gu_terms::Side;
+use crate::rejection::Rejection;
+use crate::type_code::TypeCode;
+use gu_terms::{OfferEvent, OfferNo, Side};
 
 /// Why the house ends a session.
 #[derive(Clone, Copy, Debug, PartialEq, Eq)]
@@ -24,7 +27,8 @@ pub enum LogoutReason {
 impl LogoutReason {
     /// Its text.
     pub fn text(self) -> &'static str
-        ensures { result.now ≡ logout_text self }
+        ensures text { result.now ≡ logout_text self }
+        ensures plain { IsTrue (is_plain result.now) }
     {
         match self {
             LogoutReason::BadSeqNum => "BadSeqNum",
@@ -37,20 +41,25 @@ impl LogoutReason {
 }
 
 /// Why a message isn't answered by its own kind (FIX: BusinessRejectReason, tag 380).
-#[derive(Clone, Copy, Debug, PartialEq, Eq)]
+#[derive(Clone, Copy, Debug)]
 pub enum BusinessRejectReason {
-    Other,
-    UnsupportedMessageType,
+    /// What a firm said of an offer (FIX: AllocationReportAck) isn't in the book.
+    Other {
+        offer: OfferNo,
+        rejection: Rejection,
+    },
+    /// Messages of this type aren't read.
+    UnsupportedMessageType(TypeCode),
 }
 
 impl BusinessRejectReason {
     /// Its value on the wire.
-    pub fn number(self) -> u64
-        ensures { result ≡ business_number self }
+    pub fn number(&self) -> u64
+        ensures { result ≡ business_number self.now }
     {
         match self {
-            BusinessRejectReason::Other => 0,
-            BusinessRejectReason::UnsupportedMessageType => 3,
+            BusinessRejectReason::Other { .. } => 0,
+            BusinessRejectReason::UnsupportedMessageType(_) => 3,
         }
     }
 }
@@ -60,13 +69,24 @@ impl BusinessRejectReason {
 pub enum AllocReportType {
     /// An offer goes out.
     RequestToIntermediary,
-    /// Lots of an offer are taken.
+    /// Lots of an offer are taken, or taken back.
     Accept,
     /// An offer is closed.
     Reject,
 }
 
 impl AllocReportType {
+    /// What a report of an event of an offer is for.
+    pub fn of_event(event: OfferEvent) -> AllocReportType
+        ensures { result ≡ report_type_of event }
+    {
+        match event {
+            OfferEvent::Offered => AllocReportType::RequestToIntermediary,
+            OfferEvent::Claimed | OfferEvent::Reversed => AllocReportType::Accept,
+            OfferEvent::Refused(_) => AllocReportType::Reject,
+        }
+    }
+
     /// Its value on the wire.
     pub fn number(self) -> u64
         ensures { result ≡ report_type_number self }

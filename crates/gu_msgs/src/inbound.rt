@@ -1,19 +1,13 @@
 //! Messages that are read, each with what it says.
 
 use crate::alloc_status::AllocStatus;
-use gu_terms::{AccountId, Day, Id, Lots, OfferNo, Price, Side, Symbol};
-
-/// A heartbeat (FIX: Heartbeat, MsgType 0).
-#[derive(Drop)]
-pub struct Heartbeat {
-    /// The id of the TestRequest that it answers.
-    pub test_req_id: Option<Vec<u8>>,
-}
+use crate::test_req_id::TestReqId;
+use gu_terms::{AccountId, Day, Id, Lines, Lots, OfferNo, Price, Side, Symbol};
 
 /// A question whether the session is alive (FIX: TestRequest, MsgType 1).
 #[derive(Drop)]
 pub struct TestRequest {
-    pub test_req_id: Vec<u8>,
+    pub test_req_id: TestReqId,
 }
 
 /// A request for messages once more (FIX: ResendRequest, MsgType 2).
@@ -53,21 +47,13 @@ pub struct TradeCaptureReport {
     pub account: AccountId,
 }
 
-/// A part of a give-up, for one account.
-#[derive(Clone, Copy)]
-pub struct Alloc {
-    pub account: AccountId,
-    pub quantity: Lots,
-}
-
-/// A give-up of a trade that was reported (FIX: AllocationInstruction, MsgType J).
+/// A give-up of a trade that was reported (FIX: AllocationInstruction, MsgType J). Its quantity is the sum of its lines.
 #[derive(Drop)]
 pub struct AllocationInstruction {
     pub alloc_id: Id,
-    pub quantity: Lots,
     /// The id of the report.
     pub exec_id: Id,
-    pub allocs: Vec<Alloc>,
+    pub lines: Lines,
 }
 
 /// What the carrying firm says to an offer (FIX: AllocationReportAck, MsgType AT).
@@ -78,7 +64,7 @@ pub struct AllocationReportAck {
 }
 
 /// A question for the positions of an account (FIX: RequestForPositions, MsgType AN).
-#[derive(Clone, Copy)]
+#[derive(Clone, Copy, Debug)]
 pub struct RequestForPositions {
     pub pos_req_id: Id,
     pub account: AccountId,
@@ -87,11 +73,14 @@ pub struct RequestForPositions {
 /// A message that is read, by its type.
 #[derive(Drop)]
 pub enum Inbound {
-    Heartbeat(Heartbeat),
+    /// A heartbeat (FIX: Heartbeat, MsgType 0). The id of the TestRequest that it answers isn't told.
+    Heartbeat,
     TestRequest(TestRequest),
     ResendRequest(ResendRequest),
+    /// A malformed or misplaced message of the house's (FIX: Reject, MsgType 3).
     Reject,
     SequenceReset(SequenceReset),
+    /// The end of the session (FIX: Logout, MsgType 5).
     Logout,
     Logon(Logon),
     TradeCaptureReport(TradeCaptureReport),

@@ -7,11 +7,9 @@ ghost use Rattle.gu_msgs.specs.declared.row.Kind.TheVariants as kind;
 use crate::alloc_status::AllocStatus;
 use crate::reject_reason::SessionRejectReason;
 use crate::row::Kind;
+use crate::test_req_id::is_test_req_id;
 use crate::whole_number::{is_numeral, number_of};
 use gu_terms::{Day, FirmId, Id, NumberError, read_lots, read_price};
-
-/// The bytes that the id of a TestRequest has at most.
-const LONGEST_TEXT: usize = 1024;
 
 /// Whether a text is `Y` or `N`.
 fn is_yes_or_no(text: &[u8]) -> bool
@@ -105,7 +103,7 @@ pub fn text_fault(kind: Kind, text: &[u8]) -> Option<SessionRejectReason>
         Kind::Number(least, most) => number_fault(text, least, most),
         Kind::Status => status_fault(text),
         Kind::Text => None,
-        Kind::ShortText => unless(text.len() <= LONGEST_TEXT),
+        Kind::TestReqId => unless(is_test_req_id(text)),
         Kind::YesOrNo => unless(is_yes_or_no(text)),
         Kind::Id => unless(Id::new(text).is_some()),
         Kind::Name => unless(FirmId::new(text).is_some()),

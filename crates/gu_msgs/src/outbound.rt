@@ -1,32 +1,32 @@
 //! Messages that are written, each with what it says.
 
-use crate::alloc_status::AllocStatus;
-use crate::coded_values::{AllocReportType, BusinessRejectReason, LogoutReason, PosReqResult};
+use crate::coded_values::{BusinessRejectReason, LogoutReason, PosReqResult};
 use crate::reject_reason::SessionRejectReason;
 use crate::rejection::Rejection;
-use gu_terms::{AccountId, Day, FirmId, Id, Lots, Moment, OfferNo, Price, Side, Symbol};
+use crate::test_req_id::TestReqId;
+use crate::type_code::TypeCode;
+use gu_terms::{
+    AccountId, Day, FirmId, Id, Lots, Moment, OfferEvent, OfferNo, Price, Side, Symbol,
+};
 
 /// A malformed or misplaced message (FIX: Reject, MsgType 3).
-#[derive(Drop)]
+#[derive(Clone, Copy)]
 pub struct Reject {
     /// The number of the message.
     pub ref_seq_num: u64,
     /// The tag at fault, or 0 where none can be read.
     pub ref_tag_id: u32,
-    /// The type of the message, where it has one; it is named if it has the form of a type.
-    pub ref_msg_type: Option<Vec<u8>>,
+    /// The type of the message, where it has the form of one.
+    pub ref_msg_type: Option<TypeCode>,
     pub reason: SessionRejectReason,
 }
 
 /// A message that its own kind doesn't answer (FIX: BusinessMessageReject, MsgType j).
-#[derive(Drop)]
+#[derive(Clone, Copy)]
 pub struct BusinessMessageReject {
+    /// The number of the message.
     pub ref_seq_num: u64,
-    /// The offer that was spoken of.
-    pub ref_id: Option<OfferNo>,
-    pub ref_msg_type: Vec<u8>,
     pub reason: BusinessRejectReason,
-    pub rejection: Option<Rejection>,
 }
 
 /// The answer to a report (FIX: TradeCaptureReportAck, MsgType AR).
@@ -64,8 +64,7 @@ pub struct TradeCaptureReport {
 #[derive(Clone, Copy)]
 pub struct AllocationReport {
     pub alloc_report_id: OfferNo,
-    pub alloc_report_type: AllocReportType,
-    pub alloc_status: AllocStatus,
+    pub event: OfferEvent,
     pub symbol: Symbol,
     pub side: Side,
     pub quantity: Lots,
@@ -103,7 +102,7 @@ pub enum Body {
         resets_seq_num: bool,
     },
     /// With the id of the TestRequest that it answers.
-    Heartbeat(Option<Vec<u8>>),
+    Heartbeat(Option<TestReqId>),
     TestRequest,
     /// From this number on.
     ResendRequest(u64),

@@ -18,7 +18,7 @@ use crate::reject_reason::SessionRejectReason;
 use crate::request_for_positions::read_request_for_positions;
 use crate::run::Run;
 use crate::session_messages::{
-    read_heartbeat, read_logon, read_resend_request, read_sequence_reset, read_test_request,
+    read_logon, read_resend_request, read_sequence_reset, read_test_request,
 };
 use crate::shape::{fault_at, repeated, shape_fault};
 use crate::tables::header_rows;
@@ -33,7 +33,7 @@ fn read_well_made(alloc: Global, fields: &Run<'_>, msg_type: MsgType) -> Result<
     ensures { MatchResult result (Says fields.now) (IsDisagreed msg_type fields.now) }
 {
     match msg_type {
-        MsgType::Heartbeat => read_heartbeat(alloc, fields),
+        MsgType::Heartbeat => Ok(Inbound::Heartbeat),
         MsgType::TestRequest => read_test_request(alloc, fields),
         MsgType::ResendRequest => read_resend_request(fields),
         MsgType::Reject => Ok(Inbound::Reject),

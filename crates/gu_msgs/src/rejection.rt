@@ -1,7 +1,7 @@
 //! Why what a firm asked for isn't in the book.
 
 ghost use Rattle.std.specs.Prelude.{◌≡◌};
-ghost use Rattle.gu_msgs.specs.Rejections.{reason_number, reason_of, rejection_text};
+ghost use Rattle.gu_msgs.specs.Rejections.{reason_number, reason_of};
 
 use gu_terms::Refusal;
 
@@ -39,8 +39,8 @@ impl TradeReportRejectReason {
 
 impl Rejection {
     /// Its kind.
-    pub fn reason(self) -> TradeReportRejectReason
-        ensures { result ≡ reason_of self }
+    pub fn reason(&self) -> TradeReportRejectReason
+        ensures { result ≡ reason_of self.now }
     {
         match self {
             Rejection::Refused(Refusal::UnknownInstrument) => {
@@ -52,17 +52,6 @@ impl Rejection {
             Rejection::Refused(_) | Rejection::Memory | Rejection::Full => {
                 TradeReportRejectReason::Other
             }
-        }
-    }
-
-    /// Its text.
-    pub fn text(self) -> &'static str
-        ensures { result.now ≡ rejection_text self }
-    {
-        match self {
-            Rejection::Refused(refusal) => refusal.name(),
-            Rejection::Memory => "Memory",
-            Rejection::Full => "Full",
         }
     }
 }

@@ -8,8 +8,8 @@ ghost use Rattle.gu_msgs.specs.Rows.{tag_of, kind_of, is_required};
 pub enum Kind {
     /// Any bytes.
     Text,
-    /// At most 1,024 bytes.
-    ShortText,
+    /// The id of a TestRequest.
+    TestReqId,
     /// `Y` or `N`.
     YesOrNo,
     /// An id of a firm's own.

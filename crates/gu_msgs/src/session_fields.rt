@@ -1,84 +1,83 @@
 //! What messages of the session say, as fields.
 
-ghost use Rattle.std.specs.Prelude.{◌≡◌, ◌++◌, None, OnOk, Some};
-ghost use Rattle.std.specs.Option.{option_map_or};
-ghost use Rattle.gu_msgs.specs.WrittenBodies.{business_fields, logon_fields, named_type, reject_fields, text_fields};
+ghost use Rattle.std.specs.Prelude.{◌≡◌, ◌++◌, OnOk};
+ghost use Rattle.gu_msgs.specs.WrittenBodies.{business_fields, logon_fields, optional_field, reason_fields, reject_fields};
 
-use crate::field_texts::push_number;
-use crate::msg_type::is_type_text;
+use crate::coded_values::BusinessRejectReason;
+use crate::draft::Draft;
 use crate::outbound::{BusinessMessageReject, Reject};
-use crate::rejection::Rejection;
 use crate::tags::{
     BUSINESS_REJECT_REASON, BUSINESS_REJECT_REF_ID, DEFAULT_APPL_VER_ID, ENCRYPT_METHOD,
     HEART_BT_INT, REF_MSG_TYPE, REF_SEQ_NUM, REF_TAG_ID, RESET_SEQ_NUM_FLAG, SESSION_REJECT_REASON,
-    TEXT,
 };
-use gu_fix::Fields;
+use crate::type_code::TypeCode;
 use std::alloc::AllocError;
 
 /// Appends what a Logon says.
 pub fn push_logon(
-    fields: &mut Fields,
+    draft: &mut Draft,
     heart_bt_int: u64,
     resets_seq_num: bool,
 ) -> Result<(), AllocError>
-    ensures { OnOk result (fields.new ≡ fields.old ++ logon_fields heart_bt_int resets_seq_num) }
+    ensures { OnOk result (draft.new ≡ draft.old ++ logon_fields heart_bt_int resets_seq_num) }
 {
-    push_number(fields, ENCRYPT_METHOD, 0)?;
-    push_number(fields, HEART_BT_INT, heart_bt_int)?;
-    push_number(fields, DEFAULT_APPL_VER_ID, 9)?;
+    draft.push_number(ENCRYPT_METHOD, 0)?;
+    draft.push_number(HEART_BT_INT, heart_bt_int)?;
+    draft.push_number(DEFAULT_APPL_VER_ID, 9)?;
     if resets_seq_num {
-        fields.push(RESET_SEQ_NUM_FLAG, b"Y")?;
+        draft.push(RESET_SEQ_NUM_FLAG, b"Y")?;
     }
     Ok(())
 }
 
-/// Appends the type of a message that is rejected, where it has the form of one.
-fn push_named_type(fields: &mut Fields, msg_type: &Option<Vec<u8>>) -> Result<(), AllocError>
-    ensures { OnOk result (fields.new ≡ fields.old ++ named_type (option_map_or (λ bytes. Some bytes.items) msg_type.now None)) }
+/// Appends the type of a message that is rejected, where it is known.
+fn push_type(draft: &mut Draft, msg_type: &Option<TypeCode>) -> Result<(), AllocError>
+    ensures { OnOk result (draft.new ≡ draft.old ++ optional_field REF_MSG_TYPE msg_type.now) }
 {
-    if let Some(text) = msg_type {
-        if is_type_text(text) {
-            fields.push(REF_MSG_TYPE, text)?;
-        }
+    match msg_type {
+        Some(code) => draft.push(REF_MSG_TYPE, code.get()),
+        None => Ok(()),
     }
-    Ok(())
 }
 
 /// Appends what a Reject says.
-pub fn push_reject(fields: &mut Fields, message: &Reject) -> Result<(), AllocError>
-    ensures { OnOk result (fields.new ≡ fields.old ++ reject_fields message.now) }
+pub fn push_reject(draft: &mut Draft, message: &Reject) -> Result<(), AllocError>
+    ensures { OnOk result (draft.new ≡ draft.old ++ reject_fields message.now) }
 {
-    push_number(fields, REF_SEQ_NUM, message.ref_seq_num)?;
+    draft.push_number(REF_SEQ_NUM, message.ref_seq_num)?;
     if message.ref_tag_id != 0 {
-        push_number(fields, REF_TAG_ID, u64::from(message.ref_tag_id))?;
+        draft.push_number(REF_TAG_ID, u64::from(message.ref_tag_id))?;
     }
-    push_named_type(fields, &message.ref_msg_type)?;
-    push_number(fields, SESSION_REJECT_REASON, message.reason.number())
+    push_type(draft, &message.ref_msg_type)?;
+    draft.push_number(SESSION_REJECT_REASON, message.reason.number())
 }
 
-/// Appends why something was rejected.
-fn push_text(fields: &mut Fields, rejection: Option<Rejection>) -> Result<(), AllocError>
-    ensures { OnOk result (fields.new ≡ fields.old ++ text_fields rejection) }
+/// Appends why a message isn't answered by its own kind.
+fn push_reason(draft: &mut Draft, reason: &BusinessRejectReason) -> Result<(), AllocError>
+    ensures { OnOk result (draft.new ≡ draft.old ++ reason_fields reason.now) }
 {
-    match rejection {
-        Some(rejection) => fields.push(TEXT, rejection.text().as_bytes()),
-        None => Ok(()),
+    let number = reason.number();
+    match reason {
+        BusinessRejectReason::Other { offer, rejection } => {
+            draft.push_number(BUSINESS_REJECT_REF_ID, offer.get())?;
+            draft.push(REF_MSG_TYPE, b"AT")?;
+            draft.push_number(BUSINESS_REJECT_REASON, number)?;
+            draft.push_rejection(rejection)
+        }
+        BusinessRejectReason::UnsupportedMessageType(code) => {
+            draft.push(REF_MSG_TYPE, code.get())?;
+            draft.push_number(BUSINESS_REJECT_REASON, number)
+        }
     }
 }
 
 /// Appends what a BusinessMessageReject says.
 pub fn push_business_reject(
-    fields: &mut Fields,
+    draft: &mut Draft,
     message: &BusinessMessageReject,
 ) -> Result<(), AllocError>
-    ensures { OnOk result (fields.new ≡ fields.old ++ business_fields message.now) }
+    ensures { OnOk result (draft.new ≡ draft.old ++ business_fields message.now) }
 {
-    push_number(fields, REF_SEQ_NUM, message.ref_seq_num)?;
-    if let Some(offer) = message.ref_id {
-        push_number(fields, BUSINESS_REJECT_REF_ID, offer.get())?;
-    }
-    fields.push(REF_MSG_TYPE, &message.ref_msg_type)?;
-    push_number(fields, BUSINESS_REJECT_REASON, message.reason.number())?;
-    push_text(fields, message.rejection)
+    draft.push_number(REF_SEQ_NUM, message.ref_seq_num)?;
+    push_reason(draft, &message.reason)
 }

@@ -7,7 +7,7 @@ ghost use Rattle.gu_msgs.specs.Tables.{body_rows};
 ghost use Rattle.gu_msgs.specs.declared.msg_type.MsgType.TheVariants as kind;
 
 use crate::fault::MsgFault;
-use crate::inbound::{Heartbeat, Inbound, Logon, ResendRequest, SequenceReset, TestRequest};
+use crate::inbound::{Inbound, Logon, ResendRequest, SequenceReset, TestRequest};
 use crate::reject_reason::SessionRejectReason;
 use crate::run::Run;
 use crate::shape::fault_at;
@@ -15,22 +15,14 @@ use crate::tags::{
     BEGIN_SEQ_NO, END_SEQ_NO, GAP_FILL_FLAG, HEART_BT_INT, NEW_SEQ_NO, RESET_SEQ_NUM_FLAG,
     TEST_REQ_ID,
 };
-use crate::typed_values::{bytes_at, is_set, number_at, optional_bytes_at};
+use crate::typed_values::{is_set, number_at, test_req_id_at};
 use std::alloc::Global;
-
-pub fn read_heartbeat(alloc: Global, fields: &Run<'_>) -> Result<Inbound, MsgFault>
-    requires { IsWellMade kind.Heartbeat fields.now }
-    ensures { MatchResult result (Says fields.now) (IsDisagreed kind.Heartbeat fields.now) }
-{
-    let test_req_id = optional_bytes_at(alloc, fields, TEST_REQ_ID)?;
-    Ok(Inbound::Heartbeat(Heartbeat { test_req_id }))
-}
 
 pub fn read_test_request(alloc: Global, fields: &Run<'_>) -> Result<Inbound, MsgFault>
     requires { IsWellMade kind.TestRequest fields.now }
     ensures { MatchResult result (Says fields.now) (IsDisagreed kind.TestRequest fields.now) }
 {
-    let test_req_id = bytes_at(alloc, fields, TEST_REQ_ID)?;
+    let test_req_id = test_req_id_at(alloc, fields, TEST_REQ_ID)?;
     Ok(Inbound::TestRequest(TestRequest { test_req_id }))
 }
 

@@ -5,7 +5,7 @@ ghost use Rattle.gu_msgs.specs.Rows.{is_listed};
 ghost use Rattle.gu_msgs.specs.Tables.{body_rows, entry_rows, header_rows};
 
 use crate::msg_type::MsgType;
-use crate::row::Kind::{Date, Id, Lots, Name, Number, Price, ShortText, Status, Text, YesOrNo};
+use crate::row::Kind::{Date, Id, Lots, Name, Number, Price, Status, TestReqId, Text, YesOrNo};
 use crate::row::Row;
 use crate::row::Row::{Optional, Required};
 use crate::tags::{
@@ -36,7 +36,7 @@ const HEADER: [Row; 10] = [
 
 const HEARTBEAT: [Row; 1] = [Optional(TEST_REQ_ID, Text)];
 
-const TEST_REQUEST: [Row; 1] = [Required(TEST_REQ_ID, ShortText)];
+const TEST_REQUEST: [Row; 1] = [Required(TEST_REQ_ID, TestReqId)];
 
 const RESEND_REQUEST: [Row; 2] = [
     Required(BEGIN_SEQ_NO, Number(1, GREATEST)),

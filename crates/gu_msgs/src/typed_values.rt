@@ -1,7 +1,6 @@
 //! Values of fields that are known to be sound, by their types.
 
 ghost use Rattle.std.specs.Prelude.{◌≡◌, Some, None, IfOk, IsTrue, ⊤};
-ghost use Rattle.std.specs.Option.{option_map};
 ghost use Rattle.gu_terms.specs.NumberText.{MeansLots, MeansPrice};
 ghost use Rattle.gu_msgs.specs.Agreement.{number_at};
 ghost use Rattle.gu_msgs.specs.AllocStatuses.{status_number};
@@ -13,6 +12,7 @@ ghost use Rattle.gu_msgs.specs.declared.row.Kind.TheVariants as kind;
 use crate::alloc_status::AllocStatus;
 use crate::field_values::first_value;
 use crate::run::Run;
+use crate::test_req_id::TestReqId;
 use crate::whole_number::number_of;
 use gu_terms::{AccountId, Day, Id, Lots, OfferNo, Price, Side, Symbol, read_lots, read_price};
 use std::alloc::{AllocError, Global};
@@ -28,26 +28,15 @@ fn text_at<'a>(fields: &Run<'a>, tag: u32) -> &'a [u8]
     text
 }
 
-/// The bytes of a tag that stands.
-pub fn bytes_at(alloc: Global, fields: &Run<'_>, tag: u32) -> Result<Vec<u8>, AllocError>
-    requires { IsTrue (stands tag fields.now) }
-    ensures { IfOk result (λ bytes. first_value tag fields.now ≡ Some bytes.items) }
+/// The id of a TestRequest that a tag holds.
+pub fn test_req_id_at(alloc: Global, fields: &Run<'_>, tag: u32) -> Result<TestReqId, AllocError>
+    requires { Holds tag (IsSound kind.TestReqId) fields.now }
+    ensures { IfOk result (λ id. first_value tag fields.now ≡ Some id) }
 {
-    Vec::from_slice(alloc, text_at(fields, tag))
-}
-
-/// The bytes of a tag, where it stands.
-pub fn optional_bytes_at(
-    alloc: Global,
-    fields: &Run<'_>,
-    tag: u32,
-) -> Result<Option<Vec<u8>>, AllocError>
-    ensures { IfOk result (λ bytes. option_map (λ b. b.items) bytes ≡ first_value tag fields.now) }
-{
-    match first_value(fields, tag) {
-        Some(text) => Ok(Some(Vec::from_slice(alloc, text)?)),
-        None => Ok(None),
-    }
+    let Some(id) = TestReqId::new(alloc, text_at(fields, tag))? else {
+        unreachable!();
+    };
+    Ok(id)
 }
 
 /// The id that a tag holds.

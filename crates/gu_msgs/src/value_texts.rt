@@ -2,6 +2,7 @@
 
 ghost use Rattle.std.specs.Prelude.{◌≡◌, ◌≤◌, ◌<◌, ◌++◌, pos, codes, IfOk, OnOk};
 ghost use Rattle.std.specs.Fmt.{decimal};
+ghost use Rattle.gu_terms.specs.Numbers.{IsPrice};
 ghost use Rattle.gu_fix.specs.WholeMessage.{three_digits};
 ghost use Rattle.jiff_core.specs.Date.{epoch_day};
 ghost use Rattle.gu_msgs.specs.ValueTexts.{WritesDateAfter, WritesMoment, date_text, fraction_text, price_text, six_digits, time_text, trimmed_digits, two_digits};
@@ -13,6 +14,9 @@ use std::alloc::{AllocError, Global};
 
 /// The millionths of a unit.
 const UNIT: u64 = 1_000_000;
+
+/// The bytes that a price has at most: `-`, nine digits, a point and six digits.
+const LONGEST_PRICE: usize = 17;
 
 /// The milliseconds of a day.
 const DAY: u64 = 86_400_000;
@@ -82,9 +86,10 @@ pub fn push_decimal(text: &mut Vec<u8>, number: u64) -> Result<(), AllocError>
 /// A price.
 #[tactic(auto, unfolding(crate::specs::ValueTexts::price_text))]
 pub fn price_text(alloc: Global, price: Price) -> Result<Vec<u8>, AllocError>
-    ensures { IfOk result (λ text. text.items ≡ price_text price) }
+    ensures text { IfOk result (λ text. text.items ≡ price_text price) }
+    ensures sound { IsPrice price }
 {
-    let mut text = Vec::new(alloc);
+    let mut text = Vec::with_capacity(alloc, LONGEST_PRICE)?;
     let number = price.get();
     if number < 0 {
         text.push(b'-')?;

@@ -1,16 +1,18 @@
 //! Fields from messages.
 
-ghost use Rattle.std.specs.Prelude.{◌≡◌, ◌∷◌, ◌++◌, [], List, None, IfOk, OnOk, codes};
-ghost use Rattle.gu_fix.specs.Encoding.{fault_of};
+ghost use Rattle.std.specs.Prelude.{◌≡◌, ◌∷◌, ◌++◌, [], List, None, IfOk, IsTrue, OnOk, codes};
+ghost use Rattle.gu_fix.specs.Encoding.{fault_of, fields_of_message, message_of};
+ghost use Rattle.gu_fix.specs.Fields.{HasFields};
 ghost use Rattle.gu_fix.specs.TagValue.{TagValue, tag_value};
-ghost use Rattle.gu_msgs.specs.Encodable.{HasAckIds, IsSoundMessage};
+ghost use Rattle.gu_fix.specs.WholeMessage.{IsWhole};
+ghost use Rattle.gu_msgs.specs.Encodable.{ArePlain, is_plain};
 ghost use Rattle.gu_msgs.specs.WrittenBodies.{number_field};
-ghost use Rattle.gu_msgs.specs.Written.{AnswersReport, IsWritten, MarksResend, body_code, body_fields};
+ghost use Rattle.gu_msgs.specs.Written.{IsWritten, MarksResend, body_code, body_fields};
 
 use crate::answer_fields::{
     push_instruction_ack, push_position, push_report_ack, push_request_ack,
 };
-use crate::field_texts::push_number;
+use crate::draft::Draft;
 use crate::notice_fields::{push_allocation, push_report};
 use crate::outbound::{Body, Outbound};
 use crate::session_fields::{push_business_reject, push_logon, push_reject};
@@ -18,7 +20,6 @@ use crate::tags::{
     BEGIN_SEQ_NO, END_SEQ_NO, GAP_FILL_FLAG, MSG_SEQ_NUM, NEW_SEQ_NO, ORIG_SENDING_TIME,
     POSS_DUP_FLAG, SENDER_COMP_ID, SENDING_TIME, TARGET_COMP_ID, TEST_REQ_ID, TEXT,
 };
-use crate::value_texts::moment_text;
 use gu_fix::{Fields, MSG_TYPE};
 use gu_terms::Moment;
 use std::alloc::{AllocError, Global};
@@ -29,7 +30,8 @@ const HOUSE: &[u8] = b"GIVEUP";
 impl Body {
     /// The code of its type.
     fn code(&self) -> &'static str
-        ensures { result.now ≡ body_code self.now }
+        ensures code { result.now ≡ body_code self.now }
+        ensures plain { IsTrue (is_plain result.now) }
     {
         match self {
             Body::Logon { .. } => "A",
@@ -51,79 +53,80 @@ impl Body {
 }
 
 /// Appends a request for all messages from a number on.
-fn push_resend_request(fields: &mut Fields, from: u64) -> Result<(), AllocError>
-    ensures { OnOk result (fields.new ≡ fields.old ++ number_field BEGIN_SEQ_NO from ∷ number_field END_SEQ_NO 0 ∷ []) }
+fn push_resend_request(draft: &mut Draft, from: u64) -> Result<(), AllocError>
+    ensures { OnOk result (draft.new ≡ draft.old ++ number_field BEGIN_SEQ_NO from ∷ number_field END_SEQ_NO 0 ∷ []) }
 {
-    push_number(fields, BEGIN_SEQ_NO, from)?;
-    push_number(fields, END_SEQ_NO, 0)
+    draft.push_number(BEGIN_SEQ_NO, from)?;
+    draft.push_number(END_SEQ_NO, 0)
 }
 
 /// Appends what stands for messages up to a number.
-fn push_gap_fill(fields: &mut Fields, to: u64) -> Result<(), AllocError>
-    ensures { OnOk result (fields.new ≡ fields.old ++ tag_value GAP_FILL_FLAG (codes "Y") ∷ number_field NEW_SEQ_NO to ∷ []) }
+fn push_gap_fill(draft: &mut Draft, to: u64) -> Result<(), AllocError>
+    ensures { OnOk result (draft.new ≡ draft.old ++ tag_value GAP_FILL_FLAG (codes "Y") ∷ number_field NEW_SEQ_NO to ∷ []) }
 {
-    fields.push(GAP_FILL_FLAG, b"Y")?;
-    push_number(fields, NEW_SEQ_NO, to)
+    draft.push(GAP_FILL_FLAG, b"Y")?;
+    draft.push_number(NEW_SEQ_NO, to)
 }
 
 /// Appends what a message says.
-fn push_body(alloc: Global, fields: &mut Fields, body: &Body) -> Result<(), AllocError>
-    ensures fields { OnOk result (fields.new ≡ fields.old ++ body_fields body.now) }
-    ensures ids { OnOk result (HasAckIds body.now) }
+fn push_body(draft: &mut Draft, body: &Body) -> Result<(), AllocError>
+    ensures { OnOk result (draft.new ≡ draft.old ++ body_fields body.now) }
 {
     match body {
         Body::Logon {
             heart_bt_int,
             resets_seq_num,
-        } => push_logon(fields, *heart_bt_int, *resets_seq_num),
-        Body::Heartbeat(Some(id)) => fields.push(TEST_REQ_ID, id),
+        } => push_logon(draft, *heart_bt_int, *resets_seq_num),
+        Body::Heartbeat(Some(id)) => draft.push(TEST_REQ_ID, id.get()),
         Body::Heartbeat(None) | Body::Logout(None) => Ok(()),
-        Body::TestRequest => fields.push(TEST_REQ_ID, b"TEST"),
-        Body::ResendRequest(from) => push_resend_request(fields, *from),
-        Body::Reject(message) => push_reject(fields, message),
-        Body::SequenceReset(to) => push_gap_fill(fields, *to),
-        Body::Logout(Some(reason)) => fields.push(TEXT, reason.text().as_bytes()),
-        Body::BusinessMessageReject(message) => push_business_reject(fields, message),
-        Body::TradeCaptureReportAck(message) => push_report_ack(fields, message),
-        Body::AllocationInstructionAck(message) => push_instruction_ack(fields, message),
-        Body::TradeCaptureReport(message) => push_report(alloc, fields, message),
-        Body::AllocationReport(message) => push_allocation(alloc, fields, message),
-        Body::RequestForPositionsAck(message) => push_request_ack(alloc, fields, message),
-        Body::PositionReport(message) => push_position(alloc, fields, message),
+        Body::TestRequest => draft.push(TEST_REQ_ID, b"TEST"),
+        Body::ResendRequest(from) => push_resend_request(draft, *from),
+        Body::Reject(message) => push_reject(draft, message),
+        Body::SequenceReset(to) => push_gap_fill(draft, *to),
+        Body::Logout(Some(reason)) => draft.push(TEXT, reason.text().as_bytes()),
+        Body::BusinessMessageReject(message) => push_business_reject(draft, message),
+        Body::TradeCaptureReportAck(message) => push_report_ack(draft, message),
+        Body::AllocationInstructionAck(message) => push_instruction_ack(draft, message),
+        Body::TradeCaptureReport(message) => push_report(draft, message),
+        Body::AllocationReport(message) => push_allocation(draft, message),
+        Body::RequestForPositionsAck(message) => push_request_ack(draft, message),
+        Body::PositionReport(message) => push_position(draft, message),
     }
 }
 
 /// Appends the marks of a message that is sent again.
-fn push_marks(fields: &mut Fields, first: Option<Moment>) -> Result<(), AllocError>
-    ensures { OnOk result ((marks : List TagValue) × MarksResend first marks × (fields.new ≡ fields.old ++ marks)) }
+fn push_marks(draft: &mut Draft, first: Option<Moment>) -> Result<(), AllocError>
+    ensures { OnOk result ((marks : List TagValue) × MarksResend first marks × (draft.new ≡ draft.old ++ marks)) }
 {
     if let Some(moment) = first {
-        fields.push(POSS_DUP_FLAG, b"Y")?;
-        fields.push(ORIG_SENDING_TIME, &moment_text(moment))?;
+        draft.push(POSS_DUP_FLAG, b"Y")?;
+        draft.push_moment(ORIG_SENDING_TIME, moment)?;
     }
     Ok(())
 }
 
-/// The fields of a message, in order.
+/// The fields of a message, in order, each with a value that can be encoded.
 fn fields_of(alloc: Global, message: &Outbound) -> Result<Fields, AllocError>
     ensures written { IfOk result (λ fields. IsWritten message.now fields) }
-    ensures sound { OnOk result (IsSoundMessage message.now) }
+    ensures plain { IfOk result ArePlain }
 {
-    let mut fields = Fields::new(alloc);
-    fields.push(MSG_TYPE, message.body.code().as_bytes())?;
-    fields.push(SENDER_COMP_ID, HOUSE)?;
-    fields.push(TARGET_COMP_ID, message.firm.get())?;
-    push_number(&mut fields, MSG_SEQ_NUM, message.msg_seq_num)?;
-    fields.push(SENDING_TIME, &moment_text(message.sending_time))?;
-    push_marks(&mut fields, message.orig_sending_time)?;
-    push_body(alloc, &mut fields, &message.body)?;
-    Ok(fields)
+    let mut draft = Draft::new(alloc)?;
+    draft.push(MSG_TYPE, message.body.code().as_bytes())?;
+    draft.push(SENDER_COMP_ID, HOUSE)?;
+    draft.push_name(TARGET_COMP_ID, message.firm.get())?;
+    draft.push_number(MSG_SEQ_NUM, message.msg_seq_num)?;
+    draft.push_moment(SENDING_TIME, message.sending_time)?;
+    push_marks(&mut draft, message.orig_sending_time)?;
+    push_body(&mut draft, &message.body)?;
+    Ok(draft.into_fields())
 }
 
-/// The fields of a message. Those of the acknowledgement of a report can always be encoded.
+/// The fields of a message. They can be encoded as a whole message, of 65,536 bytes at most, and are read back.
 pub fn write(alloc: Global, message: &Outbound) -> Result<Fields, AllocError>
     ensures written { IfOk result (λ fields. IsWritten message.now fields) }
-    ensures encodable { AnswersReport message.now.body → IfOk result (λ fields. fault_of fields ≡ None) }
+    ensures encodable { IfOk result (λ fields. fault_of fields ≡ None) }
+    ensures whole { IfOk result (λ fields. IsWhole (message_of fields)) }
+    ensures read_back { IfOk result (λ fields. HasFields (message_of fields) (fields_of_message fields) None) }
 {
     fields_of(alloc, message)
 }

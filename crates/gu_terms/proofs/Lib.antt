@@ -7,3 +7,4 @@ pub mod NameTests
 pub mod NumberLemmas
 pub mod Placed
 pub mod SameValues
+pub mod RefusalTexts

@@ -1,5 +1,6 @@
 -- Why a command is refused: each refusal's number, its name and its text.
-use Rattle.std.specs.Prelude.{ℕ, ◌++◌, ◌∷◌, List, Option, None, Some, codes}
+use Rattle.std.specs.Prelude.{ℕ, Bool, ◌≤◌, ◌&&◌, nat_le, ◌++◌, ◌∷◌, List, length, Option, None, Some, codes}
+use Rattle.std.specs.List.{AllPass}
 use Rattle.std.specs.Option.{option_map_or}
 use Rattle.gu_terms.specs.LimitKeys.{kind_of, name_of_key}
 use Rattle.gu_terms.specs.declared.limit_key.LimitKey.{LimitKey}
@@ -62,3 +63,13 @@ key_in _ = None
 -- its text in a reply: its name, and behind it the key that it names
 abbrev pub text_of : Refusal → List ℕ
 text_of refusal = option_map_or (named_with_key (name_of refusal)) (key_in refusal) (name_of refusal)
+
+-- a byte of printed ASCII, the blank among them
+abbrev pub is_printed_byte : ℕ → Bool
+is_printed_byte b = nat_le 32 b && nat_le b 126
+
+-- one to forty-eight such bytes
+pub record IsRefusalText (text : List ℕ) : Type 0 where
+  pub some : 1 ≤ length text
+  pub most : length text ≤ 48
+  pub each : AllPass is_printed_byte text

@@ -59,6 +59,7 @@ pub use notice::{Notice, Notices, OfferEvent, OfferNotice};
 pub use number_text::{NumberError, are_digits, value_of};
 pub use offer::Offer;
 pub use offer_no::OfferNo;
+pub use padded::Padded;
 pub use path::Path;
 pub use price::{Price, read_price};
 pub use query::{PositionRow, PositionRows, Query};

@@ -2,6 +2,7 @@
 
 ghost use Rattle.std.specs.Prelude.{◌≡◌, ◌↔◌, IsTrue};
 ghost use Rattle.gu_terms.specs.LimitKeys.{key_eq, key_of, kind_of, name_of_key};
+ghost use Rattle.gu_terms.specs.Names.{IsName};
 
 use crate::account::AccountId;
 use crate::agreement::AgreementId;
@@ -55,7 +56,8 @@ impl LimitKey {
 
     /// The name of the firm, the agreement or the account.
     pub fn name(&self) -> &[u8]
-        ensures { result.now ≡ name_of_key self.now }
+        ensures name { result.now ≡ name_of_key self.now }
+        ensures sound { IsName (name_of_key self.now) }
     {
         match self {
             LimitKey::Exec(firm) | LimitKey::Carry(firm) | LimitKey::Guar(firm) => firm.get(),

@@ -12,7 +12,7 @@ use std::marker::Model;
 
 /// A text of at most `N` bytes, with zeros behind it. To a contract it is the text.
 #[derive(Clone, Copy, Debug)]
-pub(crate) struct Padded<const N: usize> {
+pub struct Padded<const N: usize> {
     bytes: [u8; N],
     len: u8,
 }
@@ -35,7 +35,7 @@ impl<const N: usize> Model for Padded<N> {
 
 impl<const N: usize> Padded<N> {
     /// The text, kept.
-    pub(crate) fn new(text: &[u8]) -> Self
+    pub fn new(text: &[u8]) -> Self
         requires fits { length text.now ≤ N }
         requires short { length text.now < 256 }
         ensures { result ≡ text.now }
@@ -49,7 +49,7 @@ impl<const N: usize> Padded<N> {
     }
 
     /// The text, and more behind it.
-    pub(crate) fn with(&self, more: &[u8]) -> Self
+    pub fn with(&self, more: &[u8]) -> Self
         requires fits { length self.now + length more.now ≤ N }
         requires short { length self.now + length more.now < 256 }
         ensures { result ≡ self.now ++ more.now }
@@ -65,7 +65,7 @@ impl<const N: usize> Padded<N> {
     }
 
     /// The text.
-    pub(crate) fn get(&self) -> &[u8]
+    pub fn get(&self) -> &[u8]
         ensures { result.now ≡ self.now }
     {
         &self.bytes[..self.len as usize]

@@ -1,7 +1,7 @@
 //! Why commands are refused.
 
 ghost use Rattle.std.specs.Prelude.{◌≡◌, ◌↔◌, ◌≤◌, length, IsTrue};
-ghost use Rattle.gu_terms.specs.Refusals.{key_in, number_of, name_of, text_of};
+ghost use Rattle.gu_terms.specs.Refusals.{IsRefusalText, key_in, number_of, name_of, text_of};
 
 use crate::limit_key::LimitKey;
 use crate::refusal_text::RefusalText;
@@ -126,7 +126,8 @@ impl Refusal {
 
     /// Its text in a reply: its name, and behind LimitReached the kind and the name of the key.
     pub fn text(&self) -> RefusalText
-        ensures { result ≡ text_of self.now }
+        ensures text { result ≡ text_of self.now }
+        ensures sound { IsRefusalText (text_of self.now) }
     {
         let key = self.key();
         let name = self.name();

@@ -1,6 +1,8 @@
 //! The texts of refusals.
 
 ghost use Rattle.std.specs.Prelude.{◌≡◌, ◌+◌, ◌≤◌, length};
+ghost use Rattle.gu_terms.specs.LimitKeys.{name_of_key};
+ghost use Rattle.gu_terms.specs.Names.{IsName};
 ghost use Rattle.gu_terms.specs.Refusals.{named_with_key};
 
 use crate::limit_key::LimitKey;
@@ -40,7 +42,8 @@ impl RefusalText {
     /// The text that is a name and a key behind it.
     pub(crate) fn of_key(name: &str, key: LimitKey) -> Self
         requires { length name.now ≤ 20 }
-        ensures { result ≡ named_with_key name.now key }
+        ensures text { result ≡ named_with_key name.now key }
+        ensures sound { IsName (name_of_key key) }
     {
         let text = Padded::new(name.as_bytes())
             .with(b" ")

@@ -44,8 +44,11 @@ pub const SESSION: Table = (
     "8=FIXT.1.1|9=100|10=000|49=E1|56=GIVEUP|34=2|52=x|",
     &[
         ("35=0|", "beats"),
-        ("35=0|112=a =b|", "beats for a =b"),
+        ("35=0|112=a =b|", "beats"),
         ("35=1|112=TEST|", "asks TEST"),
+        ("35=1|112=a =b|", "asks a =b"),
+        ("35=1|112=|", "112: 5"),
+        ("35=1|112=a\x01b|", "112: 5"),
         ("35=1|", "112: 1"),
         ("35=2|7=003|16=0|", "again 3 to 0"),
         ("35=2|7=0|16=x|", "7: 5"),
@@ -73,7 +76,15 @@ const HOUSE: Table = (
         ("35=AT|755=01|87=00|", "to 1 says 0"),
         ("35=AT|755=-5|87=0|", "755: 6"),
         ("35=AT|755=16000001|87=0|", "755: 5"),
-        ("35=AT|755=1|87=7|", "87: 5"),
+        ("35=AT|755=1|87=1|", "to 1 says 1"),
+        ("35=AT|755=1|87=2|", "to 1 says 2"),
+        ("35=AT|755=1|87=5|", "to 1 says 5"),
+        ("35=AT|755=1|87=6|", "to 1 says 6"),
+        ("35=AT|755=16000000|87=007|", "to 16000000 says 7"),
+        ("35=AT|755=1|87=3|", "87: 5"),
+        ("35=AT|755=1|87=8|", "87: 5"),
+        ("35=AT|755=1|87=18446744073709551623|", "87: 5"),
+        ("35=AT|755=1|87=-1|", "87: 6"),
         ("35=AN|710=Q1|724=0|1=A1|", "Q1 asks of A1"),
         ("35=AN|710=Q1|724=1|1=A1|", "724: 5"),
         ("35=AN|710=Q 1|724=0|1=A1|", "710: 5"),
@@ -204,15 +215,11 @@ fn give_up(alloc: Global, m: &AllocationInstruction) -> Result<String, AllocErro
     let mut text = format!(in alloc;
         "{} gives up {} of {}:",
         text_in(m.alloc_id.get()),
-        m.quantity.get(),
+        m.lines.lots(),
         text_in(m.exec_id.get())
     )?;
-    for part in &m.allocs {
-        text.push_str(&format!(in alloc;
-            " {} {}",
-            text_in(part.account.get()),
-            part.quantity.get()
-        )?)?;
+    for line in m.lines.as_slice() {
+        text.push_str(&format!(in alloc; " {} {}", text_in(line.account.get()), line.lots.get())?)?;
     }
     Ok(text)
 }
@@ -220,11 +227,8 @@ fn give_up(alloc: Global, m: &AllocationInstruction) -> Result<String, AllocErro
 /// What a message says.
 fn said(alloc: Global, inbound: &Inbound) -> Result<String, AllocError> {
     match inbound {
-        Inbound::Heartbeat(m) => match &m.test_req_id {
-            Some(id) => format!(in alloc; "beats for {}", text_in(id)),
-            None => format!(in alloc; "beats"),
-        },
-        Inbound::TestRequest(m) => format!(in alloc; "asks {}", text_in(&m.test_req_id)),
+        Inbound::Heartbeat => format!(in alloc; "beats"),
+        Inbound::TestRequest(m) => format!(in alloc; "asks {}", text_in(m.test_req_id.get())),
         Inbound::ResendRequest(m) => format!(in alloc;
             "again {} to {}",
             m.begin_seq_no, m.end_seq_no

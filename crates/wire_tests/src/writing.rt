@@ -5,10 +5,13 @@ use gu_msgs::outbound::{
     Reject, RequestForPositionsAck, TradeCaptureReport, TradeCaptureReportAck,
 };
 use gu_msgs::{
-    AllocReportType, AllocStatus, BusinessRejectReason, LogoutReason, Outbound, PosReqResult,
-    Rejection, SessionRejectReason, write,
+    BusinessRejectReason, LogoutReason, Outbound, PosReqResult, Rejection, SessionRejectReason,
+    TestReqId, TypeCode, write,
 };
-use gu_terms::{AccountId, Day, FirmId, Id, Lots, Moment, OfferNo, Price, Refusal, Side, Symbol};
+use gu_terms::{
+    AccountId, AgreementId, AllocReject, Day, FirmId, Id, LimitKey, Lots, Moment, OfferEvent,
+    OfferNo, Price, Refusal, Side, Symbol,
+};
 use std::alloc::{AllocError, Global};
 
 /// The values that the messages here say.
@@ -69,16 +72,11 @@ fn side_notice(w: &Values, side: Side, last_px: Price) -> Outbound {
     at_nine(w, body)
 }
 
-/// The notice of an offer.
-fn offer_notice(
-    w: &Values,
-    alloc_report_type: AllocReportType,
-    alloc_status: AllocStatus,
-) -> Outbound {
+/// The notice of an event of an offer.
+fn offer_notice(w: &Values, event: OfferEvent) -> Outbound {
     let body = Body::AllocationReport(AllocationReport {
         alloc_report_id: w.offer,
-        alloc_report_type,
-        alloc_status,
+        event,
         symbol: w.symbol,
         side: Side::Buy,
         quantity: w.lots,
@@ -196,50 +194,119 @@ fn logon(w: &Values, heart_bt_int: u64, resets_seq_num: bool) -> Outbound {
 
 /// A Heartbeat that answers a TestRequest with this id.
 fn heartbeat(alloc: Global, w: &Values, id: &str) -> Result<Outbound, AllocError> {
-    Ok(at_nine(
-        w,
-        Body::Heartbeat(Some(Vec::from_slice(alloc, id.as_bytes())?)),
-    ))
+    let id = TestReqId::new(alloc, id.as_bytes())?;
+    Ok(at_nine(w, Body::Heartbeat(id)))
 }
 
 /// A Reject of message 2, of this type.
-fn reject(
-    alloc: Global,
-    w: &Values,
-    ref_tag_id: u32,
-    msg_type: &[u8],
-    reason: SessionRejectReason,
-) -> Result<Outbound, AllocError> {
-    let ref_msg_type = Some(Vec::from_slice(alloc, msg_type)?);
-    Ok(at_nine(
+fn reject(w: &Values, ref_tag_id: u32, msg_type: &[u8], reason: SessionRejectReason) -> Outbound {
+    at_nine(
         w,
         Body::Reject(Reject {
             ref_seq_num: 2,
             ref_tag_id,
-            ref_msg_type,
+            ref_msg_type: TypeCode::new(msg_type),
             reason,
         }),
-    ))
+    )
 }
 
-/// A BusinessMessageReject of message 4, of this type.
-fn business_reject(
-    alloc: Global,
-    w: &Values,
-    ref_id: Option<OfferNo>,
-    msg_type: &[u8],
-    reason: BusinessRejectReason,
-    rejection: Option<Rejection>,
-) -> Result<Outbound, AllocError> {
-    let ref_msg_type = Vec::from_slice(alloc, msg_type)?;
+/// A BusinessMessageReject of message 4.
+fn business_reject(w: &Values, reason: BusinessRejectReason) -> Outbound {
     let body = BusinessMessageReject {
         ref_seq_num: 4,
-        ref_id,
-        ref_msg_type,
         reason,
-        rejection,
     };
-    Ok(at_nine(w, Body::BusinessMessageReject(body)))
+    at_nine(w, Body::BusinessMessageReject(body))
+}
+
+/// A BusinessMessageReject of message 4, an AT on offer 1 that was refused so.
+fn at_refused(w: &Values, rejection: Rejection) -> Outbound {
+    let offer = w.offer;
+    business_reject(w, BusinessRejectReason::Other { offer, rejection })
+}
+
+/// The refusals of an AT, and the texts of a BusinessMessageReject for them.
+const REFUSED: [(Refusal, &str); 8] = [
+    (Refusal::NoDay, "45=4|379=1|372=AT|380=0|58=NoDay|"),
+    (Refusal::NotYours, "45=4|379=1|372=AT|380=0|58=NotYours|"),
+    (
+        Refusal::UnknownOffer,
+        "45=4|379=1|372=AT|380=0|58=UnknownOffer|",
+    ),
+    (
+        Refusal::OfferClosed,
+        "45=4|379=1|372=AT|380=0|58=OfferClosed|",
+    ),
+    (Refusal::OfferOpen, "45=4|379=1|372=AT|380=0|58=OfferOpen|"),
+    (
+        Refusal::NothingToReverse,
+        "45=4|379=1|372=AT|380=0|58=NothingToReverse|",
+    ),
+    (
+        Refusal::TooManyOffers,
+        "45=4|379=1|372=AT|380=0|58=TooManyOffers|",
+    ),
+    (
+        Refusal::UnknownInstrument,
+        "45=4|379=1|372=AT|380=0|58=UnknownInstrument|",
+    ),
+];
+
+/// The first refusal of an AT that isn't told so.
+fn wrong_refusal(alloc: Global, w: &Values) -> Result<Option<&'static str>, AllocError> {
+    for (refusal, text) in &REFUSED {
+        let message = at_refused(w, Rejection::Refused(*refusal));
+        if let Some(text) = wrong(alloc, message, "j", *text)? {
+            return Ok(Some(text));
+        }
+    }
+    Ok(None)
+}
+
+/// A claim that is refused since this key has no room.
+fn limit_reached(w: &Values, key: LimitKey) -> Outbound {
+    at_refused(w, Rejection::Refused(Refusal::LimitReached(key)))
+}
+
+/// The first limit that isn't named so.
+fn wrong_limit(alloc: Global, w: &Values) -> Result<Option<&'static str>, AllocError> {
+    let Some(agreement) = AgreementId::new(b"P1") else {
+        return Ok(Some("no agreement"));
+    };
+    let texts = [
+        wrong(
+            alloc,
+            limit_reached(w, LimitKey::Exec(w.firm)),
+            "j",
+            "45=4|379=1|372=AT|380=0|58=LimitReached EXEC E1|",
+        )?,
+        wrong(
+            alloc,
+            limit_reached(w, LimitKey::Agr(agreement)),
+            "j",
+            "45=4|379=1|372=AT|380=0|58=LimitReached AGR P1|",
+        )?,
+        wrong(
+            alloc,
+            limit_reached(w, LimitKey::Acct(w.account)),
+            "j",
+            "45=4|379=1|372=AT|380=0|58=LimitReached ACCT A1|",
+        )?,
+        wrong(
+            alloc,
+            limit_reached(w, LimitKey::Carry(w.firm)),
+            "j",
+            "45=4|379=1|372=AT|380=0|58=LimitReached CARRY E1|",
+        )?,
+        wrong(
+            alloc,
+            limit_reached(w, LimitKey::Guar(w.firm)),
+            "j",
+            "45=4|379=1|372=AT|380=0|58=LimitReached GUAR E1|",
+        )?,
+    ];
+    Ok(first_of(&texts))
 }
 
 /// The first rejection that isn't written as it is to be: the type is named where it has the form of one.
@@ -247,41 +314,39 @@ fn wrong_rejection(alloc: Global, w: &Values) -> Result<Option<&'static str>, Al
     let missing = SessionRejectReason::RequiredTagMissing;
     let no_type = SessionRejectReason::InvalidMsgType;
     let no_tag = SessionRejectReason::InvalidTagNumber;
-    let unread = BusinessRejectReason::UnsupportedMessageType;
-    let other = BusinessRejectReason::Other;
-    let why = Some(Rejection::Refused(Refusal::NotYours));
-    let closed = "45=4|379=1|372=AT|380=0|58=NotYours|";
+    let Some(code) = TypeCode::new(b"D") else {
+        return Ok(Some("no code"));
+    };
+    let unread = BusinessRejectReason::UnsupportedMessageType(code);
     let texts = [
         wrong(
             alloc,
-            reject(alloc, w, 880, b"AE", missing)?,
+            reject(w, 880, b"AE", missing),
             "3",
             "45=2|371=880|372=AE|373=1|",
         )?,
         wrong(
             alloc,
-            reject(alloc, w, 35, b"A!", no_type)?,
+            reject(w, 35, b"A!", no_type),
             "3",
             "45=2|371=35|373=11|",
         )?,
+        wrong(alloc, reject(w, 0, b"D", no_tag), "3", "45=2|372=D|373=0|")?,
+        wrong(alloc, business_reject(w, unread), "j", "45=4|372=D|380=3|")?,
         wrong(
             alloc,
-            reject(alloc, w, 0, b"D", no_tag)?,
-            "3",
-            "45=2|372=D|373=0|",
-        )?,
-        wrong(
-            alloc,
-            business_reject(alloc, w, None, b"D", unread, None)?,
+            at_refused(w, Rejection::Memory),
             "j",
-            "45=4|372=D|380=3|",
+            "45=4|379=1|372=AT|380=0|58=Memory|",
         )?,
         wrong(
             alloc,
-            business_reject(alloc, w, Some(w.offer), b"AT", other, why)?,
+            at_refused(w, Rejection::Full),
             "j",
-            closed,
+            "45=4|379=1|372=AT|380=0|58=Full|",
         )?,
+        wrong_refusal(alloc, w)?,
+        wrong_limit(alloc, w)?,
     ];
     Ok(first_of(&texts))
 }
@@ -349,19 +414,39 @@ fn wrong_notice(alloc: Global, w: &Values) -> Result<Option<&'static str>, Alloc
         )?,
         wrong(
             alloc,
-            offer_notice(
-                w,
-                AllocReportType::RequestToIntermediary,
-                AllocStatus::AllocationPending,
-            ),
+            offer_notice(w, OfferEvent::Offered),
             "AS",
             "755=1|71=0|794=8|87=6|55=XF6|54=1|53=10|6=101.5|75=20260105|78=1|79=A1|80=10|",
         )?,
         wrong(
             alloc,
-            offer_notice(w, AllocReportType::Accept, AllocStatus::Accepted),
+            offer_notice(w, OfferEvent::Claimed),
             "AS",
             "755=1|71=0|794=9|87=0|55=XF6|54=1|53=10|6=101.5|75=20260105|78=1|79=A1|80=10|",
+        )?,
+        wrong(
+            alloc,
+            offer_notice(w, OfferEvent::Refused(AllocReject::BlockLevel)),
+            "AS",
+            "755=1|71=0|794=10|87=1|55=XF6|54=1|53=10|6=101.5|75=20260105|78=1|79=A1|80=10|",
+        )?,
+        wrong(
+            alloc,
+            offer_notice(w, OfferEvent::Refused(AllocReject::AccountLevel)),
+            "AS",
+            "755=1|71=0|794=10|87=2|55=XF6|54=1|53=10|6=101.5|75=20260105|78=1|79=A1|80=10|",
+        )?,
+        wrong(
+            alloc,
+            offer_notice(w, OfferEvent::Refused(AllocReject::Intermediary)),
+            "AS",
+            "755=1|71=0|794=10|87=5|55=XF6|54=1|53=10|6=101.5|75=20260105|78=1|79=A1|80=10|",
+        )?,
+        wrong(
+            alloc,
+            offer_notice(w, OfferEvent::Reversed),
+            "AS",
+            "755=1|71=0|794=9|87=7|55=XF6|54=1|53=10|6=101.5|75=20260105|78=1|79=A1|80=10|",
         )?,
         wrong(
             alloc,
@@ -443,14 +528,15 @@ fn position_length(alloc: Global, w: &Values, times: usize) -> Result<usize, All
     Ok(length)
 }
 
-/// The length of a Heartbeat for an id of 65,000 bytes, and of the last of 5,000 positions.
-fn lengths(alloc: Global) -> Option<(usize, usize)> {
+/// The lengths of Heartbeats for ids of 1,024 bytes and of one byte too many, which is none, and of the last of 5,000 positions.
+fn lengths(alloc: Global) -> Option<(usize, usize, usize)> {
     let w = sample()?;
-    let heartbeat = heartbeat_length(alloc, &w, 65_000).ok()?;
-    Some((heartbeat, position_length(alloc, &w, 5_000).ok()?))
+    let longest = heartbeat_length(alloc, &w, 1_024).ok()?;
+    let too_long = heartbeat_length(alloc, &w, 1_025).ok()?;
+    Some((longest, too_long, position_length(alloc, &w, 5_000).ok()?))
 }
 
 #[test]
 fn long_messages_and_thousands_in_a_row_are_written(rt: HostRuntime) {
-    assert_eq!(rt; lengths(rt.alloc()), Some((65_056, 52 + 73)));
+    assert_eq!(rt; lengths(rt.alloc()), Some((1_080, 51, 52 + 73)));
 }

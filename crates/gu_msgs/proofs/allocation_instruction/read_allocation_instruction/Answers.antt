@@ -1,37 +1,51 @@
-use Rattle.std.proofs.Common.{◌≡◌, ◌∙◌, ap, sym, true, map, sum}
-use Rattle.gu_msgs.specs.declared.inbound.Alloc.{Alloc}
+use Rattle.std.proofs.Common.{◌≡◌, ◌∙◌, ℕ, ap, subst, sym, map}
+use Rattle.gu_terms.specs.Lines.{lots_in_all}
+use Rattle.gu_terms.specs.NumberText.{MeansLots}
+use Rattle.gu_terms.specs.declared.lines.Line.{Line}
+use Rattle.gu_msgs.specs.Values.{Holds}
 use Rattle.gu_msgs.specs.declared.fault.Fault.{Fault}
-use Rattle.gu_msgs.proofs.AllocLemmas.{quantities}
+use Rattle.gu_msgs.specs.declared.tags.TheConstants.{QUANTITY}
+use Rattle.gu_msgs.proofs.AllocLemmas.{quantities, sum_of_lines}
 use Rattle.gu_msgs.proofs.allocation_instruction.read_allocation_instruction.Goals as goal
 
-pub returns-then-adds_up : goal.returns-then-adds_up
-returns-then-adds_up c =
+pub returns-then-get-lots : goal.returns-then-get-lots
+returns-then-get-lots c =
     let fields = c.args.fields.now in
-    let m = c.in_ok-message.message in
-    let is = c.in_ok-message.ensures in
-    let sums : c.get.result ≡ sum (map (λ (a : Alloc). a.quantity) c.deref.result.now) = c.adds_up.ensures.0 c.if-adds_up.true in (
+    let lines = c.in_ok-message.message.lines in
+    let whole = c.lots_at-quantity.result in
+    let parts = c.in_ok-message.ensures in
+    let sums : whole ≡ lots_in_all lines = sym c.get.ensures.number ∙ c.if-get-lots.true ∙ c.lots.ensures.lots in (
       record {
         code = c.requires.code;
         faultless = record {
           shape = c.requires.shape;
           values = c.requires.values;
-          agrees = record { whole = m.quantity; parts = map (λ (a : Alloc). a.quantity) m.allocs.items; quantities = quantities fields m is; adds_up = sym c.get.ensures.number ∙ rw c.deref.ensures.value at sums };
+          agrees = record {
+            whole = whole;
+            parts = map (λ (l : Line). l.lots) lines;
+            quantities = quantities fields whole lines c.lots_at-quantity.ensures parts.allocs;
+            adds_up = sums ∙ sym (sum_of_lines lines);
+          };
         };
       },
-      is,
+      record { parts = parts; quantity = subst (λ (n : ℕ). Holds QUANTITY (λ text. MeansLots text n) fields) sums c.lots_at-quantity.ensures },
     )
 
-pub returns-else-adds_up : goal.returns-else-adds_up
-returns-else-adds_up c =
-    let m = c.in_ok-message.message in
-    let differ : m.quantity ≡ sum (map (λ (a : Alloc). a.quantity) m.allocs.items) → ⊥ =
-    λ same. let adds : c.adds_up.result ≡ true = c.adds_up.ensures.1 (rw c.deref.ensures.value (c.get.ensures.number ∙ same)) in cc in
+pub returns-else-get-lots : goal.returns-else-get-lots
+returns-else-get-lots c =
+    let lines = c.in_ok-message.message.lines in
+    let whole = c.lots_at-quantity.result in
     record {
       shape = c.requires.shape;
       values = c.requires.values;
       disagrees = (
         ap (λ (f : Fault). f.tag) c.fault_at.ensures,
-        record { whole = m.quantity; parts = map (λ (a : Alloc). a.quantity) m.allocs.items; quantities = quantities c.args.fields.now m c.in_ok-message.ensures; differs = differ },
+        record {
+          whole = whole;
+          parts = map (λ (l : Line). l.lots) lines;
+          quantities = quantities c.args.fields.now whole lines c.lots_at-quantity.ensures (c.in_ok-message.ensures).allocs;
+          differs = λ same. c.if-get-lots.false (c.get.ensures.number ∙ same ∙ sum_of_lines lines ∙ sym c.lots.ensures.lots);
+        },
       );
       reason = ap (λ (f : Fault). f.reason) c.fault_at.ensures;
     }

@@ -4,16 +4,12 @@ use Rattle.gu_msgs.proofs.answer_fields.push_position.Goals as goal
 pub returns : goal.returns
 returns c =
     simp (
-      c.in_ok-push.ensures.ok,
-      c.deref.ensures.value,
-      c.in_ok-id.ensures,
-      c.in_ok-push-2.ensures.ok,
-      c.get.ensures.bytes,
+      c.in_ok-push_answer_ids.ensures,
       c.in_ok-push_number.ensures,
       c.in_ok-push_day.ensures,
-      c.in_ok-push-3.ensures.ok,
+      c.in_ok-push_name.ensures,
+      c.get.ensures.bytes,
+      c.in_ok-push_name-2.ensures,
       c.get-2.ensures.bytes,
-      c.in_ok-push-4.ensures.ok,
-      c.get-3.ensures.bytes,
       append_assoc,
     ) at c.push_quantities.ensures

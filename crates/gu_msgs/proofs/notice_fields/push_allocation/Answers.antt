@@ -7,7 +7,7 @@ returns c =
       c.in_ok-push_offer.ensures,
       c.in_ok-push_offered.ensures,
       c.in_ok-push_number.ensures,
-      c.in_ok-push.ensures.ok,
+      c.in_ok-push_name.ensures,
       c.get.ensures.bytes,
       c.get-2.ensures.number,
       append_assoc,

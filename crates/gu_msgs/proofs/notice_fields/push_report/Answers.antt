@@ -4,15 +4,14 @@ use Rattle.gu_msgs.proofs.notice_fields.push_report.Goals as goal
 pub returns : goal.returns
 returns c =
     simp (
-      c.in_ok-push.ensures.ok,
+      c.in_ok-push.ensures,
       c.deref.ensures.value,
-      c.in_ok-id.ensures,
-      c.in_ok-push-2.ensures.ok,
-      c.get.ensures.bytes,
+      c.in_ok-id.ensures.text,
+      c.in_ok-push_id.ensures,
       c.in_ok-push_trade.ensures,
       c.in_ok-push_number.ensures,
       c.in_ok-push_number-2.ensures,
       c.side_number.ensures,
-      c.get-2.ensures.bytes,
+      c.get.ensures.bytes,
       append_assoc,
-    ) at c.push-3.ensures.ok
+    ) at c.push_name.ensures

@@ -25,6 +25,6 @@ more_behind size kept more len n h fits many same = record {
 pub invariant_of-result : goal.invariant_of-result
 invariant_of-result g c =
     let text : length c.args.self.now ≡ c.self.inside.len =
-        ap {A = List ℕ} length (sym c.self.view_is) ∙ length-text g.row.N c.self.inside.bytes c.self.inside.len c.self.invariant in
+    ap {A = List ℕ} length (sym c.self.view_is) ∙ length-text g.row.N c.self.inside.bytes c.self.inside.len c.self.invariant in
     more_behind g.row.N c.self.inside.bytes c.copy_from_slice.new.self c.self.inside.len (length c.args.more.now) c.self.invariant
     (omega (arith, text, c.requires.fits)) (ap {A = List ℕ} length c.copy_from_slice.ensures.after) c.copy_from_slice.ensures.len

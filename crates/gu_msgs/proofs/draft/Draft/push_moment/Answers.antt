@@ -1,0 +1,5 @@
+use Rattle.gu_msgs.proofs.PlainTexts.{plain_moment}
+use Rattle.gu_msgs.proofs.draft.Draft.push_moment.Goals as goal
+
+pub push-requires : goal.push-requires
+push-requires c = plain_moment c.args.moment c.moment_text.result c.moment_text.ensures

@@ -1,0 +1,129 @@
+//! A message that is being written.
+
+ghost use Rattle.std.specs.Prelude.{◌≡◌, ◌∷◌, ◌++◌, [], List, ℕ, IfOk, IsTrue, OnOk};
+ghost use Rattle.gu_fix.specs.TagValue.{tag_value};
+ghost use Rattle.gu_terms.specs.Names.{IsName};
+ghost use Rattle.gu_msgs.specs.Encodable.{ArePlain, is_plain};
+ghost use Rattle.gu_msgs.specs.Rejections.{rejection_text};
+ghost use Rattle.gu_msgs.specs.ValueTexts.{WritesMoment, date_text, price_text};
+ghost use Rattle.gu_msgs.specs.WrittenBodies.{number_field};
+
+use crate::rejection::Rejection;
+use crate::tags::TEXT;
+use crate::value_texts::{day_text, moment_text, price_text};
+use gu_fix::Fields;
+use gu_terms::{Day, Id, Moment, Price};
+use itoa::Buffer;
+use std::alloc::{AllocError, Global};
+use std::marker::Model;
+
+/// The bytes for which a draft has room from the start: more than any message has but for ids of TestRequests.
+const ROOM: usize = 512;
+
+/// The fields of a message so far, each with a value that can be encoded. To a contract they are the list of their tags
+/// and values.
+#[derive(Drop)]
+pub struct Draft {
+    alloc: Global,
+    fields: Fields,
+}
+
+impl Model for Draft {
+    ghost use Rattle.std.specs.Prelude.{List};
+    ghost use Rattle.gu_fix.specs.TagValue.{TagValue};
+
+    ghost Value = { List TagValue };
+
+    ghost use Rattle.gu_msgs.specs.Encodable.{ArePlain};
+
+    ghost view = { λ d. d.fields };
+
+    ghost invariant = { λ d. ArePlain d.fields };
+}
+
+impl Draft {
+    /// No fields yet, with room for those of a message.
+    pub fn new(alloc: Global) -> Result<Draft, AllocError>
+        ensures { IfOk result (λ draft. draft ≡ []) }
+    {
+        let fields = Fields::with_room(alloc, ROOM)?;
+        Ok(Draft { alloc, fields })
+    }
+
+    /// What grows with it.
+    pub fn alloc(&self) -> Global {
+        self.alloc
+    }
+
+    /// Appends a value that can be encoded.
+    pub fn push(&mut self, tag: u32, value: &[u8]) -> Result<(), AllocError>
+        requires { IsTrue (is_plain value.now) }
+        ensures { OnOk result (self.new ≡ self.old ++ tag_value tag value.now ∷ []) }
+    {
+        self.fields.push(tag, value)
+    }
+
+    /// Appends a number.
+    pub fn push_number(&mut self, tag: u32, number: u64) -> Result<(), AllocError>
+        ensures { OnOk result (self.new ≡ self.old ++ number_field tag number ∷ []) }
+    {
+        let mut digits = Buffer::new();
+        self.push(tag, digits.format(number).as_bytes())
+    }
+
+    /// Appends a firm's own id.
+    pub fn push_id(&mut self, tag: u32, id: Id) -> Result<(), AllocError>
+        ensures { OnOk result (self.new ≡ self.old ++ tag_value tag id ∷ []) }
+    {
+        self.push(tag, id.get())
+    }
+
+    /// Appends a name of the house's.
+    pub fn push_name(&mut self, tag: u32, name: &[u8]) -> Result<(), AllocError>
+        requires { IsName name.now }
+        ensures { OnOk result (self.new ≡ self.old ++ tag_value tag name.now ∷ []) }
+    {
+        self.push(tag, name)
+    }
+
+    /// Appends a price.
+    pub fn push_price(&mut self, tag: u32, price: Price) -> Result<(), AllocError>
+        ensures { OnOk result (self.new ≡ self.old ++ tag_value tag (price_text price) ∷ []) }
+    {
+        let text = price_text(self.alloc, price)?;
+        self.push(tag, &text)
+    }
+
+    /// Appends a day.
+    pub fn push_day(&mut self, tag: u32, day: Day) -> Result<(), AllocError>
+        ensures { OnOk result (self.new ≡ self.old ++ tag_value tag (date_text day.year day.month day.day) ∷ []) }
+    {
+        self.push(tag, &day_text(day))
+    }
+
+    /// Appends a moment.
+    pub fn push_moment(&mut self, tag: u32, moment: Moment) -> Result<(), AllocError>
+        ensures { OnOk result ((text : List ℕ) × WritesMoment moment text × (self.new ≡ self.old ++ tag_value tag text ∷ [])) }
+    {
+        self.push(tag, &moment_text(moment))
+    }
+
+    /// Appends why a command isn't in the book.
+    pub fn push_rejection(&mut self, rejection: &Rejection) -> Result<(), AllocError>
+        ensures { OnOk result (self.new ≡ self.old ++ tag_value TEXT (rejection_text rejection.now) ∷ []) }
+    {
+        match rejection {
+            Rejection::Refused(refusal) => self.push(TEXT, refusal.text().get()),
+            Rejection::Memory => self.push(TEXT, b"Memory"),
+            Rejection::Full => self.push(TEXT, b"Full"),
+        }
+    }
+
+    /// The fields.
+    pub fn into_fields(self) -> Fields
+        ensures fields { result ≡ self }
+        ensures plain { ArePlain self }
+    {
+        self.fields
+    }
+}
