@@ -93,6 +93,7 @@ impl Capturing {
             Ok(receipt) => {
                 match receipt.entry {
                     Entry::Asked { reply, .. } => Ok(Rejection::of_reply(reply)),
+                    Entry::Swept(_) => unreachable!(),
                 }
             }
             Err(EnterError::Full) => Ok(Some(Rejection::Full)),

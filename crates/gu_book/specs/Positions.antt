@@ -1,5 +1,6 @@
 -- Positions: what an account holds of an instrument.
-use Rattle.std.specs.Prelude.{ℕ, ◌+◌, ◌-◌, ◌&&◌, Bool, false, List, Option, sum_by, if◌then◌else◌}
+use Rattle.std.specs.Prelude.{ℕ, ◌+◌, ◌-◌, ◌==◌, ◌&&◌, Bool, false, List, Option, Some, None, sum_by, if◌then◌else◌}
+use Rattle.std.specs.List.{filter_map}
 use Rattle.std.specs.Option.{option_map_or}
 use Rattle.gu_terms.specs.declared.account.AccountId.{AccountId}
 use Rattle.gu_terms.specs.declared.side.Side.{Side}
@@ -8,7 +9,12 @@ use Rattle.gu_terms.specs.declared.symbol.Symbol.{Symbol}
 use Rattle.gu_terms.specs.declared.report.Report.{Report}
 use Rattle.gu_terms.specs.declared.entry.Entry.{Entry}
 use Rattle.gu_trades.specs.Matching.{is_of_trade}
-use Rattle.gu_terms.specs.Same.{same_side, same_account, same_symbol}
+use Rattle.gu_terms.specs.Same.{same_account, same_firm, same_side, same_symbol}
+use Rattle.gu_terms.specs.declared.firm.FirmId.{FirmId}
+use Rattle.gu_terms.specs.declared.query.PositionRow.{PositionRow}
+use Rattle.gu_ref.specs.Reference.{account_row}
+use Rattle.gu_ref.specs.Tables.{Tables}
+use Rattle.gu_ref.specs.declared.instruments.Instrument.{Instrument}
 use Rattle.gu_ref.specs.declared.accounts.Account.{Account}
 use Rattle.gu_trades.specs.Reports.{report_by}
 use Rattle.gu_offers.specs.Rows.{Row}
@@ -63,6 +69,19 @@ long_of history account symbol = held_of history Buy account symbol
 -- and short
 abbrev pub short_of : List Entry → AccountId → Symbol → ℕ
 short_of history account symbol = held_of history Sell account symbol
+
+-- the row of an instrument: the lots long and short, where there are any
+abbrev pub row_of_lots : Symbol → ℕ → ℕ → Option PositionRow
+row_of_lots symbol long short = if long == 0 && short == 0 then None else Some (record { symbol = symbol; long = long; short = short })
+
+-- all that an account holds, in the order of the reference's instruments
+abbrev pub position_rows : Kept → AccountId → List PositionRow
+position_rows book account =
+    filter_map (λ (i : Instrument). row_of_lots i.symbol (long_of book.history account i.symbol) (short_of book.history account i.symbol)) book.reference.instruments
+
+-- the account is there, and it is this firm's
+abbrev pub is_of_firm : Tables → FirmId → AccountId → Bool
+is_of_firm reference firm account = option_map_or (λ row. same_firm row.firm firm) (account_row reference account) false
 
 -- the open interest of an instrument: over the accounts, what each holds long above what it holds short
 abbrev pub open_interest_of : Kept → Symbol → ℕ

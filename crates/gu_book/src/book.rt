@@ -1,23 +1,24 @@
 //! The book.
 
-ghost use Rattle.std.specs.Prelude.{◌≡◌, ◌↔◌, ◌<◌, ◌≤◌, ◌+◌, ◌++◌, ◌∷◌, [], false, length, IfOk, IfSome, OnOk, OnErr, IsErrOf};
+ghost use Rattle.std.specs.Prelude.{◌≡◌, ◌↔◌, ◌<◌, ◌≤◌, ◌+◌, ◌++◌, ◌∷◌, [], false, is_some, length, IfOk, IfSome, OnOk, OnErr, IsErrOf};
 ghost use Rattle.gu_ref.specs.Reference.{is_group};
 ghost use Rattle.gu_book.specs.Accepted.{accepts};
 ghost use Rattle.gu_book.specs.Answer.{answer};
 ghost use Rattle.gu_book.specs.Legal.{IsLegal, MayFollow, StandsLast};
 ghost use Rattle.gu_book.specs.Limits.{limit_rows};
-ghost use Rattle.gu_book.specs.Positions.{long_of, open_interest_of, short_of};
+ghost use Rattle.gu_book.specs.Positions.{is_of_firm, long_of, open_interest_of, position_rows, short_of};
 ghost use Rattle.gu_book.specs.Reports.{open_day};
 
 use crate::answering::answer_of;
 use crate::error::EnterError;
 use crate::limits::rows_in_order;
+use crate::positions::{is_of_firm, rows_of_account};
 use crate::taking::take_in;
 use crate::totals::Totals;
 use gu_ref::Reference;
 use gu_terms::{
-    AccountId, Command, Day, Done, Entry, Group, History, LimitRow, MOST_ENTRIES, Receipt, Reply,
-    Report, Symbol,
+    AccountId, Command, Day, Entry, FirmId, Group, History, LimitRow, MOST_ENTRIES, PositionRows,
+    Receipt, Reply, Seed, Symbol,
 };
 use std::alloc::{AllocError, Global};
 use std::marker::Model;
@@ -65,14 +66,21 @@ fn accepts(reply: &Reply) -> bool
 }
 
 impl Book {
-    /// A book without entries.
+    /// A book without entries, for runs that serve no peers: its tables have a fixed seed.
     pub fn new(alloc: Global, reference: Reference) -> Self
+        ensures { result ≡ record { reference = reference; history = [] } }
+    {
+        Book::seeded(alloc, reference, Seed::new(0))
+    }
+
+    /// A book without entries, whose tables of ids that firms choose have this seed. What it answers doesn't depend on it.
+    pub fn seeded(alloc: Global, reference: Reference, seed: Seed) -> Self
         ensures { result ≡ record { reference = reference; history = [] } }
     {
         Book {
             reference,
             history: History::new(alloc),
-            totals: Totals::new(alloc),
+            totals: Totals::seeded(alloc, seed),
             alloc,
         }
     }
@@ -134,6 +142,32 @@ impl Book {
         ensures short { result.1 ≡ short_of self.now.history account symbol }
     {
         self.totals.positions.of(account, symbol)
+    }
+
+    /// All that a firm's account holds: a row for each instrument of which it has lots, long or short, in the order of the reference, with
+    /// the open day. None where the account is unknown or another firm's.
+    pub fn positions(
+        &self,
+        firm: FirmId,
+        account: AccountId,
+    ) -> Result<Option<PositionRows>, AllocError>
+        ensures own { IfOk result (λ answer. is_some answer ≡ is_of_firm self.now.reference firm account) }
+        ensures day { IfOk result (λ answer. IfSome answer (λ p. p.day ≡ open_day self.now.history)) }
+        ensures rows { IfOk result (λ answer. IfSome answer (λ p. p.rows.items ≡ position_rows self.now account)) }
+    {
+        if !is_of_firm(&self.reference, firm, account) {
+            return Ok(None);
+        }
+        let rows = rows_of_account(
+            self.alloc,
+            &self.reference,
+            &self.totals.positions,
+            &account,
+        )?;
+        Ok(Some(PositionRows {
+            day: self.totals.today,
+            rows,
+        }))
     }
 
     /// The limits that were set in a group, as they stand: executing firms, agreements, accounts, carrying firms, guarantors,

@@ -6,6 +6,7 @@ mod book;
 mod error;
 mod laws;
 mod limits;
+mod positions;
 mod taking;
 mod totals;
 

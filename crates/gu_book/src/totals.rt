@@ -23,7 +23,7 @@ use gu_offers::Offers;
 use gu_positions::Positions;
 use gu_ref::Reference;
 use gu_terms::{
-    Command, Day, Done, Entry, FirmId, Group, Id, LimitKey, Lines, Offer, OfferNo, Reply, Report,
+    Command, Day, Done, Entry, FirmId, Group, Id, LimitKey, Lines, Offer, OfferNo, Report, Seed,
 };
 use gu_trades::{Sides, Trades};
 use indexmap::IndexSet;
@@ -45,7 +45,7 @@ pub struct Totals {
     /// The offers that were made, as they stand.
     pub offers: Offers,
     /// The give-ups that were accepted.
-    pub give_ups: IndexSet<GiveUpKey>,
+    pub give_ups: IndexSet<GiveUpKey, Seed>,
     /// The limits that were set, with what is used of them today.
     pub limits: LimitTable,
     /// What each account holds.
@@ -71,8 +71,8 @@ impl Drop for Totals {
 }
 
 impl Totals {
-    /// What no history comes to.
-    pub fn new(alloc: Global) -> Self
+    /// What no history comes to, with a seed by which ids are found.
+    pub fn seeded(alloc: Global, seed: Seed) -> Self
         ensures today { result.today ≡ None }
         ensures trades { result.trades ≡ [] }
         ensures offers { result.offers ≡ [] }
@@ -82,9 +82,9 @@ impl Totals {
     {
         Totals {
             today: None,
-            trades: Trades::new(alloc),
-            offers: Offers::new(alloc),
-            give_ups: IndexSet::new(alloc),
+            trades: Trades::seeded(alloc, seed),
+            offers: Offers::seeded(alloc, seed),
+            give_ups: IndexSet::with_hasher(alloc, seed),
             limits: LimitTable::new(alloc),
             positions: Positions::new(alloc),
         }

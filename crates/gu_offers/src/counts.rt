@@ -6,7 +6,7 @@ ghost use Rattle.gu_terms.specs.declared.firm.FirmId.{FirmId as Firm};
 ghost use Rattle.gu_terms.specs.declared.id.Id.{Id as IdOf};
 ghost use Rattle.gu_terms.specs.Same.{same_firm, same_id};
 
-use gu_terms::{FirmId, Id};
+use gu_terms::{FirmId, Id, Seed};
 use indexmap::IndexMap;
 use std::alloc::{AllocError, Global};
 
@@ -19,7 +19,7 @@ pub(crate) struct ReportKey {
 
 /// The lots of each report that its offers hold.
 pub(crate) struct Counts {
-    pub(crate) lots: IndexMap<ReportKey, u64>,
+    pub(crate) lots: IndexMap<ReportKey, u64, Seed>,
 }
 
 impl Drop for Counts {
@@ -32,12 +32,12 @@ impl Drop for Counts {
 impl Counts {
     ghost use Rattle.gu_offers.specs.Counts.{lots_under, report_key};
 
-    /// No lots of any report.
-    pub(crate) fn new(alloc: Global) -> Self
+    /// No lots of any report, with a seed by which reports are found.
+    pub(crate) fn seeded(alloc: Global, seed: Seed) -> Self
         ensures { (firm : Firm) (id : IdOf) → lots_under result firm id ≡ 0 }
     {
         Counts {
-            lots: IndexMap::new(alloc),
+            lots: IndexMap::with_hasher(alloc, seed),
         }
     }
 

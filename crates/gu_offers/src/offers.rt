@@ -13,7 +13,7 @@ use crate::counts::Counts;
 use crate::given::Given;
 use crate::groups::Groups;
 use crate::open_offer::OpenOffer;
-use gu_terms::{FirmId, Group, Id, Line, Lines, Offer, OfferNo};
+use gu_terms::{FirmId, Group, Id, Line, Lines, Offer, OfferNo, Seed};
 use std::alloc::{AllocError, Global};
 use std::marker::Model;
 
@@ -162,10 +162,17 @@ impl Offers {
     pub fn new(alloc: Global) -> Self
         ensures { result ≡ [] }
     {
+        Offers::seeded(alloc, Seed::new(0))
+    }
+
+    /// No offers, with a seed by which reports are found. What is answered doesn't depend on it.
+    pub fn seeded(alloc: Global, seed: Seed) -> Self
+        ensures { result ≡ [] }
+    {
         Offers {
             rows: Vec::new(alloc),
             groups: Groups::new(alloc),
-            counts: Counts::new(alloc),
+            counts: Counts::seeded(alloc, seed),
             day: 0,
         }
     }

@@ -1,0 +1,7 @@
+use Rattle.gu_book.proofs.Beginning.{nothing-kept}
+use Rattle.gu_book.proofs.book.Book.seeded.Goals as goal
+
+pub invariant_of-result : goal.invariant_of-result
+invariant_of-result c =
+    let e = c.seeded.ensures in
+    rw c.new.ensures (nothing-kept c.args.reference c.seeded.result e.today e.trades e.offers e.give_ups e.limits e.positions)

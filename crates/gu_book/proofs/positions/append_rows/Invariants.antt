@@ -1,0 +1,13 @@
+use Rattle.std.proofs.Common.{◌≡◌, ◌++◌, take}
+use Rattle.std.specs.List.{filter_map}
+use Rattle.gu_terms.specs.declared.side.Side.TheVariants.{Buy, Sell}
+use Rattle.gu_ref.specs.declared.instruments.Instrument.{Instrument}
+use Rattle.gu_positions.specs.Rows.{lots_in}
+use Rattle.gu_book.specs.Positions.{row_of_lots}
+use Rattle.gu_book.proofs.positions.append_rows.Given as goal
+
+abbrev pub invariant-loop-instrument : goal.invariant-loop-instrument
+invariant-loop-instrument l =
+    l.rows.items
+    ≡ l.initial.rows.items
+    ++ filter_map (λ (i : Instrument). row_of_lots i.symbol (lots_in l.positions Buy l.account i.symbol) (lots_in l.positions Sell l.account i.symbol)) (take l.instrument-index l.instruments)
