@@ -82,7 +82,7 @@ says_no_report fields message says none report other =
 
 -- a message that is a report is this one
 is_report : (message : Inbound) (report : TradeCaptureReport) → report_in message ≡ Some report → message ≡ inbound.TradeCaptureReport report
-is_report (inbound.Heartbeat m) report e = cc
+is_report inbound.Heartbeat report e = cc
 is_report (inbound.TestRequest m) report e = cc
 is_report (inbound.ResendRequest m) report e = cc
 is_report inbound.Reject report e = cc

@@ -10,7 +10,7 @@ ghost use Rattle.gu_msgs.specs.Written.{IsWritten};
 ghost use Rattle.gu_msgs.specs.declared.inbound.Inbound.TheVariants as inbound;
 ghost use Rattle.gu_msgs.specs.declared.inbound.TradeCaptureReport.{TradeCaptureReport as ReportOf};
 ghost use Rattle.giveup.specs.Serving.{IsStreamFault};
-ghost use Rattle.giveup.specs.Capture.{Captured, CapturedFront, CapturedSoFar, IsTextOf, acknowledgement, message_to, number_behind, capture_behind, capture_at_start, rejection_in, book_behind};
+ghost use Rattle.giveup.specs.Capture.{Captured, CapturedFront, CapturedSoFar, IsTextOf, acknowledgement, message_to, number_behind, capture_behind, capture_at_start, rejection_by, rejection_in, book_behind};
 
 use crate::error::EngineError;
 use crate::position_lines::positions_text;
@@ -61,6 +61,16 @@ fn append(alloc: Global, fields: &Fields, output: &mut Vec<u8>) -> Result<(), Al
     }
 }
 
+/// Why an entry's command was refused, if it was.
+fn rejection_by(entry: &Entry) -> Option<Rejection>
+    ensures { result ≡ rejection_by entry.now }
+{
+    match entry {
+        Entry::Asked { command: _, reply } => Rejection::of_reply(*reply),
+        Entry::Swept(_) => None,
+    }
+}
+
 /// What the engine has.
 #[derive(Drop)]
 pub struct Capturing {
@@ -90,12 +100,7 @@ impl Capturing {
         ensures behind { OnOk result (self.new ≡ record self.old { book = book_behind self.old.book command }) }
     {
         match self.book.enter(command) {
-            Ok(receipt) => {
-                match receipt.entry {
-                    Entry::Asked { reply, .. } => Ok(Rejection::of_reply(reply)),
-                    Entry::Swept(_) => unreachable!(),
-                }
-            }
+            Ok(receipt) => Ok(rejection_by(&receipt.entry)),
             Err(EnterError::Full) => Ok(Some(Rejection::Full)),
             Err(EnterError::Memory) => Err(AllocError),
         }
@@ -151,8 +156,10 @@ impl Capturing {
         ensures behind { OnOk result (self.new ≡ capture_behind self.old (side_of firm.now report.now)) }
     {
         let command = report.side_of(*firm);
-        let rejection = self.enter(command)?;
-        self.answer_report(firm, report, rejection, output)
+        match self.enter(command) {
+            Ok(rejection) => self.answer_report(firm, report, rejection, output),
+            Err(refused) => Err(refused),
+        }
     }
 }
 
