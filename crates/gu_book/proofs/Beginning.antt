@@ -10,11 +10,11 @@ use Rattle.gu_terms.specs.declared.refusal.Refusal.{Refusal}
 use Rattle.gu_ref.specs.Tables.{Tables}
 use Rattle.gu_limits.specs.Limits.{GroupLimit, has_limit, limit_in, used_in}
 use Rattle.gu_offers.specs.Rows.{Row}
-use Rattle.gu_positions.specs.Rows.{Row as PositionRow, lots_in, lots_on}
+use Rattle.gu_positions.specs.Rows.{Row as PositionRow, has_row, lots_in, lots_on}
 use Rattle.gu_terms.specs.declared.report.Report.{Report}
 use Rattle.gu_book.specs.Accepted.{IsAccepted, TakesIn, accepts}
 use Rattle.gu_book.specs.Answer.{answer, done_of, state_of, tests_of}
-use Rattle.gu_book.specs.Beside.{IsBeside, IsKept, IsKeptLegal, is_kept_give_up}
+use Rattle.gu_book.specs.Beside.{AreKnown, IsBeside, IsKept, IsKeptLegal, is_kept_give_up}
 use Rattle.gu_book.specs.Effects.{SameAnswers}
 use Rattle.gu_book.specs.Legal.{IsLegal}
 use Rattle.gu_book.specs.Orderly.{IsOrderly}
@@ -55,6 +55,11 @@ nothing-kept reference totals today trades offers give_ups limits positions = re
       sums = λ side symbol. omega (arith, ap (λ (rs : List PositionRow). lots_on rs side symbol) positions);
     };
   };
+  known = record {
+    reports = rw trades tt;
+    offers = rw offers tt;
+    rows = λ account symbol has. let no : has_row [] account symbol ≡ true = ap (λ (rs : List PositionRow). has_row rs account symbol) (sym positions) ∙ has in cc;
+  };
 }
 
 -- where a growth was refused, what was kept still is
@@ -94,12 +99,13 @@ is-accepted reference history command reply room is accepted =
 
 -- a legal history grows by it
 pub legal-accepted : (reference : Tables) (history : List Entry) (old new : Totals) (command : Command) (reply : Reply) → IsKeptLegal reference history old → length history < 1000000
-    → reply ≡ answer reference history command → accepts reply ≡ true → TakesIn reference old new command → IsKeptLegal reference (history ++ Asked command reply ∷ []) new
-legal-accepted reference history old new command reply kept room is accepted takes =
+    → reply ≡ answer reference history command → accepts reply ≡ true → TakesIn reference old new command → (AreKnown reference old → AreKnown reference new) → IsKeptLegal reference (history ++ Asked command reply ∷ []) new
+legal-accepted reference history old new command reply kept room is accepted takes known =
     let it = is-accepted reference history command reply room is accepted in
     record {
       legal = legal_push reference history (Asked command reply) kept.legal room is;
       kept = subst (λ (r : Reply). IsKept reference (history ++ Asked command r ∷ []) new) (sym (is ∙ it.accepted)) (takes history kept.kept it);
+      known = known kept.known;
     }
 
 -- and by one that was refused
@@ -110,4 +116,5 @@ legal-denied reference history totals command reply kept room is denied =
     record {
       legal = legal_push reference history (Asked command reply) kept.legal room is;
       kept = subst (λ (r : Reply). IsKept reference (history ++ Asked command r ∷ []) totals) (sym one.1) (kept-denied reference history totals command one.0 kept.kept);
+      known = kept.known;
     }

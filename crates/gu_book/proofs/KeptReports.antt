@@ -71,7 +71,7 @@ unheld reports (row ∷ rows) r none found =
           | inr miss ↦ rw miss refl
         ]
 
-all-push : {X : Type 0} (P : X → Type 0) (xs : List X) (x : X) → AllByRecursion P xs → P x → AllByRecursion P (xs ++ x ∷ [])
+pub all-push : {X : Type 0} (P : X → Type 0) (xs : List X) (x : X) → AllByRecursion P xs → P x → AllByRecursion P (xs ++ x ∷ [])
 all-push P [] x all has = (has, tt)
 all-push P (first ∷ xs) x all has = (all.0, all-push P xs x all.1 has)
 

@@ -8,9 +8,11 @@ pub mod Covered
 pub mod Facts
 pub mod Growing
 pub mod Holding
+pub mod Interest
 pub mod KeptDays
 pub mod KeptOffers
 pub mod KeptReports
+pub mod KnownAccounts
 pub mod LimitLemmas
 pub mod Moved
 pub mod OrderlyLemmas

@@ -1,6 +1,6 @@
 -- Machinery: what a book keeps beside its history, so that an answer reads none of it.
-use Rattle.std.specs.Prelude.{◌≡◌, ℕ, ◌*◌, ◌≤◌, ◌&&◌, Bool, List, length, is_some}
-use Rattle.std.specs.List.{list_any}
+use Rattle.std.specs.Prelude.{◌≡◌, ℕ, ◌*◌, ◌≤◌, ◌&&◌, Bool, true, List, length, is_some}
+use Rattle.std.specs.List.{AllByRecursion, list_any}
 use Rattle.gu_terms.specs.Same.{same_firm, same_id}
 use Rattle.gu_terms.specs.declared.account.AccountId.{AccountId}
 use Rattle.gu_terms.specs.declared.entry.Entry.{Entry}
@@ -8,11 +8,14 @@ use Rattle.gu_terms.specs.declared.firm.FirmId.{FirmId}
 use Rattle.gu_terms.specs.declared.group.Group.{Group}
 use Rattle.gu_terms.specs.declared.id.Id.{Id}
 use Rattle.gu_terms.specs.declared.limit_key.LimitKey.{LimitKey}
+use Rattle.gu_terms.specs.declared.report.Report.{Report}
 use Rattle.gu_terms.specs.declared.side.Side.{Side}
 use Rattle.gu_terms.specs.declared.symbol.Symbol.{Symbol}
+use Rattle.gu_ref.specs.Reference.{account_row}
 use Rattle.gu_ref.specs.Tables.{Tables}
+use Rattle.gu_offers.specs.Rows.{Row}
 use Rattle.gu_limits.specs.Limits.{has_limit, limit_in, room_in, used_in}
-use Rattle.gu_positions.specs.Rows.{lots_in, lots_on}
+use Rattle.gu_positions.specs.Rows.{has_row, lots_in, lots_on}
 use Rattle.gu_book.specs.Answer.{State}
 use Rattle.gu_book.specs.Legal.{IsLegal}
 use Rattle.gu_book.specs.Limits.{limit_of, limit_set, use_of}
@@ -55,7 +58,14 @@ pub record IsKept (reference : Tables) (history : List Entry) (totals : Totals) 
   pub orderly : IsOrderly history
   pub beside : IsBeside reference history totals
 
+-- the accounts of all reports, of all offers and of all positions are in the reference
+pub record AreKnown (reference : Tables) (totals : Totals) : Type 0 where
+  pub reports : AllByRecursion (λ (r : Report). is_some (account_row reference r.account) ≡ true) totals.trades
+  pub offers : AllByRecursion (λ (r : Row). is_some (account_row reference r.offer.account) ≡ true) totals.offers
+  pub rows : (account : AccountId) (symbol : Symbol) → has_row totals.positions account symbol ≡ true → is_some (account_row reference account) ≡ true
+
 -- a legal history, with what is kept beside it
 pub record IsKeptLegal (reference : Tables) (history : List Entry) (totals : Totals) : Type 0 where
   pub legal : IsLegal reference history
   pub kept : IsKept reference history totals
+  pub known : AreKnown reference totals

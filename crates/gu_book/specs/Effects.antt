@@ -1,6 +1,7 @@
 -- Machinery: what one entry makes of what a book keeps beside its history.
-use Rattle.std.specs.Prelude.{◌≡◌, ℕ, ◌+◌, ◌-◌, ◌≤◌, ◌==◌, ◌||◌, ◌++◌, Bool, List, [], ◌∷◌, Option, Some, None, map, sum_by, if◌then◌else◌}
-use Rattle.gu_terms.specs.Same.{same_firm, same_id}
+use Rattle.std.specs.Prelude.{◌≡◌, ℕ, ◌+◌, ◌-◌, ◌≤◌, ◌==◌, ◌||◌, ◌++◌, Bool, true, List, [], ◌∷◌, Option, Some, None, map, sum_by, if◌then◌else◌}
+use Rattle.std.specs.List.{list_any}
+use Rattle.gu_terms.specs.Same.{same_account}
 use Rattle.gu_terms.specs.declared.account.AccountId.{AccountId}
 use Rattle.gu_terms.specs.declared.day.Day.{Day}
 use Rattle.gu_terms.specs.declared.firm.FirmId.{FirmId}
@@ -17,7 +18,7 @@ use Rattle.gu_trades.specs.Reports.{with_match}
 use Rattle.gu_limits.specs.Changes.{SameLimits, lots_under}
 use Rattle.gu_limits.specs.Limits.{GroupLimit, has_limit, limit_in, same_place, used_in}
 use Rattle.gu_positions.specs.Changes.{KeepsLots, lots_at}
-use Rattle.gu_positions.specs.Rows.{Row, lots_in, lots_on}
+use Rattle.gu_positions.specs.Rows.{Row, has_row, lots_in, lots_on}
 use Rattle.gu_book.specs.Limits.{path_behind}
 use Rattle.gu_book.specs.declared.totals.GiveUpKey.{GiveUpKey}
 use Rattle.gu_book.specs.declared.totals.Totals.{Totals}
@@ -30,6 +31,11 @@ lots_of_reports reports side account symbol = sum_by (λ (r : Report). lots_at r
 abbrev pub made_a_trade : List Report → Report → List Report
 made_a_trade [] report = []
 made_a_trade (waiting ∷ more) report = waiting ∷ report ∷ []
+
+-- no account has a row of an instrument that had none, but for these accounts
+abbrev pub OnlyRowsOf : List Row → List Row → List AccountId → Type 0
+OnlyRowsOf old new accounts =
+    (account : AccountId) (symbol : Symbol) → has_row new account symbol ≡ true → (has_row old account symbol || list_any (same_account account) accounts) ≡ true
 
 -- lots of reports are held more
 pub record HoldsMore (old new : List Row) (reports : List Report) : Type 0 where

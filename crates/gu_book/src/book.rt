@@ -144,6 +144,15 @@ impl Book {
         self.totals.positions.of(account, symbol)
     }
 
+    /// The open interest of an instrument: over the accounts, what each holds long above what it holds short.
+    pub fn open_interest(&self, symbol: Symbol) -> u64
+        ensures { result ≡ open_interest_of self.now symbol }
+    {
+        self.reference.rules();
+        self.totals.positions.rules();
+        self.totals.positions.open_interest(symbol)
+    }
+
     /// All that a firm's account holds: a row for each instrument of which it has lots, long or short, in the order of the reference, with
     /// the open day. None where the account is unknown or another firm's.
     pub fn positions(

@@ -1,6 +1,7 @@
 //! What a book keeps beside its history, so that no answer reads it.
 
 ghost use Rattle.std.specs.Prelude.{◌≡◌, ◌<◌, ◌≤◌, ◌+◌, ◌^◌, ◌++◌, ◌∷◌, ◌↔◌, [], true, false, All, Some, None, IfSome, IsSome, OnOk, OnErr, length, map};
+ghost use Rattle.std.specs.Option.{option_to_list};
 ghost use Rattle.gu_limits.specs.Limits.{room_in, used_in};
 ghost use Rattle.gu_offers.specs.Changes.{changed, closed, next_day, reversed, taken, with_lines};
 ghost use Rattle.gu_offers.specs.Rows.{left_in, row_at, today_in};
@@ -13,7 +14,7 @@ ghost use Rattle.gu_trades.specs.Matching.{conflicts, is_waiting};
 ghost use Rattle.gu_trades.specs.Sides.{reports_in};
 ghost use Rattle.gu_trades.specs.Reports.{has_report, report_by, with_match};
 ghost use Rattle.gu_book.specs.Beside.{is_kept_give_up};
-ghost use Rattle.gu_book.specs.Effects.{HoldsMore, HoldsMoved, SameAnswers, SameEntries, SetsLimit, UsesLess, UsesMore, UsesNothing, made_a_trade};
+ghost use Rattle.gu_book.specs.Effects.{HoldsMore, HoldsMoved, OnlyRowsOf, SameAnswers, SameEntries, SetsLimit, UsesLess, UsesMore, UsesNothing, made_a_trade};
 ghost use Rattle.gu_book.specs.Limits.{path_behind};
 ghost use Rattle.gu_book.specs.Reports.{Fits};
 
@@ -23,7 +24,7 @@ use gu_offers::Offers;
 use gu_positions::Positions;
 use gu_ref::Reference;
 use gu_terms::{
-    Command, Day, Done, Entry, FirmId, Group, Id, LimitKey, Lines, Offer, OfferNo, Report, Seed,
+    AccountId, Day, FirmId, Group, Id, LimitKey, Lines, Offer, OfferNo, Report, Seed, Symbol,
 };
 use gu_trades::{Sides, Trades};
 use indexmap::IndexSet;
@@ -141,10 +142,12 @@ impl Totals {
         ensures limits { self.new.limits ≡ self.old.limits }
         ensures positions { OnOk result
             (HoldsMore self.old.positions self.new.positions (made_a_trade (with_match report.now.match_id self.old.trades) report.now)) }
+        ensures rows { OnlyRowsOf self.old.positions self.new.positions
+            (report.now.account ∷ map (λ w. w.account) (with_match report.now.match_id self.old.trades)) }
         ensures refused { OnErr result (SameAnswers self.old self.new) }
     {
         let waiting = first_side(self.trades.trade(report.match_id));
-        make_rows(&mut self.positions, &waiting, report)?;
+        make_rows_of_trade(&mut self.positions, &waiting, report)?;
         self.trades.report(
             report.firm,
             report.id,
@@ -208,10 +211,16 @@ impl Totals {
         ensures limits { OnOk result (UsesMore reference.now self.old.limits self.new.limits offer.now lots) }
         ensures positions { OnOk result
             (HoldsMoved self.old.positions self.new.positions report.now report.now.account offer.now.account lots) }
+        ensures rows { OnlyRowsOf self.old.positions self.new.positions (report.now.account ∷ offer.now.account ∷ []) }
         ensures refused { OnErr result (SameAnswers self.old self.new) }
     {
-        self.positions.row(report.account, report.symbol)?;
-        self.positions.row(offer.account, report.symbol)?;
+        make_rows(
+            &mut self.positions,
+            &report.account,
+            &report.symbol,
+            &offer.account,
+            &report.symbol,
+        )?;
         self.offers.take(number, lots);
         charge(&mut self.limits, reference, offer, lots);
         self.positions.shift(
@@ -242,10 +251,16 @@ impl Totals {
         ensures limits { OnOk result (UsesLess reference.now self.old.limits self.new.limits offer.now lots) }
         ensures positions { OnOk result
             (HoldsMoved self.old.positions self.new.positions report.now offer.now.account report.now.account lots) }
+        ensures rows { OnlyRowsOf self.old.positions self.new.positions (report.now.account ∷ offer.now.account ∷ []) }
         ensures refused { OnErr result (SameAnswers self.old self.new) }
     {
-        self.positions.row(report.account, report.symbol)?;
-        self.positions.row(offer.account, report.symbol)?;
+        make_rows(
+            &mut self.positions,
+            &report.account,
+            &report.symbol,
+            &offer.account,
+            &report.symbol,
+        )?;
         self.offers.reverse(number);
         give_back(&mut self.limits, reference, offer, lots);
         self.positions.shift(
@@ -270,8 +285,25 @@ fn first_side(sides: Sides) -> Option<Report>
     }
 }
 
-/// Makes the rows of a report and of the one that waits for it, where one does.
+/// Makes the rows of two accounts, each of an instrument.
 fn make_rows(
+    positions: &mut Positions,
+    one: &AccountId,
+    its: &Symbol,
+    two: &AccountId,
+    other: &Symbol,
+) -> Result<(), AllocError>
+    ensures one { OnOk result (has_row positions.new one.now its.now ≡ true) }
+    ensures two { OnOk result (has_row positions.new two.now other.now ≡ true) }
+    ensures same_lots { KeepsLots positions.old positions.new }
+    ensures rows { OnlyRowsOf positions.old positions.new (one.now ∷ two.now ∷ []) }
+{
+    positions.row(*one, *its)?;
+    positions.row(*two, *other)
+}
+
+/// Makes the rows of a report and of the one that waits for it, where one does.
+fn make_rows_of_trade(
     positions: &mut Positions,
     waiting: &Option<Report>,
     report: &Report,
@@ -279,12 +311,18 @@ fn make_rows(
     ensures waiting { OnOk result (IfSome waiting.now (λ w. has_row positions.new w.account w.symbol ≡ true)) }
     ensures report { OnOk result (IfSome waiting.now (λ w. has_row positions.new report.now.account report.now.symbol ≡ true)) }
     ensures same_lots { KeepsLots positions.old positions.new }
+    ensures rows { OnlyRowsOf positions.old positions.new (report.now.account ∷ map (λ w. w.account) (option_to_list waiting.now)) }
 {
     let Some(waiting) = waiting else {
         return Ok(());
     };
-    positions.row(waiting.account, waiting.symbol)?;
-    positions.row(report.account, report.symbol)
+    make_rows(
+        positions,
+        &report.account,
+        &report.symbol,
+        &waiting.account,
+        &waiting.symbol,
+    )
 }
 
 /// Holds the lots of a report.

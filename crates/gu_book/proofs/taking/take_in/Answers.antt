@@ -5,6 +5,8 @@ use Rattle.gu_terms.specs.declared.command.Command.{Command}
 use Rattle.gu_book.specs.Accepted.{MayTakeIn, TakesIn}
 use Rattle.gu_book.specs.Effects.{SameEntries}
 use Rattle.gu_book.proofs.Accepting.{on_ok_two, refusal-taken}
+use Rattle.gu_offers.specs.Changes.{closed}
+use Rattle.gu_book.proofs.KnownAccounts.{known-opened, known-refused, known-reported}
 use Rattle.gu_book.proofs.TakenIn.{limit-taken, opening-taken, report-fits, report-taken}
 use Rattle.gu_book.proofs.taking.take_in.Goals as goal
 
@@ -46,3 +48,18 @@ returns-in-Refuse-clause-taken c =
     let old = c.args.totals.now in
     subst (λ (command : Command). TakesIn c.args.reference.now old (record old { offers = c.close.new.self }) command) (sym c.in-Refuse.is)
     (refusal-taken c.args.reference.now old (record old { offers = c.close.new.self }) c.in-Refuse.offer (record { today = refl; trades = refl; give_ups = refl }) c.close.ensures refl refl c.in-Refuse.firm c.in-Refuse.why)
+
+pub returns-in-OpenDay-clause-known : goal.returns-in-OpenDay-clause-known
+returns-in-OpenDay-clause-known c = known-opened c.args.reference.now c.args.totals.now c.open.new.self c.open.ensures.trades c.open.ensures.offers c.open.ensures.positions
+
+pub returns-in-Some-clause-known : goal.returns-in-Some-clause-known
+returns-in-Some-clause-known c =
+    let at = c.in-ReportSide in
+    let e = c.report.ensures in
+    known-reported c.args.reference.now at.firm at.id at.match_id at.symbol at.lots at.price at.day at.side at.account c.in-Some.day c.args.totals.now c.report.new.self c.report.result c.in-Some.is
+    (subst (λ (command : Command). MayTakeIn c.args.reference.now c.args.totals.now command) at.is c.requires) e.offers e.trades e.refused e.rows
+
+pub returns-in-Refuse-clause-known : goal.returns-in-Refuse-clause-known
+returns-in-Refuse-clause-known c =
+    let old = c.args.totals.now in
+    known-refused c.args.reference.now old (record old { offers = c.close.new.self }) c.in-Refuse.offer closed (λ row. refl) refl c.close.ensures refl

@@ -1,4 +1,7 @@
+use Rattle.std.proofs.Common.{refl}
+use Rattle.gu_offers.specs.Changes.{taken}
 use Rattle.gu_book.proofs.Accepting.{IsSeen, claim-room, claim-taken, claim-there, on_ok_three}
+use Rattle.gu_book.proofs.KnownAccounts.{known-moved}
 use Rattle.gu_book.proofs.taking.take_in_claim.Goals as goal
 
 pub claim-requires-clause-room : goal.claim-requires-clause-room
@@ -19,3 +22,8 @@ returns-clause-taken c =
     (claim-taken c.args.reference.now c.args.totals.now c.claim.new.self c.args.number c.in-Some.offer c.in-Some-side_of.report
     (record { shown = c.in-Some.ensures; found = c.in-Some-side_of.ensures.found }) c.claim.ensures.entries)
     (rw c.left-lots.ensures at c.claim.ensures.offers) (rw c.left-lots.ensures at c.claim.ensures.limits) (rw c.left-lots.ensures at c.claim.ensures.positions)
+
+pub returns-clause-known : goal.returns-clause-known
+returns-clause-known c =
+    known-moved c.args.reference.now c.args.totals.now c.claim.new.self c.claim.result c.args.number (taken c.left-lots.result) c.in-Some.offer c.in-Some-side_of.report
+    (record { shown = c.in-Some.ensures; found = c.in-Some-side_of.ensures.found }) (λ row. refl) c.claim.ensures.entries.trades c.claim.ensures.offers c.claim.ensures.refused c.claim.ensures.rows

@@ -27,7 +27,7 @@ invariant_of-self-in-Err c =
     let pushed = c.in_ok-push.ensures.added ∙ ap (λ (k : Command). old.history ++ Asked k c.args.reply.now ∷ []) c.in_ok-kept.ensures in
     let back = truncated old.history (Asked c.args.command c.args.reply.now) c.len-count.result c.push.new.self c.truncate.new.self c.len-count.ensures pushed c.truncate.ensures in
     subst (λ (history : List Entry). IsKeptLegal old.reference history c.take_in.new.totals) (sym back)
-    (record { legal = c.self.invariant.legal; kept = still-kept old.reference old.history old.totals c.take_in.new.totals c.self.invariant.kept c.in-Err.ensures.refused })
+    (record { legal = c.self.invariant.legal; kept = still-kept old.reference old.history old.totals c.take_in.new.totals c.self.invariant.kept c.in-Err.ensures.refused; known = c.take_in.ensures.known c.self.invariant.known })
 
 pub invariant_of-self-else-accepts : goal.invariant_of-self-else-accepts
 invariant_of-self-else-accepts c =
@@ -52,4 +52,4 @@ invariant_of-self-in_default c =
     let pushed = c.in_ok-push.ensures.added ∙ ap (λ (k : Command). old.history ++ Asked k c.args.reply.now ∷ []) c.in_ok-kept.ensures in
     subst (λ (history : List Entry). IsKeptLegal old.reference history c.take_in.new.totals) (sym pushed)
     (legal-accepted old.reference old.history old.totals c.take_in.new.totals c.args.command c.args.reply.now c.self.invariant (rw (sym c.self.view_is) at c.requires.room) is
-    (sym c.accepts.ensures ∙ c.if-accepts.true) c.in_default.ensures.taken)
+    (sym c.accepts.ensures ∙ c.if-accepts.true) c.in_default.ensures.taken c.take_in.ensures.known)

@@ -1,0 +1,129 @@
+-- The open interest by rows is that by accounts.
+use Rattle.std.proofs.Common.{◌≡◌, ℕ, ◌+◌, ◌-◌, ◌&&◌, ◌||◌, Bool, true, false, List, [], ◌∷◌, sum_by, Option, Some, None, is_some, refl, sym, ap, ◌∙◌, arith, if◌then◌else◌, inl, inr}
+use Rattle.std.specs.List.{AllByRecursion, IsDistinct, find, list_any}
+use Rattle.std.specs.Option.{option_map_or}
+use Rattle.std.proofs.lemmas.Bool.{cases_Bool}
+use Rattle.std.proofs.lemmas.Cmp.{nat_list_eq_equiv}
+use Rattle.std.proofs.lemmas.List.Sums.{sum_by-cons}
+use Rattle.std.proofs.lemmas.Map.Keys.{IsDistinct-head, IsDistinct-tail}
+use Rattle.std.proofs.lemmas.Slice.Eq.{bytes_eq-Decides}
+use Rattle.gu_terms.specs.Same.{same_account, same_symbol}
+use Rattle.gu_terms.specs.declared.account.AccountId.{AccountId}
+use Rattle.gu_terms.specs.declared.side.Side.TheVariants.{Buy, Sell}
+use Rattle.gu_terms.specs.declared.symbol.Symbol.{Symbol}
+use Rattle.gu_terms.proofs.Lists.{sum_by-agree, sum_by-swap}
+use Rattle.gu_terms.proofs.SameValues.{both}
+use Rattle.gu_ref.specs.Listed.{account_in}
+use Rattle.gu_ref.specs.Tables.{Tables}
+use Rattle.gu_ref.specs.declared.accounts.Account.{Account}
+use Rattle.gu_positions.specs.Rows.{Row, has_row, is_of, lots_in, open_interest_in, same_row}
+use Rattle.gu_book.specs.Beside.{AreKnown, IsBeside}
+use Rattle.gu_book.specs.Kept.{Kept}
+use Rattle.gu_book.specs.Positions.{held_of, open_interest_of}
+use Rattle.gu_book.specs.declared.totals.Totals.{Totals}
+
+-- what a row has long above what it has short
+abbrev net : Row → ℕ
+net r = r.long - r.short
+
+-- the same, of the row of an account and an instrument alone
+abbrev net_at : AccountId → Symbol → Row → ℕ
+net_at account symbol r = if is_of account symbol r then net r else 0
+
+-- behind its row an account has no other
+nothing-more : (account : AccountId) (symbol : Symbol) (r : Row) (rows : List Row) → is_of account symbol r ≡ true → AllByRecursion (λ other. same_row r other ≡ false) rows → sum_by (net_at account symbol) rows ≡ 0
+nothing-more account symbol r [] own apart = refl
+nothing-more account symbol r (other ∷ rows) own apart =
+    let parts = both _ _ own in
+    let accounts : account.name ≡ r.account.name = (bytes_eq-Decides account.name r.account.name).0 parts.0 in
+    let symbols : symbol.name ≡ r.symbol.name = (bytes_eq-Decides symbol.name r.symbol.name).0 parts.1 in
+    let turned : is_of account symbol other ≡ same_row r other =
+    λ i. same_account (let it : AccountId = record { name = accounts i } in it) other.account && same_symbol (let it : Symbol = record { name = symbols i } in it) other.symbol in
+    let none : net_at account symbol other ≡ 0 = rw (turned ∙ apart.0) refl in
+    omega (arith, sum_by-cons (net_at account symbol) other rows, none, nothing-more account symbol r rows own apart.1)
+
+-- what an account has long above what it has short is what its row has
+one-row : (rows : List Row) (account : AccountId) (symbol : Symbol) → IsDistinct same_row rows → sum_by (net_at account symbol) rows ≡ lots_in rows Buy account symbol - lots_in rows Sell account symbol
+one-row [] account symbol once = refl
+one-row (r ∷ rows) account symbol once =
+    elim (cases_Bool (is_of account symbol r)) [
+      | inl hit ↦
+          let own : net_at account symbol r ≡ r.long - r.short = rw hit refl in
+          let long : lots_in (r ∷ rows) Buy account symbol ≡ r.long = rw hit refl in
+          let short : lots_in (r ∷ rows) Sell account symbol ≡ r.short = rw hit refl in
+          omega (arith, sum_by-cons (net_at account symbol) r rows, own, long, short, nothing-more account symbol r rows hit (IsDistinct-head same_row r rows once))
+      | inr miss ↦
+          let own : net_at account symbol r ≡ 0 = rw miss refl in
+          let long : lots_in (r ∷ rows) Buy account symbol ≡ lots_in rows Buy account symbol = rw miss refl in
+          let short : lots_in (r ∷ rows) Sell account symbol ≡ lots_in rows Sell account symbol = rw miss refl in
+          omega (arith, sum_by-cons (net_at account symbol) r rows, own, long, short, one-row rows account symbol (IsDistinct-tail same_row r rows once))
+    ]
+
+-- a row counts for its account alone
+abbrev counts : Row → Symbol → ℕ
+counts r symbol = if same_symbol symbol r.symbol then net r else 0
+
+no-more : (r : Row) (symbol : Symbol) (a : Account) (accounts : List Account) → same_account a.account r.account ≡ true → AllByRecursion (λ (other : Account). same_account a.account other.account ≡ false) accounts
+    → sum_by (λ (o : Account). net_at o.account symbol r) accounts ≡ 0
+no-more r symbol a [] own apart = refl
+no-more r symbol a (other ∷ accounts) own apart =
+    let names : a.account.name ≡ r.account.name = (bytes_eq-Decides a.account.name r.account.name).0 own in
+    let miss : same_account other.account r.account ≡ false =
+    (λ i. same_account other.account (let it : AccountId = record { name = sym names i } in it)) ∙ nat_list_eq_equiv.symm other.account.name a.account.name ∙ apart.0 in
+    let none : net_at other.account symbol r ≡ 0 = rw miss refl in
+    omega (arith, sum_by-cons (λ (o : Account). net_at o.account symbol r) other accounts, none, no-more r symbol a accounts own apart.1)
+
+one-account : (r : Row) (symbol : Symbol) (accounts : List Account) → IsDistinct (λ a b. same_account a.account b.account) accounts → is_some (account_in accounts r.account) ≡ true
+    → sum_by (λ (a : Account). net_at a.account symbol r) accounts ≡ counts r symbol
+one-account r symbol [] once there = cc
+one-account r symbol (a ∷ accounts) once there =
+    elim (cases_Bool (same_account a.account r.account)) [
+      | inl hit ↦
+          let own : net_at a.account symbol r ≡ counts r symbol = rw hit refl in
+          omega (arith, sum_by-cons (λ (o : Account). net_at o.account symbol r) a accounts, own, no-more r symbol a accounts hit (IsDistinct-head (λ a b. same_account a.account b.account) a accounts once))
+      | inr miss ↦
+          let own : net_at a.account symbol r ≡ 0 = rw miss refl in
+          let later : is_some (account_in accounts r.account) ≡ true = sym (rw miss refl) ∙ there in
+          omega (arith, sum_by-cons (λ (o : Account). net_at o.account symbol r) a accounts, own, one-account r symbol accounts (IsDistinct-tail (λ a b. same_account a.account b.account) a accounts once) later)
+    ]
+
+-- each row is of an account that is there
+all-there : (accounts : List Account) (rows : List Row) → ((account : AccountId) (symbol : Symbol) → has_row rows account symbol ≡ true → is_some (account_in accounts account) ≡ true)
+    → AllByRecursion (λ (r : Row). is_some (account_in accounts r.account) ≡ true) rows
+all-there accounts [] known = tt
+all-there accounts (r ∷ rows) known = (
+  known r.account r.symbol (rw (nat_list_eq_equiv.refl r.account.name, nat_list_eq_equiv.refl r.symbol.name) refl),
+  all-there accounts rows (λ account symbol h. known account symbol (either (is_of account symbol r) (has_row rows account symbol) h)),
+)
+  where
+    either : (p q : Bool) → q ≡ true → (p || q) ≡ true
+    either true q h = refl
+    either false q h = h
+
+-- the rows' open interest, over the accounts
+over-rows : (accounts : List Account) (rows : List Row) (symbol : Symbol) → IsDistinct (λ a b. same_account a.account b.account) accounts
+    → AllByRecursion (λ (r : Row). is_some (account_in accounts r.account) ≡ true) rows
+    → open_interest_in rows symbol ≡ sum_by (λ r. sum_by (λ (a : Account). net_at a.account symbol r) accounts) rows
+over-rows accounts [] symbol once known = refl
+over-rows accounts (r ∷ rows) symbol once known =
+    let of_rows : Row → ℕ = λ r. if same_symbol r.symbol symbol then r.long - r.short else 0 in
+    let turned : of_rows r ≡ counts r symbol = ap (λ b. if b then net r else 0) (nat_list_eq_equiv.symm r.symbol.name symbol.name) in
+    omega (
+      arith,
+      sum_by-cons of_rows r rows,
+      sum_by-cons (λ r. sum_by (λ (a : Account). net_at a.account symbol r) accounts) r rows,
+      turned,
+      one-account r symbol accounts once known.0,
+      over-rows accounts rows symbol once known.1,
+    )
+
+-- the open interest by rows is that by accounts
+pub interest-is : (book : Kept) (totals : Totals) (symbol : Symbol) → IsDistinct (λ a b. same_account a.account b.account) book.reference.accounts → IsDistinct same_row totals.positions
+    → IsBeside book.reference book.history totals → AreKnown book.reference totals → open_interest_in totals.positions symbol ≡ open_interest_of book symbol
+interest-is book totals symbol accounts once beside known =
+    let rows = totals.positions in
+    let all = book.reference.accounts in
+    over-rows all rows symbol accounts (all-there all rows known.rows)
+    ∙ sym (sum_by-swap (λ (a : Account) (r : Row). net_at a.account symbol r) all rows)
+    ∙ sum_by-agree (λ (a : Account). sum_by (net_at a.account symbol) rows) (λ (a : Account). held_of book.history Buy a.account symbol - held_of book.history Sell a.account symbol) all
+    (λ a. one-row rows a.account symbol once ∙ (λ i. beside.positions Buy a.account symbol i - beside.positions Sell a.account symbol i))
