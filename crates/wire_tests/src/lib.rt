@@ -2,6 +2,10 @@
 #![tactic(auto)]
 
 #[cfg(test)]
+mod answering;
+#[cfg(test)]
+mod asking;
+#[cfg(test)]
 mod cut;
 #[cfg(test)]
 mod encoding;
