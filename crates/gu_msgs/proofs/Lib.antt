@@ -2,6 +2,7 @@ mod RunLemmas
 mod Numerals
 mod GroupLemmas
 mod ShapeLemmas
+mod SecondStandings
 mod ItemLemmas
 mod HeldLemmas
 mod TextLemmas
@@ -11,5 +12,7 @@ pub mod NoFault
 mod OneFault
 mod PlainTexts
 mod Encodables
+mod SaidOnce
+pub mod OneMessage
 pub mod OneReport
 mod Midnights

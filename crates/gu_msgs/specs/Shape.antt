@@ -1,8 +1,8 @@
 -- The shape of a message: tags that stand twice, tags that are missing, and groups that differ from their counters.
-use Rattle.std.specs.Prelude.{ℕ, Bool, not, ◌&&◌, ◌==◌, List, [], ◌∷◌, ◌++◌, length, Option, None, Some, if◌then◌else◌}
+use Rattle.std.specs.Prelude.{ℕ, Bool, not, ◌&&◌, ◌==◌, List, [], ◌∷◌, ◌++◌, length, Option, None, Some, if◌then◌else◌, ◌≡◌, ◌<◌, true, take, slice_get, MatchOption}
 use Rattle.std.specs.Option.{option_map, option_or}
 use Rattle.std.specs.Str.Parse.{digits_value}
-use Rattle.gu_fix.specs.TagValue.{TagValue}
+use Rattle.gu_fix.specs.TagValue.{TagValue, tag_value}
 use Rattle.gu_msgs.specs.Groups.{entries_of}
 use Rattle.gu_msgs.specs.Rows.{tag_of, is_required, is_listed}
 use Rattle.gu_msgs.specs.Tables.{body_rows, entry_rows, outer_rows}
@@ -30,6 +30,18 @@ repeated_behind rows before (field ∷ fields) =
 -- the leftmost second standing of a tag of these rows
 abbrev pub repeated : List Row → List TagValue → Option ℕ
 repeated rows fields = repeated_behind rows [] fields
+
+-- at this place stands a tag of these rows that stands before it too
+abbrev pub StandsAgain : List Row → List TagValue → ℕ → Type 0
+StandsAgain rows fields place = MatchOption (slice_get fields place) ⊥ (λ field. is_second rows (take place fields) field ≡ true)
+
+-- this tag stands again at a place, and at no place to the left of it stands any again
+pub record StandsAgainFirst (rows : List Row) (fields : List TagValue) (tag : ℕ) : Type 0 where
+  pub place : ℕ
+  pub value : List ℕ
+  pub at : slice_get fields place ≡ Some (tag_value tag value)
+  pub again : StandsAgain rows fields place
+  pub first : (earlier : ℕ) → earlier < place → ¬ StandsAgain rows fields earlier
 
 -- the first tag of these rows that must stand and doesn't
 abbrev pub missing : List Row → List TagValue → Option ℕ
