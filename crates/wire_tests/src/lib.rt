@@ -30,6 +30,8 @@ mod reading;
 #[cfg(test)]
 mod reports;
 #[cfg(test)]
+mod tables;
+#[cfg(test)]
 mod takes;
 #[cfg(test)]
 mod writing;
