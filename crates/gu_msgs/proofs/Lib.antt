@@ -14,5 +14,7 @@ mod PlainTexts
 mod Encodables
 mod SaidOnce
 pub mod OneMessage
+mod Decided
+mod EachSaid
 pub mod OneReport
 mod Midnights

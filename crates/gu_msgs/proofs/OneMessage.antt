@@ -117,12 +117,12 @@ one_flag tag fields true false p q = absurd (q p)
 one_flag tag fields false true p q = absurd (p q)
 
 -- the status with a number
-status_at : ℕ → AllocStatus
+pub status_at : ℕ → AllocStatus
 status_at n =
     if n == 0 then Accepted else (if n == 1 then Rejected BlockLevel else (if n == 2 then Rejected AccountLevel
     else (if n == 5 then Rejected Intermediary else (if n == 6 then AllocationPending else Reversed))))
 
-status_at-number : (s : AllocStatus) → status_at (status_number s) ≡ s
+pub status_at-number : (s : AllocStatus) → status_at (status_number s) ≡ s
 unfolding status_at
 status_at-number Accepted = refl
 status_at-number (Rejected BlockLevel) = refl

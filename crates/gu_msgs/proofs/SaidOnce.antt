@@ -21,12 +21,12 @@ pub one_text : (a b : List ℕ) (v : Option (List ℕ)) → v ≡ Some a → v �
 one_text a b v p q = let same : Some a ≡ Some b = sym p ∙ q in cc
 
 -- a power of ten is above 0
-ten_to_positive : (k : ℕ) → 0 < 10 ^ k
+pub ten_to_positive : (k : ℕ) → 0 < 10 ^ k
 ten_to_positive zero = omega arith
 ten_to_positive (suc k) = omega (arith, ten_to_positive k, pow-succ' 10 k)
 
 -- a number text means one number
-one_number : (text : List ℕ) (parts : ℕ) (y z : ℤ) → Means text parts y → Means text parts z → y ≡ z
+pub one_number : (text : List ℕ) (parts : ℕ) (y z : ℤ) → Means text parts y → Means text parts z → y ≡ z
 one_number text parts y z p q =
     let power = 10 ^ length (fraction_digits text) in
     let positive = ten_to_positive (length (fraction_digits text)) in

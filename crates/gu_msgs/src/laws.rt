@@ -1,6 +1,6 @@
 //! What holds of all messages.
 
-ghost use Rattle.std.specs.Prelude.{◌≡◌, ℕ, List, MatchOption};
+ghost use Rattle.std.specs.Prelude.{◌≡◌, ◌⊎◌, ℕ, List, MatchOption};
 ghost use Rattle.gu_fix.specs.TagValue.{TagValue};
 ghost use Rattle.gu_msgs.specs.Faults.{IsFaultOf};
 ghost use Rattle.gu_msgs.specs.Messages.{Says};
@@ -9,7 +9,12 @@ ghost use Rattle.gu_msgs.specs.declared.fault.Fault.{Fault as FaultOf};
 ghost use Rattle.gu_msgs.specs.declared.inbound.Inbound.{Inbound as InboundOf};
 ghost use Rattle.gu_msgs.specs.declared.row.Row.{Row as RowOf};
 
-/// A message is read exactly where it has no fault.
+/// Fields say a message, or they have a fault.
+pub fn a_message_or_a_fault()
+    ensures { (fields : List TagValue) → ((message : InboundOf) × Says fields message) ⊎ ((fault : FaultOf) × IsFaultOf fields fault) }
+{}
+
+/// They never do both.
 pub fn what_is_read_has_no_fault()
     ensures { (fields : List TagValue) (message : InboundOf) (fault : FaultOf) → Says fields message → IsFaultOf fields fault → ⊥ }
 {}

@@ -50,7 +50,8 @@ pub use fault::{Fault, MsgFault};
 pub use header_reading::header;
 pub use inbound::Inbound;
 pub use laws::{
-    one_first_fault, one_message, the_leftmost_second_standing_is_named, what_is_read_has_no_fault,
+    a_message_or_a_fault, one_first_fault, one_message, the_leftmost_second_standing_is_named,
+    what_is_read_has_no_fault,
 };
 pub use midnight::midnight_of;
 pub use outbound::Outbound;
