@@ -2,6 +2,7 @@ mod RunLemmas
 mod Numerals
 mod GroupLemmas
 mod ShapeLemmas
+mod SecondStandings
 mod ItemLemmas
 mod HeldLemmas
 mod TextLemmas
@@ -11,5 +12,9 @@ pub mod NoFault
 mod OneFault
 mod PlainTexts
 mod Encodables
+mod SaidOnce
+pub mod OneMessage
+mod Decided
+mod EachSaid
 pub mod OneReport
 mod Midnights

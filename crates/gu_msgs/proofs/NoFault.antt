@@ -132,7 +132,8 @@ sum_code AllocationInstruction = refl
 sum_code AllocationReportAck = refl
 sum_code RequestForPositions = refl
 
-type_at : ℕ → MsgType
+-- the type whose code has this sum
+pub type_at : ℕ → MsgType
 type_at n =
     if n == 48 then Heartbeat else (if n == 49 then TestRequest else (if n == 50 then ResendRequest else (if n == 51 then Reject
     else (if n == 52 then SequenceReset else (if n == 53 then Logout else (if n == 65 then Logon else (if n == 134 then TradeCaptureReport
@@ -151,6 +152,9 @@ type_at-place TradeCaptureReport = refl
 type_at-place AllocationInstruction = refl
 type_at-place AllocationReportAck = refl
 type_at-place RequestForPositions = refl
+
+pub type_at-sum : (k : MsgType) → type_at (sum (code_of k)) ≡ k
+type_at-sum k = ap type_at (sum_code k) ∙ type_at-place k
 
 -- two types with one code are one
 pub one_type : (k j : MsgType) → code_of k ≡ code_of j → k ≡ j

@@ -1,9 +1,8 @@
 -- The shape of a message: tags that stand twice, tags that are missing, and groups that differ from their counters.
-use Rattle.std.specs.Prelude.{ℕ, Bool, not, ◌&&◌, ◌==◌, List, [], ◌∷◌, ◌++◌, length, Option, None, Some, if◌then◌else◌}
-use Rattle.std.specs.List.{list_any}
+use Rattle.std.specs.Prelude.{ℕ, Bool, not, ◌&&◌, ◌==◌, List, [], ◌∷◌, ◌++◌, length, Option, None, Some, if◌then◌else◌, ◌≡◌, ◌<◌, true, take, slice_get, MatchOption}
 use Rattle.std.specs.Option.{option_map, option_or}
 use Rattle.std.specs.Str.Parse.{digits_value}
-use Rattle.gu_fix.specs.TagValue.{TagValue}
+use Rattle.gu_fix.specs.TagValue.{TagValue, tag_value}
 use Rattle.gu_msgs.specs.Groups.{entries_of}
 use Rattle.gu_msgs.specs.Rows.{tag_of, is_required, is_listed}
 use Rattle.gu_msgs.specs.Tables.{body_rows, entry_rows, outer_rows}
@@ -18,21 +17,31 @@ use Rattle.gu_msgs.specs.declared.row.Row.{Row}
 abbrev pub fault_at : SessionRejectReason → ℕ → Fault
 fault_at reason tag = record { tag = tag; reason = reason }
 
--- whether a tag is among these
-abbrev pub is_among : List ℕ → ℕ → Bool
-is_among tags tag = list_any (λ t. t == tag) tags
+-- a field with a tag of these rows that stands before it too
+abbrev pub is_second : List Row → List TagValue → TagValue → Bool
+is_second rows before field = is_listed rows field.tag && stands field.tag before
 
--- the first of the tags that are read that stands again, where these stood before
-abbrev pub repeated_after : (ℕ → Bool) → List ℕ → List TagValue → Option ℕ
-repeated_after is_read before [] = None
-repeated_after is_read before (field ∷ fields) =
-    if is_read field.tag then
-    (if is_among before field.tag then Some field.tag else repeated_after is_read (before ++ field.tag ∷ []) fields)
-    else repeated_after is_read before fields
+-- the tag of the first such field behind these
+abbrev pub repeated_behind : List Row → List TagValue → List TagValue → Option ℕ
+repeated_behind rows before [] = None
+repeated_behind rows before (field ∷ fields) =
+    if is_second rows before field then Some field.tag else repeated_behind rows (before ++ field ∷ []) fields
 
 -- the leftmost second standing of a tag of these rows
 abbrev pub repeated : List Row → List TagValue → Option ℕ
-repeated rows fields = repeated_after (is_listed rows) [] fields
+repeated rows fields = repeated_behind rows [] fields
+
+-- at this place stands a tag of these rows that stands before it too
+abbrev pub StandsAgain : List Row → List TagValue → ℕ → Type 0
+StandsAgain rows fields place = MatchOption (slice_get fields place) ⊥ (λ field. is_second rows (take place fields) field ≡ true)
+
+-- this tag stands again at a place, and at no place to the left of it stands any again
+pub record StandsAgainFirst (rows : List Row) (fields : List TagValue) (tag : ℕ) : Type 0 where
+  pub place : ℕ
+  pub value : List ℕ
+  pub at : slice_get fields place ≡ Some (tag_value tag value)
+  pub again : StandsAgain rows fields place
+  pub first : (earlier : ℕ) → earlier < place → ¬ StandsAgain rows fields earlier
 
 -- the first tag of these rows that must stand and doesn't
 abbrev pub missing : List Row → List TagValue → Option ℕ

@@ -1,15 +1,20 @@
 //! What holds of all messages.
 
-ghost use Rattle.std.specs.Prelude.{◌≡◌, List};
+ghost use Rattle.std.specs.Prelude.{◌≡◌, ◌⊎◌, ℕ, List, MatchOption};
 ghost use Rattle.gu_fix.specs.TagValue.{TagValue};
 ghost use Rattle.gu_msgs.specs.Faults.{IsFaultOf};
 ghost use Rattle.gu_msgs.specs.Messages.{Says};
+ghost use Rattle.gu_msgs.specs.Shape.{StandsAgain, StandsAgainFirst, repeated};
 ghost use Rattle.gu_msgs.specs.declared.fault.Fault.{Fault as FaultOf};
 ghost use Rattle.gu_msgs.specs.declared.inbound.Inbound.{Inbound as InboundOf};
-ghost use Rattle.gu_msgs.specs.declared.inbound.Inbound.TheVariants as inbound;
-ghost use Rattle.gu_msgs.specs.declared.inbound.TradeCaptureReport.{TradeCaptureReport as ReportOf};
+ghost use Rattle.gu_msgs.specs.declared.row.Row.{Row as RowOf};
 
-/// A message is read exactly where it has no fault.
+/// Fields say a message, or they have a fault.
+pub fn a_message_or_a_fault()
+    ensures { (fields : List TagValue) → ((message : InboundOf) × Says fields message) ⊎ ((fault : FaultOf) × IsFaultOf fields fault) }
+{}
+
+/// They never do both.
 pub fn what_is_read_has_no_fault()
     ensures { (fields : List TagValue) (message : InboundOf) (fault : FaultOf) → Says fields message → IsFaultOf fields fault → ⊥ }
 {}
@@ -19,8 +24,13 @@ pub fn one_first_fault()
     ensures { (fields : List TagValue) (fault other : FaultOf) → IsFaultOf fields fault → IsFaultOf fields other → fault ≡ other }
 {}
 
-/// The fields of a report say this one report, and nothing else.
-pub fn one_report()
-    ensures { (fields : List TagValue) (message : InboundOf) (report : ReportOf)
-        → Says fields message → Says fields (inbound.TradeCaptureReport report) → message ≡ inbound.TradeCaptureReport report }
+/// Fields say one message.
+pub fn one_message()
+    ensures { (fields : List TagValue) (message other : InboundOf) → Says fields message → Says fields other → message ≡ other }
+{}
+
+/// The tag that is named for standing twice is that of the leftmost second standing; where none is named, none stands twice.
+pub fn the_leftmost_second_standing_is_named()
+    ensures { (rows : List RowOf) (fields : List TagValue)
+        → MatchOption (repeated rows fields) ((place : ℕ) → ¬ StandsAgain rows fields place) (StandsAgainFirst rows fields) }
 {}

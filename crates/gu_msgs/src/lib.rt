@@ -49,7 +49,10 @@ pub use coded_values::{AllocReportType, BusinessRejectReason, LogoutReason, PosR
 pub use fault::{Fault, MsgFault};
 pub use header_reading::header;
 pub use inbound::Inbound;
-pub use laws::{one_first_fault, one_report, what_is_read_has_no_fault};
+pub use laws::{
+    a_message_or_a_fault, one_first_fault, one_message, the_leftmost_second_standing_is_named,
+    what_is_read_has_no_fault,
+};
 pub use midnight::midnight_of;
 pub use outbound::Outbound;
 pub use reading::read;

@@ -25,7 +25,7 @@ use crate::tables::header_rows;
 use crate::trade_capture_report::read_trade_capture_report;
 use crate::value_faults::value_fault;
 use gu_fix::{Fields, MSG_TYPE};
-use std::alloc::{AllocError, Global};
+use std::alloc::Global;
 
 /// A message of this type whose shape and values are sound, unless some don't agree.
 fn read_well_made(alloc: Global, fields: &Run<'_>, msg_type: MsgType) -> Result<Inbound, MsgFault>
@@ -52,7 +52,7 @@ fn read_typed(alloc: Global, fields: &Run<'_>, msg_type: MsgType) -> Result<Inbo
     requires { first_value MSG_TYPE fields.now ≡ Some (code_of msg_type) }
     ensures { MatchResult result (Says fields.now) (IsTypedRefusal msg_type fields.now) }
 {
-    if let Some(fault) = shape_fault(alloc, fields, msg_type)? {
+    if let Some(fault) = shape_fault(fields, msg_type) {
         return Err(MsgFault::Rejected(fault));
     }
     if let Some(fault) = value_fault(fields, msg_type) {
@@ -62,12 +62,12 @@ fn read_typed(alloc: Global, fields: &Run<'_>, msg_type: MsgType) -> Result<Inbo
 }
 
 /// The fault of fields without a type.
-fn untyped_fault(alloc: Global, fields: &Run<'_>) -> Result<Fault, AllocError>
-    ensures { IfOk result (λ fault. fault ≡ untyped_fault fields.now) }
+fn untyped_fault(fields: &Run<'_>) -> Fault
+    ensures { result ≡ untyped_fault fields.now }
 {
-    match repeated(alloc, fields, &[], header_rows())? {
-        Some(tag) => Ok(fault_at(SessionRejectReason::TagAppearsMoreThanOnce, tag)),
-        None => Ok(fault_at(SessionRejectReason::RequiredTagMissing, MSG_TYPE)),
+    match repeated(fields, &[], header_rows()) {
+        Some(tag) => fault_at(SessionRejectReason::TagAppearsMoreThanOnce, tag),
+        None => fault_at(SessionRejectReason::RequiredTagMissing, MSG_TYPE),
     }
 }
 
@@ -78,7 +78,7 @@ pub fn read(alloc: Global, fields: &Fields) -> Result<Inbound, MsgFault>
 {
     let all = Run::of(fields);
     let Some(text) = first_value(&all, MSG_TYPE) else {
-        return Err(MsgFault::Rejected(untyped_fault(alloc, &all)?));
+        return Err(MsgFault::Rejected(untyped_fault(&all)));
     };
     if !is_type_text(text) {
         return Err(MsgFault::Rejected(fault_at(SessionRejectReason::InvalidMsgType, MSG_TYPE)));

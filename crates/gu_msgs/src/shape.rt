@@ -1,10 +1,10 @@
 //! The shape of a message: tags that stand twice, tags that are missing, and groups.
 
-ghost use Rattle.std.specs.Prelude.{◌≡◌, ◌++◌, ◌<◌, ◌^◌, [], ◌∷◌, ◌==◌, length, Some, IfOk, IsTrue};
+ghost use Rattle.std.specs.Prelude.{◌≡◌, ◌++◌, ◌<◌, ◌^◌, [], ◌∷◌, ◌==◌, length, Some, IsTrue};
 ghost use Rattle.std.specs.Option.{option_or, option_map};
 ghost use Rattle.std.specs.Str.Parse.{digits_value};
 ghost use Rattle.gu_msgs.specs.Groups.{entries_begun, entries_by};
-ghost use Rattle.gu_msgs.specs.Shape.{count_fault, counted_fault, entries_fault, fault_at, group_fault, groups_fault, is_among, missing, repeated, shape_fault, tags_fault};
+ghost use Rattle.gu_msgs.specs.Shape.{count_fault, counted_fault, entries_fault, fault_at, group_fault, groups_fault, missing, repeated, shape_fault, tags_fault};
 ghost use Rattle.gu_msgs.specs.Rows.{is_listed};
 ghost use Rattle.gu_msgs.specs.Tables.{body_rows};
 ghost use Rattle.gu_msgs.specs.Values.{is_numeral};
@@ -18,7 +18,6 @@ use crate::row::Row;
 use crate::run::Run;
 use crate::tables::{body_rows, entry_rows, header_rows, is_listed};
 use crate::whole_number::{is_numeral, number_of};
-use std::alloc::{AllocError, Global};
 
 /// Whether a tag is one of the header or of these rows.
 fn is_read(header: &[Row], rows: &[Row], tag: u32) -> bool
@@ -27,32 +26,19 @@ fn is_read(header: &[Row], rows: &[Row], tag: u32) -> bool
     is_listed(header, tag) || is_listed(rows, tag)
 }
 
-/// Whether a tag is among these.
-fn is_among(tags: &[u32], tag: u32) -> bool
-    ensures { result ≡ is_among tags.now tag }
+/// The leftmost second standing of a tag of these rows. Fields are looked at again for each tag that is read, and so at most
+/// once for each row and once more.
+pub fn repeated(fields: &Run<'_>, header: &[Row], rows: &[Row]) -> Option<u32>
+    ensures { result ≡ repeated (header.now ++ rows.now) fields.now }
 {
-    tags.contains(&tag)
-}
-
-/// The leftmost second standing of a tag of these rows.
-pub fn repeated(
-    alloc: Global,
-    fields: &Run<'_>,
-    header: &[Row],
-    rows: &[Row],
-) -> Result<Option<u32>, AllocError>
-    ensures { IfOk result (λ tag. tag ≡ repeated (header.now ++ rows.now) fields.now) }
-{
-    let mut before: Vec<u32> = Vec::new(alloc);
+    let mut seen = 0;
     for field in fields {
-        if is_read(header, rows, field.tag) {
-            if is_among(&before, field.tag) {
-                return Ok(Some(field.tag));
-            }
-            before.push(field.tag)?;
+        if is_read(header, rows, field.tag) && stands(&fields.first(seen), field.tag) {
+            return Some(field.tag);
         }
+        seen += 1;
     }
-    Ok(None)
+    None
 }
 
 /// The first tag of these rows that must stand and doesn't.
@@ -85,20 +71,15 @@ pub fn fault_at(reason: SessionRejectReason, tag: u32) -> Fault
 }
 
 /// The first fault of these rows: a tag that stands twice, or else one that is missing.
-fn tags_fault(
-    alloc: Global,
-    fields: &Run<'_>,
-    header: &[Row],
-    rows: &[Row],
-) -> Result<Option<Fault>, AllocError>
-    ensures { IfOk result (λ fault. fault ≡ tags_fault (header.now ++ rows.now) fields.now) }
+fn tags_fault(fields: &Run<'_>, header: &[Row], rows: &[Row]) -> Option<Fault>
+    ensures { result ≡ tags_fault (header.now ++ rows.now) fields.now }
 {
-    if let Some(tag) = repeated(alloc, fields, header, rows)? {
-        return Ok(Some(fault_at(SessionRejectReason::TagAppearsMoreThanOnce, tag)));
+    if let Some(tag) = repeated(fields, header, rows) {
+        return Some(fault_at(SessionRejectReason::TagAppearsMoreThanOnce, tag));
     }
     match missing(fields, header, rows) {
-        Some(tag) => Ok(Some(fault_at(SessionRejectReason::RequiredTagMissing, tag))),
-        None => Ok(None),
+        Some(tag) => Some(fault_at(SessionRejectReason::RequiredTagMissing, tag)),
+        None => None,
     }
 }
 
@@ -130,91 +111,62 @@ fn count_fault(counter: u32, text: &[u8], group: &Run<'_>, first: u32) -> Option
 }
 
 /// The first fault of a group's entries, each in full before the next one.
-fn entries_fault(
-    alloc: Global,
-    group: &Run<'_>,
-    first: u32,
-    rows: &[Row],
-) -> Result<Option<Fault>, AllocError>
-    ensures { IfOk result (λ fault. fault ≡ entries_fault rows.now (entries_by first group.now)) }
+fn entries_fault(group: &Run<'_>, first: u32, rows: &[Row]) -> Option<Fault>
+    ensures { result ≡ entries_fault rows.now (entries_by first group.now) }
 {
     let mut rest = group.copy();
     while let Some(entry) = next_entry(&mut rest, first) {
-        if let Some(fault) = tags_fault(alloc, &entry, &[], rows)? {
-            return Ok(Some(fault));
+        if let Some(fault) = tags_fault(&entry, &[], rows) {
+            return Some(fault);
         }
     }
-    Ok(None)
+    None
 }
 
 /// The first fault of a group: its counter's, or else its entries'.
-fn counted_fault(
-    alloc: Global,
-    counter: u32,
-    text: &[u8],
-    group: &Run<'_>,
-    rows: &[Row],
-) -> Result<Option<Fault>, AllocError>
+fn counted_fault(counter: u32, text: &[u8], group: &Run<'_>, rows: &[Row]) -> Option<Fault>
     requires { length group.now < 2 ^ 64 }
-    ensures { IfOk result (λ fault. fault ≡ counted_fault rows.now counter (Some text.now) (entries_begun rows.now group.now)) }
+    ensures { result ≡ counted_fault rows.now counter (Some text.now) (entries_begun rows.now group.now) }
 {
-    let Some(row) = rows.first() else {
-        return Ok(None);
-    };
-    if let Some(fault) = count_fault(counter, text, group, row.tag()) {
-        return Ok(Some(fault));
+    let row = rows.first()?;
+    match count_fault(counter, text, group, row.tag()) {
+        Some(fault) => Some(fault),
+        None => entries_fault(group, row.tag(), rows),
     }
-    entries_fault(alloc, group, row.tag(), rows)
 }
 
 /// The first fault of the group with this counter.
-fn group_fault(
-    alloc: Global,
-    fields: &Run<'_>,
-    msg_type: MsgType,
-    counter: u32,
-) -> Result<Option<Fault>, AllocError>
-    ensures { IfOk result (λ fault. fault ≡ group_fault msg_type fields.now counter) }
+fn group_fault(fields: &Run<'_>, msg_type: MsgType, counter: u32) -> Option<Fault>
+    ensures { result ≡ group_fault msg_type fields.now counter }
 {
     let rows = entry_rows(counter);
     if rows.is_empty() {
-        return Ok(None);
+        return None;
     }
     match first_value(fields, counter) {
-        Some(text) => {
-            let group = group_of(fields, msg_type, counter);
-            counted_fault(alloc, counter, text, &group, rows)
-        }
-        None => Ok(None),
+        Some(text) => counted_fault(counter, text, &group_of(fields, msg_type, counter), rows),
+        None => None,
     }
 }
 
 /// The first fault of a message's groups, in order.
-fn groups_fault(
-    alloc: Global,
-    fields: &Run<'_>,
-    msg_type: MsgType,
-) -> Result<Option<Fault>, AllocError>
-    ensures { IfOk result (λ fault. fault ≡ groups_fault msg_type fields.now (body_rows msg_type)) }
+fn groups_fault(fields: &Run<'_>, msg_type: MsgType) -> Option<Fault>
+    ensures { result ≡ groups_fault msg_type fields.now (body_rows msg_type) }
 {
     for row in body_rows(msg_type) {
-        if let Some(fault) = group_fault(alloc, fields, msg_type, row.tag())? {
-            return Ok(Some(fault));
+        if let Some(fault) = group_fault(fields, msg_type, row.tag()) {
+            return Some(fault);
         }
     }
-    Ok(None)
+    None
 }
 
 /// The first fault of a message's shape.
-pub fn shape_fault(
-    alloc: Global,
-    fields: &Run<'_>,
-    msg_type: MsgType,
-) -> Result<Option<Fault>, AllocError>
-    ensures { IfOk result (λ fault. fault ≡ shape_fault msg_type fields.now) }
+pub fn shape_fault(fields: &Run<'_>, msg_type: MsgType) -> Option<Fault>
+    ensures { result ≡ shape_fault msg_type fields.now }
 {
-    match tags_fault(alloc, fields, header_rows(), body_rows(msg_type))? {
-        Some(fault) => Ok(Some(fault)),
-        None => groups_fault(alloc, fields, msg_type),
+    match tags_fault(fields, header_rows(), body_rows(msg_type)) {
+        Some(fault) => Some(fault),
+        None => groups_fault(fields, msg_type),
     }
 }

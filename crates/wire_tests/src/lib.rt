@@ -2,6 +2,10 @@
 #![tactic(auto)]
 
 #[cfg(test)]
+mod answering;
+#[cfg(test)]
+mod asking;
+#[cfg(test)]
 mod cut;
 #[cfg(test)]
 mod encoding;
@@ -25,6 +29,8 @@ mod numbers;
 mod reading;
 #[cfg(test)]
 mod reports;
+#[cfg(test)]
+mod tables;
 #[cfg(test)]
 mod takes;
 #[cfg(test)]

@@ -1,7 +1,7 @@
 //! Growths that are refused: run with each allocation failing in turn (`rt try --test --fail-alloc N`). A call that is
 //! refused leaves its value as it was, and passes when it is made again.
 use crate::messages::first_of;
-use crate::{encoding, fields, header, reading, writing};
+use crate::{answering, asking, encoding, fields, header, reading, writing};
 use gu_fix::{Feed, Fields};
 use gu_terms::{Command, Cut, Day, Done, Entry, FirmId, History, LimitKey, OfferNo, Reply, Takes};
 use std::alloc::{AllocError, Global};
@@ -62,6 +62,8 @@ fn wrong_table(alloc: Global) -> Result<Option<&'static str>, AllocError> {
         reading::wrong_row(alloc, &reading::SESSION)?,
         reading::wrong_row(alloc, &reading::GIVE_UPS)?,
         writing::wrong_table(alloc)?,
+        asking::wrong_row(alloc, &asking::ROWS)?,
+        answering::wrong_table(alloc)?,
     ];
     Ok(first_of(&texts))
 }

@@ -16,21 +16,21 @@ use std::alloc::{AllocError, Global};
 
 /// The values that the messages here say.
 #[derive(Clone, Copy)]
-struct Values {
-    firm: FirmId,
-    nine: Moment,
-    id: Id,
-    match_id: Id,
-    account: AccountId,
-    symbol: Symbol,
-    lots: Lots,
-    price: Price,
-    day: Day,
-    offer: OfferNo,
+pub struct Values {
+    pub firm: FirmId,
+    pub nine: Moment,
+    pub id: Id,
+    pub match_id: Id,
+    pub account: AccountId,
+    pub symbol: Symbol,
+    pub lots: Lots,
+    pub price: Price,
+    pub day: Day,
+    pub offer: OfferNo,
 }
 
 /// Firm E1, nine o'clock of 2026-01-05, id R1, match M1, account A1, ten lots of XF6 at 101.5, and offer 1.
-fn sample() -> Option<Values> {
+pub fn sample() -> Option<Values> {
     Some(Values {
         firm: FirmId::new(b"E1")?,
         nine: Moment::new(1_767_603_600_000)?,
@@ -46,7 +46,7 @@ fn sample() -> Option<Values> {
 }
 
 /// Message 3 to the firm, which is sent at nine.
-fn at_nine(w: &Values, body: Body) -> Outbound {
+pub fn at_nine(w: &Values, body: Body) -> Outbound {
     Outbound {
         firm: w.firm,
         msg_seq_num: 3,
@@ -139,7 +139,7 @@ fn written(alloc: Global, message: &Outbound) -> Result<String, AllocError> {
 }
 
 /// What a message that is sent at nine is to say behind its header, where it isn't of this type or doesn't say it.
-fn wrong(
+pub fn wrong(
     alloc: Global,
     message: Outbound,
     msg_type: &str,
