@@ -1,16 +1,21 @@
 -- Commands that pass all tests.
-use Rattle.std.proofs.Common.{◌≡◌, ℕ, ◌≤◌, ◌<◌, Bool, true, false, List, [], ◌∷◌, ◌++◌, Option, Some, None, slice_get, zero, suc, length, take, refl, sym, ap, ◌∙◌, nat_lt, inl, inr}
+use Rattle.std.proofs.Common.{◌≡◌, ℕ, ◌≤◌, ◌<◌, Bool, true, false, List, [], ◌∷◌, ◌++◌, Option, Some, None, slice_get, zero, suc, length, take, refl, sym, ap, ◌∙◌, nat_lt, ◌==◌, arith, inl, inr}
 use Rattle.std.proofs.Math.Seq.{take-append_seam}
 use Rattle.std.specs.List.{find}
 use Rattle.std.specs.Option.{option_map, option_map_or}
 use Rattle.std.proofs.lemmas.Bool.{cases_Bool}
+use Rattle.std.proofs.lemmas.Bool.Decides.{Decides-eqb}
 use Rattle.gu_terms.specs.declared.entry.Entry.{Entry}
 use Rattle.gu_terms.specs.declared.refusal.Refusal.{Refusal}
 use Rattle.gu_terms.specs.declared.reply.Done.{Done}
 use Rattle.gu_terms.specs.declared.reply.Reply.TheVariants.{Accepted, Denied}
 use Rattle.gu_terms.specs.declared.limit_key.LimitKey.{LimitKey}
-use Rattle.gu_terms.specs.declared.refusal.Refusal.TheVariants.{LimitReached}
-use Rattle.gu_book.specs.Answer.{first_standing, refusal_in, room_tests}
+use Rattle.gu_terms.specs.declared.refusal.Refusal.TheVariants.{LimitReached, OfferClosed}
+use Rattle.gu_ref.specs.Tables.{Tables}
+use Rattle.gu_offers.specs.Rows.{Row, left_in, row_at}
+use Rattle.gu_book.specs.Answer.{State, claim_tests, first_standing, refusal_in, room_tests}
+use Rattle.gu_book.specs.Beside.{short_key, some_lots}
+use Rattle.gu_book.specs.Limits.{path_behind}
 
 -- where a command is accepted, no test stands
 pub none_stands : (tests : List (Bool × Refusal)) (done given : Done) → first_standing tests done ≡ Accepted given → (k : ℕ) (stands : Bool) (why : Refusal) → slice_get tests k ≡ Some (stands, why) → stands ≡ false
@@ -31,6 +36,12 @@ standing_behind [] more done e = refl
 standing_behind ((true, first) ∷ tests) more done e = cc
 standing_behind ((false, first) ∷ tests) more done e = standing_behind tests more done e
 
+-- nor decides any that stands
+pub standing_none : (tests : List (Bool × Refusal)) (done : Done) → refusal_in tests ≡ None → first_standing tests done ≡ Accepted done
+standing_none [] done e = refl
+standing_none ((true, first) ∷ tests) done e = cc
+standing_none ((false, first) ∷ tests) done e = standing_none tests done e
+
 -- the first key of a path that has less room than these lots
 pub room_first : (room : LimitKey → ℕ) (lots : ℕ) (path : List LimitKey) → refusal_in (room_tests room lots path) ≡ option_map LimitReached (find (λ key. nat_lt (room key) lots) path)
 room_first room lots [] = refl
@@ -39,6 +50,38 @@ room_first room lots (key ∷ path) =
       | inl hit ↦ rw hit refl
       | inr miss ↦ rw miss (room_first room lots path)
     ]
+
+-- of an offer of which lots are left, a claim is refused by the first key that has less room
+pub claim_refused : (reference : Tables) (state : State) (n : ℕ) → (left_in state.offers n == 0) ≡ false
+    → refusal_in (claim_tests reference state n) ≡ option_map LimitReached (short_key reference state n (left_in state.offers n))
+claim_refused reference state n some = first (left_in state.offers n == 0) some ∙ rooms (row_at state.offers n)
+  where
+    left : ℕ
+    left = left_in state.offers n
+
+    tests : Option Row → List (Bool × Refusal)
+    tests found = option_map_or (λ (row : Row). room_tests (state.room row.offer.group) left (path_behind reference row.offer)) found []
+
+    first : (b : Bool) → b ≡ false → refusal_in ((b, OfferClosed) ∷ tests (row_at state.offers n)) ≡ refusal_in (tests (row_at state.offers n))
+    first false e = refl
+    first true e = cc
+
+    rooms : (found : Option Row)
+        → refusal_in (tests found) ≡ option_map LimitReached (option_map_or (λ (row : Row). find (λ key. nat_lt (state.room row.offer.group key) left) (path_behind reference row.offer)) found None)
+    rooms None = refl
+    rooms (Some row) = room_first (state.room row.offer.group) left (path_behind reference row.offer)
+
+-- some lots are those, and not none
+pub lots_are : (n lots : ℕ) → Some lots ≡ some_lots n → (lots ≡ n) × ((n == 0) ≡ false)
+lots_are zero lots e = cc
+lots_are (suc n) lots e =
+    let same : lots ≡ suc n = cc in (
+      same,
+      elim (cases_Bool (suc n == 0)) [
+        | inl hit ↦ let none : suc n ≡ 0 = (Decides-eqb (suc n) 0).0 hit in absurd (omega (arith, none))
+        | inr miss ↦ miss
+      ],
+    )
 
 -- a history that is cut back to what it was
 pub truncated : (history : List Entry) (entry : Entry) (count : ℕ) (pushed cut : List Entry) → count ≡ length history → pushed ≡ history ++ entry ∷ [] → cut ≡ take count pushed → cut ≡ history

@@ -1,6 +1,7 @@
 -- Machinery: what a book keeps beside its history, so that an answer reads none of it.
-use Rattle.std.specs.Prelude.{◌≡◌, ℕ, ◌*◌, ◌≤◌, ◌&&◌, Bool, true, List, length, is_some}
-use Rattle.std.specs.List.{AllByRecursion, list_any}
+use Rattle.std.specs.Prelude.{◌≡◌, ℕ, ◌*◌, ◌≤◌, ◌&&◌, Bool, true, zero, suc, nat_lt, List, length, Option, Some, None, is_some}
+use Rattle.std.specs.List.{AllByRecursion, find, list_any}
+use Rattle.std.specs.Option.{option_map_or}
 use Rattle.gu_terms.specs.Same.{same_firm, same_id}
 use Rattle.gu_terms.specs.declared.account.AccountId.{AccountId}
 use Rattle.gu_terms.specs.declared.entry.Entry.{Entry}
@@ -13,12 +14,12 @@ use Rattle.gu_terms.specs.declared.side.Side.{Side}
 use Rattle.gu_terms.specs.declared.symbol.Symbol.{Symbol}
 use Rattle.gu_ref.specs.Reference.{account_row}
 use Rattle.gu_ref.specs.Tables.{Tables}
-use Rattle.gu_offers.specs.Rows.{Row}
+use Rattle.gu_offers.specs.Rows.{Row, row_at}
 use Rattle.gu_limits.specs.Limits.{has_limit, limit_in, room_in, used_in}
 use Rattle.gu_positions.specs.Rows.{has_row, lots_in, lots_on}
 use Rattle.gu_book.specs.Answer.{State}
 use Rattle.gu_book.specs.Legal.{IsLegal}
-use Rattle.gu_book.specs.Limits.{limit_of, limit_set, use_of}
+use Rattle.gu_book.specs.Limits.{limit_of, limit_set, path_behind, use_of}
 use Rattle.gu_book.specs.Offers.{has_give_up, standing_of}
 use Rattle.gu_book.specs.Orderly.{IsOrderly}
 use Rattle.gu_book.specs.Positions.{held_of}
@@ -40,6 +41,16 @@ state_in totals =
       has_give_up = is_kept_give_up totals.give_ups.keys;
       room = room_in totals.limits;
     }
+
+-- some lots, or none
+abbrev pub some_lots : ℕ → Option ℕ
+some_lots zero = None
+some_lots (suc n) = Some (suc n)
+
+-- the first key under which an offer comes that has less room than these lots
+abbrev pub short_key : Tables → State → ℕ → ℕ → Option LimitKey
+short_key reference state n lots =
+    option_map_or (λ (row : Row). find (λ key. nat_lt (state.room row.offer.group key) lots) (path_behind reference row.offer)) (row_at state.offers n) None
 
 -- what is kept beside a history
 pub record IsBeside (reference : Tables) (history : List Entry) (totals : Totals) : Type 0 where

@@ -9,14 +9,15 @@ ghost use Rattle.gu_trades.specs.Matching.{is_waiting};
 ghost use Rattle.gu_trades.specs.Reports.{with_match};
 ghost use Rattle.gu_book.specs.Answer.{answer_in, claim_tests, first_standing, give_up_tests, given_up, has_unknown_account, is_known_key, is_later, is_other_day};
 ghost use Rattle.gu_book.specs.Answer.{lacks_agreement, limit_tests, lines_tests, offer_tests, opening_tests, refusal_in, refuse_tests, report_tests, reverse_tests, room_tests};
-ghost use Rattle.gu_book.specs.Beside.{state_in};
+ghost use Rattle.gu_book.specs.Beside.{short_key, some_lots, state_in};
+ghost use Rattle.gu_offers.specs.Rows.{left_in, today_in};
 ghost use Rattle.gu_book.specs.Limits.{path_behind};
 
 use crate::totals::Totals;
 use gu_limits::{LimitTable, path};
 use gu_ref::Reference;
 use gu_terms::{
-    AllocReject, Command, Day, Done, FirmId, Group, Id, LimitKey, Line, Lines, MOST_LIMIT,
+    AllocReject, Command, Day, Done, FirmId, Group, Id, LimitKey, Line, Lines, Lots, MOST_LIMIT,
     MOST_OPEN_OFFERS, Offer, OfferNo, Path, Refusal, Reply, Report,
 };
 use gu_trades::Trades;
@@ -248,48 +249,47 @@ fn first_short(limits: &LimitTable, group: &Group, path: &Path, lots: u64) -> Op
     None
 }
 
-/// Why what is left of an offer can't be claimed by the firm that it is to, if it can't.
-#[tactic(auto, using(crate::proofs::Passing::room_first))]
-fn refusal_of_claim(reference: &Reference, totals: &Totals, number: OfferNo) -> Option<Refusal>
-    ensures { result ≡ refusal_in (claim_tests reference.now (state_in totals.now) number) }
+/// The first key under which an offer comes that has less room than these lots.
+fn short_key(reference: &Reference, totals: &Totals, number: OfferNo, lots: u64) -> Option<LimitKey>
+    ensures { result ≡ short_key reference.now (state_in totals.now) number lots }
 {
-    let left = totals.offers.left(number);
-    if left == 0 {
-        return Some(Refusal::OfferClosed);
-    }
     let offer = totals.offers.get(number)?;
     let path = path_of_offer(reference, &offer)?;
-    let key = first_short(&totals.limits, &offer.group, &path, left)?;
-    Some(Refusal::LimitReached(key))
+    first_short(&totals.limits, &offer.group, &path, lots)
 }
 
-/// Why an offer can't be reversed by the firm that it is to, if it can't.
-fn refusal_of_reversal(totals: &Totals, number: OfferNo) -> Option<Refusal>
-    ensures { result ≡ refusal_in (reverse_tests (state_in totals.now) number) }
+/// The lots that are left of an offer, where there are any.
+fn lots_left(totals: &Totals, number: OfferNo) -> Option<Lots>
+    ensures { result ≡ some_lots (left_in totals.now.offers number) }
 {
-    if totals.offers.left(number) > 0 {
-        return Some(Refusal::OfferOpen);
-    }
-    if totals.offers.moved_today(number) == 0 {
-        return Some(Refusal::NothingToReverse);
-    }
-    None
+    // No offer has more lots than there may be.
+    totals.offers.rules();
+    Lots::new(totals.offers.left(number))
+}
+
+/// The lots that were moved of an offer today, where there are any.
+fn lots_moved_today(totals: &Totals, number: OfferNo) -> Option<Lots>
+    ensures { result ≡ some_lots (today_in totals.now.offers number) }
+{
+    // No offer has more lots than there may be.
+    totals.offers.rules();
+    Lots::new(totals.offers.moved_today(number))
 }
 
 /// The answer to a claim.
-
 fn answer_to_claim(reference: &Reference, totals: &Totals, firm: FirmId, offer: OfferNo) -> Reply
     ensures { result ≡ answer_in reference.now (state_in totals.now) (Command.Claim firm offer) }
 {
     if let Some(refusal) = refusal_of_firm(reference, totals, firm, offer) {
         return Reply::Denied(refusal);
     }
-    if let Some(refusal) = refusal_of_claim(reference, totals, offer) {
-        return Reply::Denied(refusal);
+    let Some(lots) = lots_left(totals, offer) else {
+        return Reply::Denied(Refusal::OfferClosed);
+    };
+    if let Some(key) = short_key(reference, totals, offer, lots.get()) {
+        return Reply::Denied(Refusal::LimitReached(key));
     }
-    Reply::Accepted(Done::Claimed {
-        lots: totals.offers.left(offer),
-    })
+    Reply::Accepted(Done::Claimed { lots })
 }
 
 /// The answer to a refusal.
@@ -305,10 +305,9 @@ fn answer_to_refusal(
     if let Some(refusal) = refusal_of_firm(reference, totals, firm, offer) {
         return Reply::Denied(refusal);
     }
-    let lots = totals.offers.left(offer);
-    if lots == 0 {
+    let Some(lots) = lots_left(totals, offer) else {
         return Reply::Denied(Refusal::OfferClosed);
-    }
+    };
     Reply::Accepted(Done::Refused { lots })
 }
 
@@ -319,12 +318,13 @@ fn answer_to_reversal(reference: &Reference, totals: &Totals, firm: FirmId, offe
     if let Some(refusal) = refusal_of_firm(reference, totals, firm, offer) {
         return Reply::Denied(refusal);
     }
-    if let Some(refusal) = refusal_of_reversal(totals, offer) {
-        return Reply::Denied(refusal);
+    if totals.offers.left(offer) > 0 {
+        return Reply::Denied(Refusal::OfferOpen);
     }
-    Reply::Accepted(Done::Reversed {
-        lots: totals.offers.moved_today(offer),
-    })
+    let Some(lots) = lots_moved_today(totals, offer) else {
+        return Reply::Denied(Refusal::NothingToReverse);
+    };
+    Reply::Accepted(Done::Reversed { lots })
 }
 
 /// The answer to a command, where a history comes to this.

@@ -3,6 +3,7 @@
 ghost use Rattle.std.specs.Prelude.{◌≡◌, ◌↔◌, IsTrue};
 
 use crate::group::Group;
+use crate::lots::Lots;
 use crate::offer_no::OfferNo;
 use crate::refusal::Refusal;
 
@@ -25,15 +26,15 @@ pub enum Done {
     },
     /// These lots, all that was left of the offer, are moved to the carrying side's account.
     Claimed {
-        lots: u64,
+        lots: Lots,
     },
     /// These lots, all that was left of the offer, are closed.
     Refused {
-        lots: u64,
+        lots: Lots,
     },
     /// These lots, all that was moved of the offer on this day, are moved back.
     Reversed {
-        lots: u64,
+        lots: Lots,
     },
 }
 
