@@ -2,12 +2,11 @@ pub mod EndLemmas
 pub mod Reaching
 pub mod Spreading
 pub mod Linking
-pub mod Pipes
+pub mod Carrying
 pub mod Pushing
 pub mod Bringing
 pub mod Descents
 pub mod Blocking
-pub mod Starts
 pub mod SumLemmas
 pub mod Walks
 pub mod Loads

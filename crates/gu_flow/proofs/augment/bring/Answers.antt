@@ -1,28 +1,14 @@
-use Rattle.std.proofs.Common.{arith, get_or, ◌%◌}
-use Rattle.std.proofs.lemmas.Bool.{eq-eqb, ne_eqb}
-use Rattle.gu_flow.proofs.Bringing.{bring_along, bring_against}
+use Rattle.std.proofs.Common.{arith}
+use Rattle.gu_flow.proofs.Bringing.{bring_on, step_room}
+use Rattle.gu_flow.proofs.EndLemmas.{other_end-in}
 use Rattle.gu_flow.proofs.augment.bring.Goals as goal
-use Rattle.gu_flow.proofs.augment.bring.Goals.{then-end-eq0, else-end-eq0+else-prove}
 
-pub overflow_sub-arc : goal.overflow_sub-arc
-overflow_sub-arc c =
-    omega (arith, (bring_against c.args.arcs.now c.loop-end.arcs c.args.way.now c.args.lots c.loop-end.end-index c.requires.whole c.loop-end.invariant (omega arith) (eq-eqb (get_or c.args.way.now c.loop-end.end-index 0 % 2) 0 c.if-end-eq0.true)).0)
+pub carry-requires-clause-end : goal.carry-requires-clause-end
+carry-requires-clause-end c = rw c.other_end.ensures (other_end-in _ _ (c.requires.whole.is_way.ends c.loop-end.end-index (omega arith)))
 
-pub prove-unreachable-requires : goal.prove-unreachable-requires
-prove-unreachable-requires c =
-    omega (arith, (bring_along c.args.arcs.now c.loop-end.arcs c.args.way.now c.args.lots c.loop-end.end-index c.requires.whole c.loop-end.invariant (omega arith) (ne_eqb (get_or c.args.way.now c.loop-end.end-index 0 % 2) 0 c.if-end-eq0.false)).0)
-
-pub overflow_add-arc : goal.overflow_add-arc
-overflow_add-arc c =
-    omega (arith, (bring_along c.args.arcs.now c.loop-end.arcs c.args.way.now c.args.lots c.loop-end.end-index c.requires.whole c.loop-end.invariant (omega arith) (ne_eqb (get_or c.args.way.now c.loop-end.end-index 0 % 2) 0 c.if-end-eq0.false)).0)
+pub carry-requires-clause-room : goal.carry-requires-clause-room
+carry-requires-clause-room c = rw c.other_end.ensures (step_room c.args.net.now.arcs.items c.args.flow.now c.loop-end.flow c.args.way.now c.args.lots c.loop-end.end-index c.requires.whole c.loop-end.invariant (omega arith))
 
 pub loop-end-preserved : goal.loop-end-preserved
 loop-end-preserved c =
-    elim c.if-end-eq0.branch [
-      | then-end-eq0 w ↦
-          rw w.arcs-is
-          (bring_against c.args.arcs.now c.loop-end.arcs c.args.way.now c.args.lots c.loop-end.end-index c.requires.whole c.loop-end.invariant (omega arith) (eq-eqb (get_or c.args.way.now c.loop-end.end-index 0 % 2) 0 w.if-end-eq0.true)).1
-      | else-end-eq0+else-prove w ↦
-          rw w.arcs-is
-          (bring_along c.args.arcs.now c.loop-end.arcs c.args.way.now c.args.lots c.loop-end.end-index c.requires.whole c.loop-end.invariant (omega arith) (ne_eqb (get_or c.args.way.now c.loop-end.end-index 0 % 2) 0 w.if-end-eq0.false)).1
-    ]
+    bring_on c.args.net.now.arcs.items c.args.flow.now c.loop-end.flow c.args.way.now c.args.lots c.loop-end.end-index c.requires.whole c.loop-end.invariant c.carry.new.flow (omega arith) (rw c.other_end.ensures at c.carry.ensures)
