@@ -278,5 +278,5 @@ module _ (view : GroupView) (sound : IsView view) (nested : IsNested view) (arcs
   certified n is = record {
     of_view = sound;
     right = subst (IsRight view takes cut) (sym is) right;
-    certified = record { greatest = greatest; oldest_first = oldest_first; covers = covers; taken = sym is; room = room_is_total ∙ sym is };
+    greatest = greatest;
   }
