@@ -98,10 +98,11 @@ fn push_down(
     ensures ring { vec_len waiting.new.ring ≡ vec_len waiting.old.ring }
     ensures current { (n : ℕ) → slice_index current.new n ≤ 2 * length net.now.arcs.items }
 {
+    let height = heights[node as usize];
     'ends: while current[node as usize] > 0 {
         let end = current[node as usize] - 1;
         let to = net.far(end);
-        if heights[to as usize] < heights[node as usize] {
+        if heights[to as usize] < height {
             let is_idle = excess[to as usize] == 0;
             let lots = push(net, flow, excess, end);
             if is_idle && lots > 0 && to > SINK {

@@ -119,8 +119,9 @@ pub(crate) fn lay_out(alloc: Global, view: &View) -> Result<Vec<Arc>, AllocError
     ensures joins { IfOk result (λ arcs. JoinsNodes arcs.items (length view.now.rooms + 2)) }
     ensures fits { IfOk result (λ arcs. capacities arcs.items < 2 ^ 64) }
 {
-    let mut arcs = Vec::new(alloc);
-    for place in 0..view.rooms().len() {
+    let rooms = view.rooms().len();
+    let mut arcs = Vec::with_capacity(alloc, rooms)?;
+    for place in 0..rooms {
         arcs.push(arc_of(view, place))?;
     }
     Ok(arcs)

@@ -10,9 +10,9 @@ use crate::network::Network;
 use crate::ways::block;
 use std::alloc::{AllocError, Global};
 
-/// When searches and ways have had as many steps as the network has nodes so many times over, the rest is pushed all at once:
-/// where each search finds little, or ways grow long, there would be many more.
-const MOST_ROUNDS: usize = 6;
+/// So many searches are paid for at first. Each costs a step for each node, and ways pay for more. Where less than a quarter
+/// of one is left, the rest is pushed all at once: each search finds little then, or ways grow long, and there would be many more.
+const SEARCHES: usize = 2;
 
 /// Makes an empty flow greatest, over lists that are there; a surge takes lists of its own.
 fn fill(
@@ -34,14 +34,13 @@ fn fill(
     ensures closed { OnOk result (IsClosed net.now.arcs.items flow.new (is_reached entries.new)) }
 {
     let nodes = entries.len();
-    let mut left = MOST_ROUNDS * nodes;
+    let mut left = SEARCHES * nodes;
     'searches: while search(net, flow, entries, queue) {
-        if left == 0 {
+        current.copy_from_slice(net.last_ends());
+        left = block(net, flow, entries, current, way, left).saturating_sub(nodes);
+        if left < nodes / 4 {
             surge(alloc, net, flow, current, queue)?;
-            left = MOST_ROUNDS * nodes;
-        } else {
-            current.copy_from_slice(net.last_ends());
-            left = block(net, flow, entries, current, way, left).saturating_sub(nodes);
+            left = SEARCHES * nodes;
         }
     }
     Ok(())

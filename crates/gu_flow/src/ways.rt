@@ -1,7 +1,7 @@
 //! Ways from the sink back to the source, each step a level down.
 
 ghost use Rattle.std.specs.Prelude.{◌≡◌, ◌≢◌, ℕ, ◌+◌, ◌*◌, ◌<◌, ◌≤◌, IfSome, true, length, slice_index, sum};
-ghost use Rattle.gu_flow.specs.Ends.{near, far, room_in};
+ghost use Rattle.gu_flow.specs.Ends.{far, room_in};
 ghost use Rattle.gu_flow.specs.Flows.{IsFlow, IsWithin, worth};
 ghost use Rattle.gu_flow.specs.Levels.{level_at, IsTree};
 ghost use Rattle.gu_flow.specs.Ways.{stand, IsWay, HasRoom, IsCurrent, IsAhead, IsDown, IsDescent};
@@ -10,6 +10,9 @@ use crate::augment::augment;
 use crate::levels::Entry;
 use crate::network::{Network, SINK, SOURCE};
 use crate::residual::room_in;
+
+/// The steps that a way pays for: a longer one costs what it has more, and a shorter one pays for a part of a search.
+const PAID: usize = 8;
 
 /// The way on which the search came to the sink, and how many steps it has.
 pub(crate) fn trace(net: &Network, flow: &[u64], entries: &[Entry], way: &mut [u32]) -> usize
@@ -61,21 +64,20 @@ fn stand(net: &Network, way: &[u32], steps: usize) -> u32
     }
 }
 
-/// Whether lots can be brought over an end from a node one level before.
-fn leads_down(net: &Network, flow: &[u64], entries: &[Entry], end: u32) -> bool
+/// Whether lots can be brought over an end from a node one level before this one.
+fn leads_down(net: &Network, flow: &[u64], entries: &[Entry], end: u32, level: u32) -> bool
     requires within { IsWithin net.now.arcs.items flow.now }
     requires lists { length entries.now ≡ length net.now.first.items }
     requires end { end < 2 * length net.now.arcs.items }
     requires levels { (n : ℕ) → level_at entries.now n ≤ length entries.now }
     ensures room { result ≡ true → 0 < room_in net.now.arcs.items flow.now end }
-    ensures falls { result ≡ true
-        → level_at entries.now (far net.now.arcs.items end) + 1 ≡ level_at entries.now (near net.now.arcs.items end) }
+    ensures falls { result ≡ true → level_at entries.now (far net.now.arcs.items end) + 1 ≡ level }
     ensures each { 0 < room_in net.now.arcs.items flow.now end
-        → level_at entries.now (far net.now.arcs.items end) + 1 ≡ level_at entries.now (near net.now.arcs.items end)
+        → level_at entries.now (far net.now.arcs.items end) + 1 ≡ level
         → result ≡ true }
 {
     let before = entries[net.far(end) as usize].level;
-    room_in(net, flow, end) > 0 && before + 1 == entries[net.near(end) as usize].level
+    before + 1 == level && room_in(net, flow, end) > 0
 }
 
 /// The next end at a node that leads down.
@@ -89,16 +91,17 @@ fn next_down(
     requires within { IsWithin net.now.arcs.items flow.now }
     requires lists { length entries.now ≡ length net.now.first.items }
     requires levels { (n : ℕ) → level_at entries.now n ≤ length entries.now }
-    requires node { node < length current.old }
+    requires node { (node < length current.old) × (node < length entries.now) }
     requires current { IsCurrent net.now.arcs.items current.old }
     ensures current { IsCurrent net.now.arcs.items current.new }
     ensures others { (n : ℕ) → n ≢ node → slice_index current.new n ≡ slice_index current.old n }
     ensures less { sum current.new ≤ sum current.old }
     ensures down { IfSome result (λ end. IsDown net.now.arcs.items flow.now entries.now current.new node end) }
 {
+    let level = entries[node as usize].level;
     'ends: while current[node as usize] > 0 {
         let end = current[node as usize] - 1;
-        if leads_down(net, flow, entries, end) {
+        if leads_down(net, flow, entries, end, level) {
             return Some(end);
         }
         current[node as usize] = net.ends_before(end);
@@ -152,8 +155,9 @@ pub(crate) fn extend(
     Some(steps)
 }
 
-/// Brings lots along ways that fall a level at each step, until the search for one ends or no more steps are left;
-/// at least along the way on which the sink was reached. Returns how many steps are left.
+/// Brings lots along ways that fall a level at each step, until the search for one ends or no more steps are left,
+/// of those that there were and that ways paid for; at least along the way on which the sink was reached.
+/// Returns how many steps are left.
 pub(crate) fn block(
     net: &Network,
     flow: &mut [u64],
@@ -173,11 +177,11 @@ pub(crate) fn block(
 {
     let steps = trace(net, flow, entries, way);
     augment(net, flow, &way[..steps]);
-    let mut left = most.saturating_sub(steps);
+    let mut left = most.saturating_add(PAID).saturating_sub(steps);
     let mut kept = 0;
     'ways: while let Some(steps) = extend(net, flow, entries, current, way, kept) {
         augment(net, flow, &way[..steps]);
-        left = left.saturating_sub(steps);
+        left = left.saturating_add(PAID).saturating_sub(steps);
         if left == 0 {
             return 0;
         }

@@ -1,4 +1,4 @@
-use Rattle.std.proofs.Common.{◌+◌, ◌-◌, ◌*◌, ◌<◌, arith, ℕ}
+use Rattle.std.proofs.Common.{arith}
 use Rattle.gu_flow.proofs.Carrying.{empty_flow, left_less}
 use Rattle.gu_flow.proofs.maximum.fill.Goals as goal
 
@@ -10,10 +10,10 @@ block-requires-clause-current c =
     let index = c.args.net.now.is_network.index in
     rw (c.copy_from_slice.ensures.after, c.last_ends.ensures) (record { ends = index.within; here = index.at })
 
--- what is left to be brought falls by more than a surge that comes next can count
-falls : (a b x y : ℕ) → a < b → 2 * a + (1 - x) < 2 * b + (1 - y)
-falls a b x y less = omega arith
-
 pub searches-smaller : goal.searches-smaller
-searches-smaller c =
-    falls _ _ c.saturating_sub-left.result c.searches.left (left_less c.args.net.now.arcs.items c.searches.flow c.block.new.flow c.block.ensures.flow.within c.block.ensures.more)
+searches-smaller c = left_less c.args.net.now.arcs.items c.searches.flow c.block.new.flow c.block.ensures.flow.within c.block.ensures.more
+
+pub searches-smaller-then-left-nodes : goal.searches-smaller-then-left-nodes
+searches-smaller-then-left-nodes c =
+    let e = c.in_ok-surge.ensures in
+    left_less c.args.net.now.arcs.items c.searches.flow c.surge.new.flow e.flow.within (omega (arith, e.worth, c.block.ensures.more))

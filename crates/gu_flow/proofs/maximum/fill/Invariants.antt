@@ -1,4 +1,4 @@
-use Rattle.std.proofs.Common.{◌+◌, ◌-◌, ◌*◌}
+use Rattle.std.proofs.Common.{◌-◌}
 use Rattle.gu_flow.specs.Ends.{capacities}
 use Rattle.gu_flow.specs.Flows.{IsFlow, worth}
 use Rattle.gu_flow.proofs.maximum.fill.Given as goal
@@ -7,4 +7,4 @@ abbrev pub invariant-searches : goal.invariant-searches
 invariant-searches l = IsFlow l.net.arcs.items l.flow
 
 abbrev pub decreases-searches : goal.decreases-searches
-decreases-searches l = 2 * (capacities l.net.arcs.items - worth l.net.arcs.items l.flow) + (1 - l.left)
+decreases-searches l = capacities l.net.arcs.items - worth l.net.arcs.items l.flow
