@@ -2,21 +2,21 @@
 use Rattle.std.proofs.Common.{ℕ, ◌<◌, ◌≤◌, List, length, arith, take}
 use Rattle.gu_flow.specs.declared.network.Arc.{Arc}
 use Rattle.gu_flow.specs.declared.levels.Entry.{Entry}
-use Rattle.gu_flow.specs.Flows.{IsFlow, worth}
+use Rattle.gu_flow.specs.Flows.{IsFlow, value_of}
 use Rattle.gu_flow.specs.Ways.{HasRoom, IsCurrent, IsAhead, IsDescent}
 use Rattle.gu_flow.proofs.Descents.{no_descent, way_front, falling_front, front_kept}
 
 -- more flows than at the start, and the steps that are kept have room
 pub record Blocking (arcs : List Arc) (start flow : List ℕ) (entries : List Entry) (current way : List ℕ) (kept : ℕ) : Type 0 where
   pub flow_is : IsFlow arcs flow
-  pub more : worth arcs start < worth arcs flow
+  pub more : value_of arcs start < value_of arcs flow
   pub descent : IsDescent arcs flow entries way kept
   pub current_is : IsCurrent arcs current
   pub ahead : IsAhead arcs current way kept
   pub within : kept ≤ length way
 
 -- the first way is brought
-pub block_begins : (arcs : List Arc) (start flow : List ℕ) (entries : List Entry) (current way : List ℕ) → IsFlow arcs flow → worth arcs start < worth arcs flow → IsCurrent arcs current → Blocking arcs start flow entries current way 0
+pub block_begins : (arcs : List Arc) (start flow : List ℕ) (entries : List Entry) (current way : List ℕ) → IsFlow arcs flow → value_of arcs start < value_of arcs flow → IsCurrent arcs current → Blocking arcs start flow entries current way 0
 block_begins arcs start flow entries current way is more current_is = record {
   flow_is = is;
   more = more;
@@ -27,7 +27,7 @@ block_begins arcs start flow entries current way is more current_is = record {
 }
 
 -- one more way is brought, and the steps before the first without room are kept
-pub block_goes_on : (arcs : List Arc) (start old flow : List ℕ) (entries : List Entry) (current way : List ℕ) (steps kept : ℕ) → worth arcs start < worth arcs old → IsFlow arcs flow → worth arcs old < worth arcs flow
+pub block_goes_on : (arcs : List Arc) (start old flow : List ℕ) (entries : List Entry) (current way : List ℕ) (steps kept : ℕ) → value_of arcs start < value_of arcs old → IsFlow arcs flow → value_of arcs old < value_of arcs flow
     → IsDescent arcs old entries way steps → IsCurrent arcs current → IsAhead arcs current way steps → steps ≤ length way → kept ≤ steps → HasRoom arcs flow (take steps way) kept 1 → Blocking arcs start flow entries current way kept
 block_goes_on arcs start old flow entries current way steps kept more is rises d current_is ahead within fewer room = record {
   flow_is = is;

@@ -7,10 +7,10 @@ use Rattle.std.proofs.lemmas.List.Sums.{sum_by-set}
 use Rattle.std.specs.List.{sum}
 use Rattle.gu_flow.specs.declared.network.Arc.{Arc}
 use Rattle.gu_flow.specs.declared.levels.Entry.{Entry}
-use Rattle.gu_flow.specs.Ends.{arc_at, is_tail, near, far, room_in, IsChain}
+use Rattle.gu_flow.specs.Ends.{arc_at, is_tail, near, far, residual_in, IsChain}
 use Rattle.gu_flow.specs.Levels.{entry_at, level_at, IsEntered, IsTree}
 use Rattle.gu_flow.specs.Ways.{stand, IsWay, IsFalling, HasRoom, TakesEachOnce, IsWhole, IsCurrent, IsAhead, IsDown, IsDescent}
-use Rattle.gu_flow.proofs.Bringing.{stand-more, room_front}
+use Rattle.gu_flow.proofs.Augmenting.{stand-more, room_front}
 
 -- a way of no steps
 pub no_descent : (arcs : List Arc) (flow : List ℕ) (entries : List Entry) (way : List ℕ) → IsDescent arcs flow entries way 0
@@ -68,7 +68,7 @@ pub falling_front : (arcs : List Arc) (entries : List Entry) (way : List ℕ) (f
 falling_front arcs entries way few steps fewer falling = record { falls = λ i i_in. falling.falls i (omega arith) }
 
 -- a step more
-module _ (arcs : List Arc) (flow : List ℕ) (entries : List Entry) (way : List ℕ) (steps end : ℕ) (d : IsDescent arcs flow entries way steps) (steps_in : steps < length way) (end_in : end < 2 * length arcs) (here : near arcs end ≡ stand arcs way steps) (room : 0 < room_in arcs flow end) (falls : level_at entries (far arcs end) + 1 ≡ level_at entries (near arcs end)) where
+module _ (arcs : List Arc) (flow : List ℕ) (entries : List Entry) (way : List ℕ) (steps end : ℕ) (d : IsDescent arcs flow entries way steps) (steps_in : steps < length way) (end_in : end < 2 * length arcs) (here : near arcs end ≡ stand arcs way steps) (room : 0 < residual_in arcs flow end) (falls : level_at entries (far arcs end) + 1 ≡ level_at entries (near arcs end)) where
   way' : List ℕ
   way' = set way steps end
 
@@ -97,7 +97,7 @@ module _ (arcs : List Arc) (flow : List ℕ) (entries : List Entry) (way : List 
       joined = by_step (λ i e. near arcs e ≡ stand arcs way' i) (λ i i_in. d.is_way.joined i i_in ∙ sym (stand_kept i (omega arith))) (here ∙ sym (stand_kept steps (omega arith)));
     };
     falling = record { falls = by_step (λ i e. level_at entries (far arcs e) + 1 ≡ level_at entries (near arcs e)) d.falling.falls falls };
-    room = record { room = by_step (λ i e. 1 ≤ room_in arcs flow e) d.room.room room };
+    room = record { room = by_step (λ i e. 1 ≤ residual_in arcs flow e) d.room.room room };
   }
 
   pub stands_far : stand arcs (set way steps end) (steps + 1) ≡ far arcs end
@@ -270,8 +270,8 @@ module _ (arcs : List Arc) (flow : List ℕ) (entries : List Entry) (way : List 
   }
 
   pub front_room : HasRoom arcs flow (take steps way) (length (take steps way)) 1
-  front_room = record { room = λ i i_in. let f = front_at i i_in in subst (λ e. 1 ≤ room_in arcs flow e) (sym f.1) (d.room.room i f.0) }
+  front_room = record { room = λ i i_in. let f = front_at i i_in in subst (λ e. 1 ≤ residual_in arcs flow e) (sym f.1) (d.room.room i f.0) }
 
 -- so many of them have room
 pub front_kept : (arcs : List Arc) (flow way : List ℕ) (steps few : ℕ) → few ≤ steps → HasRoom arcs flow (take steps way) few 1 → HasRoom arcs flow way few 1
-front_kept arcs flow way steps few fewer room = record { room = λ i i_in. subst (λ e. 1 ≤ room_in arcs flow e) (get_or-take steps way i 0 (omega arith)) (room.room i i_in) }
+front_kept arcs flow way steps few fewer room = record { room = λ i i_in. subst (λ e. 1 ≤ residual_in arcs flow e) (get_or-take steps way i 0 (omega arith)) (room.room i i_in) }

@@ -2,7 +2,7 @@
 use Rattle.std.proofs.Common.{◌≡◌, ℕ, ◌+◌, ◌-◌, ◌*◌, ◌/◌, ◌%◌, ◌<◌, Bool, true, false, not, cond, List, length, get_or, refl, arith, inl, inr}
 use Rattle.std.proofs.lemmas.Bool.{cases_Bool, eqb-true, eqb-false, eq-eqb, ne_eqb}
 use Rattle.gu_flow.specs.declared.network.Arc.{Arc}
-use Rattle.gu_flow.specs.Ends.{no_arc, JoinsNodes, arc_at, is_tail, near, far, other_end, room_in, room_out}
+use Rattle.gu_flow.specs.Ends.{no_arc, JoinsNodes, arc_at, is_tail, near, far, other_end, residual_in, residual_out}
 
 -- an end is a tail or a head
 tail_is : (e : ℕ) → is_tail e ≡ true → e % 2 ≡ 0
@@ -38,11 +38,11 @@ near-other_end arcs e = rw (other_end-tail e, other_end-arc e) (turned (is_tail 
 pub far-other_end : (arcs : List Arc) (e : ℕ) → far arcs (other_end e) ≡ near arcs e
 far-other_end arcs e = rw (other_end-tail e, other_end-arc e) (turned (is_tail e) (arc_at arcs (e / 2)).to (arc_at arcs (e / 2)).from)
 
-pub room_in-other_end : (arcs : List Arc) (flow : List ℕ) (e : ℕ) → room_in arcs flow (other_end e) ≡ room_out arcs flow e
-room_in-other_end arcs flow e = rw (other_end-tail e, other_end-arc e) (turned (is_tail e) (get_or flow (e / 2) 0) ((arc_at arcs (e / 2)).capacity - get_or flow (e / 2) 0))
+pub residual_in-other_end : (arcs : List Arc) (flow : List ℕ) (e : ℕ) → residual_in arcs flow (other_end e) ≡ residual_out arcs flow e
+residual_in-other_end arcs flow e = rw (other_end-tail e, other_end-arc e) (turned (is_tail e) (get_or flow (e / 2) 0) ((arc_at arcs (e / 2)).capacity - get_or flow (e / 2) 0))
 
-pub room_out-other_end : (arcs : List Arc) (flow : List ℕ) (e : ℕ) → room_out arcs flow (other_end e) ≡ room_in arcs flow e
-room_out-other_end arcs flow e = rw (other_end-tail e, other_end-arc e) (turned (is_tail e) ((arc_at arcs (e / 2)).capacity - get_or flow (e / 2) 0) (get_or flow (e / 2) 0))
+pub residual_out-other_end : (arcs : List Arc) (flow : List ℕ) (e : ℕ) → residual_out arcs flow (other_end e) ≡ residual_in arcs flow e
+residual_out-other_end arcs flow e = rw (other_end-tail e, other_end-arc e) (turned (is_tail e) ((arc_at arcs (e / 2)).capacity - get_or flow (e / 2) 0) (get_or flow (e / 2) 0))
 
 -- an end is at a node
 pub near_in : (arcs : List Arc) (e nodes : ℕ) → JoinsNodes arcs nodes → e < 2 * length arcs → near arcs e < nodes
@@ -71,8 +71,8 @@ module _ (arcs : List Arc) (flow : List ℕ) (k : ℕ) where
   pub tail-far : far arcs (2 * k) ≡ (arc_at arcs k).to
   tail-far = rw (even, half_even)
 
-  pub tail-room_out : room_out arcs flow (2 * k) ≡ (arc_at arcs k).capacity - get_or flow k 0
-  tail-room_out = rw (even, half_even)
+  pub tail-residual_out : residual_out arcs flow (2 * k) ≡ (arc_at arcs k).capacity - get_or flow k 0
+  tail-residual_out = rw (even, half_even)
 
   pub head-near : near arcs (2 * k + 1) ≡ (arc_at arcs k).to
   head-near = rw (odd, half_odd)
@@ -80,5 +80,5 @@ module _ (arcs : List Arc) (flow : List ℕ) (k : ℕ) where
   pub head-far : far arcs (2 * k + 1) ≡ (arc_at arcs k).from
   head-far = rw (odd, half_odd)
 
-  pub head-room_out : room_out arcs flow (2 * k + 1) ≡ get_or flow k 0
-  head-room_out = rw (odd, half_odd)
+  pub head-residual_out : residual_out arcs flow (2 * k + 1) ≡ get_or flow k 0
+  head-residual_out = rw (odd, half_odd)

@@ -2,9 +2,9 @@ pub mod EndLemmas
 pub mod Reaching
 pub mod Spreading
 pub mod Linking
-pub mod Carrying
-pub mod Pushing
-pub mod Bringing
+pub mod PushLemmas
+pub mod PreflowLemmas
+pub mod Augmenting
 pub mod Descents
 pub mod Blocking
 pub mod SumLemmas

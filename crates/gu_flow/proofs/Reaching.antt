@@ -7,9 +7,9 @@ use Rattle.std.proofs.lemmas.List.Elements.{All-from_get_or}
 use Rattle.std.proofs.lemmas.Bool.{cases_eq, lt-ltb}
 use Rattle.gu_flow.specs.declared.network.Arc.{Arc}
 use Rattle.gu_flow.specs.declared.levels.Entry.{Entry}
-use Rattle.gu_flow.specs.Ends.{near, far, other_end, room_in, room_out}
+use Rattle.gu_flow.specs.Ends.{near, far, other_end, residual_in, residual_out}
 use Rattle.gu_flow.specs.Levels.{no_entry, entry_at, level_at, IsEntered, IsTree, reached_count, IsQueue, GoesOn}
-use Rattle.gu_flow.proofs.EndLemmas.{other_end-in, near-other_end, far-other_end, room_in-other_end}
+use Rattle.gu_flow.proofs.EndLemmas.{other_end-in, near-other_end, far-other_end, residual_in-other_end}
 
 count_step : (b : Bool) (now was level : ℕ) → b ≡ false → 0 < level → now + cond b 1 0 ≡ was + cond (nat_lt 0 level) 1 0 → now ≡ was + 1
 count_step true now was level empty some h = cc
@@ -42,7 +42,7 @@ count_one entries some others source =
     omega (arith, zero, one, ap reached_count back)
 
 -- an entry by its value
-entered_as : (arcs : List Arc) (flow : List ℕ) (entries : List Entry) (m : ℕ) (x : Entry) → entry_at entries m ≡ x → x.via < 2 * length arcs → near arcs x.via ≡ m → level_at entries (far arcs x.via) + 1 ≡ x.level → 0 < level_at entries (far arcs x.via) → 0 < room_in arcs flow x.via → IsEntered arcs flow entries m
+entered_as : (arcs : List Arc) (flow : List ℕ) (entries : List Entry) (m : ℕ) (x : Entry) → entry_at entries m ≡ x → x.via < 2 * length arcs → near arcs x.via ≡ m → level_at entries (far arcs x.via) + 1 ≡ x.level → 0 < level_at entries (far arcs x.via) → 0 < residual_in arcs flow x.via → IsEntered arcs flow entries m
 entered_as arcs flow entries m x same end_in here before reached room = record {
   end_in = rw same end_in;
   here = rw same here;
@@ -52,7 +52,7 @@ entered_as arcs flow entries m x same end_in here before reached room = record {
 }
 
 module _ (arcs : List Arc) (flow : List ℕ) (entries : List Entry) (queue : List ℕ) (count end level : ℕ) (tree : IsTree arcs flow entries) (waits : IsQueue entries queue count)
-    (end_in : end < 2 * length arcs) (far_in : far arcs end < length entries) (new : level_at entries (far arcs end) ≡ 0) (room : 0 < room_out arcs flow end)
+    (end_in : end < 2 * length arcs) (far_in : far arcs end < length entries) (new : level_at entries (far arcs end) ≡ 0) (room : 0 < residual_out arcs flow end)
     (reached : 0 < level_at entries (near arcs end)) (level_is : level_at entries (near arcs end) + 1 ≡ level) (fits : length entries ≤ length queue) where
   node : ℕ
   node = far arcs end
@@ -99,7 +99,7 @@ module _ (arcs : List Arc) (flow : List ℕ) (entries : List Entry) (queue : Lis
       (near-other_end arcs end)
       (subst (λ k. level_at after k + 1 ≡ level) (sym tail) (omega (arith, tail_kept, level_is)))
       (subst (λ k. 0 < level_at after k) (sym tail) (omega (arith, tail_kept, reached)))
-      (rw (room_in-other_end arcs flow end) room)
+      (rw (residual_in-other_end arcs flow end) room)
 
   entered_before : (m : ℕ) → m ≢ node → IsEntered arcs flow entries m → IsEntered arcs flow after m
   entered_before m other before =

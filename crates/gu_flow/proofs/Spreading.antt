@@ -4,10 +4,10 @@ use Rattle.std.proofs.Math.ListN.{set}
 use Rattle.std.proofs.lemmas.Bool.{cases_eq, cases_lt, ltb-true, ltb-false}
 use Rattle.gu_flow.specs.declared.network.Arc.{Arc}
 use Rattle.gu_flow.specs.declared.levels.Entry.{Entry}
-use Rattle.gu_flow.specs.Ends.{arc_at, near, far, other_end, room_out, IsIndex}
+use Rattle.gu_flow.specs.Ends.{arc_at, near, far, other_end, residual_out, IsIndex}
 use Rattle.gu_flow.specs.Flows.{IsClosed, IsWithin}
 use Rattle.gu_flow.specs.Levels.{level_at, is_reached, IsTree, IsQueue, IsSpent, GoesOn}
-use Rattle.gu_flow.proofs.EndLemmas.{tail-near, tail-far, tail-room_out, head-near, head-far, head-room_out}
+use Rattle.gu_flow.proofs.EndLemmas.{tail-near, tail-far, tail-residual_out, head-near, head-far, head-residual_out}
 use Rattle.gu_flow.proofs.Reaching.{count_one, level_there, tree_reaches, queue_reaches, goes_on_reaches}
 
 -- so many ends are left to be looked at, and what the others lead to is reached
@@ -19,7 +19,7 @@ pub record Spreading (arcs : List Arc) (flow : List ℕ) (old entries : List Ent
   pub ends_in : ends ≤ 2 * length arcs
   pub ends_at : 0 < ends → near arcs (ends - 1) ≡ node
   pub level_is : level_at entries node + 1 ≡ level
-  pub spent : (e : ℕ) → ends ≤ e → e < 2 * length arcs → near arcs e ≡ node → 0 < room_out arcs flow e → 0 < level_at entries (far arcs e)
+  pub spent : (e : ℕ) → ends ≤ e → e < 2 * length arcs → near arcs e ≡ node → 0 < residual_out arcs flow e → 0 < level_at entries (far arcs e)
 
 module _ (arcs : List Arc) (flow : List ℕ) (old entries : List Entry) (before queue first next : List ℕ) (node reached count ends level : ℕ)
     (index : IsIndex arcs first next (2 * length arcs)) (fits : length entries ≤ length queue)
@@ -37,7 +37,7 @@ module _ (arcs : List Arc) (flow : List ℕ) (old entries : List Entry) (before 
 
   -- the next end, where this one leads only to what was reached
   onward : (entries' : List Entry) (queue' : List ℕ) (count' : ℕ) → IsTree arcs flow entries' → IsQueue entries' queue' count' → GoesOn old entries' before queue' reached → reached ≤ count'
-      → ((m : ℕ) → 0 < level_at entries m → level_at entries' m ≡ level_at entries m) → (0 < room_out arcs flow end → 0 < level_at entries' (far arcs end))
+      → ((m : ℕ) → 0 < level_at entries m → level_at entries' m ≡ level_at entries m) → (0 < residual_out arcs flow end → 0 < level_at entries' (far arcs end))
       → Spreading arcs flow old entries' before queue' next node reached count' (get_or next end 0) level
   unfolding end
   onward entries' queue' count' tree waits goes_on grows kept now = record {
@@ -51,14 +51,14 @@ module _ (arcs : List Arc) (flow : List ℕ) (old entries : List Entry) (before 
     spent = λ e from e_in at room. elim (cases_lt e end) [
       | inl below ↦ absurd (index.chain.none_between end e end_in from below (at ∙ sym here))
       | inr above ↦ elim (cases_eq e end) [
-        | inl same ↦ subst (λ k. 0 < level_at entries' (far arcs k)) (sym same) (now (subst (λ k. 0 < room_out arcs flow k) same room))
+        | inl same ↦ subst (λ k. 0 < level_at entries' (far arcs k)) (sym same) (now (subst (λ k. 0 < residual_out arcs flow k) same room))
         | inr past ↦ let was = s.spent e (omega arith) e_in at room in omega (arith, was, kept (far arcs e) was)
       ]
     ];
   }
 
   -- the far end's node is reached now
-  pub spread_reaches : far arcs (ends - 1) < length entries → level_at entries (far arcs (ends - 1)) ≡ 0 → 0 < room_out arcs flow (ends - 1)
+  pub spread_reaches : far arcs (ends - 1) < length entries → level_at entries (far arcs (ends - 1)) ≡ 0 → 0 < residual_out arcs flow (ends - 1)
       → Spreading arcs flow old (set entries (far arcs (ends - 1)) (record { via = other_end (ends - 1); level = level })) before (set queue count (far arcs (ends - 1))) next node reached (count + 1) (get_or next (ends - 1) 0) level
   unfolding end
   spread_reaches other_in new room =
@@ -74,7 +74,7 @@ module _ (arcs : List Arc) (flow : List ℕ) (old entries : List Entry) (before 
       (λ r. omega (arith, level_there arcs flow entries queue count end level s.tree s.waits end_in other_in new room was level_is fits, level_is))
 
   -- it was reached before, or nothing can be brought there
-  pub spread_skips : (0 < room_out arcs flow (ends - 1) → 0 < level_at entries (far arcs (ends - 1))) → Spreading arcs flow old entries before queue next node reached count (get_or next (ends - 1) 0) level
+  pub spread_skips : (0 < residual_out arcs flow (ends - 1) → 0 < level_at entries (far arcs (ends - 1))) → Spreading arcs flow old entries before queue next node reached count (get_or next (ends - 1) 0) level
   unfolding end
   spread_skips closed = onward entries queue count s.tree s.waits s.goes_on s.grows (λ m r. refl) closed
 
@@ -129,7 +129,7 @@ module _ (arcs : List Arc) (flow : List ℕ) (entries : List Entry) (queue : Lis
   full : (k : ℕ) → k < length arcs → get_or flow k 0 ≤ (arc_at arcs k).capacity → is_reached entries (arc_at arcs k).from ≡ true → is_reached entries (arc_at arcs k).to ≡ false → get_or flow k 0 ≡ (arc_at arcs k).capacity
   full k k_in within from to = elim (cases_lt (get_or flow k 0) (arc_at arcs k).capacity) [
     | inl less ↦
-        let r = (spent_at (arc_at arcs k).from (ltb-true 0 (level_at entries (arc_at arcs k).from) from)).far_reached (2 * k) (omega arith) (tail-near arcs flow k) (omega (arith, tail-room_out arcs flow k)) in
+        let r = (spent_at (arc_at arcs k).from (ltb-true 0 (level_at entries (arc_at arcs k).from) from)).far_reached (2 * k) (omega arith) (tail-near arcs flow k) (omega (arith, tail-residual_out arcs flow k)) in
         let there : 0 < level_at entries (arc_at arcs k).to = subst (λ n. 0 < level_at entries n) (tail-far arcs flow k) r in
         absurd (omega (arith, ltb-false 0 (level_at entries (arc_at arcs k).to) to))
     | inr more ↦ omega arith
@@ -138,7 +138,7 @@ module _ (arcs : List Arc) (flow : List ℕ) (entries : List Entry) (queue : Lis
   empty : (k : ℕ) → k < length arcs → is_reached entries (arc_at arcs k).from ≡ false → is_reached entries (arc_at arcs k).to ≡ true → get_or flow k 0 ≡ 0
   empty k k_in from to = elim (cases_lt 0 (get_or flow k 0)) [
     | inl some ↦
-        let r = (spent_at (arc_at arcs k).to (ltb-true 0 (level_at entries (arc_at arcs k).to) to)).far_reached (2 * k + 1) (omega arith) (head-near arcs flow k) (omega (arith, head-room_out arcs flow k)) in
+        let r = (spent_at (arc_at arcs k).to (ltb-true 0 (level_at entries (arc_at arcs k).to) to)).far_reached (2 * k + 1) (omega arith) (head-near arcs flow k) (omega (arith, head-residual_out arcs flow k)) in
         let there : 0 < level_at entries (arc_at arcs k).from = subst (λ n. 0 < level_at entries n) (head-far arcs flow k) r in
         absurd (omega (arith, ltb-false 0 (level_at entries (arc_at arcs k).from) from))
     | inr none ↦ omega arith

@@ -25,12 +25,12 @@ abbrev pub other_end : ℕ → ℕ
 other_end e = if is_tail e then e + 1 else e - 1
 
 -- the lots that can still be brought to an end from the other one: against the arc what flows, along it what it can carry more
-abbrev pub room_in : List Arc → List ℕ → ℕ → ℕ
-room_in arcs flow e = if is_tail e then slice_index flow (e / 2) else (arc_at arcs (e / 2)).capacity - slice_index flow (e / 2)
+abbrev pub residual_in : List Arc → List ℕ → ℕ → ℕ
+residual_in arcs flow e = if is_tail e then slice_index flow (e / 2) else (arc_at arcs (e / 2)).capacity - slice_index flow (e / 2)
 
 -- the lots that can still be brought from an end to the other one
-abbrev pub room_out : List Arc → List ℕ → ℕ → ℕ
-room_out arcs flow e = if is_tail e then (arc_at arcs (e / 2)).capacity - slice_index flow (e / 2) else slice_index flow (e / 2)
+abbrev pub residual_out : List Arc → List ℕ → ℕ → ℕ
+residual_out arcs flow e = if is_tail e then (arc_at arcs (e / 2)).capacity - slice_index flow (e / 2) else slice_index flow (e / 2)
 
 -- each arc joins two of so many nodes
 abbrev pub JoinsNodes : List Arc → ℕ → Type 0

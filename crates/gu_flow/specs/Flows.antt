@@ -1,7 +1,7 @@
 -- Machinery: flows: what flows through the arc at each place of a network, from node 0, the source, to node 1, the sink.
 use Rattle.std.specs.Prelude.{◌≡◌, ◌≢◌, ℕ, zero, suc, ◌-◌, ◌+◌, ◌/◌, ◌<◌, ◌≤◌, ◌==◌, if◌then◌else◌, Bool, true, false, List, [], ◌∷◌, length, map, slice_index, sum, sum_by}
 use Rattle.gu_flow.specs.declared.network.Arc.{Arc}
-use Rattle.gu_flow.specs.Ends.{arc_at, is_tail, near, far, room_in}
+use Rattle.gu_flow.specs.Ends.{arc_at, is_tail, near, far, residual_in}
 
 -- the places of a list with so many elements
 unfoldable pub places : ℕ → List ℕ
@@ -20,8 +20,8 @@ abbrev pub outflow : List Arc → List ℕ → ℕ → ℕ
 outflow arcs flow n = sum_over arcs (λ a. a.from == n) (λ k. slice_index flow k)
 
 -- what the sink takes up
-abbrev pub worth : List Arc → List ℕ → ℕ
-worth arcs flow = inflow arcs flow 1 - outflow arcs flow 1
+abbrev pub value_of : List Arc → List ℕ → ℕ
+value_of arcs flow = inflow arcs flow 1 - outflow arcs flow 1
 
 -- no arc carries more than it can
 pub record IsWithin (arcs : List Arc) (flow : List ℕ) : Type 0 where
@@ -35,12 +35,12 @@ pub record IsFlow (arcs : List Arc) (flow : List ℕ) : Type 0 where
   pub taken : outflow arcs flow 1 ≤ inflow arcs flow 1
 
 -- so many lots more are brought over an end from its node to the other, and nothing else changes
-pub record Carries (arcs : List Arc) (old new : List ℕ) (end lots : ℕ) : Type 0 where
+pub record Pushes (arcs : List Arc) (old new : List ℕ) (end lots : ℕ) : Type 0 where
   pub within : IsWithin arcs new
   pub nodes : (n : ℕ)
       → inflow arcs new n + outflow arcs old n + (if near arcs end == n then lots else 0)
       ≡ inflow arcs old n + outflow arcs new n + (if far arcs end == n then lots else 0)
-  pub others : (d : ℕ) → d / 2 ≢ end / 2 → room_in arcs new d ≡ room_in arcs old d
+  pub others : (d : ℕ) → d / 2 ≢ end / 2 → residual_in arcs new d ≡ residual_in arcs old d
   pub less : is_tail end ≡ false → sum new + lots ≡ sum old
 
 -- no more can be brought from the nodes that were reached to the others: each arc out to these is full, and each arc back is empty

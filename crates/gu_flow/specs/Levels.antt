@@ -2,7 +2,7 @@
 use Rattle.std.specs.Prelude.{◌≡◌, ◌≢◌, ℕ, ◌+◌, ◌*◌, ◌<◌, ◌≤◌, List, length, Bool, count_by, nat_lt, slice_index, slice_index_or}
 use Rattle.gu_flow.specs.declared.network.Arc.{Arc}
 use Rattle.gu_flow.specs.declared.levels.Entry.{Entry}
-use Rattle.gu_flow.specs.Ends.{near, far, room_in, room_out}
+use Rattle.gu_flow.specs.Ends.{near, far, residual_in, residual_out}
 
 -- a node's entry, and its level: 1 for the source, one more for each step from it, and 0 where the search hasn't come
 abbrev pub no_entry : Entry
@@ -24,7 +24,7 @@ pub record IsEntered (arcs : List Arc) (flow : List ℕ) (entries : List Entry) 
   pub here : near arcs (entry_at entries n).via ≡ n
   pub before : level_at entries (far arcs (entry_at entries n).via) + 1 ≡ (entry_at entries n).level
   pub reached : 0 < level_at entries (far arcs (entry_at entries n).via)
-  pub room : 0 < room_in arcs flow (entry_at entries n).via
+  pub room : 0 < residual_in arcs flow (entry_at entries n).via
 
 -- each node that was reached is the source, or was entered from another
 pub record IsTree (arcs : List Arc) (flow : List ℕ) (entries : List Entry) : Type 0 where
@@ -45,7 +45,7 @@ pub record IsQueue (entries : List Entry) (queue : List ℕ) (count : ℕ) : Typ
 
 -- each node that a node can bring lots to is reached
 pub record IsSpent (arcs : List Arc) (flow : List ℕ) (entries : List Entry) (n : ℕ) : Type 0 where
-  pub far_reached : (e : ℕ) → e < 2 * length arcs → near arcs e ≡ n → 0 < room_out arcs flow e → 0 < level_at entries (far arcs e)
+  pub far_reached : (e : ℕ) → e < 2 * length arcs → near arcs e ≡ n → 0 < residual_out arcs flow e → 0 < level_at entries (far arcs e)
 
 -- a search goes on: what was reached stays so, and keeps its place in the queue
 pub record GoesOn (old new : List Entry) (before after : List ℕ) (count : ℕ) : Type 0 where

@@ -2,7 +2,7 @@
 use Rattle.std.specs.Prelude.{◌≡◌, ℕ, ◌+◌, ◌-◌, ◌*◌, ◌/◌, ◌<◌, ◌≤◌, ◌==◌, if◌then◌else◌, List, length, slice_index}
 use Rattle.gu_flow.specs.declared.network.Arc.{Arc}
 use Rattle.gu_flow.specs.declared.levels.Entry.{Entry}
-use Rattle.gu_flow.specs.Ends.{near, far, room_in}
+use Rattle.gu_flow.specs.Ends.{near, far, residual_in}
 use Rattle.gu_flow.specs.Levels.{level_at}
 
 -- the node at which a way from the sink stands after so many steps
@@ -30,13 +30,13 @@ pub record IsWhole (arcs : List Arc) (way : List ℕ) : Type 0 where
 
 -- each step has room for so many lots
 pub record HasRoom (arcs : List Arc) (flow way : List ℕ) (steps lots : ℕ) : Type 0 where
-  pub room : (i : ℕ) → i < steps → lots ≤ room_in arcs flow (slice_index way i)
+  pub room : (i : ℕ) → i < steps → lots ≤ residual_in arcs flow (slice_index way i)
 
 -- some step has room for exactly so many lots
 pub record IsNarrow (arcs : List Arc) (flow way : List ℕ) (steps lots : ℕ) : Type 0 where
   pub step : ℕ
   pub within : step < steps
-  pub room : room_in arcs flow (slice_index way step) ≡ lots
+  pub room : residual_in arcs flow (slice_index way step) ≡ lots
 
 -- at each node a search for ways goes on at an end of that node
 pub record IsCurrent (arcs : List Arc) (current : List ℕ) : Type 0 where
@@ -52,7 +52,7 @@ pub record IsDown (arcs : List Arc) (flow : List ℕ) (entries : List Entry) (cu
   pub end_in : end < 2 * length arcs
   pub here : near arcs end ≡ node
   pub ahead : end < slice_index current node
-  pub room : 0 < room_in arcs flow end
+  pub room : 0 < residual_in arcs flow end
   pub falls : level_at entries (far arcs end) + 1 ≡ level_at entries node
 
 -- a way on which each step has room and leads a level down

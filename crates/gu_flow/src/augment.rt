@@ -1,11 +1,11 @@
 //! Lots brought along a way from the source to the sink.
 
 ghost use Rattle.std.specs.Prelude.{◌≡◌, ◌+◌, ◌<◌, length};
-ghost use Rattle.gu_flow.specs.Flows.{IsFlow, IsWithin, worth};
+ghost use Rattle.gu_flow.specs.Flows.{IsFlow, IsWithin, value_of};
 ghost use Rattle.gu_flow.specs.Ways.{IsWay, IsWhole, IsNarrow, HasRoom};
 
 use crate::network::{Network, other_end};
-use crate::residual::{carry, room_in};
+use crate::residual::{push, residual_in};
 
 /// The least room on a way.
 fn bottleneck(net: &Network, flow: &[u64], way: &[u32]) -> u64
@@ -17,21 +17,21 @@ fn bottleneck(net: &Network, flow: &[u64], way: &[u32]) -> u64
 {
     let mut least = u64::MAX;
     for end in way {
-        least = least.min(room_in(net, flow, *end));
+        least = least.min(residual_in(net, flow, *end));
     }
     least
 }
 
 /// Brings so many lots from the source to the sink, back along a way.
-fn bring(net: &Network, flow: &mut [u64], way: &[u32], lots: u64)
+fn push_along(net: &Network, flow: &mut [u64], way: &[u32], lots: u64)
     requires flow { IsFlow net.now.arcs.items flow.old }
     requires whole { IsWhole net.now.arcs.items way.now }
     requires room { HasRoom net.now.arcs.items flow.old way.now (length way.now) lots }
     ensures flow { IsFlow net.now.arcs.items flow.new }
-    ensures more { worth net.now.arcs.items flow.new ≡ worth net.now.arcs.items flow.old + lots }
+    ensures more { value_of net.now.arcs.items flow.new ≡ value_of net.now.arcs.items flow.old + lots }
 {
     for end in way {
-        carry(net, flow, other_end(*end), lots);
+        push(net, flow, other_end(*end), lots);
     }
 }
 
@@ -41,8 +41,8 @@ pub(crate) fn augment(net: &Network, flow: &mut [u64], way: &[u32])
     requires whole { IsWhole net.now.arcs.items way.now }
     requires room { HasRoom net.now.arcs.items flow.old way.now (length way.now) 1 }
     ensures flow { IsFlow net.now.arcs.items flow.new }
-    ensures more { worth net.now.arcs.items flow.old < worth net.now.arcs.items flow.new }
+    ensures more { value_of net.now.arcs.items flow.old < value_of net.now.arcs.items flow.new }
 {
     let lots = bottleneck(net, flow, way);
-    bring(net, flow, way, lots);
+    push_along(net, flow, way, lots);
 }

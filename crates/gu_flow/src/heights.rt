@@ -1,12 +1,12 @@
 //! Lots pushed down from node to node: a node is as high as it is far from the sink.
 
 ghost use Rattle.std.specs.Prelude.{◌≡◌, ℕ, ◌*◌, ◌^◌, ◌<◌, ◌≤◌, OnErr, OnOk, length, slice_index, vec_len};
-ghost use Rattle.gu_flow.specs.Flows.{IsFlow, IsWithin, worth};
+ghost use Rattle.gu_flow.specs.Flows.{IsFlow, IsWithin, value_of};
 ghost use Rattle.gu_flow.specs.Preflows.{IsPreflow};
 
 use crate::network::{Network, SINK, SOURCE};
-use crate::preflow::{give_back, push};
-use crate::residual::{room_in, room_out};
+use crate::preflow::{give_back, push_excess};
+use crate::residual::{residual_in, residual_out};
 use crate::waiting::Waiting;
 use std::alloc::{AllocError, Global};
 
@@ -51,7 +51,7 @@ fn spread_back(
         let end = ends - 1;
         let from = net.far(end);
         let is_new = from != SOURCE && heights[from as usize] > height;
-        if is_new && count < queue.len() && room_in(net, flow, end) > 0 {
+        if is_new && count < queue.len() && residual_in(net, flow, end) > 0 {
             heights[from as usize] = height;
             queue[count] = from;
             count += 1;
@@ -94,7 +94,7 @@ fn push_down(
     requires node { node < length excess.old }
     requires current { (n : ℕ) → slice_index current.old n ≤ 2 * length net.now.arcs.items }
     ensures preflow { IsPreflow net.now.arcs.items flow.new excess.new }
-    ensures worth { worth net.now.arcs.items flow.old ≤ worth net.now.arcs.items flow.new }
+    ensures value { value_of net.now.arcs.items flow.old ≤ value_of net.now.arcs.items flow.new }
     ensures ring { vec_len waiting.new.ring ≡ vec_len waiting.old.ring }
     ensures current { (n : ℕ) → slice_index current.new n ≤ 2 * length net.now.arcs.items }
 {
@@ -104,7 +104,7 @@ fn push_down(
         let to = net.far(end);
         if heights[to as usize] < height {
             let is_idle = excess[to as usize] == 0;
-            let lots = push(net, flow, excess, end);
+            let lots = push_excess(net, flow, excess, end);
             if is_idle && lots > 0 && to > SINK {
                 waiting.add(to);
             }
@@ -127,7 +127,7 @@ fn lift(net: &Network, flow: &[u64], heights: &mut [u32], node: u32) -> usize
     let mut ends = net.ends(node);
     'ends: while ends > 0 {
         let end = ends - 1;
-        if room_out(net, flow, end) > 0 {
+        if residual_out(net, flow, end) > 0 {
             least = least.min(heights[net.far(end) as usize].saturating_add(1));
         }
         cost = cost.saturating_add(1);
@@ -154,7 +154,7 @@ fn discharge(
     requires node { node < length excess.old }
     requires current { (n : ℕ) → slice_index current.old n ≤ 2 * length net.now.arcs.items }
     ensures preflow { IsPreflow net.now.arcs.items flow.new excess.new }
-    ensures worth { worth net.now.arcs.items flow.old ≤ worth net.now.arcs.items flow.new }
+    ensures value { value_of net.now.arcs.items flow.old ≤ value_of net.now.arcs.items flow.new }
     ensures ring { vec_len waiting.new.ring ≡ vec_len waiting.old.ring }
     ensures current { (n : ℕ) → slice_index current.new n ≤ 2 * length net.now.arcs.items }
 {
@@ -214,7 +214,7 @@ fn take_turns(
         × (0 < length queue.old) }
     requires current { (n : ℕ) → slice_index current.old n ≤ 2 * length net.now.arcs.items }
     ensures preflow { IsPreflow net.now.arcs.items flow.new excess.new }
-    ensures worth { worth net.now.arcs.items flow.old ≤ worth net.now.arcs.items flow.new }
+    ensures value { value_of net.now.arcs.items flow.old ≤ value_of net.now.arcs.items flow.new }
     ensures ring { vec_len waiting.new.ring ≡ vec_len waiting.old.ring }
 {
     let mut cost = 0_usize;
@@ -247,7 +247,7 @@ fn push_all(
         × (length current.old ≡ length net.now.first.items) × (vec_len waiting.old.ring ≡ length net.now.first.items)
         × (0 < length queue.old) }
     ensures flow { IsFlow net.now.arcs.items flow.new }
-    ensures worth { worth net.now.arcs.items flow.old ≤ worth net.now.arcs.items flow.new }
+    ensures value { value_of net.now.arcs.items flow.old ≤ value_of net.now.arcs.items flow.new }
 {
     start_over(net, flow, heights, current, queue);
     push_down(net, flow, excess, heights, current, waiting, SOURCE);
@@ -267,7 +267,7 @@ pub(crate) fn surge(
     requires flow { IsFlow net.now.arcs.items flow.old }
     requires lists { (length current.old ≡ length net.now.first.items) × (0 < length queue.old) }
     ensures flow { OnOk result (IsFlow net.now.arcs.items flow.new) }
-    ensures worth { OnOk result (worth net.now.arcs.items flow.old ≤ worth net.now.arcs.items flow.new) }
+    ensures value { OnOk result (value_of net.now.arcs.items flow.old ≤ value_of net.now.arcs.items flow.new) }
     ensures refused { OnErr result (flow.new ≡ flow.old) }
 {
     let nodes = current.len();

@@ -5,7 +5,7 @@ ghost use Rattle.gu_flow.specs.Flows.{IsClosed, IsWithin};
 ghost use Rattle.gu_flow.specs.Levels.{level_at, is_reached, IsTree, IsQueue, IsSpent, GoesOn};
 
 use crate::network::{Network, SINK, SOURCE, other_end};
-use crate::residual::room_out;
+use crate::residual::residual_out;
 
 /// How a search entered a node: over which of the node's ends, and at which level.
 #[derive(Clone, Copy)]
@@ -56,7 +56,7 @@ fn spread(
     while ends > 0 {
         let end = ends - 1;
         let other = net.far(end);
-        if entries[other as usize].level == 0 && room_out(net, flow, end) > 0 {
+        if entries[other as usize].level == 0 && residual_out(net, flow, end) > 0 {
             entries[other as usize] = Entry {
                 via: other_end(end),
                 level,

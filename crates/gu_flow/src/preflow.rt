@@ -19,12 +19,12 @@ ghost use Rattle.std.specs.Prelude.{
   slice_index,
   sum,
 };
-ghost use Rattle.gu_flow.specs.Ends.{arc_at, is_tail, near, room_out};
-ghost use Rattle.gu_flow.specs.Flows.{IsFlow, worth};
+ghost use Rattle.gu_flow.specs.Ends.{arc_at, is_tail, near, residual_out};
+ghost use Rattle.gu_flow.specs.Flows.{IsFlow, value_of};
 ghost use Rattle.gu_flow.specs.Preflows.{IsPreflow, AreSettled};
 
 use crate::network::{Network, SINK, SOURCE};
-use crate::residual::{carry, room_out};
+use crate::residual::{push, residual_out};
 
 /// Takes lots from what a node has too much. The source has as many as are asked of it.
 fn debit(excess: &mut [u64], node: u32, lots: u64)
@@ -50,18 +50,18 @@ fn credit(excess: &mut [u64], node: u32, lots: u64)
 }
 
 /// Pushes over an end what its node has too much, as far as there is room, and returns how many lots that is.
-pub(crate) fn push(net: &Network, flow: &mut [u64], excess: &mut [u64], end: u32) -> u64
+pub(crate) fn push_excess(net: &Network, flow: &mut [u64], excess: &mut [u64], end: u32) -> u64
     requires preflow { IsPreflow net.now.arcs.items flow.old excess.old }
     requires nodes { length excess.old ≡ length net.now.first.items }
     requires end { end < 2 * length net.now.arcs.items }
     ensures preflow { IsPreflow net.now.arcs.items flow.new excess.new }
-    ensures lots { result ≡ min (room_out net.now.arcs.items flow.old end) (slice_index excess.old (near net.now.arcs.items end)) }
-    ensures worth { worth net.now.arcs.items flow.old ≤ worth net.now.arcs.items flow.new }
+    ensures lots { result ≡ min (residual_out net.now.arcs.items flow.old end) (slice_index excess.old (near net.now.arcs.items end)) }
+    ensures value { value_of net.now.arcs.items flow.old ≤ value_of net.now.arcs.items flow.new }
     ensures less { is_tail end ≡ false → sum flow.new + result ≡ sum flow.old }
 {
     let from = net.near(end);
-    let lots = room_out(net, flow, end).min(excess[from as usize]);
-    carry(net, flow, end, lots);
+    let lots = residual_out(net, flow, end).min(excess[from as usize]);
+    push(net, flow, end, lots);
     debit(excess, from, lots);
     credit(excess, net.far(end), lots);
     lots
@@ -85,14 +85,14 @@ fn give_back_once(net: &Network, flow: &mut [u64], excess: &mut [u64]) -> bool
     requires preflow { IsPreflow net.now.arcs.items flow.old excess.old }
     requires nodes { length excess.old ≡ length net.now.first.items }
     ensures preflow { IsPreflow net.now.arcs.items flow.new excess.new }
-    ensures worth { worth net.now.arcs.items flow.old ≤ worth net.now.arcs.items flow.new }
+    ensures value { value_of net.now.arcs.items flow.old ≤ value_of net.now.arcs.items flow.new }
     ensures less { result ≡ true → sum flow.new < sum flow.old }
     ensures settled { result ≡ false → AreSettled net.now.arcs.items flow.new excess.new (length net.now.arcs.items) }
 {
     let mut any = false;
     for place in 0..net.arcs().len() {
         if brings_too_much(net, flow, excess, place) {
-            push(net, flow, excess, 2 * place as u32 + 1);
+            push_excess(net, flow, excess, 2 * place as u32 + 1);
             any = true;
         }
     }
@@ -104,7 +104,7 @@ pub(crate) fn give_back(net: &Network, flow: &mut [u64], excess: &mut [u64])
     requires preflow { IsPreflow net.now.arcs.items flow.old excess.old }
     requires nodes { length excess.old ≡ length net.now.first.items }
     ensures flow { IsFlow net.now.arcs.items flow.new }
-    ensures worth { worth net.now.arcs.items flow.old ≤ worth net.now.arcs.items flow.new }
+    ensures value { value_of net.now.arcs.items flow.old ≤ value_of net.now.arcs.items flow.new }
 {
     'turns: while give_back_once(net, flow, excess) {}
 }

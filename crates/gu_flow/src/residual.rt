@@ -1,16 +1,16 @@
 //! The room that a flow leaves in a network.
 
 ghost use Rattle.std.specs.Prelude.{◌≡◌, ◌*◌, ◌<◌, ◌≤◌, length};
-ghost use Rattle.gu_flow.specs.Ends.{room_in, room_out};
-ghost use Rattle.gu_flow.specs.Flows.{Carries, IsWithin};
+ghost use Rattle.gu_flow.specs.Ends.{residual_in, residual_out};
+ghost use Rattle.gu_flow.specs.Flows.{Pushes, IsWithin};
 
 use crate::network::Network;
 
 /// The lots that can still be brought to an end from the other one.
-pub(crate) fn room_in(net: &Network, flow: &[u64], end: u32) -> u64
+pub(crate) fn residual_in(net: &Network, flow: &[u64], end: u32) -> u64
     requires within { IsWithin net.now.arcs.items flow.now }
     requires end { end < 2 * length net.now.arcs.items }
-    ensures { result ≡ room_in net.now.arcs.items flow.now end }
+    ensures { result ≡ residual_in net.now.arcs.items flow.now end }
 {
     let flows = flow[end as usize / 2];
     if end % 2 == 0 {
@@ -21,10 +21,10 @@ pub(crate) fn room_in(net: &Network, flow: &[u64], end: u32) -> u64
 }
 
 /// The lots that can still be brought from an end to the other one: along the arc what it can carry more, against it what flows.
-pub(crate) fn room_out(net: &Network, flow: &[u64], end: u32) -> u64
+pub(crate) fn residual_out(net: &Network, flow: &[u64], end: u32) -> u64
     requires within { IsWithin net.now.arcs.items flow.now }
     requires end { end < 2 * length net.now.arcs.items }
-    ensures { result ≡ room_out net.now.arcs.items flow.now end }
+    ensures { result ≡ residual_out net.now.arcs.items flow.now end }
 {
     let flows = flow[end as usize / 2];
     if end % 2 == 1 {
@@ -34,11 +34,11 @@ pub(crate) fn room_out(net: &Network, flow: &[u64], end: u32) -> u64
 }
 
 /// Brings lots over an end, from its node to the other.
-pub(crate) fn carry(net: &Network, flow: &mut [u64], end: u32, lots: u64)
+pub(crate) fn push(net: &Network, flow: &mut [u64], end: u32, lots: u64)
     requires within { IsWithin net.now.arcs.items flow.old }
     requires end { end < 2 * length net.now.arcs.items }
-    requires room { lots ≤ room_out net.now.arcs.items flow.old end }
-    ensures { Carries net.now.arcs.items flow.old flow.new end lots }
+    requires room { lots ≤ residual_out net.now.arcs.items flow.old end }
+    ensures { Pushes net.now.arcs.items flow.old flow.new end lots }
 {
     if end % 2 == 0 {
         flow[end as usize / 2] += lots;

@@ -1,15 +1,15 @@
 //! Ways from the sink back to the source, each step a level down.
 
 ghost use Rattle.std.specs.Prelude.{◌≡◌, ◌≢◌, ℕ, ◌+◌, ◌*◌, ◌<◌, ◌≤◌, IfSome, true, length, slice_index, sum};
-ghost use Rattle.gu_flow.specs.Ends.{far, room_in};
-ghost use Rattle.gu_flow.specs.Flows.{IsFlow, IsWithin, worth};
+ghost use Rattle.gu_flow.specs.Ends.{far, residual_in};
+ghost use Rattle.gu_flow.specs.Flows.{IsFlow, IsWithin, value_of};
 ghost use Rattle.gu_flow.specs.Levels.{level_at, IsTree};
 ghost use Rattle.gu_flow.specs.Ways.{stand, IsWay, HasRoom, IsCurrent, IsAhead, IsDown, IsDescent};
 
 use crate::augment::augment;
 use crate::levels::Entry;
 use crate::network::{Network, SINK, SOURCE};
-use crate::residual::room_in;
+use crate::residual::residual_in;
 
 /// The steps that a way pays for: a longer one costs what it has more, and a shorter one pays for a part of a search.
 const PAID: usize = 8;
@@ -40,10 +40,10 @@ pub(crate) fn clear_steps(net: &Network, flow: &[u64], way: &[u32]) -> usize
     requires way { IsWay net.now.arcs.items way.now (length way.now) }
     ensures bound { result ≤ length way.now }
     ensures room { HasRoom net.now.arcs.items flow.now way.now result 1 }
-    ensures stops { result < length way.now → room_in net.now.arcs.items flow.now (slice_index way.now result) ≡ 0 }
+    ensures stops { result < length way.now → residual_in net.now.arcs.items flow.now (slice_index way.now result) ≡ 0 }
 {
     for (step, end) in way.iter().enumerate() {
-        if room_in(net, flow, *end) == 0 {
+        if residual_in(net, flow, *end) == 0 {
             return step;
         }
     }
@@ -70,14 +70,14 @@ fn leads_down(net: &Network, flow: &[u64], entries: &[Entry], end: u32, level: u
     requires lists { length entries.now ≡ length net.now.first.items }
     requires end { end < 2 * length net.now.arcs.items }
     requires levels { (n : ℕ) → level_at entries.now n ≤ length entries.now }
-    ensures room { result ≡ true → 0 < room_in net.now.arcs.items flow.now end }
+    ensures room { result ≡ true → 0 < residual_in net.now.arcs.items flow.now end }
     ensures falls { result ≡ true → level_at entries.now (far net.now.arcs.items end) + 1 ≡ level }
-    ensures each { 0 < room_in net.now.arcs.items flow.now end
+    ensures each { 0 < residual_in net.now.arcs.items flow.now end
         → level_at entries.now (far net.now.arcs.items end) + 1 ≡ level
         → result ≡ true }
 {
     let before = entries[net.far(end) as usize].level;
-    before + 1 == level && room_in(net, flow, end) > 0
+    before + 1 == level && residual_in(net, flow, end) > 0
 }
 
 /// The next end at a node that leads down.
@@ -173,7 +173,7 @@ pub(crate) fn block(
         × (length entries.now ≤ length way.old) }
     requires current { IsCurrent net.now.arcs.items current.old }
     ensures flow { IsFlow net.now.arcs.items flow.new }
-    ensures more { worth net.now.arcs.items flow.old < worth net.now.arcs.items flow.new }
+    ensures more { value_of net.now.arcs.items flow.old < value_of net.now.arcs.items flow.new }
 {
     let steps = trace(net, flow, entries, way);
     augment(net, flow, &way[..steps]);

@@ -1,5 +1,5 @@
 use Rattle.std.proofs.Common.{arith}
-use Rattle.gu_flow.proofs.Carrying.{empty_flow, left_less}
+use Rattle.gu_flow.proofs.PushLemmas.{empty_flow, left_less}
 use Rattle.gu_flow.proofs.maximum.fill.Goals as goal
 
 pub searches-init : goal.searches-init
@@ -16,4 +16,4 @@ searches-smaller c = left_less c.args.net.now.arcs.items c.searches.flow c.block
 pub searches-smaller-then-left-nodes : goal.searches-smaller-then-left-nodes
 searches-smaller-then-left-nodes c =
     let e = c.in_ok-surge.ensures in
-    left_less c.args.net.now.arcs.items c.searches.flow c.surge.new.flow e.flow.within (omega (arith, e.worth, c.block.ensures.more))
+    left_less c.args.net.now.arcs.items c.searches.flow c.surge.new.flow e.flow.within (omega (arith, e.value, c.block.ensures.more))

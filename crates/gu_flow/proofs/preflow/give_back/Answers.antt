@@ -1,4 +1,4 @@
-use Rattle.gu_flow.proofs.Pushing.{settled_flow}
+use Rattle.gu_flow.proofs.PreflowLemmas.{settled_flow}
 use Rattle.gu_flow.proofs.preflow.give_back.Goals as goal
 
 pub returns-clause-flow : goal.returns-clause-flow

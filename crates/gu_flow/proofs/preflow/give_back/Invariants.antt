@@ -1,12 +1,12 @@
 use Rattle.std.proofs.Common.{◌≤◌, sum}
-use Rattle.gu_flow.specs.Flows.{worth}
+use Rattle.gu_flow.specs.Flows.{value_of}
 use Rattle.gu_flow.specs.Preflows.{IsPreflow}
 use Rattle.gu_flow.proofs.preflow.give_back.Given as goal
 
 abbrev pub invariant-turns : goal.invariant-turns
 invariant-turns l = record {
   preflow : IsPreflow l.net.arcs.items l.flow l.excess;
-  worth : worth l.net.arcs.items l.initial.flow ≤ worth l.net.arcs.items l.flow;
+  value : value_of l.net.arcs.items l.initial.flow ≤ value_of l.net.arcs.items l.flow;
 }
 
 abbrev pub decreases-turns : goal.decreases-turns

@@ -1,12 +1,12 @@
 use Rattle.std.proofs.Common.{◌≡◌, ◌<◌, ◌≤◌, true, false, sum}
-use Rattle.gu_flow.specs.Flows.{worth}
+use Rattle.gu_flow.specs.Flows.{value_of}
 use Rattle.gu_flow.specs.Preflows.{IsPreflow, AreSettled}
 use Rattle.gu_flow.proofs.preflow.give_back_once.Given as goal
 
 abbrev pub invariant-loop-place : goal.invariant-loop-place
 invariant-loop-place l = record {
   preflow : IsPreflow l.net.arcs.items l.flow l.excess;
-  worth : worth l.net.arcs.items l.initial.flow ≤ worth l.net.arcs.items l.flow;
+  value : value_of l.net.arcs.items l.initial.flow ≤ value_of l.net.arcs.items l.flow;
   no_more : sum l.flow ≤ sum l.initial.flow;
   less : l.any ≡ true → sum l.flow < sum l.initial.flow;
   settled : l.any ≡ false → AreSettled l.net.arcs.items l.flow l.excess l.place;

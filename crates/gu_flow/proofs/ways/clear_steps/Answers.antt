@@ -1,5 +1,5 @@
 use Rattle.std.proofs.Common.{arith}
-use Rattle.gu_flow.proofs.Bringing.{room_more}
+use Rattle.gu_flow.proofs.Augmenting.{room_more}
 use Rattle.gu_flow.proofs.ways.clear_steps.Goals as goal
 
 pub loop-step-preserved : goal.loop-step-preserved

@@ -4,9 +4,9 @@ use Rattle.std.proofs.lemmas.Bool.{cases_eq, eqb-true, eq-eqb, ne_eqb, cond-true
 use Rattle.gu_terms.proofs.Lists.{sum_by-zeros}
 use Rattle.gu_flow.specs.declared.network.Arc.{Arc}
 use Rattle.gu_flow.specs.Ends.{arc_at, near, far, capacities}
-use Rattle.gu_flow.specs.Flows.{places, sum_over, inflow, worth, IsFlow, Carries}
+use Rattle.gu_flow.specs.Flows.{places, sum_over, inflow, value_of, IsFlow, Pushes}
 use Rattle.gu_flow.specs.Preflows.{IsPreflow, AreSettled}
-use Rattle.gu_flow.proofs.Carrying.{inflow-le}
+use Rattle.gu_flow.proofs.PushLemmas.{inflow-le}
 use Rattle.gu_flow.proofs.SumLemmas.{sum_places_by, at_test, cond_same}
 
 -- a node gives no more than it has too much
@@ -16,13 +16,13 @@ covered excess from n lots h = elim (cases_eq from n) [
   | inr other ↦ rw (ne_eqb from n other) (omega arith)
 ]
 
-module _ (arcs : List Arc) (flow new excess : List ℕ) (end lots : ℕ) (old : IsPreflow arcs flow excess) (has : lots ≤ get_or excess (near arcs end) 0) (c : Carries arcs flow new end lots) where
+module _ (arcs : List Arc) (flow new excess : List ℕ) (end lots : ℕ) (old : IsPreflow arcs flow excess) (has : lots ≤ get_or excess (near arcs end) 0) (c : Pushes arcs flow new end lots) where
   none_from_sink : cond (near arcs end == 1) lots 0 ≡ 0
   none_from_sink = omega (arith, covered excess (near arcs end) 1 lots has, old.sink)
 
   -- no less comes to the sink
-  pub pushed_worth : worth arcs flow ≤ worth arcs new
-  pushed_worth = omega (arith, c.nodes 1, none_from_sink, old.taken)
+  pub pushed_value : value_of arcs flow ≤ value_of arcs new
+  pushed_value = omega (arith, c.nodes 1, none_from_sink, old.taken)
 
   -- what a node has too much still fits a number of 64 bits
   pub pushed_fits : capacities arcs < 2 ^ 64 → far arcs end ≢ 0 → far arcs end ≢ 1 → get_or excess (far arcs end) 0 - cond (near arcs end == far arcs end) lots 0 + lots < 2 ^ 64

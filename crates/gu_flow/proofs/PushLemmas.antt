@@ -7,8 +7,8 @@ use Rattle.std.proofs.lemmas.List.{get_or_past}
 use Rattle.std.specs.Prelude.{All}
 use Rattle.gu_terms.proofs.Lists.{sum_by-zeros}
 use Rattle.gu_flow.specs.declared.network.Arc.{Arc}
-use Rattle.gu_flow.specs.Ends.{arc_at, is_tail, capacities, room_in, room_out}
-use Rattle.gu_flow.specs.Flows.{places, sum_over, inflow, outflow, worth, IsWithin, IsFlow, Carries}
+use Rattle.gu_flow.specs.Ends.{arc_at, is_tail, capacities, residual_in, residual_out}
+use Rattle.gu_flow.specs.Flows.{places, sum_over, inflow, outflow, value_of, IsWithin, IsFlow, Pushes}
 use Rattle.gu_flow.proofs.SumLemmas.{sum_by_place, sum_places_by, cond_same, sum_places_set, sum_places_le}
 
 -- nothing is a flow
@@ -71,7 +71,7 @@ module _ (arcs : List Arc) (flow : List ℕ) (end lots x : ℕ) (w : IsWithin ar
     ];
   }
 
-  elsewhere : (d : ℕ) → d / 2 ≢ place → room_in arcs (set flow place x) d ≡ room_in arcs flow d
+  elsewhere : (d : ℕ) → d / 2 ≢ place → residual_in arcs (set flow place x) d ≡ residual_in arcs flow d
   elsewhere d other = ap (λ y. cond (is_tail d) y ((arc_at arcs (d / 2)).capacity - y)) (get_or-set_other flow place (d / 2) x 0 other)
 
   ins : (n : ℕ) → inflow arcs (set flow place x) n + cond ((arc_at arcs place).to == n) (get_or flow place 0) 0 ≡ inflow arcs flow n + cond ((arc_at arcs place).to == n) x 0
@@ -81,8 +81,8 @@ module _ (arcs : List Arc) (flow : List ℕ) (end lots x : ℕ) (w : IsWithin ar
   outs n = over_set arcs (λ a. a.from == n) flow place x place_in (omega (arith, place_in, w.all))
 
   -- along the arc, and against it
-  pub carries_along : is_tail end ≡ true → lots ≤ room_out arcs flow end → x ≡ get_or flow place 0 + lots → Carries arcs flow (set flow place x) end lots
-  carries_along tail room is =
+  pub pushes_along : is_tail end ≡ true → lots ≤ residual_out arcs flow end → x ≡ get_or flow place 0 + lots → Pushes arcs flow (set flow place x) end lots
+  pushes_along tail room is =
       let some = rw tail at room in
       record {
         within = small (omega (arith, some, w.each place));
@@ -91,8 +91,8 @@ module _ (arcs : List Arc) (flow : List ℕ) (end lots x : ℕ) (w : IsWithin ar
         less = λ head. absurd (true_is_not_false tail head);
       }
 
-  pub carries_against : is_tail end ≡ false → lots ≤ room_out arcs flow end → x ≡ get_or flow place 0 - lots → Carries arcs flow (set flow place x) end lots
-  carries_against head room is =
+  pub pushes_against : is_tail end ≡ false → lots ≤ residual_out arcs flow end → x ≡ get_or flow place 0 - lots → Pushes arcs flow (set flow place x) end lots
+  pushes_against head room is =
       let some = rw head at room in
       record {
         within = small (omega (arith, some, w.each place));
@@ -112,5 +112,5 @@ inflow-le arcs flow n w =
     part false f most h = omega arith
 
 -- so what is left to be brought falls
-pub left_less : (arcs : List Arc) (old new : List ℕ) → IsWithin arcs new → worth arcs old < worth arcs new → capacities arcs - worth arcs new < capacities arcs - worth arcs old
+pub left_less : (arcs : List Arc) (old new : List ℕ) → IsWithin arcs new → value_of arcs old < value_of arcs new → capacities arcs - value_of arcs new < capacities arcs - value_of arcs old
 left_less arcs old new w more = omega (arith, inflow-le arcs new 1 w)
