@@ -1,30 +1,24 @@
 -- Lists of arcs that are laid out one room after another.
-use Rattle.std.proofs.Math.Seq.{take-append_seam}
-use Rattle.std.proofs.Common.{take, drop, ◌≡◌, ℕ, ◌+◌, ◌^◌, ◌<◌, ◌≤◌, ◌==◌, Bool, true, false, cond, List, [], ◌∷◌, ◌++◌, map, length, sym, ◌∙◌, ap, subst, arith}
+use Rattle.std.proofs.Common.{◌≡◌, ℕ, ◌+◌, ◌^◌, ◌<◌, ◌≤◌, ◌==◌, ◌⊎◌, min, Bool, true, false, cond, List, [], ◌∷◌, map, length, sym, subst, arith, refl, inl, inr}
 use Rattle.std.specs.Prelude.{All}
 use Rattle.std.specs.List.{AllByRecursion}
 use Rattle.std.proofs.lemmas.List.Elements.{All-from_get_or}
 use Rattle.std.proofs.lemmas.List.Sums.{sum_by-le}
 use Rattle.gu_view.proofs.MarkLemmas.{path_inside}
 use Rattle.gu_view.specs.View.{GroupView, IsView, place_of}
-use Rattle.gu_flow.specs.Ends.{no_arc, arc_at, JoinsNodes}
-use Rattle.gu_flow.proofs.Pipes.{pipes_at, pipes_length}
-use Rattle.gu_flow.specs.Flows.{SamePipes}
+use Rattle.gu_flow.specs.Ends.{no_arc, arc_at, capacities, JoinsNodes}
 use Rattle.gu_flow.specs.Layouts.{first_node, next_node, tail_on, head_on}
-use Rattle.gu_flow.specs.Networks.{no_room, room_at, capacity_of, way_of, IsArcOf, AreArcs}
-use Rattle.gu_flow.specs.Preflows.{capacities}
-use Rattle.gu_flow.specs.declared.arcs.Arc.{Arc}
+use Rattle.gu_flow.specs.Networks.{no_room, room_at, lots_with, capacity_of, way_of, IsArcOf}
+use Rattle.gu_flow.specs.declared.network.Arc.{Arc}
+use Rattle.gu_terms.specs.declared.agreement.AgreementId.{AgreementId}
 use Rattle.gu_terms.specs.declared.limit_key.LimitKey.{LimitKey}
 use Rattle.gu_terms.specs.declared.limit_key.LimitKey.TheVariants.{Exec, Agr, Acct, Carry, Guar}
 use Rattle.gu_view.specs.declared.view.Offer.{Offer}
+use Rattle.gu_flow.proofs.WayLayers.{layer_of}
 
--- each arc is that of the room at its place, and empty
+-- each arc is that of the room at its place
 pub record IsLaidOut (view : GroupView) (arcs : List Arc) : Type 0 where
   pub each : (k : ℕ) → k < length arcs → IsArcOf view k (arc_at arcs k)
-  pub empty : (k : ℕ) → k < length arcs → (arc_at arcs k).flow ≡ 0
-
-pub all_empty : (view : GroupView) (arcs : List Arc) → IsLaidOut view arcs → All (λ a. a.flow ≡ 0) arcs
-all_empty view arcs laid = All-from_get_or (λ a. a.flow ≡ 0) arcs no_arc laid.empty
 
 either : (n : ℕ) (b : Bool) (x y : ℕ) → x < n + 2 → y < n + 2 → cond b x y < n + 2
 either n true x y one other = one
@@ -66,38 +60,26 @@ arcs_join view arcs sound long laid = All-from_get_or (λ a. (a.from < length vi
     let inside : k < n = omega arith in
     (subst (λ m. m < n + 2) (sym h.from) (tail_within n k way inside each), subst (λ m. m < n + 2) (sym h.to) (head_within n k way each)))
 
--- an arc carries no more than its key's room
-capacity-le : (offers : List Offer) (lots : ℕ) (key : LimitKey) → capacity_of offers lots key ≤ lots
-capacity-le offers lots (Agr agreement) = omega arith
-capacity-le offers lots (Exec firm) = omega arith
-capacity-le offers lots (Acct account) = omega arith
-capacity-le offers lots (Carry firm) = omega arith
-capacity-le offers lots (Guar firm) = omega arith
+-- an agreement's arc can carry its room, and no more than its offers have
+pub record IsAgreement (offers : List Offer) (room capacity : ℕ) (key : LimitKey) : Type 0 where
+  pub agreement : AgreementId
+  pub is : key ≡ Agr agreement
+  pub capacity_is : capacity ≡ min room (lots_with offers key)
+
+-- and any other its room; only an agreement's is of layer 0
+pub kind_of : (offers : List Offer) (room capacity : ℕ) (key : LimitKey) → capacity ≡ capacity_of offers room key → IsAgreement offers room capacity key ⊎ ((capacity ≡ room) × (0 < layer_of key))
+kind_of offers room capacity (Agr agreement) is = inl (record { agreement = agreement; is = refl; capacity_is = is })
+kind_of offers room capacity (Exec firm) is = inr (is, omega arith)
+kind_of offers room capacity (Acct account) is = inr (is, omega arith)
+kind_of offers room capacity (Carry firm) is = inr (is, omega arith)
+kind_of offers room capacity (Guar firm) is = inr (is, omega arith)
+
+pub capacity-le : (offers : List Offer) (room capacity : ℕ) (key : LimitKey) → capacity ≡ capacity_of offers room key → capacity ≤ room
+capacity-le offers room capacity key is = elim (kind_of offers room capacity key is) [ inl a ↦ omega (arith, a.capacity_is) | inr other ↦ omega (arith, other.0) ]
 
 -- what all arcs can carry fits a number of 64 bits
-pub arcs_fit : (view : GroupView) (arcs : List Arc) → IsView view → AreArcs view arcs → capacities arcs < 2 ^ 64
-arcs_fit view arcs sound are =
+pub arcs_fit : (view : GroupView) (arcs : List Arc) → IsView view → length arcs ≡ length view.rooms → IsLaidOut view arcs → capacities arcs < 2 ^ 64
+arcs_fit view arcs sound long laid =
     let small : All (λ a. a.capacity ≤ 1000000000) arcs = All-from_get_or (λ a. a.capacity ≤ 1000000000) arcs no_arc (λ k k_in.
-    omega (arith, (are.each k k_in).capacity, capacity-le view.offers (room_at view.rooms k).lots (room_at view.rooms k).key, sound.limits k no_room (omega (arith, are.all)))) in
-    omega (arith, sum_by-le (λ a. a.capacity) 1000000000 arcs small, are.all, sound.few_rooms)
-
--- another flow through the same network leaves its arcs those of the rooms
-pub pipes_arcs : (view : GroupView) (old new : List Arc) → SamePipes old new → AreArcs view old → AreArcs view new
-pipes_arcs view old new same are = record {
-  all = pipes_length old new same ∙ are.all;
-  each = λ k k_in.
-      let a = are.each k (omega (arith, pipes_length old new same)) in
-      let pipe = pipes_at old new same k no_arc in
-      record {
-        offer = a.offer;
-        known = a.known;
-        goes_by = a.goes_by;
-        from = ap (λ p. p.0) pipe ∙ a.from;
-        to = ap (λ p. p.1) pipe ∙ a.to;
-        capacity = ap (λ p. p.2) pipe ∙ a.capacity;
-      };
-}
-
--- a list that is written back over one of its length
-pub written_back : (n : ℕ) (new old : List Arc) → n ≡ length new → take n (new ++ drop (length new) old) ≡ new
-written_back n new old is = ap (λ m. take m (new ++ drop (length new) old)) is ∙ take-append_seam new (drop (length new) old)
+    omega (arith, capacity-le view.offers (room_at view.rooms k).lots _ (room_at view.rooms k).key (laid.each k k_in).capacity, sound.limits k no_room (omega (arith, k_in)))) in
+    omega (arith, sum_by-le (λ a. a.capacity) 1000000000 arcs small, sound.few_rooms)

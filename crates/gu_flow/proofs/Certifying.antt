@@ -1,5 +1,5 @@
 -- The shares of a greatest flow and the cut where its last search stops: right takes, a right cut, and no takes are greater.
-use Rattle.std.proofs.Common.{◌≡◌, ◌≢◌, ℕ, ◌+◌, ◌<◌, ◌≤◌, ◌==◌, ◌&&◌, not, Bool, true, false, cond, List, [], ◌∷◌, suc, length, get_or, refl, sym, ◌∙◌, ap, subst, arith, inl, inr}
+use Rattle.std.proofs.Common.{◌≡◌, ◌≢◌, ℕ, ◌+◌, ◌<◌, ◌≤◌, ◌==◌, ◌⊎◌, ◌&&◌, not, Bool, true, false, cond, List, [], ◌∷◌, suc, length, get_or, refl, sym, ◌∙◌, ap, subst, arith, inl, inr}
 use Rattle.std.specs.Prelude.{sum_by}
 use Rattle.std.specs.List.{AllByRecursion, list_any}
 use Rattle.std.proofs.lemmas.Bool.{cases_eq, or_cases, or_left, or_right, eq-eqb, ne_eqb, eqb-true, lt-ltb, and_from}
@@ -11,7 +11,7 @@ use Rattle.gu_terms.specs.LimitKeys.{key_eq, has_key}
 use Rattle.gu_terms.specs.Takes.{lots_of}
 use Rattle.gu_terms.specs.declared.agreement.AgreementId.{AgreementId}
 use Rattle.gu_terms.specs.declared.limit_key.LimitKey.{LimitKey}
-use Rattle.gu_terms.specs.declared.limit_key.LimitKey.TheVariants.{Exec, Agr, Acct, Carry, Guar}
+use Rattle.gu_terms.specs.declared.limit_key.LimitKey.TheVariants.{Agr}
 use Rattle.gu_terms.specs.declared.takes.Take.{Take}
 use Rattle.gu_view.proofs.CutBounds.{greatest_by_cut}
 use Rattle.gu_view.proofs.MarkLemmas.{path_inside}
@@ -21,22 +21,22 @@ use Rattle.gu_view.specs.Takes.{IsAdmissible, IsGreatest, IsOldestFirst, lots_un
 use Rattle.gu_view.specs.View.{GroupView, IsView, IsNested, IsPath, place_of}
 use Rattle.gu_view.specs.declared.view.Offer.{Offer}
 use Rattle.gu_flow.specs.CutArcs.{leads_out, cuts_key, cuts_offers, IsCutBy}
-use Rattle.gu_flow.specs.Ends.{no_arc, arc_at}
-use Rattle.gu_flow.specs.Flows.{IsFlow, IsClosed}
-use Rattle.gu_flow.specs.Networks.{no_room, room_at, no_offer, offer_at, way_of, lots_with, capacity_of, IsOfferOf, AreArcs}
+use Rattle.gu_flow.specs.Ends.{arc_at}
+use Rattle.gu_flow.specs.Flows.{places, sum_over, IsFlow, IsClosed}
+use Rattle.gu_flow.specs.Networks.{no_room, room_at, no_offer, offer_at, way_of, IsOfferOf, AreArcs}
 use Rattle.gu_flow.specs.Proposals.{IsSound}
 use Rattle.gu_flow.specs.Shares.{agreement_place, agreement_lots, AreShares}
-use Rattle.gu_flow.specs.declared.arcs.Arc.{Arc}
-use Rattle.gu_flow.proofs.ArcLists.{places_within}
+use Rattle.gu_flow.specs.declared.network.Arc.{Arc}
+use Rattle.gu_flow.proofs.ArcLists.{places_within, IsAgreement, kind_of, capacity-le}
 use Rattle.gu_flow.proofs.CutTotals.{walk_leads_out, total_is_cut}
-use Rattle.gu_flow.proofs.Loads.{flow_at, agree, Sided}
+use Rattle.gu_flow.proofs.Loads.{agree, Sided}
 use Rattle.gu_flow.proofs.RoomPlaces.{goes_by_key, at_place}
 use Rattle.gu_flow.proofs.ShareLemmas.{share_taken, share_fits, shares_oldest_first, shares_together, shares_known}
 use Rattle.gu_flow.proofs.Sides.{IsLaid, LiesOn, way_walks, way_once, way_lays, first_left, later_right}
 use Rattle.gu_terms.proofs.Lists.{sum_by-add, sum_by-swap, sum_by-agree}
-use Rattle.gu_flow.proofs.SumLemmas.{places, sum_by-by, sum_by_place, sum_places_by, sum_one_place, cond-sum, cond-swap}
-use Rattle.gu_flow.proofs.Walks.{has_place, Walking, load, sum_over}
-use Rattle.gu_flow.proofs.WayLayers.{agreement_on, layer_of, layer_at, layered_at, key_on, lies_alike}
+use Rattle.gu_flow.proofs.SumLemmas.{sum_by-by, sum_by_place, sum_places_by, sum_one_place, cond-sum, cond-swap}
+use Rattle.gu_flow.proofs.Walks.{has_place, Walking, load}
+use Rattle.gu_flow.proofs.WayLayers.{agreement_on, layer_at, layered_at, key_on, lies_alike}
 
 -- a member of a list of small numbers is small
 has_within : (n k : ℕ) (ps : List ℕ) → AllByRecursion (λ p. p < n) ps → list_any (λ p. p == k) ps ≡ true → k < n
@@ -54,32 +54,6 @@ any_key test key (k ∷ path) on passes = elim (or_cases (key_eq k key) (has_key
   | inr there ↦ or_right (test k) (list_any test path) (any_key test key path there passes)
 ]
 
--- an arc can carry no more than its room, and less only where its offers have less
-capacity-le : (offers : List Offer) (lots : ℕ) (key : LimitKey) → capacity_of offers lots key ≤ lots
-capacity-le offers lots (Exec firm) = omega arith
-capacity-le offers lots (Agr agreement) = omega arith
-capacity-le offers lots (Acct account) = omega arith
-capacity-le offers lots (Carry firm) = omega arith
-capacity-le offers lots (Guar firm) = omega arith
-
-record IsShort (offers : List Offer) (capacity : ℕ) (key : LimitKey) : Type 0 where
-  agreement : AgreementId
-  is : key ≡ Agr agreement
-  all : capacity ≡ lots_with offers key
-
-short : (offers : List Offer) (lots capacity : ℕ) (key : LimitKey) → capacity ≡ capacity_of offers lots key → capacity ≢ lots → IsShort offers capacity key
-short offers lots capacity (Exec firm) is other = absurd (other is)
-short offers lots capacity (Agr agreement) is other = record { agreement = agreement; is = refl; all = omega arith }
-short offers lots capacity (Acct account) is other = absurd (other is)
-short offers lots capacity (Carry firm) is other = absurd (other is)
-short offers lots capacity (Guar firm) is other = absurd (other is)
-
--- an arc of layer 0 is an agreement's, with no more than its offers have
-record IsAgreement (offers : List Offer) (capacity : ℕ) (key : LimitKey) : Type 0 where
-  agreement : AgreementId
-  is : key ≡ Agr agreement
-  most : capacity ≤ lots_with offers key
-
 -- an arc that leads out counts as its key's room where it can carry it, and else as its offers' lots
 whole_room : (out same : Bool) (capacity room all : ℕ) → same ≡ true → capacity ≡ room → cond out capacity 0 ≡ cond (out && same) room 0 + cond (out && not same) all 0
 whole_room true same capacity room all hit is = rw hit (omega arith)
@@ -89,9 +63,9 @@ whole_lots : (out same : Bool) (capacity room all : ℕ) → same ≡ false → 
 whole_lots true same capacity room all miss is = rw miss (omega arith)
 whole_lots false same capacity room all miss is = omega arith
 
-module _ (view : GroupView) (sound : IsView view) (nested : IsNested view) (arcs : List Arc) (are : AreArcs view arcs) (flow : IsFlow arcs 0 1)
-    (reached : ℕ → Bool) (from_source : reached 0 ≡ true) (not_to_sink : reached 1 ≡ false) (closed : IsClosed arcs reached)
-    (takes : List Take) (shares : AreShares view arcs takes) (cut : CutLists) (cut_is : IsCutBy view reached arcs cut) where
+module _ (view : GroupView) (sound : IsView view) (nested : IsNested view) (arcs : List Arc) (are : AreArcs view arcs) (flow : List ℕ) (is_flow : IsFlow arcs flow)
+    (reached : ℕ → Bool) (from_source : reached 0 ≡ true) (not_to_sink : reached 1 ≡ false) (closed : IsClosed arcs flow reached)
+    (takes : List Take) (shares : AreShares view flow takes) (cut : CutLists) (cut_is : IsCutBy view reached arcs cut) where
   abbrev way : Offer → List ℕ
   way = way_of view.rooms
 
@@ -162,23 +136,22 @@ module _ (view : GroupView) (sound : IsView view) (nested : IsNested view) (arcs
       sum_by-by (IsOfferOf view) (λ o. cond (has_key o.path (room_at view.rooms k).key) (f o) 0) (λ o. cond (agreement_place view.rooms o == k) (f o) 0) view.offers
       (λ o h. ap (λ b. cond b (f o) 0) (on_agreement o h k k_in agreement is)) each_offer
 
-  agreement_of : (k : ℕ) (key : LimitKey) (capacity room : ℕ) → layer k ≡ 0 → (room_at view.rooms k).key ≡ key → capacity ≡ capacity_of view.offers room key → IsAgreement view.offers capacity key
-  agreement_of k (Exec firm) capacity room is at cap = absurd (omega (arith, ap layer_of at))
-  agreement_of k (Agr agreement) capacity room is at cap = record { agreement = agreement; is = refl; most = omega arith }
-  agreement_of k (Acct account) capacity room is at cap = absurd (omega (arith, ap layer_of at))
-  agreement_of k (Carry firm) capacity room is at cap = absurd (omega (arith, ap layer_of at))
-  agreement_of k (Guar firm) capacity room is at cap = absurd (omega (arith, ap layer_of at))
+  -- an arc of layer 0 is an agreement's, and so is one that can carry less than its room
+  agreement_of : (k : ℕ) (k_in : k < length arcs) → (layer k ≡ 0) ⊎ ((arc_at arcs k).capacity ≢ (room_at view.rooms k).lots) → IsAgreement view.offers (room_at view.rooms k).lots (arc_at arcs k).capacity (room_at view.rooms k).key
+  agreement_of k k_in either = elim (kind_of view.offers (room_at view.rooms k).lots (arc_at arcs k).capacity (room_at view.rooms k).key (are.each k k_in).capacity) [
+    | inl agreement ↦ agreement
+    | inr other ↦ elim either [ inl is ↦ absurd (omega (arith, other.1, is)) | inr less ↦ absurd (less other.0) ]
+  ]
 
   -- through an agreement's arc flows what its offers take
-  middle : (k : ℕ) → k < length arcs → layer k ≡ 0 → flow_at arcs k ≡ load arcs view.offers way lots 0 1 each k
+  middle : (k : ℕ) → k < length arcs → layer k ≡ 0 → get_or flow k 0 ≡ load arcs view.offers way lots 0 1 each k
   middle k k_in is =
       let k_room : k < length view.rooms = omega (arith, are.all) in
-      let key = (room_at view.rooms k).key in
-      let a = agreement_of k key (arc_at arcs k).capacity (room_at view.rooms k).lots is refl (are.each k k_in).capacity in
-      let enough : (arc_at arcs k).flow ≤ agreement_lots view.rooms view.offers k = omega (arith, flow.within k no_arc k_in, a.most, under_agreement (λ o. o.lots) k k_room a.agreement a.is) in
-      sym (load_is k k_room ∙ under_agreement lots k k_room a.agreement a.is ∙ shares_together view sound arcs takes shares k enough)
+      let a = agreement_of k k_in (inl is) in
+      let enough : get_or flow k 0 ≤ agreement_lots view.rooms view.offers k = omega (arith, is_flow.within.each k, a.capacity_is, under_agreement (λ o. o.lots) k k_room a.agreement a.is) in
+      sym (load_is k k_room ∙ under_agreement lots k k_room a.agreement a.is ∙ shares_together view sound flow takes shares k enough)
 
-  sided : (k : ℕ) → k < length arcs → Sided arcs view.offers way lots 0 1 layer each flow.kept k
+  sided : (k : ℕ) → k < length arcs → Sided arcs (λ k. get_or flow k 0) view.offers way lots 0 1 layer each is_flow.kept k
   sided k k_in = elim (laid k k_in) [
     | inl first ↦ inr (inl (first_left arcs layer laid k first))
     | inr other ↦ elim other [
@@ -188,15 +161,15 @@ module _ (view : GroupView) (sound : IsView view) (nested : IsNested view) (arcs
   ]
 
   -- so each arc's flow is what is taken under its key
-  flows_are : (k : ℕ) → k < length arcs → flow_at arcs k ≡ load arcs view.offers way lots 0 1 each k
-  flows_are k k_in = agree arcs view.offers way lots 0 1 layer each flow.kept sided (suc (layer k)) k k_in (omega arith)
+  flows_are : (k : ℕ) → k < length arcs → get_or flow k 0 ≡ load arcs view.offers way lots 0 1 each k
+  flows_are k k_in = agree arcs (λ k. get_or flow k 0) view.offers way lots 0 1 layer each is_flow.kept sided (suc (layer k)) k k_in (omega arith)
 
   pub admissible : IsAdmissible view (lots_of takes)
   admissible = record {
-    offers = All-from_get_or (λ o. lots o ≤ o.lots) view.offers no_offer (share_fits view sound arcs takes shares);
+    offers = All-from_get_or (λ o. lots o ≤ o.lots) view.offers no_offer (share_fits view sound flow takes shares);
     rooms = All-from_get_or (λ r. lots_under view.offers r.key (lots_of takes) ≤ r.lots) view.rooms no_room (λ k k_in.
         let k_arc : k < length arcs = omega (arith, are.all) in
-        omega (arith, load_is k k_in, flows_are k k_arc, flow.within k no_arc k_arc, (are.each k k_arc).capacity, capacity-le view.offers (room_at view.rooms k).lots (room_at view.rooms k).key));
+        omega (arith, load_is k k_in, flows_are k k_arc, is_flow.within.each k, capacity-le view.offers (room_at view.rooms k).lots _ (room_at view.rooms k).key (are.each k k_arc).capacity));
   }
 
   pub oldest_first : IsOldestFirst view (lots_of takes)
@@ -205,8 +178,8 @@ module _ (view : GroupView) (sound : IsView view) (nested : IsNested view) (arcs
       let at_i : get_or view.offers i d ≡ offer_at view.offers i = get_or_default view.offers i d no_offer i_in in
       let at_j : get_or view.offers j d ≡ offer_at view.offers j = get_or_default view.offers j d no_offer j_in in
       let agreements : (offer_at view.offers i).agreement ≡ (offer_at view.offers j).agreement = ap (λ (o : Offer). o.agreement) (sym at_i) ∙ same ∙ ap (λ (o : Offer). o.agreement) at_j in
-      let takes_some = subst (λ n. 0 < n) (ap lots at_j ∙ share_taken view sound arcs takes shares j j_in) some in
-      ap lots at_i ∙ share_taken view sound arcs takes shares i i_in ∙ shares_oldest_first view sound arcs takes shares i j before j_in agreements takes_some ∙ ap (λ (o : Offer). o.lots) (sym at_i)
+      let takes_some = subst (λ n. 0 < n) (ap lots at_j ∙ share_taken view sound flow takes shares j j_in) some in
+      ap lots at_i ∙ share_taken view sound flow takes shares i i_in ∙ shares_oldest_first view sound flow takes shares i j before j_in agreements takes_some ∙ ap (λ (o : Offer). o.lots) (sym at_i)
 
   -- whether a room's key is in the cut, and whether an offer is
   key_told : (k : ℕ) → k < length view.rooms → has_key cut.keys (room_at view.rooms k).key ≡ cuts_key reached arcs view.rooms k
@@ -230,7 +203,7 @@ module _ (view : GroupView) (sound : IsView view) (nested : IsNested view) (arcs
         | inl same ↦ or_right (has_number cut.offers o.number) (list_any (has_key cut.keys) o.path)
             (any_key (has_key cut.keys) (room_at view.rooms k).key o.path on (key_told k k_in ∙ and_from (leads_out reached (arc_at arcs k)) ((arc_at arcs k).capacity == (room_at view.rooms k).lots) out.out (eq-eqb (arc_at arcs k).capacity (room_at view.rooms k).lots same)))
         | inr other ↦
-            let s = short view.offers (room_at view.rooms k).lots (arc_at arcs k).capacity (room_at view.rooms k).key (are.each k out.place_in).capacity other in
+            let s = agreement_of k out.place_in (inr other) in
             let own : agreement_place view.rooms o ≡ k = eqb-true (agreement_place view.rooms o) k (sym (on_agreement o h k k_in s.agreement s.is) ∙ on) in
             or_left (has_number cut.offers o.number) (list_any (has_key cut.keys) o.path)
             (offer_told o h ∙ ap (cuts_offers reached arcs view.rooms) own
@@ -250,8 +223,8 @@ module _ (view : GroupView) (sound : IsView view) (nested : IsNested view) (arcs
       elim (cases_eq (arc_at arcs k).capacity room) [
         | inl same ↦ whole_room (leads_out reached (arc_at arcs k)) ((arc_at arcs k).capacity == room) (arc_at arcs k).capacity room all (eq-eqb (arc_at arcs k).capacity room same) same
         | inr other ↦
-            let s = short view.offers room (arc_at arcs k).capacity (room_at view.rooms k).key (are.each k k_in).capacity other in
-            whole_lots (leads_out reached (arc_at arcs k)) ((arc_at arcs k).capacity == room) (arc_at arcs k).capacity room all (ne_eqb (arc_at arcs k).capacity room other) (s.all ∙ under_agreement (λ o. o.lots) k k_room s.agreement s.is)
+            let s = agreement_of k k_in (inr other) in
+            whole_lots (leads_out reached (arc_at arcs k)) ((arc_at arcs k).capacity == room) (arc_at arcs k).capacity room all (ne_eqb (arc_at arcs k).capacity room other) (omega (arith, s.capacity_is, other, under_agreement (λ o. o.lots) k k_room s.agreement s.is))
       ]
 
   keys_room : sum_by (λ r. cond (has_key cut.keys r.key) r.lots 0) view.rooms ≡ sum_by (λ k. cond (cuts_key reached arcs view.rooms k) (room_at view.rooms k).lots 0) (places (length arcs))
@@ -277,7 +250,7 @@ module _ (view : GroupView) (sound : IsView view) (nested : IsNested view) (arcs
   unfolding sum_over
   room_is_total =
       let n = places (length arcs) in
-      let all = total_is_cut arcs view.offers way lots 0 1 each reached from_source not_to_sink flows_are closed in
+      let all = total_is_cut arcs view.offers way lots 0 1 each reached from_source not_to_sink flow flows_are closed in
       let split : sum_by (λ k. cond (leads_out reached (arc_at arcs k)) (arc_at arcs k).capacity 0) n
       ≡ sum_by (λ k. cond (cuts_key reached arcs view.rooms k) (room_at view.rooms k).lots 0) n + sum_by (λ k. cond (cuts_offers reached arcs view.rooms k) (agreement_lots view.rooms view.offers k) 0) n =
       sum_places_by (λ k. cond (leads_out reached (arc_at arcs k)) (arc_at arcs k).capacity 0)
@@ -287,7 +260,7 @@ module _ (view : GroupView) (sound : IsView view) (nested : IsNested view) (arcs
 
   pub right : IsRight view takes cut (total view.offers (lots_of takes))
   right = record {
-    takes_known = shares_known view sound arcs takes shares;
+    takes_known = shares_known view sound flow takes shares;
     keys_known = cut_is.keys.known;
     offers_known = cut_is.offers.known;
     admissible = admissible;
@@ -305,5 +278,5 @@ module _ (view : GroupView) (sound : IsView view) (nested : IsNested view) (arcs
   certified n is = record {
     of_view = sound;
     right = subst (IsRight view takes cut) (sym is) right;
-    certified = record { greatest = greatest; oldest_first = oldest_first; covers = covers; taken = sym is; room = room_is_total ∙ sym is };
+    greatest = greatest;
   }

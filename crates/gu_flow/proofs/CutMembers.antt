@@ -1,5 +1,5 @@
 -- The members of the cut, one after another.
-use Rattle.std.proofs.Common.{◌≡◌, zero, ℕ, ◌+◌, ◌<◌, ◌==◌, ◌||◌, ◌&&◌, not, nat_lt, Bool, true, false, cond, List, [], ◌∷◌, ◌++◌, suc, length, refl, sym, ◌∙◌, ap, arith, inl, inr}
+use Rattle.std.proofs.Common.{◌≡◌, ◌≢◌, zero, ℕ, ◌+◌, ◌<◌, ◌==◌, ◌||◌, ◌&&◌, not, nat_lt, Bool, true, false, cond, List, [], ◌∷◌, ◌++◌, suc, length, refl, sym, ◌∙◌, ap, arith, inl, inr}
 use Rattle.std.specs.Prelude.{All}
 use Rattle.std.specs.List.{list_any}
 use Rattle.std.proofs.Math.Bool.{or-false}
@@ -16,7 +16,7 @@ use Rattle.gu_view.specs.View.{GroupView, IsView}
 use Rattle.gu_flow.specs.CutArcs.{cuts_key, cuts_offers, AreKeysCut, AreOffersCut}
 use Rattle.gu_flow.specs.Networks.{no_offer, offer_at, no_room, room_at}
 use Rattle.gu_flow.specs.Shares.{agreement_place}
-use Rattle.gu_flow.specs.declared.arcs.Arc.{Arc}
+use Rattle.gu_flow.specs.declared.network.Arc.{Arc}
 
 -- what is cut before the next place
 next_place : (n i : ℕ) (cuts old new : ℕ → Bool) → ((k : ℕ) → k < n → old k ≡ (nat_lt k i && cuts k)) → ((k : ℕ) → k < n → new k ≡ (old k || ((i == k) && cuts i)))
@@ -39,6 +39,9 @@ none_added false c none = sym none
 no_cut : (b c : Bool) → c ≡ false → (b && c) ≡ false
 no_cut true c none = none
 no_cut false c none = refl
+
+not_cut : (n i : ℕ) (cuts had : ℕ → Bool) → ((k : ℕ) → k < n → had k ≡ (nat_lt k i && cuts k)) → cuts i ≡ false → (k : ℕ) → k < n → had k ≡ (nat_lt k (i + 1) && cuts k)
+not_cut n i cuts had before none = next_place n i cuts had had before (λ k k_in. none_added (had k) ((i == k) && cuts i) (no_cut (i == k) (cuts i) none))
 
 module _ {X : Type 0} (eq : X → X → Bool) (same : (a b : X) → eq a b ≡ true → a ≡ b) where
   -- a member that is added where it is new is there in any case
@@ -73,14 +76,12 @@ module _ (view : GroupView) (sound : IsView view) (reached : ℕ → Bool) (arcs
   own_number : (i k : ℕ) → i < length view.offers → k < length view.offers → ((offer_at view.offers i).number == (offer_at view.offers k).number) ≡ (i == k)
   own_number i k i_in k_in = elim (cases_order i k) [
     | inl same ↦ eq-eqb (offer_at view.offers i).number (offer_at view.offers k).number (ap (λ j. (offer_at view.offers j).number) same) ∙ sym (eq-eqb i k same)
-    | inr apart ↦ elim apart [
-      | inl before ↦
-          let less : (offer_at view.offers i).number < (offer_at view.offers k).number = sound.ascending i k no_offer before k_in in
-          ne_eqb (offer_at view.offers i).number (offer_at view.offers k).number (λ e. absurd (omega arith)) ∙ sym (ne_eqb i k (λ e. absurd (omega arith)))
-      | inr after ↦
-          let less : (offer_at view.offers k).number < (offer_at view.offers i).number = sound.ascending k i no_offer after i_in in
-          ne_eqb (offer_at view.offers i).number (offer_at view.offers k).number (λ e. absurd (omega arith)) ∙ sym (ne_eqb i k (λ e. absurd (omega arith)))
-    ]
+    | inr apart ↦
+        let differ : (offer_at view.offers i).number ≢ (offer_at view.offers k).number = λ e. elim apart [
+          | inl before ↦ absurd (omega (arith, sound.ascending i k no_offer before k_in))
+          | inr after ↦ absurd (omega (arith, sound.ascending k i no_offer after i_in))
+        ] in
+        ne_eqb (offer_at view.offers i).number (offer_at view.offers k).number differ ∙ sym (ne_eqb i k (λ e. absurd (omega arith)))
   ]
 
   -- the key of the next room is cut, and is added, or it isn't
@@ -96,11 +97,7 @@ module _ (view : GroupView) (sound : IsView view) (reached : ℕ → Bool) (arcs
       }
 
   pub key_not_cut : (keys : List LimitKey) (i : ℕ) → AreKeysCut view reached arcs keys i → cuts_key reached arcs view.rooms i ≡ false → AreKeysCut view reached arcs keys (i + 1)
-  key_not_cut keys i h none = record {
-    exact = next_place (length view.rooms) i (cuts_key reached arcs view.rooms) (λ k. has_key keys (room_at view.rooms k).key) (λ k. has_key keys (room_at view.rooms k).key) h.exact
-        (λ k k_in. none_added (has_key keys (room_at view.rooms k).key) ((i == k) && cuts_key reached arcs view.rooms i) (no_cut (i == k) (cuts_key reached arcs view.rooms i) none));
-    known = h.known;
-  }
+  key_not_cut keys i h none = record { exact = not_cut (length view.rooms) i (cuts_key reached arcs view.rooms) (λ k. has_key keys (room_at view.rooms k).key) h.exact none; known = h.known }
 
   -- and so with the next offer
   abbrev offer_cut_at : ℕ → Bool
@@ -118,8 +115,4 @@ module _ (view : GroupView) (sound : IsView view) (reached : ℕ → Bool) (arcs
       }
 
   pub offer_not_cut : (numbers : List ℕ) (i : ℕ) → AreOffersCut view reached arcs numbers i → offer_cut_at i ≡ false → AreOffersCut view reached arcs numbers (i + 1)
-  offer_not_cut numbers i h none = record {
-    exact = next_place (length view.offers) i offer_cut_at (λ k. has_number numbers (offer_at view.offers k).number) (λ k. has_number numbers (offer_at view.offers k).number) h.exact
-        (λ k k_in. none_added (has_number numbers (offer_at view.offers k).number) ((i == k) && offer_cut_at i) (no_cut (i == k) (offer_cut_at i) none));
-    known = h.known;
-  }
+  offer_not_cut numbers i h none = record { exact = not_cut (length view.offers) i offer_cut_at (λ k. has_number numbers (offer_at view.offers k).number) h.exact none; known = h.known }

@@ -1,15 +1,14 @@
 -- What many walks bring together is what the arcs out of a closed set of nodes can carry.
-use Rattle.std.proofs.Common.{◌≡◌, ℕ, ◌+◌, ◌<◌, ◌==◌, ◌&&◌, not, Bool, true, false, cond, List, [], ◌∷◌, length, refl, sym, ◌∙◌, ap, arith, inl, inr}
+use Rattle.std.proofs.Common.{◌≡◌, ℕ, ◌+◌, ◌<◌, ◌==◌, ◌&&◌, not, Bool, true, false, cond, List, [], ◌∷◌, length, get_or, refl, sym, ◌∙◌, ap, arith, inl, inr}
 use Rattle.std.specs.List.{sum_by, AllByRecursion}
 use Rattle.std.proofs.lemmas.Bool.{cond-false, cond-true, and_parts, and_from, cases_Bool, not-true, not_from_false, or_left, or_right, eq-eqb}
-use Rattle.gu_flow.specs.declared.arcs.Arc.{Arc}
+use Rattle.gu_flow.specs.declared.network.Arc.{Arc}
 use Rattle.gu_flow.specs.CutArcs.{leads_out}
-use Rattle.gu_flow.specs.Ends.{no_arc, arc_at}
-use Rattle.gu_flow.specs.Flows.{IsClosed}
+use Rattle.gu_flow.specs.Ends.{arc_at}
+use Rattle.gu_flow.specs.Flows.{places, sum_over, IsClosed}
 use Rattle.gu_terms.proofs.Lists.{sum_by-add, sum_by-zeros}
-use Rattle.gu_flow.proofs.SumLemmas.{sum_by-by, sum_places_by, at_test, cond_same, places}
-use Rattle.gu_flow.proofs.Walks.{Walks, has_place, Walking, way_sum, along_walk, sum_over, load, by_walks}
-use Rattle.gu_flow.proofs.Loads.{flow_at}
+use Rattle.gu_flow.proofs.SumLemmas.{sum_by-by, sum_places_by, at_test, cond_same}
+use Rattle.gu_flow.proofs.Walks.{Walks, has_place, Walking, way_sum, along_walk, load, by_walks}
 
 -- an arc leads back into what was reached
 abbrev pub leads_back : (ℕ → Bool) → Arc → Bool
@@ -62,20 +61,20 @@ module _ {X : Type 0} (arcs : List Arc) (walkers : List X) (way : X → List ℕ
       ∙ ap (λ n. n + sum_by lots walkers) (sym (by_walks arcs walkers way lots s t each (leads_back reached)))
 
   -- where the loads are a flow and the nodes are closed, the total is what the arcs that lead out can carry
-  pub total_is_cut : ((k : ℕ) → k < length arcs → flow_at arcs k ≡ load arcs walkers way lots s t each k) → IsClosed arcs reached → sum_by lots walkers ≡ sum_over arcs (leads_out reached) (λ k. (arc_at arcs k).capacity)
+  pub total_is_cut : (flow : List ℕ) → ((k : ℕ) → k < length arcs → get_or flow k 0 ≡ load arcs walkers way lots s t each k) → IsClosed arcs flow reached → sum_by lots walkers ≡ sum_over arcs (leads_out reached) (λ k. (arc_at arcs k).capacity)
   unfolding sum_over
-  total_is_cut same closed =
+  total_is_cut flow same closed =
       let loads = load arcs walkers way lots s t each in
       let outs : sum_over arcs (leads_out reached) loads ≡ sum_over arcs (leads_out reached) (λ k. (arc_at arcs k).capacity) =
       sum_places_by (λ k. cond (leads_out reached (arc_at arcs k)) (loads k) 0) (λ k. cond (leads_out reached (arc_at arcs k)) (arc_at arcs k).capacity 0) (length arcs)
       (λ k k_in. at_test (leads_out reached (arc_at arcs k)) (loads k) (arc_at arcs k).capacity (λ out.
       let p = and_parts (reached (arc_at arcs k).from) (not (reached (arc_at arcs k).to)) out in
-      sym (same k k_in) ∙ closed.full k no_arc k_in p.0 (not-true (reached (arc_at arcs k).to) p.1))) in
+      sym (same k k_in) ∙ closed.full k k_in p.0 (not-true (reached (arc_at arcs k).to) p.1))) in
       let backs : sum_over arcs (leads_back reached) loads ≡ 0 =
       sum_places_by (λ k. cond (leads_back reached (arc_at arcs k)) (loads k) 0) (λ k. 0) (length arcs)
       (λ k k_in. at_test (leads_back reached (arc_at arcs k)) (loads k) 0 (λ back.
       let p = and_parts (not (reached (arc_at arcs k).from)) (reached (arc_at arcs k).to) back in
-      sym (same k k_in) ∙ closed.empty k no_arc k_in (not-true (reached (arc_at arcs k).from) p.0) p.1)
+      sym (same k k_in) ∙ closed.empty k k_in (not-true (reached (arc_at arcs k).from) p.0) p.1)
       ∙ cond_same (leads_back reached (arc_at arcs k)) 0)
       ∙ sum_by-zeros (places (length arcs)) in
       omega (arith, total_leaves)

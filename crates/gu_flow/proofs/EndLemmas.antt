@@ -1,8 +1,8 @@
 -- The two ends of an arc.
-use Rattle.std.proofs.Common.{◌≡◌, ℕ, ◌+◌, ◌-◌, ◌*◌, ◌/◌, ◌%◌, ◌<◌, Bool, true, false, not, cond, List, length, refl, arith, inl, inr}
+use Rattle.std.proofs.Common.{◌≡◌, ℕ, ◌+◌, ◌-◌, ◌*◌, ◌/◌, ◌%◌, ◌<◌, Bool, true, false, not, cond, List, length, get_or, refl, arith, inl, inr}
 use Rattle.std.proofs.lemmas.Bool.{cases_Bool, eqb-true, eqb-false, eq-eqb, ne_eqb}
-use Rattle.gu_flow.specs.declared.arcs.Arc.{Arc}
-use Rattle.gu_flow.specs.Ends.{no_arc, JoinsNodes, arc_at, is_tail, near, far, other_end, room_in, room_out}
+use Rattle.gu_flow.specs.declared.network.Arc.{Arc}
+use Rattle.gu_flow.specs.Ends.{no_arc, JoinsNodes, arc_at, is_tail, near, far, other_end, residual_in, residual_out}
 
 -- an end is a tail or a head
 tail_is : (e : ℕ) → is_tail e ≡ true → e % 2 ≡ 0
@@ -38,16 +38,13 @@ near-other_end arcs e = rw (other_end-tail e, other_end-arc e) (turned (is_tail 
 pub far-other_end : (arcs : List Arc) (e : ℕ) → far arcs (other_end e) ≡ near arcs e
 far-other_end arcs e = rw (other_end-tail e, other_end-arc e) (turned (is_tail e) (arc_at arcs (e / 2)).to (arc_at arcs (e / 2)).from)
 
-pub room_in-other_end : (arcs : List Arc) (e : ℕ) → room_in arcs (other_end e) ≡ room_out arcs e
-room_in-other_end arcs e = rw (other_end-tail e, other_end-arc e) (turned (is_tail e) (arc_at arcs (e / 2)).flow ((arc_at arcs (e / 2)).capacity - (arc_at arcs (e / 2)).flow))
+pub residual_in-other_end : (arcs : List Arc) (flow : List ℕ) (e : ℕ) → residual_in arcs flow (other_end e) ≡ residual_out arcs flow e
+residual_in-other_end arcs flow e = rw (other_end-tail e, other_end-arc e) (turned (is_tail e) (get_or flow (e / 2) 0) ((arc_at arcs (e / 2)).capacity - get_or flow (e / 2) 0))
 
--- both are nodes
-pub far_in : (arcs : List Arc) (e nodes : ℕ) → JoinsNodes arcs nodes → e < 2 * length arcs → far arcs e < nodes
-far_in arcs e nodes joins e_in = elim (cases_Bool (is_tail e)) [
-  | inl tail ↦ rw tail (joins (e / 2) no_arc (omega arith)).1
-  | inr head ↦ rw head (joins (e / 2) no_arc (omega arith)).0
-]
+pub residual_out-other_end : (arcs : List Arc) (flow : List ℕ) (e : ℕ) → residual_out arcs flow (other_end e) ≡ residual_in arcs flow e
+residual_out-other_end arcs flow e = rw (other_end-tail e, other_end-arc e) (turned (is_tail e) ((arc_at arcs (e / 2)).capacity - get_or flow (e / 2) 0) (get_or flow (e / 2) 0))
 
+-- an end is at a node
 pub near_in : (arcs : List Arc) (e nodes : ℕ) → JoinsNodes arcs nodes → e < 2 * length arcs → near arcs e < nodes
 near_in arcs e nodes joins e_in = elim (cases_Bool (is_tail e)) [
   | inl tail ↦ rw tail (joins (e / 2) no_arc (omega arith)).0
@@ -55,7 +52,7 @@ near_in arcs e nodes joins e_in = elim (cases_Bool (is_tail e)) [
 ]
 
 -- the tail end of an arc, and its head end
-module _ (arcs : List Arc) (k : ℕ) where
+module _ (arcs : List Arc) (flow : List ℕ) (k : ℕ) where
   even : is_tail (2 * k) ≡ true
   even = eq-eqb ((2 * k) % 2) 0 (omega arith)
 
@@ -74,8 +71,8 @@ module _ (arcs : List Arc) (k : ℕ) where
   pub tail-far : far arcs (2 * k) ≡ (arc_at arcs k).to
   tail-far = rw (even, half_even)
 
-  pub tail-room_out : room_out arcs (2 * k) ≡ (arc_at arcs k).capacity - (arc_at arcs k).flow
-  tail-room_out = rw (even, half_even)
+  pub tail-residual_out : residual_out arcs flow (2 * k) ≡ (arc_at arcs k).capacity - get_or flow k 0
+  tail-residual_out = rw (even, half_even)
 
   pub head-near : near arcs (2 * k + 1) ≡ (arc_at arcs k).to
   head-near = rw (odd, half_odd)
@@ -83,5 +80,5 @@ module _ (arcs : List Arc) (k : ℕ) where
   pub head-far : far arcs (2 * k + 1) ≡ (arc_at arcs k).from
   head-far = rw (odd, half_odd)
 
-  pub head-room_out : room_out arcs (2 * k + 1) ≡ (arc_at arcs k).flow
-  head-room_out = rw (odd, half_odd)
+  pub head-residual_out : residual_out arcs flow (2 * k + 1) ≡ get_or flow k 0
+  head-residual_out = rw (odd, half_odd)

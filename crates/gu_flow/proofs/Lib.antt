@@ -2,12 +2,11 @@ pub mod EndLemmas
 pub mod Reaching
 pub mod Spreading
 pub mod Linking
-pub mod Pipes
-pub mod Pushing
-pub mod Bringing
+pub mod PushLemmas
+pub mod PreflowLemmas
+pub mod Augmenting
 pub mod Descents
 pub mod Blocking
-pub mod Starts
 pub mod SumLemmas
 pub mod Walks
 pub mod Loads

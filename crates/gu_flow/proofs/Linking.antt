@@ -4,7 +4,7 @@ use Rattle.std.proofs.Math.ListN.{set, length-set}
 use Rattle.std.proofs.lemmas.Bool.{cases_eq, cases_lt}
 use Rattle.std.proofs.lemmas.List.{get_or_past}
 use Rattle.std.specs.Prelude.{All}
-use Rattle.gu_flow.specs.declared.arcs.Arc.{Arc}
+use Rattle.gu_flow.specs.declared.network.Arc.{Arc}
 use Rattle.gu_flow.specs.Ends.{near, IsIndex}
 
 -- nothing is linked yet

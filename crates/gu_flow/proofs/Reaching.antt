@@ -1,22 +1,15 @@
 -- A search reaches one more node.
 use Rattle.std.proofs.Common.{◌≡◌, ◌≢◌, ℕ, ◌+◌, ◌*◌, ◌<◌, ◌≤◌, Bool, true, false, cond, List, length, refl, sym, ◌∙◌, ap, subst, arith, inl, inr, get_or, get_or-set_other, get_or-set_same, nat_lt}
 use Rattle.std.proofs.Math.ListN.{set, length-set}
-use Rattle.std.proofs.lemmas.List.{get_or_past, set-set, set-get_or}
+use Rattle.std.proofs.lemmas.List.{set-set, set-get_or}
 use Rattle.std.proofs.lemmas.List.Sums.{sum_by-le, sum_by-set, count_by-le-length}
 use Rattle.std.proofs.lemmas.List.Elements.{All-from_get_or}
-use Rattle.std.proofs.lemmas.Bool.{cases_eq, cases_lt, lt-ltb}
-use Rattle.gu_flow.specs.declared.arcs.Arc.{Arc}
+use Rattle.std.proofs.lemmas.Bool.{cases_eq, lt-ltb}
+use Rattle.gu_flow.specs.declared.network.Arc.{Arc}
 use Rattle.gu_flow.specs.declared.levels.Entry.{Entry}
-use Rattle.gu_flow.specs.Ends.{near, far, other_end, room_in, room_out}
+use Rattle.gu_flow.specs.Ends.{near, far, other_end, residual_in, residual_out}
 use Rattle.gu_flow.specs.Levels.{no_entry, entry_at, level_at, IsEntered, IsTree, reached_count, IsQueue, GoesOn}
-use Rattle.gu_flow.proofs.EndLemmas.{other_end-in, near-other_end, far-other_end, room_in-other_end}
-
--- only nodes are reached
-pub reached_in : (entries : List Entry) (n : ℕ) → 0 < level_at entries n → n < length entries
-reached_in entries n reached = elim (cases_lt n (length entries)) [
-  | inl n_in ↦ n_in
-  | inr past ↦ let none : level_at entries n ≡ 0 = ap (λ (x : Entry). x.level) (get_or_past entries n no_entry past) in absurd (omega arith)
-]
+use Rattle.gu_flow.proofs.EndLemmas.{other_end-in, near-other_end, far-other_end, residual_in-other_end}
 
 count_step : (b : Bool) (now was level : ℕ) → b ≡ false → 0 < level → now + cond b 1 0 ≡ was + cond (nat_lt 0 level) 1 0 → now ≡ was + 1
 count_step true now was level empty some h = cc
@@ -49,8 +42,8 @@ count_one entries some others source =
     omega (arith, zero, one, ap reached_count back)
 
 -- an entry by its value
-entered_as : (arcs : List Arc) (entries : List Entry) (m : ℕ) (x : Entry) → entry_at entries m ≡ x → x.via < 2 * length arcs → near arcs x.via ≡ m → level_at entries (far arcs x.via) + 1 ≡ x.level → 0 < level_at entries (far arcs x.via) → 0 < room_in arcs x.via → IsEntered arcs entries m
-entered_as arcs entries m x same end_in here before reached room = record {
+entered_as : (arcs : List Arc) (flow : List ℕ) (entries : List Entry) (m : ℕ) (x : Entry) → entry_at entries m ≡ x → x.via < 2 * length arcs → near arcs x.via ≡ m → level_at entries (far arcs x.via) + 1 ≡ x.level → 0 < level_at entries (far arcs x.via) → 0 < residual_in arcs flow x.via → IsEntered arcs flow entries m
+entered_as arcs flow entries m x same end_in here before reached room = record {
   end_in = rw same end_in;
   here = rw same here;
   before = rw same before;
@@ -58,8 +51,8 @@ entered_as arcs entries m x same end_in here before reached room = record {
   room = rw same room;
 }
 
-module _ (arcs : List Arc) (entries : List Entry) (queue : List ℕ) (count end level : ℕ) (tree : IsTree arcs entries 0) (waits : IsQueue entries queue count)
-    (end_in : end < 2 * length arcs) (far_in : far arcs end < length entries) (new : level_at entries (far arcs end) ≡ 0) (room : 0 < room_out arcs end)
+module _ (arcs : List Arc) (flow : List ℕ) (entries : List Entry) (queue : List ℕ) (count end level : ℕ) (tree : IsTree arcs flow entries) (waits : IsQueue entries queue count)
+    (end_in : end < 2 * length arcs) (far_in : far arcs end < length entries) (new : level_at entries (far arcs end) ≡ 0) (room : 0 < residual_out arcs flow end)
     (reached : 0 < level_at entries (near arcs end)) (level_is : level_at entries (near arcs end) + 1 ≡ level) (fits : length entries ≤ length queue) where
   node : ℕ
   node = far arcs end
@@ -96,22 +89,22 @@ module _ (arcs : List Arc) (entries : List Entry) (queue : List ℕ) (count end 
   count_in : count < length entries
   count_in = omega (arith, waits.counted, reached_fewer entries (far arcs end) far_in new)
 
-  entered_here : IsEntered arcs after node
+  entered_here : IsEntered arcs flow after node
   unfolding node e
   entered_here =
       let tail_kept : level_at after (near arcs end) ≡ level_at entries (near arcs end) = kept (near arcs end) reached in
       let tail : far arcs (other_end end) ≡ near arcs end = far-other_end arcs end in
-      entered_as arcs after node e here
+      entered_as arcs flow after node e here
       (other_end-in end (length arcs) end_in)
       (near-other_end arcs end)
       (subst (λ k. level_at after k + 1 ≡ level) (sym tail) (omega (arith, tail_kept, level_is)))
       (subst (λ k. 0 < level_at after k) (sym tail) (omega (arith, tail_kept, reached)))
-      (rw (room_in-other_end arcs end) room)
+      (rw (residual_in-other_end arcs flow end) room)
 
-  entered_before : (m : ℕ) → m ≢ node → IsEntered arcs entries m → IsEntered arcs after m
+  entered_before : (m : ℕ) → m ≢ node → IsEntered arcs flow entries m → IsEntered arcs flow after m
   entered_before m other before =
       let tail_kept = kept (far arcs (entry_at entries m).via) before.reached in
-      entered_as arcs after m (entry_at entries m) (elsewhere m other)
+      entered_as arcs flow after m (entry_at entries m) (elsewhere m other)
       before.end_in
       before.here
       (omega (arith, tail_kept, before.before))
@@ -124,12 +117,12 @@ module _ (arcs : List Arc) (entries : List Entry) (queue : List ℕ) (count end 
     | inr other ↦ subst (P m) (sym (level_elsewhere m other)) (others m other)
   ]
 
-  pub tree_reaches : IsTree arcs (set entries (far arcs end) (record { via = other_end end; level = level })) 0
+  pub tree_reaches : IsTree arcs flow (set entries (far arcs end) (record { via = other_end end; level = level }))
   unfolding node e after
   tree_reaches = record {
     begun = kept 0 (omega (arith, tree.begun)) ∙ tree.begun;
     entered = λ m not_source was. elim (cases_eq m node) [
-      | inl same ↦ subst (λ k. IsEntered arcs after k) (sym same) entered_here
+      | inl same ↦ subst (λ k. IsEntered arcs flow after k) (sym same) entered_here
       | inr other ↦ entered_before m other (tree.entered m not_source (omega (arith, was, level_elsewhere m other)))
     ];
     levels = λ m. rw length-set (level_cases (λ m l. l ≤ length entries) (omega (arith, waits.low (near arcs end), count_in)) (λ m other. tree.levels m) m);

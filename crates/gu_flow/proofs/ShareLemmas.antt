@@ -1,12 +1,12 @@
 -- Shares of the offers of an agreement: oldest first, and together what flows.
-use Rattle.std.proofs.Common.{◌≡◌, ℕ, ◌+◌, ◌-◌, ◌<◌, ◌≤◌, ◌==◌, min, true, cond, List, [], ◌∷◌, ◌++◌, zero, suc, length, map, take, set, get_or, refl, sym, ◌∙◌, ap, subst, arith, inl, inr, length-append, get_or-set_same, get_or-set_other, length-set, add-one, Some}
+use Rattle.std.proofs.Common.{◌≡◌, ℕ, ◌+◌, ◌-◌, ◌<◌, ◌≤◌, ◌==◌, min, true, cond, List, [], ◌∷◌, ◌++◌, zero, suc, length, take, set, get_or, refl, sym, ◌∙◌, ap, subst, arith, inl, inr, length-append, get_or-set_same, get_or-set_other, length-set, add-one, Some}
 use Rattle.std.specs.Prelude.{All, unwrap_or, sum_by, IsTrue}
 use Rattle.std.specs.List.{find}
 use Rattle.std.specs.Option.{option_map}
 use Rattle.std.proofs.Math.Seq.{get_or-append_seam}
 use Rattle.std.proofs.Math.ListN.{get_or-append}
 use Rattle.std.proofs.lemmas.Bool.{cases_eq, cases_lt, eq-eqb, ne_eqb, cond-true, cond-false}
-use Rattle.std.proofs.lemmas.List.{get_or_default, get_or-map, get_or_past, length-map, take_all}
+use Rattle.std.proofs.lemmas.List.{get_or_default, take_all}
 use Rattle.std.proofs.lemmas.List.Elements.{All-from_get_or}
 use Rattle.std.proofs.lemmas.List.Folds.{list_any_at}
 use Rattle.std.proofs.lemmas.List.Sums.{sum_by_more, sum_by-take-le, sum_by-le}
@@ -17,15 +17,14 @@ use Rattle.gu_view.specs.Check.{has_offer}
 use Rattle.gu_view.specs.Takes.{total}
 use Rattle.gu_view.specs.View.{GroupView, IsView, place_of}
 use Rattle.gu_view.specs.declared.view.Offer.{Offer}
-use Rattle.gu_flow.specs.Ends.{no_arc, arc_at}
+use Rattle.gu_flow.specs.Flows.{places}
 use Rattle.gu_flow.specs.Networks.{no_offer, offer_at}
 use Rattle.gu_flow.specs.Shares.{agreement_place, agreement_lots, share_of, no_take, take_at, AreSharesBefore, AreShares}
-use Rattle.gu_flow.specs.declared.arcs.Arc.{Arc}
-use Rattle.gu_flow.proofs.SumLemmas.{places, sum_by_place, sum_places_by}
+use Rattle.gu_flow.proofs.SumLemmas.{sum_by_place, sum_places_by}
 
 -- offers before a place have smaller numbers
-module _ (view : GroupView) (arcs : List Arc) where
-  pub shares_before : IsView view → (takes : List Take) (i : ℕ) → i < length view.offers → AreSharesBefore view arcs takes i → All (λ t. t.offer < (offer_at view.offers i).number) takes
+module _ (view : GroupView) (flow : List ℕ) where
+  pub shares_before : IsView view → (takes : List Take) (i : ℕ) → i < length view.offers → AreSharesBefore view flow takes i → All (λ t. t.offer < (offer_at view.offers i).number) takes
   shares_before sound takes i inside shares k d k_in =
       let before : k < i = omega (arith, shares.all) in
       let is : (get_or takes k d).offer ≡ (offer_at view.offers k).number = ap (λ (t : Take). t.offer) (get_or_default takes k d no_take k_in ∙ shares.each k before) in
@@ -33,24 +32,16 @@ module _ (view : GroupView) (arcs : List Arc) where
 
   -- what each agreement's arc still has for its later offers
   pub record IsSharing (takes : List Take) (rests : List ℕ) (i : ℕ) : Type 0 where
-    pub shares : AreSharesBefore view arcs takes i
-    pub size : length rests ≡ length arcs
-    pub left : (p : ℕ) → get_or rests p 0 ≡ (arc_at arcs p).flow - agreement_lots view.rooms (take i view.offers) p
+    pub shares : AreSharesBefore view flow takes i
+    pub size : length rests ≡ length view.rooms
+    pub left : (p : ℕ) → get_or rests p 0 ≡ get_or flow p 0 - agreement_lots view.rooms (take i view.offers) p
 
-  pub none_shared : IsSharing [] (map (λ (a : Arc). a.flow) arcs) 0
-  none_shared = record {
+  pub none_shared : length flow ≡ length view.rooms → IsSharing [] flow 0
+  none_shared size = record {
     shares = record { all = refl; each = λ i inside. absurd (omega arith) };
-    size = length-map arcs (λ (a : Arc). a.flow);
-    left = λ p. all p ∙ omega arith;
+    size = size;
+    left = λ p. omega arith;
   }
-    where
-      all : (p : ℕ) → get_or (map (λ (a : Arc). a.flow) arcs) p 0 ≡ (arc_at arcs p).flow
-      all p = elim (cases_lt p (length arcs)) [
-        | inl inside ↦ get_or-map (λ (a : Arc). a.flow) arcs p no_arc 0 inside
-        | inr past ↦
-            get_or_past (map (λ (a : Arc). a.flow) arcs) p 0 (omega (arith, length-map arcs (λ (a : Arc). a.flow)))
-            ∙ sym (ap (λ (a : Arc). a.flow) (get_or_past arcs p no_arc past))
-      ]
 
   -- one more offer takes its share
   pub one_more_share : (takes : List Take) (rests : List ℕ) (i place lots : ℕ) → i < length view.offers → IsSharing takes rests i → place ≡ agreement_place view.rooms (offer_at view.offers i) → place < length rests
@@ -59,7 +50,7 @@ module _ (view : GroupView) (arcs : List Arc) where
   one_more_share takes rests i place lots inside h at within is =
       let o = offer_at view.offers i in
       let t : Take = record { offer = o.number; lots = lots } in
-      let share : lots ≡ share_of arcs view.rooms (take i view.offers) o = is ∙ ap (min o.lots) (h.left place) ∙ ap (λ p. min o.lots ((arc_at arcs p).flow - agreement_lots view.rooms (take i view.offers) p)) at in
+      let share : lots ≡ share_of flow view.rooms (take i view.offers) o = is ∙ ap (min o.lots) (h.left place) ∙ ap (λ p. min o.lots (get_or flow p 0 - agreement_lots view.rooms (take i view.offers) p)) at in
       record {
         shares = record {
           all = omega (arith, length-append takes (t ∷ []), h.shares.all);
@@ -70,7 +61,7 @@ module _ (view : GroupView) (arcs : List Arc) where
                 let end : k ≡ length takes = omega (arith, h.shares.all) in
                 ap (take_at (takes ++ t ∷ [])) end ∙ get_or-append_seam takes t [] no_take
                 ∙ ap (λ n. record { offer = o.number; lots = n }) share
-                ∙ ap (λ j. record { offer = (offer_at view.offers j).number; lots = share_of arcs view.rooms (take j view.offers) (offer_at view.offers j) }) (sym last)
+                ∙ ap (λ j. record { offer = (offer_at view.offers j).number; lots = share_of flow view.rooms (take j view.offers) (offer_at view.offers j) }) (sym last)
           ];
         };
         size = length-set rests place (get_or rests place 0 - lots) ∙ h.size;
@@ -110,9 +101,9 @@ front (x ∷ xs) (suc i) (suc j) h = ap (λ ys. x ∷ ys) (front xs i j (omega a
 front-le : {X : Type 0} (f : X → ℕ) (xs : List X) (i j : ℕ) → i ≤ j → sum_by f (take i xs) ≤ sum_by f (take j xs)
 front-le f xs i j h = subst (λ ys. sum_by f ys ≤ sum_by f (take j xs)) (front xs i j h) (sum_by-take-le f (take j xs) i)
 
-module _ (view : GroupView) (sound : IsView view) (arcs : List Arc) (takes : List Take) (shares : AreShares view arcs takes) where
+module _ (view : GroupView) (sound : IsView view) (flow : List ℕ) (takes : List Take) (shares : AreShares view flow takes) where
   abbrev share_at : ℕ → ℕ
-  share_at i = share_of arcs view.rooms (take i view.offers) (offer_at view.offers i)
+  share_at i = share_of flow view.rooms (take i view.offers) (offer_at view.offers i)
 
   -- the takes ascend, as the offers do
   pub shares_ascend : IsAscending takes
@@ -140,25 +131,25 @@ module _ (view : GroupView) (sound : IsView view) (arcs : List Arc) (takes : Lis
       let until : sum_by f (take (i + 1) view.offers) ≤ sum_by f (take j view.offers) = front-le f view.offers (i + 1) j (omega arith) in
       let here : sum_by f (take (i + 1) view.offers) ≡ sum_by f (take i view.offers) + f (offer_at view.offers i) = sum_by_more f view.offers i no_offer (omega arith) in
       let lots : f (offer_at view.offers i) ≡ (offer_at view.offers i).lots = cond-true (agreement_place view.rooms (offer_at view.offers i) == p) (offer_at view.offers i).lots 0 (eq-eqb (agreement_place view.rooms (offer_at view.offers i)) p place) in
-      let left : share_at i ≡ min (offer_at view.offers i).lots ((arc_at arcs p).flow - sum_by f (take i view.offers)) =
-      ap (λ q. min (offer_at view.offers i).lots ((arc_at arcs q).flow - agreement_lots view.rooms (take i view.offers) q)) place in
+      let left : share_at i ≡ min (offer_at view.offers i).lots (get_or flow p 0 - sum_by f (take i view.offers)) =
+      ap (λ q. min (offer_at view.offers i).lots (get_or flow q 0 - agreement_lots view.rooms (take i view.offers) q)) place in
       omega (arith, left, until, here, lots)
 
   -- the offers of an agreement together take what flows, where they have as much
-  pub shares_so_far : (p n : ℕ) → n ≤ length view.offers → sum_by (λ (o : Offer). cond (agreement_place view.rooms o == p) (lots_of takes o.number) 0) (take n view.offers) ≡ min (arc_at arcs p).flow (agreement_lots view.rooms (take n view.offers) p)
+  pub shares_so_far : (p n : ℕ) → n ≤ length view.offers → sum_by (λ (o : Offer). cond (agreement_place view.rooms o == p) (lots_of takes o.number) 0) (take n view.offers) ≡ min (get_or flow p 0) (agreement_lots view.rooms (take n view.offers) p)
   shares_so_far p zero h = omega arith
   shares_so_far p (suc n) h =
       let o = offer_at view.offers n in
       let f : Offer → ℕ = λ o. cond (agreement_place view.rooms o == p) o.lots 0 in
       let g : Offer → ℕ = λ o. cond (agreement_place view.rooms o == p) (lots_of takes o.number) 0 in
-      let before : sum_by g (take n view.offers) ≡ min (arc_at arcs p).flow (sum_by f (take n view.offers)) = shares_so_far p n (omega arith) in
+      let before : sum_by g (take n view.offers) ≡ min (get_or flow p 0) (sum_by f (take n view.offers)) = shares_so_far p n (omega arith) in
       let lots : sum_by f (take (n + 1) view.offers) ≡ sum_by f (take n view.offers) + f o = sum_by_more f view.offers n no_offer (omega arith) in
       let given : sum_by g (take (n + 1) view.offers) ≡ sum_by g (take n view.offers) + g o = sum_by_more g view.offers n no_offer (omega arith) in
-      let step : sum_by g (take n view.offers) + g o ≡ min (arc_at arcs p).flow (sum_by f (take n view.offers) + f o) =
+      let step : sum_by g (take n view.offers) + g o ≡ min (get_or flow p 0) (sum_by f (take n view.offers) + f o) =
       elim (cases_eq (agreement_place view.rooms o) p) [
         | inl hit ↦
-            let here : lots_of takes o.number ≡ min o.lots ((arc_at arcs p).flow - sum_by f (take n view.offers)) =
-            share_taken n (omega arith) ∙ ap (λ q. min o.lots ((arc_at arcs q).flow - agreement_lots view.rooms (take n view.offers) q)) hit in
+            let here : lots_of takes o.number ≡ min o.lots (get_or flow p 0 - sum_by f (take n view.offers)) =
+            share_taken n (omega arith) ∙ ap (λ q. min o.lots (get_or flow q 0 - agreement_lots view.rooms (take n view.offers) q)) hit in
             let g_is : g o ≡ lots_of takes o.number = cond-true (agreement_place view.rooms o == p) (lots_of takes o.number) 0 (eq-eqb (agreement_place view.rooms o) p hit) in
             let f_is : f o ≡ o.lots = cond-true (agreement_place view.rooms o == p) o.lots 0 (eq-eqb (agreement_place view.rooms o) p hit) in
             omega arith
@@ -169,11 +160,11 @@ module _ (view : GroupView) (sound : IsView view) (arcs : List Arc) (takes : Lis
       ] in
       rw (← add-one) (omega (arith, lots, given, step))
 
-  pub shares_together : (p : ℕ) → (arc_at arcs p).flow ≤ agreement_lots view.rooms view.offers p → sum_by (λ (o : Offer). cond (agreement_place view.rooms o == p) (lots_of takes o.number) 0) view.offers ≡ (arc_at arcs p).flow
+  pub shares_together : (p : ℕ) → get_or flow p 0 ≤ agreement_lots view.rooms view.offers p → sum_by (λ (o : Offer). cond (agreement_place view.rooms o == p) (lots_of takes o.number) 0) view.offers ≡ get_or flow p 0
   shares_together p enough =
       let whole : take (length view.offers) view.offers ≡ view.offers = take_all (length view.offers) view.offers (omega arith) in
       let all = shares_so_far p (length view.offers) (omega arith) in
-      let is : sum_by (λ (o : Offer). cond (agreement_place view.rooms o == p) (lots_of takes o.number) 0) view.offers ≡ min (arc_at arcs p).flow (agreement_lots view.rooms view.offers p) = rw whole at all in
+      let is : sum_by (λ (o : Offer). cond (agreement_place view.rooms o == p) (lots_of takes o.number) 0) view.offers ≡ min (get_or flow p 0) (agreement_lots view.rooms view.offers p) = rw whole at all in
       omega arith
 
   -- the takes name only offers of the view

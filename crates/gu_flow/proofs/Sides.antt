@@ -3,7 +3,7 @@ use Rattle.std.proofs.Common.{◌≡◌, ◌≢◌, ℕ, ◌<◌, ◌≤◌, ◌
 use Rattle.std.specs.List.{sum_by}
 use Rattle.std.proofs.lemmas.List.Sums.{sum_by-cons}
 use Rattle.std.proofs.lemmas.Bool.{eqb-true, eq-eqb, ne_eqb, cases_eq, or_cases, or_left, or_right, or_from, cond-true, cond-false, false_from_ne_true}
-use Rattle.gu_flow.specs.declared.arcs.Arc.{Arc}
+use Rattle.gu_flow.specs.declared.network.Arc.{Arc}
 use Rattle.gu_flow.specs.Ends.{arc_at}
 use Rattle.gu_flow.specs.Layouts.{node_of, first_node, next_node, tail_on, head_on}
 use Rattle.gu_flow.proofs.Walks.{Walks, has_place, CountsOnce}

@@ -2,30 +2,28 @@
 use Rattle.std.proofs.Common.{◌≡◌, ℕ, ◌+◌, ◌-◌, ◌*◌, ◌<◌, ◌≤◌, true, false, List, length, refl, sym, ◌∙◌, ap, subst, arith, inl, inr, get_or}
 use Rattle.std.proofs.Math.ListN.{set}
 use Rattle.std.proofs.lemmas.Bool.{cases_eq, cases_lt, ltb-true, ltb-false}
-use Rattle.std.proofs.lemmas.List.Elements.{All-from_get_or}
-use Rattle.std.specs.Prelude.{All}
-use Rattle.gu_flow.specs.declared.arcs.Arc.{Arc}
+use Rattle.gu_flow.specs.declared.network.Arc.{Arc}
 use Rattle.gu_flow.specs.declared.levels.Entry.{Entry}
-use Rattle.gu_flow.specs.Ends.{no_arc, arc_at, near, far, other_end, room_out, IsIndex, JoinsNodes}
-use Rattle.gu_flow.specs.Flows.{IsClosed}
+use Rattle.gu_flow.specs.Ends.{arc_at, near, far, other_end, residual_out, IsIndex}
+use Rattle.gu_flow.specs.Flows.{IsClosed, IsWithin}
 use Rattle.gu_flow.specs.Levels.{level_at, is_reached, IsTree, IsQueue, IsSpent, GoesOn}
-use Rattle.gu_flow.proofs.EndLemmas.{far_in, tail-near, tail-far, tail-room_out, head-near, head-far, head-room_out}
+use Rattle.gu_flow.proofs.EndLemmas.{tail-near, tail-far, tail-residual_out, head-near, head-far, head-residual_out}
 use Rattle.gu_flow.proofs.Reaching.{count_one, level_there, tree_reaches, queue_reaches, goes_on_reaches}
 
 -- so many ends are left to be looked at, and what the others lead to is reached
-pub record Spreading (arcs : List Arc) (old entries : List Entry) (before queue next : List ℕ) (node reached count ends level : ℕ) : Type 0 where
-  pub tree : IsTree arcs entries 0
+pub record Spreading (arcs : List Arc) (flow : List ℕ) (old entries : List Entry) (before queue next : List ℕ) (node reached count ends level : ℕ) : Type 0 where
+  pub tree : IsTree arcs flow entries
   pub waits : IsQueue entries queue count
   pub goes_on : GoesOn old entries before queue reached
   pub grows : reached ≤ count
   pub ends_in : ends ≤ 2 * length arcs
   pub ends_at : 0 < ends → near arcs (ends - 1) ≡ node
   pub level_is : level_at entries node + 1 ≡ level
-  pub spent : (e : ℕ) → ends ≤ e → e < 2 * length arcs → near arcs e ≡ node → 0 < room_out arcs e → 0 < level_at entries (far arcs e)
+  pub spent : (e : ℕ) → ends ≤ e → e < 2 * length arcs → near arcs e ≡ node → 0 < residual_out arcs flow e → 0 < level_at entries (far arcs e)
 
-module _ (arcs : List Arc) (old entries : List Entry) (before queue first next : List ℕ) (node reached count ends level : ℕ)
-    (joins : JoinsNodes arcs (length entries)) (index : IsIndex arcs first next (2 * length arcs)) (fits : length entries ≤ length queue)
-    (some : 0 < level_at old node) (left : 0 < ends) (s : Spreading arcs old entries before queue next node reached count ends level) where
+module _ (arcs : List Arc) (flow : List ℕ) (old entries : List Entry) (before queue first next : List ℕ) (node reached count ends level : ℕ)
+    (index : IsIndex arcs first next (2 * length arcs)) (fits : length entries ≤ length queue)
+    (some : 0 < level_at old node) (left : 0 < ends) (s : Spreading arcs flow old entries before queue next node reached count ends level) where
   end : ℕ
   end = ends - 1
 
@@ -38,9 +36,9 @@ module _ (arcs : List Arc) (old entries : List Entry) (before queue first next :
   here = s.ends_at left
 
   -- the next end, where this one leads only to what was reached
-  onward : (entries' : List Entry) (queue' : List ℕ) (count' : ℕ) → IsTree arcs entries' 0 → IsQueue entries' queue' count' → GoesOn old entries' before queue' reached → reached ≤ count'
-      → ((m : ℕ) → 0 < level_at entries m → level_at entries' m ≡ level_at entries m) → (0 < room_out arcs end → 0 < level_at entries' (far arcs end))
-      → Spreading arcs old entries' before queue' next node reached count' (get_or next end 0) level
+  onward : (entries' : List Entry) (queue' : List ℕ) (count' : ℕ) → IsTree arcs flow entries' → IsQueue entries' queue' count' → GoesOn old entries' before queue' reached → reached ≤ count'
+      → ((m : ℕ) → 0 < level_at entries m → level_at entries' m ≡ level_at entries m) → (0 < residual_out arcs flow end → 0 < level_at entries' (far arcs end))
+      → Spreading arcs flow old entries' before queue' next node reached count' (get_or next end 0) level
   unfolding end
   onward entries' queue' count' tree waits goes_on grows kept now = record {
     tree = tree;
@@ -53,51 +51,48 @@ module _ (arcs : List Arc) (old entries : List Entry) (before queue first next :
     spent = λ e from e_in at room. elim (cases_lt e end) [
       | inl below ↦ absurd (index.chain.none_between end e end_in from below (at ∙ sym here))
       | inr above ↦ elim (cases_eq e end) [
-        | inl same ↦ subst (λ k. 0 < level_at entries' (far arcs k)) (sym same) (now (subst (λ k. 0 < room_out arcs k) same room))
+        | inl same ↦ subst (λ k. 0 < level_at entries' (far arcs k)) (sym same) (now (subst (λ k. 0 < residual_out arcs flow k) same room))
         | inr past ↦ let was = s.spent e (omega arith) e_in at room in omega (arith, was, kept (far arcs e) was)
       ]
     ];
   }
 
-  other_in : far arcs end < length entries
-  other_in = far_in arcs end (length entries) joins end_in
-
   -- the far end's node is reached now
-  pub spread_reaches : level_at entries (far arcs (ends - 1)) ≡ 0 → 0 < room_out arcs (ends - 1)
-      → Spreading arcs old (set entries (far arcs (ends - 1)) (record { via = other_end (ends - 1); level = level })) before (set queue count (far arcs (ends - 1))) next node reached (count + 1) (get_or next (ends - 1) 0) level
+  pub spread_reaches : far arcs (ends - 1) < length entries → level_at entries (far arcs (ends - 1)) ≡ 0 → 0 < residual_out arcs flow (ends - 1)
+      → Spreading arcs flow old (set entries (far arcs (ends - 1)) (record { via = other_end (ends - 1); level = level })) before (set queue count (far arcs (ends - 1))) next node reached (count + 1) (get_or next (ends - 1) 0) level
   unfolding end
-  spread_reaches new room =
+  spread_reaches other_in new room =
       let was : 0 < level_at entries (near arcs end) = subst (λ k. 0 < level_at entries k) (sym here) (omega (arith, s.goes_on.levels node some, some)) in
       let level_is : level_at entries (near arcs end) + 1 ≡ level = subst (λ k. level_at entries k + 1 ≡ level) (sym here) s.level_is in
-      let on : GoesOn entries _ queue _ count = goes_on_reaches arcs entries queue count end level s.tree s.waits end_in other_in new room was level_is fits entries queue count (omega arith) (record { levels = λ m r. refl; places = λ k k_in. refl }) in
+      let on : GoesOn entries _ queue _ count = goes_on_reaches arcs flow entries queue count end level s.tree s.waits end_in other_in new room was level_is fits entries queue count (omega arith) (record { levels = λ m r. refl; places = λ k k_in. refl }) in
       onward _ _ (count + 1)
-      (tree_reaches arcs entries queue count end level s.tree s.waits end_in other_in new room was level_is fits)
-      (queue_reaches arcs entries queue count end level s.tree s.waits end_in other_in new room was level_is fits)
-      (goes_on_reaches arcs entries queue count end level s.tree s.waits end_in other_in new room was level_is fits old before reached s.grows s.goes_on)
+      (tree_reaches arcs flow entries queue count end level s.tree s.waits end_in other_in new room was level_is fits)
+      (queue_reaches arcs flow entries queue count end level s.tree s.waits end_in other_in new room was level_is fits)
+      (goes_on_reaches arcs flow entries queue count end level s.tree s.waits end_in other_in new room was level_is fits old before reached s.grows s.goes_on)
       (omega (arith, s.grows))
       on.levels
-      (λ r. omega (arith, level_there arcs entries queue count end level s.tree s.waits end_in other_in new room was level_is fits, level_is))
+      (λ r. omega (arith, level_there arcs flow entries queue count end level s.tree s.waits end_in other_in new room was level_is fits, level_is))
 
   -- it was reached before, or nothing can be brought there
-  pub spread_skips : (0 < room_out arcs (ends - 1) → 0 < level_at entries (far arcs (ends - 1))) → Spreading arcs old entries before queue next node reached count (get_or next (ends - 1) 0) level
+  pub spread_skips : (0 < residual_out arcs flow (ends - 1) → 0 < level_at entries (far arcs (ends - 1))) → Spreading arcs flow old entries before queue next node reached count (get_or next (ends - 1) 0) level
   unfolding end
   spread_skips closed = onward entries queue count s.tree s.waits s.goes_on s.grows (λ m r. refl) closed
 
 -- the nodes in the queue, of which so many have brought lots wherever they can
-pub record Searching (arcs : List Arc) (entries : List Entry) (queue : List ℕ) (done count : ℕ) : Type 0 where
-  pub tree : IsTree arcs entries 0
+pub record Searching (arcs : List Arc) (flow : List ℕ) (entries : List Entry) (queue : List ℕ) (done count : ℕ) : Type 0 where
+  pub tree : IsTree arcs flow entries
   pub waits : IsQueue entries queue count
   pub within : done ≤ count
-  pub spent : (k : ℕ) → k < done → IsSpent arcs entries (get_or queue k 0)
+  pub spent : (k : ℕ) → k < done → IsSpent arcs flow entries (get_or queue k 0)
 
 -- a node stays spent
-spent_still : (arcs : List Arc) (old entries : List Entry) (before queue : List ℕ) (reached n : ℕ) → GoesOn old entries before queue reached → IsSpent arcs old n → IsSpent arcs entries n
-spent_still arcs old entries before queue reached n on was = record {
+spent_still : (arcs : List Arc) (flow : List ℕ) (old entries : List Entry) (before queue : List ℕ) (reached n : ℕ) → GoesOn old entries before queue reached → IsSpent arcs flow old n → IsSpent arcs flow entries n
+spent_still arcs flow old entries before queue reached n on was = record {
   far_reached = λ e e_in at room. let r = was.far_reached e e_in at room in omega (arith, r, on.levels (far arcs e) r);
 }
 
-pub search_begins : (arcs : List Arc) (entries : List Entry) (queue : List ℕ) → 1 < length entries → ((n : ℕ) → 0 < n → level_at entries n ≡ 0) → level_at entries 0 ≡ 1 → get_or queue 0 0 ≡ 0 → Searching arcs entries queue 0 1
-search_begins arcs entries queue some others source at = record {
+pub search_begins : (arcs : List Arc) (flow : List ℕ) (entries : List Entry) (queue : List ℕ) → 1 < length entries → ((n : ℕ) → 0 < n → level_at entries n ≡ 0) → level_at entries 0 ≡ 1 → get_or queue 0 0 ≡ 0 → Searching arcs flow entries queue 0 1
+search_begins arcs flow entries queue some others source at = record {
   tree = record {
     begun = source;
     entered = λ n not_source reached. absurd (omega (arith, others n (omega arith)));
@@ -114,43 +109,40 @@ search_begins arcs entries queue some others source at = record {
 }
 
 -- one more node is spent
-pub search_goes_on : (arcs : List Arc) (old entries : List Entry) (before queue : List ℕ) (done reached count : ℕ) → Searching arcs old before done reached → done < reached → IsTree arcs entries 0 → IsQueue entries queue count
-    → GoesOn old entries before queue reached → reached ≤ count → IsSpent arcs entries (get_or before done 0) → Searching arcs entries queue (done + 1) count
-search_goes_on arcs old entries before queue done reached count s more tree waits on grows now = record {
+pub search_goes_on : (arcs : List Arc) (flow : List ℕ) (old entries : List Entry) (before queue : List ℕ) (done reached count : ℕ) → Searching arcs flow old before done reached → done < reached → IsTree arcs flow entries → IsQueue entries queue count
+    → GoesOn old entries before queue reached → reached ≤ count → IsSpent arcs flow entries (get_or before done 0) → Searching arcs flow entries queue (done + 1) count
+search_goes_on arcs flow old entries before queue done reached count s more tree waits on grows now = record {
   tree = tree;
   waits = waits;
   within = omega arith;
-  spent = λ k k_in. subst (IsSpent arcs entries) (sym (on.places k (omega arith))) (elim (cases_eq k done) [
-    | inl last ↦ subst (λ j. IsSpent arcs entries (get_or before j 0)) (sym last) now
-    | inr earlier ↦ spent_still arcs old entries before queue reached (get_or before k 0) on (s.spent k (omega arith))
+  spent = λ k k_in. subst (IsSpent arcs flow entries) (sym (on.places k (omega arith))) (elim (cases_eq k done) [
+    | inl last ↦ subst (λ j. IsSpent arcs flow entries (get_or before j 0)) (sym last) now
+    | inr earlier ↦ spent_still arcs flow old entries before queue reached (get_or before k 0) on (s.spent k (omega arith))
   ]);
 }
 
 -- where all are spent, no more can be brought
-module _ (arcs : List Arc) (entries : List Entry) (queue : List ℕ) (done count : ℕ) (s : Searching arcs entries queue done count) (all : count ≤ done) where
-  spent_at : (n : ℕ) → 0 < level_at entries n → IsSpent arcs entries n
-  spent_at n reached = let w = s.waits.waits n reached in subst (IsSpent arcs entries) w.1.1 (s.spent w.0 (omega (arith, w.1.0)))
+module _ (arcs : List Arc) (flow : List ℕ) (entries : List Entry) (queue : List ℕ) (done count : ℕ) (s : Searching arcs flow entries queue done count) (all : count ≤ done) where
+  spent_at : (n : ℕ) → 0 < level_at entries n → IsSpent arcs flow entries n
+  spent_at n reached = let w = s.waits.waits n reached in subst (IsSpent arcs flow entries) w.1.1 (s.spent w.0 (omega (arith, w.1.0)))
 
-  full : (k : ℕ) → k < length arcs → (arc_at arcs k).flow ≤ (arc_at arcs k).capacity → is_reached entries (arc_at arcs k).from ≡ true → is_reached entries (arc_at arcs k).to ≡ false → (arc_at arcs k).flow ≡ (arc_at arcs k).capacity
-  full k k_in within from to = elim (cases_lt (arc_at arcs k).flow (arc_at arcs k).capacity) [
+  full : (k : ℕ) → k < length arcs → get_or flow k 0 ≤ (arc_at arcs k).capacity → is_reached entries (arc_at arcs k).from ≡ true → is_reached entries (arc_at arcs k).to ≡ false → get_or flow k 0 ≡ (arc_at arcs k).capacity
+  full k k_in within from to = elim (cases_lt (get_or flow k 0) (arc_at arcs k).capacity) [
     | inl less ↦
-        let r = (spent_at (arc_at arcs k).from (ltb-true 0 (level_at entries (arc_at arcs k).from) from)).far_reached (2 * k) (omega arith) (tail-near arcs k) (omega (arith, tail-room_out arcs k)) in
-        let there : 0 < level_at entries (arc_at arcs k).to = subst (λ n. 0 < level_at entries n) (tail-far arcs k) r in
+        let r = (spent_at (arc_at arcs k).from (ltb-true 0 (level_at entries (arc_at arcs k).from) from)).far_reached (2 * k) (omega arith) (tail-near arcs flow k) (omega (arith, tail-residual_out arcs flow k)) in
+        let there : 0 < level_at entries (arc_at arcs k).to = subst (λ n. 0 < level_at entries n) (tail-far arcs flow k) r in
         absurd (omega (arith, ltb-false 0 (level_at entries (arc_at arcs k).to) to))
     | inr more ↦ omega arith
   ]
 
-  empty : (k : ℕ) → k < length arcs → is_reached entries (arc_at arcs k).from ≡ false → is_reached entries (arc_at arcs k).to ≡ true → (arc_at arcs k).flow ≡ 0
-  empty k k_in from to = elim (cases_lt 0 (arc_at arcs k).flow) [
+  empty : (k : ℕ) → k < length arcs → is_reached entries (arc_at arcs k).from ≡ false → is_reached entries (arc_at arcs k).to ≡ true → get_or flow k 0 ≡ 0
+  empty k k_in from to = elim (cases_lt 0 (get_or flow k 0)) [
     | inl some ↦
-        let r = (spent_at (arc_at arcs k).to (ltb-true 0 (level_at entries (arc_at arcs k).to) to)).far_reached (2 * k + 1) (omega arith) (head-near arcs k) (omega (arith, head-room_out arcs k)) in
-        let there : 0 < level_at entries (arc_at arcs k).from = subst (λ n. 0 < level_at entries n) (head-far arcs k) r in
+        let r = (spent_at (arc_at arcs k).to (ltb-true 0 (level_at entries (arc_at arcs k).to) to)).far_reached (2 * k + 1) (omega arith) (head-near arcs flow k) (omega (arith, head-residual_out arcs flow k)) in
+        let there : 0 < level_at entries (arc_at arcs k).from = subst (λ n. 0 < level_at entries n) (head-far arcs flow k) r in
         absurd (omega (arith, ltb-false 0 (level_at entries (arc_at arcs k).from) from))
     | inr none ↦ omega arith
   ]
 
-  pub search_done : All (λ a. a.flow ≤ a.capacity) arcs → IsClosed arcs (is_reached entries)
-  search_done within = record {
-    full = All-from_get_or (λ a. is_reached entries a.from ≡ true → is_reached entries a.to ≡ false → a.flow ≡ a.capacity) arcs no_arc (λ k k_in. full k k_in (within k no_arc k_in));
-    empty = All-from_get_or (λ a. is_reached entries a.from ≡ false → is_reached entries a.to ≡ true → a.flow ≡ 0) arcs no_arc empty;
-  }
+  pub search_done : IsWithin arcs flow → IsClosed arcs flow (is_reached entries)
+  search_done within = record { full = λ k k_in. full k k_in (within.each k); empty = empty }

@@ -1,8 +1,9 @@
 -- Sums over lists, and over the places of a list.
-use Rattle.std.proofs.Common.{◌≡◌, ℕ, ◌+◌, ◌<◌, ◌==◌, Bool, true, false, cond, List, [], ◌∷◌, zero, suc, length, map, refl, sym, ◌∙◌, ap, arith, get_or}
+use Rattle.std.proofs.Common.{◌≡◌, ◌≢◌, ℕ, ◌+◌, ◌<◌, ◌≤◌, ◌==◌, Bool, true, false, cond, List, [], ◌∷◌, zero, suc, length, map, refl, sym, ◌∙◌, ap, arith, get_or}
 use Rattle.std.specs.List.{sum_by, AllByRecursion}
 use Rattle.std.proofs.lemmas.List.Sums.{sum_by-cons}
 use Rattle.gu_terms.proofs.Lists.{sum_by-agree, sum_by-zeros}
+use Rattle.gu_flow.specs.Flows.{places}
 use Rattle.std.proofs.lemmas.Bool.{ne_eqb, eq-eqb, eqb-true, cond-false, cond-true}
 
 module _ {X : Type 0} where
@@ -34,11 +35,6 @@ pub at_test : (b : Bool) (x y : ℕ) → (b ≡ true → x ≡ y) → cond b x 0
 at_test true x y same = same refl
 at_test false x y same = refl
 
--- the places of a list with so many elements
-pub places : ℕ → List ℕ
-places zero = []
-places (suc n) = 0 ∷ map suc (places n)
-
 -- a sum over places, term by term
 sum_places : (f : ℕ → ℕ) (n : ℕ) → sum_by f (places (suc n)) ≡ f 0 + sum_by (λ k. f (suc k)) (places n)
 unfolding places
@@ -56,6 +52,21 @@ unfolding places
 sum_places_by f g zero same = refl
 sum_places_by f g (suc n) same =
     omega (arith, sum_places f n, sum_places g n, same 0 (omega arith), sum_places_by (λ k. f (suc k)) (λ k. g (suc k)) n (λ k k_in. same (suc k) (omega arith)))
+
+-- no term is larger
+pub sum_places_le : (f g : ℕ → ℕ) (n : ℕ) → ((k : ℕ) → f k ≤ g k) → sum_by f (places n) ≤ sum_by g (places n)
+unfolding places
+sum_places_le f g zero less = omega arith
+sum_places_le f g (suc n) less = omega (arith, sum_places f n, sum_places g n, less 0, sum_places_le (λ k. f (suc k)) (λ k. g (suc k)) n (λ k. less (suc k)))
+
+-- another term at one place
+pub sum_places_set : (f g : ℕ → ℕ) (n k : ℕ) → k < n → ((j : ℕ) → j ≢ k → g j ≡ f j) → sum_by g (places n) + f k ≡ sum_by f (places n) + g k
+unfolding places
+sum_places_set f g zero k k_in same = absurd (omega arith)
+sum_places_set f g (suc n) zero k_in same =
+    omega (arith, sum_places f n, sum_places g n, sum_places_by (λ j. g (suc j)) (λ j. f (suc j)) n (λ j j_in. same (suc j) (omega arith)))
+sum_places_set f g (suc n) (suc k) k_in same =
+    omega (arith, sum_places f n, sum_places g n, same 0 (omega arith), sum_places_set (λ j. f (suc j)) (λ j. g (suc j)) n k (omega arith) (λ j other. same (suc j) (omega arith)))
 
 -- two tests of which each gives the other
 pub same_test : (b c : Bool) → (b ≡ true → c ≡ true) → (c ≡ true → b ≡ true) → b ≡ c

@@ -3,10 +3,11 @@ use Rattle.std.proofs.Common.{◌≡◌, ◌≢◌, ℕ, ◌+◌, ◌<◌, ◌==
 use Rattle.std.specs.List.{sum_by, AllByRecursion, list_any}
 use Rattle.std.proofs.lemmas.List.Sums.{sum_by-cons}
 use Rattle.std.proofs.lemmas.Bool.{ne_eqb, cond-false}
-use Rattle.gu_flow.specs.declared.arcs.Arc.{Arc}
+use Rattle.gu_flow.specs.declared.network.Arc.{Arc}
 use Rattle.gu_flow.specs.Ends.{arc_at}
+use Rattle.gu_flow.specs.Flows.{places, sum_over}
 use Rattle.gu_terms.proofs.Lists.{sum_by-agree, sum_by-swap}
-use Rattle.gu_flow.proofs.SumLemmas.{sum_by-by, cond-sum, cond-swap, places, sum_one_place}
+use Rattle.gu_flow.proofs.SumLemmas.{sum_by-by, cond-sum, cond-swap, sum_one_place}
 
 -- the arcs at these places lead from node to node
 abbrev pub Walks : List Arc → ℕ → List ℕ → ℕ → Type 0
@@ -24,10 +25,6 @@ pub record CountsOnce (way : List ℕ) : Type 0 where
 -- x at each arc of the way that passes a test
 unfoldable pub way_sum : List Arc → (Arc → Bool) → List ℕ → ℕ → ℕ
 way_sum arcs t way x = sum_by (λ k. cond (t (arc_at arcs k)) x 0) way
-
--- the terms of the arcs that pass a test
-unfoldable pub sum_over : List Arc → (Arc → Bool) → (ℕ → ℕ) → ℕ
-sum_over arcs t h = sum_by (λ k. cond (t (arc_at arcs k)) (h k) 0) (places (length arcs))
 
 way_sum-cons : (arcs : List Arc) (t : Arc → Bool) (k : ℕ) (way : List ℕ) (x : ℕ) → way_sum arcs t (k ∷ way) x ≡ cond (t (arc_at arcs k)) x 0 + way_sum arcs t way x
 unfolding way_sum

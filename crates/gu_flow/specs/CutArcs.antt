@@ -9,7 +9,7 @@ use Rattle.gu_view.specs.declared.view.Room.{Room}
 use Rattle.gu_flow.specs.Ends.{arc_at}
 use Rattle.gu_flow.specs.Networks.{offer_at, room_at}
 use Rattle.gu_flow.specs.Shares.{agreement_place}
-use Rattle.gu_flow.specs.declared.arcs.Arc.{Arc}
+use Rattle.gu_flow.specs.declared.network.Arc.{Arc}
 
 -- an arc leads from what was reached to what wasn't
 abbrev pub leads_out : (ℕ → Bool) → Arc → Bool

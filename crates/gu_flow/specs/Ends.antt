@@ -1,10 +1,10 @@
--- Machinery: the two ends of each arc: 2k stands for the tail of the arc at place k, and 2k + 1 for its head.
-use Rattle.std.specs.Prelude.{◌≡◌, ◌≢◌, ℕ, ◌+◌, ◌-◌, ◌/◌, ◌%◌, ◌<◌, ◌≤◌, ◌==◌, Bool, if◌then◌else◌, List, All, length, slice_index, slice_index_or}
-use Rattle.gu_flow.specs.declared.arcs.Arc.{Arc}
+-- Machinery: networks, and the two ends of each arc: 2k stands for the tail of the arc at place k, and 2k + 1 for its head.
+use Rattle.std.specs.Prelude.{◌≡◌, ◌≢◌, ℕ, ◌+◌, ◌-◌, ◌*◌, ◌/◌, ◌%◌, ◌^◌, ◌<◌, ◌≤◌, ◌==◌, Bool, if◌then◌else◌, List, All, length, slice_index, slice_index_or, sum_by}
+use Rattle.gu_flow.specs.declared.network.Arc.{Arc}
 
 -- the arc at a place
 abbrev pub no_arc : Arc
-no_arc = record { from = 0; to = 0; capacity = 0; flow = 0 }
+no_arc = record { from = 0; to = 0; capacity = 0 }
 
 abbrev pub arc_at : List Arc → ℕ → Arc
 arc_at arcs k = slice_index_or arcs k no_arc
@@ -25,12 +25,12 @@ abbrev pub other_end : ℕ → ℕ
 other_end e = if is_tail e then e + 1 else e - 1
 
 -- the lots that can still be brought to an end from the other one: against the arc what flows, along it what it can carry more
-abbrev pub room_in : List Arc → ℕ → ℕ
-room_in arcs e = if is_tail e then (arc_at arcs (e / 2)).flow else (arc_at arcs (e / 2)).capacity - (arc_at arcs (e / 2)).flow
+abbrev pub residual_in : List Arc → List ℕ → ℕ → ℕ
+residual_in arcs flow e = if is_tail e then slice_index flow (e / 2) else (arc_at arcs (e / 2)).capacity - slice_index flow (e / 2)
 
 -- the lots that can still be brought from an end to the other one
-abbrev pub room_out : List Arc → ℕ → ℕ
-room_out arcs e = if is_tail e then (arc_at arcs (e / 2)).capacity - (arc_at arcs (e / 2)).flow else (arc_at arcs (e / 2)).flow
+abbrev pub residual_out : List Arc → List ℕ → ℕ → ℕ
+residual_out arcs flow e = if is_tail e then (arc_at arcs (e / 2)).capacity - slice_index flow (e / 2) else slice_index flow (e / 2)
 
 -- each arc joins two of so many nodes
 abbrev pub JoinsNodes : List Arc → ℕ → Type 0
@@ -48,3 +48,17 @@ pub record IsIndex (arcs : List Arc) (first next : List ℕ) (count : ℕ) : Typ
   pub within : (n : ℕ) → slice_index first n ≤ count
   pub at : (n : ℕ) → 0 < slice_index first n → near arcs (slice_index first n - 1) ≡ n
   pub none_after : (n e : ℕ) → n < length first → slice_index first n ≤ e → e < count → near arcs e ≢ n
+
+-- what all arcs can carry
+abbrev pub capacities : List Arc → ℕ
+capacities arcs = sum_by (λ a. a.capacity) arcs
+
+-- a network: few arcs join few nodes, among them source and sink, what they carry fits a number of 64 bits, and the ends at each node are linked
+pub record IsNetwork (arcs : List Arc) (first next : List ℕ) : Type 0 where
+  pub joins : JoinsNodes arcs (length first)
+  pub ends : 1 < length first
+  pub few_nodes : length first < 2 ^ 31
+  pub few_arcs : length arcs < 2 ^ 31
+  pub fits : capacities arcs < 2 ^ 64
+  pub index : IsIndex arcs first next (2 * length arcs)
+  pub all : length next ≡ 2 * length arcs

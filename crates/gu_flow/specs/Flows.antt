@@ -1,33 +1,49 @@
--- Machinery: flows in a network, by its arcs.
-use Rattle.std.specs.Prelude.{◌≡◌, ◌≢◌, ℕ, ◌-◌, ◌≤◌, ◌==◌, if◌then◌else◌, Bool, true, false, List, All, map, sum_by}
-use Rattle.gu_flow.specs.declared.arcs.Arc.{Arc}
+-- Machinery: flows: what flows through the arc at each place of a network, from node 0, the source, to node 1, the sink.
+use Rattle.std.specs.Prelude.{◌≡◌, ◌≢◌, ℕ, zero, suc, ◌-◌, ◌+◌, ◌/◌, ◌<◌, ◌≤◌, ◌==◌, if◌then◌else◌, Bool, true, false, List, [], ◌∷◌, length, map, slice_index, sum, sum_by}
+use Rattle.gu_flow.specs.declared.network.Arc.{Arc}
+use Rattle.gu_flow.specs.Ends.{arc_at, is_tail, near, far, residual_in}
+
+-- the places of a list with so many elements
+unfoldable pub places : ℕ → List ℕ
+places zero = []
+places (suc n) = 0 ∷ map suc (places n)
+
+-- the terms of the arcs that pass a test, place by place
+unfoldable pub sum_over : List Arc → (Arc → Bool) → (ℕ → ℕ) → ℕ
+sum_over arcs t term = sum_by (λ k. if t (arc_at arcs k) then term k else 0) (places (length arcs))
 
 -- what flows into a node, and what flows out of it
-abbrev pub inflow : List Arc → ℕ → ℕ
-inflow arcs n = sum_by (λ a. if a.to == n then a.flow else 0) arcs
+abbrev pub inflow : List Arc → List ℕ → ℕ → ℕ
+inflow arcs flow n = sum_over arcs (λ a. a.to == n) (λ k. slice_index flow k)
 
-abbrev pub outflow : List Arc → ℕ → ℕ
-outflow arcs n = sum_by (λ a. if a.from == n then a.flow else 0) arcs
+abbrev pub outflow : List Arc → List ℕ → ℕ → ℕ
+outflow arcs flow n = sum_over arcs (λ a. a.from == n) (λ k. slice_index flow k)
 
 -- what the sink takes up
-abbrev pub worth : List Arc → ℕ → ℕ
-worth arcs sink = inflow arcs sink - outflow arcs sink
+abbrev pub value_of : List Arc → List ℕ → ℕ
+value_of arcs flow = inflow arcs flow 1 - outflow arcs flow 1
+
+-- no arc carries more than it can
+pub record IsWithin (arcs : List Arc) (flow : List ℕ) : Type 0 where
+  pub all : length flow ≡ length arcs
+  pub each : (k : ℕ) → slice_index flow k ≤ (arc_at arcs k).capacity
 
 -- within each capacity, and nothing is lost or made but at the source and the sink
-pub record IsFlow (arcs : List Arc) (source sink : ℕ) : Type 0 where
-  pub within : All (λ a. a.flow ≤ a.capacity) arcs
-  pub kept : (n : ℕ) → n ≢ source → n ≢ sink → inflow arcs n ≡ outflow arcs n
-  pub taken : outflow arcs sink ≤ inflow arcs sink
+pub record IsFlow (arcs : List Arc) (flow : List ℕ) : Type 0 where
+  pub within : IsWithin arcs flow
+  pub kept : (n : ℕ) → n ≢ 0 → n ≢ 1 → inflow arcs flow n ≡ outflow arcs flow n
+  pub taken : outflow arcs flow 1 ≤ inflow arcs flow 1
 
--- an arc but for its flow
-abbrev pub pipe : Arc → ℕ × ℕ × ℕ
-pipe a = (a.from, a.to, a.capacity)
-
--- the same network
-abbrev pub SamePipes : List Arc → List Arc → Type 0
-SamePipes old new = map pipe new ≡ map pipe old
+-- so many lots more are brought over an end from its node to the other, and nothing else changes
+pub record Pushes (arcs : List Arc) (old new : List ℕ) (end lots : ℕ) : Type 0 where
+  pub within : IsWithin arcs new
+  pub nodes : (n : ℕ)
+      → inflow arcs new n + outflow arcs old n + (if near arcs end == n then lots else 0)
+      ≡ inflow arcs old n + outflow arcs new n + (if far arcs end == n then lots else 0)
+  pub others : (d : ℕ) → d / 2 ≢ end / 2 → residual_in arcs new d ≡ residual_in arcs old d
+  pub less : is_tail end ≡ false → sum new + lots ≡ sum old
 
 -- no more can be brought from the nodes that were reached to the others: each arc out to these is full, and each arc back is empty
-pub record IsClosed (arcs : List Arc) (reached : ℕ → Bool) : Type 0 where
-  pub full : All (λ a. reached a.from ≡ true → reached a.to ≡ false → a.flow ≡ a.capacity) arcs
-  pub empty : All (λ a. reached a.from ≡ false → reached a.to ≡ true → a.flow ≡ 0) arcs
+pub record IsClosed (arcs : List Arc) (flow : List ℕ) (reached : ℕ → Bool) : Type 0 where
+  pub full : (k : ℕ) → k < length arcs → reached (arc_at arcs k).from ≡ true → reached (arc_at arcs k).to ≡ false → slice_index flow k ≡ (arc_at arcs k).capacity
+  pub empty : (k : ℕ) → k < length arcs → reached (arc_at arcs k).from ≡ false → reached (arc_at arcs k).to ≡ true → slice_index flow k ≡ 0

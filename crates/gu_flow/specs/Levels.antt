@@ -1,8 +1,8 @@
 -- Machinery: what a search from the source has reached, level by level.
 use Rattle.std.specs.Prelude.{◌≡◌, ◌≢◌, ℕ, ◌+◌, ◌*◌, ◌<◌, ◌≤◌, List, length, Bool, count_by, nat_lt, slice_index, slice_index_or}
-use Rattle.gu_flow.specs.declared.arcs.Arc.{Arc}
+use Rattle.gu_flow.specs.declared.network.Arc.{Arc}
 use Rattle.gu_flow.specs.declared.levels.Entry.{Entry}
-use Rattle.gu_flow.specs.Ends.{near, far, room_in, room_out}
+use Rattle.gu_flow.specs.Ends.{near, far, residual_in, residual_out}
 
 -- a node's entry, and its level: 1 for the source, one more for each step from it, and 0 where the search hasn't come
 abbrev pub no_entry : Entry
@@ -19,17 +19,17 @@ abbrev pub is_reached : List Entry → ℕ → Bool
 is_reached entries n = nat_lt 0 (level_at entries n)
 
 -- how a node was entered: over an arc with room, from a node one level before
-pub record IsEntered (arcs : List Arc) (entries : List Entry) (n : ℕ) : Type 0 where
+pub record IsEntered (arcs : List Arc) (flow : List ℕ) (entries : List Entry) (n : ℕ) : Type 0 where
   pub end_in : (entry_at entries n).via < 2 * length arcs
   pub here : near arcs (entry_at entries n).via ≡ n
   pub before : level_at entries (far arcs (entry_at entries n).via) + 1 ≡ (entry_at entries n).level
   pub reached : 0 < level_at entries (far arcs (entry_at entries n).via)
-  pub room : 0 < room_in arcs (entry_at entries n).via
+  pub room : 0 < residual_in arcs flow (entry_at entries n).via
 
 -- each node that was reached is the source, or was entered from another
-pub record IsTree (arcs : List Arc) (entries : List Entry) (source : ℕ) : Type 0 where
-  pub begun : level_at entries source ≡ 1
-  pub entered : (n : ℕ) → n ≢ source → 0 < level_at entries n → IsEntered arcs entries n
+pub record IsTree (arcs : List Arc) (flow : List ℕ) (entries : List Entry) : Type 0 where
+  pub begun : level_at entries 0 ≡ 1
+  pub entered : (n : ℕ) → n ≢ 0 → 0 < level_at entries n → IsEntered arcs flow entries n
   pub levels : (n : ℕ) → level_at entries n ≤ length entries
 
 -- how many nodes were reached
@@ -44,8 +44,8 @@ pub record IsQueue (entries : List Entry) (queue : List ℕ) (count : ℕ) : Typ
   pub low : (n : ℕ) → level_at entries n ≤ count
 
 -- each node that a node can bring lots to is reached
-pub record IsSpent (arcs : List Arc) (entries : List Entry) (n : ℕ) : Type 0 where
-  pub far_reached : (e : ℕ) → e < 2 * length arcs → near arcs e ≡ n → 0 < room_out arcs e → 0 < level_at entries (far arcs e)
+pub record IsSpent (arcs : List Arc) (flow : List ℕ) (entries : List Entry) (n : ℕ) : Type 0 where
+  pub far_reached : (e : ℕ) → e < 2 * length arcs → near arcs e ≡ n → 0 < residual_out arcs flow e → 0 < level_at entries (far arcs e)
 
 -- a search goes on: what was reached stays so, and keeps its place in the queue
 pub record GoesOn (old new : List Entry) (before after : List ℕ) (count : ℕ) : Type 0 where

@@ -9,7 +9,7 @@ use Rattle.gu_view.specs.declared.view.Offer.{Offer}
 use Rattle.gu_view.specs.declared.view.Room.{Room}
 use Rattle.gu_flow.specs.Ends.{arc_at}
 use Rattle.gu_flow.specs.Layouts.{tail_on, head_on}
-use Rattle.gu_flow.specs.declared.arcs.Arc.{Arc}
+use Rattle.gu_flow.specs.declared.network.Arc.{Arc}
 
 -- the room at a place
 abbrev pub no_room : Room

@@ -1,9 +1,10 @@
 -- Proposals: greatest takes of a view, oldest first, and a cut that has no more room.
 use Rattle.std.specs.Prelude.{ℕ, List}
 use Rattle.gu_terms.specs.Cuts.{CutLists}
+use Rattle.gu_terms.specs.Takes.{lots_of}
 use Rattle.gu_terms.specs.declared.takes.Take.{Take}
 use Rattle.gu_view.specs.Check.{IsRight}
-use Rattle.gu_view.specs.Cut.{IsCertified}
+use Rattle.gu_view.specs.Takes.{IsGreatest}
 use Rattle.gu_view.specs.View.{GroupView, IsView}
 
 -- what a proposal shows: the view that it is for, the takes, the cut, and the lots taken in all
@@ -17,4 +18,4 @@ pub record ProposedSweep : Type 0 where
 pub record IsSound (sweep : ProposedSweep) : Type 0 where
   pub of_view : IsView sweep.view
   pub right : IsRight sweep.view sweep.takes sweep.cut sweep.lots
-  pub certified : IsCertified sweep.view sweep.takes sweep.cut sweep.lots
+  pub greatest : IsGreatest sweep.view (lots_of sweep.takes)

@@ -1,13 +1,11 @@
 -- Machinery: what the offers of an agreement get of what flows through its arc: the oldest first.
-use Rattle.std.specs.Prelude.{◌≡◌, ℕ, ◌-◌, ◌<◌, ◌==◌, min, if◌then◌else◌, List, length, take, slice_index_or, sum_by}
+use Rattle.std.specs.Prelude.{◌≡◌, ℕ, ◌-◌, ◌<◌, ◌==◌, min, if◌then◌else◌, List, length, take, slice_index, slice_index_or, sum_by}
 use Rattle.gu_terms.specs.declared.limit_key.LimitKey.TheVariants.{Agr}
 use Rattle.gu_terms.specs.declared.takes.Take.{Take}
 use Rattle.gu_view.specs.View.{GroupView, place_of}
 use Rattle.gu_view.specs.declared.view.Offer.{Offer}
 use Rattle.gu_view.specs.declared.view.Room.{Room}
-use Rattle.gu_flow.specs.Ends.{arc_at}
 use Rattle.gu_flow.specs.Networks.{offer_at}
-use Rattle.gu_flow.specs.declared.arcs.Arc.{Arc}
 
 -- the place of the room of an offer's agreement
 abbrev pub agreement_place : List Room → Offer → ℕ
@@ -18,9 +16,9 @@ abbrev pub agreement_lots : List Room → List Offer → ℕ → ℕ
 agreement_lots rooms offers place = sum_by (λ o. if agreement_place rooms o == place then o.lots else 0) offers
 
 -- an offer's share: what the older ones of its agreement leave of the flow, and no more than it has
-abbrev pub share_of : List Arc → List Room → List Offer → Offer → ℕ
-share_of arcs rooms older o =
-    min o.lots ((arc_at arcs (agreement_place rooms o)).flow - agreement_lots rooms older (agreement_place rooms o))
+abbrev pub share_of : List ℕ → List Room → List Offer → Offer → ℕ
+share_of flow rooms older o =
+    min o.lots (slice_index flow (agreement_place rooms o) - agreement_lots rooms older (agreement_place rooms o))
 
 -- the take at a place
 abbrev pub no_take : Take
@@ -30,14 +28,14 @@ abbrev pub take_at : List Take → ℕ → Take
 take_at takes i = slice_index_or takes i no_take
 
 -- the offers before a place take their shares
-pub record AreSharesBefore (view : GroupView) (arcs : List Arc) (takes : List Take) (before : ℕ) : Type 0 where
+pub record AreSharesBefore (view : GroupView) (flow : List ℕ) (takes : List Take) (before : ℕ) : Type 0 where
   pub all : length takes ≡ before
   pub each : (i : ℕ) → i < before
       → take_at takes i ≡ record {
         offer = (offer_at view.offers i).number;
-        lots = share_of arcs view.rooms (take i view.offers) (offer_at view.offers i);
+        lots = share_of flow view.rooms (take i view.offers) (offer_at view.offers i);
       }
 
 -- each offer takes its share
-abbrev pub AreShares : GroupView → List Arc → List Take → Type 0
-AreShares view arcs takes = AreSharesBefore view arcs takes (length view.offers)
+abbrev pub AreShares : GroupView → List ℕ → List Take → Type 0
+AreShares view flow takes = AreSharesBefore view flow takes (length view.offers)

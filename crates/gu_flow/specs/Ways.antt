@@ -1,18 +1,18 @@
 -- Machinery: ways from the sink back towards the source, a list of ends of arcs.
 use Rattle.std.specs.Prelude.{◌≡◌, ℕ, ◌+◌, ◌-◌, ◌*◌, ◌/◌, ◌<◌, ◌≤◌, ◌==◌, if◌then◌else◌, List, length, slice_index}
-use Rattle.gu_flow.specs.declared.arcs.Arc.{Arc}
+use Rattle.gu_flow.specs.declared.network.Arc.{Arc}
 use Rattle.gu_flow.specs.declared.levels.Entry.{Entry}
-use Rattle.gu_flow.specs.Ends.{near, far, room_in}
+use Rattle.gu_flow.specs.Ends.{near, far, residual_in}
 use Rattle.gu_flow.specs.Levels.{level_at}
 
 -- the node at which a way from the sink stands after so many steps
-abbrev pub stand : List Arc → List ℕ → ℕ → ℕ → ℕ
-stand arcs way sink steps = if steps == 0 then sink else far arcs (slice_index way (steps - 1))
+abbrev pub stand : List Arc → List ℕ → ℕ → ℕ
+stand arcs way steps = if steps == 0 then 1 else far arcs (slice_index way (steps - 1))
 
 -- each step leads on from the node where the way stands
-pub record IsWay (arcs : List Arc) (way : List ℕ) (sink steps : ℕ) : Type 0 where
+pub record IsWay (arcs : List Arc) (way : List ℕ) (steps : ℕ) : Type 0 where
   pub ends : (i : ℕ) → i < steps → slice_index way i < 2 * length arcs
-  pub joined : (i : ℕ) → i < steps → near arcs (slice_index way i) ≡ stand arcs way sink i
+  pub joined : (i : ℕ) → i < steps → near arcs (slice_index way i) ≡ stand arcs way i
 
 -- to a node one level before
 pub record IsFalling (arcs : List Arc) (entries : List Entry) (way : List ℕ) (steps : ℕ) : Type 0 where
@@ -24,19 +24,19 @@ TakesEachOnce way steps = (i j : ℕ) → i < steps → j < steps → slice_inde
 
 -- a whole way comes to the source, and takes no arc twice
 pub record IsWhole (arcs : List Arc) (way : List ℕ) : Type 0 where
-  pub is_way : IsWay arcs way 1 (length way)
-  pub source : stand arcs way 1 (length way) ≡ 0
+  pub is_way : IsWay arcs way (length way)
+  pub source : stand arcs way (length way) ≡ 0
   pub once : TakesEachOnce way (length way)
 
 -- each step has room for so many lots
-pub record HasRoom (arcs : List Arc) (way : List ℕ) (steps lots : ℕ) : Type 0 where
-  pub room : (i : ℕ) → i < steps → lots ≤ room_in arcs (slice_index way i)
+pub record HasRoom (arcs : List Arc) (flow way : List ℕ) (steps lots : ℕ) : Type 0 where
+  pub room : (i : ℕ) → i < steps → lots ≤ residual_in arcs flow (slice_index way i)
 
 -- some step has room for exactly so many lots
-pub record IsNarrow (arcs : List Arc) (way : List ℕ) (steps lots : ℕ) : Type 0 where
+pub record IsNarrow (arcs : List Arc) (flow way : List ℕ) (steps lots : ℕ) : Type 0 where
   pub step : ℕ
   pub within : step < steps
-  pub room : room_in arcs (slice_index way step) ≡ lots
+  pub room : residual_in arcs flow (slice_index way step) ≡ lots
 
 -- at each node a search for ways goes on at an end of that node
 pub record IsCurrent (arcs : List Arc) (current : List ℕ) : Type 0 where
@@ -48,15 +48,15 @@ abbrev pub IsAhead : List Arc → List ℕ → List ℕ → ℕ → Type 0
 IsAhead arcs current way steps = (i : ℕ) → i < steps → slice_index way i < slice_index current (near arcs (slice_index way i))
 
 -- an end at which a way can go on: it leads a level down, and the search for ways has just come to it
-pub record IsDown (arcs : List Arc) (entries : List Entry) (current : List ℕ) (node end : ℕ) : Type 0 where
+pub record IsDown (arcs : List Arc) (flow : List ℕ) (entries : List Entry) (current : List ℕ) (node end : ℕ) : Type 0 where
   pub end_in : end < 2 * length arcs
   pub here : near arcs end ≡ node
   pub ahead : end < slice_index current node
-  pub room : 0 < room_in arcs end
+  pub room : 0 < residual_in arcs flow end
   pub falls : level_at entries (far arcs end) + 1 ≡ level_at entries node
 
 -- a way on which each step has room and leads a level down
-pub record IsDescent (arcs : List Arc) (entries : List Entry) (way : List ℕ) (steps : ℕ) : Type 0 where
-  pub is_way : IsWay arcs way 1 steps
+pub record IsDescent (arcs : List Arc) (flow : List ℕ) (entries : List Entry) (way : List ℕ) (steps : ℕ) : Type 0 where
+  pub is_way : IsWay arcs way steps
   pub falling : IsFalling arcs entries way steps
-  pub room : HasRoom arcs way steps 1
+  pub room : HasRoom arcs flow way steps 1

@@ -1,55 +1,48 @@
 //! Lots brought along a way from the source to the sink.
 
-ghost use Rattle.std.specs.Prelude.{◌≡◌, ℕ, ◌+◌, ◌*◌, ◌/◌, ◌<◌, ◌≤◌, All, length, slice_index};
-ghost use Rattle.gu_flow.specs.Flows.{IsFlow, SamePipes, worth};
+ghost use Rattle.std.specs.Prelude.{◌≡◌, ◌+◌, ◌<◌, length};
+ghost use Rattle.gu_flow.specs.Flows.{IsFlow, IsWithin, value_of};
 ghost use Rattle.gu_flow.specs.Ways.{IsWay, IsWhole, IsNarrow, HasRoom};
 
-use crate::arcs::{Arc, room_in};
+use crate::network::{Network, other_end};
+use crate::residual::{push, residual_in};
 
 /// The least room on a way.
-fn bottleneck(arcs: &[Arc], way: &[u32]) -> u64
-    requires within { All (λ a. a.flow ≤ a.capacity) arcs.now }
-    requires way { IsWay arcs.now way.now 1 (length way.now) }
-    ensures least { HasRoom arcs.now way.now (length way.now) result }
-    ensures some { HasRoom arcs.now way.now (length way.now) 1 → 0 < result }
-    ensures narrow { 0 < length way.now → IsNarrow arcs.now way.now (length way.now) result }
+fn bottleneck(net: &Network, flow: &[u64], way: &[u32]) -> u64
+    requires within { IsWithin net.now.arcs.items flow.now }
+    requires way { IsWay net.now.arcs.items way.now (length way.now) }
+    ensures least { HasRoom net.now.arcs.items flow.now way.now (length way.now) result }
+    ensures some { HasRoom net.now.arcs.items flow.now way.now (length way.now) 1 → 0 < result }
+    ensures narrow { 0 < length way.now → IsNarrow net.now.arcs.items flow.now way.now (length way.now) result }
 {
     let mut least = u64::MAX;
     for end in way {
-        least = least.min(room_in(arcs, *end));
+        least = least.min(residual_in(net, flow, *end));
     }
     least
 }
 
 /// Brings so many lots from the source to the sink, back along a way.
-fn bring(arcs: &mut [Arc], way: &[u32], lots: u64)
-    requires flow { IsFlow arcs.old 0 1 }
-    requires whole { IsWhole arcs.old way.now }
-    requires room { HasRoom arcs.old way.now (length way.now) lots }
-    ensures flow { IsFlow arcs.new 0 1 }
-    ensures pipes { SamePipes arcs.old arcs.new }
-    ensures more { worth arcs.new 1 ≡ worth arcs.old 1 + lots }
+fn push_along(net: &Network, flow: &mut [u64], way: &[u32], lots: u64)
+    requires flow { IsFlow net.now.arcs.items flow.old }
+    requires whole { IsWhole net.now.arcs.items way.now }
+    requires room { HasRoom net.now.arcs.items flow.old way.now (length way.now) lots }
+    ensures flow { IsFlow net.now.arcs.items flow.new }
+    ensures more { value_of net.now.arcs.items flow.new ≡ value_of net.now.arcs.items flow.old + lots }
 {
     for end in way {
-        let arc = &mut arcs[*end as usize / 2];
-        if *end % 2 == 0 {
-            arc.flow -= lots;
-        } else {
-            prove!(lots <= arc.capacity);
-            arc.flow += lots;
-        }
+        push(net, flow, other_end(*end), lots);
     }
 }
 
 /// Brings as many lots as a way has room for.
-pub(crate) fn augment(arcs: &mut [Arc], way: &[u32])
-    requires flow { IsFlow arcs.old 0 1 }
-    requires whole { IsWhole arcs.old way.now }
-    requires room { HasRoom arcs.old way.now (length way.now) 1 }
-    ensures flow { IsFlow arcs.new 0 1 }
-    ensures pipes { SamePipes arcs.old arcs.new }
-    ensures more { worth arcs.old 1 < worth arcs.new 1 }
+pub(crate) fn augment(net: &Network, flow: &mut [u64], way: &[u32])
+    requires flow { IsFlow net.now.arcs.items flow.old }
+    requires whole { IsWhole net.now.arcs.items way.now }
+    requires room { HasRoom net.now.arcs.items flow.old way.now (length way.now) 1 }
+    ensures flow { IsFlow net.now.arcs.items flow.new }
+    ensures more { value_of net.now.arcs.items flow.old < value_of net.now.arcs.items flow.new }
 {
-    let lots = bottleneck(arcs, way);
-    bring(arcs, way, lots);
+    let lots = bottleneck(net, flow, way);
+    push_along(net, flow, way, lots);
 }

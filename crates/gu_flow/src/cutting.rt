@@ -4,8 +4,8 @@ ghost use Rattle.std.specs.Prelude.{◌≡◌, ◌<◌, [], IfOk, OnOk, length};
 ghost use Rattle.gu_flow.specs.CutArcs.{leads_out, cuts_key, cuts_offers, AreKeysCut, AreOffersCut, IsCutBy};
 ghost use Rattle.gu_flow.specs.Levels.{is_reached};
 
-use crate::arcs::Arc;
 use crate::levels::Entry;
+use crate::network::Arc;
 use gu_terms::Cut;
 use gu_view::View;
 use std::alloc::{AllocError, Global};

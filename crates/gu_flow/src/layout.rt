@@ -2,11 +2,11 @@
 
 ghost use Rattle.std.specs.Prelude.{◌≡◌, ◌+◌, ◌<◌, ◌^◌, All, IfOk, length, sum_by};
 ghost use Rattle.gu_view.specs.View.{IsView};
-ghost use Rattle.gu_flow.specs.Ends.{JoinsNodes};
+ghost use Rattle.gu_flow.specs.Ends.{capacities, JoinsNodes};
 ghost use Rattle.gu_flow.specs.Layouts.{node_of, first_node, next_node, tail_on, head_on};
 ghost use Rattle.gu_flow.specs.Networks.{capacity_of, IsArcOf, AreArcs, room_at, offer_at};
 
-use crate::arcs::{Arc, SINK, SOURCE};
+use crate::network::{Arc, SINK, SOURCE};
 use gu_terms::LimitKey;
 use gu_view::{Offer, View};
 use std::alloc::{AllocError, Global};
@@ -98,11 +98,10 @@ fn capacity_of(view: &View, place: usize) -> u64
     }
 }
 
-/// The arc of the room at a place, with nothing in it.
+/// The arc of the room at a place.
 fn arc_of(view: &View, place: usize) -> Arc
     requires { place < length view.now.rooms }
-    ensures laid { IsArcOf view.now place result }
-    ensures empty { result.flow ≡ 0 }
+    ensures { IsArcOf view.now place result }
 {
     let capacity = capacity_of(view, place);
     let offer = view.members(place)[0] as usize;
@@ -111,18 +110,18 @@ fn arc_of(view: &View, place: usize) -> Arc
         from: tail_on(way, place as u32),
         to: head_on(way, place as u32),
         capacity,
-        flow: 0,
     }
 }
 
-/// An arc for each room, with nothing in it.
+/// An arc for each room.
 pub(crate) fn lay_out(alloc: Global, view: &View) -> Result<Vec<Arc>, AllocError>
     ensures arcs { IfOk result (λ arcs. AreArcs view.now arcs.items) }
-    ensures empty { IfOk result (λ arcs. All (λ a. a.flow ≡ 0) arcs.items) }
     ensures joins { IfOk result (λ arcs. JoinsNodes arcs.items (length view.now.rooms + 2)) }
+    ensures fits { IfOk result (λ arcs. capacities arcs.items < 2 ^ 64) }
 {
-    let mut arcs = Vec::new(alloc);
-    for place in 0..view.rooms().len() {
+    let rooms = view.rooms().len();
+    let mut arcs = Vec::with_capacity(alloc, rooms)?;
+    for place in 0..rooms {
         arcs.push(arc_of(view, place))?;
     }
     Ok(arcs)

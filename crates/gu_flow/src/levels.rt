@@ -1,11 +1,11 @@
 //! The search from the source, level by level.
 
-ghost use Rattle.std.specs.Prelude.{◌≡◌, ℕ, ◌+◌, ◌*◌, ◌^◌, ◌<◌, ◌≤◌, ◌↔◌, All, IsTrue, false, length, slice_index};
-ghost use Rattle.gu_flow.specs.Ends.{IsIndex, JoinsNodes};
-ghost use Rattle.gu_flow.specs.Flows.{IsClosed};
+ghost use Rattle.std.specs.Prelude.{◌≡◌, ℕ, ◌<◌, ◌≤◌, ◌↔◌, IsTrue, false, length, slice_index};
+ghost use Rattle.gu_flow.specs.Flows.{IsClosed, IsWithin};
 ghost use Rattle.gu_flow.specs.Levels.{level_at, is_reached, IsTree, IsQueue, IsSpent, GoesOn};
 
-use crate::arcs::{Arc, SINK, SOURCE, far, other_end, room_out};
+use crate::network::{Network, SINK, SOURCE, other_end};
+use crate::residual::residual_out;
 
 /// How a search entered a node: over which of the node's ends, and at which level.
 #[derive(Clone, Copy)]
@@ -32,36 +32,31 @@ fn begin(entries: &mut [Entry], queue: &mut [u32])
 
 /// Reaches what a node can bring lots to, and returns how many nodes are reached.
 fn spread(
-    arcs: &[Arc],
-    first: &[u32],
-    next: &[u32],
+    net: &Network,
+    flow: &[u64],
     entries: &mut [Entry],
     queue: &mut [u32],
     node: u32,
     reached: usize,
 ) -> usize
-    requires within { All (λ a. a.flow ≤ a.capacity) arcs.now }
-    requires joins { JoinsNodes arcs.now (length entries.old) }
-    requires few { (length entries.old < 2 ^ 31) × (length arcs.now < 2 ^ 31) }
-    requires index { IsIndex arcs.now first.now next.now (2 * length arcs.now) }
-    requires lists { (length entries.old ≤ length first.now) × (length next.now ≡ 2 * length arcs.now) }
-    requires room { length entries.old ≤ length queue.old }
+    requires within { IsWithin net.now.arcs.items flow.now }
+    requires lists { (length entries.old ≡ length net.now.first.items) × (length entries.old ≤ length queue.old) }
     requires node { (node < length entries.old) × (0 < level_at entries.old node) }
-    requires tree { IsTree arcs.now entries.old 0 }
+    requires tree { IsTree net.now.arcs.items flow.now entries.old }
     requires queue { IsQueue entries.old queue.old reached }
-    ensures tree { IsTree arcs.now entries.new 0 }
+    ensures tree { IsTree net.now.arcs.items flow.now entries.new }
     ensures queue { IsQueue entries.new queue.new result }
     ensures goes_on { GoesOn entries.old entries.new queue.old queue.new reached }
     ensures grows { reached ≤ result }
-    ensures spent { IsSpent arcs.now entries.new node }
+    ensures spent { IsSpent net.now.arcs.items flow.now entries.new node }
 {
     let level = entries[node as usize].level + 1;
     let mut count = reached;
-    let mut ends = first[node as usize];
+    let mut ends = net.ends(node);
     while ends > 0 {
         let end = ends - 1;
-        let other = far(arcs, end);
-        if entries[other as usize].level == 0 && room_out(arcs, end) > 0 {
+        let other = net.far(end);
+        if entries[other as usize].level == 0 && residual_out(net, flow, end) > 0 {
             entries[other as usize] = Entry {
                 via: other_end(end),
                 level,
@@ -69,29 +64,18 @@ fn spread(
             queue[count] = other;
             count += 1;
         }
-        ends = next[end as usize];
+        ends = net.ends_before(end);
     }
     count
 }
 
 /// Reaches what lots can be brought to from the source, until the sink is reached; whether it is.
-pub(crate) fn search(
-    arcs: &[Arc],
-    first: &[u32],
-    next: &[u32],
-    entries: &mut [Entry],
-    queue: &mut [u32],
-) -> bool
-    requires within { All (λ a. a.flow ≤ a.capacity) arcs.now }
-    requires joins { JoinsNodes arcs.now (length entries.old) }
-    requires few { (length entries.old < 2 ^ 31) × (length arcs.now < 2 ^ 31) }
-    requires index { IsIndex arcs.now first.now next.now (2 * length arcs.now) }
-    requires lists { (length entries.old ≤ length first.now) × (length next.now ≡ 2 * length arcs.now) }
-    requires room { length entries.old ≤ length queue.old }
-    requires ends { 1 < length entries.old }
-    ensures tree { IsTree arcs.now entries.new 0 }
+pub(crate) fn search(net: &Network, flow: &[u64], entries: &mut [Entry], queue: &mut [u32]) -> bool
+    requires within { IsWithin net.now.arcs.items flow.now }
+    requires lists { (length entries.old ≡ length net.now.first.items) × (length entries.old ≤ length queue.old) }
+    ensures tree { IsTree net.now.arcs.items flow.now entries.new }
     ensures found { IsTrue result ↔ (0 < level_at entries.new 1) }
-    ensures closed { result ≡ false → IsClosed arcs.now (is_reached entries.new) }
+    ensures closed { result ≡ false → IsClosed net.now.arcs.items flow.now (is_reached entries.new) }
 {
     begin(entries, queue);
     let mut count = 1;
@@ -101,7 +85,7 @@ pub(crate) fn search(
             return true;
         }
         let node = queue[done];
-        count = spread(arcs, first, next, entries, queue, node, count);
+        count = spread(net, flow, entries, queue, node, count);
         done += 1;
     }
     entries[SINK as usize].level > 0

@@ -1,94 +1,143 @@
-//! Greatest flows from the source, node 0, to the sink, node 1.
+//! Networks of arcs, and the ends at each node: end 2k is the tail of the arc at place k, and end 2k + 1 its head.
 
-ghost use Rattle.std.specs.Prelude.{◌≡◌, ◌*◌, ◌^◌, ◌<◌, ◌≤◌, true, false, IfOk, OnOk, length};
-ghost use Rattle.gu_flow.specs.Ends.{IsIndex, JoinsNodes};
-ghost use Rattle.gu_flow.specs.Flows.{IsFlow, IsClosed, SamePipes};
-ghost use Rattle.gu_flow.specs.Levels.{is_reached};
-ghost use Rattle.gu_flow.specs.Preflows.{capacities};
+ghost use Rattle.std.specs.Prelude.{◌≡◌, ◌*◌, ◌/◌, ◌^◌, ◌<◌, ◌≤◌, All, IfOk, length, slice_index};
+ghost use Rattle.gu_flow.specs.Ends.{arc_at, near, far, other_end, capacities, IsIndex, IsNetwork, JoinsNodes};
 
-use crate::arcs::Arc;
-use crate::chains::link;
-use crate::heights::surge;
-use crate::levels::{Entry, search};
-use crate::ways::block;
 use std::alloc::{AllocError, Global};
 
-/// When searches and ways have had as many steps as the network has nodes so many times over, the rest is pushed all at once:
-/// where each search finds little, or ways grow long, there would be many more.
-const MOST_ROUNDS: usize = 6;
+/// The node from which lots come.
+pub(crate) const SOURCE: u32 = 0;
 
-/// Makes the flow greatest, over lists that are there; a surge takes lists of its own.
-fn fill(
-    alloc: Global,
-    arcs: &mut [Arc],
-    first: &[u32],
-    next: &[u32],
-    entries: &mut [Entry],
-    queue: &mut [u32],
-    current: &mut [u32],
-    way: &mut [u32],
-) -> Result<(), AllocError>
-    requires flow { IsFlow arcs.old 0 1 }
-    requires joins { JoinsNodes arcs.old (length entries.old) }
-    requires few { (length entries.old < 2 ^ 31) × (1 < length entries.old) × (length arcs.old < 2 ^ 31) }
-    requires index { IsIndex arcs.old first.now next.now (2 * length arcs.old) }
-    requires lists { (length first.now ≡ length entries.old) × (length next.now ≡ 2 * length arcs.old) }
-    requires rooms { (length entries.old ≤ length queue.old) × (length current.old ≡ length entries.old)
-        × (length entries.old ≤ length way.old) }
-    requires fits { capacities arcs.old < 2 ^ 64 }
-    ensures flow { OnOk result (IsFlow arcs.new 0 1) }
-    ensures pipes { OnOk result (SamePipes arcs.old arcs.new) }
-    ensures from_source { OnOk result (is_reached entries.new 0 ≡ true) }
-    ensures not_to_sink { OnOk result (is_reached entries.new 1 ≡ false) }
-    ensures closed { OnOk result (IsClosed arcs.new (is_reached entries.new)) }
-{
-    let nodes = entries.len();
-    let mut left = MOST_ROUNDS * nodes;
-    'searches: while search(arcs, first, next, entries, queue) {
-        if left == 0 {
-            surge(alloc, arcs, first, next, current, queue)?;
-            left = MOST_ROUNDS * nodes;
-        } else {
-            current.copy_from_slice(first);
-            left = block(arcs, next, entries, current, way, left).saturating_sub(nodes);
-        }
-    }
-    Ok(())
+/// The node to which they go.
+pub(crate) const SINK: u32 = 1;
+
+/// An arc from one node to another, and what it can carry.
+#[derive(Clone, Copy)]
+pub struct Arc {
+    pub from: u32,
+    pub to: u32,
+    pub capacity: u64,
 }
 
-/// Makes the flow greatest, and returns which nodes a search from the source still reaches. Where a growth is refused, some
-/// flow may be left in the arcs.
-pub(crate) fn maximize(
-    alloc: Global,
-    arcs: &mut [Arc],
-    nodes: usize,
-) -> Result<Vec<Entry>, AllocError>
-    requires flow { IsFlow arcs.old 0 1 }
-    requires joins { JoinsNodes arcs.old nodes }
-    requires few { (nodes < 2 ^ 31) × (1 < nodes) × (length arcs.old < 2 ^ 31) }
-    requires fits { capacities arcs.old < 2 ^ 64 }
-    ensures flow { OnOk result (IsFlow arcs.new 0 1) }
-    ensures pipes { OnOk result (SamePipes arcs.old arcs.new) }
-    ensures from_source { IfOk result (λ entries. is_reached entries.items 0 ≡ true) }
-    ensures not_to_sink { IfOk result (λ entries. is_reached entries.items 1 ≡ false) }
-    ensures closed { IfOk result (λ entries. IsClosed arcs.new (is_reached entries.items)) }
+/// Arcs that join nodes, with the ends at each node.
+#[derive(Drop)]
+pub(crate) struct Network {
+    arcs: Vec<Arc>,
+    /// For each node one more than its last end, or 0.
+    first: Vec<u32>,
+    /// For each end one more than the end before it at the same node, or 0.
+    next: Vec<u32>,
+    ghost is_network: { IsNetwork arcs.items first.items next.items },
+}
+
+/// The arc's other end.
+pub(crate) fn other_end(end: u32) -> u32
+    requires { end < 4294967295 }
+    ensures { result ≡ other_end end }
 {
-    let mut first = vec![in alloc; 0; nodes]?;
-    let mut next = vec![in alloc; 0; 2 * arcs.len()]?;
-    let mut entries = vec![in alloc; Entry { via: 0, level: 0 }; nodes]?;
-    let mut queue = vec![in alloc; 0; nodes]?;
-    let mut current = vec![in alloc; 0; nodes]?;
-    let mut way = vec![in alloc; 0; nodes]?;
-    link(arcs, &mut first, &mut next);
-    fill(
-        alloc,
-        arcs,
-        &first,
-        &next,
-        &mut entries,
-        &mut queue,
-        &mut current,
-        &mut way,
-    )?;
-    Ok(entries)
+    if end % 2 == 0 { end + 1 } else { end - 1 }
+}
+
+/// The node at an end.
+fn near(arcs: &[Arc], end: u32) -> u32
+    requires { end < 2 * length arcs.now }
+    ensures { result ≡ near arcs.now end }
+{
+    let arc = &arcs[end as usize / 2];
+    if end % 2 == 0 { arc.from } else { arc.to }
+}
+
+/// Links the ends at each node, from the last to the first.
+fn link(arcs: &[Arc], first: &mut [u32], next: &mut [u32])
+    requires joins { JoinsNodes arcs.now (length first.old) }
+    requires few { length arcs.now < 2 ^ 31 }
+    requires none { All (λ ends. ends ≡ 0) first.old }
+    requires ends { length next.old ≡ 2 * length arcs.now }
+    ensures { IsIndex arcs.now first.new next.new (2 * length arcs.now) }
+{
+    for end in 0..next.len() {
+        let node = near(arcs, end as u32) as usize;
+        next[end] = first[node];
+        first[node] = end as u32 + 1;
+    }
+}
+
+impl Network {
+    /// The network of these arcs between so many nodes.
+    pub(crate) fn new(alloc: Global, arcs: Vec<Arc>, nodes: usize) -> Result<Network, AllocError>
+        requires joins { JoinsNodes arcs.items nodes }
+        requires few { (nodes < 2 ^ 31) × (1 < nodes) × (length arcs.items < 2 ^ 31) }
+        requires fits { capacities arcs.items < 2 ^ 64 }
+        ensures arcs { IfOk result (λ net. net.arcs.items ≡ arcs.items) }
+    {
+        let mut first = vec![in alloc; 0; nodes]?;
+        let mut next = vec![in alloc; 0; 2 * arcs.len()]?;
+        link(&arcs, &mut first, &mut next);
+        Ok(Network { arcs, first, next })
+    }
+
+    pub(crate) fn arcs(&self) -> &[Arc]
+        ensures { result.now ≡ self.now.arcs.items }
+    {
+        &self.arcs
+    }
+
+    /// How many nodes there are.
+    pub(crate) fn nodes(&self) -> usize
+        ensures { result ≡ length self.now.first.items }
+    {
+        self.first.len()
+    }
+
+    /// What the arc of an end can carry.
+    pub(crate) fn capacity(&self, end: u32) -> u64
+        requires { end < 2 * length self.now.arcs.items }
+        ensures { result ≡ (arc_at self.now.arcs.items (end / 2)).capacity }
+    {
+        self.arcs[end as usize / 2].capacity
+    }
+
+    /// The node at an end.
+    pub(crate) fn near(&self, end: u32) -> u32
+        requires { end < 2 * length self.now.arcs.items }
+        ensures is { result ≡ near self.now.arcs.items end }
+        ensures within { result < length self.now.first.items }
+    {
+        near(&self.arcs, end)
+    }
+
+    /// The node at the other end of the arc.
+    pub(crate) fn far(&self, end: u32) -> u32
+        requires { end < 2 * length self.now.arcs.items }
+        ensures is { result ≡ far self.now.arcs.items end }
+        ensures within { result < length self.now.first.items }
+    {
+        let arc = &self.arcs[end as usize / 2];
+        if end % 2 == 0 { arc.to } else { arc.from }
+    }
+
+    /// One more than a node's last end, or 0.
+    pub(crate) fn ends(&self, node: u32) -> u32
+        requires { node < length self.now.first.items }
+        ensures is { result ≡ slice_index self.now.first.items node }
+        ensures within { result ≤ 2 * length self.now.arcs.items }
+    {
+        self.first[node as usize]
+    }
+
+    /// One more than the end before one at the same node, or 0.
+    pub(crate) fn ends_before(&self, end: u32) -> u32
+        requires { end < 2 * length self.now.arcs.items }
+        ensures is { result ≡ slice_index self.now.next.items end }
+        ensures less { result ≤ end }
+    {
+        self.next[end as usize]
+    }
+
+    /// The last end of each node.
+    pub(crate) fn last_ends(&self) -> &[u32]
+        ensures { result.now ≡ self.now.first.items }
+    {
+        &self.first
+    }
 }

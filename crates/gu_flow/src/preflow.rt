@@ -7,7 +7,6 @@ ghost use Rattle.std.specs.Prelude.{
   ◌+◌,
   ◌-◌,
   ◌*◌,
-  ◌/◌,
   ◌^◌,
   ◌<◌,
   ◌≤◌,
@@ -18,26 +17,14 @@ ghost use Rattle.std.specs.Prelude.{
   false,
   length,
   slice_index,
+  sum,
 };
-ghost use Rattle.gu_flow.specs.Ends.{arc_at, is_tail, near, far, room_out, JoinsNodes};
-ghost use Rattle.gu_flow.specs.Flows.{IsFlow, SamePipes, worth};
-ghost use Rattle.gu_flow.specs.Preflows.{capacities, flowing, pushed, IsPreflow, AreSettled};
+ghost use Rattle.gu_flow.specs.Ends.{arc_at, is_tail, near, residual_out};
+ghost use Rattle.gu_flow.specs.Flows.{IsFlow, value_of};
+ghost use Rattle.gu_flow.specs.Preflows.{IsPreflow, AreSettled};
 
-use crate::arcs::{Arc, SINK, SOURCE, far, near, room_out};
-
-/// An arc when lots have been pushed over an end of it.
-fn pushed(arc: Arc, end: u32, lots: u64) -> Arc
-    requires within { arc.flow ≤ arc.capacity }
-    requires room { lots ≤ (if is_tail end then arc.capacity - arc.flow else arc.flow) }
-    ensures { result ≡ pushed arc end lots }
-{
-    let flow = if end % 2 == 0 {
-        arc.flow + lots
-    } else {
-        arc.flow - lots
-    };
-    Arc { flow, ..arc }
-}
+use crate::network::{Network, SINK, SOURCE};
+use crate::residual::{push, residual_out};
 
 /// Takes lots from what a node has too much. The source has as many as are asked of it.
 fn debit(excess: &mut [u64], node: u32, lots: u64)
@@ -63,55 +50,49 @@ fn credit(excess: &mut [u64], node: u32, lots: u64)
 }
 
 /// Pushes over an end what its node has too much, as far as there is room, and returns how many lots that is.
-pub(crate) fn push(arcs: &mut [Arc], excess: &mut [u64], end: u32) -> u64
-    requires preflow { IsPreflow arcs.old excess.old }
-    requires joins { JoinsNodes arcs.old (length excess.old) }
-    requires fits { capacities arcs.old < 2 ^ 64 }
-    requires end { end < 2 * length arcs.old }
-    ensures preflow { IsPreflow arcs.new excess.new }
-    ensures pipes { SamePipes arcs.old arcs.new }
-    ensures lots { result ≡ min (room_out arcs.old end) (slice_index excess.old (near arcs.old end)) }
-    ensures worth { worth arcs.old 1 ≤ worth arcs.new 1 }
-    ensures less { is_tail end ≡ false → flowing arcs.new + result ≡ flowing arcs.old }
+pub(crate) fn push_excess(net: &Network, flow: &mut [u64], excess: &mut [u64], end: u32) -> u64
+    requires preflow { IsPreflow net.now.arcs.items flow.old excess.old }
+    requires nodes { length excess.old ≡ length net.now.first.items }
+    requires end { end < 2 * length net.now.arcs.items }
+    ensures preflow { IsPreflow net.now.arcs.items flow.new excess.new }
+    ensures lots { result ≡ min (residual_out net.now.arcs.items flow.old end) (slice_index excess.old (near net.now.arcs.items end)) }
+    ensures value { value_of net.now.arcs.items flow.old ≤ value_of net.now.arcs.items flow.new }
+    ensures less { is_tail end ≡ false → sum flow.new + result ≡ sum flow.old }
 {
-    let from = near(arcs, end);
-    let to = far(arcs, end);
-    let lots = room_out(arcs, end).min(excess[from as usize]);
-    let place = end as usize / 2;
-    arcs[place] = pushed(arcs[place], end, lots);
+    let from = net.near(end);
+    let lots = residual_out(net, flow, end).min(excess[from as usize]);
+    push(net, flow, end, lots);
     debit(excess, from, lots);
-    credit(excess, to, lots);
+    credit(excess, net.far(end), lots);
     lots
 }
 
 /// Whether the arc at a place brings lots to a node that has too much.
-fn brings_too_much(arcs: &[Arc], excess: &[u64], place: usize) -> bool
-    requires place { place < length arcs.now }
-    requires joins { JoinsNodes arcs.now (length excess.now) }
-    ensures over { result ≡ true → (0 < (arc_at arcs.now place).flow) × (0 < slice_index excess.now (arc_at arcs.now place).to) }
-    ensures settled { result ≡ false → 1 < (arc_at arcs.now place).to → 0 < (arc_at arcs.now place).flow
-        → slice_index excess.now (arc_at arcs.now place).to ≡ 0 }
+fn brings_too_much(net: &Network, flow: &[u64], excess: &[u64], place: usize) -> bool
+    requires place { (place < length net.now.arcs.items) × (place < length flow.now) }
+    requires nodes { length excess.now ≡ length net.now.first.items }
+    ensures over { result ≡ true
+        → (0 < slice_index flow.now place) × (0 < slice_index excess.now (arc_at net.now.arcs.items place).to) }
+    ensures settled { result ≡ false → 1 < (arc_at net.now.arcs.items place).to → 0 < slice_index flow.now place
+        → slice_index excess.now (arc_at net.now.arcs.items place).to ≡ 0 }
 {
-    let arc = &arcs[place];
-    arc.to > SINK && arc.flow > 0 && excess[arc.to as usize] > 0
+    let to = net.arcs()[place].to;
+    to > SINK && flow[place] > 0 && excess[to as usize] > 0
 }
 
 /// Gives back over each arc what its head has too much, and returns whether there was any.
-fn give_back_once(arcs: &mut [Arc], excess: &mut [u64]) -> bool
-    requires preflow { IsPreflow arcs.old excess.old }
-    requires joins { JoinsNodes arcs.old (length excess.old) }
-    requires fits { capacities arcs.old < 2 ^ 64 }
-    requires few { length arcs.old < 2 ^ 31 }
-    ensures preflow { IsPreflow arcs.new excess.new }
-    ensures pipes { SamePipes arcs.old arcs.new }
-    ensures worth { worth arcs.old 1 ≤ worth arcs.new 1 }
-    ensures less { result ≡ true → flowing arcs.new < flowing arcs.old }
-    ensures settled { result ≡ false → AreSettled arcs.new excess.new (length arcs.new) }
+fn give_back_once(net: &Network, flow: &mut [u64], excess: &mut [u64]) -> bool
+    requires preflow { IsPreflow net.now.arcs.items flow.old excess.old }
+    requires nodes { length excess.old ≡ length net.now.first.items }
+    ensures preflow { IsPreflow net.now.arcs.items flow.new excess.new }
+    ensures value { value_of net.now.arcs.items flow.old ≤ value_of net.now.arcs.items flow.new }
+    ensures less { result ≡ true → sum flow.new < sum flow.old }
+    ensures settled { result ≡ false → AreSettled net.now.arcs.items flow.new excess.new (length net.now.arcs.items) }
 {
     let mut any = false;
-    for place in 0..arcs.len() {
-        if brings_too_much(arcs, excess, place) {
-            push(arcs, excess, 2 * place as u32 + 1);
+    for place in 0..net.arcs().len() {
+        if brings_too_much(net, flow, excess, place) {
+            push_excess(net, flow, excess, 2 * place as u32 + 1);
             any = true;
         }
     }
@@ -119,14 +100,11 @@ fn give_back_once(arcs: &mut [Arc], excess: &mut [u64]) -> bool
 }
 
 /// Gives back what has not come to the sink, so that a flow is left.
-pub(crate) fn give_back(arcs: &mut [Arc], excess: &mut [u64])
-    requires preflow { IsPreflow arcs.old excess.old }
-    requires joins { JoinsNodes arcs.old (length excess.old) }
-    requires fits { capacities arcs.old < 2 ^ 64 }
-    requires few { length arcs.old < 2 ^ 31 }
-    ensures flow { IsFlow arcs.new 0 1 }
-    ensures pipes { SamePipes arcs.old arcs.new }
-    ensures worth { worth arcs.old 1 ≤ worth arcs.new 1 }
+pub(crate) fn give_back(net: &Network, flow: &mut [u64], excess: &mut [u64])
+    requires preflow { IsPreflow net.now.arcs.items flow.old excess.old }
+    requires nodes { length excess.old ≡ length net.now.first.items }
+    ensures flow { IsFlow net.now.arcs.items flow.new }
+    ensures value { value_of net.now.arcs.items flow.old ≤ value_of net.now.arcs.items flow.new }
 {
-    'turns: while give_back_once(arcs, excess) {}
+    'turns: while give_back_once(net, flow, excess) {}
 }

@@ -7,7 +7,8 @@ ghost use Rattle.gu_view.specs.View.{IsNested};
 
 use crate::cutting::cut_by;
 use crate::layout::lay_out;
-use crate::network::maximize;
+use crate::maximum::maximize;
+use crate::network::Network;
 use crate::sharing::share_out;
 use gu_terms::{Cut, Take, Takes};
 use gu_view::View;
@@ -128,10 +129,11 @@ fn sweep(alloc: Global, view: &View) -> Result<(Takes, Cut, u64), AllocError>
     requires { IsNested view.now }
     ensures { IfOk result (λ s. IsSound (record { view = view.now; takes = s.0; cut = s.1; lots = s.2 })) }
 {
-    let mut arcs = lay_out(alloc, view)?;
-    let entries = maximize(alloc, &mut arcs, view.rooms().len() + 2)?;
-    let takes = share_out(alloc, view, &arcs)?;
-    let cut = cut_by(alloc, view, &arcs, &entries)?;
+    let arcs = lay_out(alloc, view)?;
+    let net = Network::new(alloc, arcs, view.rooms().len() + 2)?;
+    let (flow, entries) = maximize(alloc, &net)?;
+    let takes = share_out(alloc, view, flow)?;
+    let cut = cut_by(alloc, view, net.arcs(), &entries)?;
     let lots = sum_of(takes.as_slice());
     Ok((takes, cut, lots))
 }

@@ -1,25 +1,27 @@
 //! Ways from the sink back to the source, each step a level down.
 
-ghost use Rattle.std.specs.Prelude.{◌≡◌, ◌≢◌, ℕ, ◌+◌, ◌*◌, ◌^◌, ◌<◌, ◌≤◌, All, IfSome, true, length, slice_index, sum};
-ghost use Rattle.gu_flow.specs.Ends.{near, far, room_in, IsChain, JoinsNodes};
-ghost use Rattle.gu_flow.specs.Flows.{IsFlow, SamePipes, worth};
+ghost use Rattle.std.specs.Prelude.{◌≡◌, ◌≢◌, ℕ, ◌+◌, ◌*◌, ◌<◌, ◌≤◌, IfSome, true, length, slice_index, sum};
+ghost use Rattle.gu_flow.specs.Ends.{far, residual_in};
+ghost use Rattle.gu_flow.specs.Flows.{IsFlow, IsWithin, value_of};
 ghost use Rattle.gu_flow.specs.Levels.{level_at, IsTree};
 ghost use Rattle.gu_flow.specs.Ways.{stand, IsWay, HasRoom, IsCurrent, IsAhead, IsDown, IsDescent};
 
-use crate::arcs::{Arc, SINK, SOURCE, far, near, room_in};
 use crate::augment::augment;
 use crate::levels::Entry;
+use crate::network::{Network, SINK, SOURCE};
+use crate::residual::residual_in;
+
+/// The steps that a way pays for: a longer one costs what it has more, and a shorter one pays for a part of a search.
+const PAID: usize = 8;
 
 /// The way on which the search came to the sink, and how many steps it has.
-pub(crate) fn trace(arcs: &[Arc], entries: &[Entry], way: &mut [u32]) -> usize
-    requires joins { JoinsNodes arcs.now (length entries.now) }
-    requires few { length arcs.now < 2 ^ 31 }
-    requires tree { IsTree arcs.now entries.now 0 }
+pub(crate) fn trace(net: &Network, flow: &[u64], entries: &[Entry], way: &mut [u32]) -> usize
+    requires tree { IsTree net.now.arcs.items flow.now entries.now }
     requires found { 0 < level_at entries.now 1 }
-    requires long { length entries.now ≤ length way.old }
+    requires lists { (length entries.now ≡ length net.now.first.items) × (length entries.now ≤ length way.old) }
     ensures within { result ≤ length way.new }
-    ensures descent { IsDescent arcs.now entries.now way.new result }
-    ensures whole { stand arcs.now way.new 1 result ≡ 0 }
+    ensures descent { IsDescent net.now.arcs.items flow.now entries.now way.new result }
+    ensures whole { stand net.now.arcs.items way.new result ≡ 0 }
 {
     let mut steps = 0;
     let mut node = SINK;
@@ -27,21 +29,21 @@ pub(crate) fn trace(arcs: &[Arc], entries: &[Entry], way: &mut [u32]) -> usize
         let end = entries[node as usize].via;
         way[steps] = end;
         steps += 1;
-        node = far(arcs, end);
+        node = net.far(end);
     }
     steps
 }
 
 /// How many of a way's first steps have room.
-pub(crate) fn clear_steps(arcs: &[Arc], way: &[u32]) -> usize
-    requires within { All (λ a. a.flow ≤ a.capacity) arcs.now }
-    requires way { IsWay arcs.now way.now 1 (length way.now) }
+pub(crate) fn clear_steps(net: &Network, flow: &[u64], way: &[u32]) -> usize
+    requires within { IsWithin net.now.arcs.items flow.now }
+    requires way { IsWay net.now.arcs.items way.now (length way.now) }
     ensures bound { result ≤ length way.now }
-    ensures room { HasRoom arcs.now way.now result 1 }
-    ensures stops { result < length way.now → room_in arcs.now (slice_index way.now result) ≡ 0 }
+    ensures room { HasRoom net.now.arcs.items flow.now way.now result 1 }
+    ensures stops { result < length way.now → residual_in net.now.arcs.items flow.now (slice_index way.now result) ≡ 0 }
 {
     for (step, end) in way.iter().enumerate() {
-        if room_in(arcs, *end) == 0 {
+        if residual_in(net, flow, *end) == 0 {
             return step;
         }
     }
@@ -49,100 +51,95 @@ pub(crate) fn clear_steps(arcs: &[Arc], way: &[u32]) -> usize
 }
 
 /// The node at which a way stands.
-fn stand(arcs: &[Arc], way: &[u32], steps: usize) -> u32
+fn stand(net: &Network, way: &[u32], steps: usize) -> u32
     requires within { steps ≤ length way.now }
-    requires way { IsWay arcs.now way.now 1 steps }
-    ensures { result ≡ stand arcs.now way.now 1 steps }
+    requires way { IsWay net.now.arcs.items way.now steps }
+    ensures is { result ≡ stand net.now.arcs.items way.now steps }
+    ensures within { result < length net.now.first.items }
 {
     if steps == 0 {
         SINK
     } else {
-        far(arcs, way[steps - 1])
+        net.far(way[steps - 1])
     }
 }
 
-/// Whether lots can be brought over an end from a node one level before.
-fn leads_down(arcs: &[Arc], entries: &[Entry], end: u32) -> bool
-    requires within { All (λ a. a.flow ≤ a.capacity) arcs.now }
-    requires joins { JoinsNodes arcs.now (length entries.now) }
-    requires end { end < 2 * length arcs.now }
+/// Whether lots can be brought over an end from a node one level before this one.
+fn leads_down(net: &Network, flow: &[u64], entries: &[Entry], end: u32, level: u32) -> bool
+    requires within { IsWithin net.now.arcs.items flow.now }
+    requires lists { length entries.now ≡ length net.now.first.items }
+    requires end { end < 2 * length net.now.arcs.items }
     requires levels { (n : ℕ) → level_at entries.now n ≤ length entries.now }
-    requires few { length entries.now < 2 ^ 31 }
-    ensures room { result ≡ true → 0 < room_in arcs.now end }
-    ensures falls { result ≡ true → level_at entries.now (far arcs.now end) + 1 ≡ level_at entries.now (near arcs.now end) }
-    ensures each { 0 < room_in arcs.now end
-        → level_at entries.now (far arcs.now end) + 1 ≡ level_at entries.now (near arcs.now end)
+    ensures room { result ≡ true → 0 < residual_in net.now.arcs.items flow.now end }
+    ensures falls { result ≡ true → level_at entries.now (far net.now.arcs.items end) + 1 ≡ level }
+    ensures each { 0 < residual_in net.now.arcs.items flow.now end
+        → level_at entries.now (far net.now.arcs.items end) + 1 ≡ level
         → result ≡ true }
 {
-    let before = entries[far(arcs, end) as usize].level;
-    room_in(arcs, end) > 0 && before + 1 == entries[near(arcs, end) as usize].level
+    let before = entries[net.far(end) as usize].level;
+    before + 1 == level && residual_in(net, flow, end) > 0
 }
 
 /// The next end at a node that leads down.
 fn next_down(
-    arcs: &[Arc],
-    next: &[u32],
+    net: &Network,
+    flow: &[u64],
     entries: &[Entry],
     current: &mut [u32],
     node: u32,
 ) -> Option<u32>
-    requires within { All (λ a. a.flow ≤ a.capacity) arcs.now }
-    requires joins { JoinsNodes arcs.now (length entries.now) }
+    requires within { IsWithin net.now.arcs.items flow.now }
+    requires lists { length entries.now ≡ length net.now.first.items }
     requires levels { (n : ℕ) → level_at entries.now n ≤ length entries.now }
-    requires few { length entries.now < 2 ^ 31 }
-    requires chain { IsChain arcs.now next.now (2 * length arcs.now) }
-    requires ends { length next.now ≡ 2 * length arcs.now }
-    requires node { node < length current.old }
-    requires current { IsCurrent arcs.now current.old }
-    ensures current { IsCurrent arcs.now current.new }
+    requires node { (node < length current.old) × (node < length entries.now) }
+    requires current { IsCurrent net.now.arcs.items current.old }
+    ensures current { IsCurrent net.now.arcs.items current.new }
     ensures others { (n : ℕ) → n ≢ node → slice_index current.new n ≡ slice_index current.old n }
     ensures less { sum current.new ≤ sum current.old }
-    ensures down { IfSome result (λ end. IsDown arcs.now entries.now current.new node end) }
+    ensures down { IfSome result (λ end. IsDown net.now.arcs.items flow.now entries.now current.new node end) }
 {
+    let level = entries[node as usize].level;
     'ends: while current[node as usize] > 0 {
         let end = current[node as usize] - 1;
-        if leads_down(arcs, entries, end) {
+        if leads_down(net, flow, entries, end, level) {
             return Some(end);
         }
-        current[node as usize] = next[end as usize];
+        current[node as usize] = net.ends_before(end);
     }
     None
 }
 
 /// Leads a way on to the source, back and forth from where it stands, if there is a way.
 pub(crate) fn extend(
-    arcs: &[Arc],
-    next: &[u32],
+    net: &Network,
+    flow: &[u64],
     entries: &[Entry],
     current: &mut [u32],
     way: &mut [u32],
     kept: usize,
 ) -> Option<usize>
-    requires within { All (λ a. a.flow ≤ a.capacity) arcs.now }
-    requires joins { JoinsNodes arcs.now (length entries.now) }
+    requires within { IsWithin net.now.arcs.items flow.now }
     requires levels { (n : ℕ) → level_at entries.now n ≤ length entries.now }
-    requires few { (length entries.now < 2 ^ 31) × (1 < length entries.now) }
-    requires chain { IsChain arcs.now next.now (2 * length arcs.now) }
-    requires ends { length next.now ≡ 2 * length arcs.now }
-    requires lists { (length entries.now ≤ length current.old) × (length entries.now ≤ length way.old) }
+    requires lists { (length entries.now ≡ length net.now.first.items) × (length entries.now ≤ length current.old)
+        × (length entries.now ≤ length way.old) }
     requires kept { kept ≤ length way.old }
-    requires descent { IsDescent arcs.now entries.now way.old kept }
-    requires current { IsCurrent arcs.now current.old }
-    requires ahead { IsAhead arcs.now current.old way.old kept }
-    ensures current { IsCurrent arcs.now current.new }
+    requires descent { IsDescent net.now.arcs.items flow.now entries.now way.old kept }
+    requires current { IsCurrent net.now.arcs.items current.old }
+    requires ahead { IsAhead net.now.arcs.items current.old way.old kept }
+    ensures current { IsCurrent net.now.arcs.items current.new }
     ensures within { IfSome result (λ steps. steps ≤ length way.new) }
-    ensures descent { IfSome result (λ steps. IsDescent arcs.now entries.now way.new steps) }
-    ensures ahead { IfSome result (λ steps. IsAhead arcs.now current.new way.new steps) }
-    ensures whole { IfSome result (λ steps. stand arcs.now way.new 1 steps ≡ 0) }
+    ensures descent { IfSome result (λ steps. IsDescent net.now.arcs.items flow.now entries.now way.new steps) }
+    ensures ahead { IfSome result (λ steps. IsAhead net.now.arcs.items current.new way.new steps) }
+    ensures whole { IfSome result (λ steps. stand net.now.arcs.items way.new steps ≡ 0) }
 {
     let mut steps = kept;
-    let mut node = stand(arcs, way, kept);
+    let mut node = stand(net, way, kept);
     'steps: while node != SOURCE {
-        match next_down(arcs, next, entries, current, node) {
+        match next_down(net, flow, entries, current, node) {
             Some(end) => {
                 way[steps] = end;
                 steps += 1;
-                node = far(arcs, end);
+                node = net.far(end);
             }
             None => {
                 if steps == 0 {
@@ -150,48 +147,45 @@ pub(crate) fn extend(
                 }
                 steps -= 1;
                 let end = way[steps];
-                node = near(arcs, end);
-                current[node as usize] = next[end as usize];
+                node = net.near(end);
+                current[node as usize] = net.ends_before(end);
             }
         }
     }
     Some(steps)
 }
 
-/// Brings lots along ways that fall a level at each step, until the search for one ends or no more steps are left;
-/// at least along the way on which the sink was reached. Returns how many steps are left.
+/// Brings lots along ways that fall a level at each step, until the search for one ends or no more steps are left,
+/// of those that there were and that ways paid for; at least along the way on which the sink was reached.
+/// Returns how many steps are left.
 pub(crate) fn block(
-    arcs: &mut [Arc],
-    next: &[u32],
+    net: &Network,
+    flow: &mut [u64],
     entries: &[Entry],
     current: &mut [u32],
     way: &mut [u32],
     most: usize,
 ) -> usize
-    requires flow { IsFlow arcs.old 0 1 }
-    requires joins { JoinsNodes arcs.old (length entries.now) }
-    requires few { (length entries.now < 2 ^ 31) × (1 < length entries.now) × (length arcs.old < 2 ^ 31) }
-    requires tree { IsTree arcs.old entries.now 0 }
+    requires flow { IsFlow net.now.arcs.items flow.old }
+    requires tree { IsTree net.now.arcs.items flow.old entries.now }
     requires found { 0 < level_at entries.now 1 }
-    requires chain { IsChain arcs.old next.now (2 * length arcs.old) }
-    requires ends { length next.now ≡ 2 * length arcs.old }
-    requires lists { (length entries.now ≤ length current.old) × (length entries.now ≤ length way.old) }
-    requires current { IsCurrent arcs.old current.old }
-    ensures flow { IsFlow arcs.new 0 1 }
-    ensures pipes { SamePipes arcs.old arcs.new }
-    ensures more { worth arcs.old 1 < worth arcs.new 1 }
+    requires lists { (length entries.now ≡ length net.now.first.items) × (length entries.now ≤ length current.old)
+        × (length entries.now ≤ length way.old) }
+    requires current { IsCurrent net.now.arcs.items current.old }
+    ensures flow { IsFlow net.now.arcs.items flow.new }
+    ensures more { value_of net.now.arcs.items flow.old < value_of net.now.arcs.items flow.new }
 {
-    let steps = trace(arcs, entries, way);
-    augment(arcs, &way[..steps]);
-    let mut left = most.saturating_sub(steps);
+    let steps = trace(net, flow, entries, way);
+    augment(net, flow, &way[..steps]);
+    let mut left = most.saturating_add(PAID).saturating_sub(steps);
     let mut kept = 0;
-    'ways: while let Some(steps) = extend(arcs, next, entries, current, way, kept) {
-        augment(arcs, &way[..steps]);
-        left = left.saturating_sub(steps);
+    'ways: while let Some(steps) = extend(net, flow, entries, current, way, kept) {
+        augment(net, flow, &way[..steps]);
+        left = left.saturating_add(PAID).saturating_sub(steps);
         if left == 0 {
             return 0;
         }
-        kept = clear_steps(arcs, &way[..steps]);
+        kept = clear_steps(net, flow, &way[..steps]);
     }
     left
 }

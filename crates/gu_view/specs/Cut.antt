@@ -1,14 +1,10 @@
 -- Cuts of a view.
-use Rattle.std.specs.Prelude.{◌≡◌, ℕ, ◌+◌, ◌||◌, Bool, IsTrue, if◌then◌else◌, All, sum_by}
+use Rattle.std.specs.Prelude.{ℕ, ◌+◌, ◌||◌, Bool, IsTrue, if◌then◌else◌, All, sum_by}
 use Rattle.std.specs.List.{list_any}
 use Rattle.gu_terms.specs.Cuts.{CutLists, has_number}
 use Rattle.gu_terms.specs.LimitKeys.{has_key}
-use Rattle.gu_terms.specs.Takes.{lots_of}
-use Rattle.gu_terms.specs.declared.takes.Take.{Take}
 use Rattle.gu_view.specs.declared.view.Offer.{Offer}
-use Rattle.gu_view.specs.Takes.{IsGreatest, IsOldestFirst, total}
 use Rattle.gu_view.specs.View.{GroupView}
-use Rattle.std.specs.Prelude.{List}
 
 -- an offer is in the cut, or a key of its path is
 abbrev pub is_covered : CutLists → Offer → Bool
@@ -23,11 +19,3 @@ abbrev pub room_of : GroupView → CutLists → ℕ
 room_of view cut =
     sum_by (λ r. if has_key cut.keys r.key then r.lots else 0) view.rooms
     + sum_by (λ o. if has_number cut.offers o.number then o.lots else 0) view.offers
-
--- the takes are greatest and oldest first, and the cut covers, with the lots taken as its room
-pub record IsCertified (view : GroupView) (takes : List Take) (cut : CutLists) (lots : ℕ) : Type 0 where
-  pub greatest : IsGreatest view (lots_of takes)
-  pub oldest_first : IsOldestFirst view (lots_of takes)
-  pub covers : Covers view cut
-  pub taken : total view.offers (lots_of takes) ≡ lots
-  pub room : room_of view cut ≡ lots

@@ -21,9 +21,43 @@ const ROOMS: [RoomLine; 4] = [
     ("CARRY", "C1", 100),
 ];
 
-/// The view, or nothing where a growth was refused: then the refusal is Memory.
-fn tried(rt: &impl Abort, alloc: Global) -> Option<View> {
-    match made(alloc, &OFFERS, &ROOMS)? {
+/// A creeping chain: firm n has accounts n and n - 1, and each account has room for one lot more than a firm fills. What firm 5
+/// would fill of account 4 goes through all firms down to firm 1, so searches find one way each, and a surge brings the rest.
+const CREEPING_OFFERS: [OfferLine; 8] = [
+    (1, 1_000_000, "P1", ["E4", "P1", "A4", "C1"], None),
+    (2, 1_000_000, "P2", ["E3", "P2", "A3", "C1"], None),
+    (3, 1_000_000, "P3", ["E2", "P3", "A2", "C1"], None),
+    (4, 1_000_000, "P4", ["E1", "P4", "A1", "C1"], None),
+    (5, 1_000_000, "P5", ["E5", "P5", "A4", "C1"], None),
+    (6, 1_000_000, "P6", ["E4", "P6", "A3", "C1"], None),
+    (7, 1_000_000, "P7", ["E3", "P7", "A2", "C1"], None),
+    (8, 1_000_000, "P8", ["E2", "P8", "A1", "C1"], None),
+];
+
+const CREEPING_ROOMS: [RoomLine; 18] = [
+    ("EXEC", "E4", 1_000),
+    ("AGR", "P1", 1_000_000_000),
+    ("ACCT", "A4", 1_001),
+    ("CARRY", "C1", 1_000_000_000),
+    ("EXEC", "E3", 1_000),
+    ("AGR", "P2", 1_000_000_000),
+    ("ACCT", "A3", 1_001),
+    ("EXEC", "E2", 1_000),
+    ("AGR", "P3", 1_000_000_000),
+    ("ACCT", "A2", 1_001),
+    ("EXEC", "E1", 1_004),
+    ("AGR", "P4", 1_000_000_000),
+    ("ACCT", "A1", 1_001),
+    ("EXEC", "E5", 1_000),
+    ("AGR", "P5", 1_000_000_000),
+    ("AGR", "P6", 1_000_000_000),
+    ("AGR", "P7", 1_000_000_000),
+    ("AGR", "P8", 1_000_000_000),
+];
+
+/// The view of these lines, or nothing where a growth was refused: then the refusal is Memory.
+fn tried(rt: &impl Abort, alloc: Global, offers: &[OfferLine], rooms: &[RoomLine]) -> Option<View> {
+    match made(alloc, offers, rooms)? {
         Ok(view) => Some(view),
         Err(refused) => {
             assert_eq!(rt; refused, ViewError::Memory);
@@ -33,10 +67,15 @@ fn tried(rt: &impl Abort, alloc: Global) -> Option<View> {
 }
 
 /// The view, made again where a growth was refused.
-fn made_again(rt: &impl Abort, alloc: Global) -> Option<View> {
-    match tried(rt, alloc) {
+fn made_again(
+    rt: &impl Abort,
+    alloc: Global,
+    offers: &[OfferLine],
+    rooms: &[RoomLine],
+) -> Option<View> {
+    match tried(rt, alloc, offers, rooms) {
         Some(view) => Some(view),
-        None => tried(rt, alloc),
+        None => tried(rt, alloc, offers, rooms),
     }
 }
 
@@ -50,7 +89,7 @@ fn copied_again(view: &View) -> Option<View> {
 
 /// Whether a view and its copy, each made again where a growth was refused, are the same.
 fn shown_again(rt: &impl Abort, alloc: Global) -> Option<bool> {
-    let view = made_again(rt, alloc)?;
+    let view = made_again(rt, alloc, &OFFERS, &ROOMS)?;
     let copy = copied_again(&view)?;
     Some(copy.is_same(&view))
 }
@@ -82,8 +121,13 @@ fn lots_again(proposal: &Proposal) -> Option<u64> {
 }
 
 /// The lots that are proposed, with each step made again where a growth was refused.
-fn swept_again(rt: &impl Abort, alloc: Global) -> Option<u64> {
-    let view = made_again(rt, alloc)?;
+fn swept_again(
+    rt: &impl Abort,
+    alloc: Global,
+    offers: &[OfferLine],
+    rooms: &[RoomLine],
+) -> Option<u64> {
+    let view = made_again(rt, alloc, offers, rooms)?;
     let same = copied_again(&view)?;
     let proposal = proposed_again(rt, alloc, view, &same)?;
     lots_again(&proposal)
@@ -91,7 +135,16 @@ fn swept_again(rt: &impl Abort, alloc: Global) -> Option<u64> {
 
 #[test]
 fn refused_to_a_proposal_gives_the_view_back(rt: HostRuntime) -> Result<(), Fail> {
-    assert_eq!(rt; swept_again(&rt, rt.alloc()), Some(7));
+    let lots = swept_again(&rt, rt.alloc(), &OFFERS, &ROOMS);
+    assert_eq!(rt; lots, Some(7));
+    Ok(())
+}
+
+#[test]
+fn refused_to_a_proposal_with_a_surge_gives_the_view_back(rt: HostRuntime) -> Result<(), Fail> {
+    // Four accounts with room for 1,001 lots each, and firms with room for more.
+    let lots = swept_again(&rt, rt.alloc(), &CREEPING_OFFERS, &CREEPING_ROOMS);
+    assert_eq!(rt; lots, Some(4_004));
     Ok(())
 }
 

@@ -3,7 +3,7 @@ use Rattle.gu_flow.proofs.heights.spread_back.Given as goal
 
 abbrev pub invariant-ends : goal.invariant-ends
 invariant-ends l = record {
-  ends : l.ends ≤ 2 * length l.arcs;
+  ends : l.ends ≤ 2 * length l.net.arcs.items;
   found : l.count ≤ length l.queue;
   nodes : (k : ℕ) → k < l.count → slice_index l.queue k < length l.heights;
 }

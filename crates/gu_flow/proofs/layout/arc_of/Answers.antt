@@ -7,8 +7,8 @@ use Rattle.gu_flow.proofs.layout.arc_of.Goals as goal
 pub bounds-members-0 : goal.bounds-members-0
 bounds-members-0 c = (first_offer c.args.view.now c.capacity_of-capacity.ensures.sound c.args.place c.members.result.now c.requires c.members.ensures.members).0
 
-pub returns-clause-laid : goal.returns-clause-laid
-returns-clause-laid c =
+pub returns : goal.returns
+returns c =
     let view = c.args.view.now in
     let number = get_or c.members.result.now 0 0 in
     let first = (first_offer view c.capacity_of-capacity.ensures.sound c.args.place c.members.result.now c.requires c.members.ensures.members).1 in

@@ -1,14 +1,13 @@
-use Rattle.std.proofs.Common.{◌≤◌}
-use Rattle.gu_flow.specs.Flows.{SamePipes, worth}
-use Rattle.gu_flow.specs.Preflows.{flowing, IsPreflow}
+use Rattle.std.proofs.Common.{◌≤◌, sum}
+use Rattle.gu_flow.specs.Flows.{value_of}
+use Rattle.gu_flow.specs.Preflows.{IsPreflow}
 use Rattle.gu_flow.proofs.preflow.give_back.Given as goal
 
 abbrev pub invariant-turns : goal.invariant-turns
 invariant-turns l = record {
-  preflow : IsPreflow l.arcs l.excess;
-  pipes : SamePipes l.initial.arcs l.arcs;
-  worth : worth l.initial.arcs 1 ≤ worth l.arcs 1;
+  preflow : IsPreflow l.net.arcs.items l.flow l.excess;
+  value : value_of l.net.arcs.items l.initial.flow ≤ value_of l.net.arcs.items l.flow;
 }
 
 abbrev pub decreases-turns : goal.decreases-turns
-decreases-turns l = flowing l.arcs
+decreases-turns l = sum l.flow

@@ -1,14 +1,13 @@
-use Rattle.std.proofs.Common.{◌≡◌, ◌<◌, ◌≤◌, true, false}
-use Rattle.gu_flow.specs.Flows.{SamePipes, worth}
-use Rattle.gu_flow.specs.Preflows.{flowing, IsPreflow, AreSettled}
+use Rattle.std.proofs.Common.{◌≡◌, ◌<◌, ◌≤◌, true, false, sum}
+use Rattle.gu_flow.specs.Flows.{value_of}
+use Rattle.gu_flow.specs.Preflows.{IsPreflow, AreSettled}
 use Rattle.gu_flow.proofs.preflow.give_back_once.Given as goal
 
 abbrev pub invariant-loop-place : goal.invariant-loop-place
 invariant-loop-place l = record {
-  preflow : IsPreflow l.arcs l.excess;
-  pipes : SamePipes l.initial.arcs l.arcs;
-  worth : worth l.initial.arcs 1 ≤ worth l.arcs 1;
-  no_more : flowing l.arcs ≤ flowing l.initial.arcs;
-  less : l.any ≡ true → flowing l.arcs < flowing l.initial.arcs;
-  settled : l.any ≡ false → AreSettled l.arcs l.excess l.place;
+  preflow : IsPreflow l.net.arcs.items l.flow l.excess;
+  value : value_of l.net.arcs.items l.initial.flow ≤ value_of l.net.arcs.items l.flow;
+  no_more : sum l.flow ≤ sum l.initial.flow;
+  less : l.any ≡ true → sum l.flow < sum l.initial.flow;
+  settled : l.any ≡ false → AreSettled l.net.arcs.items l.flow l.excess l.place;
 }

@@ -25,5 +25,5 @@ loop-number-preserved c =
     let written : c.index_mut.result.now ≡ get_or rests place 0 = c.index_mut.ensures.value ∙ get_or_default rests place c.index_mut.result.now 0 within in
     let lots_are : lots ≡ min (offer_at view.offers i).lots (get_or rests place 0) = c.min-lots.ensures ∙ ap (min o.lots) read ∙ ap (λ (o : Offer). min o.lots (get_or rests place 0)) is in
     let taken = added_last c.loop-number.takes c.add.new.self (record { offer = o.number; lots = lots }) c.in_ok-add.field-0
-    (rw number (shares_before view c.args.arcs.now c.offers-offer-items.ensures.sound c.loop-number.takes i inside h.shares)) c.in_ok-add.ensures.added c.in_ok-add.ensures.takes in
-    rw (taken, number, written) (one_more_share view c.args.arcs.now c.loop-number.takes rests i place lots inside h (agreement_read view i place inside c.agreement_place-place.ensures.place) within lots_are)
+    (rw number (shares_before view c.args.flow.items c.offers-offer-items.ensures.sound c.loop-number.takes i inside h.shares)) c.in_ok-add.ensures.added c.in_ok-add.ensures.takes in
+    rw (taken, number, written) (one_more_share view c.args.flow.items c.loop-number.takes rests i place lots inside h (agreement_read view i place inside c.agreement_place-place.ensures.place) within lots_are)

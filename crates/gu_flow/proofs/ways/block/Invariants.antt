@@ -1,11 +1,11 @@
 use Rattle.std.proofs.Common.{◌-◌}
-use Rattle.gu_flow.specs.Flows.{worth}
-use Rattle.gu_flow.specs.Preflows.{capacities}
+use Rattle.gu_flow.specs.Ends.{capacities}
+use Rattle.gu_flow.specs.Flows.{value_of}
 use Rattle.gu_flow.proofs.Blocking.{Blocking}
 use Rattle.gu_flow.proofs.ways.block.Given as goal
 
 abbrev pub invariant-ways : goal.invariant-ways
-invariant-ways l = Blocking l.fn.arcs l.arcs l.entries l.current l.way l.kept
+invariant-ways l = Blocking l.net.arcs.items l.fn.flow l.flow l.entries l.current l.way l.kept
 
 abbrev pub decreases-ways : goal.decreases-ways
-decreases-ways l = capacities l.fn.arcs - worth l.arcs 1
+decreases-ways l = capacities l.net.arcs.items - value_of l.net.arcs.items l.flow

@@ -3,8 +3,8 @@ use Rattle.gu_flow.proofs.Descents.{trace_within, traces}
 use Rattle.gu_flow.proofs.ways.trace.Goals as goal
 
 pub bounds-way-steps : goal.bounds-way-steps
-bounds-way-steps c = trace_within c.args.arcs.now c.args.entries.now c.loop-node.way c.loop-node.steps c.loop-node.node c.requires.tree (omega arith) c.loop-node.invariant c.loop-node-test.true
+bounds-way-steps c = trace_within c.args.net.now.arcs.items c.args.flow.now c.args.entries.now c.loop-node.way c.loop-node.steps c.loop-node.node c.requires.tree (omega arith) c.loop-node.invariant c.loop-node-test.true
 
 pub loop-node-preserved : goal.loop-node-preserved
 loop-node-preserved c =
-    rw c.far-node.ensures (traces c.args.arcs.now c.args.entries.now c.loop-node.way c.loop-node.steps c.loop-node.node c.requires.tree (omega arith) c.loop-node.invariant c.loop-node-test.true)
+    rw c.far-node.ensures.is (traces c.args.net.now.arcs.items c.args.flow.now c.args.entries.now c.loop-node.way c.loop-node.steps c.loop-node.node c.requires.tree (omega arith) c.loop-node.invariant c.loop-node-test.true)

@@ -2,7 +2,7 @@ use Rattle.std.proofs.Common.{◌<◌, arith, length, subst, sym}
 use Rattle.gu_flow.specs.Ends.{near, JoinsNodes}
 use Rattle.gu_flow.proofs.EndLemmas.{near_in}
 use Rattle.gu_flow.proofs.Linking.{link_one}
-use Rattle.gu_flow.proofs.chains.link.Goals as goal
+use Rattle.gu_flow.proofs.network.link.Goals as goal
 
 pub loop-end-preserved : goal.loop-end-preserved
 loop-end-preserved c =

@@ -1,5 +1,5 @@
 use Rattle.gu_flow.specs.Ends.{IsIndex}
-use Rattle.gu_flow.proofs.chains.link.Given as goal
+use Rattle.gu_flow.proofs.network.link.Given as goal
 
 abbrev pub invariant-loop-end : goal.invariant-loop-end
 invariant-loop-end l = IsIndex l.arcs l.first l.next l.end

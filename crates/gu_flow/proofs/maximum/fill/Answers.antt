@@ -1,0 +1,19 @@
+use Rattle.std.proofs.Common.{arith}
+use Rattle.gu_flow.proofs.PushLemmas.{empty_flow, left_less}
+use Rattle.gu_flow.proofs.maximum.fill.Goals as goal
+
+pub searches-init : goal.searches-init
+searches-init c = empty_flow c.args.net.now.arcs.items c.args.flow.now c.requires.none (omega arith)
+
+pub block-requires-clause-current : goal.block-requires-clause-current
+block-requires-clause-current c =
+    let index = c.args.net.now.is_network.index in
+    rw (c.copy_from_slice.ensures.after, c.last_ends.ensures) (record { ends = index.within; here = index.at })
+
+pub searches-smaller : goal.searches-smaller
+searches-smaller c = left_less c.args.net.now.arcs.items c.searches.flow c.block.new.flow c.block.ensures.flow.within c.block.ensures.more
+
+pub searches-smaller-then-left-nodes : goal.searches-smaller-then-left-nodes
+searches-smaller-then-left-nodes c =
+    let e = c.in_ok-surge.ensures in
+    left_less c.args.net.now.arcs.items c.searches.flow c.surge.new.flow e.flow.within (omega (arith, e.value, c.block.ensures.more))

@@ -1,0 +1,72 @@
+//! Greatest flows from the source to the sink.
+
+ghost use Rattle.std.specs.Prelude.{◌≡◌, ◌≤◌, All, true, false, IfOk, OnOk, length};
+ghost use Rattle.gu_flow.specs.Flows.{IsFlow, IsClosed};
+ghost use Rattle.gu_flow.specs.Levels.{is_reached};
+
+use crate::heights::surge;
+use crate::levels::{Entry, search};
+use crate::network::Network;
+use crate::ways::block;
+use std::alloc::{AllocError, Global};
+
+/// So many searches are paid for at first. Each costs a step for each node, and ways pay for more. Where less than a quarter
+/// of one is left, the rest is pushed all at once: each search finds little then, or ways grow long, and there would be many more.
+const SEARCHES: usize = 2;
+
+/// Makes an empty flow greatest, over lists that are there; a surge takes lists of its own.
+fn fill(
+    alloc: Global,
+    net: &Network,
+    flow: &mut [u64],
+    entries: &mut [Entry],
+    queue: &mut [u32],
+    current: &mut [u32],
+    way: &mut [u32],
+) -> Result<(), AllocError>
+    requires none { All (λ f. f ≡ 0) flow.old }
+    requires lists { (length flow.old ≡ length net.now.arcs.items) × (length entries.old ≡ length net.now.first.items)
+        × (length entries.old ≤ length queue.old) × (length current.old ≡ length net.now.first.items)
+        × (length entries.old ≤ length way.old) }
+    ensures flow { OnOk result (IsFlow net.now.arcs.items flow.new) }
+    ensures from_source { OnOk result (is_reached entries.new 0 ≡ true) }
+    ensures not_to_sink { OnOk result (is_reached entries.new 1 ≡ false) }
+    ensures closed { OnOk result (IsClosed net.now.arcs.items flow.new (is_reached entries.new)) }
+{
+    let nodes = entries.len();
+    let mut left = SEARCHES * nodes;
+    'searches: while search(net, flow, entries, queue) {
+        current.copy_from_slice(net.last_ends());
+        left = block(net, flow, entries, current, way, left).saturating_sub(nodes);
+        if left < nodes / 4 {
+            surge(alloc, net, flow, current, queue)?;
+            left = SEARCHES * nodes;
+        }
+    }
+    Ok(())
+}
+
+/// A greatest flow, and which nodes a search from the source still reaches.
+pub(crate) fn maximize(alloc: Global, net: &Network) -> Result<(Vec<u64>, Vec<Entry>), AllocError>
+    ensures flow { IfOk result (λ found. IsFlow net.now.arcs.items found.0.items) }
+    ensures from_source { IfOk result (λ found. is_reached found.1.items 0 ≡ true) }
+    ensures not_to_sink { IfOk result (λ found. is_reached found.1.items 1 ≡ false) }
+    ensures closed { IfOk result (λ found. IsClosed net.now.arcs.items found.0.items (is_reached found.1.items)) }
+{
+    let nodes = net.nodes();
+    let mut flow = vec![in alloc; 0; net.arcs().len()]?;
+    let mut entries = vec![in alloc; Entry { via: 0, level: 0 }; nodes]?;
+    let mut queue = vec![in alloc; 0; nodes]?;
+    let mut current = vec![in alloc; 0; nodes]?;
+    let mut way = vec![in alloc; 0; nodes]?;
+    fill(
+        alloc,
+        net,
+        &mut flow,
+        &mut entries,
+        &mut queue,
+        &mut current,
+        &mut way,
+    )?;
+    Ok((flow, entries))
+}
