@@ -1,20 +1,17 @@
 -- What is kept beside a history takes accepted commands in.
-use Rattle.std.proofs.Common.{◌≡◌, ℕ, zero, suc, ◌+◌, ◌*◌, ◌-◌, ◌<◌, ◌≤◌, ◌^◌, ◌&&◌, ◌||◌, ◌++◌, Bool, true, false, not, nat_lt, List, [], ◌∷◌, length, map, slice_get, slice_index_or, Option, Some, None, is_none, is_some, Result, Ok, Err, refl, sym, ap, ◌∙◌, arith, if◌then◌else◌, subst}
+use Rattle.std.proofs.Common.{◌≡◌, ℕ, zero, suc, ◌*◌, ◌-◌, ◌<◌, ◌≤◌, ◌&&◌, ◌||◌, ◌++◌, Bool, true, false, List, [], ◌∷◌, length, slice_index_or, Option, Some, Result, Ok, Err, refl, sym, ap, ◌∙◌, arith, subst}
 use Rattle.std.specs.Result.{OnOk}
-use Rattle.std.specs.Option.{option_and_then, option_map, option_map_or}
-use Rattle.std.proofs.lemmas.Bool.{ltb-false}
-use Rattle.std.proofs.lemmas.Cmp.{nat_list_eq_equiv}
+use Rattle.std.specs.Option.{option_map}
+use Rattle.gu_terms.proofs.SameNames.{same_account-own, same_group-own, same_symbol-own}
 use Rattle.gu_terms.specs.LimitKeys.{has_key, key_eq}
-use Rattle.gu_terms.specs.Lines.{lots_in_all}
 use Rattle.gu_terms.proofs.KeyLemmas.{key_eq-refl}
-use Rattle.gu_terms.specs.Same.{same_account, same_group, same_side, same_symbol}
+use Rattle.gu_terms.specs.Same.{same_group}
 use Rattle.gu_terms.specs.declared.account.AccountId.{AccountId}
 use Rattle.gu_terms.specs.declared.alloc_reject.AllocReject.{AllocReject}
 use Rattle.gu_terms.specs.declared.command.Command.{Command}
-use Rattle.gu_terms.specs.declared.command.Command.TheVariants.{OpenDay, SetLimit, ReportSide, GiveUp, Claim, Refuse, Reverse}
+use Rattle.gu_terms.specs.declared.command.Command.TheVariants.{Claim, Refuse, Reverse}
 use Rattle.gu_terms.specs.declared.entry.Entry.{Entry}
 use Rattle.gu_terms.specs.declared.firm.FirmId.{FirmId}
-use Rattle.gu_terms.specs.declared.group.Group.{Group}
 use Rattle.gu_terms.specs.declared.limit_key.LimitKey.{LimitKey}
 use Rattle.gu_terms.specs.declared.offer.Offer.{Offer}
 use Rattle.gu_terms.specs.declared.refusal.Refusal.{Refusal}
@@ -30,20 +27,19 @@ use Rattle.gu_limits.specs.Limits.{room_in, used_in}
 use Rattle.gu_offers.specs.Changes.{changed, closed, reversed, taken}
 use Rattle.gu_offers.specs.Rows.{Row, left_in, row_at, today_in}
 use Rattle.gu_positions.specs.Changes.{lots_at}
-use Rattle.gu_positions.specs.Rows.{lots_in, lots_on}
-use Rattle.gu_book.specs.Accepted.{IsAccepted, MayClaim, MayReverse, MayTakeIn, TakesIn}
+use Rattle.gu_positions.specs.Rows.{lots_in}
+use Rattle.gu_book.specs.Accepted.{MayClaim, MayReverse, TakesIn}
 use Rattle.gu_book.specs.Answer.{State, answer, answer_in, first_standing, state_of}
 use Rattle.gu_book.specs.Beside.{IsBeside, IsKept, state_in}
-use Rattle.gu_book.specs.Effects.{HoldsMoved, SameAnswers, SameEntries, UsesLess, UsesMore}
-use Rattle.gu_book.specs.Limits.{is_under, path_behind, room_of, use_in}
+use Rattle.gu_book.specs.Effects.{HoldsMoved, SameEntries, UsesLess, UsesMore}
+use Rattle.gu_book.specs.Limits.{is_under, path_behind, room_of}
 use Rattle.gu_book.specs.Offers.{offers_of, standing_of}
-use Rattle.gu_book.specs.Positions.{held_of, report_behind}
 use Rattle.gu_book.specs.Reports.{reports_of}
 use Rattle.gu_book.specs.declared.totals.Totals.{Totals}
 use Rattle.gu_book.proofs.ChangedPositions.{held_in-has, held_in-moved}
 use Rattle.gu_book.proofs.ChangedSums.{today-le-use_in}
 use Rattle.gu_book.proofs.Covered.{covered-taken}
-use Rattle.gu_book.proofs.Facts.{IsThere, MayBeClaimed, MayBeReversed, claimable, refusable, reversible, today-is}
+use Rattle.gu_book.proofs.Facts.{IsThere, claimable, refusable, reversible, today-is}
 use Rattle.gu_book.proofs.KeptOffers.{kept-claimed, kept-refused, kept-taken_back, within-taken}
 use Rattle.gu_book.proofs.OrderlyLemmas.{today-le-moved}
 use Rattle.gu_book.proofs.Spoken.{taken_back}
@@ -87,8 +83,8 @@ few_offers reference history totals kept =
 
 -- the lots of a place lie in it
 own_place : (side : Side) (account : AccountId) (symbol : Symbol) (lots : ℕ) → lots_at side account symbol lots side account symbol ≡ lots
-own_place Buy account symbol lots = rw (nat_list_eq_equiv.refl account.name, nat_list_eq_equiv.refl symbol.name) refl
-own_place Sell account symbol lots = rw (nat_list_eq_equiv.refl account.name, nat_list_eq_equiv.refl symbol.name) refl
+own_place Buy account symbol lots = rw (same_account-own account, same_symbol-own symbol) refl
+own_place Sell account symbol lots = rw (same_account-own account, same_symbol-own symbol) refl
 
 -- an offer and its report, as they are found
 pub record IsSeen (totals : Totals) (n : ℕ) (offer : Offer) (report : Report) : Type 0 where
@@ -188,7 +184,7 @@ reversal-used reference totals n offer report seen may k d within =
     let there = f.2.there in
     let same = (seen-is reference history totals n offer report f.1 row b seen there).0 in
     let key = slice_index_or (path_behind reference offer) k d in
-    let own : is_under reference offer.group key (record row { offer = offer }) ≡ true = rw (nat_list_eq_equiv.refl offer.group.name, key_at (path_behind reference offer) k d within) refl in
+    let own : is_under reference offer.group key (record row { offer = offer }) ≡ true = rw (same_group-own offer.group, key_at (path_behind reference offer) k d within) refl in
     let under : is_under reference offer.group key row ≡ true = ap (λ (o : Offer). same_group offer.group o.group && has_key (path_behind reference o) key) (sym same) ∙ own in
     let counts = today-le-use_in reference (standing_of history) n row there.at offer.group key under in
     omega (arith, counts, today-is (standing_of history) n row there.at, ap (λ (rs : List Row). today_in rs n) b.offers, b.uses offer.group key)

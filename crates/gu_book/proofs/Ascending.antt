@@ -5,9 +5,7 @@ use Rattle.gu_terms.specs.Refusals.{number_of}
 use Rattle.gu_terms.specs.declared.command.Command.{Command}
 use Rattle.gu_terms.specs.declared.command.Command.TheVariants.{OpenDay, SetLimit, ReportSide, GiveUp, Claim, Refuse, Reverse}
 use Rattle.gu_terms.specs.declared.day.Day.{Day}
-use Rattle.gu_terms.specs.declared.firm.FirmId.{FirmId}
 use Rattle.gu_terms.specs.declared.group.Group.{Group}
-use Rattle.gu_terms.specs.declared.id.Id.{Id}
 use Rattle.gu_terms.specs.declared.limit_key.LimitKey.{LimitKey}
 use Rattle.gu_terms.specs.declared.lines.Line.{Line}
 use Rattle.gu_terms.specs.declared.refusal.Refusal.{Refusal}

@@ -1,10 +1,10 @@
 -- What was taken of offers and given back, one entry on.
-use Rattle.std.proofs.Common.{◌≡◌, ℕ, ◌+◌, ◌-◌, ◌<◌, ◌≤◌, ◌||◌, Bool, true, false, List, [], ◌∷◌, ◌++◌, length, sum_by, Option, Some, None, refl, sym, ap, ◌∙◌, arith, length-append}
+use Rattle.std.proofs.Common.{◌≡◌, ℕ, ◌+◌, ◌-◌, ◌<◌, ◌≤◌, false, List, [], ◌∷◌, ◌++◌, length, sum_by, Some, None, refl, ap, ◌∙◌, arith, length-append}
 use Rattle.std.proofs.lemmas.List.Sums.{sum_by_push}
 use Rattle.gu_terms.specs.declared.day.Day.{Day}
 use Rattle.gu_terms.specs.declared.entry.Entry.{Entry}
 use Rattle.gu_terms.specs.declared.offer.Offer.{Offer}
-use Rattle.gu_book.specs.Offers.{closes, given_back_by, is_shut, lines_by, moved_of, offers_of, taken_by}
+use Rattle.gu_book.specs.Offers.{closes, given_back_by, lines_by, moved_of, offers_of, taken_by}
 use Rattle.gu_book.specs.Orderly.{IsBalanced, IsNamed}
 use Rattle.gu_book.specs.Reports.{entries_today, opened_day}
 use Rattle.gu_book.proofs.StandingLemmas.{IsIdle, is_shut-push, moved_of-push, offers_of-push}

@@ -1,5 +1,5 @@
 -- What is kept beside no history, and behind what was refused.
-use Rattle.std.proofs.Common.{◌≡◌, Bool, true, false, ℕ, ◌+◌, ◌*◌, ◌-◌, ◌<◌, ◌≤◌, ◌++◌, List, [], ◌∷◌, length, slice_get, Option, Some, None, is_some, unwrap_or, refl, sym, ap, ◌∙◌, arith, subst}
+use Rattle.std.proofs.Common.{◌≡◌, true, false, ◌<◌, ◌++◌, List, [], ◌∷◌, length, None, refl, sym, ap, ◌∙◌, arith, subst}
 use Rattle.gu_terms.specs.declared.command.Command.{Command}
 use Rattle.gu_terms.specs.declared.entry.Entry.{Entry}
 use Rattle.gu_terms.specs.declared.entry.Entry.TheVariants.{Asked}
@@ -9,14 +9,11 @@ use Rattle.gu_terms.specs.declared.reply.Reply.TheVariants.{Accepted, Denied}
 use Rattle.gu_terms.specs.declared.refusal.Refusal.{Refusal}
 use Rattle.gu_ref.specs.Tables.{Tables}
 use Rattle.gu_limits.specs.Limits.{GroupLimit, has_limit, limit_in, used_in}
-use Rattle.gu_offers.specs.Rows.{Row}
 use Rattle.gu_positions.specs.Rows.{Row as PositionRow, has_row, lots_in, lots_on}
-use Rattle.gu_terms.specs.declared.report.Report.{Report}
 use Rattle.gu_book.specs.Accepted.{IsAccepted, TakesIn, accepts}
 use Rattle.gu_book.specs.Answer.{answer, done_of, state_of, tests_of}
-use Rattle.gu_book.specs.Beside.{AreKnown, IsBeside, IsKept, IsKeptLegal, is_kept_give_up}
+use Rattle.gu_book.specs.Beside.{AreKnown, IsKept, IsKeptLegal, is_kept_give_up}
 use Rattle.gu_book.specs.Effects.{SameAnswers}
-use Rattle.gu_book.specs.Legal.{IsLegal}
 use Rattle.gu_book.specs.Orderly.{IsOrderly}
 use Rattle.gu_book.specs.declared.totals.GiveUpKey.{GiveUpKey}
 use Rattle.gu_book.specs.declared.totals.Totals.{Totals}

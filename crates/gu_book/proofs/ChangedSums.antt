@@ -1,11 +1,8 @@
 -- What becomes of uses and positions when one offer changes.
-use Rattle.std.proofs.Common.{◌≡◌, ℕ, zero, suc, ◌+◌, ◌-◌, ◌<◌, ◌≤◌, ◌&&◌, ◌||◌, Bool, true, false, List, [], ◌∷◌, ◌++◌, length, map, sum_by, get_or, Option, Some, None, refl, sym, ap, ◌∙◌, arith, if◌then◌else◌, inl, inr}
-use Rattle.std.specs.Prelude.{slice_get, slice_set}
-use Rattle.std.specs.List.{AllByRecursion}
-use Rattle.std.proofs.lemmas.Bool.{cases_Bool}
+use Rattle.std.proofs.Common.{◌≡◌, ℕ, zero, suc, ◌+◌, ◌≤◌, ◌&&◌, Bool, true, false, List, [], ◌∷◌, map, sum_by, get_or, Some, refl, ap, arith, if◌then◌else◌}
+use Rattle.std.specs.Prelude.{slice_set}
 use Rattle.std.proofs.lemmas.Option.{get_or_from_slice_get, slice_get_within}
-use Rattle.std.proofs.lemmas.List.Sums.{sum_by-append, sum_by-cons, sum_by-le-sum_by, sum_by-set}
-use Rattle.gu_terms.specs.Same.{same_account, same_side, same_symbol}
+use Rattle.std.proofs.lemmas.List.Sums.{sum_by-append, sum_by-cons, sum_by-set}
 use Rattle.gu_terms.specs.declared.account.AccountId.{AccountId}
 use Rattle.gu_terms.specs.declared.firm.FirmId.{FirmId}
 use Rattle.gu_terms.specs.declared.group.Group.{Group}
@@ -18,12 +15,11 @@ use Rattle.gu_terms.specs.declared.symbol.Symbol.{Symbol}
 use Rattle.gu_terms.proofs.Lists.{along, sum_by-mono}
 use Rattle.gu_ref.specs.Tables.{Tables}
 use Rattle.gu_limits.specs.Changes.{lots_under}
-use Rattle.gu_positions.specs.Changes.{lots_at}
 use Rattle.gu_offers.specs.Changes.{changed, closed, next_day, offered, reversed, taken, with_lines}
 use Rattle.gu_offers.specs.Rows.{Row, counted_of, row_at}
 use Rattle.gu_book.specs.Limits.{is_under, path_behind, use_in}
 use Rattle.gu_book.specs.Orderly.{AreWithin, IsCovered}
-use Rattle.gu_book.specs.Positions.{held_in, is_from, is_on, moved_into, moved_out, report_behind, traded}
+use Rattle.gu_book.specs.Positions.{is_from, is_on, moved_out, traded}
 use Rattle.gu_book.proofs.Holding.{given_up_by, given_up-le-traded}
 
 -- a sum over offers of which one is changed

@@ -1,11 +1,8 @@
 -- Of no report more is given up than it traded, one entry on.
-use Rattle.std.proofs.Common.{◌≡◌, ℕ, zero, suc, ◌+◌, ◌-◌, ◌<◌, ◌≤◌, ◌&&◌, ◌||◌, nat_le, Bool, true, false, List, [], ◌∷◌, ◌++◌, length, map, filter, sum_by, Option, Some, None, is_some, is_none, refl, sym, ap, ◌∙◌, arith, if◌then◌else◌, inl, inr, subst}
-use Rattle.std.specs.List.{AllByRecursion, find, list_any}
-use Rattle.std.specs.Prelude.{slice_get, slice_set}
+use Rattle.std.proofs.Common.{◌≡◌, ℕ, zero, ◌+◌, ◌-◌, ◌≤◌, ◌&&◌, Bool, true, false, List, [], ◌∷◌, map, sum_by, Some, refl, sym, ap, ◌∙◌, arith, if◌then◌else◌, inl, inr, subst}
 use Rattle.std.proofs.lemmas.Bool.{cases_Bool}
-use Rattle.std.proofs.lemmas.List.Folds.{find-append}
 use Rattle.std.proofs.lemmas.List.Sums.{sum_by-append, sum_by-cons}
-use Rattle.std.proofs.lemmas.Slice.Eq.{bytes_eq-Decides}
+use Rattle.gu_terms.proofs.SameNames.{same_firm-true, same_id-true}
 use Rattle.gu_terms.specs.Lines.{lots_in_all}
 use Rattle.gu_terms.specs.Same.{same_firm, same_id}
 use Rattle.gu_terms.specs.declared.firm.FirmId.{FirmId}
@@ -17,11 +14,10 @@ use Rattle.gu_terms.specs.declared.report.Report.{Report}
 use Rattle.gu_terms.proofs.Lists.{along, along2}
 use Rattle.gu_terms.proofs.SameValues.{both}
 use Rattle.gu_trades.specs.Matching.{is_of_trade}
-use Rattle.gu_trades.specs.Reports.{has_report, is_by, report_by, with_match}
+use Rattle.gu_trades.specs.Reports.{report_by}
 use Rattle.gu_offers.specs.Changes.{changed, closed, next_day, offered, reversed, taken, with_lines}
 use Rattle.gu_offers.specs.Rows.{Row, counted_of, counted_under, is_of_report, row_at}
 use Rattle.gu_book.specs.Orderly.{AreOwn, IsCovered, lots_traded}
-use Rattle.gu_book.specs.Positions.{report_behind}
 use Rattle.gu_book.proofs.ChangedSums.{sum-changed}
 
 -- what one offer holds of a report
@@ -123,8 +119,8 @@ covered-with_lines reports rows report group lines there matched free own covere
     same : (q : Report) → report_by reports q.firm q.id ≡ Some q → (same_firm report.firm q.firm && same_id report.id q.id) ≡ true → q ≡ report
     same q finds hit =
         let parts = both _ _ hit in
-        let firms : report.firm ≡ q.firm = ap (λ (name : List ℕ). let it : FirmId = record { name = name } in it) ((bytes_eq-Decides report.firm.name q.firm.name).0 parts.0) in
-        let ids : report.id ≡ q.id = (bytes_eq-Decides report.id q.id).0 parts.1 in
+        let firms : report.firm ≡ q.firm = same_firm-true report.firm q.firm parts.0 in
+        let ids : report.id ≡ q.id = same_id-true report.id q.id parts.1 in
         let found : Some q ≡ Some report = sym finds ∙ (λ i. report_by reports (sym firms i) (sym ids i)) ∙ there in
         cc
 

@@ -1,10 +1,8 @@
 -- What is known of an offer of which a command is accepted.
-use Rattle.std.proofs.Common.{◌≡◌, ℕ, zero, suc, ◌+◌, ◌-◌, ◌<◌, ◌≤◌, ◌==◌, ◌++◌, Bool, true, false, not, nat_lt, List, [], ◌∷◌, length, slice_get, slice_index_or, Option, Some, None, is_none, is_some, refl, sym, ap, ◌∙◌, arith, if◌then◌else◌, subst}
+use Rattle.std.proofs.Common.{◌≡◌, ℕ, zero, suc, ◌+◌, ◌-◌, ◌<◌, ◌≤◌, ◌==◌, Bool, true, false, nat_lt, List, [], ◌∷◌, length, slice_get, slice_index_or, Option, Some, None, is_none, is_some, refl, ap, ◌∙◌, arith}
 use Rattle.std.specs.Option.{option_map_or}
-use Rattle.std.specs.List.{AllByRecursion}
 use Rattle.std.proofs.lemmas.Bool.{ltb-false}
 use Rattle.std.proofs.lemmas.Bool.Decides.{Decides-eqb}
-use Rattle.gu_terms.specs.declared.command.Command.{Command}
 use Rattle.gu_terms.specs.declared.command.Command.TheVariants.{Claim, Refuse, Reverse}
 use Rattle.gu_terms.specs.declared.alloc_reject.AllocReject.{AllocReject}
 use Rattle.gu_terms.specs.declared.entry.Entry.{Entry}

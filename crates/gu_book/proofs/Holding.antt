@@ -1,10 +1,10 @@
 -- What is given up of an account's reports is never more than what it traded.
-use Rattle.std.proofs.Common.{◌≡◌, ℕ, ◌+◌, ◌≤◌, ◌&&◌, Bool, true, false, List, [], ◌∷◌, sum_by, Option, Some, None, refl, sym, ap, ◌∙◌, arith, if◌then◌else◌, cond, subst, inl, inr}
-use Rattle.std.specs.List.{AllByRecursion, find}
+use Rattle.std.proofs.Common.{◌≡◌, ℕ, ◌≤◌, ◌&&◌, Bool, true, false, List, [], ◌∷◌, sum_by, Option, Some, None, refl, sym, ap, ◌∙◌, arith, if◌then◌else◌, subst, inl, inr}
+use Rattle.std.specs.List.{find}
 use Rattle.std.proofs.lemmas.Bool.{cases_Bool}
 use Rattle.std.proofs.lemmas.List.Sums.{sum_by-cons, sum_by-le-sum_by}
-use Rattle.std.proofs.lemmas.Slice.Eq.{bytes_eq-Decides}
-use Rattle.gu_terms.specs.Same.{same_account, same_side, same_symbol}
+use Rattle.gu_terms.proofs.SameNames.{same_firm-own, same_firm-true, same_id-own, same_id-true}
+use Rattle.gu_terms.specs.Same.{same_account, same_firm, same_id, same_side, same_symbol}
 use Rattle.gu_terms.proofs.Lists.{along, sum_by-mono, sum_by-swap, sum_by-zeros}
 use Rattle.gu_terms.proofs.SameValues.{both}
 use Rattle.gu_terms.specs.declared.account.AccountId.{AccountId}
@@ -61,9 +61,9 @@ first-passes test (first ∷ xs) x is =
 is_of_report-by : (row : Row) (r : Report) → is_by row.offer.firm row.offer.report r ≡ true → is_of_report r.firm r.id row ≡ true
 is_of_report-by row r by =
     let parts = both _ _ by in
-    let firms = sym ((bytes_eq-Decides r.firm.name row.offer.firm.name).0 parts.0) in
-    let ids = sym ((bytes_eq-Decides r.id row.offer.report).0 parts.1) in
-    rw ((bytes_eq-Decides row.offer.firm.name r.firm.name).1 firms, (bytes_eq-Decides row.offer.report r.id).1 ids) refl
+    let firms = sym (same_firm-true r.firm row.offer.firm parts.0) in
+    let ids = sym (same_id-true r.id row.offer.report parts.1) in
+    rw ((λ i. same_firm (firms i) r.firm) ∙ same_firm-own r.firm, (λ i. same_id (ids i) r.id) ∙ same_id-own r.id) refl
 
 -- of three tests, in whatever order
 three : (p a s : Bool) (m n : ℕ) → ((p && a && s) ≡ true → m ≤ n) → (if p && s && a then m else 0) ≤ n

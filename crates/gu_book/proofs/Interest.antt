@@ -1,12 +1,10 @@
 -- The open interest by rows is that by accounts.
-use Rattle.std.proofs.Common.{◌≡◌, ℕ, ◌+◌, ◌-◌, ◌&&◌, ◌||◌, Bool, true, false, List, [], ◌∷◌, sum_by, Option, Some, None, is_some, refl, sym, ap, ◌∙◌, arith, if◌then◌else◌, inl, inr}
-use Rattle.std.specs.List.{AllByRecursion, IsDistinct, find, list_any}
-use Rattle.std.specs.Option.{option_map_or}
+use Rattle.std.proofs.Common.{◌≡◌, ℕ, ◌-◌, ◌&&◌, ◌||◌, Bool, true, false, List, [], ◌∷◌, sum_by, is_some, refl, sym, ap, ◌∙◌, arith, if◌then◌else◌, inl, inr}
+use Rattle.std.specs.List.{AllByRecursion, IsDistinct}
 use Rattle.std.proofs.lemmas.Bool.{cases_Bool}
-use Rattle.std.proofs.lemmas.Cmp.{nat_list_eq_equiv}
 use Rattle.std.proofs.lemmas.List.Sums.{sum_by-cons}
 use Rattle.std.proofs.lemmas.Map.Keys.{IsDistinct-head, IsDistinct-tail}
-use Rattle.std.proofs.lemmas.Slice.Eq.{bytes_eq-Decides}
+use Rattle.gu_terms.proofs.SameNames.{same_account-own, same_account-true, same_account-turned, same_symbol-own, same_symbol-true, same_symbol-turned}
 use Rattle.gu_terms.specs.Same.{same_account, same_symbol}
 use Rattle.gu_terms.specs.declared.account.AccountId.{AccountId}
 use Rattle.gu_terms.specs.declared.side.Side.TheVariants.{Buy, Sell}
@@ -14,7 +12,6 @@ use Rattle.gu_terms.specs.declared.symbol.Symbol.{Symbol}
 use Rattle.gu_terms.proofs.Lists.{sum_by-agree, sum_by-swap}
 use Rattle.gu_terms.proofs.SameValues.{both}
 use Rattle.gu_ref.specs.Listed.{account_in}
-use Rattle.gu_ref.specs.Tables.{Tables}
 use Rattle.gu_ref.specs.declared.accounts.Account.{Account}
 use Rattle.gu_positions.specs.Rows.{Row, has_row, is_of, lots_in, open_interest_in, same_row}
 use Rattle.gu_book.specs.Beside.{AreKnown, IsBeside}
@@ -35,10 +32,10 @@ nothing-more : (account : AccountId) (symbol : Symbol) (r : Row) (rows : List Ro
 nothing-more account symbol r [] own apart = refl
 nothing-more account symbol r (other ∷ rows) own apart =
     let parts = both _ _ own in
-    let accounts : account.name ≡ r.account.name = (bytes_eq-Decides account.name r.account.name).0 parts.0 in
-    let symbols : symbol.name ≡ r.symbol.name = (bytes_eq-Decides symbol.name r.symbol.name).0 parts.1 in
+    let accounts = same_account-true account r.account parts.0 in
+    let symbols = same_symbol-true symbol r.symbol parts.1 in
     let turned : is_of account symbol other ≡ same_row r other =
-    λ i. same_account (let it : AccountId = record { name = accounts i } in it) other.account && same_symbol (let it : Symbol = record { name = symbols i } in it) other.symbol in
+    λ i. same_account (accounts i) other.account && same_symbol (symbols i) other.symbol in
     let none : net_at account symbol other ≡ 0 = rw (turned ∙ apart.0) refl in
     omega (arith, sum_by-cons (net_at account symbol) other rows, none, nothing-more account symbol r rows own apart.1)
 
@@ -67,9 +64,9 @@ no-more : (r : Row) (symbol : Symbol) (a : Account) (accounts : List Account) �
     → sum_by (λ (o : Account). net_at o.account symbol r) accounts ≡ 0
 no-more r symbol a [] own apart = refl
 no-more r symbol a (other ∷ accounts) own apart =
-    let names : a.account.name ≡ r.account.name = (bytes_eq-Decides a.account.name r.account.name).0 own in
+    let names = same_account-true a.account r.account own in
     let miss : same_account other.account r.account ≡ false =
-    (λ i. same_account other.account (let it : AccountId = record { name = sym names i } in it)) ∙ nat_list_eq_equiv.symm other.account.name a.account.name ∙ apart.0 in
+    (λ i. same_account other.account (sym names i)) ∙ same_account-turned other.account a.account ∙ apart.0 in
     let none : net_at other.account symbol r ≡ 0 = rw miss refl in
     omega (arith, sum_by-cons (λ (o : Account). net_at o.account symbol r) other accounts, none, no-more r symbol a accounts own apart.1)
 
@@ -92,7 +89,7 @@ all-there : (accounts : List Account) (rows : List Row) → ((account : AccountI
     → AllByRecursion (λ (r : Row). is_some (account_in accounts r.account) ≡ true) rows
 all-there accounts [] known = tt
 all-there accounts (r ∷ rows) known = (
-  known r.account r.symbol (rw (nat_list_eq_equiv.refl r.account.name, nat_list_eq_equiv.refl r.symbol.name) refl),
+  known r.account r.symbol (rw (same_account-own r.account, same_symbol-own r.symbol) refl),
   all-there accounts rows (λ account symbol h. known account symbol (either (is_of account symbol r) (has_row rows account symbol) h)),
 )
   where
@@ -107,7 +104,7 @@ over-rows : (accounts : List Account) (rows : List Row) (symbol : Symbol) → Is
 over-rows accounts [] symbol once known = refl
 over-rows accounts (r ∷ rows) symbol once known =
     let of_rows : Row → ℕ = λ r. if same_symbol r.symbol symbol then r.long - r.short else 0 in
-    let turned : of_rows r ≡ counts r symbol = ap (λ b. if b then net r else 0) (nat_list_eq_equiv.symm r.symbol.name symbol.name) in
+    let turned : of_rows r ≡ counts r symbol = ap (λ b. if b then net r else 0) (same_symbol-turned r.symbol symbol) in
     omega (
       arith,
       sum_by-cons of_rows r rows,

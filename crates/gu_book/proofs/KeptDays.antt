@@ -1,6 +1,5 @@
 -- What is kept beside a history behind an opening, a limit, and a give-up.
-use Rattle.std.proofs.Common.{◌≡◌, ℕ, ◌+◌, ◌-◌, ◌<◌, ◌≤◌, ◌&&◌, ◌||◌, ◌++◌, Bool, true, false, List, [], ◌∷◌, length, map, Option, Some, None, is_some, unwrap_or, refl, sym, ap, ◌∙◌, arith, if◌then◌else◌, inl, inr}
-use Rattle.std.specs.List.{list_any}
+use Rattle.std.proofs.Common.{◌≡◌, ℕ, ◌-◌, ◌≤◌, ◌&&◌, ◌||◌, ◌++◌, Bool, true, false, List, [], ◌∷◌, length, map, Option, Some, is_some, unwrap_or, refl, sym, ap, ◌∙◌, if◌then◌else◌, inl, inr}
 use Rattle.std.proofs.lemmas.Bool.{cases_Bool}
 use Rattle.std.proofs.lemmas.List.Folds.{list_any-append}
 use Rattle.gu_terms.specs.Lines.{lots_in_all}
@@ -22,16 +21,16 @@ use Rattle.gu_ref.specs.Tables.{Tables}
 use Rattle.gu_trades.specs.Matching.{is_of_trade}
 use Rattle.gu_trades.specs.Reports.{report_by}
 use Rattle.gu_limits.proofs.LimitLemmas.{same_place-sym}
-use Rattle.gu_limits.specs.Limits.{GroupLimit, limit_in, same_place, used_in}
+use Rattle.gu_limits.specs.Limits.{limit_in, same_place}
 use Rattle.gu_offers.specs.Changes.{next_day, with_lines}
 use Rattle.gu_offers.specs.Rows.{Row, counted_under}
-use Rattle.gu_positions.specs.Rows.{lots_in, lots_on}
+use Rattle.gu_positions.specs.Rows.{lots_on}
 use Rattle.gu_book.specs.Beside.{IsBeside, IsKept, is_kept_give_up}
 use Rattle.gu_book.specs.Effects.{SetsLimit, UsesNothing}
 use Rattle.gu_book.specs.Limits.{limit_of, limit_set, limit_set_by, use_in}
-use Rattle.gu_book.specs.Offers.{gave_up, has_give_up, standing_of}
+use Rattle.gu_book.specs.Offers.{has_give_up, standing_of}
 use Rattle.gu_book.specs.Positions.{held_in}
-use Rattle.gu_book.specs.Reports.{open_day, opened_day, report_on, reports_of}
+use Rattle.gu_book.specs.Reports.{open_day, opened_day, reports_of}
 use Rattle.gu_book.specs.declared.totals.GiveUpKey.{GiveUpKey}
 use Rattle.gu_book.specs.declared.totals.Totals.{Totals}
 use Rattle.gu_book.proofs.ChangedPositions.{held_in-next_day, held_in-with_lines}

@@ -1,28 +1,17 @@
 -- What is kept beside a history behind an entry that changes one offer.
-use Rattle.std.proofs.Common.{◌≡◌, ℕ, ◌+◌, ◌-◌, ◌<◌, ◌≤◌, ◌++◌, Bool, true, false, List, [], ◌∷◌, length, Option, Some, None, refl, sym, ap, ◌∙◌, arith}
-use Rattle.std.specs.List.{AllByRecursion}
-use Rattle.gu_terms.specs.declared.account.AccountId.{AccountId}
+use Rattle.std.proofs.Common.{◌≡◌, ℕ, ◌+◌, ◌-◌, ◌≤◌, ◌++◌, false, List, [], ◌∷◌, Some, refl, sym, ap, ◌∙◌, arith}
 use Rattle.gu_terms.specs.declared.alloc_reject.AllocReject.{AllocReject}
 use Rattle.gu_terms.specs.declared.entry.Entry.{Entry}
 use Rattle.gu_terms.specs.declared.firm.FirmId.{FirmId}
-use Rattle.gu_terms.specs.declared.group.Group.{Group}
-use Rattle.gu_terms.specs.declared.limit_key.LimitKey.{LimitKey}
 use Rattle.gu_terms.specs.declared.report.Report.{Report}
-use Rattle.gu_terms.specs.declared.side.Side.{Side}
-use Rattle.gu_terms.specs.declared.symbol.Symbol.{Symbol}
 use Rattle.gu_ref.specs.Tables.{Tables}
-use Rattle.gu_limits.specs.Changes.{SameLimits, lots_under}
-use Rattle.gu_limits.specs.Limits.{used_in}
 use Rattle.gu_offers.specs.Changes.{changed, closed, reversed, taken}
 use Rattle.gu_offers.specs.Rows.{Row, row_at}
 use Rattle.gu_positions.specs.Changes.{lots_at}
-use Rattle.gu_positions.specs.Rows.{lots_in, lots_on}
-use Rattle.gu_book.specs.Beside.{IsBeside, IsKept}
+use Rattle.gu_book.specs.Beside.{IsKept}
 use Rattle.gu_book.specs.Effects.{HoldsMoved, SameEntries, UsesLess, UsesMore}
-use Rattle.gu_book.specs.Limits.{path_behind, use_in, use_of}
 use Rattle.gu_book.specs.Offers.{standing_of}
-use Rattle.gu_book.specs.Orderly.{AreWithin, IsCovered}
-use Rattle.gu_book.specs.Positions.{held_in, held_of, report_behind}
+use Rattle.gu_book.specs.Orderly.{AreWithin}
 use Rattle.gu_book.specs.Reports.{open_day, reports_of}
 use Rattle.gu_book.specs.declared.totals.Totals.{Totals}
 use Rattle.gu_book.proofs.ChangedPositions.{held_in-closed, held_in-reversed, held_in-taken}

@@ -1,12 +1,11 @@
 -- What is kept beside a history behind a report.
-use Rattle.std.proofs.Common.{◌≡◌, ℕ, zero, suc, ◌+◌, ◌*◌, ◌-◌, ◌<◌, ◌≤◌, ◌&&◌, ◌||◌, ◌++◌, nat_le, Bool, true, false, List, [], ◌∷◌, length, sum_by, Option, Some, None, is_some, unwrap_or, refl, sym, ap, ◌∙◌, arith, length-append, if◌then◌else◌, inl, inr, subst}
-use Rattle.std.specs.List.{AllByRecursion, find, list_any}
+use Rattle.std.proofs.Common.{◌≡◌, ℕ, ◌+◌, ◌≤◌, ◌++◌, Bool, true, false, List, [], ◌∷◌, Option, Some, None, is_some, unwrap_or, refl, sym, ap, ◌∙◌, arith, length-append, if◌then◌else◌, inl, inr}
+use Rattle.std.specs.List.{AllByRecursion, find}
 use Rattle.std.specs.Option.{option_or, option_to_list}
 use Rattle.std.proofs.lemmas.Bool.{cases_Bool}
 use Rattle.std.proofs.lemmas.List.Folds.{find-append}
 use Rattle.std.proofs.lemmas.List.Sums.{sum_by-cons}
-use Rattle.std.proofs.lemmas.Slice.Eq.{bytes_eq-Decides}
-use Rattle.gu_terms.specs.Same.{same_firm, same_id}
+use Rattle.gu_terms.proofs.SameNames.{same_firm-own, same_firm-true, same_id-own, same_id-true}
 use Rattle.gu_terms.specs.declared.account.AccountId.{AccountId}
 use Rattle.gu_terms.specs.declared.entry.Entry.{Entry}
 use Rattle.gu_terms.specs.declared.firm.FirmId.{FirmId}
@@ -24,11 +23,10 @@ use Rattle.gu_trades.specs.Matching.{conflicts, is_of_trade}
 use Rattle.gu_trades.specs.Reports.{has_report, is_by, report_by, with_match}
 use Rattle.gu_offers.specs.Rows.{Row, counted_of, counted_under, is_of_report}
 use Rattle.gu_positions.specs.Changes.{lots_at}
-use Rattle.gu_positions.specs.Rows.{lots_in, lots_on}
-use Rattle.gu_book.specs.Beside.{IsBeside, IsKept, is_kept_give_up}
+use Rattle.gu_book.specs.Beside.{IsKept, is_kept_give_up}
 use Rattle.gu_book.specs.Effects.{HoldsMore, lots_of_reports, made_a_trade}
 use Rattle.gu_book.specs.Limits.{limit_set_by, use_in}
-use Rattle.gu_book.specs.Offers.{gave_up, has_give_up, lines_by, offers_of, standing_of}
+use Rattle.gu_book.specs.Offers.{gave_up, lines_by, standing_of}
 use Rattle.gu_book.specs.Orderly.{AreFound, AreOwn, IsCovered, IsOrderly, lots_traded}
 use Rattle.gu_book.specs.Positions.{held_in, moved_into, moved_out, report_behind, traded}
 use Rattle.gu_book.specs.Reports.{Fits, open_day, opened_day, report_on, reports_of}
@@ -37,7 +35,7 @@ use Rattle.gu_book.specs.declared.totals.Totals.{Totals}
 use Rattle.gu_book.proofs.Balanced.{balanced-push, named-push}
 use Rattle.gu_book.proofs.ChangedSums.{moved_out-le-traded}
 use Rattle.gu_book.proofs.Growing.{reports_of-push}
-use Rattle.gu_book.proofs.OrderlyLemmas.{few-kept, orderly}
+use Rattle.gu_book.proofs.OrderlyLemmas.{few-kept}
 use Rattle.gu_book.proofs.Quiet.{has_give_up-kept, limit_set-kept, open_day-kept}
 use Rattle.gu_book.proofs.Reported.{behind-push, held_in-reported, is_of_trade-grows, traded-matched, traded-opened}
 use Rattle.gu_book.proofs.StandingLemmas.{IsIdle}
@@ -63,8 +61,8 @@ unheld reports (row ∷ rows) r none found =
         elim (cases_Bool (is_of_report r.firm r.id row)) [
           | inl hit ↦
               let parts = both _ _ hit in
-              let firms : row.offer.firm ≡ r.firm = ap (λ (name : List ℕ). let it : FirmId = record { name = name } in it) ((bytes_eq-Decides row.offer.firm.name r.firm.name).0 parts.0) in
-              let ids : row.offer.report ≡ r.id = (bytes_eq-Decides row.offer.report r.id).0 parts.1 in
+              let firms : row.offer.firm ≡ r.firm = same_firm-true row.offer.firm r.firm parts.0 in
+              let ids : row.offer.report ≡ r.id = same_id-true row.offer.report r.id parts.1 in
               let gone : report_behind reports row ≡ None = (λ i. report_by reports (firms i) (ids i)) ∙ none in
               let there : is_some (report_behind reports row) ≡ true = found.0 in
               let no : false ≡ true = sym (ap (λ (q : Option Report). is_some q) gone) ∙ there in cc
@@ -100,7 +98,7 @@ own-push reports r none own =
     all-push (λ (q : Report). report_by (reports ++ r ∷ []) q.firm q.id ≡ Some q) reports r
     (along (λ (q : Report). report_by reports q.firm q.id ≡ Some q) (λ q. report_by (reports ++ r ∷ []) q.firm q.id ≡ Some q) reports
     (λ q h. find-append (is_by q.firm q.id) reports (r ∷ []) ∙ ap (λ (found : Option Report). option_or found (find (is_by q.firm q.id) (r ∷ []))) h) own)
-    (find-append (is_by r.firm r.id) reports (r ∷ []) ∙ ap (λ (found : Option Report). option_or found (find (is_by r.firm r.id) (r ∷ []))) none ∙ rw ((bytes_eq-Decides r.firm.name r.firm.name).1 refl, (bytes_eq-Decides r.id r.id).1 refl) refl)
+    (find-append (is_by r.firm r.id) reports (r ∷ []) ∙ ap (λ (found : Option Report). option_or found (find (is_by r.firm r.id) (r ∷ []))) none ∙ rw (same_firm-own r.firm, same_id-own r.id) refl)
 
 -- an entry that takes a report in
 orderly-reported : (history : List Entry) (entry : Entry) (r : Report) → IsOrderly history → report_on (open_day history) entry ≡ Some r → opened_day entry ≡ None → lines_by entry ≡ [] → IsIdle entry

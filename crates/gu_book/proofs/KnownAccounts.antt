@@ -1,10 +1,10 @@
 -- The accounts of reports, offers and positions are in the reference.
-use Rattle.std.proofs.Common.{◌≡◌, ℕ, zero, suc, ◌<◌, ◌||◌, ◌++◌, Bool, true, false, not, List, [], ◌∷◌, length, map, filter, slice_get, if◌then◌else◌, Option, Some, None, Result, Ok, Err, is_none, is_some, refl, sym, ap, ◌∙◌, subst, inl, inr}
+use Rattle.std.proofs.Common.{◌≡◌, ℕ, zero, suc, ◌++◌, Bool, true, false, List, [], ◌∷◌, map, filter, slice_get, if◌then◌else◌, Option, Some, None, Result, Ok, Err, is_none, is_some, refl, sym, ap, ◌∙◌, subst, inl, inr}
 use Rattle.std.specs.Result.{OnErr, OnOk}
 use Rattle.std.specs.List.{AllByRecursion, find, list_any}
 use Rattle.std.specs.Option.{option_map, option_map_or}
 use Rattle.std.proofs.lemmas.Bool.{cases_Bool}
-use Rattle.std.proofs.lemmas.Slice.Eq.{bytes_eq-Decides}
+use Rattle.gu_terms.proofs.SameNames.{same_account-true}
 use Rattle.gu_terms.specs.Same.{same_account, same_id}
 use Rattle.gu_terms.specs.declared.account.AccountId.{AccountId}
 use Rattle.gu_terms.specs.declared.command.Command.TheVariants.{ReportSide, GiveUp}
@@ -21,10 +21,10 @@ use Rattle.gu_terms.specs.declared.refusal.Refusal.TheVariants.{UnknownAccount}
 use Rattle.gu_terms.specs.declared.report.Report.{Report}
 use Rattle.gu_terms.specs.declared.side.Side.{Side}
 use Rattle.gu_terms.specs.declared.symbol.Symbol.{Symbol}
-use Rattle.gu_terms.proofs.Lists.{along, any_none}
+use Rattle.gu_terms.proofs.Lists.{any_none}
 use Rattle.gu_ref.specs.Reference.{account_row}
 use Rattle.gu_ref.specs.Tables.{Tables}
-use Rattle.gu_trades.specs.Reports.{is_by, report_by, report_of, with_match}
+use Rattle.gu_trades.specs.Reports.{is_by, report_of, with_match}
 use Rattle.gu_offers.specs.Changes.{changed, next_day, offered, with_lines}
 use Rattle.gu_offers.specs.Rows.{Row, row_at}
 use Rattle.gu_positions.specs.Rows.{Row as PositionRow, has_row}
@@ -80,7 +80,7 @@ rows-known reference old new accounts known all only account symbol h =
     among (one ∷ more) all e =
         elim (cases_Bool (same_account account one)) [
           | inl hit ↦
-              let same : account ≡ one = ap (λ (name : List ℕ). let it : AccountId = record { name = name } in it) ((bytes_eq-Decides account.name one.name).0 hit) in
+              let same : account ≡ one = same_account-true account one hit in
               subst (is_there reference) (sym same) all.0
           | inr miss ↦ among more all.1 (sym (rw miss refl) ∙ e)
         ]

@@ -1,44 +1,26 @@
 -- What one more report brings.
-use Rattle.std.proofs.Common.{◌≡◌, ℕ, zero, suc, ◌+◌, ◌-◌, ◌<◌, ◌≤◌, ◌&&◌, ◌||◌, nat_le, Bool, true, false, List, [], ◌∷◌, ◌++◌, length, filter, sum_by, Option, Some, None, is_some, refl, sym, ap, ◌∙◌, arith, append-nil, length-append, if◌then◌else◌, inl, inr, subst}
-use Rattle.std.specs.List.{AllByRecursion, find, list_any}
+use Rattle.std.proofs.Common.{◌≡◌, ℕ, ◌+◌, ◌≤◌, ◌&&◌, nat_le, Bool, true, false, List, [], ◌∷◌, ◌++◌, length, filter, sum_by, Option, Some, None, is_some, refl, sym, ap, ◌∙◌, arith, append-nil, length-append, if◌then◌else◌, inl, inr}
+use Rattle.std.specs.List.{find}
 use Rattle.std.specs.Option.{option_or}
 use Rattle.std.proofs.lemmas.Bool.{cases_Bool}
 use Rattle.std.proofs.lemmas.Bool.{leb-true, le-leb}
 use Rattle.std.proofs.lemmas.List.Elements.{filter-append}
 use Rattle.std.proofs.lemmas.List.Folds.{find-append}
 use Rattle.std.proofs.lemmas.List.Sums.{sum_by-append, sum_by-cons}
-use Rattle.std.proofs.lemmas.Slice.Eq.{bytes_eq-Decides}
-use Rattle.gu_terms.specs.Same.{same_account, same_firm, same_id, same_side, same_symbol}
+use Rattle.gu_terms.proofs.SameNames.{same_id-own, same_id-true, same_id-turned}
+use Rattle.gu_terms.specs.Same.{same_account, same_id, same_side, same_symbol}
 use Rattle.gu_terms.specs.declared.account.AccountId.{AccountId}
-use Rattle.gu_terms.specs.declared.firm.FirmId.{FirmId}
 use Rattle.gu_terms.specs.declared.id.Id.{Id}
 use Rattle.gu_terms.specs.declared.report.Report.{Report}
 use Rattle.gu_terms.specs.declared.side.Side.{Side}
 use Rattle.gu_terms.specs.declared.symbol.Symbol.{Symbol}
-use Rattle.gu_terms.proofs.Lists.{along, along2, sum_by-add, sum_by-agree}
-use Rattle.gu_terms.proofs.SameValues.{both}
+use Rattle.gu_terms.proofs.Lists.{sum_by-add, sum_by-agree}
 use Rattle.gu_trades.specs.Matching.{is_of_trade}
-use Rattle.gu_trades.specs.Reports.{has_report, is_by, report_by, with_match}
+use Rattle.gu_trades.specs.Reports.{is_by, with_match}
 use Rattle.gu_positions.specs.Changes.{lots_at}
-use Rattle.gu_offers.specs.Rows.{Row, counted_under}
+use Rattle.gu_offers.specs.Rows.{Row}
 use Rattle.gu_book.specs.Orderly.{AreFound}
-use Rattle.gu_book.specs.Positions.{brought, held_in, is_from, is_on, moved_into, moved_out, report_behind, traded}
-
--- one id, whichever is asked first
-turned_id : (a b : Id) → same_id a b ≡ same_id b a
-turned_id a b =
-    elim (cases_Bool (same_id a b)) [
-      | inl hit ↦ hit ∙ sym ((bytes_eq-Decides b a).1 (sym ((bytes_eq-Decides a b).0 hit)))
-      | inr miss ↦
-          elim (cases_Bool (same_id b a)) [
-            | inl other ↦ let no : same_id a b ≡ true = (bytes_eq-Decides a b).1 (sym ((bytes_eq-Decides b a).0 other)) in cc
-            | inr other ↦ miss ∙ sym other
-          ]
-    ]
-
--- an id is itself
-own_id : (a : Id) → same_id a a ≡ true
-own_id a = (bytes_eq-Decides a a).1 refl
+use Rattle.gu_book.specs.Positions.{brought, is_from, is_on, moved_into, moved_out, report_behind, traded}
 
 -- the reports with a match id, one report on
 with_match-push : (match_id : Id) (reports : List Report) (r : Report) → with_match match_id (reports ++ r ∷ []) ≡ with_match match_id reports ++ (if same_id r.match_id match_id then r ∷ [] else [])
@@ -52,18 +34,18 @@ with_match-push match_id reports r =
 -- a report of another match id is a side of a trade as before
 other_trade : (reports : List Report) (r q : Report) → same_id q.match_id r.match_id ≡ false → is_of_trade (reports ++ r ∷ []) q ≡ is_of_trade reports q
 other_trade reports r q miss =
-    ap (λ (with : List Report). nat_le 2 (length with)) (with_match-push q.match_id reports r ∙ rw (turned_id r.match_id q.match_id, miss) (append-nil (with_match q.match_id reports)))
+    ap (λ (with : List Report). nat_le 2 (length with)) (with_match-push q.match_id reports r ∙ rw (same_id-turned r.match_id q.match_id, miss) (append-nil (with_match q.match_id reports)))
 
 -- one of the same match id, with those that had it before
 one_trade : (reports : List Report) (r q : Report) → same_id q.match_id r.match_id ≡ true → is_of_trade (reports ++ r ∷ []) q ≡ nat_le 2 (length (with_match r.match_id reports ++ r ∷ []))
 one_trade reports r q hit =
-    let ids : q.match_id ≡ r.match_id = (bytes_eq-Decides q.match_id r.match_id).0 hit in
+    let ids : q.match_id ≡ r.match_id = same_id-true q.match_id r.match_id hit in
     ap (λ (with : List Report). nat_le 2 (length with))
-    (ap (λ (id : Id). with_match id (reports ++ r ∷ [])) ids ∙ with_match-push r.match_id reports r ∙ rw (own_id r.match_id) refl)
+    (ap (λ (id : Id). with_match id (reports ++ r ∷ [])) ids ∙ with_match-push r.match_id reports r ∙ rw (same_id-own r.match_id) refl)
 
 was_trade : (reports : List Report) (r q : Report) → same_id q.match_id r.match_id ≡ true → is_of_trade reports q ≡ nat_le 2 (length (with_match r.match_id reports))
 was_trade reports r q hit =
-    let ids : q.match_id ≡ r.match_id = (bytes_eq-Decides q.match_id r.match_id).0 hit in
+    let ids : q.match_id ≡ r.match_id = same_id-true q.match_id r.match_id hit in
     ap (λ (id : Id). nat_le 2 (length (with_match id reports))) ids
 
 -- a side of a trade stays one
@@ -114,7 +96,7 @@ traded-opened reports r side account symbol none =
           brought-waiting new side account symbol q waits ∙ sym (brought-waiting reports side account symbol q waited)
       | inr miss ↦ rw (other_trade reports r q miss) refl
     ] in
-    let own : brought new side account symbol r ≡ 0 = brought-waiting new side account symbol r (one_trade reports r r (own_id r.match_id) ∙ rw none refl) in
+    let own : brought new side account symbol r ≡ 0 = brought-waiting new side account symbol r (one_trade reports r r (same_id-own r.match_id) ∙ rw none refl) in
     omega (
       arith,
       sum_by-append (brought new side account symbol) reports (r ∷ []),
@@ -152,7 +134,7 @@ traded-matched reports waiting r side account symbol one =
           let same : brought new side account symbol q ≡ brought reports side account symbol q = rw (other_trade reports r q miss) refl in
           omega (arith, same, nothing)
     ] in
-    let own : brought new side account symbol r ≡ own_lots side account symbol r = brought-traded new side account symbol r (one_trade reports r r (own_id r.match_id) ∙ rw one refl) in
+    let own : brought new side account symbol r ≡ own_lots side account symbol r = brought-traded new side account symbol r (one_trade reports r r (same_id-own r.match_id) ∙ rw one refl) in
     let waited : sum_by extra reports ≡ own_lots side account symbol waiting =
     sym (sum-filter (λ (q : Report). same_id q.match_id r.match_id) (own_lots side account symbol) reports)
     ∙ ap (sum_by (own_lots side account symbol)) one

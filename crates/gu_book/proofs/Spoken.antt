@@ -1,5 +1,5 @@
 -- Entries that speak of one offer, and those that speak of none.
-use Rattle.std.proofs.Common.{◌≡◌, ◌≢◌, ℕ, ◌+◌, ◌-◌, ◌<◌, ◌≤◌, ◌==◌, ◌||◌, Bool, true, false, List, [], ◌∷◌, ◌++◌, Option, Some, None, refl, sym, ap, ◌∙◌, arith, if◌then◌else◌, inl, inr}
+use Rattle.std.proofs.Common.{◌≡◌, ◌≢◌, ℕ, ◌+◌, ◌-◌, ◌==◌, ◌||◌, Bool, true, false, refl, sym, arith, inl, inr}
 use Rattle.std.proofs.lemmas.Bool.{cases_Bool}
 use Rattle.std.proofs.lemmas.Bool.Decides.{Decides-eqb}
 use Rattle.gu_terms.specs.declared.alloc_reject.AllocReject.{AllocReject}
@@ -8,14 +8,12 @@ use Rattle.gu_terms.specs.declared.command.Command.TheVariants.{OpenDay, SetLimi
 use Rattle.gu_terms.specs.declared.entry.Entry.{Entry}
 use Rattle.gu_terms.specs.declared.entry.Entry.TheVariants.{Asked}
 use Rattle.gu_terms.specs.declared.firm.FirmId.{FirmId}
-use Rattle.gu_terms.specs.declared.group.Group.{Group}
 use Rattle.gu_terms.specs.declared.refusal.Refusal.{Refusal}
-use Rattle.gu_terms.specs.declared.reply.Done.TheVariants.{Opened, LimitSet, Reported, Offered, Claimed, Refused, Reversed}
+use Rattle.gu_terms.specs.declared.reply.Done.TheVariants.{Claimed, Refused, Reversed}
 use Rattle.gu_terms.specs.declared.reply.Reply.TheVariants.{Accepted, Denied}
 use Rattle.gu_offers.specs.Changes.{closed, reversed, taken}
 use Rattle.gu_offers.specs.Rows.{Row}
-use Rattle.gu_book.specs.Offers.{closes, given_back_by, lines_by, taken_by}
-use Rattle.gu_book.specs.Reports.{opened_day}
+use Rattle.gu_book.specs.Offers.{closes, given_back_by, taken_by}
 use Rattle.gu_book.proofs.Moved.{LeavesOthers}
 use Rattle.gu_book.proofs.StandingLemmas.{IsIdle, either-false, stepped, stepped-still}
 

@@ -1,9 +1,7 @@
 -- What one more entry makes of the offers.
-use Rattle.std.proofs.Common.{◌≡◌, ◌≢◌, ℕ, zero, suc, ◌+◌, ◌-◌, ◌<◌, ◌≤◌, ◌||◌, Bool, true, false, List, [], ◌∷◌, ◌++◌, length, map, sum_by, Option, Some, None, refl, sym, ap, ◌∙◌, arith, append-nil, subst}
+use Rattle.std.proofs.Common.{◌≡◌, ℕ, zero, suc, ◌+◌, ◌<◌, false, List, [], ◌∷◌, ◌++◌, length, map, sum_by, Some, None, refl, sym, ap, ◌∙◌, arith, append-nil, subst}
 use Rattle.std.specs.Prelude.{slice_get, slice_set}
-use Rattle.std.specs.List.{list_any}
 use Rattle.std.proofs.lemmas.List.Sums.{sum_by_push}
-use Rattle.std.proofs.lemmas.List.Folds.{list_any-append}
 use Rattle.gu_terms.specs.declared.day.Day.{Day}
 use Rattle.gu_terms.specs.declared.entry.Entry.{Entry}
 use Rattle.gu_terms.specs.declared.firm.FirmId.{FirmId}
@@ -13,11 +11,11 @@ use Rattle.gu_terms.specs.declared.lines.Line.{Line}
 use Rattle.gu_terms.specs.declared.offer.Offer.{Offer}
 use Rattle.gu_offers.specs.Changes.{changed, next_day, offered, with_lines}
 use Rattle.gu_offers.specs.Rows.{Row, row_at}
-use Rattle.gu_book.specs.Offers.{closes, given_back_by, is_shut, lines_by, moved_of, offers_of, standing, standing_from, standing_of, taken_by}
+use Rattle.gu_book.specs.Offers.{is_shut, lines_by, moved_of, offers_of, standing, standing_from, standing_of, taken_by}
 use Rattle.gu_book.specs.Orderly.{IsBalanced, IsNamed}
 use Rattle.gu_book.specs.Reports.{entries_today, opened_day}
 use Rattle.gu_book.proofs.Moved.{LeavesOthers, behind}
-use Rattle.gu_book.proofs.StandingLemmas.{IsIdle, is_shut-push, moved_of-push, length-standing_from, offers_of-push, standing_from-append, standing_from-push, standing_of-push, either-false, stepped, stepped_from, stepped_from-idle}
+use Rattle.gu_book.proofs.StandingLemmas.{IsIdle, is_shut-push, moved_of-push, offers_of-push, standing_of-push, either-false, stepped, stepped_from, stepped_from-idle}
 use Rattle.gu_book.proofs.Today.{entries_today-kept, entries_today-new}
 
 -- where one offer changes, it is put in its place

@@ -1,9 +1,8 @@
 -- What is kept beside a history takes openings, limits, reports and give-ups in.
-use Rattle.std.proofs.Common.{◌≡◌, ℕ, zero, suc, ◌+◌, ◌-◌, ◌<◌, ◌≤◌, ◌&&◌, ◌++◌, Bool, true, false, not, nat_lt, List, [], ◌∷◌, length, map, slice_get, Option, Some, None, is_none, is_some, refl, sym, ap, ◌∙◌, arith, subst}
-use Rattle.std.specs.List.{find}
+use Rattle.std.proofs.Common.{◌≡◌, ℕ, suc, ◌+◌, ◌-◌, ◌≤◌, ◌++◌, Bool, true, false, not, nat_lt, List, [], ◌∷◌, length, map, slice_get, Option, Some, None, refl, sym, ap, ◌∙◌, arith, subst}
 use Rattle.std.specs.Option.{option_and_then, option_map, option_map_or}
 use Rattle.std.proofs.lemmas.Bool.{ltb-false}
-use Rattle.std.proofs.lemmas.Slice.Eq.{bytes_eq-Decides}
+use Rattle.gu_terms.proofs.SameNames.{same_firm-true, same_id-true}
 use Rattle.gu_terms.specs.Lines.{lots_in_all}
 use Rattle.gu_terms.specs.declared.account.AccountId.{AccountId}
 use Rattle.gu_terms.specs.declared.command.Command.TheVariants.{OpenDay, SetLimit, ReportSide, GiveUp}
@@ -31,7 +30,7 @@ use Rattle.gu_positions.proofs.Changed.{find-passes}
 use Rattle.gu_trades.specs.Matching.{conflicts, is_of_trade}
 use Rattle.gu_trades.specs.Reports.{has_report, is_by, report_by, report_of, with_match}
 use Rattle.gu_offers.specs.Changes.{next_day, with_lines}
-use Rattle.gu_offers.specs.Rows.{Row, counted_under}
+use Rattle.gu_offers.specs.Rows.{counted_under}
 use Rattle.gu_book.specs.Accepted.{IsAccepted, MayTakeIn, TakesIn}
 use Rattle.gu_book.specs.Answer.{State, done_of, given_up, group_of, lines_tests, report_tests, state_of, tests_of}
 use Rattle.gu_book.specs.Beside.{IsKept, state_in}
@@ -43,7 +42,6 @@ use Rattle.gu_book.proofs.Accepting.{few_offers, state_is}
 use Rattle.gu_book.proofs.KeptDays.{giving_up, kept-given_up, kept-opened, kept-set}
 use Rattle.gu_book.proofs.KeptReports.{kept-reported}
 use Rattle.gu_book.proofs.Passing.{none_stands}
-use Rattle.gu_book.proofs.StandingLemmas.{IsIdle}
 
 -- ---- openings and limits
 
@@ -122,7 +120,7 @@ report-is reference state firm own report group e = by (report_by state.reports 
 names-are : (reports : List Report) (firm : FirmId) (own : Id) (report : Report) → report_by reports firm own ≡ Some report → (report.firm ≡ firm) × (report.id ≡ own)
 names-are reports firm own report found =
     let parts = both _ _ (find-passes (is_by firm own) reports report found) in
-    (ap (λ (name : List ℕ). let it : FirmId = record { name = name } in it) ((bytes_eq-Decides report.firm.name firm.name).0 parts.0), (bytes_eq-Decides report.id own).0 parts.1)
+    (same_firm-true report.firm firm parts.0, same_id-true report.id own parts.1)
 
 not_not : (b : Bool) → not b ≡ false → b ≡ true
 not_not true e = refl

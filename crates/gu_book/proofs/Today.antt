@@ -1,9 +1,8 @@
 -- The entries of today, one entry on.
-use Rattle.std.proofs.Common.{◌≡◌, ℕ, ◌+◌, ◌-◌, ◌≤◌, Bool, true, false, not, List, [], ◌∷◌, ◌++◌, length, drop, reverse, Option, Some, None, is_some, refl, sym, ap, ◌∙◌, arith, length-append, if◌then◌else◌}
+use Rattle.std.proofs.Common.{◌≡◌, ℕ, ◌+◌, ◌-◌, Bool, true, false, not, List, [], ◌∷◌, ◌++◌, length, drop, Option, Some, None, is_some, ap, ◌∙◌, arith, length-append, if◌then◌else◌}
 use Rattle.std.specs.List.{after_last, prefix_len, suffix_len}
 use Rattle.std.proofs.lemmas.List.{drop-append-le, reverse-append}
 use Rattle.std.proofs.Math.Seq.{drop-length}
-use Rattle.std.proofs.lemmas.List.Sums.{suffix_len-le-length}
 use Rattle.gu_terms.specs.declared.day.Day.{Day}
 use Rattle.gu_terms.specs.declared.entry.Entry.{Entry}
 use Rattle.gu_book.specs.Reports.{entries_today, opened_day}

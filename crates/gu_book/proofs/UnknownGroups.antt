@@ -2,7 +2,7 @@
 use Rattle.std.proofs.Common.{◌≡◌, ℕ, ◌&&◌, not, Bool, true, false, List, [], ◌∷◌, take, slice_get, zero, suc, Option, Some, None, inl, inr, refl, sym, ap, subst}
 use Rattle.std.specs.List.{filter_map, last_or}
 use Rattle.std.proofs.lemmas.Bool.{cases_Bool}
-use Rattle.std.proofs.lemmas.Slice.Eq.{bytes_eq-Decides}
+use Rattle.gu_terms.proofs.SameNames.{same_group-true}
 use Rattle.gu_terms.specs.declared.command.Command.TheVariants.{OpenDay, SetLimit, ReportSide, GiveUp, Claim, Refuse, Reverse}
 use Rattle.gu_terms.specs.declared.entry.Entry.{Entry}
 use Rattle.gu_terms.specs.declared.entry.Entry.TheVariants.{Asked, Swept}
@@ -51,8 +51,7 @@ sets_nothing reference before group key (Asked (SetLimit at on lots) (Accepted (
 sets_nothing reference before group key (Asked (SetLimit at on lots) (Accepted LimitSet)) unknown may =
     elim (cases_Bool (same_group at group)) [
       | inl hit ↦
-          let one : at.name ≡ group.name = (bytes_eq-Decides at.name group.name).0 hit in
-          let here : is_group reference group ≡ true = subst (λ (name : List ℕ). is_group reference (record { name = name }) ≡ true) one (limit_group reference before at on lots may) in
+          let here : is_group reference group ≡ true = subst (λ (g : Group). is_group reference g ≡ true) (same_group-true at group hit) (limit_group reference before at on lots may) in
           cc
       | inr miss ↦ rw miss refl
     ]

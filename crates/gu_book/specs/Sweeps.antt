@@ -1,15 +1,14 @@
 -- Sweeps: which may be committed after a history.
-use Rattle.std.specs.Prelude.{◌≡◌, ℕ, ◌==◌, true, List}
+use Rattle.std.specs.Prelude.{◌≡◌, ◌==◌, true, List}
 use Rattle.std.specs.List.{IsDistinct}
-use Rattle.gu_terms.specs.Cuts.{CutLists}
 use Rattle.gu_terms.specs.LimitKeys.{key_eq}
-use Rattle.gu_terms.specs.Takes.{IsAscending}
+use Rattle.gu_terms.specs.Takes.{IsAscending, lots_of}
 use Rattle.gu_terms.specs.declared.entry.Entry.{Entry}
 use Rattle.gu_terms.specs.declared.entry.SweepEntry.{SweepEntry}
 use Rattle.gu_ref.specs.Reference.{is_group}
 use Rattle.gu_ref.specs.Tables.{Tables}
 use Rattle.gu_view.specs.Check.{IsRight}
-use Rattle.gu_view.specs.Cut.{IsCertified}
+use Rattle.gu_view.specs.Takes.{IsGreatest}
 use Rattle.gu_view.specs.View.{GroupView}
 use Rattle.gu_book.specs.Views.{group_view}
 
@@ -19,7 +18,7 @@ pub record IsSweepOf (view : GroupView) (sweep : SweepEntry) : Type 0 where
   pub keys : IsDistinct key_eq sweep.cut.keys
   pub offers : IsDistinct (λ m n. m == n) sweep.cut.offers
   pub right : IsRight view sweep.takes sweep.cut sweep.lots
-  pub certified : IsCertified view sweep.takes sweep.cut sweep.lots
+  pub greatest : IsGreatest view (lots_of sweep.takes)
 
 -- a sweep that may come after these entries: of a group of the reference, as its view stands then
 pub record MaySweep (reference : Tables) (before : List Entry) (sweep : SweepEntry) : Type 0 where

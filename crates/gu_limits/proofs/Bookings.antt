@@ -7,6 +7,7 @@ use Rattle.std.proofs.lemmas.List.{take_more}
 use Rattle.std.proofs.lemmas.List.Elements.{All-head, All-tail}
 use Rattle.std.proofs.lemmas.List.Folds.{list_any-append}
 use Rattle.std.proofs.lemmas.Map.Keys.{IsDistinct-tail, apart_from_distinct}
+use Rattle.gu_terms.proofs.SameNames.{same_group-true}
 use Rattle.gu_terms.proofs.KeyLemmas.{key_eq-same}
 use Rattle.gu_terms.specs.LimitKeys.{has_key, key_eq}
 use Rattle.gu_terms.specs.Same.{same_group}
@@ -14,7 +15,7 @@ use Rattle.gu_terms.specs.declared.group.Group.{Group}
 use Rattle.gu_terms.specs.declared.limit_key.LimitKey.{LimitKey}
 use Rattle.gu_limits.specs.Changes.{SameLimits, limits_after_charge, limits_after_return, limits_of_new_day, lots_under}
 use Rattle.gu_limits.specs.Limits.{GroupLimit, has_limit, limit_for, room_in, used_in}
-use Rattle.gu_limits.proofs.LimitLemmas.{same_group-one, same_limits, used-map}
+use Rattle.gu_limits.proofs.LimitLemmas.{same_limits, used-map}
 
 -- what holds of all keys holds of one that is among them
 pub holds_of_key : (P : LimitKey → Type 0) (keys : List LimitKey) (k : LimitKey) → All P keys → has_key keys k ≡ true → P k
@@ -108,7 +109,7 @@ module _ (ls : List GroupLimit) (group : Group) (lots : ℕ) where
       by : (here among : Bool) → same_group at group ≡ here → has_key keys on ≡ among → cond (here && among) lots 0 ≡ 0
       by true true h a =
           let fits : lots ≤ room_in ls group on = holds_of_key (λ key. lots ≤ room_in ls group key) keys on room a in
-          let absent_here : has_limit ls group on ≡ false = ap (λ g. has_limit ls g on) (sym (same_group-one at group h)) ∙ absent in
+          let absent_here : has_limit ls group on ≡ false = ap (λ g. has_limit ls g on) (sym (same_group-true at group h)) ∙ absent in
           let none : room_in ls group on ≡ 0 = without (limit_for ls group on) absent_here in
           omega arith
       by true false h a = refl
@@ -188,7 +189,7 @@ module _ (ls : List GroupLimit) (group : Group) (lots : ℕ) where
     where
       by : (here among : Bool) → same_group at group ≡ here → has_key keys on ≡ among → cond (here && among) lots 0 ≤ used_in ls at on
       by true true h a =
-          subst (λ g. lots ≤ used_in ls g on) (sym (same_group-one at group h)) (holds_of_key (λ key. lots ≤ used_in ls group key) keys on used a)
+          subst (λ g. lots ≤ used_in ls g on) (sym (same_group-true at group h)) (holds_of_key (λ key. lots ≤ used_in ls group key) keys on used a)
       by true false h a = omega arith
       by false among h a = omega arith
 

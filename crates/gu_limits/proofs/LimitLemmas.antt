@@ -4,7 +4,7 @@ use Rattle.std.specs.List.{find}
 use Rattle.std.specs.Option.{option_map, option_map_or, option_or}
 use Rattle.std.proofs.lemmas.Bool.{cases_Bool, false_from_ne_true}
 use Rattle.std.proofs.lemmas.List.Folds.{find-append}
-use Rattle.std.proofs.lemmas.Slice.Eq.{bytes_eq-Decides}
+use Rattle.gu_terms.proofs.SameNames.{same_group-own, same_group-true}
 use Rattle.gu_terms.proofs.KeyLemmas.{key_eq-refl, key_eq-same}
 use Rattle.gu_terms.proofs.SameValues.{both}
 use Rattle.gu_terms.specs.LimitKeys.{key_eq}
@@ -16,23 +16,15 @@ use Rattle.gu_limits.specs.Limits.{GroupLimit, has_limit, is_of, limit_for, limi
 
 -- ---- groups and keys
 
--- a group is its own
-pub same_group-refl : (g : Group) → same_group g g ≡ true
-same_group-refl g = (bytes_eq-Decides g.name g.name).1 refl
-
--- a group that is the same is one
-pub same_group-one : (g h : Group) → same_group g h ≡ true → g ≡ h
-same_group-one g h e = ap (λ n. record { name = n }) ((bytes_eq-Decides g.name h.name).0 e)
-
 -- one place is its own
 pub same_place-refl : (g : Group) (k : LimitKey) → same_place g k g k ≡ true
-same_place-refl g k = rw (same_group-refl g, key_eq-refl k) refl
+same_place-refl g k = rw (same_group-own g, key_eq-refl k) refl
 
 -- two places that are the same are one
 pub same_place-one : (g : Group) (k : LimitKey) (h : Group) (j : LimitKey) → same_place g k h j ≡ true → (g ≡ h) × (k ≡ j)
 same_place-one g k h j e =
     let p = both (same_group g h) (key_eq k j) e in
-    (same_group-one g h p.0, key_eq-same k j p.1)
+    (same_group-true g h p.0, key_eq-same k j p.1)
 
 turned : (g : Group) (k : LimitKey) (h : Group) (j : LimitKey) → same_place g k h j ≡ true → same_place h j g k ≡ true
 turned g k h j e =

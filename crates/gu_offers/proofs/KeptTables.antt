@@ -1,8 +1,8 @@
 -- The tables beside the offers: lots of reports, and numbers of groups.
 use Rattle.std.proofs.Common.{◌≡◌, ◌∙◌, sym, refl, ap, ℕ, Bool, true, false, cond, ◌&&◌, List, [], Option, Some, None, is_some, unwrap_or, Result, Ok, Err, OnErr, if◌then◌else◌}
 use Rattle.std.specs.Option.{option_map_or}
-use Rattle.std.proofs.lemmas.Slice.Eq.{bytes_eq-Decides}
 use Rattle.indexmap.specs.IndexMap.{IndexMap, get, Updates}
+use Rattle.gu_terms.proofs.SameNames.{same_firm-true, same_group-true, same_id-true}
 use Rattle.gu_terms.specs.declared.firm.FirmId.{FirmId}
 use Rattle.gu_terms.specs.declared.group.Group.{Group}
 use Rattle.gu_terms.specs.declared.id.Id.{Id}
@@ -20,18 +20,6 @@ both false q h = cc
 pub none : {X : Type 0} (o : Option X) → is_some o ≡ false → o ≡ None
 none None h = refl
 none (Some x) h = cc
-
--- firms of one name are one
-pub same_firm-true : (a b : FirmId) → same_firm a b ≡ true → a ≡ b
-same_firm-true a b h = λ i. record { name = (bytes_eq-Decides a.name b.name).0 h i }
-
--- ids of the same bytes are one
-pub same_id-true : (a b : Id) → same_id a b ≡ true → a ≡ b
-same_id-true a b h = (bytes_eq-Decides a b).0 h
-
--- groups of one name are one
-pub same_group-true : (a b : Group) → same_group a b ≡ true → a ≡ b
-same_group-true a b h = λ i. record { name = (bytes_eq-Decides a.name b.name).0 h i }
 
 module _ (old new : Counts) (firm : FirmId) (id : Id) where
   -- the lots of one report are changed

@@ -16,7 +16,8 @@ use Rattle.gu_positions.specs.Kept.{IsKept, IsWritten, place_of, row_of, rows_of
 use Rattle.gu_positions.specs.Rows.{Row, has_row, lots_in, lots_on, open_interest_in}
 use Rattle.gu_positions.proofs.Changed.{changed, lots_in-within, lots_on-with_less, lots_on-with_more, open_interest-within}
 use Rattle.gu_positions.proofs.KeptLots.{excess-within_interest, has_row-lookup, interest-own, kept-changed, lots_in-lookup, there}
-use Rattle.gu_positions.proofs.Places.{both, same_symbol-true}
+use Rattle.gu_terms.proofs.SameNames.{same_symbol-true}
+use Rattle.gu_terms.proofs.SameValues.{both}
 
 pub row_of-more : (side : Side) (lots : ℕ) (h : Holding) (k : Place) → row_of (k, more side lots h) ≡ more_in side lots (row_of (k, h))
 row_of-more Buy lots h k = refl

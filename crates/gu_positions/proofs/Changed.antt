@@ -10,7 +10,8 @@ use Rattle.gu_terms.specs.declared.symbol.Symbol.{Symbol}
 use Rattle.gu_terms.specs.Same.{same_side, same_symbol}
 use Rattle.gu_positions.specs.Changes.{less_in, lots_at, lots_at_side, more_in, same_place, with_less, with_more}
 use Rattle.gu_positions.specs.Rows.{Row, has_row, is_of, lots_in, lots_of, lots_on, open_interest_in, same_row}
-use Rattle.gu_positions.proofs.Places.{same_place-true, same_place-own, same_symbol-own}
+use Rattle.gu_positions.proofs.Places.{same_place-true, same_place-own}
+use Rattle.gu_terms.proofs.SameNames.{same_symbol-own}
 
 -- the first that passes a test does pass it
 pub find-passes : {X : Type 0} (test : X → Bool) (xs : List X) (x : X) → find test xs ≡ Some x → test x ≡ true

@@ -16,7 +16,8 @@ use Rattle.gu_positions.specs.Holdings.{held}
 use Rattle.gu_positions.specs.Kept.{IsKept, place_of, row_of, rows_of, same_key}
 use Rattle.gu_positions.specs.Rows.{Row, has_row, is_of, lots_in, lots_of, lots_on, open_interest_in, same_row}
 use Rattle.gu_positions.proofs.Changed.{changed, distinct-changed, find-passes, found-among, found_within_sum, has_row-changed, open_interest-changed, rest_unchanged}
-use Rattle.gu_positions.proofs.Places.{same_place-true, same_symbol-own, same_symbol-true}
+use Rattle.gu_positions.proofs.Places.{same_place-true}
+use Rattle.gu_terms.proofs.SameNames.{same_symbol-own, same_symbol-true}
 
 lots_of-row_of : (t : Side) (k : Place) (h : Holding) → lots_of t (row_of (k, h)) ≡ held t h
 lots_of-row_of Buy k h = refl

@@ -20,7 +20,8 @@ use Rattle.gu_positions.specs.Changes.{KeepsLots, empty_row, same_place}
 use Rattle.gu_positions.specs.Kept.{IsKept, row_of, rows_of, same_key}
 use Rattle.gu_positions.specs.Rows.{Row, has_row, is_of, lots_in, lots_of, lots_on, open_interest_in, same_row}
 use Rattle.gu_positions.proofs.KeptLots.{has_row-lookup}
-use Rattle.gu_positions.proofs.Places.{same_place-true, same_symbol-own}
+use Rattle.gu_positions.proofs.Places.{same_place-true}
+use Rattle.gu_terms.proofs.SameNames.{same_symbol-own}
 
 -- two places are one whichever is named first
 pub same_place-sym : (a : AccountId) (s : Symbol) (b : AccountId) (t : Symbol) → same_place a s b t ≡ same_place b t a s

@@ -6,5 +6,6 @@ pub mod Lists
 pub mod NameTests
 pub mod NumberLemmas
 pub mod Placed
+pub mod SameNames
 pub mod SameValues
 pub mod RefusalTexts

@@ -1,4 +1,4 @@
-use Rattle.std.proofs.Common.{ℕ, Option, None, Some, ◌≡◌, sym, ap, ◌∙◌}
+use Rattle.std.proofs.Common.{ℕ, Option, sym, ap, ◌∙◌}
 use Rattle.std.specs.Option.{option_map}
 use Rattle.gu_terms.specs.declared.limit_key.LimitKey.{LimitKey}
 use Rattle.gu_terms.specs.declared.refusal.Refusal.TheVariants.{LimitReached}

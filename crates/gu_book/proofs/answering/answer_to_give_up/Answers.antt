@@ -1,7 +1,5 @@
-use Rattle.std.proofs.Common.{sym, ◌∙◌, ◌≡◌, Some, None, Option, length, ◌+◌, false, is_none, not, ap}
+use Rattle.std.proofs.Common.{sym, ◌∙◌, ◌≡◌, Some, length, ◌+◌, false, is_none, not, ap}
 use Rattle.gu_terms.specs.declared.reply.Done.TheVariants.{Offered}
-use Rattle.gu_terms.specs.declared.report.Report.{Report}
-use Rattle.gu_terms.specs.declared.group.Group.{Group}
 use Rattle.gu_book.specs.Answer.{given_up, has_unknown_account, lines_tests}
 use Rattle.gu_book.specs.Beside.{is_kept_give_up, state_in}
 use Rattle.gu_book.proofs.Passing.{standing_in}

@@ -1,9 +1,8 @@
-use Rattle.std.proofs.Common.{sym, subst, refl, ◌≡◌}
+use Rattle.std.proofs.Common.{sym, subst, refl}
 use Rattle.std.specs.Result.{OnOk}
 use Rattle.std.proofs.lemmas.Result.{on_ok_weaker}
 use Rattle.gu_terms.specs.declared.command.Command.{Command}
 use Rattle.gu_book.specs.Accepted.{MayTakeIn, TakesIn}
-use Rattle.gu_book.specs.Effects.{SameEntries}
 use Rattle.gu_book.proofs.Accepting.{on_ok_two, refusal-taken}
 use Rattle.gu_offers.specs.Changes.{closed}
 use Rattle.gu_book.proofs.KnownAccounts.{known-opened, known-refused, known-reported}

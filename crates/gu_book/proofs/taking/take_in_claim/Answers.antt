@@ -1,6 +1,6 @@
 use Rattle.std.proofs.Common.{refl}
 use Rattle.gu_offers.specs.Changes.{taken}
-use Rattle.gu_book.proofs.Accepting.{IsSeen, claim-room, claim-taken, claim-there, on_ok_three}
+use Rattle.gu_book.proofs.Accepting.{claim-room, claim-taken, claim-there, on_ok_three}
 use Rattle.gu_book.proofs.KnownAccounts.{known-moved}
 use Rattle.gu_book.proofs.taking.take_in_claim.Goals as goal
 

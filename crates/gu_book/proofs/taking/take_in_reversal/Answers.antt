@@ -1,6 +1,6 @@
 use Rattle.std.proofs.Common.{refl}
 use Rattle.gu_offers.specs.Changes.{reversed}
-use Rattle.gu_book.proofs.Accepting.{IsSeen, on_ok_three, reversal-taken, reversal-there, reversal-used}
+use Rattle.gu_book.proofs.Accepting.{on_ok_three, reversal-taken, reversal-there, reversal-used}
 use Rattle.gu_book.proofs.KnownAccounts.{known-moved}
 use Rattle.gu_book.proofs.taking.take_in_reversal.Goals as goal
 

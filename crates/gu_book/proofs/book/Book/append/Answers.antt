@@ -1,11 +1,11 @@
-use Rattle.std.proofs.Common.{◌≡◌, ◌∙◌, ◌++◌, ◌∷◌, ◌+◌, [], List, length, ap, sym, subst, arith}
+use Rattle.std.proofs.Common.{◌≡◌, ◌∙◌, ◌++◌, ◌∷◌, ◌+◌, [], List, length, ap, sym, subst}
 use Rattle.gu_terms.specs.declared.command.Command.{Command}
 use Rattle.gu_terms.specs.declared.entry.Entry.{Entry}
 use Rattle.gu_terms.specs.declared.entry.Entry.TheVariants.{Asked}
 use Rattle.gu_book.specs.Answer.{answer}
 use Rattle.gu_book.specs.Beside.{IsKeptLegal}
 use Rattle.gu_book.specs.Kept.{Kept}
-use Rattle.gu_book.specs.Legal.{IsLegal, StandsLast}
+use Rattle.gu_book.specs.Legal.{StandsLast}
 use Rattle.gu_book.proofs.Beginning.{is-accepted, legal-accepted, legal-denied, still-kept}
 use Rattle.gu_book.proofs.Growing.{stands_last}
 use Rattle.gu_book.proofs.Passing.{truncated}
