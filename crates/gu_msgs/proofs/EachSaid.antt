@@ -282,7 +282,7 @@ each_said fields =
             | inl message ↦ inl message
             | inr first ↦ inr (first.0, rw e (inr (typed.0, typed.1, first.1)))
           ]
-          | inr other ↦ inl (inbound.Unread, record { code = text; stands = e; sound = sound; other = other })
+          | inr other ↦ inl (inbound.Unread text, record { stands = e; sound = sound; other = other })
         ]
       ]
     ] in

@@ -19,6 +19,7 @@ use Rattle.gu_msgs.specs.declared.reject_reason.SessionRejectReason.{SessionReje
 use Rattle.gu_msgs.specs.declared.reject_reason.SessionRejectReason.TheVariants as reason
 use Rattle.gu_msgs.specs.declared.tags.TheConstants.{QUANTITY}
 use Rattle.gu_msgs.specs.declared.row.Kind.{Kind}
+use Rattle.gu_msgs.specs.declared.type_code.TypeCode.{TypeCode}
 use Rattle.gu_msgs.specs.declared.row.Kind.TheVariants as kind
 
 -- ---- values
@@ -186,10 +187,10 @@ no_typed_fault k fields fault h (inr typed) =
 no_fault_of : (k : MsgType) (fields : List TagValue) (fault : Fault) → IsOfType k fields → IsFaultOf fields fault → ⊥
 no_fault_of k fields fault is at = let typed = rw is.code at at in no_typed_fault k fields fault is.faultless typed
 
-no_unread_fault : (fields : List TagValue) (fault : Fault) → IsUnread fields → IsFaultOf fields fault → ⊥
-no_unread_fault fields fault is at =
+no_unread_fault : (fields : List TagValue) (fault : Fault) (code : TypeCode) → IsUnread fields code → IsFaultOf fields fault → ⊥
+no_unread_fault fields fault code is at =
     let typed = rw is.stands at at in
-    let cases : IsTypedFault is.code fields fault → ⊥ =
+    let cases : IsTypedFault code fields fault → ⊥ =
     λ t. elim t [ inl bad ↦ (let sound = is.sound in let form = bad.0 in cc) | inr typed ↦ is.other typed.0 typed.1 ] in
     cases typed
 
@@ -206,4 +207,4 @@ no_fault fields (inbound.TradeCaptureReport m) fault says at = no_fault_of Trade
 no_fault fields (inbound.AllocationInstruction m) fault says at = no_fault_of AllocationInstruction fields fault says.0 at
 no_fault fields (inbound.AllocationReportAck m) fault says at = no_fault_of AllocationReportAck fields fault says.0 at
 no_fault fields (inbound.RequestForPositions m) fault says at = no_fault_of RequestForPositions fields fault says.0 at
-no_fault fields inbound.Unread fault says at = no_unread_fault fields fault says at
+no_fault fields (inbound.Unread code) fault says at = no_unread_fault fields fault code says at

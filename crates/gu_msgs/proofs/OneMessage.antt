@@ -24,6 +24,7 @@ use Rattle.gu_msgs.specs.declared.inbound.TradeCaptureReport.{TradeCaptureReport
 use Rattle.gu_msgs.specs.declared.msg_type.MsgType.{MsgType}
 use Rattle.gu_msgs.specs.declared.msg_type.MsgType.TheVariants as kind
 use Rattle.gu_msgs.specs.declared.tags.TheConstants.{ALLOC_QTY, GAP_FILL_FLAG, NO_ALLOCS, RESET_SEQ_NUM_FLAG}
+use Rattle.gu_msgs.specs.declared.type_code.TypeCode.{TypeCode}
 use Rattle.gu_msgs.proofs.NoFault.{one_type}
 use Rattle.gu_msgs.proofs.SaidOnce.{lots_once, one_entry, one_text, same_report}
 
@@ -42,11 +43,11 @@ type_in (inbound.TradeCaptureReport m) = Some kind.TradeCaptureReport
 type_in (inbound.AllocationInstruction m) = Some kind.AllocationInstruction
 type_in (inbound.AllocationReportAck m) = Some kind.AllocationReportAck
 type_in (inbound.RequestForPositions m) = Some kind.RequestForPositions
-type_in inbound.Unread = None
+type_in (inbound.Unread code) = None
 
 -- the type that fields have: a type that is read, or another one
 abbrev HasType : List TagValue → Option MsgType → Type 0
-HasType fields found = MatchOption found (IsUnread fields) (λ k. first_value MSG_TYPE fields ≡ Some (code_of k))
+HasType fields found = MatchOption found ((code : TypeCode) × IsUnread fields code) (λ k. first_value MSG_TYPE fields ≡ Some (code_of k))
 
 type_said : (fields : List TagValue) (m : Inbound) → Says fields m → HasType fields (type_in m)
 type_said fields inbound.Heartbeat p = p.code
@@ -60,13 +61,13 @@ type_said fields (inbound.TradeCaptureReport m) p = p.0.code
 type_said fields (inbound.AllocationInstruction m) p = p.0.code
 type_said fields (inbound.AllocationReportAck m) p = p.0.code
 type_said fields (inbound.RequestForPositions m) p = p.0.code
-type_said fields inbound.Unread p = p
+type_said fields (inbound.Unread code) p = (code, p)
 
 -- fields have one type
 one_found : (fields : List TagValue) (a b : Option MsgType) → HasType fields a → HasType fields b → a ≡ b
 one_found fields None None p q = refl
-one_found fields None (Some k) p q = absurd (p.other k (one_text _ _ _ p.stands q))
-one_found fields (Some k) None p q = absurd (q.other k (one_text _ _ _ q.stands p))
+one_found fields None (Some k) p q = (let unread = p.1 in absurd (unread.other k (one_text _ _ _ unread.stands q)))
+one_found fields (Some k) None p q = (let unread = q.1 in absurd (unread.other k (one_text _ _ _ unread.stands p)))
 one_found fields (Some k) (Some j) p q = ap Some (one_type k j (one_text _ _ _ p q))
 
 same_type : (fields : List TagValue) (m n : Inbound) → Says fields m → Says fields n → type_in n ≡ type_in m
@@ -88,7 +89,7 @@ IsOf kind.RequestForPositions n = (m : RequestForPositions) × (n ≡ inbound.Re
 
 -- or of another one
 abbrev IsOfFound : Option MsgType → Inbound → Type 0
-IsOfFound found n = MatchOption found (n ≡ inbound.Unread) (λ k. IsOf k n)
+IsOfFound found n = MatchOption found ((code : TypeCode) × (n ≡ inbound.Unread code)) (λ k. IsOf k n)
 
 of_its_type : (n : Inbound) → IsOfFound (type_in n) n
 of_its_type inbound.Heartbeat = refl
@@ -102,7 +103,7 @@ of_its_type (inbound.TradeCaptureReport m) = (m, refl)
 of_its_type (inbound.AllocationInstruction m) = (m, refl)
 of_its_type (inbound.AllocationReportAck m) = (m, refl)
 of_its_type (inbound.RequestForPositions m) = (m, refl)
-of_its_type inbound.Unread = refl
+of_its_type (inbound.Unread code) = (code, refl)
 
 -- two messages that fields say are of one type
 like : (fields : List TagValue) (m n : Inbound) → Says fields m → Says fields n → IsOfFound (type_in m) n
@@ -230,4 +231,6 @@ one_message fields (inbound.AllocationReportAck m) n p q =
 one_message fields (inbound.RequestForPositions m) n p q =
     let other = like fields (inbound.RequestForPositions m) n p q in
     ap inbound.RequestForPositions (one_question fields m other.0 p.1 (moved fields n _ other.1 q).1) ∙ sym other.1
-one_message fields inbound.Unread n p q = sym (like fields inbound.Unread n p q)
+one_message fields (inbound.Unread code) n p q =
+    let other = like fields (inbound.Unread code) n p q in
+    ap inbound.Unread (one_text _ _ _ p.stands (moved fields n (inbound.Unread other.0) other.1 q).stands) ∙ sym other.1

@@ -26,6 +26,7 @@ use Rattle.gu_msgs.specs.declared.inbound.SequenceReset.{SequenceReset}
 use Rattle.gu_msgs.specs.declared.inbound.TradeCaptureReport.{TradeCaptureReport}
 use Rattle.gu_msgs.specs.declared.msg_type.MsgType.{MsgType}
 use Rattle.gu_msgs.specs.declared.msg_type.MsgType.TheVariants as kind
+use Rattle.gu_msgs.specs.declared.type_code.TypeCode.{TypeCode}
 use Rattle.gu_msgs.specs.declared.tags.TheConstants.{ACCOUNT, ALLOC_ACCOUNT, ALLOC_ID, ALLOC_QTY, ALLOC_REPORT_ID, ALLOC_STATUS, BEGIN_SEQ_NO, END_SEQ_NO, EXEC_ID, GAP_FILL_FLAG, HEART_BT_INT, LAST_PX, LAST_QTY, NEW_SEQ_NO, NO_ALLOCS, NO_EXECS, NO_SIDES, POS_REQ_ID, QUANTITY, RESET_SEQ_NUM_FLAG, SIDE, SYMBOL, TEST_REQ_ID, TRADE_DATE, TRADE_REPORT_ID, TRD_MATCH_ID}
 
 -- a flag: yes, or no where it says so or is absent
@@ -115,9 +116,8 @@ pub record IsOfType (msg_type : MsgType) (fields : List TagValue) : Type 0 where
   pub code : first_value MSG_TYPE fields ≡ Some (code_of msg_type)
   pub faultless : IsFaultless msg_type fields
 
--- a type of sound form that isn't read
-pub record IsUnread (fields : List TagValue) : Type 0 where
-  pub code : List ℕ
+-- a type that isn't read, whose code has the form of one
+pub record IsUnread (fields : List TagValue) (code : TypeCode) : Type 0 where
   pub stands : first_value MSG_TYPE fields ≡ Some code
   pub sound : IsTrue (is_type_text code)
   pub other : (msg_type : MsgType) → code ≢ code_of msg_type
@@ -135,4 +135,4 @@ Says fields (inbound.TradeCaptureReport m) = IsOfType kind.TradeCaptureReport fi
 Says fields (inbound.AllocationInstruction m) = IsOfType kind.AllocationInstruction fields × IsInstruction fields m
 Says fields (inbound.AllocationReportAck m) = IsOfType kind.AllocationReportAck fields × IsReportAck fields m
 Says fields (inbound.RequestForPositions m) = IsOfType kind.RequestForPositions fields × IsRequest fields m
-Says fields inbound.Unread = IsUnread fields
+Says fields (inbound.Unread code) = IsUnread fields code

@@ -50,7 +50,7 @@ impl Draft {
         Ok(Draft { alloc, fields })
     }
 
-    /// What grows with it.
+    /// The allocator of its texts.
     pub fn alloc(&self) -> Global {
         self.alloc
     }

@@ -2,6 +2,7 @@
 
 use crate::alloc_status::AllocStatus;
 use crate::test_req_id::TestReqId;
+use crate::type_code::TypeCode;
 use gu_terms::{AccountId, Day, Id, Lines, Lots, OfferNo, Price, Side, Symbol};
 
 /// A question whether the session is alive (FIX: TestRequest, MsgType 1).
@@ -87,6 +88,6 @@ pub enum Inbound {
     AllocationInstruction(AllocationInstruction),
     AllocationReportAck(AllocationReportAck),
     RequestForPositions(RequestForPositions),
-    /// A message of another type.
-    Unread,
+    /// A message of another type, which has this code.
+    Unread(TypeCode),
 }

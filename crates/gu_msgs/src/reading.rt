@@ -13,7 +13,7 @@ use crate::allocation_report_ack::read_allocation_report_ack;
 use crate::fault::{Fault, MsgFault};
 use crate::field_values::first_value;
 use crate::inbound::Inbound;
-use crate::msg_type::{MsgType, is_type_text};
+use crate::msg_type::MsgType;
 use crate::reject_reason::SessionRejectReason;
 use crate::request_for_positions::read_request_for_positions;
 use crate::run::Run;
@@ -23,6 +23,7 @@ use crate::session_messages::{
 use crate::shape::{fault_at, repeated, shape_fault};
 use crate::tables::header_rows;
 use crate::trade_capture_report::read_trade_capture_report;
+use crate::type_code::TypeCode;
 use crate::value_faults::value_fault;
 use gu_fix::{Fields, MSG_TYPE};
 use std::alloc::Global;
@@ -80,11 +81,11 @@ pub fn read(alloc: Global, fields: &Fields) -> Result<Inbound, MsgFault>
     let Some(text) = first_value(&all, MSG_TYPE) else {
         return Err(MsgFault::Rejected(untyped_fault(&all)));
     };
-    if !is_type_text(text) {
+    let Some(code) = TypeCode::new(text) else {
         return Err(MsgFault::Rejected(fault_at(SessionRejectReason::InvalidMsgType, MSG_TYPE)));
-    }
+    };
     match MsgType::of_code(text) {
         Some(msg_type) => read_typed(alloc, &all, msg_type),
-        None => Ok(Inbound::Unread),
+        None => Ok(Inbound::Unread(code)),
     }
 }

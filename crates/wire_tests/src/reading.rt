@@ -35,7 +35,7 @@ const HEADERS: Table = (
         ("49=E1|49=E1|56=GIVEUP|34=2|", "49: 13"),
         ("35=A!|49=E1|49=E1|", "35: 11"),
         ("35=ABCD|", "35: 11"),
-        ("35=D|52=x|52=x|", "unread"),
+        ("35=D|52=x|52=x|", "unread D"),
     ],
 );
 
@@ -64,8 +64,8 @@ pub const SESSION: Table = (
         ),
         ("35=A|98=0|108=3601|1137=9|", "108: 5"),
         ("35=A|98=0|108=30|1137=8|", "1137: 5"),
-        ("35=D|52=x|", "unread"),
-        ("35=ae|", "unread"),
+        ("35=D|52=x|", "unread D"),
+        ("35=ae|", "unread ae"),
     ],
 );
 
@@ -259,7 +259,7 @@ fn said(alloc: Global, inbound: &Inbound) -> Result<String, AllocError> {
                 text_in(m.account.get())
             )
         }
-        Inbound::Unread => format!(in alloc; "unread"),
+        Inbound::Unread(code) => format!(in alloc; "unread {}", text_in(code.get())),
     }
 }
 

@@ -41,7 +41,7 @@ const BOUGHT: &str = "E1: R1 of M1: H1 buys 10 XF6 at 101500000 on (2026, 1, 5)"
 
 /// A part of the first report, what stands in its place, and why that is no report of a firm's.
 const OTHERS: [(&str, &str, &str); 30] = [
-    ("|35=AE|", "|35=AR|", "E1: unread"),
+    ("|35=AE|", "|35=AR|", "E1: unread AR"),
     ("|35=AE|", "|35=AE|35=AE|", "E1: 35: 13"),
     ("|35=AE|", "|35=AE|35=D|", "E1: 35: 13"),
     ("|49=E1|", "|49=e1|", "no sender"),
