@@ -69,6 +69,7 @@ impl Network {
         requires few { (nodes < 2 ^ 31) × (1 < nodes) × (length arcs.items < 2 ^ 31) }
         requires fits { capacities arcs.items < 2 ^ 64 }
         ensures arcs { IfOk result (λ net. net.arcs.items ≡ arcs.items) }
+        ensures nodes { IfOk result (λ net. length net.first.items ≡ nodes) }
     {
         let mut first = vec![in alloc; 0; nodes]?;
         let mut next = vec![in alloc; 0; 2 * arcs.len()]?;
