@@ -1,6 +1,6 @@
 //! Greatest flows from the source to the sink.
 
-ghost use Rattle.std.specs.Prelude.{◌≡◌, ◌≤◌, All, true, false, IfOk, OnOk, length};
+ghost use Rattle.std.specs.Prelude.{◌≡◌, ◌≤◌, true, false, IfOk, OnOk, length};
 ghost use Rattle.gu_flow.specs.Flows.{IsFlow, IsClosed};
 ghost use Rattle.gu_flow.specs.Levels.{is_reached};
 
@@ -14,7 +14,7 @@ use std::alloc::{AllocError, Global};
 /// of one is left, the rest is pushed all at once: each search finds little then, or ways grow long, and there would be many more.
 const SEARCHES: usize = 2;
 
-/// Makes an empty flow greatest, over lists that are there; a surge takes lists of its own.
+/// Makes the flow greatest, over lists that are there; a surge takes lists of its own.
 fn fill(
     alloc: Global,
     net: &Network,
@@ -24,10 +24,9 @@ fn fill(
     current: &mut [u32],
     way: &mut [u32],
 ) -> Result<(), AllocError>
-    requires none { All (λ f. f ≡ 0) flow.old }
-    requires lists { (length flow.old ≡ length net.now.arcs.items) × (length entries.old ≡ length net.now.first.items)
-        × (length entries.old ≤ length queue.old) × (length current.old ≡ length net.now.first.items)
-        × (length entries.old ≤ length way.old) }
+    requires flow { IsFlow net.now.arcs.items flow.old }
+    requires lists { (length entries.old ≡ length net.now.first.items) × (length entries.old ≤ length queue.old)
+        × (length current.old ≡ length net.now.first.items) × (length entries.old ≤ length way.old) }
     ensures flow { OnOk result (IsFlow net.now.arcs.items flow.new) }
     ensures from_source { OnOk result (is_reached entries.new 0 ≡ true) }
     ensures not_to_sink { OnOk result (is_reached entries.new 1 ≡ false) }

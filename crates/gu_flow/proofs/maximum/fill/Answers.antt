@@ -1,9 +1,6 @@
 use Rattle.std.proofs.Common.{arith}
-use Rattle.gu_flow.proofs.PushLemmas.{empty_flow, left_less}
+use Rattle.gu_flow.proofs.PushLemmas.{left_less}
 use Rattle.gu_flow.proofs.maximum.fill.Goals as goal
-
-pub searches-init : goal.searches-init
-searches-init c = empty_flow c.args.net.now.arcs.items c.args.flow.now c.requires.none (omega arith)
 
 pub block-requires-clause-current : goal.block-requires-clause-current
 block-requires-clause-current c =
