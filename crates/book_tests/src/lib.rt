@@ -4,7 +4,15 @@
 #[cfg(test)]
 mod answers;
 #[cfg(test)]
+mod claims;
+#[cfg(test)]
 mod files;
+#[cfg(test)]
+mod give_ups;
+#[cfg(test)]
+mod histories;
+#[cfg(test)]
+mod house;
 #[cfg(test)]
 mod limits;
 #[cfg(test)]
@@ -16,10 +24,16 @@ mod positions;
 #[cfg(test)]
 mod readers;
 #[cfg(test)]
+mod reversals;
+#[cfg(test)]
 mod sample;
 #[cfg(test)]
 mod thousands;
 #[cfg(test)]
 mod trades;
 #[cfg(test)]
+mod transcript;
+#[cfg(test)]
 mod words;
+#[cfg(test)]
+mod world;

@@ -5,10 +5,9 @@ ghost use Rattle.std.specs.List.{IsDistinct};
 ghost use Rattle.gu_terms.specs.LimitKeys.{key_eq};
 ghost use Rattle.gu_limits.specs.Limits.{room_in, used_in};
 
-use crate::answers::replied;
 use crate::sample::{GUARANTOR, ROWS, book, book_with, read, read_with};
+use crate::transcript::follow;
 use crate::words::{agreement, group, key, number};
-use gu_book::Book;
 use gu_limits::{LimitTable, SetError, path};
 use gu_ref::Reference;
 use gu_terms::{Group, LimitKey, LimitRow, Path};
@@ -91,72 +90,48 @@ fn row(line: &str) -> Option<LimitRow> {
     })
 }
 
-/// Enters lines, and compares the limits of a group behind them.
-pub fn show(rt: &impl Abort, book: &mut Book, lines: &[&str], name: &str, want: &[&str]) {
-    for line in lines {
-        assert!(rt; replied(book, line).is_some(), "{line}");
-    }
-    let group = group(name, 0).expect(rt, "a group");
-    let rows = book.limits(&group).ok().expect(rt, "limits");
-    assert_eq!(rt; rows.len(), want.len(), "{name}");
-    for (place, line) in want.iter().enumerate() {
-        assert_eq!(rt; rows.get(place).copied(), row(line), "{name}: {line}");
-    }
-}
-
 #[test]
 fn limits_stand_in_the_order_of_the_reference(rt: HostRuntime) {
-    let opening = [
-        "DAY 20260105",
-        "LIMIT G1 EXEC E1 100",
-        "LIMIT G1 AGR P1 100",
-        "LIMIT G1 ACCT A1 100",
-        "LIMIT G1 CARRY C1 100",
-    ];
-    let shown = [
-        "EXEC E1 100 0 100",
-        "AGR P1 100 0 100",
-        "ACCT A1 100 0 100",
-        "CARRY C1 100 0 100",
-    ];
-    let others = [
-        "LIMIT G2 EXEC E2 7",
-        "LIMIT G2 EXEC E1 0",
-        "LIMIT G1 EXEC E1 9",
-        "LIMIT G2 EXEC E2 5",
-    ];
     let mut book = book(rt.alloc()).expect(&rt, "a book");
-    show(&rt, &mut book, &opening, "G1", &shown);
-    show(&rt, &mut book, &[], "G2", &[]);
-    show(&rt, &mut book, &[], "G9", &[]);
-    show(
+    follow(
         &rt,
+        rt.alloc(),
         &mut book,
-        &others,
-        "G2",
-        &["EXEC E1 0 0 0", "EXEC E2 5 0 5"],
+        "\
+LIMIT G1 CARRY C1 100 = 1 OK
+LIMIT G1 ACCT A1 100  = 2 OK
+LIMIT G1 AGR P1 100   = 3 OK
+LIMIT G1 EXEC E1 100  = 4 OK
+LIMITS G1 = EXEC E1 100 0 100, AGR P1 100 0 100, ACCT A1 100 0 100, CARRY C1 100 0 100
+LIMITS G2 =
+LIMITS G9 =
+LIMIT G2 EXEC E2 7    = 5 OK
+LIMIT G2 EXEC E1 0    = 6 OK
+LIMIT G1 EXEC E1 9    = 7 OK
+LIMIT G2 EXEC E2 5    = 8 OK
+LIMITS G2 = EXEC E1 0 0 0, EXEC E2 5 0 5
+",
     );
 }
 
 #[test]
 fn guarantors_are_listed_last_and_in_the_order_of_the_firms(rt: HostRuntime) {
     let rows = b"GUARANTOR,C2,E1\nGUARANTOR,E2,C2\nGUARANTOR,E2,C1\n";
-    let opening = [
-        "LIMIT G1 GUAR C2 5",
-        "LIMIT G1 GUAR E2 4",
-        "LIMIT G1 CARRY C2 3",
-        "LIMIT G1 EXEC E2 2",
-        "LIMIT G2 GUAR E2 9",
-    ];
-    let shown = [
-        "EXEC E2 2 0 2",
-        "CARRY C2 3 0 3",
-        "GUAR E2 4 0 4",
-        "GUAR C2 5 0 5",
-    ];
     let mut book = book_with(rt.alloc(), rows).expect(&rt, "a book");
-    show(&rt, &mut book, &opening, "G1", &shown);
-    show(&rt, &mut book, &[], "G2", &["GUAR E2 9 0 9"]);
+    follow(
+        &rt,
+        rt.alloc(),
+        &mut book,
+        "\
+LIMIT G1 GUAR C2 5  = 1 OK
+LIMIT G1 GUAR E2 4  = 2 OK
+LIMIT G1 CARRY C2 3 = 3 OK
+LIMIT G1 EXEC E2 2  = 4 OK
+LIMIT G2 GUAR E2 9  = 5 OK
+LIMITS G1 = EXEC E2 2 0 2, CARRY C2 3 0 3, GUAR E2 4 0 4, GUAR C2 5 0 5
+LIMITS G2 = GUAR E2 9 0 9
+",
+    );
 }
 
 /// The path of an agreement of the sample with more rows.

@@ -119,6 +119,24 @@ fn both_sides_are_gross_and_the_open_interest_is_their_difference(rt: HostRuntim
 }
 
 #[test]
+fn lots_that_moved_still_count_as_open(rt: HostRuntime) {
+    let mut counted = Counted::new(rt.alloc());
+    let h1 = account("H1", 0).expect(&rt, "an account");
+    let a1 = account("A1", 0).expect(&rt, "an account");
+    let xf6 = symbol("XF6", 0).expect(&rt, "an instrument");
+    counted.make(&rt, &h1, &xf6);
+    counted.make(&rt, &a1, &xf6);
+    counted.add(&rt, &h1, &xf6, Side::Buy, 10);
+    assert_eq!(rt; counted.open_interest(&xf6), 10);
+    counted.shift(&rt, &h1, &a1, &xf6, 4);
+    assert_eq!(rt; counted.open_interest(&xf6), 10);
+    counted.add(&rt, &h1, &xf6, Side::Sell, 5);
+    assert_eq!(rt; counted.of(&h1, &xf6), (6, 5));
+    assert_eq!(rt; counted.of(&a1, &xf6), (4, 0));
+    assert_eq!(rt; counted.open_interest(&xf6), 5);
+}
+
+#[test]
 fn a_row_that_is_made_changes_no_answer(rt: HostRuntime) {
     let mut counted = Counted::new(rt.alloc());
     let h1 = account("H1", 0).expect(&rt, "an account");

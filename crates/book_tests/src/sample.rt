@@ -29,6 +29,18 @@ AGREEMENT,P4,E2,A3
 /// A guarantor, as the sample's eighteenth row.
 pub const GUARANTOR: &[u8] = b"GUARANTOR,E2,C1\n";
 
+/// A day with limits of 100 on the path of P1, and a trade of ten lots, bought for H1 by report R1 of E1 and sold for H2 by
+/// report R2 of E2: a transcript.
+pub const TRADED: &str = "\
+DAY 20260105                      = 1 OK
+LIMIT G1 EXEC E1 100              = 2 OK
+LIMIT G1 AGR P1 100               = 3 OK
+LIMIT G1 ACCT A1 100              = 4 OK
+LIMIT G1 CARRY C1 100             = 5 OK
+REPORT E1 R1 M1 B XF6 10 101.5 H1 = 6 OK OPEN
+REPORT E2 R2 M1 S XF6 10 101.5 H2 = 7 OK MATCHED
+";
+
 /// The reference of a file.
 pub fn read(alloc: Global, file: &[u8]) -> Result<Reference, RefFault> {
     Reference::read(alloc, &mut CountedReads::new(file))

@@ -1,11 +1,14 @@
 //! Thousands of calls in a row, and each call at its largest.
 
-use crate::answers::{position, replied};
-use crate::sample::{book, book_of, largest};
-use crate::words::{day, group, report, reporting};
+use crate::sample::{TRADED, book, book_of, largest};
+use crate::transcript::{follow, picture};
+use crate::words::{account, command, day, firm, group, id, report, reporting};
 use gu_book::{Book, EnterError};
 use gu_limits::LimitTable;
-use gu_terms::{Command, Day, Group, Id, LimitKey, MOST_ENTRIES, Name, Report};
+use gu_terms::{
+    AllocReject, Command, Day, Entry, FirmId, Group, Id, LimitKey, Line, Lines, Lots, MOST_ENTRIES,
+    Name, OfferNo, Refusal, Reply, Report,
+};
 use std::alloc::Global;
 use std::process::Abort;
 
@@ -124,7 +127,7 @@ fn ten_thousand_limits_are_set_twice_in_two_groups(rt: HostRuntime) {
 }
 
 /// The id with a number.
-fn id(alloc: Global, n: u32) -> Option<Id> {
+fn numbered_id(alloc: Global, n: u32) -> Option<Id> {
     Id::new(numbered(alloc, n)?.as_bytes())
 }
 
@@ -132,7 +135,7 @@ fn id(alloc: Global, n: u32) -> Option<Id> {
 fn sides(alloc: Global, n: u32) -> Option<[Report; 2]> {
     let buy = report("REPORT E1 R1 M1 B XF6 2 101.5 H1")?;
     let sell = report("REPORT E2 R1 M1 S XF6 2 101.5 H2")?;
-    let id = id(alloc, n)?;
+    let id = numbered_id(alloc, n)?;
     Some([
         Report {
             id,
@@ -159,34 +162,188 @@ fn report_trades(rt: &impl Abort, alloc: Global, book: &mut Book) {
 #[test]
 fn ten_thousand_sides_are_reported(rt: HostRuntime) {
     let mut book = book(rt.alloc()).expect(&rt, "a book");
-    assert!(rt; replied(&mut book, "DAY 20260105").is_some());
+    follow(&rt, rt.alloc(), &mut book, "DAY 20260105 = 1 OK");
     report_trades(&rt, rt.alloc(), &mut book);
-    assert_eq!(rt; position(&book, "H1 XF6"), Some((10_000, 0)));
-    assert_eq!(rt; position(&book, "H2 XF6"), Some((0, 10_000)));
+    follow(
+        &rt,
+        rt.alloc(),
+        &mut book,
+        "POSITION H1 XF6 = 10000 0\nPOSITION H2 XF6 = 0 10000",
+    );
 }
 
-/// Why a command isn't entered.
-fn refused(book: &mut Book, command: Command) -> Option<EnterError> {
-    match book.enter(command) {
+/// A give-up of E1's report R1, with a number for its id: sixteen lines of one lot for A1.
+fn sixteen_lines(alloc: Global, n: u32) -> Option<Command> {
+    let account = account("A1", 0)?;
+    let lots = Lots::new(1)?;
+    let mut list = Vec::new(alloc);
+    for _ in 0..16 {
+        list.push(Line { account, lots }).ok()?;
+    }
+    Some(Command::GiveUp {
+        firm: firm("E1", 0)?,
+        id: numbered_id(alloc, n)?,
+        report: id("R1", 0)?,
+        lines: Lines::new(list)?,
+    })
+}
+
+/// What is said to an offer first: each third is refused, and the others are claimed.
+fn first_word(firm: &FirmId, offer: &OfferNo) -> Command {
+    if offer.get() % 3 == 0 {
+        return Command::Refuse {
+            firm: *firm,
+            offer: *offer,
+            why: AllocReject::AccountLevel,
+        };
+    }
+    Command::Claim {
+        firm: *firm,
+        offer: *offer,
+    }
+}
+
+/// Refuses each third offer, claims the others, and reverses the half of those.
+fn settle(rt: &impl Abort, book: &mut Book, firm: &FirmId, offer: &OfferNo) {
+    enter(rt, book, first_word(firm, offer));
+    if offer.get() % 3 == 2 {
+        let reversal = Command::Reverse {
+            firm: *firm,
+            offer: *offer,
+        };
+        enter(rt, book, reversal);
+    }
+}
+
+/// Settles sixteen offers.
+fn settle_sixteen(rt: &impl Abort, book: &mut Book, first: u64) {
+    let firm = firm("C1", 0).expect(rt, "a firm");
+    for number in first..first.saturating_add(16) {
+        let offer = OfferNo::new(number).expect(rt, "a number");
+        settle(rt, book, &firm, &offer);
+    }
+}
+
+/// Gives up sixteen lines so often, and settles each offer at once.
+fn give_up_and_settle(rt: &impl Abort, alloc: Global, book: &mut Book, count: u32) {
+    for n in 0..count {
+        let command = sixteen_lines(alloc, n).expect(rt, "a give-up");
+        enter(rt, book, command);
+        settle_sixteen(rt, book, 16 * u64::from(n) + 1);
+    }
+}
+
+#[test]
+fn thousands_of_offers_are_claimed_refused_and_reversed(rt: HostRuntime) {
+    let mut book = book(rt.alloc()).expect(&rt, "a book");
+    follow(
+        &rt,
+        rt.alloc(),
+        &mut book,
+        "\
+DAY 20260105                           = 1 OK
+LIMIT G1 EXEC E1 1000000000            = 2 OK
+LIMIT G1 AGR P1 1000000000             = 3 OK
+LIMIT G1 ACCT A1 1000000000            = 4 OK
+LIMIT G1 CARRY C1 1000000000           = 5 OK
+REPORT E1 R1 M1 B XF6 1000000 101.5 H1 = 6 OK OPEN
+REPORT E2 R2 M1 S XF6 1000000 101.5 H2 = 7 OK MATCHED
+",
+    );
+    give_up_and_settle(&rt, rt.alloc(), &mut book, 3_000);
+    // Of 48,000 offers of one lot each a third is claimed and stays so.
+    follow(
+        &rt,
+        rt.alloc(),
+        &mut book,
+        "\
+POSITION A1 XF6 = 16000 0
+POSITION H1 XF6 = 984000 0
+LIMITS G1 = EXEC E1 1000000000 16000 999984000, AGR P1 1000000000 16000 999984000, ACCT A1 1000000000 16000 999984000, CARRY C1 1000000000 16000 999984000
+GIVEUP E1 X1 R1 A1 984001 = 67008 NO 11 TooManyLots
+GIVEUP E1 X1 R1 A1 984000 = 67009 OK OFFERS 48001 48001
+CLAIM C1 48001            = 67010 OK LOTS 984000
+POSITION A1 XF6           = 1000000 0
+",
+    );
+}
+
+/// Whether an opening is refused, by the entry of this number.
+fn is_refused_opening(book: &mut Book, day: Day, number: u64) -> bool {
+    match book.enter(Command::OpenDay { day }) {
+        Ok(receipt) => {
+            let Entry::Asked { reply, .. } = &receipt.entry else {
+                return false;
+            };
+            receipt.number == number && *reply == Reply::Denied(Refusal::WrongDay)
+        }
+        Err(_) => false,
+    }
+}
+
+/// Opens a day that is open until the book is full.
+fn fill(rt: &impl Abort, book: &mut Book, day: Day) {
+    for number in book.history().len()..MOST_ENTRIES {
+        assert!(rt; is_refused_opening(book, day, number as u64 + 1));
+    }
+}
+
+/// Why the command of a line isn't entered.
+fn refused(rt: &impl Abort, alloc: Global, book: &mut Book, line: &str) -> Option<EnterError> {
+    match book.enter(command(alloc, line).expect(rt, "a command")) {
         Ok(_) => None,
         Err(error) => Some(error),
     }
 }
 
-/// Opens one day until the book is full, and once more.
-fn fill(rt: &impl Abort, book: &mut Book, day: Day) {
-    for _ in 0..MOST_ENTRIES {
-        assert_eq!(rt; refused(book, Command::OpenDay { day }), None);
+/// Asks for one of each command, none of which is entered.
+fn knock(rt: &impl Abort, alloc: Global, book: &mut Book) {
+    let before = picture(alloc, book).expect(rt, "a picture");
+    for line in [
+        "DAY 20260106",
+        "LIMIT G1 EXEC E1 7",
+        "REPORT E1 R9 M9 B XF6 10 101.5 H1",
+        "GIVEUP E1 L9 R1 A1 1",
+        "CLAIM C1 2",
+        "REFUSE C1 2 1",
+        "REVERSE C1 1",
+        "DAY 20260105",
+    ] {
+        assert_eq!(rt;
+            refused(rt, alloc, book, line),
+            Some(EnterError::Full),
+            "{line}"
+        );
     }
-    assert_eq!(rt;
-        refused(book, Command::OpenDay { day }),
-        Some(EnterError::Full)
-    );
+    let after = picture(alloc, book).expect(rt, "a picture");
+    assert_eq!(rt; after.as_str(), before.as_str());
 }
 
 #[test]
 fn a_million_commands_are_entered_and_no_more(rt: HostRuntime) {
     let mut book = book(rt.alloc()).expect(&rt, "a book");
+    follow(&rt, rt.alloc(), &mut book, TRADED);
+    follow(
+        &rt,
+        rt.alloc(),
+        &mut book,
+        "\
+GIVEUP E1 L1 R1 A1 6 A1 3 = 8 OK OFFERS 1 2
+CLAIM C1 1                = 9 OK LOTS 6
+",
+    );
     let day = day("20260105", 0).expect(&rt, "a day");
     fill(&rt, &mut book, day);
+    assert_eq!(rt; book.history().len(), 1_000_000);
+    knock(&rt, rt.alloc(), &mut book);
+    follow(
+        &rt,
+        rt.alloc(),
+        &mut book,
+        "\
+POSITION H1 XF6 = 4 0
+POSITION A1 XF6 = 6 0
+LIMITS G1 = EXEC E1 100 6 94, AGR P1 100 6 94, ACCT A1 100 6 94, CARRY C1 100 6 94
+",
+    );
 }

@@ -1,9 +1,10 @@
 //! What the words of a line say.
 
 use gu_terms::{
-    AccountId, AgreementId, Command, Day, FirmId, Group, Id, LimitKey, Lots, Name, Price, Report,
-    Side, Symbol, read_lots, read_price,
+    AccountId, AgreementId, AllocReject, Command, Day, FirmId, Group, Id, LimitKey, Line, Lines,
+    Lots, MOST_LINES, Name, OfferNo, Price, Report, Side, Symbol, read_lots, read_price,
 };
+use std::alloc::Global;
 
 /// A word of a line.
 pub fn word(line: &str, place: usize) -> Option<&[u8]> {
@@ -104,11 +105,60 @@ fn limit(line: &str) -> Option<Command> {
     })
 }
 
-/// The command of a line: a limit, a report, or an opening as `DAY 20260105`.
-pub fn command(line: &str) -> Option<Command> {
+/// The lines of a give-up: what is left of a line as `GIVEUP E1 L1 R1 A1 6 A2 4` behind its first four words.
+fn lines(alloc: Global, line: &str) -> Option<Lines> {
+    let mut list = Vec::new(alloc);
+    for n in 0..MOST_LINES {
+        let place = 4 + 2 * n;
+        if word(line, place).is_some() {
+            let account = account(line, place)?;
+            let lots = lots(line, place + 1)?;
+            list.push(Line { account, lots }).ok()?;
+        }
+    }
+    Lines::new(list)
+}
+
+/// A give-up, from a line as `GIVEUP E1 L1 R1 A1 6 A2 4`.
+fn give_up(alloc: Global, line: &str) -> Option<Command> {
+    Some(Command::GiveUp {
+        firm: firm(line, 1)?,
+        id: id(line, 2)?,
+        report: id(line, 3)?,
+        lines: lines(alloc, line)?,
+    })
+}
+
+fn offer(line: &str, place: usize) -> Option<OfferNo> {
+    OfferNo::new(number(line, place)?)
+}
+
+/// A refusal, from a line as `REFUSE C1 2 1`.
+fn refusal(line: &str) -> Option<Command> {
+    Some(Command::Refuse {
+        firm: firm(line, 1)?,
+        offer: offer(line, 2)?,
+        why: AllocReject::of(number(line, 3)?)?,
+    })
+}
+
+/// The command of a line: an opening as `DAY 20260105`, a limit, a report, a give-up, a claim as `CLAIM C1 2`, a refusal, or
+/// a reversal as `REVERSE C1 2`.
+pub fn command(alloc: Global, line: &str) -> Option<Command> {
     match word(line, 0)? {
         b"DAY" => Some(Command::OpenDay { day: day(line, 1)? }),
         b"LIMIT" => limit(line),
-        _ => Some(reporting(&report(line)?, day(line, 9))),
+        b"REPORT" => Some(reporting(&report(line)?, day(line, 9))),
+        b"GIVEUP" => give_up(alloc, line),
+        b"CLAIM" => Some(Command::Claim {
+            firm: firm(line, 1)?,
+            offer: offer(line, 2)?,
+        }),
+        b"REFUSE" => refusal(line),
+        b"REVERSE" => Some(Command::Reverse {
+            firm: firm(line, 1)?,
+            offer: offer(line, 2)?,
+        }),
+        _ => None,
     }
 }
