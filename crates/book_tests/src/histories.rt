@@ -9,7 +9,8 @@ use crate::world::{
 };
 use gu_book::Book;
 use gu_terms::{
-    AllocReject, Command, Entry, LimitRow, Line, Lines, Lots, OfferNo, Price, Refusal, Reply,
+    AllocReject, Command, Entry, LimitRow, Line, Lines, Lots, OfferNo, PositionRow, Price, Refusal,
+    Reply,
 };
 use std::alloc::Global;
 use std::process::Abort;
@@ -304,6 +305,65 @@ fn compare_positions(rt: &impl Abort, book: &Book, house: &House, at: u64) {
     }
 }
 
+/// Compares the open interest of each instrument, account by account; as many lots are long as short.
+fn compare_interest(rt: &impl Abort, book: &Book, house: &House, at: u64) {
+    for symbol in 0..4 {
+        let instrument = symbol_name(symbol).expect(rt, "an instrument");
+        let mut interest: u64 = 0;
+        let mut longs: u64 = 0;
+        let mut shorts: u64 = 0;
+        for account in 0..5 {
+            let long = house.held(account, symbol, true);
+            let short = house.held(account, symbol, false);
+            interest = interest.saturating_add(long.saturating_sub(short));
+            longs = longs.saturating_add(long);
+            shorts = shorts.saturating_add(short);
+        }
+        assert_eq!(rt;
+            book.open_interest(instrument),
+            interest,
+            "{symbol}, command {at}"
+        );
+        assert_eq!(rt; longs, shorts, "{symbol}, command {at}");
+    }
+}
+
+/// Compares all that a firm's account holds, instrument by instrument. No other firm is told.
+fn compare_rows(rt: &impl Abort, book: &Book, house: &House, account: usize, at: u64) {
+    let name = account_name(account).expect(rt, "an account");
+    for firm in 0..3 {
+        let asking = firm_name(firm).expect(rt, "a firm");
+        let found = book.positions(asking, name).ok().expect(rt, "positions");
+        if owner(account) != Some(firm) {
+            assert!(rt; found.is_none(), "{account} {firm}, command {at}");
+            continue;
+        }
+        let held = found.expect(rt, "rows");
+        assert_eq!(rt; held.day, house.today().and_then(day_of), "command {at}");
+        let mut place: usize = 0;
+        for symbol in 0..4 {
+            let long = house.held(account, symbol, true);
+            let short = house.held(account, symbol, false);
+            if long == 0 && short == 0 {
+                continue;
+            }
+            let symbol = symbol_name(symbol).expect(rt, "an instrument");
+            let row = PositionRow {
+                symbol,
+                long,
+                short,
+            };
+            assert_eq!(rt;
+                held.rows.get(place).copied(),
+                Some(row),
+                "{account}, command {at}"
+            );
+            place = place.saturating_add(1);
+        }
+        assert_eq!(rt; held.rows.len(), place, "{account}, command {at}");
+    }
+}
+
 /// The limit on a key as it stands, where one was set.
 fn limit_row(house: &House, group: usize, key: Key) -> Option<LimitRow> {
     Some(LimitRow {
@@ -387,6 +447,10 @@ impl Both {
         }
         self.tally.add(&want);
         compare_positions(rt, &self.book, &self.house, at);
+        compare_interest(rt, &self.book, &self.house, at);
+        for account in 0..5 {
+            compare_rows(rt, &self.book, &self.house, account, at);
+        }
         compare_limits(rt, &self.book, &self.house, 0, at);
         compare_limits(rt, &self.book, &self.house, 1, at);
     }

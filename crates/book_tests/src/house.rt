@@ -3,7 +3,7 @@
 use crate::world::{
     KINDS, Key, agreement, group_name, group_of, is_group, is_known, key_name, key_over, owner,
 };
-use gu_terms::{Done, OfferNo, Refusal, Reply};
+use gu_terms::{Done, Lots, OfferNo, Refusal, Reply};
 use std::alloc::{AllocError, Global};
 
 /// A side of a trade that is reported. Its day is the open one.
@@ -419,10 +419,9 @@ impl House {
         if let Some(refusal) = self.refusal_of_firm(firm, offer) {
             return Some(Reply::Denied(refusal));
         }
-        let lots = self.left(offer);
-        if lots == 0 {
+        let Some(lots) = Lots::new(self.left(offer)) else {
             return Some(Reply::Denied(Refusal::OfferClosed));
-        }
+        };
         if let Some(key) = self.short_key(offer) {
             return Some(Reply::Denied(Refusal::LimitReached(key_name(key)?)));
         }
@@ -433,10 +432,9 @@ impl House {
         if let Some(refusal) = self.refusal_of_firm(firm, offer) {
             return Reply::Denied(refusal);
         }
-        let lots = self.left(offer);
-        if lots == 0 {
+        let Some(lots) = Lots::new(self.left(offer)) else {
             return Reply::Denied(Refusal::OfferClosed);
-        }
+        };
         Reply::Accepted(Done::Refused { lots })
     }
 
@@ -447,10 +445,9 @@ impl House {
         if self.left(offer) > 0 {
             return Reply::Denied(Refusal::OfferOpen);
         }
-        let lots = self.moved_today(offer);
-        if lots == 0 {
+        let Some(lots) = Lots::new(self.moved_today(offer)) else {
             return Reply::Denied(Refusal::NothingToReverse);
-        }
+        };
         Reply::Accepted(Done::Reversed { lots })
     }
 

@@ -24,13 +24,13 @@ fn done_text(alloc: Global, command: &Command, done: Done) -> Option<String> {
             format!(in alloc; "OK OFFERS {} {last}", first.get())
         }
         Done::Claimed { lots } if matches!(command, Command::Claim { .. }) => {
-            format!(in alloc; "OK LOTS {lots}")
+            format!(in alloc; "OK LOTS {}", lots.get())
         }
         Done::Refused { lots } if matches!(command, Command::Refuse { .. }) => {
-            format!(in alloc; "OK LOTS {lots}")
+            format!(in alloc; "OK LOTS {}", lots.get())
         }
         Done::Reversed { lots } if matches!(command, Command::Reverse { .. }) => {
-            format!(in alloc; "OK LOTS {lots}")
+            format!(in alloc; "OK LOTS {}", lots.get())
         }
         _ => return None,
     };
