@@ -93,7 +93,7 @@ is_report (inbound.TradeCaptureReport m) report e = cc
 is_report (inbound.AllocationInstruction m) report e = cc
 is_report (inbound.AllocationReportAck m) report e = cc
 is_report (inbound.RequestForPositions m) report e = cc
-is_report inbound.Unread report e = cc
+is_report (inbound.Unread code) report e = cc
 
 -- the report that a message is, if it is one, is what the fields say
 pub found_report : (fields : List TagValue) (message : Inbound) (found : Option TradeCaptureReport) → Says fields message → found ≡ report_in message
