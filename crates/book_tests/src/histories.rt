@@ -4,8 +4,8 @@
 use crate::house::{Ask, Given, House, Side};
 use crate::sample::book_of;
 use crate::world::{
-    KINDS, Key, ROWS, account_name, day_of, firm_name, group_name, id_name, key_name, owner,
-    symbol_name,
+    KINDS, Key, ROWS, account_name, agreement, day_of, firm_name, group_name, id_name, key_name,
+    owner, symbol_name,
 };
 use gu_book::Book;
 use gu_terms::{
@@ -114,7 +114,11 @@ fn report(dice: &mut Dice, house: &House) -> Ask {
         Some(side) if house.is_waiting(side) && !dice.is_one_in(3) => other_side(dice, side),
         _ => new_side(dice),
     };
-    side.account = if dice.is_one_in(20) { 4 } else { dice.place(4) };
+    side.account = if dice.is_one_in(6) {
+        dice.place(5)
+    } else {
+        dice.place(2)
+    };
     side.firm = firm_or_other(dice, owner(side.account));
     let day = if dice.is_one_in(8) {
         Some(dice.roll(12).saturating_add(4))
@@ -124,26 +128,42 @@ fn report(dice: &mut Dice, house: &House) -> Ask {
     Ask::Report { side, day }
 }
 
-/// The account of a line: mostly one to which something may be given up.
-fn taking_account(dice: &mut Dice) -> usize {
-    match dice.roll(20) {
-        0..=10 => 2,
-        11..=15 => 3,
-        16..=18 => 1,
-        _ => dice.place(5),
+/// The account of a line: mostly one to which the firm may give up.
+fn taking_account(dice: &mut Dice, firm: usize) -> usize {
+    let mut account = dice.place(5);
+    for _ in 0..4 {
+        if agreement(firm, account).is_none() {
+            account = dice.place(5);
+        }
     }
+    account
+}
+
+/// One of the latest reports, mostly one that doesn't wait.
+fn latest_side(dice: &mut Dice, house: &House) -> Option<Side> {
+    let sides = house.sides();
+    let mut place: usize = 0;
+    for _ in 0..6 {
+        place = sides.len().saturating_sub(dice.place(20).saturating_add(1));
+        let waits = match sides.get(place) {
+            Some(side) => house.is_waiting(side),
+            None => true,
+        };
+        if !waits {
+            break;
+        }
+    }
+    sides.get(place).copied()
 }
 
 fn give_up(dice: &mut Dice, house: &House) -> Ask {
-    let sides = house.sides();
-    let place = sides.len().saturating_sub(dice.place(12).saturating_add(1));
-    let (firm, report) = match sides.get(place) {
+    let (firm, report) = match latest_side(dice, house) {
         Some(side) if !dice.is_one_in(12) => (firm_or_other(dice, Some(side.firm)), side.id),
         _ => (dice.place(4), dice.roll(400)),
     };
     let mut lines = [(0, 1); 3];
     for line in &mut lines {
-        *line = (taking_account(dice), dice.roll(7).saturating_add(1));
+        *line = (taking_account(dice, firm), dice.roll(7).saturating_add(1));
     }
     Ask::GiveUp(Given {
         firm,
