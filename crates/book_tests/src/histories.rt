@@ -4,13 +4,13 @@
 use crate::house::{Ask, Given, House, Side};
 use crate::sample::book_of;
 use crate::world::{
-    KINDS, Key, ROWS, account_name, day_of, firm_name, group_name, id_name, key_name, owner,
-    symbol_name,
+    KINDS, Key, ROWS, account_name, agreement, day_of, firm_name, group_name, id_name, key_name,
+    owner, symbol_name,
 };
 use gu_book::Book;
 use gu_terms::{
-    AllocReject, Command, Entry, LimitRow, Line, Lines, Lots, OfferNo, PositionRow, Price, Refusal,
-    Reply,
+    AllocReject, Command, Done, Entry, LimitRow, Line, Lines, Lots, OfferNo, PositionRow, Price,
+    Refusal, Reply,
 };
 use std::alloc::Global;
 use std::process::Abort;
@@ -56,8 +56,8 @@ fn limit(dice: &mut Dice) -> Ask {
     };
     let lots = match dice.roll(20) {
         0 => 1_000_000_001,
-        1..=3 => dice.roll(10),
-        _ => dice.roll(60),
+        1..=2 => dice.roll(10),
+        _ => dice.roll(60).saturating_add(10),
     };
     Ask::Limit {
         group: if dice.is_one_in(12) { 2 } else { dice.place(2) },
@@ -115,7 +115,11 @@ fn report(dice: &mut Dice, house: &House) -> Ask {
         Some(side) if house.is_waiting(side) && !dice.is_one_in(3) => other_side(dice, side),
         _ => new_side(dice),
     };
-    side.account = if dice.is_one_in(20) { 4 } else { dice.place(4) };
+    side.account = if dice.is_one_in(6) {
+        dice.place(5)
+    } else {
+        dice.place(2)
+    };
     side.firm = firm_or_other(dice, owner(side.account));
     let day = if dice.is_one_in(8) {
         Some(dice.roll(12).saturating_add(4))
@@ -125,26 +129,42 @@ fn report(dice: &mut Dice, house: &House) -> Ask {
     Ask::Report { side, day }
 }
 
-/// The account of a line: mostly one to which something may be given up.
-fn taking_account(dice: &mut Dice) -> usize {
-    match dice.roll(20) {
-        0..=10 => 2,
-        11..=15 => 3,
-        16..=18 => 1,
-        _ => dice.place(5),
+/// The account of a line: mostly one to which the firm may give up.
+fn taking_account(dice: &mut Dice, firm: usize) -> usize {
+    let mut account = dice.place(5);
+    for _ in 0..4 {
+        if agreement(firm, account).is_none() {
+            account = dice.place(5);
+        }
     }
+    account
+}
+
+/// One of the latest reports, mostly one that doesn't wait.
+fn latest_side(dice: &mut Dice, house: &House) -> Option<Side> {
+    let sides = house.sides();
+    let mut place: usize = 0;
+    for _ in 0..6 {
+        place = sides.len().saturating_sub(dice.place(20).saturating_add(1));
+        let waits = match sides.get(place) {
+            Some(side) => house.is_waiting(side),
+            None => true,
+        };
+        if !waits {
+            break;
+        }
+    }
+    sides.get(place).copied()
 }
 
 fn give_up(dice: &mut Dice, house: &House) -> Ask {
-    let sides = house.sides();
-    let place = sides.len().saturating_sub(dice.place(12).saturating_add(1));
-    let (firm, report) = match sides.get(place) {
+    let (firm, report) = match latest_side(dice, house) {
         Some(side) if !dice.is_one_in(12) => (firm_or_other(dice, Some(side.firm)), side.id),
         _ => (dice.place(4), dice.roll(400)),
     };
     let mut lines = [(0, 1); 3];
     for line in &mut lines {
-        *line = (taking_account(dice), dice.roll(7).saturating_add(1));
+        *line = (taking_account(dice, firm), dice.roll(7).saturating_add(1));
     }
     Ask::GiveUp(Given {
         firm,
@@ -390,7 +410,21 @@ fn compare_limits(rt: &impl Abort, book: &Book, house: &House, group: usize, at:
     assert_eq!(rt; rows.len(), place, "command {at}");
 }
 
-/// How often each refusal was given, by its number, and in the first place how often none was.
+/// The place at which an accepted command is counted, behind the refusals.
+fn place_of(done: &Done) -> usize {
+    match done {
+        Done::Opened => 20,
+        Done::LimitSet => 21,
+        Done::Reported { matched: false } => 22,
+        Done::Reported { matched: true } => 23,
+        Done::Offered { .. } => 24,
+        Done::Claimed { .. } => 25,
+        Done::Refused { .. } => 26,
+        Done::Reversed { .. } => 27,
+    }
+}
+
+/// How often each refusal was given, by its number, and behind these what was accepted.
 #[derive(Drop)]
 struct Tally {
     counts: Vec<u64>,
@@ -398,13 +432,13 @@ struct Tally {
 
 impl Tally {
     fn new(rt: &impl Abort, alloc: Global) -> Self {
-        let counts = vec![in alloc; 0; 20].ok().expect(rt, "counts");
+        let counts = vec![in alloc; 0; 28].ok().expect(rt, "counts");
         Tally { counts }
     }
 
     fn add(&mut self, reply: &Reply) {
         let number = match reply {
-            Reply::Accepted(_) => 0,
+            Reply::Accepted(done) => place_of(done),
             Reply::Denied(refusal) => refusal.number() as usize,
         };
         if let Some(count) = self.counts.get_mut(number) {
@@ -430,11 +464,15 @@ struct Both {
     house: House,
     book: Book,
     tally: Tally,
+    /// How much was asked.
+    count: u64,
 }
 
 impl Both {
     /// Asks both, and compares what they say, hold and have room for.
-    fn ask(&mut self, rt: &impl Abort, alloc: Global, ask: &Ask, at: u64) {
+    fn ask(&mut self, rt: &impl Abort, alloc: Global, ask: &Ask) {
+        let at = self.count.saturating_add(1);
+        self.count = at;
         let want = self.house.reply(ask).expect(rt, "a reply");
         let command = command(alloc, ask).expect(rt, "a command");
         assert_eq!(rt;
@@ -456,19 +494,41 @@ impl Both {
     }
 }
 
-/// Asks so many random commands of a new house and a new book.
+/// Sets a limit on each key of each group.
+fn set_limits(rt: &impl Abort, alloc: Global, both: &mut Both, dice: &mut Dice) {
+    for group in 0..2 {
+        for (kind, (_, names)) in KINDS.iter().enumerate() {
+            for name in 0..*names {
+                let key = Key { kind, name };
+                let lots = dice.roll(40).saturating_add(20);
+                both.ask(rt, alloc, &Ask::Limit { group, key, lots });
+            }
+        }
+    }
+}
+
+/// Asks so many random commands of a new house and a new book, and in every other history sets all limits before.
 fn live(rt: &impl Abort, alloc: Global, seed: u64, count: u64) -> Tally {
     let mut dice = Dice { state: seed };
     let mut both = Both {
         house: House::new(alloc),
         book: book_of(alloc, ROWS).expect(rt, "a book"),
         tally: Tally::new(rt, alloc),
+        count: 0,
     };
-    for at in 1..=count {
-        let next = ask(&mut dice, &both.house);
-        both.ask(rt, alloc, &next, at);
+    if seed % 2 == 0 {
+        set_limits(rt, alloc, &mut both, &mut dice);
     }
-    let Both { house, book, tally } = both;
+    for _ in 0..count {
+        let next = ask(&mut dice, &both.house);
+        both.ask(rt, alloc, &next);
+    }
+    let Both {
+        house,
+        book,
+        tally,
+        count: _,
+    } = both;
     drop(house);
     drop(book);
     tally
@@ -487,7 +547,9 @@ fn live_six(rt: &impl Abort, alloc: Global) -> Tally {
 #[test]
 fn a_random_history_is_answered_by_sums_over_all_of_it(rt: HostRuntime) {
     let tally = live_six(&rt, rt.alloc());
-    assert!(rt; tally.count(0) >= 1_000);
+    for place in 20..28 {
+        assert!(rt; tally.count(place) >= 20, "accepted {place}");
+    }
     for number in 1..=19 {
         // There are never 4,096 open offers of a group.
         let is_given = tally.count(number) > 0;

@@ -57,7 +57,7 @@ struct Offered {
     lots: u64,
 }
 
-/// Lots of an offer that went to its account, or back, on the day that was opened as the so-manieth.
+/// Lots of an offer that went to its account, or back, and how many days were opened up to then.
 #[derive(Clone, Copy)]
 struct Move {
     offer: u64,

@@ -288,9 +288,20 @@ GIVEUP E1 L8 R1 A1 1              = 133 NO 11 TooManyLots
 CLAIM C1 10                       = 134 OK LOTS 19
 CLAIM C1 3                        = 135 NO 5 NotYours
 CLAIM C2 3                        = 136 NO 15 LimitReached EXEC E2
-POSITION H1 XF6                   = 11 0
+LIMIT G1 AGR P2 100               = 137 OK
+LIMIT G1 ACCT A2 100              = 138 OK
+LIMIT G1 EXEC E2 100              = 139 OK
+LIMIT G1 AGR P4 100               = 140 OK
+LIMIT G1 ACCT A3 100              = 141 OK
+LIMIT G1 CARRY C2 100             = 142 OK
+CLAIM C1 2                        = 143 OK LOTS 4
+CLAIM C2 3                        = 144 OK LOTS 5
+POSITION H1 XF6                   = 7 0
+POSITION H2 XF6                   = 0 25
 POSITION A1 XF6                   = 19 0
-LIMITS G1 = EXEC E1 100 19 81, AGR P1 100 19 81, ACCT A1 100 19 81, CARRY C1 100 19 81, GUAR E2 100 19 81
+POSITION A2 XF6                   = 4 0
+POSITION A3 XF6                   = 0 5
+LIMITS G1 = EXEC E1 100 23 77, EXEC E2 100 5 95, AGR P1 100 19 81, AGR P2 100 4 96, AGR P4 100 5 95, ACCT A1 100 19 81, ACCT A2 100 4 96, ACCT A3 100 5 95, CARRY C1 100 23 77, CARRY C2 100 5 95, GUAR E2 100 28 72
 ",
     );
 }
