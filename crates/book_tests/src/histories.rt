@@ -9,8 +9,8 @@ use crate::world::{
 };
 use gu_book::Book;
 use gu_terms::{
-    AllocReject, Command, Done, Entry, LimitRow, Line, Lines, Lots, OfferNo, PositionRow, Price,
-    Refusal, Reply,
+    AllocReject, Command, Done, Entry, LimitRow, Line, Lines, Lots, OfferNo, PositionRow,
+    PositionRows, Price, Refusal, Reply,
 };
 use std::alloc::Global;
 use std::process::Abort;
@@ -348,39 +348,47 @@ fn compare_interest(rt: &impl Abort, book: &Book, house: &House, at: u64) {
     }
 }
 
-/// Compares all that a firm's account holds, instrument by instrument. No other firm is told.
-fn compare_rows(rt: &impl Abort, book: &Book, house: &House, account: usize, at: u64) {
-    let name = account_name(account).expect(rt, "an account");
-    for firm in 0..3 {
-        let asking = firm_name(firm).expect(rt, "a firm");
-        let found = book.positions(asking, name).ok().expect(rt, "positions");
-        if owner(account) != Some(firm) {
-            assert!(rt; found.is_none(), "{account} {firm}, command {at}");
-            continue;
-        }
-        let held = found.expect(rt, "rows");
-        assert_eq!(rt; held.day, house.today().and_then(day_of), "command {at}");
-        let mut place: usize = 0;
-        for symbol in 0..4 {
-            let long = house.held(account, symbol, true);
-            let short = house.held(account, symbol, false);
-            if long == 0 && short == 0 {
-                continue;
-            }
-            let symbol = symbol_name(symbol).expect(rt, "an instrument");
-            let row = PositionRow {
-                symbol,
-                long,
-                short,
-            };
-            assert_eq!(rt;
-                held.rows.get(place).copied(),
-                Some(row),
-                "{account}, command {at}"
-            );
+/// What an account holds of an instrument, where it holds any.
+fn position_row(house: &House, account: usize, symbol: usize) -> Option<PositionRow> {
+    let long = house.held(account, symbol, true);
+    let short = house.held(account, symbol, false);
+    if long == 0 && short == 0 {
+        return None;
+    }
+    Some(PositionRow {
+        symbol: symbol_name(symbol)?,
+        long,
+        short,
+    })
+}
+
+/// Compares all that an account holds, in the order of the instruments and no more of it.
+fn compare_held(rt: &impl Abort, held: &PositionRows, house: &House, account: usize, at: u64) {
+    assert_eq!(rt; held.day, house.today().and_then(day_of), "command {at}");
+    let mut place: usize = 0;
+    for symbol in 0..4 {
+        if let Some(row) = position_row(house, account, symbol) {
+            assert_eq!(rt; held.rows.get(place).copied(), Some(row), "command {at}");
             place = place.saturating_add(1);
         }
-        assert_eq!(rt; held.rows.len(), place, "{account}, command {at}");
+    }
+    assert_eq!(rt; held.rows.len(), place, "command {at}");
+}
+
+/// Compares what firms are told of an account: its own firm all that it holds, any other nothing.
+fn compare_rows(rt: &impl Abort, book: &Book, house: &House, account: usize, at: u64) {
+    for firm in 0..3 {
+        let asking = firm_name(firm).expect(rt, "a firm");
+        let name = account_name(account).expect(rt, "an account");
+        let found = book.positions(asking, name).ok().expect(rt, "positions");
+        assert_eq!(rt;
+            found.is_some(),
+            owner(account) == Some(firm),
+            "command {at}"
+        );
+        if let Some(held) = &found {
+            compare_held(rt, held, house, account, at);
+        }
     }
 }
 
