@@ -5,8 +5,8 @@ use gu_msgs::inbound::RequestForPositions;
 use gu_msgs::outbound::Body;
 use gu_msgs::{Question, Rejection, notice_body, positions_answer};
 use gu_terms::{
-    AllocReject, Done, Group, LimitKey, Notice, OfferEvent, OfferNotice, PositionRow, PositionRows,
-    Refusal, Report, Side,
+    AllocReject, Done, Group, LimitKey, Lots, Notice, OfferEvent, OfferNotice, PositionRow,
+    PositionRows, Refusal, Report, Side,
 };
 use std::alloc::{AllocError, Global};
 
@@ -308,6 +308,7 @@ fn each_message_has_its_answer_and_each_notice_its_message(rt: HostRuntime) {
 /// What each question asks for, row by row, beside what was done: reported, offered, claimed, refused, reversed, opened.
 fn answered() -> Option<[[bool; 6]; 6]> {
     let w = sample()?;
+    let lots = Lots::new(1)?;
     let done = [
         Done::Reported { matched: true },
         Done::Offered {
@@ -315,9 +316,9 @@ fn answered() -> Option<[[bool; 6]; 6]> {
             first: w.offer,
             count: 1,
         },
-        Done::Claimed { lots: 1 },
-        Done::Refused { lots: 1 },
-        Done::Reversed { lots: 1 },
+        Done::Claimed { lots },
+        Done::Refused { lots },
+        Done::Reversed { lots },
         Done::Opened,
     ];
     let questions = [
