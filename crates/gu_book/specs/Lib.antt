@@ -1,6 +1,7 @@
 pub mod Accepted
 pub mod Answer
 pub mod Beside
+pub mod Commits
 pub mod Effects
 pub mod Kept
 pub mod Legal

@@ -1,25 +1,30 @@
 //! The book.
 
-ghost use Rattle.std.specs.Prelude.{◌≡◌, ◌↔◌, ◌<◌, ◌≤◌, ◌+◌, ◌++◌, ◌∷◌, [], false, is_some, length, IfOk, IfSome, OnOk, OnErr, IsErrOf};
+ghost use Rattle.std.specs.Prelude.{◌≡◌, ◌↔◌, ◌<◌, ◌≤◌, ◌+◌, ◌++◌, ◌∷◌, [], false, is_some, length, true, IfOk, IfErr, IfSome, OnOk, OnErr, IsErrOf};
 ghost use Rattle.gu_ref.specs.Reference.{is_group};
 ghost use Rattle.gu_book.specs.Accepted.{accepts};
 ghost use Rattle.gu_book.specs.Answer.{answer};
+ghost use Rattle.gu_book.specs.Commits.{IsCurrent, Refuses, sweep_of};
 ghost use Rattle.gu_book.specs.Legal.{IsLegal, MayFollow, StandsLast};
 ghost use Rattle.gu_book.specs.Limits.{limit_rows};
 ghost use Rattle.gu_book.specs.Positions.{is_of_firm, long_of, open_interest_of, position_rows, short_of};
 ghost use Rattle.gu_book.specs.Reports.{open_day};
+ghost use Rattle.gu_book.specs.Views.{group_view};
+ghost use Rattle.gu_view.specs.View.{IsNested};
 
 use crate::answering::answer_of;
-use crate::error::EnterError;
+use crate::error::{CommitError, EnterError, LookError};
 use crate::limits::rows_in_order;
 use crate::positions::{is_of_firm, rows_of_account};
 use crate::taking::take_in;
 use crate::totals::Totals;
+use gu_flow::Proposal;
 use gu_ref::Reference;
 use gu_terms::{
     AccountId, Command, Day, Entry, FirmId, Group, History, LimitRow, MOST_ENTRIES, PositionRows,
     Receipt, Reply, Seed, Symbol,
 };
+use gu_view::View;
 use std::alloc::{AllocError, Global};
 use std::marker::Model;
 
@@ -186,6 +191,36 @@ impl Book {
         ensures unknown { is_group self.now.reference group.now ≡ false → IfOk result (λ rows. rows.items ≡ []) }
     {
         rows_in_order(self.alloc, &self.reference, &self.totals.limits, group)
+    }
+
+    /// The view of a group as the book stands: its open offers, and the room of each key that they come under.
+    pub fn view(&self, group: &Group) -> Result<View, LookError>
+        ensures view { IfOk result (λ view. view ≡ group_view self.now.reference self.now.history group.now) }
+        ensures nested { IfOk result (λ view. IsNested view) }
+        ensures known { OnOk result (is_group self.now.reference group.now ≡ true) }
+        ensures unknown { IsErrOf result LookError.UnknownGroup ↔ (is_group self.now.reference group.now ≡ false) }
+    {
+        if self.reference.group(*group).is_none() {
+            return Err(LookError::UnknownGroup);
+        }
+        Err(LookError::Memory)
+    }
+
+    /// Commits a proposal: its sweep is entered, and its takes are claimed, where the group still stands as the proposal's view shows it.
+    pub fn commit(&mut self, proposal: Proposal) -> Result<Receipt, (CommitError, Proposal)>
+        ensures entered { IfOk result (λ r. self.new.history ≡ self.old.history ++ r.entry ∷ []) }
+        ensures number { IfOk result (λ r. r.number ≡ length self.old.history + 1) }
+        ensures entry { IfOk result (λ r. r.entry ≡ Entry.Swept (sweep_of proposal)) }
+        ensures stands { IfOk result (λ r. StandsLast self.old.reference r.number r.entry) }
+        ensures current { OnOk result (IsCurrent self.old proposal.view) }
+
+        // What each refusal says. The proposal is handed back, and the book is as it was.
+        ensures why { IfErr result (λ e. Refuses self.old proposal.view e.0) }
+        ensures handed_back { IfErr result (λ e. e.1 ≡ proposal) }
+        ensures reference { self.new.reference ≡ self.old.reference }
+        ensures refused { OnErr result (self.new.history ≡ self.old.history) }
+    {
+        todo!()
     }
 
     /// The open day.

@@ -25,3 +25,41 @@ impl From<AllocError> for EnterError {
         EnterError::Memory
     }
 }
+
+/// Why a group has no view.
+#[derive(Debug, Drop, Clone, Copy, PartialEq, Eq, Error)]
+pub enum LookError {
+    /// A growth was refused.
+    #[error("Memory")]
+    Memory,
+    /// The reference has no such group.
+    #[error("UnknownGroup")]
+    UnknownGroup,
+}
+
+impl From<AllocError> for LookError {
+    ghost use Rattle.gu_book.specs.declared.error.LookError.{LookError};
+
+    ghost from_gives = { λ _ error. error ≡ LookError.Memory };
+
+    fn from(_: AllocError) -> Self {
+        LookError::Memory
+    }
+}
+
+/// Why a sweep was not committed. The book is as it was.
+#[derive(Debug, Drop, Clone, Copy, PartialEq, Eq, Error)]
+pub enum CommitError {
+    /// A growth was refused.
+    #[error("Memory")]
+    Memory,
+    /// The book has 1,000,000 entries.
+    #[error("Full")]
+    Full,
+    /// Entries have touched the group since it was seen: its version then, and its version now.
+    #[error("Stale {seen} {now}")]
+    Stale { seen: u64, now: u64 },
+    /// The versions are equal, and yet the view isn't the book's.
+    #[error("Foreign")]
+    Foreign,
+}

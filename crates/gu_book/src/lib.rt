@@ -11,5 +11,5 @@ mod taking;
 mod totals;
 
 pub use book::Book;
-pub use error::EnterError;
+pub use error::{CommitError, EnterError, LookError};
 pub use laws::the_least_refusal_is_given;

@@ -1,0 +1,41 @@
+-- Commits: which sweep a proposal asks for, and why it may be refused.
+use Rattle.std.specs.Prelude.{◌≡◌, ◌≢◌, ℕ, ◌<◌, ◌≤◌, true, length}
+use Rattle.gu_terms.specs.declared.entry.SweepEntry.{SweepEntry}
+use Rattle.gu_ref.specs.Reference.{is_group}
+use Rattle.gu_view.specs.View.{GroupView}
+use Rattle.gu_flow.specs.Proposals.{ProposedSweep}
+use Rattle.gu_book.specs.Kept.{Kept}
+use Rattle.gu_book.specs.Versions.{version_of}
+use Rattle.gu_book.specs.Views.{group_view}
+use Rattle.gu_book.specs.declared.error.CommitError.{CommitError}
+use Rattle.gu_book.specs.declared.error.CommitError.TheVariants.{Memory, Full, Stale, Foreign}
+
+-- the sweep that a proposal asks for: of its view's group, with its takes, its cut and its lots
+abbrev pub sweep_of : ProposedSweep → SweepEntry
+sweep_of proposal = record { group = proposal.view.group; takes = proposal.takes; cut = proposal.cut; lots = proposal.lots }
+
+-- the book has room for an entry, and the view is that of its group as the book stands
+pub record IsCurrent (book : Kept) (view : GroupView) : Type 0 where
+  pub room : length book.history < 1000000
+  pub known : is_group book.reference view.group ≡ true
+  pub same : view ≡ group_view book.reference book.history view.group
+
+-- the book has room for an entry, and the view has another version than its group has now
+pub record IsStale (book : Kept) (view : GroupView) (seen now : ℕ) : Type 0 where
+  pub room : length book.history < 1000000
+  pub seen : seen ≡ view.version
+  pub now : now ≡ version_of book.history view.group
+  pub touched : seen ≢ now
+
+-- the book has room for an entry, and the view has the version of its group, and yet it isn't that of the group
+pub record IsForeign (book : Kept) (view : GroupView) : Type 0 where
+  pub room : length book.history < 1000000
+  pub untouched : view.version ≡ version_of book.history view.group
+  pub other : ¬ IsCurrent book view
+
+-- what each refusal says. A full book, a stale view, a foreign view and a current one: just one of the four stands
+abbrev pub Refuses : Kept → GroupView → CommitError → Type 0
+Refuses book view Memory = IsCurrent book view
+Refuses book view Full = 1000000 ≤ length book.history
+Refuses book view (Stale seen now) = IsStale book view seen now
+Refuses book view Foreign = IsForeign book view
