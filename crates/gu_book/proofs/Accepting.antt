@@ -1,5 +1,5 @@
 -- What is kept beside a history takes accepted commands in.
-use Rattle.std.proofs.Common.{◌≡◌, ℕ, zero, suc, ◌*◌, ◌-◌, ◌<◌, ◌≤◌, ◌&&◌, ◌||◌, ◌++◌, Bool, true, false, List, [], ◌∷◌, length, slice_index_or, Option, Some, Result, Ok, Err, refl, sym, ap, ◌∙◌, arith, subst}
+use Rattle.std.proofs.Common.{◌≡◌, ℕ, zero, suc, ◌+◌, ◌*◌, ◌-◌, ◌<◌, ◌≤◌, ◌&&◌, ◌||◌, ◌++◌, Bool, true, false, List, [], ◌∷◌, length, slice_index_or, Option, Some, Result, Ok, Err, refl, sym, ap, ◌∙◌, arith, subst}
 use Rattle.std.specs.Result.{OnOk}
 use Rattle.std.specs.Option.{option_map}
 use Rattle.gu_terms.proofs.SameNames.{same_account-own, same_group-own, same_symbol-own}
@@ -40,10 +40,11 @@ use Rattle.gu_book.proofs.ChangedPositions.{held_in-has, held_in-moved}
 use Rattle.gu_book.proofs.ChangedSums.{today-le-use_in}
 use Rattle.gu_book.proofs.Covered.{covered-taken}
 use Rattle.gu_book.proofs.Facts.{IsThere, claimable, refusable, reversible, today-is}
-use Rattle.gu_book.proofs.KeptOffers.{kept-claimed, kept-refused, kept-taken_back, within-taken}
+use Rattle.gu_book.proofs.KeptOffers.{kept-refused, kept-taken, kept-taken_back, within-taken}
 use Rattle.gu_book.proofs.OrderlyLemmas.{today-le-moved}
-use Rattle.gu_book.proofs.Spoken.{taken_back}
+use Rattle.gu_book.proofs.Spoken.{either-true, taken_back}
 use Rattle.gu_book.proofs.StandingLemmas.{length-standing_from}
+use Rattle.gu_book.proofs.Takers.{TakesOne, claim-takes, claimed}
 
 -- what follows from two facts of a result, and from three
 pub on_ok_two : {T E P Q R : Type 0} (r : Result T E) → (P → Q → R) → OnOk r P → OnOk r Q → OnOk r R
@@ -92,7 +93,7 @@ pub record IsSeen (totals : Totals) (n : ℕ) (offer : Offer) (report : Report) 
   pub found : Some report ≡ report_by totals.trades offer.firm offer.report
 
 -- are those of the history
-seen-is : (reference : Tables) (history : List Entry) (totals : Totals) (n : ℕ) (offer : Offer) (report found : Report) (row : Row) → IsBeside reference history totals
+pub seen-is : (reference : Tables) (history : List Entry) (totals : Totals) (n : ℕ) (offer : Offer) (report found : Report) (row : Row) → IsBeside reference history totals
     → IsSeen totals n offer report → IsThere history n row found → (offer ≡ row.offer) × (report ≡ found)
 seen-is reference history totals n offer report found row b seen there =
     let shown : Some offer ≡ Some row.offer = seen.shown ∙ ap (λ (rs : List Row). option_map (λ (r : Row). r.offer) (row_at rs n)) b.offers ∙ ap (λ (o : Option Row). option_map (λ (r : Row). r.offer) o) there.at in
@@ -115,25 +116,40 @@ claim-room reference totals n offer report seen may k d within =
     let key = slice_index_or (path_behind reference offer) k d in
     omega (arith, has, ap (λ (rs : List Row). left_in rs n) b.offers, b.limits offer.group key, b.uses offer.group key)
 
--- and its lots are there
+-- lots that are left of an open offer are there
+pub taken-there : (reference : Tables) (history : List Entry) (totals : Totals) (n lots : ℕ) (row : Row) (report : Report) → IsKept reference history totals → IsThere history n row report
+    → row.is_shut ≡ false → row.moved + lots ≤ row.offer.lots → lots ≤ lots_in totals.positions report.side report.account report.symbol
+taken-there reference history totals n lots row report kept there stands less =
+    let o = kept.orderly in
+    let has =
+    held_in-has (reports_of history) (standing_of history) n row there.at report.side report.account report.symbol report lots there.behind
+    (covered-taken (reports_of history) (standing_of history) n row lots there.at stands o.covered)
+    (within-taken history n lots row there.at less o.within) in
+    omega (arith, has, own_place report.side report.account report.symbol lots, kept.beside.positions report.side report.account report.symbol)
+
+-- and so are those of a claim
 pub claim-there : (reference : Tables) (totals : Totals) (n : ℕ) (offer : Offer) (report : Report) → IsSeen totals n offer report → MayClaim reference totals n
     → left_in totals.offers n ≤ lots_in totals.positions report.side report.account report.symbol
 claim-there reference totals n offer report seen may =
     let history = may.may.history in
-    let b = may.may.kept.beside in
-    let o = may.may.kept.orderly in
-    let f = claimable reference history may.firm n o may.may.accepted in
-    let row = f.0 in
-    let found = f.1 in
-    let same = (seen-is reference history totals n offer report found row b seen f.2.there).1 in
-    let left = left_in (standing_of history) n in
-    let has =
-    held_in-has (reports_of history) (standing_of history) n row f.2.there.at found.side found.account found.symbol found left f.2.there.behind
-    (covered-taken (reports_of history) (standing_of history) n row left f.2.there.at f.2.stands o.covered)
-    (within-taken history n left row f.2.there.at f.2.less o.within) in
-    let fits : left_in totals.offers n ≤ lots_in totals.positions found.side found.account found.symbol =
-    omega (arith, has, own_place found.side found.account found.symbol left, ap (λ (rs : List Row). left_in rs n) b.offers, b.positions found.side found.account found.symbol) in
-    subst (λ (r : Report). left_in totals.offers n ≤ lots_in totals.positions r.side r.account r.symbol) (sym same) fits
+    let kept = may.may.kept in
+    let f = claimable reference history may.firm n kept.orderly may.may.accepted in
+    let same = (seen-is reference history totals n offer report f.1 f.0 kept.beside seen f.2.there).1 in
+    let left = ap (λ (rs : List Row). left_in rs n) kept.beside.offers in
+    let fits = taken-there reference history totals n (left_in (standing_of history) n) f.0 f.1 kept f.2.there f.2.stands f.2.less in
+    subst (λ (r : Report). left_in totals.offers n ≤ lots_in totals.positions r.side r.account r.symbol) (sym same) (omega (arith, fits, left))
+
+-- an entry that takes lots of an open offer is taken in
+pub lots-taken : (reference : Tables) (history : List Entry) (old new : Totals) (entry : Entry) (n lots : ℕ) (offer : Offer) (report found : Report) (row : Row) → IsSeen old n offer report → TakesOne entry n lots
+    → SameEntries old new → new.offers ≡ changed old.offers n (taken lots) → UsesMore reference old.limits new.limits offer lots
+    → HoldsMoved old.positions new.positions report report.account offer.account lots → IsKept reference history old → IsThere history n row found → row.is_shut ≡ false → row.moved + lots ≤ row.offer.lots
+    → IsKept reference (history ++ entry ∷ []) new
+lots-taken reference history old new entry n lots offer report found row seen takes same offers uses holds kept there stands less =
+    let is = seen-is reference history old n offer report found row kept.beside seen there in
+    kept-taken reference history old new entry n lots row found takes kept there stands less same offers
+    (subst (λ (o : Offer). UsesMore reference old.limits new.limits o lots) is.0 uses)
+    (subst (λ (r : Report). HoldsMoved old.positions new.positions r r.account row.offer.account lots) is.1
+    (subst (λ (o : Offer). HoldsMoved old.positions new.positions report report.account o.account lots) is.0 holds))
 
 -- a claim is taken in
 pub claim-taken : (reference : Tables) (old new : Totals) (n : ℕ) (offer : Offer) (report : Report) → IsSeen old n offer report → SameEntries old new
@@ -141,16 +157,10 @@ pub claim-taken : (reference : Tables) (old new : Totals) (n : ℕ) (offer : Off
     → HoldsMoved old.positions new.positions report report.account offer.account (left_in old.offers n) → (firm : FirmId) → TakesIn reference old new (Claim firm n)
 claim-taken reference old new n offer report seen same offers uses holds firm history kept accepted =
     let f = claimable reference history firm n kept.orderly accepted in
-    let row = f.0 in
-    let found = f.1 in
-    let is = seen-is reference history old n offer report found row kept.beside seen f.2.there in
     let left : left_in old.offers n ≡ left_in (standing_of history) n = ap (λ (rs : List Row). left_in rs n) kept.beside.offers in
-    kept-claimed reference history old new firm n (left_in (standing_of history) n) row found kept f.2.there f.2.stands f.2.less same
-    (offers ∙ ap (λ (lots : ℕ). changed old.offers n (taken lots)) left)
-    (subst (λ (lots : ℕ). UsesMore reference old.limits new.limits row.offer lots) left (subst (λ (o : Offer). UsesMore reference old.limits new.limits o (left_in old.offers n)) is.0 uses))
-    (subst (λ (lots : ℕ). HoldsMoved old.positions new.positions found found.account row.offer.account lots) left
-    (subst (λ (r : Report). HoldsMoved old.positions new.positions r r.account row.offer.account (left_in old.offers n)) is.1
-    (subst (λ (o : Offer). HoldsMoved old.positions new.positions report report.account o.account (left_in old.offers n)) is.0 holds)))
+    subst (λ (lots : ℕ). IsKept reference (history ++ claimed firm n lots ∷ []) new) left
+    (lots-taken reference history old new (claimed firm n (left_in old.offers n)) n (left_in old.offers n) offer report f.1 f.0 seen (claim-takes firm n (left_in old.offers n)) same offers uses holds kept f.2.there
+    f.2.stands (omega (arith, f.2.less, left)))
 
 -- ---- refusals
 
@@ -164,14 +174,10 @@ refusal-taken reference old new n same offers limits positions firm why history 
 -- ---- reversals
 
 -- a key of a path stands in it
-key_at : (path : List LimitKey) (k : ℕ) (d : LimitKey) → k < length path → has_key path (slice_index_or path k d) ≡ true
+pub key_at : (path : List LimitKey) (k : ℕ) (d : LimitKey) → k < length path → has_key path (slice_index_or path k d) ≡ true
 key_at [] k d within = absurd (omega arith)
 key_at (key ∷ path) zero d within = rw (key_eq-refl key) refl
-key_at (key ∷ path) (suc k) d within = either (key_eq key (slice_index_or path k d)) (has_key path (slice_index_or path k d)) (key_at path k d (omega arith))
-  where
-    either : (p q : Bool) → q ≡ true → (p || q) ≡ true
-    either true q h = refl
-    either false q h = h
+key_at (key ∷ path) (suc k) d within = either-true (key_eq key (slice_index_or path k d)) (has_key path (slice_index_or path k d)) (key_at path k d (omega arith))
 
 -- what is reversed was used
 pub reversal-used : (reference : Tables) (totals : Totals) (n : ℕ) (offer : Offer) (report : Report) → IsSeen totals n offer report → MayReverse reference totals n → (k : ℕ) (d : LimitKey)

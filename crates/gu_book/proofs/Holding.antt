@@ -11,6 +11,7 @@ use Rattle.gu_terms.specs.declared.account.AccountId.{AccountId}
 use Rattle.gu_terms.specs.declared.report.Report.{Report}
 use Rattle.gu_terms.specs.declared.side.Side.{Side}
 use Rattle.gu_terms.specs.declared.symbol.Symbol.{Symbol}
+use Rattle.gu_positions.proofs.Changed.{find-passes, found_within_sum}
 use Rattle.gu_trades.specs.Matching.{is_of_trade}
 use Rattle.gu_trades.specs.Reports.{is_by}
 use Rattle.gu_offers.specs.Rows.{Row, counted_of, counted_under, is_of_report}
@@ -28,34 +29,6 @@ given_up_by reports side account symbol row = if is_on reports side symbol row &
 -- the same by the report
 abbrev held_of_report : Side → AccountId → Symbol → Row → Report → ℕ
 held_of_report side account symbol row r = if is_at side account symbol r then (if is_of_report r.firm r.id row then counted_of row else 0) else 0
-
--- what the first that passes has is within the sum over all
-first-le : {X : Type 0} (test : X → Bool) (g : X → ℕ) (xs : List X) (x : X) → find test xs ≡ Some x → g x ≤ sum_by g xs
-first-le test g [] x is = cc
-first-le test g (first ∷ xs) x is =
-    elim (cases_Bool (test first)) [
-      | inl hit ↦
-          let here : Some first ≡ Some x = sym (rw hit refl) ∙ is in
-          let same : first ≡ x = cc in
-          omega (arith, sum_by-cons g first xs, ap g same)
-      | inr miss ↦
-          let there : find test xs ≡ Some x = sym (rw miss refl) ∙ is in
-          omega (arith, sum_by-cons g first xs, first-le test g xs x there)
-    ]
-
--- and passes
-first-passes : {X : Type 0} (test : X → Bool) (xs : List X) (x : X) → find test xs ≡ Some x → test x ≡ true
-first-passes test [] x is = cc
-first-passes test (first ∷ xs) x is =
-    elim (cases_Bool (test first)) [
-      | inl hit ↦
-          let here : Some first ≡ Some x = sym (rw hit refl) ∙ is in
-          let same : first ≡ x = cc in
-          subst (λ y. test y ≡ true) same hit
-      | inr miss ↦
-          let there : find test xs ≡ Some x = sym (rw miss refl) ∙ is in
-          first-passes test xs x there
-    ]
 
 -- an offer of a report is of the report by its firm and its id
 is_of_report-by : (row : Row) (r : Report) → is_by row.offer.firm row.offer.report r ≡ true → is_of_report r.firm r.id row ≡ true
@@ -84,8 +57,8 @@ given-le reports side account symbol row = by (report_behind reports row) refl
         rw e
         (three (same_side r.side side) (same_account r.account account) (same_symbol r.symbol symbol) (counted_of row) (sum_by (held_of_report side account symbol row) reports)
         (λ hit.
-        let one = first-le (is_by row.offer.firm row.offer.report) (held_of_report side account symbol row) reports r e in
-        let mine = is_of_report-by row r (first-passes (is_by row.offer.firm row.offer.report) reports r e) in
+        let one = found_within_sum (is_by row.offer.firm row.offer.report) (held_of_report side account symbol row) reports r e in
+        let mine = is_of_report-by row r (find-passes (is_by row.offer.firm row.offer.report) reports r e) in
         let all : held_of_report side account symbol row r ≡ counted_of row = rw (hit, mine) refl in
         omega (arith, one, all)))
 

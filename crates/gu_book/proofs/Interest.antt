@@ -18,6 +18,7 @@ use Rattle.gu_book.specs.Beside.{AreKnown, IsBeside}
 use Rattle.gu_book.specs.Kept.{Kept}
 use Rattle.gu_book.specs.Positions.{held_of, open_interest_of}
 use Rattle.gu_book.specs.declared.totals.Totals.{Totals}
+use Rattle.gu_book.proofs.Spoken.{either-true}
 
 -- what a row has long above what it has short
 abbrev net : Row → ℕ
@@ -90,12 +91,8 @@ all-there : (accounts : List Account) (rows : List Row) → ((account : AccountI
 all-there accounts [] known = tt
 all-there accounts (r ∷ rows) known = (
   known r.account r.symbol (rw (same_account-own r.account, same_symbol-own r.symbol) refl),
-  all-there accounts rows (λ account symbol h. known account symbol (either (is_of account symbol r) (has_row rows account symbol) h)),
+  all-there accounts rows (λ account symbol h. known account symbol (either-true (is_of account symbol r) (has_row rows account symbol) h)),
 )
-  where
-    either : (p q : Bool) → q ≡ true → (p || q) ≡ true
-    either true q h = refl
-    either false q h = h
 
 -- the rows' open interest, over the accounts
 over-rows : (accounts : List Account) (rows : List Row) (symbol : Symbol) → IsDistinct (λ a b. same_account a.account b.account) accounts

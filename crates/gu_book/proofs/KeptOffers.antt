@@ -18,14 +18,15 @@ use Rattle.gu_book.proofs.ChangedPositions.{held_in-closed, held_in-reversed, he
 use Rattle.gu_book.proofs.ChangedSums.{use_in-closed, use_in-reversed, use_in-taken}
 use Rattle.gu_book.proofs.Covered.{covered-taken}
 use Rattle.gu_book.proofs.Facts.{IsThere}
-use Rattle.gu_book.proofs.OrderlyLemmas.{all-changed, orderly-claimed, orderly-refused, orderly-taken_back, today-le-moved}
+use Rattle.gu_book.proofs.OrderlyLemmas.{all-changed, orderly-taken, orderly-refused, orderly-taken_back, today-le-moved}
 use Rattle.gu_book.proofs.Quiet.{IsQuiet, beside-quiet, unreported}
-use Rattle.gu_book.proofs.Spoken.{claimed, claimed-others, claimed-own, refused, refused-others, refused-own, taken_back, taken_back-others, taken_back-own}
+use Rattle.gu_book.proofs.Spoken.{refused, refused-others, refused-own, taken_back, taken_back-others, taken_back-own}
 use Rattle.gu_book.proofs.Stepping.{standing_of-one}
+use Rattle.gu_book.proofs.Takers.{TakesOne, takes-others, takes-own}
 
--- the three entries open no day, report nothing, give nothing up and set no limit
-quiet-claimed : (history : List Entry) (firm : FirmId) (n lots : ℕ) → IsQuiet history (claimed firm n lots)
-quiet-claimed history firm n lots = record { opens = refl; reports = unreported (claimed firm n lots) (λ d. refl) (open_day history); gives_up = λ f i. refl; sets = λ g k. refl }
+-- the entries open no day, report nothing, give nothing up and set no limit
+quiet-taken : (history : List Entry) (entry : Entry) (n lots : ℕ) → TakesOne entry n lots → IsQuiet history entry
+quiet-taken history entry n lots takes = record { opens = takes.only.opens; reports = takes.only.reports (open_day history); gives_up = takes.only.gives_up; sets = takes.only.sets }
 
 quiet-refused : (history : List Entry) (firm : FirmId) (n : ℕ) (why : AllocReject) (lots : ℕ) → IsQuiet history (refused firm n why lots)
 quiet-refused history firm n why lots = record { opens = refl; reports = unreported (refused firm n why lots) (λ d. refl) (open_day history); gives_up = λ f i. refl; sets = λ g k. refl }
@@ -38,21 +39,21 @@ pub within-taken : (history : List Entry) (n lots : ℕ) (row : Row) → row_at 
     → AreWithin (changed (standing_of history) n (taken lots))
 within-taken history n lots row at less within = all-changed (λ r. r.moved ≤ r.offer.lots) (standing_of history) n row (taken lots) at less within
 
--- a claim
-pub kept-claimed : (reference : Tables) (history : List Entry) (old new : Totals) (firm : FirmId) (n lots : ℕ) (row : Row) (report : Report) → IsKept reference history old → IsThere history n row report
+-- a claim, or a sweep of one offer
+pub kept-taken : (reference : Tables) (history : List Entry) (old new : Totals) (entry : Entry) (n lots : ℕ) (row : Row) (report : Report) → TakesOne entry n lots → IsKept reference history old → IsThere history n row report
     → row.is_shut ≡ false → row.moved + lots ≤ row.offer.lots → SameEntries old new → new.offers ≡ changed old.offers n (taken lots)
     → UsesMore reference old.limits new.limits row.offer lots → HoldsMoved old.positions new.positions report report.account row.offer.account lots
-    → IsKept reference (history ++ claimed firm n lots ∷ []) new
-kept-claimed reference history old new firm n lots row report kept there stands less same offers uses holds =
+    → IsKept reference (history ++ entry ∷ []) new
+kept-taken reference history old new entry n lots row report takes kept there stands less same offers uses holds =
     let rows = standing_of history in
     let reports = reports_of history in
-    let quiet = quiet-claimed history firm n lots in
+    let quiet = quiet-taken history entry n lots takes in
     let covered = covered-taken reports rows n row lots there.at stands kept.orderly.covered in
     let within = within-taken history n lots row there.at less kept.orderly.within in
     record {
-      orderly = orderly-claimed history firm n lots row kept.orderly there.at stands less;
-      beside = beside-quiet reference history (claimed firm n lots) (changed rows n (taken lots)) old new quiet kept.beside same uses.limits
-          (standing_of-one history (claimed firm n lots) n row (taken lots) refl refl kept.orderly.balanced (claimed-others firm n lots) there.at (claimed-own firm n lots row))
+      orderly = orderly-taken history entry n lots row takes kept.orderly there.at stands less;
+      beside = beside-quiet reference history entry (changed rows n (taken lots)) old new quiet kept.beside same uses.limits
+          (standing_of-one history entry n row (taken lots) takes.only.opens takes.only.lines kept.orderly.balanced (takes-others entry n lots takes) there.at (takes-own entry n lots row takes))
           (offers ∙ ap (λ (rs : List Row). changed rs n (taken lots)) kept.beside.offers)
           (λ group key. omega (arith, uses.uses group key, kept.beside.uses group key, use_in-taken reference rows n row lots there.at group key))
           (λ side account symbol.

@@ -96,7 +96,7 @@ offers-known reference old new (Ok x) n row change at same known ok err =
 offers-known reference old new (Err e) n row change at same known ok err = subst (AllByRecursion (λ (o : Row). is_there reference o.offer.account)) (sym err.offers) known
 
 -- an offer that is seen stands in a row
-seen-row : (totals : Totals) (n : ℕ) (offer : Offer) (report : Report) → IsSeen totals n offer report → (row : Row) × (row_at totals.offers n ≡ Some row) × (row.offer ≡ offer)
+pub seen-row : (totals : Totals) (n : ℕ) (offer : Offer) (report : Report) → IsSeen totals n offer report → (row : Row) × (row_at totals.offers n ≡ Some row) × (row.offer ≡ offer)
 seen-row totals n offer report seen = by (row_at totals.offers n) refl seen.shown
   where
     by : (found : Option Row) → row_at totals.offers n ≡ found → Some offer ≡ option_map (λ (r : Row). r.offer) found → (row : Row) × (row_at totals.offers n ≡ Some row) × (row.offer ≡ offer)

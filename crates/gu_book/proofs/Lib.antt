@@ -15,13 +15,16 @@ pub mod KeptReports
 pub mod KnownAccounts
 pub mod LimitLemmas
 pub mod Moved
+pub mod Moves
 pub mod OrderlyLemmas
 pub mod Quiet
 pub mod Reported
 pub mod Spoken
 pub mod Stepping
+pub mod Parts
 pub mod Passing
 pub mod UnknownGroups
 pub mod StandingLemmas
 pub mod TakenIn
+pub mod Takers
 pub mod Today

@@ -27,9 +27,10 @@ use Rattle.gu_book.proofs.Balanced.{balanced-opened, balanced-push, named-opened
 use Rattle.gu_book.proofs.Covered.{covered-closed, covered-next_day, covered-reversed, covered-taken, covered-with_lines}
 use Rattle.gu_book.proofs.Growing.{reports_of-push}
 use Rattle.gu_book.proofs.Moved.{LeavesOthers}
-use Rattle.gu_book.proofs.Spoken.{apart, claimed, claimed-others, claimed-own, refused, refused-others, refused-own, taken_back, taken_back-others, taken_back-own}
+use Rattle.gu_book.proofs.Spoken.{refused, refused-others, refused-own, taken_back, taken_back-others, taken_back-own}
 use Rattle.gu_book.proofs.StandingLemmas.{IsIdle, offers_of-push, stepped}
 use Rattle.gu_book.proofs.Stepping.{standing_of-idle, standing_of-lines, standing_of-one, standing_of-opened}
+use Rattle.gu_book.proofs.Takers.{TakesOne, apart, takes-others, takes-own}
 
 -- an entry that reports nothing leaves the reports
 pub reports_of-kept : (history : List Entry) (entry : Entry) → report_on (open_day history) entry ≡ None → reports_of (history ++ entry ∷ []) ≡ reports_of history
@@ -150,20 +151,16 @@ orderly-one history entry n row change o unreported none nothing others at is gi
 beyond-apart : (n m most : ℕ) → n ≤ most → most < m → m ≢ n
 beyond-apart n m most within beyond same = absurd (omega (arith, within, beyond, same))
 
--- a claim of an offer that isn't closed, of no more than is left
-pub orderly-claimed : (history : List Entry) (firm : FirmId) (n lots : ℕ) (row : Row) → IsOrderly history → row_at (standing_of history) n ≡ Some row → row.is_shut ≡ false → row.moved + lots ≤ row.offer.lots
-    → IsOrderly (history ++ claimed firm n lots ∷ [])
-orderly-claimed history firm n lots row o at stands less =
+-- an entry that takes of an offer that isn't closed, no more than is left
+pub orderly-taken : (history : List Entry) (entry : Entry) (n lots : ℕ) (row : Row) → TakesOne entry n lots → IsOrderly history → row_at (standing_of history) n ≡ Some row → row.is_shut ≡ false
+    → row.moved + lots ≤ row.offer.lots → IsOrderly (history ++ entry ∷ [])
+orderly-taken history entry n lots row takes o at stands less =
     let within = number-within history n row at in
-    orderly-one history (claimed firm n lots) n row (taken lots) o (unreported (open_day history)) refl refl (claimed-others firm n lots) at (claimed-own firm n lots row)
-    (λ m. omega arith)
-    (λ m beyond. rw (apart n m (beyond-apart n m (length (offers_of history)) within beyond)) refl)
-    (λ m beyond. refl)
+    orderly-one history entry n row (taken lots) o (takes.only.reports (open_day history)) takes.only.opens takes.only.lines (takes-others entry n lots takes) at (takes-own entry n lots row takes)
+    (λ m. omega (arith, takes.only.gives m))
+    (λ m beyond. takes.others m (beyond-apart n m (length (offers_of history)) within beyond))
+    (λ m beyond. takes.only.closed m)
     (covered-taken (reports_of history) (standing_of history) n row lots at stands o.covered) refl less
-  where
-    unreported : (day : Option Day) → report_on day (claimed firm n lots) ≡ None
-    unreported None = refl
-    unreported (Some day) = refl
 
 -- a refusal
 pub orderly-refused : (history : List Entry) (firm : FirmId) (n : ℕ) (why : AllocReject) (lots : ℕ) (row : Row) → IsOrderly history → row_at (standing_of history) n ≡ Some row

@@ -16,21 +16,9 @@ use Rattle.gu_offers.specs.Rows.{Row}
 use Rattle.gu_book.specs.Offers.{closes, given_back_by, taken_by}
 use Rattle.gu_book.proofs.Moved.{LeavesOthers}
 use Rattle.gu_book.proofs.StandingLemmas.{IsIdle, either-false, stepped, stepped-still}
+use Rattle.gu_book.proofs.Takers.{apart, same}
 
-pub apart : (n m : ℕ) → m ≢ n → (n == m) ≡ false
-apart n m differ =
-    elim (cases_Bool (n == m)) [
-      | inl hit ↦ absurd (differ (sym ((Decides-eqb n m).0 hit)))
-      | inr miss ↦ miss
-    ]
-
-same : (n : ℕ) → (n == n) ≡ true
-same n = (Decides-eqb n n).1 refl
-
--- an entry of a claim, of a refusal, and of a reversal
-abbrev pub claimed : FirmId → ℕ → ℕ → Entry
-claimed firm n lots = Asked (Claim firm n) (Accepted (Claimed lots))
-
+-- an entry of a refusal, and of a reversal
 abbrev pub refused : FirmId → ℕ → AllocReject → ℕ → Entry
 refused firm n why lots = Asked (Refuse firm n why) (Accepted (Refused lots))
 
@@ -38,28 +26,18 @@ abbrev pub taken_back : FirmId → ℕ → ℕ → Entry
 taken_back firm n lots = Asked (Reverse firm n) (Accepted (Reversed lots))
 
 -- each leaves the other offers
-pub claimed-others : (firm : FirmId) (n lots : ℕ) → LeavesOthers (claimed firm n lots) n
-claimed-others firm n lots m differ row = stepped-still (claimed firm n lots) m row (rw (apart n m differ) refl) refl refl
-
 pub refused-others : (firm : FirmId) (n : ℕ) (why : AllocReject) (lots : ℕ) → LeavesOthers (refused firm n why lots) n
 refused-others firm n why lots m differ row = stepped-still (refused firm n why lots) m row refl refl (apart n m differ)
 
 pub taken_back-others : (firm : FirmId) (n lots : ℕ) → LeavesOthers (taken_back firm n lots) n
 taken_back-others firm n lots m differ row = stepped-still (taken_back firm n lots) m row refl (rw (apart n m differ) refl) (apart n m differ)
 
--- and does this to its own
-pub claimed-own : (firm : FirmId) (n lots : ℕ) (row : Row) → stepped (claimed firm n lots) n row ≡ taken lots row
-claimed-own firm n lots row =
-    let takes : taken_by n (claimed firm n lots) ≡ lots = rw (same n) refl in
-    let moved : row.moved + taken_by n (claimed firm n lots) - 0 ≡ row.moved + lots = omega (arith, takes) in
-    let today : row.today + taken_by n (claimed firm n lots) - 0 ≡ row.today + lots = omega (arith, takes) in
-    let shut = either-false row.is_shut in
-    λ i. record { offer = row.offer; moved = moved i; today = today i; is_shut = shut i }
-
-either-true : (b c : Bool) → c ≡ true → (b || c) ≡ true
+-- either, by the second
+pub either-true : (b c : Bool) → c ≡ true → (b || c) ≡ true
 either-true true c h = refl
 either-true false c h = h
 
+-- and does this to its own
 pub refused-own : (firm : FirmId) (n : ℕ) (why : AllocReject) (lots : ℕ) (row : Row) → stepped (refused firm n why lots) n row ≡ closed row
 refused-own firm n why lots row =
     let moved : row.moved + 0 - 0 ≡ row.moved = omega arith in

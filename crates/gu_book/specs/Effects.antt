@@ -31,6 +31,10 @@ abbrev pub OnlyRowsOf : List Row → List Row → List AccountId → Type 0
 OnlyRowsOf old new accounts =
     (account : AccountId) (symbol : Symbol) → has_row new account symbol ≡ true → (has_row old account symbol || list_any (same_account account) accounts) ≡ true
 
+-- the rows that there were are there
+abbrev pub KeepsMade : List Row → List Row → Type 0
+KeepsMade old new = (account : AccountId) (symbol : Symbol) → has_row old account symbol ≡ true → has_row new account symbol ≡ true
+
 -- lots of reports are held more
 pub record HoldsMore (old new : List Row) (reports : List Report) : Type 0 where
   pub lots : (side : Side) (account : AccountId) (symbol : Symbol) → lots_in new side account symbol ≡ lots_in old side account symbol + lots_of_reports reports side account symbol
@@ -64,7 +68,7 @@ pub record UsesNothing (old new : List GroupLimit) : Type 0 where
   pub limits : SameLimits old new
   pub uses : (at : Group) (on : LimitKey) → used_in new at on ≡ 0
 
--- the day, the reports, the offers and the give-ups are what they were
+-- the day, the reports and the give-ups are what they were
 pub record SameEntries (old new : Totals) : Type 0 where
   pub today : new.today ≡ old.today
   pub trades : new.trades ≡ old.trades

@@ -6,6 +6,7 @@ pub mod Effects
 pub mod Kept
 pub mod Legal
 pub mod Limits
+pub mod Moving
 pub mod Offers
 pub mod Orderly
 pub mod Positions

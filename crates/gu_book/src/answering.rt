@@ -171,7 +171,6 @@ fn refusal_of_lines(
 }
 
 /// The answer to a give-up.
-
 fn answer_to_give_up(
     reference: &Reference,
     totals: &Totals,

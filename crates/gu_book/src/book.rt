@@ -200,7 +200,7 @@ impl Book {
         ensures known { OnOk result (is_group self.now.reference group.now ≡ true) }
         ensures unknown { IsErrOf result LookError.UnknownGroup ↔ (is_group self.now.reference group.now ≡ false) }
     {
-        if self.reference.group(*group).is_none() {
+        if !self.reference.group(*group) {
             return Err(LookError::UnknownGroup);
         }
         Err(LookError::Memory)
@@ -220,7 +220,7 @@ impl Book {
         ensures reference { self.new.reference ≡ self.old.reference }
         ensures refused { OnErr result (self.new.history ≡ self.old.history) }
     {
-        todo!()
+        Err((CommitError::Memory, proposal))
     }
 
     /// The open day.

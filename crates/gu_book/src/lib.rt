@@ -7,6 +7,7 @@ mod error;
 mod laws;
 mod limits;
 mod positions;
+mod sweeping;
 mod taking;
 mod totals;
 

@@ -14,8 +14,9 @@ ghost use Rattle.gu_trades.specs.Matching.{conflicts, is_waiting};
 ghost use Rattle.gu_trades.specs.Sides.{reports_in};
 ghost use Rattle.gu_trades.specs.Reports.{has_report, report_by, with_match};
 ghost use Rattle.gu_book.specs.Beside.{is_kept_give_up};
-ghost use Rattle.gu_book.specs.Effects.{HoldsMore, HoldsMoved, OnlyRowsOf, SameAnswers, SameEntries, SetsLimit, UsesLess, UsesMore, UsesNothing, made_a_trade};
+ghost use Rattle.gu_book.specs.Effects.{HoldsMore, HoldsMoved, KeepsMade, OnlyRowsOf, SameAnswers, SameEntries, SetsLimit, UsesLess, UsesMore, UsesNothing, made_a_trade};
 ghost use Rattle.gu_book.specs.Limits.{path_behind};
+ghost use Rattle.gu_book.specs.Moving.{given_by};
 ghost use Rattle.gu_book.specs.Reports.{Fits};
 
 use crate::answering::path_of_offer;
@@ -194,7 +195,65 @@ impl Totals {
         Ok(())
     }
 
-    /// Lots of an offer are claimed: they are used under the keys of its path, and leave the account of its report for its own.
+    /// The offer of a number, and the report that it gives up.
+    pub fn given(&self, number: OfferNo) -> Option<(Offer, Report)>
+        ensures { result ≡ given_by self.now number }
+    {
+        let offer = self.offers.get(number)?;
+        let report = self.trades.side_of(offer.firm, offer.report)?;
+        Some((offer, report))
+    }
+
+    /// Makes the rows of the accounts between which lots of an offer move. No answer changes.
+    pub fn make_way(&mut self, offer: &Offer, report: &Report) -> Result<(), AllocError>
+        ensures from { OnOk result (has_row self.new.positions report.now.account report.now.symbol ≡ true) }
+        ensures to { OnOk result (has_row self.new.positions offer.now.account report.now.symbol ≡ true) }
+        ensures stay { KeepsMade self.old.positions self.new.positions }
+        ensures rows { OnlyRowsOf self.old.positions self.new.positions (report.now.account ∷ offer.now.account ∷ []) }
+        ensures same { SameAnswers self.old self.new }
+    {
+        make_rows(
+            &mut self.positions,
+            &report.account,
+            &report.symbol,
+            &offer.account,
+            &report.symbol,
+        )
+    }
+
+    /// Lots of an offer are moved: they are used under the keys of its path, and leave the account of its report for its own. The rows
+    /// are made. It takes no memory.
+    pub fn move_lots(
+        &mut self,
+        reference: &Reference,
+        number: OfferNo,
+        offer: &Offer,
+        report: &Report,
+        lots: u64,
+    )
+        requires left { lots ≤ left_in self.old.offers number }
+        requires room { All (λ key. lots ≤ room_in self.old.limits offer.now.group key) (path_behind reference.now offer.now) }
+        requires there { lots ≤ lots_in self.old.positions report.now.side report.now.account report.now.symbol }
+        requires from { has_row self.old.positions report.now.account report.now.symbol ≡ true }
+        requires to { has_row self.old.positions offer.now.account report.now.symbol ≡ true }
+        ensures entries { SameEntries self.old self.new }
+        ensures offers { self.new.offers ≡ changed self.old.offers number (taken lots) }
+        ensures limits { UsesMore reference.now self.old.limits self.new.limits offer.now lots }
+        ensures positions { HoldsMoved self.old.positions self.new.positions report.now report.now.account offer.now.account lots }
+        ensures rows { KeepsRows self.old.positions self.new.positions }
+    {
+        self.offers.take(number, lots);
+        charge(&mut self.limits, reference, offer, lots);
+        self.positions.shift(
+            report.account,
+            offer.account,
+            report.symbol,
+            report.side,
+            lots,
+        );
+    }
+
+    /// Lots of an offer are claimed: the rows are made, and they are moved.
     pub fn claim(
         &mut self,
         reference: &Reference,
@@ -214,22 +273,8 @@ impl Totals {
         ensures rows { OnlyRowsOf self.old.positions self.new.positions (report.now.account ∷ offer.now.account ∷ []) }
         ensures refused { OnErr result (SameAnswers self.old self.new) }
     {
-        make_rows(
-            &mut self.positions,
-            &report.account,
-            &report.symbol,
-            &offer.account,
-            &report.symbol,
-        )?;
-        self.offers.take(number, lots);
-        charge(&mut self.limits, reference, offer, lots);
-        self.positions.shift(
-            report.account,
-            offer.account,
-            report.symbol,
-            report.side,
-            lots,
-        );
+        self.make_way(offer, report)?;
+        self.move_lots(reference, number, offer, report, lots);
         Ok(())
     }
 
@@ -254,13 +299,7 @@ impl Totals {
         ensures rows { OnlyRowsOf self.old.positions self.new.positions (report.now.account ∷ offer.now.account ∷ []) }
         ensures refused { OnErr result (SameAnswers self.old self.new) }
     {
-        make_rows(
-            &mut self.positions,
-            &report.account,
-            &report.symbol,
-            &offer.account,
-            &report.symbol,
-        )?;
+        self.make_way(offer, report)?;
         self.offers.reverse(number);
         give_back(&mut self.limits, reference, offer, lots);
         self.positions.shift(
@@ -295,6 +334,7 @@ fn make_rows(
 ) -> Result<(), AllocError>
     ensures one { OnOk result (has_row positions.new one.now its.now ≡ true) }
     ensures two { OnOk result (has_row positions.new two.now other.now ≡ true) }
+    ensures stay { KeepsMade positions.old positions.new }
     ensures same_lots { KeepsLots positions.old positions.new }
     ensures rows { OnlyRowsOf positions.old positions.new (one.now ∷ two.now ∷ []) }
 {

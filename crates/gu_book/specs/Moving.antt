@@ -1,0 +1,74 @@
+-- Machinery: the takes of a sweep, as what is kept beside a history takes them in, one after another.
+use Rattle.std.specs.Prelude.{◌≡◌, ℕ, ◌<◌, ◌≤◌, ◌++◌, true, List, [], ◌∷◌, map, sum_by, Option, Some, IfSome}
+use Rattle.std.specs.List.{AllByRecursion}
+use Rattle.std.specs.Option.{option_and_then, option_map, option_map_or}
+use Rattle.gu_terms.proofs.Lists.{Later}
+use Rattle.gu_terms.specs.declared.entry.Entry.{Entry}
+use Rattle.gu_terms.specs.declared.entry.Entry.TheVariants.{Swept}
+use Rattle.gu_terms.specs.declared.entry.SweepEntry.{SweepEntry}
+use Rattle.gu_terms.specs.declared.group.Group.{Group}
+use Rattle.gu_terms.specs.declared.limit_key.LimitKey.{LimitKey}
+use Rattle.gu_terms.specs.declared.offer.Offer.{Offer}
+use Rattle.gu_terms.specs.declared.report.Report.{Report}
+use Rattle.gu_terms.specs.declared.side.Side.{Side}
+use Rattle.gu_terms.specs.declared.symbol.Symbol.{Symbol}
+use Rattle.gu_terms.specs.declared.takes.Take.{Take}
+use Rattle.gu_ref.specs.Tables.{Tables}
+use Rattle.gu_limits.specs.Changes.{lots_under}
+use Rattle.gu_limits.specs.Limits.{room_in}
+use Rattle.gu_offers.specs.Changes.{changed, taken}
+use Rattle.gu_offers.specs.Rows.{Row, left_in, row_at}
+use Rattle.gu_positions.specs.Changes.{KeepsRows}
+use Rattle.gu_positions.specs.Rows.{has_row, lots_on}
+use Rattle.gu_book.specs.Beside.{AreKnown, IsKept}
+use Rattle.gu_book.specs.Effects.{SameEntries, UsesMore}
+use Rattle.gu_book.specs.Limits.{path_behind}
+use Rattle.gu_book.specs.Positions.{report_behind}
+use Rattle.gu_book.specs.declared.totals.Totals.{Totals}
+
+-- one take of a sweep, as a sweep of it alone
+abbrev pub part : SweepEntry → Take → Entry
+part sweep take = Swept (record { group = sweep.group; takes = take ∷ []; cut = sweep.cut; lots = take.lots })
+
+-- the takes of a sweep, one after another
+abbrev pub parts : SweepEntry → List Take → List Entry
+parts sweep takes = map (part sweep) takes
+
+-- the offer of a number, and the report that it gives up
+abbrev pub given_by : Totals → ℕ → Option (Offer × Report)
+given_by totals n = option_and_then (λ (row : Row). option_map (λ (r : Report). (row.offer, r)) (report_behind totals.trades row)) (row_at totals.offers n)
+
+-- the accounts between which lots of an offer move have rows of its instrument
+abbrev pub HasRows : Totals → ℕ → Type 0
+HasRows totals n = IfSome (given_by totals n) (λ g. (has_row totals.positions g.1.account g.1.symbol ≡ true) × (has_row totals.positions g.0.account g.1.symbol ≡ true))
+
+-- the lots that takes use under a key in a group
+abbrev pub lots_used : Tables → List Row → List Take → Group → LimitKey → ℕ
+lots_used reference rows takes group key =
+    sum_by (λ (t : Take). option_map_or (λ (r : Row). lots_under r.offer.group (path_behind reference r.offer) t.lots group key) (row_at rows t.offer) 0) takes
+
+-- takes may be moved: offers ascend, each is open and has the lots left, every room suffices for all, and rows are made
+pub record MayMove (reference : Tables) (totals : Totals) (takes : List Take) : Type 0 where
+  pub history : List Entry
+  pub kept : IsKept reference history totals
+  pub ascending : Later (λ (a b : Take). a.offer < b.offer) takes
+  pub still_open : AllByRecursion (λ (t : Take). 0 < left_in totals.offers t.offer) takes
+  pub left : AllByRecursion (λ (t : Take). t.lots ≤ left_in totals.offers t.offer) takes
+  pub room : (group : Group) (key : LimitKey) → lots_used reference totals.offers takes group key ≤ room_in totals.limits group key
+  pub rows : AllByRecursion (λ (t : Take). HasRows totals t.offer) takes
+
+-- one take was moved
+pub record MovesOne (reference : Tables) (old new : Totals) (take : Take) : Type 0 where
+  pub entries : SameEntries old new
+  pub offers : new.offers ≡ changed old.offers take.offer (taken take.lots)
+  pub limits : (row : Row) → row_at old.offers take.offer ≡ Some row → UsesMore reference old.limits new.limits row.offer take.lots
+  pub rows : KeepsRows old.positions new.positions
+  pub sums : (side : Side) (symbol : Symbol) → lots_on new.positions side symbol ≡ lots_on old.positions side symbol
+  pub kept : (history : List Entry) (sweep : SweepEntry) → IsKept reference history old → IsKept reference (history ++ part sweep take ∷ []) new
+  pub known : AreKnown reference old → AreKnown reference new
+
+-- takes were moved, one after another
+pub record MovesAll (reference : Tables) (old new : Totals) (takes : List Take) : Type 0 where
+  pub sums : (side : Side) (symbol : Symbol) → lots_on new.positions side symbol ≡ lots_on old.positions side symbol
+  pub kept : (history : List Entry) (sweep : SweepEntry) → IsKept reference history old → IsKept reference (history ++ parts sweep takes) new
+  pub known : AreKnown reference old → AreKnown reference new

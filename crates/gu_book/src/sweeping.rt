@@ -1,0 +1,59 @@
+//! Sweeps, as they are taken in.
+
+ghost use Rattle.std.specs.Prelude.{◌∷◌, [], OnOk, drop, take};
+ghost use Rattle.std.specs.List.{AllByRecursion};
+ghost use Rattle.gu_ref.specs.Tables.{Tables};
+ghost use Rattle.gu_book.specs.Beside.{AreKnown};
+ghost use Rattle.gu_book.specs.Effects.{KeepsMade, SameAnswers};
+ghost use Rattle.gu_book.specs.Moving.{HasRows, MayMove, MovesAll, MovesOne};
+
+use crate::totals::Totals;
+use gu_ref::Reference;
+use gu_terms::{OfferNo, Take};
+use std::alloc::AllocError;
+
+/// Makes the rows of the accounts between which lots of an offer move. No answer changes.
+fn make_way(totals: &mut Totals, number: OfferNo) -> Result<(), AllocError>
+    ensures rows { OnOk result (HasRows totals.new number) }
+    ensures stay { KeepsMade totals.old.positions totals.new.positions }
+    ensures same { SameAnswers totals.old totals.new }
+    ensures known { (reference : Tables) → AreKnown reference totals.old → AreKnown reference totals.new }
+{
+    match totals.given(number) {
+        Some((offer, report)) => totals.make_way(&offer, &report),
+        None => Ok(()),
+    }
+}
+
+/// Makes those for each of the takes.
+pub fn make_ways(totals: &mut Totals, takes: &[Take]) -> Result<(), AllocError>
+    ensures rows { OnOk result (AllByRecursion (λ t. HasRows totals.new t.offer) takes.now) }
+    ensures same { SameAnswers totals.old totals.new }
+    ensures known { (reference : Tables) → AreKnown reference totals.old → AreKnown reference totals.new }
+{
+    for take in takes {
+        make_way(totals, take.offer)?;
+    }
+    Ok(())
+}
+
+/// Moves the lots of one take. It takes no memory.
+fn move_take(totals: &mut Totals, reference: &Reference, take: &Take)
+    requires { MayMove reference.now totals.old (take.now ∷ []) }
+    ensures { MovesOne reference.now totals.old totals.new take.now }
+{
+    let Some((offer, report)) = totals.given(take.offer) else {
+        unreachable!();
+    };
+    totals.move_lots(reference, take.offer, &offer, &report, take.lots);
+}
+
+/// Moves the lots of takes, one after another. It takes no memory.
+pub fn move_takes(totals: &mut Totals, reference: &Reference, takes: &[Take])
+    requires { MayMove reference.now totals.old takes.now }
+    ensures { MovesAll reference.now totals.old totals.new takes.now }
+{
+    for take in takes {
+        move_take(totals, reference, take);
+    }
+}
