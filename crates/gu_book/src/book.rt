@@ -200,7 +200,7 @@ impl Book {
         ensures known { OnOk result (is_group self.now.reference group.now ≡ true) }
         ensures unknown { IsErrOf result LookError.UnknownGroup ↔ (is_group self.now.reference group.now ≡ false) }
     {
-        if self.reference.group(*group).is_none() {
+        if !self.reference.group(*group) {
             return Err(LookError::UnknownGroup);
         }
         Err(LookError::Memory)

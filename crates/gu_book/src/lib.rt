@@ -9,6 +9,7 @@ mod limits;
 mod positions;
 mod taking;
 mod totals;
+mod views;
 
 pub use book::Book;
 pub use error::{CommitError, EnterError, LookError};
