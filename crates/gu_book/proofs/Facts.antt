@@ -27,7 +27,7 @@ some-of : {X : Type 0} (found : Option X) → is_none found ≡ false → (x : X
 some-of None e = cc
 some-of (Some x) e = (x, refl)
 
-some-is : {X : Type 0} (found : Option X) → is_some found ≡ true → (x : X) × (found ≡ Some x)
+pub some-is : {X : Type 0} (found : Option X) → is_some found ≡ true → (x : X) × (found ≡ Some x)
 some-is None e = cc
 some-is (Some x) e = (x, refl)
 

@@ -1,5 +1,6 @@
 pub mod Balanced
 pub mod Accepting
+pub mod AgreementPaths
 pub mod Ascending
 pub mod Beginning
 pub mod ChangedPositions

@@ -11,6 +11,7 @@ pub mod Offers
 pub mod Orderly
 pub mod Positions
 pub mod Reports
+pub mod Shown
 pub mod Sweeps
 pub mod Versions
 pub mod Views

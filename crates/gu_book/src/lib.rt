@@ -10,6 +10,7 @@ mod positions;
 mod sweeping;
 mod taking;
 mod totals;
+mod views;
 
 pub use book::Book;
 pub use error::{CommitError, EnterError, LookError};

@@ -7,7 +7,7 @@ ghost use Rattle.gu_offers.specs.declared.given.Given.{Given as GivenOf};
 ghost use Rattle.gu_terms.specs.Numbers.{IsLots};
 ghost use Rattle.gu_offers.specs.Given.{forgotten, given_for, row_of};
 ghost use Rattle.gu_offers.specs.Kept.{IsSoundAt, IsWritten};
-ghost use Rattle.gu_offers.specs.Rows.{IsSound, counted_under, left_in, left_of, open_count, open_offer_at, open_offers, row_at, today_in};
+ghost use Rattle.gu_offers.specs.Rows.{IsSound, counted_under, left_in, left_of, open_count, open_numbers, open_offer_at, open_offers, row_at, today_in};
 
 use crate::counts::Counts;
 use crate::given::Given;
@@ -233,6 +233,13 @@ impl Offers {
         ensures { result ≡ open_count self.now group }
     {
         self.groups.of(&group).len()
+    }
+
+    /// The numbers of a product group's open offers, ascending. It takes no memory.
+    pub fn open_numbers(&self, group: Group) -> &[u64]
+        ensures { result.now ≡ open_numbers self.now group }
+    {
+        self.groups.of(&group)
     }
 
     /// Lots of an offer are moved, as many as are left of it at most.

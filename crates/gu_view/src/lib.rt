@@ -14,4 +14,5 @@ mod view;
 pub use checker::check;
 pub use error::{CutFault, Unknown, ViewError};
 pub use laws::cut_bounds_takes;
+pub use making::first_mentions;
 pub use view::{Offer, Room, View};

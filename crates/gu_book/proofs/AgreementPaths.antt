@@ -1,0 +1,116 @@
+-- The path of each agreement of a reference, and what it goes through.
+use Rattle.std.proofs.Common.{◌≡◌, ℕ, ◌&&◌, Bool, true, false, List, [], ◌∷◌, Option, Some, None, is_some, refl, sym, ap, ◌∙◌, subst, inl, inr}
+use Rattle.std.specs.List.{AllByRecursion, find}
+use Rattle.std.specs.Option.{option_and_then, option_map}
+use Rattle.std.proofs.lemmas.Bool.{cases_Bool}
+use Rattle.std.proofs.lemmas.Cmp.{nat_list_eq_equiv}
+use Rattle.std.proofs.lemmas.List.Elements.{recursion_from_All}
+use Rattle.gu_terms.proofs.Lists.{along}
+use Rattle.gu_terms.proofs.SameValues.{both}
+use Rattle.gu_terms.specs.Paths.{path_through}
+use Rattle.gu_terms.specs.Same.{same_agreement}
+use Rattle.gu_terms.specs.declared.account.AccountId.{AccountId}
+use Rattle.gu_terms.specs.declared.agreement.AgreementId.{AgreementId}
+use Rattle.gu_terms.specs.declared.firm.FirmId.{FirmId}
+use Rattle.gu_terms.specs.declared.limit_key.LimitKey.{LimitKey}
+use Rattle.gu_terms.specs.declared.offer.Offer.{Offer as GivenUp}
+use Rattle.gu_limits.specs.Paths.{path_of}
+use Rattle.gu_offers.specs.Rows.{Row, left_in, left_of, open_offer_at, row_at}
+use Rattle.gu_offers.specs.declared.open_offer.OpenOffer.{OpenOffer}
+use Rattle.gu_ref.specs.Listed.{agreement_for}
+use Rattle.gu_ref.specs.Reference.{account_row, agreement_between, agreement_row, guarantor_of, is_firm}
+use Rattle.gu_ref.specs.Rules.{IsSound}
+use Rattle.gu_ref.specs.Tables.{Tables}
+use Rattle.gu_ref.specs.declared.accounts.Account.{Account}
+use Rattle.gu_ref.specs.declared.agreements.Agreement.{Agreement}
+use Rattle.gu_view.specs.declared.view.Offer.{Offer}
+use Rattle.gu_book.specs.Limits.{path_behind}
+use Rattle.gu_book.specs.Shown.{shown_at}
+use Rattle.gu_book.specs.Views.{shown}
+use Rattle.gu_book.proofs.Facts.{some-is}
+use Rattle.gu_book.proofs.KnownAccounts.{all-found}
+
+-- the accounts of all agreements are there
+accounts_there : (reference : Tables) → IsSound reference → AllByRecursion (λ (a : Agreement). is_some (account_row reference a.account) ≡ true) reference.agreements
+accounts_there reference sound =
+    let known : Agreement → Bool = λ a. is_firm reference a.executing && is_some (account_row reference a.account) in
+    along (λ (a : Agreement). known a ≡ true) (λ (a : Agreement). is_some (account_row reference a.account) ≡ true) reference.agreements
+    (λ a h. (both (is_firm reference a.executing) (is_some (account_row reference a.account)) h).1)
+    (recursion_from_All (λ (a : Agreement). known a ≡ true) reference.agreements sound.parties)
+
+-- the name of an agreement that is found finds one
+named : (agreements : List Agreement) (wanted : Agreement → Bool) (a : Agreement) → find wanted agreements ≡ Some a → is_some (find (λ (b : Agreement). same_agreement b.id a.id) agreements) ≡ true
+named [] wanted a found = cc
+named (first ∷ agreements) wanted a found =
+    elim (cases_Bool (same_agreement first.id a.id)) [
+      | inl hit ↦ rw hit refl
+      | inr miss ↦ elim (cases_Bool (wanted first)) [
+        | inl here ↦
+            let at : Some first ≡ Some a = sym (rw here refl) ∙ found in
+            let one : first ≡ a = cc in
+            let own : same_agreement first.id a.id ≡ true = ap (λ (b : Agreement). same_agreement b.id a.id) one ∙ nat_list_eq_equiv.refl a.id.name in cc
+        | inr other ↦
+            let later : find wanted agreements ≡ Some a = sym (rw other refl) ∙ found in
+            rw miss (named agreements wanted a later)
+      ]
+    ]
+
+path_made : (reference : Tables) (id : AgreementId) (a : Agreement) (c : Account) → agreement_row reference id ≡ Some a → account_row reference a.account ≡ Some c
+    → path_of reference id ≡ Some (path_through a.executing id a.account c.firm (guarantor_of reference c.firm))
+path_made reference id a c found there = rw (found, there) refl
+
+-- each agreement between a firm and an account has a path
+pub path-there : (reference : Tables) → IsSound reference → (firm : FirmId) (account : AccountId) (id : AgreementId) → agreement_between reference firm account ≡ Some id
+    → (path : List LimitKey) × (path_of reference id ≡ Some path)
+path-there reference sound firm account id between = by (agreement_for reference.agreements firm account) refl between
+  where
+    by : (found : Option Agreement) → agreement_for reference.agreements firm account ≡ found → option_map (λ (a : Agreement). a.id) found ≡ Some id → (path : List LimitKey) × (path_of reference id ≡ Some path)
+    by None e h = cc
+    by (Some a) e h =
+        let same : a.id ≡ id = cc in
+        let there : is_some (agreement_row reference id) ≡ true =
+        ap (λ (name : AgreementId). is_some (agreement_row reference name)) (sym same) ∙ named reference.agreements _ a e in
+        let row = some-is (agreement_row reference id) there in
+        let carried = some-is (account_row reference row.0.account) (all-found (λ (b : Agreement). is_some (account_row reference b.account) ≡ true) (λ (b : Agreement). same_agreement b.id id) reference.agreements row.0 (accounts_there reference sound) row.1) in
+        (path_through row.0.executing id row.0.account carried.0.firm (guarantor_of reference carried.0.firm), path_made reference id row.0 carried.0 row.1 carried.1)
+
+-- what a path goes through: an account is carried by one firm, and a firm has one guarantor or none
+pub record GoesThrough (reference : Tables) (id : AgreementId) (path : List LimitKey) : Type 0 where
+  pub executing : FirmId
+  pub account : AccountId
+  pub carried : Account
+  pub there : account_row reference account ≡ Some carried
+  pub is : path ≡ path_through executing id account carried.firm (guarantor_of reference carried.firm)
+
+pub goes_through : (reference : Tables) (id : AgreementId) (path : List LimitKey) → path_of reference id ≡ Some path → GoesThrough reference id path
+goes_through reference id path at = by (agreement_row reference id) refl at
+  where
+    by : (found : Option Agreement) → agreement_row reference id ≡ found
+        → option_and_then {U = List LimitKey} (λ a. option_map {U = List LimitKey} (λ c. path_through a.executing id a.account c.firm (guarantor_of reference c.firm)) (account_row reference a.account)) found ≡ Some path → GoesThrough reference id path
+    by None e h = cc
+    by (Some a) e h = of (account_row reference a.account) refl h
+      where
+        of : (carried : Option Account) → account_row reference a.account ≡ carried
+            → option_map {U = List LimitKey} (λ c. path_through a.executing id a.account c.firm (guarantor_of reference c.firm)) carried ≡ Some path → GoesThrough reference id path
+        of None e h = cc
+        of (Some c) e h = let same : path_through a.executing id a.account c.firm (guarantor_of reference c.firm) ≡ path = cc in record { executing = a.executing; account = a.account; carried = c; there = e; is = sym same }
+
+shown_made : (reference : Tables) (rows : List Row) (number : ℕ) (row : Row) (id : AgreementId) (path : List LimitKey) → row_at rows number ≡ Some row
+    → agreement_between reference row.offer.firm row.offer.account ≡ Some id → path_of reference id ≡ Some path
+    → option_map {U = Offer} (λ path. record { number = number; lots = left_in rows number; agreement = id; path = path }) (path_of reference id) ≡ shown_at reference rows number
+shown_made reference rows number row id path at own is = rw (at, own, is) refl
+
+-- an offer, as a view shows it, with the path of its agreement
+pub shown_at-is : (reference : Tables) → IsSound reference → (rows : List Row) (number : ℕ) (offer : GivenUp) (id : AgreementId) → option_map (λ (r : Row). r.offer) (row_at rows number) ≡ Some offer
+    → agreement_between reference offer.firm offer.account ≡ Some id
+    → option_map {U = Offer} (λ path. record { number = number; lots = left_in rows number; agreement = id; path = path }) (path_of reference id) ≡ shown_at reference rows number
+shown_at-is reference sound rows number offer id stands between = by (row_at rows number) refl stands
+  where
+    by : (found : Option Row) → row_at rows number ≡ found → option_map (λ (r : Row). r.offer) found ≡ Some offer
+        → option_map {U = Offer} (λ path. record { number = number; lots = left_in rows number; agreement = id; path = path }) (path_of reference id) ≡ shown_at reference rows number
+    by None e h = cc
+    by (Some row) e h =
+        let same : row.offer ≡ offer = cc in
+        let own : agreement_between reference row.offer.firm row.offer.account ≡ Some id = (λ i. agreement_between reference (same i).firm (same i).account) ∙ between in
+        let path = path-there reference sound offer.firm offer.account id between in
+        shown_made reference rows number row id path.0 e own path.1
