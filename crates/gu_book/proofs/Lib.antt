@@ -6,6 +6,7 @@ pub mod Beginning
 pub mod ChangedPositions
 pub mod ChangedSums
 pub mod Covered
+pub mod CurrentLemmas
 pub mod Facts
 pub mod Growing
 pub mod Holding

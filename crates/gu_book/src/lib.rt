@@ -3,6 +3,7 @@
 
 mod answering;
 mod book;
+mod current;
 mod error;
 mod laws;
 mod limits;

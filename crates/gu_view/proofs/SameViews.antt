@@ -25,7 +25,7 @@ eq-Decides : (a b : LimitKey) → Decides (eq a b) (a ≡ b)
 eq-Decides a b = (λ h. key_eq-same a b (sym (eq_is a b) ∙ h), λ e. eq_is a b ∙ key_eq-from a b e)
 
 -- offers
-offer_eq-Decides : (a b : Offer) → Decides (offer_eq a b) (a ≡ b)
+pub offer_eq-Decides : (a b : Offer) → Decides (offer_eq a b) (a ≡ b)
 offer_eq-Decides a b =
     let path = slice_eq-Decides eq-Decides a.path b.path (pointwise eq a.path b.path) refl in
     let named = Decides-and (bytes_eq a.agreement.name b.agreement.name) (pointwise eq a.path b.path) (bytes_eq-Decides a.agreement.name b.agreement.name) path in

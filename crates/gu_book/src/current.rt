@@ -1,0 +1,81 @@
+//! Whether a view is that of its group, without memory.
+
+ghost use Rattle.std.specs.Prelude.{◌≡◌, ◌↔◌, ◌++◌, ◌∷◌, IsTrue, IfSome, IsSome, List};
+ghost use Rattle.std.specs.List.{filter_map};
+ghost use Rattle.std.specs.Option.{option_to_list};
+ghost use Rattle.gu_view.specs.declared.view.Offer.{Offer as OfferOf};
+ghost use Rattle.gu_book.specs.Current.{HasRooms, ShowsAll};
+ghost use Rattle.gu_book.specs.Shown.{shown_at};
+
+use crate::totals::Totals;
+use crate::views::shown_offer;
+use gu_limits::LimitTable;
+use gu_ref::Reference;
+use gu_terms::Group;
+use gu_view::{Offer, Room, View};
+
+/// What stands behind an offer, where offers begin with it.
+fn behind<'a>(offers: &'a [Offer], first: &Offer) -> Option<&'a [Offer]>
+    ensures begins { IfSome result (λ rest. offers.now ≡ first.now ∷ rest.now) }
+    ensures exactly { (rest : List OfferOf) → offers.now ≡ first.now ∷ rest → IsSome result }
+{
+    let (one, rest) = offers.split_first()?;
+    if *one != *first {
+        return None;
+    }
+    Some(rest)
+}
+
+/// What stands behind the offer of a number, where offers begin with it as a view shows it; all of them, where a view shows none.
+fn behind_number<'a>(
+    reference: &Reference,
+    totals: &Totals,
+    number: u64,
+    offers: &'a [Offer],
+) -> Option<&'a [Offer]>
+    ensures begins { IfSome result (λ rest. offers.now ≡ option_to_list (shown_at reference.now totals.now.offers number) ++ rest.now) }
+    ensures exactly { (rest : List OfferOf) → offers.now ≡ option_to_list (shown_at reference.now totals.now.offers number) ++ rest → IsSome result }
+{
+    match shown_offer(reference, totals, number) {
+        Some(shown) => behind(offers, &shown),
+        None => Some(offers),
+    }
+}
+
+/// Whether these offers are those of the numbers, as a view shows them.
+fn shows_offers(
+    reference: &Reference,
+    totals: &Totals,
+    numbers: &[u64],
+    offers: &[Offer],
+) -> bool
+    ensures { IsTrue result ↔ (offers.now ≡ filter_map (shown_at reference.now totals.now.offers) numbers.now) }
+{
+    let mut rest = offers;
+    for number in numbers {
+        let Some(others) = behind_number(reference, totals, *number, rest) else {
+            return false;
+        };
+        rest = others;
+    }
+    rest.is_empty()
+}
+
+/// Whether each room is that of its key in a group.
+fn shows_rooms(limits: &LimitTable, group: &Group, rooms: &[Room]) -> bool
+    ensures { IsTrue result ↔ HasRooms limits.now group.now rooms.now }
+{
+    rooms
+        .iter()
+        .all(|room| room.lots == limits.room(group, &room.key))
+}
+
+/// Whether a view shows the open offers of its group, and each room as it is. It takes no memory.
+pub fn shows_all(reference: &Reference, totals: &Totals, view: &View) -> bool
+    ensures { IsTrue result ↔ ShowsAll reference.now totals.now view.now }
+{
+    let group = view.group();
+    let numbers = totals.offers.open_numbers(group);
+    shows_offers(reference, totals, numbers, view.offers())
+        && shows_rooms(&totals.limits, &group, view.rooms())
+}
