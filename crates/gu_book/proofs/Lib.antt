@@ -27,6 +27,7 @@ pub mod Parts
 pub mod Passing
 pub mod UnknownGroups
 pub mod StandingLemmas
+pub mod SweptOffers
 pub mod TakenIn
 pub mod Takers
 pub mod Today

@@ -1,0 +1,307 @@
+-- What a sweep of a group's view takes is left, and there is room for it.
+use Rattle.std.proofs.Common.{◌≡◌, ℕ, zero, suc, ◌+◌, ◌-◌, ◌<◌, ◌≤◌, ◌==◌, ◌&&◌, ◌||◌, Bool, true, false, cond, List, [], ◌∷◌, map, sum_by, slice_get, if◌then◌else◌, Option, Some, None, refl, sym, ap, ◌∙◌, arith, subst, inl, inr}
+use Rattle.std.specs.List.{AllByRecursion, cons_option, filter_map, list_any}
+use Rattle.std.specs.Option.{option_and_then, option_map, option_map_or}
+use Rattle.std.proofs.lemmas.Bool.{cases_Bool, ltb-true}
+use Rattle.std.proofs.lemmas.Bool.Decides.{Decides-eqb}
+use Rattle.std.proofs.lemmas.List.Elements.{recursion_from_All}
+use Rattle.std.proofs.lemmas.List.Sums.{sum_by-cons}
+use Rattle.gu_terms.proofs.Lists.{Later, Later-from_AllPairs, along, along2, any_none, sum_by-agree, sum_by-mono, sum_by-swap}
+use Rattle.gu_terms.proofs.KeyLemmas.{key_eq-same}
+use Rattle.gu_terms.proofs.SameNames.{same_group-true}
+use Rattle.gu_terms.proofs.SameValues.{both}
+use Rattle.gu_terms.specs.LimitKeys.{has_key, key_eq}
+use Rattle.gu_terms.specs.Same.{same_group}
+use Rattle.gu_terms.specs.Takes.{lots_of}
+use Rattle.gu_terms.specs.declared.agreement.AgreementId.{AgreementId}
+use Rattle.gu_terms.specs.declared.entry.Entry.{Entry}
+use Rattle.gu_terms.specs.declared.entry.SweepEntry.{SweepEntry}
+use Rattle.gu_terms.specs.declared.group.Group.{Group}
+use Rattle.gu_terms.specs.declared.limit_key.LimitKey.{LimitKey}
+use Rattle.gu_terms.specs.declared.takes.Take.{Take}
+use Rattle.gu_ref.specs.Reference.{agreement_between}
+use Rattle.gu_ref.specs.Tables.{Tables}
+use Rattle.gu_limits.specs.Changes.{lots_under as lots_charged}
+use Rattle.gu_limits.specs.Limits.{room_in}
+use Rattle.gu_offers.specs.Rows.{Row, is_open, is_open_in, left_in, left_of, numbers_from, open_numbers, open_offer_at, open_offers, row_at}
+use Rattle.gu_view.proofs.RoomLemmas.{has_key-keys_of}
+use Rattle.gu_view.specs.Check.{has_offer}
+use Rattle.gu_view.specs.Takes.{IsAdmissible, lots_under}
+use Rattle.gu_view.specs.View.{keys_of}
+use Rattle.gu_view.specs.declared.view.Offer.{Offer}
+use Rattle.gu_view.specs.declared.view.Room.{Room}
+use Rattle.gu_book.specs.Beside.{IsKept}
+use Rattle.gu_book.specs.Limits.{path_behind, room_of}
+use Rattle.gu_book.specs.Moving.{HasRows, MayMove, lots_used}
+use Rattle.gu_book.specs.Offers.{standing_of}
+use Rattle.gu_book.specs.Sweeps.{IsSweepOf}
+use Rattle.gu_book.specs.Views.{group_view, offers_shown, shown}
+use Rattle.gu_book.specs.declared.totals.Totals.{Totals}
+use Rattle.gu_book.proofs.CurrentLemmas.{shown-numbers}
+use Rattle.gu_book.proofs.Parts.{lots_of-sum}
+use Rattle.gu_book.proofs.Takers.{apart, same}
+
+-- ---- what a view shows stands
+
+-- an offer of a view stands for an open offer of its group
+pub record Stands (reference : Tables) (rows : List Row) (group : Group) (o : Offer) : Type 0 where
+  pub row : Row
+  pub at : row_at rows o.number ≡ Some row
+  pub own : row.offer.group ≡ group
+  pub is_left : 0 < left_of row
+  pub lots : o.lots ≡ left_of row
+  pub path : o.path ≡ path_behind reference row.offer
+
+-- the number of an open offer
+abbrev OpenAt : List Row → Group → ℕ → Type 0
+OpenAt rows group n = (row : Row) × (row_at rows n ≡ Some row) × (is_open_in group row ≡ true)
+
+open-at : (rows : List Row) (group : Group) (m : ℕ) (rest : List Row) → ((k : ℕ) (row : Row) → slice_get rest k ≡ Some row → row_at rows (m + k) ≡ Some row) → AllByRecursion (OpenAt rows group) (numbers_from m rest group)
+open-at rows group m [] at = tt
+open-at rows group m (r ∷ rest) at =
+    by (is_open_in group r) refl
+    (open-at rows group (m + 1) rest (λ k row there. let next : m + suc k ≡ m + 1 + k = omega arith in subst (λ (n : ℕ). row_at rows n ≡ Some row) next (at (suc k) row there)))
+  where
+    by : (b : Bool) → is_open_in group r ≡ b → AllByRecursion (OpenAt rows group) (numbers_from (m + 1) rest group)
+        → AllByRecursion (OpenAt rows group) (cond b (m ∷ numbers_from (m + 1) rest group) (numbers_from (m + 1) rest group))
+    by true e more =
+        let here : m + zero ≡ m = omega arith in
+        ((r, subst (λ (n : ℕ). row_at rows n ≡ Some r) here (at zero r refl), e), more)
+    by false e more = more
+
+-- what is shown of it stands
+shown-stands : (reference : Tables) (rows : List Row) (group : Group) (n : ℕ) (o : Offer) → OpenAt rows group n → option_and_then (shown reference) (open_offer_at rows n) ≡ Some o → Stands reference rows group o
+shown-stands reference rows group n o open_ is = by (agreement_between reference row.offer.firm row.offer.account) (rw open_.1 at is)
+  where
+    row : Row
+    row = open_.0
+
+    by : (found : Option AgreementId)
+        → option_map {U = Offer} (λ agreement. record { number = n; lots = left_of row; agreement = agreement; path = path_behind reference row.offer }) found ≡ Some o
+        → Stands reference rows group o
+    by None h = cc
+    by (Some agreement) h =
+        let one : record { number = n; lots = left_of row; agreement = agreement; path = path_behind reference row.offer } ≡ o = cc in
+        let parts = both _ _ open_.2 in
+        record {
+          row = row;
+          at = ap (λ (p : Offer). row_at rows p.number) (sym one) ∙ open_.1;
+          own = same_group-true row.offer.group group parts.0;
+          is_left = ltb-true 0 (left_of row) parts.1;
+          lots = ap (λ (p : Offer). p.lots) (sym one);
+          path = ap (λ (p : Offer). p.path) (sym one);
+        }
+
+all-shown : (reference : Tables) (rows : List Row) (group : Group) (numbers : List ℕ) → AllByRecursion (OpenAt rows group) numbers
+    → AllByRecursion (Stands reference rows group) (filter_map (λ n. option_and_then (shown reference) (open_offer_at rows n)) numbers)
+all-shown reference rows group [] all = tt
+all-shown reference rows group (n ∷ numbers) all = by (option_and_then (shown reference) (open_offer_at rows n)) refl (all-shown reference rows group numbers all.1)
+  where
+    by : (given : Option Offer) → option_and_then (shown reference) (open_offer_at rows n) ≡ given
+        → AllByRecursion (Stands reference rows group) (filter_map (λ n. option_and_then (shown reference) (open_offer_at rows n)) numbers)
+        → AllByRecursion (Stands reference rows group) (cons_option given (filter_map (λ n. option_and_then (shown reference) (open_offer_at rows n)) numbers))
+    by None e more = more
+    by (Some o) e more = (shown-stands reference rows group n o all.0 e, more)
+
+-- all that a view shows stands
+pub offers-stand : (reference : Tables) (history : List Entry) (group : Group) → AllByRecursion (Stands reference (standing_of history) group) (offers_shown reference history group)
+offers-stand reference history group =
+    let rows = standing_of history in
+    subst (AllByRecursion (Stands reference rows group)) (sym (shown-numbers (open_offer_at rows) (shown reference) (open_numbers rows group)))
+    (all-shown reference rows group (open_numbers rows group) (open-at rows group 1 rows (λ k row there. let next : suc k ≡ 1 + k = omega arith in subst (λ (n : ℕ). row_at rows n ≡ Some row) next there)))
+
+-- ---- lots
+
+-- what holds of each offer holds of one of a number
+named : (P : Offer → Type 0) (offers : List Offer) (n : ℕ) → list_any (λ (o : Offer). o.number == n) offers ≡ true → AllByRecursion P offers → (o : Offer) × (o.number ≡ n) × P o
+named P [] n has all = cc
+named P (o ∷ offers) n has all =
+    elim (cases_Bool (o.number == n)) [
+      | inl hit ↦ (o, (Decides-eqb o.number n).0 hit, all.0)
+      | inr miss ↦ named P offers n (sym (rw miss refl) ∙ has) all.1
+    ]
+
+-- where offers ascend, each take has the lots that are taken of its offer
+own-lots : (takes : List Take) → Later (λ (a b : Take). a.offer < b.offer) takes → AllByRecursion (λ (t : Take). lots_of takes t.offer ≡ t.lots) takes
+own-lots [] later = tt
+own-lots (take ∷ takes) later =
+    let mine : lots_of (take ∷ takes) take.offer ≡ take.lots = rw (same take.offer) refl in
+    (mine, along2 (λ (t : Take). take.offer < t.offer) (λ (t : Take). lots_of takes t.offer ≡ t.lots) (λ (t : Take). lots_of (take ∷ takes) t.offer ≡ t.lots) takes
+    (λ t after own. let on : lots_of (take ∷ takes) t.offer ≡ lots_of takes t.offer = rw (apart take.offer t.offer (λ same. absurd (omega (arith, after, same)))) refl in on ∙ own)
+    later.0 (own-lots takes later.1))
+
+-- a take is of an open offer, which has its lots left
+pub record TakesLeft (reference : Tables) (rows : List Row) (group : Group) (offers : List Offer) (t : Take) : Type 0 where
+  pub o : Offer
+  pub number : o.number ≡ t.offer
+  pub stands : Stands reference rows group o
+  pub lots : t.lots ≤ o.lots
+  pub among : (f : Offer → ℕ) → f o ≤ sum_by f offers
+
+among : (offers : List Offer) → AllByRecursion (λ (o : Offer). (f : Offer → ℕ) → f o ≤ sum_by f offers) offers
+among [] = tt
+among (o ∷ offers) = (
+  λ f. omega (arith, sum_by-cons f o offers),
+  along (λ (p : Offer). (f : Offer → ℕ) → f p ≤ sum_by f offers) (λ (p : Offer). (f : Offer → ℕ) → f p ≤ sum_by f (o ∷ offers)) offers (λ p h f. omega (arith, h f, sum_by-cons f o offers)) (among offers),
+)
+
+-- so is each of a sweep
+all-left : (reference : Tables) (history : List Entry) (sweep : SweepEntry) → IsSweepOf (group_view reference history sweep.group) sweep
+    → AllByRecursion (TakesLeft reference (standing_of history) sweep.group (offers_shown reference history sweep.group)) sweep.takes
+all-left reference history sweep right =
+    let rows = standing_of history in
+    let offers = offers_shown reference history sweep.group in
+    let lots = lots_of sweep.takes in
+    let Has : Offer → Type 0 = λ o. Stands reference rows sweep.group o × (lots o.number ≤ o.lots) × ((f : Offer → ℕ) → f o ≤ sum_by f offers) in
+    let all : AllByRecursion Has offers =
+    along2 (λ (o : Offer). Stands reference rows sweep.group o × (lots o.number ≤ o.lots)) (λ (o : Offer). (f : Offer → ℕ) → f o ≤ sum_by f offers) Has offers (λ o a b. (a.0, a.1, b))
+    (along2 (Stands reference rows sweep.group) (λ (o : Offer). lots o.number ≤ o.lots) (λ (o : Offer). Stands reference rows sweep.group o × (lots o.number ≤ o.lots)) offers (λ o a b. (a, b))
+    (offers-stand reference history sweep.group) (recursion_from_All (λ (o : Offer). lots o.number ≤ o.lots) offers right.right.admissible.offers))
+    (among offers) in
+    along2 (λ (t : Take). list_any (λ (o : Offer). o.number == t.offer) offers ≡ true) (λ (t : Take). lots t.offer ≡ t.lots) (TakesLeft reference rows sweep.group offers) sweep.takes
+    (λ t known own.
+    let found = named Has offers t.offer known all in
+    let it = found.2 in
+    record {
+      o = found.0;
+      number = found.1;
+      stands = it.0;
+      lots = omega (arith, it.1, ap lots found.1, own);
+      among = it.2;
+    })
+    (recursion_from_All (λ (t : Take). list_any (λ (o : Offer). o.number == t.offer) offers ≡ true) sweep.takes right.right.takes_known)
+    (own-lots sweep.takes (Later-from_AllPairs (λ (a b : Take). a.offer < b.offer) sweep.takes right.ascending))
+
+-- ---- rooms
+
+-- the lots that a take uses under a key, of an offer
+abbrev used_of : LimitKey → Take → Offer → ℕ
+used_of key t o = if t.offer == o.number then (if has_key o.path key then t.lots else 0) else 0
+
+-- the lots that are taken of an offer, where it comes under the key, are those of all takes of it
+used-offer : (takes : List Take) (key : LimitKey) (o : Offer) → Later (λ (a b : Take). a.offer < b.offer) takes
+    → sum_by (λ (t : Take). used_of key t o) takes ≡ (if has_key o.path key then lots_of takes o.number else 0)
+used-offer takes key o later =
+    elim (cases_Bool (has_key o.path key)) [
+      | inl hit ↦ rw hit (sym (lots_of-sum takes o.number later))
+      | inr miss ↦ rw miss (nothing takes)
+    ]
+  where
+    nothing : (takes : List Take) → sum_by (λ (t : Take). if t.offer == o.number then zero else zero) takes ≡ 0
+    nothing [] = refl
+    nothing (t ∷ takes) =
+        let none : (if t.offer == o.number then zero else zero) ≡ 0 = either (t.offer == o.number) in
+        omega (arith, sum_by-cons (λ (t : Take). if t.offer == o.number then zero else zero) t takes, none, nothing takes)
+      where
+        either : (b : Bool) → (if b then zero else zero) ≡ zero
+        either true = refl
+        either false = refl
+
+module _ (reference : Tables) (rows : List Row) (group : Group) (offers : List Offer) (at : Group) (key : LimitKey) where
+  -- the lots that a take uses, by its offer's row
+  abbrev used_by : Take → ℕ
+  used_by t = option_map_or (λ (r : Row). lots_charged r.offer.group (path_behind reference r.offer) t.lots at key) (row_at rows t.offer) 0
+
+  -- in another group it uses none
+  elsewhere : same_group at group ≡ false → (t : Take) → TakesLeft reference rows group offers t → used_by t ≡ 0
+  elsewhere other t takes =
+      let s = takes.stands in
+      let here : row_at rows t.offer ≡ Some s.row = ap (row_at rows) (sym takes.number) ∙ s.at in
+      let apart_ : same_group at s.row.offer.group ≡ false = ap (same_group at) s.own ∙ other in
+      rw (here, apart_) refl
+
+  -- in its own it uses its lots where its offer's path has the key
+  here-used : (t : Take) → TakesLeft reference rows group offers t → used_by t ≤ sum_by (used_of key t) offers
+  here-used t takes =
+      let s = takes.stands in
+      let row : row_at rows t.offer ≡ Some s.row = ap (row_at rows) (sym takes.number) ∙ s.at in
+      let mine : used_by t ≡ lots_charged s.row.offer.group (path_behind reference s.row.offer) t.lots at key = rw row refl in
+      let one : used_of key t takes.o ≡ (if has_key takes.o.path key then t.lots else 0) = rw ((Decides-eqb t.offer takes.o.number).1 (sym takes.number)) refl in
+      let path : (if has_key takes.o.path key then t.lots else 0) ≡ (if has_key (path_behind reference s.row.offer) key then t.lots else 0) = ap (λ (p : List LimitKey). if has_key p key then t.lots else 0) s.path in
+      omega (arith, mine, one, path, takes.among (used_of key t), less (same_group at s.row.offer.group) (has_key (path_behind reference s.row.offer) key) t.lots)
+    where
+      less : (b c : Bool) (n : ℕ) → (if b && c then n else 0) ≤ (if c then n else 0)
+      less true c n = omega arith
+      less false true n = omega arith
+      less false false n = omega arith
+
+  -- all takes use no more than the view counts under the key
+  all-used : (takes : List Take) → Later (λ (a b : Take). a.offer < b.offer) takes → AllByRecursion (TakesLeft reference rows group offers) takes
+      → sum_by used_by takes ≤ lots_under offers key (lots_of takes)
+  all-used takes later left =
+      let by_take = sum_by-mono used_by (λ (t : Take). sum_by (used_of key t) offers) takes (along (TakesLeft reference rows group offers) (λ (t : Take). used_by t ≤ sum_by (used_of key t) offers) takes here-used left) in
+      let swapped = sum_by-swap (λ (t : Take) (o : Offer). used_of key t o) takes offers in
+      let by_offer = sum_by-agree (λ (o : Offer). sum_by (λ (t : Take). used_of key t o) takes) (λ (o : Offer). if has_key o.path key then lots_of takes o.number else 0) offers (λ o. used-offer takes key o later) in
+      omega (arith, by_take, swapped, by_offer)
+
+  none-used : (takes : List Take) → same_group at group ≡ false → AllByRecursion (TakesLeft reference rows group offers) takes → sum_by used_by takes ≡ 0
+  none-used [] other left = refl
+  none-used (t ∷ takes) other left = omega (arith, sum_by-cons used_by t takes, elsewhere other t left.0, none-used takes other left.1)
+
+-- what holds of each key holds of one of them
+keyed : (P : LimitKey → Type 0) (keys : List LimitKey) (key : LimitKey) → has_key keys key ≡ true → AllByRecursion P keys → P key
+keyed P [] key has all = cc
+keyed P (k ∷ keys) key has all =
+    elim (cases_Bool (key_eq k key)) [
+      | inl hit ↦ subst P (key_eq-same k key hit) all.0
+      | inr miss ↦ keyed P keys key (sym (rw miss refl) ∙ has) all.1
+    ]
+
+-- a view counts no more under a key than its room
+under-room : (reference : Tables) (history : List Entry) (group : Group) (key : LimitKey) (lots : ℕ → ℕ) → IsAdmissible (group_view reference history group) lots
+    → lots_under (offers_shown reference history group) key lots ≤ room_of reference history group key
+under-room reference history group key lots within =
+    let offers = offers_shown reference history group in
+    let Fits : LimitKey → Type 0 = λ k. lots_under offers k lots ≤ room_of reference history group k in
+    let all = mapped (keys_of offers) (recursion_from_All (λ (r : Room). lots_under offers r.key lots ≤ r.lots) (map (λ k. record { key = k; lots = room_of reference history group k }) (keys_of offers)) within.rooms) in
+    elim (cases_Bool (has_key (keys_of offers) key)) [
+      | inl hit ↦ keyed Fits (keys_of offers) key hit all
+      | inr miss ↦
+          let none : list_any (λ (o : Offer). has_key o.path key) offers ≡ false = sym (has_key-keys_of offers key) ∙ miss in
+          omega (arith, nothing offers (any_none (λ (o : Offer). has_key o.path key) offers none))
+    ]
+  where
+    mapped : (keys : List LimitKey) → AllByRecursion (λ (r : Room). lots_under (offers_shown reference history group) r.key lots ≤ r.lots) (map (λ k. record { key = k; lots = room_of reference history group k }) keys)
+        → AllByRecursion (λ (k : LimitKey). lots_under (offers_shown reference history group) k lots ≤ room_of reference history group k) keys
+    mapped [] h = tt
+    mapped (k ∷ keys) h = (h.0, mapped keys h.1)
+
+    nothing : (offers : List Offer) → AllByRecursion (λ (o : Offer). has_key o.path key ≡ false) offers → lots_under offers key lots ≡ 0
+    nothing [] h = refl
+    nothing (o ∷ offers) h =
+        let none : (if has_key o.path key then lots o.number else 0) ≡ 0 = rw h.0 refl in
+        omega (arith, sum_by-cons (λ (o : Offer). if has_key o.path key then lots o.number else 0) o offers, none, nothing offers h.1)
+
+-- ---- a sweep that may follow may be moved
+
+pub sweep-moves : (reference : Tables) (history : List Entry) (totals : Totals) (sweep : SweepEntry) → IsKept reference history totals → IsSweepOf (group_view reference history sweep.group) sweep
+    → AllByRecursion (λ (t : Take). HasRows totals t.offer) sweep.takes → MayMove reference totals sweep.takes
+sweep-moves reference history totals sweep kept right made =
+    let rows = standing_of history in
+    let offers = offers_shown reference history sweep.group in
+    let later = Later-from_AllPairs (λ (a b : Take). a.offer < b.offer) sweep.takes right.ascending in
+    let left = all-left reference history sweep right in
+    let same_rows = kept.beside.offers in
+    record {
+      history = history;
+      kept = kept;
+      ascending = later;
+      still_open = along (TakesLeft reference rows sweep.group offers) (λ (t : Take). 0 < left_in totals.offers t.offer) sweep.takes
+          (λ t takes. omega (arith, left-there t takes, takes.stands.is_left, ap (λ (rs : List Row). left_in rs t.offer) same_rows)) left;
+      left = along (TakesLeft reference rows sweep.group offers) (λ (t : Take). t.lots ≤ left_in totals.offers t.offer) sweep.takes
+          (λ t takes. omega (arith, left-there t takes, takes.lots, takes.stands.lots, ap (λ (rs : List Row). left_in rs t.offer) same_rows)) left;
+      room = λ group key.
+          let here = ap (λ (rs : List Row). lots_used reference rs sweep.takes group key) same_rows in
+          let rooms : room_in totals.limits group key ≡ room_of reference history group key = λ i. kept.beside.limits group key i - kept.beside.uses group key i in
+          elim (cases_Bool (same_group group sweep.group)) [
+            | inl own ↦
+                let one : group ≡ sweep.group = same_group-true group sweep.group own in
+                let fits = under-room reference history sweep.group key (lots_of sweep.takes) right.right.admissible in
+                omega (arith, here, rooms, all-used reference rows sweep.group offers group key sweep.takes later left, fits, ap (λ (g : Group). room_of reference history g key) one)
+            | inr other ↦ omega (arith, here, none-used reference rows sweep.group offers group key sweep.takes other left)
+          ];
+      rows = made;
+    }
+  where
+    left-there : (t : Take) (takes : TakesLeft reference (standing_of history) sweep.group (offers_shown reference history sweep.group) t) → left_in (standing_of history) t.offer ≡ left_of takes.stands.row
+    left-there t takes = ap (left_in (standing_of history)) (sym takes.number) ∙ ap (λ (o : Option Row). option_map_or left_of o 0) takes.stands.at
