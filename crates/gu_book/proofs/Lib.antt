@@ -7,6 +7,7 @@ pub mod ChangedPositions
 pub mod ChangedSums
 pub mod Covered
 pub mod CurrentLemmas
+pub mod CurrentViews
 pub mod Facts
 pub mod Growing
 pub mod Holding

@@ -1,16 +1,38 @@
 //! Sweeps, as they are taken in.
 
-ghost use Rattle.std.specs.Prelude.{◌∷◌, [], OnOk, drop, take};
+ghost use Rattle.std.specs.Prelude.{◌≡◌, ◌∷◌, [], IfOk, OnOk};
 ghost use Rattle.std.specs.List.{AllByRecursion};
 ghost use Rattle.gu_ref.specs.Tables.{Tables};
 ghost use Rattle.gu_book.specs.Beside.{AreKnown};
 ghost use Rattle.gu_book.specs.Effects.{KeepsMade, SameAnswers};
+ghost use Rattle.gu_book.specs.Commits.{sweep_of};
 ghost use Rattle.gu_book.specs.Moving.{HasRows, MayMove, MovesAll, MovesOne};
+ghost use Rattle.gu_book.specs.Sweeps.{IsSweepOf};
 
 use crate::totals::Totals;
+use gu_flow::Proposal;
 use gu_ref::Reference;
-use gu_terms::{OfferNo, Take};
+use gu_terms::{OfferNo, SweepEntry, Take};
 use std::alloc::AllocError;
+
+/// The sweep that a proposal asks for.
+pub fn sweep_of(proposal: &Proposal) -> Result<SweepEntry, AllocError>
+    ensures sweep { IfOk result (λ sweep. sweep ≡ sweep_of proposal.now) }
+    ensures right { OnOk result (IsSweepOf proposal.now.view (sweep_of proposal.now)) }
+{
+    let takes = proposal.takes();
+    let cut = proposal.cut();
+    // Lists that are read are known to be in order.
+    let _ = takes.as_slice();
+    let _ = cut.keys();
+    let _ = cut.offers();
+    Ok(SweepEntry {
+        group: proposal.view().group(),
+        takes: takes.copy()?,
+        cut: cut.copy()?,
+        lots: proposal.lots(),
+    })
+}
 
 /// Makes the rows of the accounts between which lots of an offer move. No answer changes.
 fn make_way(totals: &mut Totals, number: OfferNo) -> Result<(), AllocError>

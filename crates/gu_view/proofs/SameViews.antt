@@ -1,12 +1,12 @@
 -- The `==` of offers and of rooms is equality, and so is that of a view's four parts.
-use Rattle.std.proofs.Common.{◌≡◌, ◌&&◌, ◌==◌, Bool, refl, sym, ap, ◌∙◌}
+use Rattle.std.proofs.Common.{◌≡◌, ◌&&◌, ◌==◌, Bool, refl, ap, ◌∙◌}
 use Rattle.std.specs.Bool.{Decides}
 use Rattle.std.specs.Cmp.Lexicographic.{pointwise}
 use Rattle.std.specs.Str.{bytes_eq}
 use Rattle.std.proofs.lemmas.Bool.Decides.{Decides-and, Decides-eqb}
 use Rattle.std.proofs.lemmas.Slice.Eq.{bytes_eq-Decides, slice_eq-Decides}
 use Rattle.gu_terms.specs.declared.limit_key.LimitKey.{LimitKey}
-use Rattle.gu_terms.proofs.KeyLemmas.{eq, eq_is, key_eq-same, key_eq-from}
+use Rattle.gu_terms.proofs.KeyLemmas.{eq, eq-Decides}
 use Rattle.gu_view.specs.contracts.view.OfferPartialEq.TheImpl as offer
 use Rattle.gu_view.specs.contracts.view.RoomPartialEq.TheImpl as room
 use Rattle.gu_view.specs.declared.view.Offer.{Offer}
@@ -19,10 +19,6 @@ offer_eq = offer.eq-value.it
 
 abbrev pub room_eq : Room → Room → Bool
 room_eq = room.eq-value.it
-
--- keys
-eq-Decides : (a b : LimitKey) → Decides (eq a b) (a ≡ b)
-eq-Decides a b = (λ h. key_eq-same a b (sym (eq_is a b) ∙ h), λ e. eq_is a b ∙ key_eq-from a b e)
 
 -- offers
 pub offer_eq-Decides : (a b : Offer) → Decides (offer_eq a b) (a ≡ b)

@@ -1,0 +1,72 @@
+-- A view that shows all that is open, and each room as it is, is that of its group.
+use Rattle.std.proofs.Common.{◌≡◌, ℕ, ◌-◌, List, [], ◌∷◌, map, Option, refl, sym, ap, ◌∙◌, subst}
+use Rattle.std.specs.List.{AllByRecursion, filter_map}
+use Rattle.std.proofs.lemmas.List.Elements.{All-from_recursion, recursion_from_All}
+use Rattle.gu_terms.specs.declared.entry.Entry.{Entry}
+use Rattle.gu_terms.specs.declared.group.Group.{Group}
+use Rattle.gu_terms.specs.declared.limit_key.LimitKey.{LimitKey}
+use Rattle.gu_ref.specs.Tables.{Tables}
+use Rattle.gu_limits.specs.Limits.{GroupLimit, room_in}
+use Rattle.gu_offers.specs.Rows.{Row, open_numbers, open_offer_at}
+use Rattle.gu_view.specs.View.{GroupView, IsView, keys_of}
+use Rattle.gu_view.specs.declared.view.Offer.{Offer}
+use Rattle.gu_view.specs.declared.view.Room.{Room}
+use Rattle.gu_book.specs.Beside.{IsBeside}
+use Rattle.gu_book.specs.Current.{HasRooms, ShowsAll}
+use Rattle.gu_book.specs.Limits.{room_of}
+use Rattle.gu_book.specs.Offers.{standing_of}
+use Rattle.gu_book.specs.Shown.{shown_at}
+use Rattle.gu_book.specs.Versions.{version_of}
+use Rattle.gu_book.specs.Views.{group_view, offers_shown, shown}
+use Rattle.gu_book.specs.declared.totals.Totals.{Totals}
+use Rattle.gu_book.proofs.CurrentLemmas.{shown-numbers}
+
+-- rooms, by their keys
+rooms-by-keys : (limits : List GroupLimit) (group : Group) (rooms : List Room) → AllByRecursion (λ (r : Room). r.lots ≡ room_in limits group r.key) rooms
+    → rooms ≡ map (λ k. record { key = k; lots = room_in limits group k }) (map (λ (r : Room). r.key) rooms)
+rooms-by-keys limits group [] all = refl
+rooms-by-keys limits group (r ∷ rooms) all =
+    let rest = rooms-by-keys limits group rooms all.1 in
+    λ i. record { key = r.key; lots = all.0 i } ∷ rest i
+
+-- and back
+rooms-of-keys : (limits : List GroupLimit) (group : Group) (keys : List LimitKey) → AllByRecursion (λ (r : Room). r.lots ≡ room_in limits group r.key) (map (λ k. record { key = k; lots = room_in limits group k }) keys)
+rooms-of-keys limits group [] = tt
+rooms-of-keys limits group (k ∷ keys) = (refl, rooms-of-keys limits group keys)
+
+module _ (reference : Tables) (history : List Entry) (totals : Totals) (beside : IsBeside reference history totals) where
+  -- the open offers, by what is kept
+  offers-kept : (group : Group) → filter_map (shown_at reference totals.offers) (open_numbers totals.offers group) ≡ offers_shown reference history group
+  offers-kept group =
+      ap (λ (rows : List Row). filter_map (shown_at reference rows) (open_numbers rows group)) beside.offers
+      ∙ sym (shown-numbers (open_offer_at (standing_of history)) (shown reference) (open_numbers (standing_of history) group))
+
+  -- and the rooms
+  room-kept : (group : Group) (key : LimitKey) → room_in totals.limits group key ≡ room_of reference history group key
+  room-kept group key = λ i. beside.limits group key i - beside.uses group key i
+
+  rooms-kept : (group : Group) (keys : List LimitKey)
+      → map (λ k. record { key = k; lots = room_in totals.limits group k }) keys ≡ map {B = Room} (λ k. record { key = k; lots = room_of reference history group k }) keys
+  rooms-kept group [] = refl
+  rooms-kept group (k ∷ keys) =
+      let rest = rooms-kept group keys in
+      λ i. record { key = k; lots = room-kept group k i } ∷ rest i
+
+  -- what shows all is the view of its group
+  pub shows-view : (view : GroupView) → IsView view → view.version ≡ version_of history view.group → ShowsAll reference totals view → view ≡ group_view reference history view.group
+  shows-view view sound version shows =
+      let offers : view.offers ≡ offers_shown reference history view.group = shows.offers ∙ offers-kept view.group in
+      let rooms : view.rooms ≡ map (λ k. record { key = k; lots = room_of reference history view.group k }) (keys_of (offers_shown reference history view.group)) =
+      rooms-by-keys totals.limits view.group view.rooms (recursion_from_All (λ (r : Room). r.lots ≡ room_in totals.limits view.group r.key) view.rooms shows.rooms)
+      ∙ rooms-kept view.group (map (λ (r : Room). r.key) view.rooms)
+      ∙ ap (λ (keys : List LimitKey). map (λ k. record { key = k; lots = room_of reference history view.group k }) keys) (sound.rooms ∙ ap keys_of offers) in
+      λ i. record { group = view.group; version = version i; offers = offers i; rooms = rooms i }
+
+  -- and the view of a group shows all
+  pub view-shows : (view : GroupView) → view ≡ group_view reference history view.group → ShowsAll reference totals view
+  view-shows view is = record {
+    offers = ap (λ (v : GroupView). v.offers) is ∙ sym (offers-kept view.group);
+    rooms = subst (HasRooms totals.limits view.group) (sym (ap (λ (v : GroupView). v.rooms) is ∙ sym (rooms-kept view.group (keys_of (offers_shown reference history view.group)))))
+        (All-from_recursion (λ (r : Room). r.lots ≡ room_in totals.limits view.group r.key) (map (λ k. record { key = k; lots = room_in totals.limits view.group k }) (keys_of (offers_shown reference history view.group)))
+        (rooms-of-keys totals.limits view.group (keys_of (offers_shown reference history view.group))));
+  }
