@@ -1,5 +1,5 @@
 -- The path of each agreement of a reference, and what it goes through.
-use Rattle.std.proofs.Common.{◌≡◌, ℕ, ◌&&◌, Bool, true, false, List, [], ◌∷◌, Option, Some, None, is_some, refl, sym, ap, ◌∙◌, subst, inl, inr}
+use Rattle.std.proofs.Common.{◌≡◌, ℕ, ◌&&◌, Bool, true, List, [], ◌∷◌, Option, Some, None, is_some, refl, sym, ap, ◌∙◌, inl, inr}
 use Rattle.std.specs.List.{AllByRecursion, find}
 use Rattle.std.specs.Option.{option_and_then, option_map}
 use Rattle.std.proofs.lemmas.Bool.{cases_Bool}
@@ -15,8 +15,7 @@ use Rattle.gu_terms.specs.declared.firm.FirmId.{FirmId}
 use Rattle.gu_terms.specs.declared.limit_key.LimitKey.{LimitKey}
 use Rattle.gu_terms.specs.declared.offer.Offer.{Offer as GivenUp}
 use Rattle.gu_limits.specs.Paths.{path_of}
-use Rattle.gu_offers.specs.Rows.{Row, left_in, left_of, open_offer_at, row_at}
-use Rattle.gu_offers.specs.declared.open_offer.OpenOffer.{OpenOffer}
+use Rattle.gu_offers.specs.Rows.{Row, left_in, row_at}
 use Rattle.gu_ref.specs.Listed.{agreement_for}
 use Rattle.gu_ref.specs.Reference.{account_row, agreement_between, agreement_row, guarantor_of, is_firm}
 use Rattle.gu_ref.specs.Rules.{IsSound}
@@ -24,9 +23,7 @@ use Rattle.gu_ref.specs.Tables.{Tables}
 use Rattle.gu_ref.specs.declared.accounts.Account.{Account}
 use Rattle.gu_ref.specs.declared.agreements.Agreement.{Agreement}
 use Rattle.gu_view.specs.declared.view.Offer.{Offer}
-use Rattle.gu_book.specs.Limits.{path_behind}
 use Rattle.gu_book.specs.Shown.{shown_at}
-use Rattle.gu_book.specs.Views.{shown}
 use Rattle.gu_book.proofs.Facts.{some-is}
 use Rattle.gu_book.proofs.KnownAccounts.{all-found}
 

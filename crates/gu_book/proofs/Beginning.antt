@@ -3,6 +3,7 @@ use Rattle.std.proofs.Common.{◌≡◌, true, false, ◌<◌, ◌++◌, List, [
 use Rattle.gu_terms.specs.declared.command.Command.{Command}
 use Rattle.gu_terms.specs.declared.entry.Entry.{Entry}
 use Rattle.gu_terms.specs.declared.entry.Entry.TheVariants.{Asked}
+use Rattle.gu_terms.specs.declared.group.Group.{Group}
 use Rattle.gu_terms.specs.declared.reply.Done.{Done}
 use Rattle.gu_terms.specs.declared.reply.Reply.{Reply}
 use Rattle.gu_terms.specs.declared.reply.Reply.TheVariants.{Accepted, Denied}
@@ -12,14 +13,18 @@ use Rattle.gu_limits.specs.Limits.{GroupLimit, has_limit, limit_in, used_in}
 use Rattle.gu_positions.specs.Rows.{Row as PositionRow, has_row, lots_in, lots_on}
 use Rattle.gu_book.specs.Accepted.{IsAccepted, TakesIn, accepts}
 use Rattle.gu_book.specs.Answer.{answer, done_of, state_of, tests_of}
-use Rattle.gu_book.specs.Beside.{AreKnown, IsKept, IsKeptLegal, is_kept_give_up}
+use Rattle.gu_book.specs.Beside.{AreKnown, IsKept, IsKeptLegal, IsShown, is_kept_give_up}
+use Rattle.gu_book.specs.Counted.{AreVersions, version_in}
 use Rattle.gu_book.specs.Effects.{SameAnswers}
+use Rattle.gu_book.specs.Offers.{standing_of}
 use Rattle.gu_book.specs.Orderly.{IsOrderly}
 use Rattle.gu_book.specs.declared.totals.GiveUpKey.{GiveUpKey}
 use Rattle.gu_book.specs.declared.totals.Totals.{Totals}
+use Rattle.gu_book.specs.declared.versions.Versions.{Versions}
 use Rattle.gu_book.proofs.Accepting.{accepted-done}
 use Rattle.gu_book.proofs.Growing.{legal_push}
 use Rattle.gu_book.proofs.Quiet.{kept-denied}
+use Rattle.gu_book.proofs.StillShown.{shown-accepted}
 
 -- nothing is orderly
 nothing-orderly : IsOrderly []
@@ -34,9 +39,9 @@ nothing-orderly = record {
 }
 
 -- what is kept beside no history
-pub nothing-kept : (reference : Tables) (totals : Totals) → totals.today ≡ None → totals.trades ≡ [] → totals.offers ≡ [] → totals.give_ups.keys ≡ [] → totals.limits ≡ [] → totals.positions ≡ []
-    → IsKeptLegal reference [] totals
-nothing-kept reference totals today trades offers give_ups limits positions = record {
+pub nothing-kept : (reference : Tables) (totals : Totals) (versions : Versions) → totals.today ≡ None → totals.trades ≡ [] → totals.offers ≡ [] → totals.give_ups.keys ≡ [] → totals.limits ≡ [] → totals.positions ≡ []
+    → versions.days ≡ 0 → ((group : Group) → version_in versions group ≡ 0) → IsKeptLegal reference [] totals versions
+nothing-kept reference totals versions today trades offers give_ups limits positions days none = record {
   legal = record { within = omega arith; each = λ k entry at. cc };
   kept = record {
     orderly = nothing-orderly;
@@ -57,6 +62,8 @@ nothing-kept reference totals today trades offers give_ups limits positions = re
     offers = rw offers tt;
     rows = λ account symbol has. let no : has_row [] account symbol ≡ true = ap (λ (rs : List PositionRow). has_row rs account symbol) (sym positions) ∙ has in cc;
   };
+  shown = rw offers (record { few = λ group. omega arith; agreed = tt });
+  counted = record { each = none; days = omega (arith, days) };
 }
 
 -- where a growth was refused, what was kept still is
@@ -95,23 +102,44 @@ is-accepted reference history command reply room is accepted =
     record { room = room; accepted = accepted-done (tests_of reference (state_of reference history) command) (done_of reference (state_of reference history) command) one.0 (sym is ∙ one.1) }
 
 -- a legal history grows by it
-pub legal-accepted : (reference : Tables) (history : List Entry) (old new : Totals) (command : Command) (reply : Reply) → IsKeptLegal reference history old → length history < 1000000
-    → reply ≡ answer reference history command → accepts reply ≡ true → TakesIn reference old new command → (AreKnown reference old → AreKnown reference new) → IsKeptLegal reference (history ++ Asked command reply ∷ []) new
-legal-accepted reference history old new command reply kept room is accepted takes known =
+pub legal-accepted : (reference : Tables) (history : List Entry) (old new : Totals) (before after : Versions) (command : Command) (reply : Reply) → IsKeptLegal reference history old before
+    → length history < 1000000 → reply ≡ answer reference history command → accepts reply ≡ true → TakesIn reference old new command → (AreKnown reference old → AreKnown reference new)
+    → AreVersions (history ++ Asked command reply ∷ []) after → IsKeptLegal reference (history ++ Asked command reply ∷ []) new after
+legal-accepted reference history old new before after command reply kept room is accepted takes known counted =
     let it = is-accepted reference history command reply room is accepted in
+    let grown : IsKept reference (history ++ Asked command reply ∷ []) new =
+    subst (λ (r : Reply). IsKept reference (history ++ Asked command r ∷ []) new) (sym (is ∙ it.accepted)) (takes history kept.kept it) in
+    let rows = shown-accepted reference history command kept.kept.orderly it (subst (IsShown reference) kept.kept.beside.offers kept.shown) in
     record {
       legal = legal_push reference history (Asked command reply) kept.legal room is;
-      kept = subst (λ (r : Reply). IsKept reference (history ++ Asked command r ∷ []) new) (sym (is ∙ it.accepted)) (takes history kept.kept it);
+      kept = grown;
       known = known kept.known;
+      shown = subst (IsShown reference) (sym grown.beside.offers)
+          (subst (λ (r : Reply). IsShown reference (standing_of (history ++ Asked command r ∷ []))) (sym (is ∙ it.accepted)) rows);
+      counted = counted;
     }
 
 -- and by one that was refused
-pub legal-denied : (reference : Tables) (history : List Entry) (totals : Totals) (command : Command) (reply : Reply) → IsKeptLegal reference history totals → length history < 1000000
-    → reply ≡ answer reference history command → accepts reply ≡ false → IsKeptLegal reference (history ++ Asked command reply ∷ []) totals
-legal-denied reference history totals command reply kept room is denied =
+pub legal-denied : (reference : Tables) (history : List Entry) (totals : Totals) (before after : Versions) (command : Command) (reply : Reply) → IsKeptLegal reference history totals before
+    → length history < 1000000 → reply ≡ answer reference history command → accepts reply ≡ false
+    → AreVersions (history ++ Asked command reply ∷ []) after → IsKeptLegal reference (history ++ Asked command reply ∷ []) totals after
+legal-denied reference history totals before after command reply kept room is denied counted =
     let one = refused reply denied in
     record {
       legal = legal_push reference history (Asked command reply) kept.legal room is;
       kept = subst (λ (r : Reply). IsKept reference (history ++ Asked command r ∷ []) totals) (sym one.1) (kept-denied reference history totals command one.0 kept.kept);
       known = kept.known;
+      shown = kept.shown;
+      counted = counted;
     }
+
+-- where nothing was entered, all of it stays
+pub legal-refused : (reference : Tables) (history : List Entry) (old new : Totals) (before after : Versions) → IsKeptLegal reference history old before → SameAnswers old new
+    → (AreKnown reference old → AreKnown reference new) → AreVersions history after → IsKeptLegal reference history new after
+legal-refused reference history old new before after kept same known counted = record {
+  legal = kept.legal;
+  kept = still-kept reference history old new kept.kept same;
+  known = known kept.known;
+  shown = subst (IsShown reference) (sym same.offers) kept.shown;
+  counted = counted;
+}

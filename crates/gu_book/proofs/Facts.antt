@@ -23,7 +23,7 @@ use Rattle.gu_book.specs.Reports.{reports_of}
 use Rattle.gu_book.proofs.OrderlyLemmas.{all-at}
 use Rattle.gu_book.proofs.Passing.{none_stands}
 
-some-of : {X : Type 0} (found : Option X) → is_none found ≡ false → (x : X) × (found ≡ Some x)
+pub some-of : {X : Type 0} (found : Option X) → is_none found ≡ false → (x : X) × (found ≡ Some x)
 some-of None e = cc
 some-of (Some x) e = (x, refl)
 

@@ -148,7 +148,7 @@ known-opened reference old new trades offers positions known = record {
     all [] h = tt
     all (row ∷ rows) h = (h.0, all rows h.1)
 
-some-not-none : {X : Type 0} (found : Option X) → is_none found ≡ false → is_some found ≡ true
+pub some-not-none : {X : Type 0} (found : Option X) → is_none found ≡ false → is_some found ≡ true
 some-not-none None e = cc
 some-not-none (Some x) e = refl
 

@@ -106,7 +106,7 @@ module _
 -- ---- give-ups
 
 -- the report that is given up is the firm's with this id
-report-is : (reference : Tables) (state : State) (firm : FirmId) (own : Id) (report : Report) (group : Group) → given_up reference state firm own ≡ Some (report, group) → report_by state.reports firm own ≡ Some report
+pub report-is : (reference : Tables) (state : State) (firm : FirmId) (own : Id) (report : Report) (group : Group) → given_up reference state firm own ≡ Some (report, group) → report_by state.reports firm own ≡ Some report
 report-is reference state firm own report group e = by (report_by state.reports firm own) e
   where
     by : (found : Option Report) → option_and_then {U = Report × Group} (λ r. option_map {U = Report × Group} (λ at. (r, at)) (group_of reference r)) found ≡ Some (report, group) → found ≡ Some report
@@ -117,7 +117,7 @@ report-is reference state firm own report group e = by (report_by state.reports 
         of None e = cc
         of (Some g) e = ap (λ (o : Option (Report × Group)). option_map {U = Report} (λ p. p.0) o) e
 
-names-are : (reports : List Report) (firm : FirmId) (own : Id) (report : Report) → report_by reports firm own ≡ Some report → (report.firm ≡ firm) × (report.id ≡ own)
+pub names-are : (reports : List Report) (firm : FirmId) (own : Id) (report : Report) → report_by reports firm own ≡ Some report → (report.firm ≡ firm) × (report.id ≡ own)
 names-are reports firm own report found =
     let parts = both _ _ (find-passes (is_by firm own) reports report found) in
     (same_firm-true report.firm firm parts.0, same_id-true report.id own parts.1)

@@ -12,12 +12,13 @@ use Rattle.gu_terms.specs.declared.limit_key.LimitKey.{LimitKey}
 use Rattle.gu_terms.specs.declared.report.Report.{Report}
 use Rattle.gu_terms.specs.declared.side.Side.{Side}
 use Rattle.gu_terms.specs.declared.symbol.Symbol.{Symbol}
-use Rattle.gu_ref.specs.Reference.{account_row}
+use Rattle.gu_ref.specs.Reference.{account_row, agreement_between}
 use Rattle.gu_ref.specs.Tables.{Tables}
-use Rattle.gu_offers.specs.Rows.{Row, row_at}
+use Rattle.gu_offers.specs.Rows.{Row, open_count, row_at}
 use Rattle.gu_limits.specs.Limits.{has_limit, limit_in, room_in, used_in}
 use Rattle.gu_positions.specs.Rows.{has_row, lots_in, lots_on}
 use Rattle.gu_book.specs.Answer.{State}
+use Rattle.gu_book.specs.Counted.{AreVersions}
 use Rattle.gu_book.specs.Legal.{IsLegal}
 use Rattle.gu_book.specs.Limits.{limit_of, limit_set, path_behind, use_of}
 use Rattle.gu_book.specs.Offers.{has_give_up, standing_of}
@@ -26,6 +27,7 @@ use Rattle.gu_book.specs.Positions.{held_of}
 use Rattle.gu_book.specs.Reports.{open_day, reports_of}
 use Rattle.gu_book.specs.declared.totals.GiveUpKey.{GiveUpKey}
 use Rattle.gu_book.specs.declared.totals.Totals.{Totals}
+use Rattle.gu_book.specs.declared.versions.Versions.{Versions}
 
 -- a give-up of this firm with this id is among those that are kept
 abbrev pub is_kept_give_up : List GiveUpKey → FirmId → Id → Bool
@@ -75,8 +77,23 @@ pub record AreKnown (reference : Tables) (totals : Totals) : Type 0 where
   pub offers : AllByRecursion (λ (r : Row). is_some (account_row reference r.offer.account) ≡ true) totals.offers
   pub rows : (account : AccountId) (symbol : Symbol) → has_row totals.positions account symbol ≡ true → is_some (account_row reference account) ≡ true
 
+-- no product group has more than 4,096 open offers
+abbrev pub AreFew : List Row → Type 0
+AreFew rows = (group : Group) → open_count rows group ≤ 4096
+
+-- each offer was made by an agreement
+abbrev pub AreAgreed : Tables → List Row → Type 0
+AreAgreed reference rows = AllByRecursion (λ (r : Row). is_some (agreement_between reference r.offer.firm r.offer.account) ≡ true) rows
+
+-- the offers of each group make a view, and all of them are shown
+pub record IsShown (reference : Tables) (rows : List Row) : Type 0 where
+  pub few : AreFew rows
+  pub agreed : AreAgreed reference rows
+
 -- a legal history, with what is kept beside it
-pub record IsKeptLegal (reference : Tables) (history : List Entry) (totals : Totals) : Type 0 where
+pub record IsKeptLegal (reference : Tables) (history : List Entry) (totals : Totals) (versions : Versions) : Type 0 where
   pub legal : IsLegal reference history
   pub kept : IsKept reference history totals
   pub known : AreKnown reference totals
+  pub shown : IsShown reference totals.offers
+  pub counted : AreVersions history versions

@@ -2,6 +2,7 @@ pub mod Accepted
 pub mod Answer
 pub mod Beside
 pub mod Commits
+pub mod Counted
 pub mod Current
 pub mod Effects
 pub mod Kept

@@ -18,6 +18,9 @@ use crate::limits::rows_in_order;
 use crate::positions::{is_of_firm, rows_of_account};
 use crate::taking::take_in;
 use crate::totals::Totals;
+use crate::touching::{know, touch, touched_in};
+use crate::versions::Versions;
+use crate::views::view_of;
 use gu_flow::Proposal;
 use gu_ref::Reference;
 use gu_terms::{
@@ -34,6 +37,8 @@ pub struct Book {
     history: History,
     /// What the history comes to.
     totals: Totals,
+    /// How many entries touched each group.
+    versions: Versions,
     alloc: Global,
 }
 
@@ -43,11 +48,13 @@ impl Drop for Book {
             reference,
             history,
             totals,
+            versions,
             alloc: _,
         } = self;
         drop(reference);
         drop(history);
         drop(totals);
+        drop(versions);
     }
 }
 
@@ -60,7 +67,7 @@ impl Model for Book {
 
     ghost view = { λ b. record { reference = b.reference; history = b.history } };
 
-    ghost invariant = { λ b. IsKeptLegal b.reference b.history b.totals };
+    ghost invariant = { λ b. IsKeptLegal b.reference b.history b.totals b.versions };
 }
 
 /// Whether a reply accepts.
@@ -86,6 +93,7 @@ impl Book {
             reference,
             history: History::new(alloc),
             totals: Totals::seeded(alloc, seed),
+            versions: Versions::new(alloc),
             alloc,
         }
     }
@@ -102,6 +110,8 @@ impl Book {
         ensures refused { OnErr result (self.new.history ≡ self.old.history) }
     {
         let count = self.history.len();
+        let touched = touched_in(&self.totals, &command, reply);
+        know(&mut self.versions, &touched)?;
         let kept = command.copy()?;
         self.history.push(Entry::Asked {
             command: kept,
@@ -113,6 +123,7 @@ impl Book {
                 return Err(refused);
             }
         }
+        touch(&mut self.versions, &touched);
         Ok(Receipt {
             number: count as u64 + 1,
             entry: Entry::Asked {
@@ -203,7 +214,13 @@ impl Book {
         if !self.reference.group(*group) {
             return Err(LookError::UnknownGroup);
         }
-        Err(LookError::Memory)
+        Ok(view_of(
+            self.alloc,
+            &self.reference,
+            &self.totals,
+            &self.versions,
+            group,
+        )?)
     }
 
     /// Commits a proposal: its sweep is entered, and its takes are claimed, where the group still stands as the proposal's view shows it.

@@ -1,12 +1,15 @@
 //! What follows from the definitions alone.
 
-ghost use Rattle.std.specs.Prelude.{◌≡◌, ◌≤◌, ℕ, true, AllPairs, Some, slice_get};
+ghost use Rattle.std.specs.Prelude.{◌≡◌, ◌≤◌, ◌↔◌, ◌++◌, ℕ, true, false, AllPairs, List, Some, slice_get, take};
 ghost use Rattle.gu_terms.specs.Refusals.{number_of};
 ghost use Rattle.gu_terms.specs.declared.command.Command.{Command as CommandOf};
+ghost use Rattle.gu_terms.specs.declared.entry.Entry.{Entry as EntryOf};
+ghost use Rattle.gu_terms.specs.declared.group.Group.{Group as GroupOf};
 ghost use Rattle.gu_terms.specs.declared.refusal.Refusal.{Refusal as RefusalOf};
 ghost use Rattle.gu_terms.specs.declared.reply.Reply.TheVariants.{Denied};
 ghost use Rattle.gu_ref.specs.Tables.{Tables};
 ghost use Rattle.gu_book.specs.Answer.{State, answer_in, tests_of};
+ghost use Rattle.gu_book.specs.Versions.{touches, touching, touching_after, version_of};
 
 /// The refusals of a command are tested in the order of their numbers: of those that stand, the one with the least
 /// number is the reply.
@@ -17,4 +20,18 @@ pub fn the_least_refusal_is_given()
         → answer_in reference state command ≡ Denied given
         → slice_get (tests_of reference state command) place ≡ Some (true, other)
         → number_of given ≤ number_of other }
+{}
+
+/// Entries that come later add their touches behind those that were there.
+pub fn later_touches_come_behind()
+    ensures { (first later : List EntryOf) (group : GroupOf)
+        → touching (first ++ later) group ≡ touching first group ++ touching_after first group later }
+{}
+
+/// The version of a group after the first entries of a history is that after all of them exactly where none of the others touches
+/// the group.
+pub fn equal_versions_are_untouched()
+    ensures { (history : List EntryOf) (first : ℕ) (group : GroupOf)
+        → (version_of (take first history) group ≡ version_of history group)
+        ↔ ((place : ℕ) (entry : EntryOf) → first ≤ place → slice_get history place ≡ Some entry → touches (take place history) group entry ≡ false) }
 {}

@@ -11,8 +11,12 @@ mod positions;
 mod sweeping;
 mod taking;
 mod totals;
+mod touching;
+mod versions;
 mod views;
 
 pub use book::Book;
 pub use error::{CommitError, EnterError, LookError};
-pub use laws::the_least_refusal_is_given;
+pub use laws::{
+    equal_versions_are_untouched, later_touches_come_behind, the_least_refusal_is_given,
+};

@@ -1,15 +1,21 @@
 //! Views of groups.
 
-ghost use Rattle.std.specs.Prelude.{◌≡◌};
-ghost use Rattle.std.specs.Option.{option_map};
+ghost use Rattle.std.specs.Prelude.{◌≡◌, ◌<◌, ◌^◌, ◌++◌, IfOk, OnOk};
+ghost use Rattle.std.specs.List.{filter_map};
+ghost use Rattle.std.specs.Option.{option_map, option_to_list};
 ghost use Rattle.gu_limits.specs.Paths.{path_of};
-ghost use Rattle.gu_book.specs.Shown.{shown_at};
+ghost use Rattle.gu_book.specs.Beside.{IsShown};
+ghost use Rattle.gu_book.specs.Counted.{version_in};
+ghost use Rattle.gu_view.specs.View.{IsNested};
+ghost use Rattle.gu_book.specs.Shown.{offers_in, rooms_in, shown_at, view_in};
 
 use crate::totals::Totals;
-use gu_limits::path;
+use crate::versions::Versions;
+use gu_limits::{LimitTable, path};
 use gu_ref::Reference;
-use gu_terms::{AgreementId, OfferNo};
-use gu_view::Offer;
+use gu_terms::{AgreementId, Group, LimitKey, OfferNo};
+use gu_view::{Offer, Room, View, ViewError, first_mentions};
+use std::alloc::{AllocError, Global};
 
 /// So many lots of the offer of a number, given up by an agreement, as a view shows them.
 fn shown_by(
@@ -40,4 +46,100 @@ pub fn shown_offer(reference: &Reference, totals: &Totals, number: u64) -> Optio
     let offer = totals.offers.get(number)?;
     let agreement = reference.between(offer.firm, offer.account)?;
     shown_by(reference, &number, totals.offers.left(number), &agreement)
+}
+
+/// Appends an offer, if there is one.
+fn append_offer(offers: &mut Vec<Offer>, offer: Option<Offer>) -> Result<(), AllocError>
+    ensures { OnOk result (offers.new.items ≡ offers.old.items ++ option_to_list offer) }
+{
+    // Taken apart and made again, so that the check is told of the types within.
+    if let Some(
+        Offer {
+            number,
+            lots,
+            agreement,
+            path,
+        },
+    ) = offer
+    {
+        offers.push(Offer {
+            number,
+            lots,
+            agreement,
+            path,
+        })?;
+    }
+    Ok(())
+}
+
+/// The offers of these numbers, as a view shows them.
+#[tactic(auto, using(crate::proofs::LimitLemmas::filter_map_next))]
+fn offers_of(
+    alloc: Global,
+    reference: &Reference,
+    totals: &Totals,
+    numbers: &[u64],
+) -> Result<Vec<Offer>, AllocError>
+    ensures { IfOk result (λ offers. offers.items ≡ filter_map (shown_at reference.now totals.now.offers) numbers.now) }
+{
+    let mut offers = Vec::with_capacity(alloc, numbers.len())?;
+    for number in numbers {
+        append_offer(&mut offers, shown_offer(reference, totals, *number))?;
+    }
+    Ok(offers)
+}
+
+/// The rooms of keys in a group.
+fn rooms_of(
+    alloc: Global,
+    limits: &LimitTable,
+    group: &Group,
+    keys: &[LimitKey],
+) -> Result<Vec<Room>, AllocError>
+    ensures { IfOk result (λ rooms. rooms.items ≡ rooms_in limits.now group.now keys.now) }
+{
+    let mut rooms = Vec::with_capacity(alloc, keys.len())?;
+    for key in keys {
+        rooms.push(Room {
+            key: *key,
+            lots: limits.room(group, key),
+        })?;
+    }
+    Ok(rooms)
+}
+
+/// A growth that was refused. What is kept makes a view, so nothing else is.
+fn refused_growth(error: ViewError) -> AllocError
+    requires { error ≡ ViewError.Memory }
+{
+    match error {
+        ViewError::Memory => AllocError,
+        ViewError::BadOffer(_) | ViewError::PathDiffers(_) | ViewError::BadRooms => unreachable!(),
+    }
+}
+
+/// The view of a group. It walks the group's open offers alone.
+pub fn view_of(
+    alloc: Global,
+    reference: &Reference,
+    totals: &Totals,
+    versions: &Versions,
+    group: &Group,
+) -> Result<View, AllocError>
+    requires few { IsShown reference.now totals.now.offers }
+    requires version { version_in versions.now group.now < 2 ^ 64 }
+    ensures view { IfOk result (λ view. view ≡ view_in reference.now totals.now versions.now group.now) }
+    ensures nested { IfOk result (λ view. IsNested view) }
+{
+    reference.rules();
+    totals.offers.rules();
+    totals.limits.rules();
+    let numbers = totals.offers.open_numbers(*group);
+    let offers = offers_of(alloc, reference, totals, numbers)?;
+    let keys = first_mentions(alloc, &offers, offers.len())?;
+    let rooms = rooms_of(alloc, &totals.limits, group, keys.as_slice())?;
+    match View::new(alloc, *group, versions.of(group), offers, rooms) {
+        Ok(view) => Ok(view),
+        Err(error) => Err(refused_growth(error)),
+    }
 }

@@ -1,4 +1,4 @@
-use Rattle.std.proofs.Common.{◌≡◌, ◌∙◌, ap, sym}
+use Rattle.std.proofs.Common.{◌∙◌, ap, sym}
 use Rattle.gu_book.proofs.AgreementPaths.{shown_at-is}
 use Rattle.gu_book.specs.Shown.{shown_at}
 use Rattle.gu_book.proofs.views.shown_offer.Goals as goal

@@ -1,15 +1,23 @@
-use Rattle.std.proofs.Common.{◌≡◌, ◌∙◌, ◌++◌, ◌∷◌, ◌+◌, [], List, length, ap, sym, subst}
+use Rattle.std.proofs.Common.{◌≡◌, ◌∙◌, ◌++◌, ◌∷◌, ◌+◌, ◌<◌, ◌^◌, [], List, length, ap, sym, subst, if◌then◌else◌}
 use Rattle.gu_terms.specs.declared.command.Command.{Command}
 use Rattle.gu_terms.specs.declared.entry.Entry.{Entry}
 use Rattle.gu_terms.specs.declared.entry.Entry.TheVariants.{Asked}
+use Rattle.gu_terms.specs.declared.group.Group.{Group}
 use Rattle.gu_book.specs.Answer.{answer}
 use Rattle.gu_book.specs.Beside.{IsKeptLegal}
+use Rattle.gu_book.specs.Counted.{AreVersions, is_touched, version_in}
 use Rattle.gu_book.specs.Kept.{Kept}
 use Rattle.gu_book.specs.Legal.{StandsLast}
-use Rattle.gu_book.proofs.Beginning.{is-accepted, legal-accepted, legal-denied, still-kept}
+use Rattle.gu_book.specs.Versions.{touches}
+use Rattle.gu_book.specs.declared.book.Book.TheInside.{Inside}
+use Rattle.gu_book.specs.declared.versions.Touched.{Touched}
+use Rattle.gu_book.specs.declared.versions.Versions.{Versions}
+use Rattle.gu_book.proofs.Beginning.{is-accepted, legal-accepted, legal-denied, legal-refused}
+use Rattle.gu_book.proofs.CountedLemmas.{touched-is, versions-fit, versions-push, versions-same}
 use Rattle.gu_book.proofs.Growing.{stands_last}
 use Rattle.gu_book.proofs.Passing.{truncated}
 use Rattle.gu_book.proofs.book.Book.append.Goals as goal
+use Rattle.gu_book.proofs.book.Book.append.Goals.{then-accepts+in_default, else-accepts}
 
 pub take_in-requires : goal.take_in-requires
 take_in-requires c =
@@ -26,16 +34,53 @@ invariant_of-self-in-Err c =
     let old = c.self.inside in
     let pushed = c.in_ok-push.ensures.added ∙ ap (λ (k : Command). old.history ++ Asked k c.args.reply.now ∷ []) c.in_ok-kept.ensures in
     let back = truncated old.history (Asked c.args.command c.args.reply.now) c.len-count.result c.push.new.self c.truncate.new.self c.len-count.ensures pushed c.truncate.ensures in
-    subst (λ (history : List Entry). IsKeptLegal old.reference history c.take_in.new.totals) (sym back)
-    (record { legal = c.self.invariant.legal; kept = still-kept old.reference old.history old.totals c.take_in.new.totals c.self.invariant.kept c.in-Err.ensures.refused; known = c.take_in.ensures.known c.self.invariant.known })
+    subst (λ (history : List Entry). IsKeptLegal old.reference history c.take_in.new.totals c.know.new.versions) (sym back)
+    (legal-refused old.reference old.history old.totals c.take_in.new.totals old.versions c.know.new.versions c.self.invariant c.in-Err.ensures.refused c.take_in.ensures.known
+    (versions-same old.history old.versions c.know.new.versions c.self.invariant.counted c.know.ensures.days c.know.ensures.same))
 
-pub invariant_of-self-else-accepts : goal.invariant_of-self-else-accepts
-invariant_of-self-else-accepts c =
+pub touch-requires-clause-fits : goal.touch-requires-clause-fits
+touch-requires-clause-fits c group =
     let old = c.self.inside in
-    let is : c.args.reply.now ≡ answer old.reference old.history c.args.command = c.requires.answered ∙ ap (λ (k : Kept). answer k.reference k.history c.args.command) (sym c.self.view_is) in
-    let pushed = c.in_ok-push.ensures.added ∙ ap (λ (k : Command). old.history ++ Asked k c.args.reply.now ∷ []) c.in_ok-kept.ensures in
-    subst (λ (history : List Entry). IsKeptLegal old.reference history old.totals) (sym pushed)
-    (legal-denied old.reference old.history old.totals c.args.command c.args.reply.now c.self.invariant (rw (sym c.self.view_is) at c.requires.room) is (sym c.accepts.ensures ∙ c.if-accepts.false))
+    let counted = versions-same old.history old.versions c.know.new.versions c.self.invariant.counted c.know.ensures.days c.know.ensures.same in
+    let here : c.if-accepts.self-inside.versions ≡ c.know.new.versions =
+    elim c.if-accepts.branch [
+      | then-accepts+in_default w ↦ ap (λ (i : Inside). i.versions) w.self-inside-is
+      | else-accepts w ↦ ap (λ (i : Inside). i.versions) w.self-inside-is
+    ] in
+    subst (λ (v : Versions). version_in v group + 1 < 2 ^ 64) (sym here) (versions-fit old.history c.know.new.versions counted c.self.invariant.legal.within group)
+
+pub invariant_of-self-2 : goal.invariant_of-self-2
+invariant_of-self-2 c =
+    let old = c.self.inside in
+    let command = c.args.command in
+    let reply = c.args.reply.now in
+    let entry = Asked command reply in
+    let room = rw (sym c.self.view_is) at c.requires.room in
+    let is : reply ≡ answer old.reference old.history command = c.requires.answered ∙ ap (λ (k : Kept). answer k.reference k.history command) (sym c.self.view_is) in
+    let pushed = c.in_ok-push.ensures.added ∙ ap (λ (k : Command). old.history ++ Asked k reply ∷ []) c.in_ok-kept.ensures in
+    let before = versions-same old.history old.versions c.know.new.versions c.self.invariant.counted c.know.ensures.days c.know.ensures.same in
+    let touched : (group : Group) → is_touched c.touched_in-touched.result group ≡ touches old.history group entry =
+    λ group. ap (λ (t : Touched). is_touched t group) c.touched_in-touched.ensures ∙ touched-is old.reference old.history old.totals.offers command reply c.self.invariant.kept.beside.offers is group in
+    let here : c.if-accepts.self-inside.versions ≡ c.know.new.versions =
+    elim c.if-accepts.branch [
+      | then-accepts+in_default w ↦ ap (λ (i : Inside). i.versions) w.self-inside-is
+      | else-accepts w ↦ ap (λ (i : Inside). i.versions) w.self-inside-is
+    ] in
+    let counted : AreVersions (old.history ++ entry ∷ []) c.touch.new.versions =
+    versions-push old.history entry c.know.new.versions c.touch.new.versions c.touched_in-touched.result before touched
+    (λ group. c.touch.ensures.touched group ∙ ap (λ (v : Versions). if is_touched c.touched_in-touched.result group then version_in v group + 1 else version_in v group) here)
+    (rw here at c.touch.ensures.days) in
+    elim c.if-accepts.branch [
+      | then-accepts+in_default w ↦
+          subst (λ (i : Inside). IsKeptLegal i.reference i.history i.totals c.touch.new.versions) (sym w.self-inside-is)
+          (subst (λ (history : List Entry). IsKeptLegal old.reference history w.take_in.new.totals c.touch.new.versions) (sym pushed)
+          (legal-accepted old.reference old.history old.totals w.take_in.new.totals old.versions c.touch.new.versions command reply c.self.invariant room is
+          (sym c.accepts.ensures ∙ w.if-accepts.true) w.in_default.ensures.taken w.take_in.ensures.known counted))
+      | else-accepts w ↦
+          subst (λ (i : Inside). IsKeptLegal i.reference i.history i.totals c.touch.new.versions) (sym w.self-inside-is)
+          (subst (λ (history : List Entry). IsKeptLegal old.reference history old.totals c.touch.new.versions) (sym pushed)
+          (legal-denied old.reference old.history old.totals old.versions c.touch.new.versions command reply c.self.invariant room is (sym c.accepts.ensures ∙ w.if-accepts.false) counted))
+    ]
 
 pub returns-clause-stands : goal.returns-clause-stands
 returns-clause-stands c =
@@ -44,12 +89,3 @@ returns-clause-stands c =
     rw c.len-count.ensures
     (subst (λ (k : Kept). StandsLast k.reference (length old.history + 1) (Asked c.args.command c.args.reply.now)) c.self.view_is
     (stands_last old.reference old.history (Asked c.args.command c.args.reply.now) c.self.invariant.legal (rw (sym c.self.view_is) at c.requires.room) is))
-
-pub invariant_of-self-in_default : goal.invariant_of-self-in_default
-invariant_of-self-in_default c =
-    let old = c.self.inside in
-    let is : c.args.reply.now ≡ answer old.reference old.history c.args.command = c.requires.answered ∙ ap (λ (k : Kept). answer k.reference k.history c.args.command) (sym c.self.view_is) in
-    let pushed = c.in_ok-push.ensures.added ∙ ap (λ (k : Command). old.history ++ Asked k c.args.reply.now ∷ []) c.in_ok-kept.ensures in
-    subst (λ (history : List Entry). IsKeptLegal old.reference history c.take_in.new.totals) (sym pushed)
-    (legal-accepted old.reference old.history old.totals c.take_in.new.totals c.args.command c.args.reply.now c.self.invariant (rw (sym c.self.view_is) at c.requires.room) is
-    (sym c.accepts.ensures ∙ c.if-accepts.true) c.in_default.ensures.taken c.take_in.ensures.known)

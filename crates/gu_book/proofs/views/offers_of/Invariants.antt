@@ -1,0 +1,7 @@
+use Rattle.std.proofs.Common.{◌≡◌, take}
+use Rattle.std.specs.List.{filter_map}
+use Rattle.gu_book.specs.Shown.{shown_at}
+use Rattle.gu_book.proofs.views.offers_of.Given as goal
+
+abbrev pub invariant-loop-number : goal.invariant-loop-number
+invariant-loop-number l = l.offers.items ≡ filter_map (shown_at l.reference l.totals.offers) (take l.number-index l.numbers)
