@@ -1,5 +1,5 @@
 -- A view that shows all that is open, and each room as it is, is that of its group.
-use Rattle.std.proofs.Common.{◌≡◌, ℕ, ◌-◌, List, [], ◌∷◌, map, Option, refl, sym, ap, ◌∙◌, subst}
+use Rattle.std.proofs.Common.{◌≡◌, ◌-◌, List, [], ◌∷◌, map, refl, sym, ap, ◌∙◌, subst}
 use Rattle.std.specs.List.{AllByRecursion, filter_map}
 use Rattle.std.proofs.lemmas.List.Elements.{All-from_recursion, recursion_from_All}
 use Rattle.gu_terms.specs.declared.entry.Entry.{Entry}
@@ -9,7 +9,6 @@ use Rattle.gu_ref.specs.Tables.{Tables}
 use Rattle.gu_limits.specs.Limits.{GroupLimit, room_in}
 use Rattle.gu_offers.specs.Rows.{Row, open_numbers, open_offer_at}
 use Rattle.gu_view.specs.View.{GroupView, IsView, keys_of}
-use Rattle.gu_view.specs.declared.view.Offer.{Offer}
 use Rattle.gu_view.specs.declared.view.Room.{Room}
 use Rattle.gu_book.specs.Beside.{IsBeside}
 use Rattle.gu_book.specs.Current.{HasRooms, ShowsAll}

@@ -1,8 +1,7 @@
 -- What is given up of an account's reports is never more than what it traded.
-use Rattle.std.proofs.Common.{◌≡◌, ℕ, ◌≤◌, ◌&&◌, Bool, true, false, List, [], ◌∷◌, sum_by, Option, Some, None, refl, sym, ap, ◌∙◌, arith, if◌then◌else◌, subst, inl, inr}
-use Rattle.std.specs.List.{find}
+use Rattle.std.proofs.Common.{◌≡◌, ℕ, ◌≤◌, ◌&&◌, Bool, true, false, List, sum_by, Option, Some, None, refl, sym, ◌∙◌, arith, if◌then◌else◌, inl, inr}
 use Rattle.std.proofs.lemmas.Bool.{cases_Bool}
-use Rattle.std.proofs.lemmas.List.Sums.{sum_by-cons, sum_by-le-sum_by}
+use Rattle.std.proofs.lemmas.List.Sums.{sum_by-le-sum_by}
 use Rattle.gu_terms.proofs.SameNames.{same_firm-own, same_firm-true, same_id-own, same_id-true}
 use Rattle.gu_terms.specs.Same.{same_account, same_firm, same_id, same_side, same_symbol}
 use Rattle.gu_terms.proofs.Lists.{along, sum_by-mono, sum_by-swap, sum_by-zeros}

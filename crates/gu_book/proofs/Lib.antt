@@ -7,6 +7,7 @@ pub mod BookViews
 pub mod ChangedPositions
 pub mod ChangedSums
 pub mod CountedLemmas
+pub mod Committing
 pub mod Covered
 pub mod CurrentLemmas
 pub mod CurrentViews

@@ -1,24 +1,19 @@
 -- The takes of a sweep, moved one after another.
-use Rattle.std.proofs.Common.{◌≡◌, ◌≢◌, ℕ, zero, suc, ◌+◌, ◌*◌, ◌-◌, ◌<◌, ◌≤◌, ◌==◌, ◌&&◌, ◌++◌, ◌||◌, Bool, true, false, List, [], ◌∷◌, length, take, get_or, map, sum_by, slice_index_or, if◌then◌else◌, Option, Some, None, Ok, IfSome, is_none, is_some, refl, sym, ap, ◌∙◌, arith, append-nil, append_assoc, subst, inl, inr}
+use Rattle.std.proofs.Common.{◌≡◌, ◌≢◌, ℕ, zero, suc, ◌+◌, ◌<◌, ◌≤◌, ◌++◌, ◌||◌, Bool, true, false, List, [], ◌∷◌, length, take, get_or, slice_index_or, Option, Some, None, Ok, IfSome, is_none, is_some, refl, sym, ap, ◌∙◌, arith, append-nil, append_assoc, subst}
 use Rattle.std.specs.List.{AllByRecursion, list_any}
 use Rattle.std.specs.Option.{option_and_then, option_map, option_map_or}
 use Rattle.std.specs.Prelude.{slice_get, slice_set}
-use Rattle.std.proofs.lemmas.Bool.Decides.{Decides-eqb}
 use Rattle.std.proofs.lemmas.List.{map-append, take_more}
 use Rattle.std.proofs.lemmas.List.Sums.{sum_by-cons}
-use Rattle.gu_terms.proofs.Lists.{Later, along, along2}
+use Rattle.gu_terms.proofs.Lists.{along, along2}
 use Rattle.gu_terms.proofs.SameNames.{same_group-own}
-use Rattle.gu_terms.specs.LimitKeys.{has_key}
-use Rattle.gu_terms.specs.Same.{same_account, same_group}
-use Rattle.gu_terms.specs.declared.account.AccountId.{AccountId}
+use Rattle.gu_terms.specs.Same.{same_account}
 use Rattle.gu_terms.specs.declared.entry.Entry.{Entry}
 use Rattle.gu_terms.specs.declared.entry.SweepEntry.{SweepEntry}
 use Rattle.gu_terms.specs.declared.group.Group.{Group}
 use Rattle.gu_terms.specs.declared.limit_key.LimitKey.{LimitKey}
 use Rattle.gu_terms.specs.declared.offer.Offer.{Offer}
 use Rattle.gu_terms.specs.declared.report.Report.{Report}
-use Rattle.gu_terms.specs.declared.side.Side.{Side}
-use Rattle.gu_terms.specs.declared.symbol.Symbol.{Symbol}
 use Rattle.gu_terms.specs.declared.takes.Take.{Take}
 use Rattle.gu_ref.specs.Reference.{account_row}
 use Rattle.gu_ref.specs.Tables.{Tables}
@@ -28,8 +23,8 @@ use Rattle.gu_limits.specs.Limits.{room_in}
 use Rattle.gu_offers.specs.Changes.{changed, taken}
 use Rattle.gu_offers.specs.Rows.{Row, left_in, left_of, row_at}
 use Rattle.gu_positions.specs.Changes.{KeepsRows}
-use Rattle.gu_positions.specs.Rows.{Row as PositionRow, has_row, lots_in, lots_on}
-use Rattle.gu_book.specs.Beside.{AreKnown, IsKept}
+use Rattle.gu_positions.specs.Rows.{has_row, lots_in}
+use Rattle.gu_book.specs.Beside.{AreKnown, IsKept, IsShown}
 use Rattle.gu_book.specs.Effects.{HoldsMoved, KeepsMade, OnlyRowsOf, SameAnswers, SameEntries, UsesMore}
 use Rattle.gu_book.specs.Limits.{path_behind}
 use Rattle.gu_book.specs.Moving.{HasRows, MayMove, MovesAll, MovesOne, given_by, lots_used, part, parts}
@@ -41,6 +36,7 @@ use Rattle.gu_book.proofs.Facts.{IsThere, open-left, left-is, there}
 use Rattle.gu_book.proofs.KeptReports.{all-push}
 use Rattle.gu_book.proofs.KnownAccounts.{all-found, known-moved, rows-known, seen-row}
 use Rattle.gu_book.proofs.OrderlyLemmas.{all-at}
+use Rattle.gu_book.proofs.ShownLemmas.{shown-taken}
 use Rattle.gu_book.proofs.Takers.{apart, part-takes}
 
 -- ---- what is found
@@ -169,7 +165,7 @@ take-room reference totals one_take offer report is room k d within =
     let one = seen-row totals one_take.offer offer report (given-seen totals one_take.offer offer report is) in
     let key = slice_index_or (path_behind reference offer) k d in
     let uses : option_map_or (λ (r : Row). lots_under r.offer.group (path_behind reference r.offer) one_take.lots offer.group key) (row_at totals.offers one_take.offer) 0
-        ≡ lots_under offer.group (path_behind reference offer) one_take.lots offer.group key =
+    ≡ lots_under offer.group (path_behind reference offer) one_take.lots offer.group key =
     rw one.1 (ap (λ (o : Offer). lots_under o.group (path_behind reference o) one_take.lots offer.group key) one.2) in
     let mine : lots_under offer.group (path_behind reference offer) one_take.lots offer.group key ≡ one_take.lots = rw (same_group-own offer.group, key_at (path_behind reference offer) k d within) refl in
     omega (
@@ -299,6 +295,7 @@ module _ (reference : Tables) (old new : Totals) (one_take : Take) (moves : Move
         subst (λ (h : List Entry). IsKept reference h new) (append_assoc history (parts sweep takes) (part sweep one_take ∷ []) ∙ ap (λ (es : List Entry). history ++ es) (sym (map-append (part sweep) takes (one_take ∷ []))))
         (moves.kept (history ++ parts sweep takes) sweep (before.kept history sweep kept));
     known = λ known. moves.known (before.known known);
+    shown = λ shown. subst (IsShown reference) (sym moves.offers) (shown-taken reference old.offers one_take.offer one_take.lots (before.shown shown));
   }
 
 -- the first of takes that may be moved may be
@@ -321,4 +318,5 @@ moves-none reference totals = record {
   sums = λ side symbol. refl;
   kept = λ history sweep kept. subst (λ (h : List Entry). IsKept reference h totals) (sym (append-nil history)) kept;
   known = λ known. known;
+  shown = λ shown. shown;
 }

@@ -1,12 +1,11 @@
 -- A sweep does what its takes do, one after another.
-use Rattle.std.proofs.Common.{◌≡◌, ℕ, ◌+◌, ◌*◌, ◌-◌, ◌<◌, ◌≤◌, ◌==◌, ◌||◌, Bool, true, false, List, [], ◌∷◌, ◌++◌, length, map, sum_by, if◌then◌else◌, Option, is_some, unwrap_or, refl, sym, ap, ◌∙◌, arith, append-nil, append_assoc, length-append, subst, inl, inr}
+use Rattle.std.proofs.Common.{◌≡◌, ℕ, ◌+◌, ◌*◌, ◌<◌, ◌≤◌, ◌==◌, List, [], ◌∷◌, ◌++◌, length, sum_by, if◌then◌else◌, Option, is_some, unwrap_or, refl, sym, ap, ◌∙◌, arith, append-nil, append_assoc, length-append, subst, inl, inr}
 use Rattle.std.proofs.lemmas.Bool.{cases_Bool}
 use Rattle.std.proofs.lemmas.Bool.Decides.{Decides-eqb}
 use Rattle.std.proofs.lemmas.List.Sums.{sum_by-append, sum_by-cons, sum_by_push}
 use Rattle.std.specs.List.{AllByRecursion}
 use Rattle.gu_terms.proofs.Lists.{Later, Later-from_AllPairs}
 use Rattle.gu_terms.specs.Takes.{IsAscending, lots_of}
-use Rattle.gu_terms.specs.declared.account.AccountId.{AccountId}
 use Rattle.gu_terms.specs.declared.entry.Entry.{Entry}
 use Rattle.gu_terms.specs.declared.entry.Entry.TheVariants.{Swept}
 use Rattle.gu_terms.specs.declared.entry.SweepEntry.{SweepEntry}
@@ -25,8 +24,8 @@ use Rattle.gu_positions.specs.Rows.{lots_on}
 use Rattle.gu_book.specs.Beside.{IsBeside, IsKept}
 use Rattle.gu_book.specs.Limits.{limit_set, use_in}
 use Rattle.gu_book.specs.Moving.{part, parts}
-use Rattle.gu_book.specs.Offers.{given_back_by, has_give_up, is_shut, moved_of, offers_of, standing, standing_from, standing_of, taken_by}
-use Rattle.gu_book.specs.Orderly.{AreFound, AreOwn, AreWithin, IsBalanced, IsCovered, IsNamed, IsOrderly}
+use Rattle.gu_book.specs.Offers.{given_back_by, has_give_up, is_shut, moved_of, offers_of, standing_from, standing_of, taken_by}
+use Rattle.gu_book.specs.Orderly.{AreFound, AreOwn, AreWithin, IsCovered, IsOrderly}
 use Rattle.gu_book.specs.Positions.{held_in}
 use Rattle.gu_book.specs.Reports.{entries_today, open_day, reports_of}
 use Rattle.gu_book.specs.declared.totals.Totals.{Totals}

@@ -1,7 +1,5 @@
 -- Entries that speak of one offer, and those that speak of none.
-use Rattle.std.proofs.Common.{◌≡◌, ◌≢◌, ℕ, ◌+◌, ◌-◌, ◌==◌, ◌||◌, Bool, true, false, refl, sym, arith, inl, inr}
-use Rattle.std.proofs.lemmas.Bool.{cases_Bool}
-use Rattle.std.proofs.lemmas.Bool.Decides.{Decides-eqb}
+use Rattle.std.proofs.Common.{◌≡◌, ℕ, ◌+◌, ◌-◌, ◌||◌, Bool, true, false, refl, arith}
 use Rattle.gu_terms.specs.declared.alloc_reject.AllocReject.{AllocReject}
 use Rattle.gu_terms.specs.declared.command.Command.{Command}
 use Rattle.gu_terms.specs.declared.command.Command.TheVariants.{OpenDay, SetLimit, ReportSide, GiveUp, Claim, Refuse, Reverse}
@@ -9,13 +7,13 @@ use Rattle.gu_terms.specs.declared.entry.Entry.{Entry}
 use Rattle.gu_terms.specs.declared.entry.Entry.TheVariants.{Asked}
 use Rattle.gu_terms.specs.declared.firm.FirmId.{FirmId}
 use Rattle.gu_terms.specs.declared.refusal.Refusal.{Refusal}
-use Rattle.gu_terms.specs.declared.reply.Done.TheVariants.{Claimed, Refused, Reversed}
+use Rattle.gu_terms.specs.declared.reply.Done.TheVariants.{Refused, Reversed}
 use Rattle.gu_terms.specs.declared.reply.Reply.TheVariants.{Accepted, Denied}
-use Rattle.gu_offers.specs.Changes.{closed, reversed, taken}
+use Rattle.gu_offers.specs.Changes.{closed, reversed}
 use Rattle.gu_offers.specs.Rows.{Row}
 use Rattle.gu_book.specs.Offers.{closes, given_back_by, taken_by}
 use Rattle.gu_book.proofs.Moved.{LeavesOthers}
-use Rattle.gu_book.proofs.StandingLemmas.{IsIdle, either-false, stepped, stepped-still}
+use Rattle.gu_book.proofs.StandingLemmas.{IsIdle, stepped, stepped-still}
 use Rattle.gu_book.proofs.Takers.{apart, same}
 
 -- an entry of a refusal, and of a reversal

@@ -32,9 +32,10 @@ use Rattle.gu_book.proofs.KeptDays.{giving_up, opening, setting}
 use Rattle.gu_book.proofs.KnownAccounts.{some-not-none}
 use Rattle.gu_book.proofs.Passing.{none_stands}
 use Rattle.gu_book.proofs.ShownLemmas.{shown-closed, shown-next_day, shown-reversed, shown-taken, shown-with_lines}
-use Rattle.gu_book.proofs.Spoken.{claimed, claimed-others, claimed-own, refused, refused-others, refused-own, taken_back, taken_back-others, taken_back-own}
+use Rattle.gu_book.proofs.Spoken.{refused, refused-others, refused-own, taken_back, taken_back-others, taken_back-own}
 use Rattle.gu_book.proofs.Stepping.{standing_of-idle, standing_of-lines, standing_of-one, standing_of-opened}
 use Rattle.gu_book.proofs.TakenIn.{names-are, report-is}
+use Rattle.gu_book.proofs.Takers.{claim-takes, claimed, takes-others, takes-own}
 
 -- a give-up
 module _ (reference : Tables) (history : List Entry) (firm : FirmId) (id own : Id) (lines : List Line) (orderly : IsOrderly history) (is : IsAccepted reference history (GiveUp firm id own lines))
@@ -87,7 +88,7 @@ shown-accepted reference history (Claim firm offer) orderly is shown =
     let lots = left_in (standing_of history) offer in
     let f = claimable reference history firm offer orderly is in
     subst (IsShown reference)
-    (sym (standing_of-one history (claimed firm offer lots) offer f.0 (taken lots) refl refl orderly.balanced (claimed-others firm offer lots) f.2.there.at (claimed-own firm offer lots f.0)))
+    (sym (standing_of-one history (claimed firm offer lots) offer f.0 (taken lots) refl refl orderly.balanced (takes-others (claimed firm offer lots) offer lots (claim-takes firm offer lots)) f.2.there.at (takes-own (claimed firm offer lots) offer lots f.0 (claim-takes firm offer lots))))
     (shown-taken reference (standing_of history) offer lots shown)
 shown-accepted reference history (Refuse firm offer why) orderly is shown =
     let lots = left_in (standing_of history) offer in

@@ -1,5 +1,5 @@
 -- What a sweep of a group's view takes is left, and there is room for it.
-use Rattle.std.proofs.Common.{◌≡◌, ℕ, zero, suc, ◌+◌, ◌-◌, ◌<◌, ◌≤◌, ◌==◌, ◌&&◌, ◌||◌, Bool, true, false, cond, List, [], ◌∷◌, map, sum_by, slice_get, if◌then◌else◌, Option, Some, None, refl, sym, ap, ◌∙◌, arith, subst, inl, inr}
+use Rattle.std.proofs.Common.{◌≡◌, ℕ, zero, suc, ◌+◌, ◌-◌, ◌<◌, ◌≤◌, ◌==◌, ◌&&◌, Bool, true, false, cond, List, [], ◌∷◌, map, sum_by, slice_get, if◌then◌else◌, Option, Some, None, refl, sym, ap, ◌∙◌, arith, subst, inl, inr}
 use Rattle.std.specs.List.{AllByRecursion, cons_option, filter_map, list_any}
 use Rattle.std.specs.Option.{option_and_then, option_map, option_map_or}
 use Rattle.std.proofs.lemmas.Bool.{cases_Bool, ltb-true}
@@ -23,9 +23,8 @@ use Rattle.gu_ref.specs.Reference.{agreement_between}
 use Rattle.gu_ref.specs.Tables.{Tables}
 use Rattle.gu_limits.specs.Changes.{lots_under as lots_charged}
 use Rattle.gu_limits.specs.Limits.{room_in}
-use Rattle.gu_offers.specs.Rows.{Row, is_open, is_open_in, left_in, left_of, numbers_from, open_numbers, open_offer_at, open_offers, row_at}
+use Rattle.gu_offers.specs.Rows.{Row, is_open_in, left_in, left_of, numbers_from, open_numbers, open_offer_at, row_at}
 use Rattle.gu_view.proofs.RoomLemmas.{has_key-keys_of}
-use Rattle.gu_view.specs.Check.{has_offer}
 use Rattle.gu_view.specs.Takes.{IsAdmissible, lots_under}
 use Rattle.gu_view.specs.View.{keys_of}
 use Rattle.gu_view.specs.declared.view.Offer.{Offer}
@@ -125,10 +124,12 @@ named P (o ∷ offers) n has all =
 own-lots : (takes : List Take) → Later (λ (a b : Take). a.offer < b.offer) takes → AllByRecursion (λ (t : Take). lots_of takes t.offer ≡ t.lots) takes
 own-lots [] later = tt
 own-lots (take ∷ takes) later =
-    let mine : lots_of (take ∷ takes) take.offer ≡ take.lots = rw (same take.offer) refl in
-    (mine, along2 (λ (t : Take). take.offer < t.offer) (λ (t : Take). lots_of takes t.offer ≡ t.lots) (λ (t : Take). lots_of (take ∷ takes) t.offer ≡ t.lots) takes
-    (λ t after own. let on : lots_of (take ∷ takes) t.offer ≡ lots_of takes t.offer = rw (apart take.offer t.offer (λ same. absurd (omega (arith, after, same)))) refl in on ∙ own)
-    later.0 (own-lots takes later.1))
+    let mine : lots_of (take ∷ takes) take.offer ≡ take.lots = rw (same take.offer) refl in (
+      mine,
+      along2 (λ (t : Take). take.offer < t.offer) (λ (t : Take). lots_of takes t.offer ≡ t.lots) (λ (t : Take). lots_of (take ∷ takes) t.offer ≡ t.lots) takes
+          (λ t after own. let on : lots_of (take ∷ takes) t.offer ≡ lots_of takes t.offer = rw (apart take.offer t.offer (λ same. absurd (omega (arith, after, same)))) refl in on ∙ own)
+          later.0 (own-lots takes later.1),
+    )
 
 -- a take is of an open offer, which has its lots left
 pub record TakesLeft (reference : Tables) (rows : List Row) (group : Group) (offers : List Offer) (t : Take) : Type 0 where

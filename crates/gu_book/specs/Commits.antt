@@ -35,7 +35,7 @@ pub record IsForeign (book : Kept) (view : GroupView) : Type 0 where
 
 -- what each refusal says. A full book, a stale view, a foreign view and a current one: just one of the four stands
 abbrev pub Refuses : Kept → GroupView → CommitError → Type 0
-Refuses book view Memory = Unit {0}
+Refuses book view Memory = IsCurrent book view
 Refuses book view Full = 1000000 ≤ length book.history
 Refuses book view (Stale seen now) = IsStale book view seen now
 Refuses book view Foreign = IsForeign book view

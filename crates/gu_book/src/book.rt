@@ -1,6 +1,6 @@
 //! The book.
 
-ghost use Rattle.std.specs.Prelude.{◌≡◌, ◌↔◌, ◌<◌, ◌≤◌, ◌+◌, ◌++◌, ◌∷◌, [], false, is_some, length, true, IfOk, IfErr, IfSome, OnOk, OnErr, IsErrOf};
+ghost use Rattle.std.specs.Prelude.{◌≡◌, ◌↔◌, ◌<◌, ◌≤◌, ◌+◌, ◌++◌, ◌∷◌, [], false, is_some, length, true, IfOk, IfErr, IfSome, MatchOption, OnOk, OnErr, IsErrOf};
 ghost use Rattle.gu_ref.specs.Reference.{is_group};
 ghost use Rattle.gu_book.specs.Accepted.{accepts};
 ghost use Rattle.gu_book.specs.Answer.{answer};
@@ -13,13 +13,15 @@ ghost use Rattle.gu_book.specs.Views.{group_view};
 ghost use Rattle.gu_view.specs.View.{IsNested};
 
 use crate::answering::answer_of;
+use crate::current::shows_all;
 use crate::error::{CommitError, EnterError, LookError};
 use crate::limits::rows_in_order;
 use crate::positions::{is_of_firm, rows_of_account};
+use crate::sweeping::{make_ways, move_takes, sweep_from, sweep_of};
 use crate::taking::take_in;
 use crate::totals::Totals;
 use crate::touching::{know, touch, touched_in};
-use crate::versions::Versions;
+use crate::versions::{Touched, Versions};
 use crate::views::view_of;
 use gu_flow::Proposal;
 use gu_ref::Reference;
@@ -223,6 +225,49 @@ impl Book {
         )?)
     }
 
+    /// Why a proposal for a view may not be committed, where it may not. It takes no memory.
+    fn refusal(&self, view: &View) -> Option<CommitError>
+        ensures { MatchOption result (IsCurrent self.now view.now) (λ why. Refuses self.now view.now why) }
+    {
+        if MOST_ENTRIES <= self.history.len() {
+            return Some(CommitError::Full);
+        }
+        let seen = view.version();
+        let now = self.versions.of(&view.group());
+        if seen != now {
+            return Some(CommitError::Stale { seen, now });
+        }
+        if !self.reference.group(view.group()) {
+            return Some(CommitError::Foreign);
+        }
+        if !shows_all(&self.reference, &self.totals, view) {
+            return Some(CommitError::Foreign);
+        }
+        None
+    }
+
+    /// Adds the sweep that a proposal asks for, and moves its lots.
+    fn append_sweep(&mut self, proposal: &Proposal) -> Result<(), AllocError>
+        requires { IsCurrent self.old proposal.now.view }
+        ensures entered { OnOk result (self.new.history ≡ self.old.history ++ Entry.Swept (sweep_of proposal.now) ∷ []) }
+        ensures stands { OnOk result (StandsLast self.old.reference (length self.old.history + 1) (Entry.Swept (sweep_of proposal.now))) }
+        ensures reference { self.new.reference ≡ self.old.reference }
+        ensures refused { OnErr result (self.new.history ≡ self.old.history) }
+    {
+        let sweep = sweep_of(proposal)?;
+        let touched = Touched::Only(sweep.group);
+        know(&mut self.versions, &touched)?;
+        make_ways(&mut self.totals, proposal.takes().as_slice())?;
+        self.history.push(Entry::Swept(sweep))?;
+        move_takes(
+            &mut self.totals,
+            &self.reference,
+            proposal.takes().as_slice(),
+        );
+        touch(&mut self.versions, &touched);
+        Ok(())
+    }
+
     /// Commits a proposal: its sweep is entered, and its takes are claimed, where the group still stands as the proposal's view shows it.
     pub fn commit(&mut self, proposal: Proposal) -> Result<Receipt, (CommitError, Proposal)>
         ensures entered { IfOk result (λ r. self.new.history ≡ self.old.history ++ r.entry ∷ []) }
@@ -237,7 +282,16 @@ impl Book {
         ensures reference { self.new.reference ≡ self.old.reference }
         ensures refused { OnErr result (self.new.history ≡ self.old.history) }
     {
-        Err((CommitError::Memory, proposal))
+        if let Some(why) = self.refusal(proposal.view()) {
+            return Err((why, proposal));
+        }
+        if let Err(AllocError) = self.append_sweep(&proposal) {
+            return Err((CommitError::Memory, proposal));
+        }
+        Ok(Receipt {
+            number: self.history.len() as u64,
+            entry: Entry::Swept(sweep_from(proposal)),
+        })
     }
 
     /// The open day.

@@ -3,6 +3,7 @@
 ghost use Rattle.std.specs.Prelude.{◌≡◌, ◌↔◌, ◌++◌, ◌∷◌, IsTrue, IfSome, IsSome, List};
 ghost use Rattle.std.specs.List.{filter_map};
 ghost use Rattle.std.specs.Option.{option_to_list};
+ghost use Rattle.gu_view.specs.View.{IsView};
 ghost use Rattle.gu_view.specs.declared.view.Offer.{Offer as OfferOf};
 ghost use Rattle.gu_book.specs.Current.{HasRooms, ShowsAll};
 ghost use Rattle.gu_book.specs.Shown.{shown_at};
@@ -43,12 +44,7 @@ fn behind_number<'a>(
 }
 
 /// Whether these offers are those of the numbers, as a view shows them.
-fn shows_offers(
-    reference: &Reference,
-    totals: &Totals,
-    numbers: &[u64],
-    offers: &[Offer],
-) -> bool
+fn shows_offers(reference: &Reference, totals: &Totals, numbers: &[u64], offers: &[Offer]) -> bool
     ensures { IsTrue result ↔ (offers.now ≡ filter_map (shown_at reference.now totals.now.offers) numbers.now) }
 {
     let mut rest = offers;
@@ -72,7 +68,8 @@ fn shows_rooms(limits: &LimitTable, group: &Group, rooms: &[Room]) -> bool
 
 /// Whether a view shows the open offers of its group, and each room as it is. It takes no memory.
 pub fn shows_all(reference: &Reference, totals: &Totals, view: &View) -> bool
-    ensures { IsTrue result ↔ ShowsAll reference.now totals.now view.now }
+    ensures shown { IsTrue result ↔ ShowsAll reference.now totals.now view.now }
+    ensures sound { IsView view.now }
 {
     let group = view.group();
     let numbers = totals.offers.open_numbers(group);

@@ -34,6 +34,19 @@ pub fn sweep_of(proposal: &Proposal) -> Result<SweepEntry, AllocError>
     })
 }
 
+/// The same, of a proposal that is given up for it. It takes no memory.
+pub fn sweep_from(proposal: Proposal) -> SweepEntry
+    ensures { result ≡ sweep_of proposal }
+{
+    let (view, takes, cut, lots) = proposal.into_parts();
+    SweepEntry {
+        group: view.group(),
+        takes,
+        cut,
+        lots,
+    }
+}
+
 /// Makes the rows of the accounts between which lots of an offer move. No answer changes.
 fn make_way(totals: &mut Totals, number: OfferNo) -> Result<(), AllocError>
     ensures rows { OnOk result (HasRows totals.new number) }

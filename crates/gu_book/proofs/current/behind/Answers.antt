@@ -1,4 +1,4 @@
-use Rattle.std.proofs.Common.{◌≡◌, ◌∙◌, ◌∷◌, Bool, List, true, false, not, ap, refl, sym}
+use Rattle.std.proofs.Common.{◌≡◌, ◌∙◌, ◌∷◌, Bool, true, false, not, ap, refl, sym}
 use Rattle.gu_view.proofs.SameViews.{offer_eq, offer_eq-Decides}
 use Rattle.gu_view.specs.declared.view.Offer.{Offer}
 use Rattle.gu_book.proofs.current.behind.Goals as goal

@@ -1,4 +1,4 @@
-use Rattle.std.proofs.Common.{◌≡◌, ◌+◌, drop, get_or}
+use Rattle.std.proofs.Common.{◌+◌, drop}
 use Rattle.std.specs.List.{filter_map}
 use Rattle.gu_book.specs.Shown.{shown_at}
 use Rattle.gu_book.proofs.CurrentLemmas.{given-next, rest-begins}

@@ -1,4 +1,4 @@
-use Rattle.gu_book.proofs.Moves.{moves-one, take-room, take-rows, take-there}
+use Rattle.gu_book.proofs.Moves.{moves-one, take-room, take-there}
 use Rattle.gu_book.proofs.sweeping.move_take.Goals as goal
 
 pub move_lots-requires-clause-room : goal.move_lots-requires-clause-room

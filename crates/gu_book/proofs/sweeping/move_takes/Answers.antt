@@ -1,4 +1,4 @@
-use Rattle.std.proofs.Common.{◌∙◌, ◌∷◌, ◌+◌, ◌++◌, [], ap, drop, subst, sym, take, List}
+use Rattle.std.proofs.Common.{◌∙◌, ◌∷◌, ◌+◌, ◌++◌, [], ap, drop, subst, sym, take}
 use Rattle.std.proofs.lemmas.List.{drop_more, take_more}
 use Rattle.gu_terms.specs.declared.takes.Take.{Take}
 use Rattle.gu_book.specs.Moving.{MayMove, MovesAll}

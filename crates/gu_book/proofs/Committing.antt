@@ -1,0 +1,68 @@
+-- A legal history grows by a sweep that is committed.
+use Rattle.std.proofs.Common.{◌≡◌, ◌+◌, ◌≤◌, List, [], ◌∷◌, ◌++◌, length, if◌then◌else◌, refl, sym, arith, subst}
+use Rattle.std.specs.List.{AllByRecursion}
+use Rattle.gu_terms.specs.declared.entry.Entry.{Entry}
+use Rattle.gu_terms.specs.declared.entry.Entry.TheVariants.{Swept}
+use Rattle.gu_terms.specs.declared.group.Group.{Group}
+use Rattle.gu_terms.specs.declared.takes.Take.{Take}
+use Rattle.gu_ref.specs.Tables.{Tables}
+use Rattle.gu_flow.specs.Proposals.{ProposedSweep}
+use Rattle.gu_view.specs.View.{GroupView}
+use Rattle.gu_book.specs.Beside.{AreKnown, IsKeptLegal, IsShown}
+use Rattle.gu_book.specs.Commits.{IsCurrent, sweep_of}
+use Rattle.gu_book.specs.Counted.{is_touched, version_in}
+use Rattle.gu_book.specs.Effects.{SameAnswers}
+use Rattle.gu_book.specs.Kept.{Kept}
+use Rattle.gu_book.specs.Legal.{StandsLast}
+use Rattle.gu_book.specs.Moving.{HasRows, MayMove, MovesAll}
+use Rattle.gu_book.specs.Sweeps.{IsSweepOf, MaySweep}
+use Rattle.gu_book.specs.declared.totals.Totals.{Totals}
+use Rattle.gu_book.specs.declared.versions.Touched.TheVariants.{Only}
+use Rattle.gu_book.specs.declared.versions.Versions.{Versions}
+use Rattle.gu_book.proofs.Beginning.{still-kept}
+use Rattle.gu_book.proofs.CountedLemmas.{versions-push, versions-same}
+use Rattle.gu_book.proofs.Growing.{legal_push, stands_last}
+use Rattle.gu_book.proofs.Parts.{kept-whole}
+use Rattle.gu_book.proofs.SweptOffers.{sweep-moves}
+
+-- the sweep of a current proposal may follow
+pub may-sweep : (book : Kept) (proposal : ProposedSweep) → IsCurrent book proposal.view → IsSweepOf proposal.view (sweep_of proposal) → MaySweep book.reference book.history (sweep_of proposal)
+may-sweep book proposal current right = record { known = current.known; sweeps = subst (λ (v : GroupView). IsSweepOf v (sweep_of proposal)) current.same right }
+
+-- its takes may be moved
+pub may-move : (book : Kept) (proposal : ProposedSweep) (old mid : Totals) (versions : Versions) → IsKeptLegal book.reference book.history old versions → IsCurrent book proposal.view
+    → IsSweepOf proposal.view (sweep_of proposal) → SameAnswers old mid → AllByRecursion (λ (t : Take). HasRows mid t.offer) proposal.takes → MayMove book.reference mid proposal.takes
+may-move book proposal old mid versions kept current right same made =
+    sweep-moves book.reference book.history mid (sweep_of proposal) (still-kept book.reference book.history old mid kept.kept same) (may-sweep book proposal current right).sweeps made
+
+-- where a growth was refused, all stays
+pub legal-still : (reference : Tables) (history : List Entry) (old mid : Totals) (old_counts new_counts : Versions) → IsKeptLegal reference history old old_counts → SameAnswers old mid
+    → (AreKnown reference old → AreKnown reference mid) → new_counts.days ≡ old_counts.days → ((group : Group) → version_in new_counts group ≡ version_in old_counts group)
+    → IsKeptLegal reference history mid new_counts
+legal-still reference history old mid old_counts new_counts kept same known days counts = record {
+  legal = kept.legal;
+  kept = still-kept reference history old mid kept.kept same;
+  known = known kept.known;
+  shown = subst (IsShown reference) (sym same.offers) kept.shown;
+  counted = versions-same history old_counts new_counts kept.counted days counts;
+}
+
+-- the history with the sweep
+pub legal-swept : (book : Kept) (proposal : ProposedSweep) (mid new : Totals) (counts new_counts : Versions) → IsKeptLegal book.reference book.history mid counts → IsCurrent book proposal.view
+    → IsSweepOf proposal.view (sweep_of proposal) → MovesAll book.reference mid new proposal.takes → new_counts.days ≤ counts.days + 1
+    → ((group : Group) → version_in new_counts group ≡ (if is_touched (Only proposal.view.group) group then version_in counts group + 1 else version_in counts group))
+    → IsKeptLegal book.reference (book.history ++ Swept (sweep_of proposal) ∷ []) new new_counts
+legal-swept book proposal mid new counts new_counts kept current right moves days touched =
+    let sweep = sweep_of proposal in record {
+      legal = legal_push book.reference book.history (Swept sweep) kept.legal current.room (may-sweep book proposal current right);
+      kept = kept-whole book.reference book.history sweep new right.ascending kept.kept.orderly.few (λ side symbol. omega (arith, moves.sums side symbol, kept.kept.beside.sums side symbol))
+          (moves.kept book.history sweep kept.kept);
+      known = moves.known kept.known;
+      shown = moves.shown kept.shown;
+      counted = versions-push book.history (Swept sweep) counts new_counts (Only proposal.view.group) kept.counted (λ group. refl) touched days;
+    }
+
+-- in which it stands last
+pub swept-last : (book : Kept) (proposal : ProposedSweep) (totals : Totals) (versions : Versions) → IsKeptLegal book.reference book.history totals versions → IsCurrent book proposal.view
+    → IsSweepOf proposal.view (sweep_of proposal) → StandsLast book.reference (length book.history + 1) (Swept (sweep_of proposal))
+swept-last book proposal totals versions kept current right = stands_last book.reference book.history (Swept (sweep_of proposal)) kept.legal current.room (may-sweep book proposal current right)

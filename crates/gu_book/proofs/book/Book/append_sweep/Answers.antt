@@ -1,0 +1,71 @@
+use Rattle.std.proofs.Common.{◌∙◌, ◌+◌, ◌++◌, ◌∷◌, [], List, ap, length, if◌then◌else◌, subst, sym}
+use Rattle.std.specs.List.{AllByRecursion}
+use Rattle.gu_terms.specs.Same.{same_group}
+use Rattle.gu_terms.specs.declared.entry.Entry.{Entry}
+use Rattle.gu_terms.specs.declared.entry.Entry.TheVariants.{Swept}
+use Rattle.gu_terms.specs.declared.entry.SweepEntry.{SweepEntry}
+use Rattle.gu_terms.specs.declared.takes.Take.{Take}
+use Rattle.gu_book.specs.Beside.{IsKeptLegal}
+use Rattle.gu_book.specs.Commits.{IsCurrent, sweep_of}
+use Rattle.gu_book.specs.Counted.{version_in}
+use Rattle.gu_book.specs.Kept.{Kept}
+use Rattle.gu_book.specs.Legal.{StandsLast}
+use Rattle.gu_book.specs.Moving.{HasRows, MayMove, MovesAll}
+use Rattle.gu_book.proofs.Committing.{legal-still, legal-swept, may-move, swept-last}
+use Rattle.gu_book.proofs.CountedLemmas.{versions-fit, versions-same}
+use Rattle.gu_book.proofs.book.Book.append_sweep.Goals as goal
+
+pub invariant_of-self-in_err-make_ways : goal.invariant_of-self-in_err-make_ways
+invariant_of-self-in_err-make_ways c =
+    let old = c.self.inside in
+    legal-still old.reference old.history old.totals c.make_ways.new.totals old.versions c.know.new.versions c.self.invariant c.make_ways.ensures.same (c.make_ways.ensures.known old.reference) c.know.ensures.days
+    c.know.ensures.same
+
+pub invariant_of-self-in_err-push : goal.invariant_of-self-in_err-push
+invariant_of-self-in_err-push c =
+    let old = c.self.inside in
+    subst (λ (history : List Entry). IsKeptLegal old.reference history c.make_ways.new.totals c.know.new.versions) (sym c.in_err-push.ensures.refused)
+    (legal-still old.reference old.history old.totals c.make_ways.new.totals old.versions c.know.new.versions c.self.invariant c.make_ways.ensures.same (c.make_ways.ensures.known old.reference)
+    c.know.ensures.days c.know.ensures.same)
+
+pub move_takes-requires : goal.move_takes-requires
+move_takes-requires c =
+    let old = c.self.inside in
+    let book : Kept = record { reference = old.reference; history = old.history } in
+    let proposal = c.args.proposal.now in
+    let current = subst (λ (k : Kept). IsCurrent k proposal.view) (sym c.self.view_is) c.requires in
+    let made = subst (AllByRecursion (λ (t : Take). HasRows c.make_ways.new.totals t.offer)) (c.as_slice.ensures.takes ∙ c.takes.ensures.takes) c.in_ok-make_ways.ensures.rows in
+    subst (MayMove old.reference c.make_ways.new.totals) (sym (c.as_slice-2.ensures.takes ∙ c.takes-2.ensures.takes))
+    (may-move book proposal old.totals c.make_ways.new.totals old.versions c.self.invariant current c.in_ok-sweep.ensures.right c.make_ways.ensures.same made)
+
+pub touch-requires-clause-fits : goal.touch-requires-clause-fits
+touch-requires-clause-fits c group =
+    let old = c.self.inside in
+    versions-fit old.history c.know.new.versions (versions-same old.history old.versions c.know.new.versions c.self.invariant.counted c.know.ensures.days c.know.ensures.same) c.self.invariant.legal.within group
+
+pub invariant_of-self-2 : goal.invariant_of-self-2
+invariant_of-self-2 c =
+    let old = c.self.inside in
+    let book : Kept = record { reference = old.reference; history = old.history } in
+    let proposal = c.args.proposal.now in
+    let current = subst (λ (k : Kept). IsCurrent k proposal.view) (sym c.self.view_is) c.requires in
+    let still =
+    legal-still old.reference old.history old.totals c.make_ways.new.totals old.versions c.know.new.versions c.self.invariant c.make_ways.ensures.same (c.make_ways.ensures.known old.reference) c.know.ensures.days
+    c.know.ensures.same in
+    let moves = subst (MovesAll old.reference c.make_ways.new.totals c.move_takes.new.totals) (c.as_slice-2.ensures.takes ∙ c.takes-2.ensures.takes) c.move_takes.ensures in
+    let is = c.in_ok-sweep.ensures.sweep in
+    let pushed = c.in_ok-push.ensures.added ∙ ap (λ (s : SweepEntry). old.history ++ Swept s ∷ []) is in
+    subst (λ (history : List Entry). IsKeptLegal old.reference history c.move_takes.new.totals c.touch.new.versions) (sym pushed)
+    (legal-swept book proposal c.make_ways.new.totals c.move_takes.new.totals c.know.new.versions c.touch.new.versions still current c.in_ok-sweep.ensures.right moves c.touch.ensures.days
+    (λ group.
+    c.touch.ensures.touched group
+    ∙ ap (λ (s : SweepEntry). if same_group s.group group then version_in c.know.new.versions group + 1 else version_in c.know.new.versions group) is))
+
+pub returns-clause-stands : goal.returns-clause-stands
+returns-clause-stands c =
+    let old = c.self.inside in
+    let book : Kept = record { reference = old.reference; history = old.history } in
+    let proposal = c.args.proposal.now in
+    let current = subst (λ (k : Kept). IsCurrent k proposal.view) (sym c.self.view_is) c.requires in
+    subst (λ (k : Kept). StandsLast k.reference (length k.history + 1) (Swept (sweep_of proposal))) c.self.view_is
+    (swept-last book proposal old.totals old.versions c.self.invariant current c.in_ok-sweep.ensures.right)
