@@ -23,6 +23,7 @@ pub mod LimitLemmas
 pub mod Moved
 pub mod Moves
 pub mod NestedViews
+pub mod NoticeLemmas
 pub mod OrderlyLemmas
 pub mod Parts
 pub mod Passing

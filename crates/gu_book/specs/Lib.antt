@@ -9,11 +9,13 @@ pub mod Kept
 pub mod Legal
 pub mod Limits
 pub mod Moving
+pub mod Notices
 pub mod Offers
 pub mod Orderly
 pub mod Positions
 pub mod Reports
 pub mod Shown
 pub mod Sweeps
+pub mod Telling
 pub mod Versions
 pub mod Views

@@ -7,6 +7,7 @@ ghost use Rattle.gu_book.specs.Answer.{answer};
 ghost use Rattle.gu_book.specs.Commits.{IsCurrent, Refuses, sweep_of};
 ghost use Rattle.gu_book.specs.Legal.{IsLegal, MayFollow, StandsLast};
 ghost use Rattle.gu_book.specs.Limits.{limit_rows};
+ghost use Rattle.gu_book.specs.Notices.{notices_of};
 ghost use Rattle.gu_book.specs.Positions.{is_of_firm, long_of, open_interest_of, position_rows, short_of};
 ghost use Rattle.gu_book.specs.Reports.{open_day};
 ghost use Rattle.gu_book.specs.Views.{group_view};
@@ -16,6 +17,7 @@ use crate::answering::answer_of;
 use crate::current::shows_all;
 use crate::error::{CommitError, EnterError, LookError};
 use crate::limits::rows_in_order;
+use crate::notices::notices_of;
 use crate::positions::{is_of_firm, rows_of_account};
 use crate::sweeping::{make_ways, move_takes, sweep_from, sweep_of};
 use crate::taking::take_in;
@@ -26,8 +28,8 @@ use crate::views::view_of;
 use gu_flow::Proposal;
 use gu_ref::Reference;
 use gu_terms::{
-    AccountId, Command, Day, Entry, FirmId, Group, History, LimitRow, MOST_ENTRIES, PositionRows,
-    Receipt, Reply, Seed, Symbol,
+    AccountId, Command, Day, Entry, FirmId, Group, History, LimitRow, MOST_ENTRIES, Notices,
+    PositionRows, Receipt, Reply, Seed, Symbol,
 };
 use gu_view::View;
 use std::alloc::{AllocError, Global};
@@ -204,6 +206,23 @@ impl Book {
         ensures unknown { is_group self.now.reference group.now ≡ false → IfOk result (λ rows. rows.items ≡ []) }
     {
         rows_in_order(self.alloc, &self.reference, &self.totals.limits, group)
+    }
+
+    /// What a firm is told of the entries from a number on, and the number after the last entry, from which to ask next.
+    pub fn notices(&self, firm: FirmId, from: u64) -> Result<Notices, AllocError>
+        ensures next { IfOk result (λ notices. notices.next ≡ length self.now.history + 1) }
+        ensures list { IfOk result (λ notices. notices.list.items ≡ notices_of self.now firm from) }
+    {
+        let next = self.history.len() as u64 + 1;
+        let list = notices_of(
+            self.alloc,
+            &self.reference,
+            &self.totals,
+            self.history.as_slice(),
+            &firm,
+            from.min(next),
+        )?;
+        Ok(Notices { next, list })
     }
 
     /// The view of a group as the book stands: its open offers, and the room of each key that they come under.

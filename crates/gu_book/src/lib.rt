@@ -7,6 +7,7 @@ mod current;
 mod error;
 mod laws;
 mod limits;
+mod notices;
 mod positions;
 mod sweeping;
 mod taking;

@@ -1,0 +1,176 @@
+-- What is told, one thing after another.
+use Rattle.std.proofs.Common.{◌≡◌, ℕ, zero, suc, ◌+◌, ◌-◌, ◌<◌, ◌≤◌, ◌++◌, List, [], ◌∷◌, length, take, drop, max, min, map, filter, get_or, None, Result, Ok, Err, refl, sym, ap, ◌∙◌, arith, append-nil, append_assoc, subst, nat_lt, inl, inr}
+use Rattle.std.specs.List.{flat_map, range_with_len}
+use Rattle.std.specs.Option.{option_map}
+use Rattle.std.specs.Prelude.{slice_get}
+use Rattle.std.proofs.lemmas.Bool.{cases_Bool, ltb-false, ltb-true}
+use Rattle.std.proofs.lemmas.List.{length-drop, length-take, map-append, take_all, take_more}
+use Rattle.std.proofs.lemmas.List.Concat.{flat_map-append}
+use Rattle.std.proofs.lemmas.List.Elements.{filter-append}
+use Rattle.std.proofs.lemmas.Option.{slice_get_past}
+use Rattle.gu_terms.specs.Numbers.{IsOfferNo}
+use Rattle.gu_terms.specs.Same.{same_firm, same_side}
+use Rattle.gu_terms.specs.declared.entry.Entry.{Entry}
+use Rattle.gu_terms.specs.declared.firm.FirmId.{FirmId}
+use Rattle.gu_terms.specs.declared.notice.Notice.{Notice}
+use Rattle.gu_terms.specs.declared.offer.Offer.{Offer}
+use Rattle.gu_terms.specs.declared.report.Report.{Report}
+use Rattle.gu_terms.specs.declared.side.Side.{Side}
+use Rattle.gu_ref.specs.Tables.{Tables}
+use Rattle.gu_offers.proofs.NumberLists.{range_with_len-suc}
+use Rattle.gu_offers.specs.Rows.{Row, row_at}
+use Rattle.gu_book.specs.Beside.{IsBeside}
+use Rattle.gu_book.specs.Notices.{Register, Told, register_of, told_by, told_from, told_of_line, told_on, told_to}
+use Rattle.gu_book.specs.Offers.{offers_of, standing_from, standing_of}
+use Rattle.gu_book.specs.Telling.{IsTold, register_in}
+use Rattle.gu_book.specs.Versions.{offer_at}
+use Rattle.gu_book.specs.declared.notices.Mailbox.{Mailbox}
+use Rattle.gu_book.specs.declared.totals.Totals.{Totals}
+
+-- to a firm, of things told after others
+told_to-append : (firm : FirmId) (before after : List Told) → told_to firm (before ++ after) ≡ told_to firm before ++ told_to firm after
+told_to-append firm before after =
+    ap (map (λ (t : Told). t.notice)) (filter-append (λ (t : Told). same_firm t.firm firm) before after)
+    ∙ map-append (λ (t : Told). t.notice) (filter (λ (t : Told). same_firm t.firm firm) before) (filter (λ (t : Told). same_firm t.firm firm) after)
+
+-- things were told so far
+abbrev pub IsToldSoFar : Mailbox → Mailbox → List Told → Type 0
+IsToldSoFar old new told = IsTold {T = Unit {0}} {E = Unit {0}} old new (Ok tt) told
+
+-- nothing was
+pub told-none : (box : Mailbox) → IsToldSoFar box box []
+told-none box = record { firm = refl; list = sym (append-nil box.list.items) }
+
+-- and then others
+pub told-then : {T E : Type 0} (old mid new : Mailbox) (result : Result T E) (before after : List Told) → IsToldSoFar old mid before → IsTold mid new result after → IsTold old new result (before ++ after)
+told-then old mid new (Err error) before after first then = record { firm = then.firm ∙ first.firm; list = tt }
+told-then old mid new (Ok value) before after first then = record {
+  firm = then.firm ∙ first.firm;
+  list = then.list
+      ∙ (λ i. first.list i ++ told_to (first.firm i) after)
+      ∙ append_assoc old.list.items (told_to old.firm before) (told_to old.firm after)
+      ∙ ap (λ (list : List Notice). old.list.items ++ list) (sym (told_to-append old.firm before after));
+}
+
+-- where a growth was refused, the firm stays
+pub told-refused : {T E : Type 0} (old mid new : Mailbox) (error : E) (before after told : List Told) → IsToldSoFar old mid before → IsTold {T = T} mid new (Err error) after → IsTold {T = T} old new (Err error) told
+told-refused old mid new error before after told first then = record { firm = then.firm ∙ first.firm; list = tt }
+
+-- the same things
+pub told-same : {T E : Type 0} (old new : Mailbox) (result : Result T E) (one two : List Told) → one ≡ two → IsTold old new result one → IsTold old new result two
+told-same old new result one two same told = subst (IsTold old new result) same told
+
+-- what each of some things tells, and one more
+pub flat_map-next : {X : Type 0} (tell : X → List Told) (items : List X) (i : ℕ) {item : X} → i < length items → item ≡ get_or items i item
+    → flat_map tell (take i items) ++ tell item ≡ flat_map tell (take (i + 1) items)
+flat_map-next {X} tell items i {item} within is =
+    sym (ap (flat_map tell) (take_more items i item within ∙ ap (λ (x : X). take i items ++ x ∷ []) (sym is))
+    ∙ flat_map-append tell (take i items) (item ∷ [])
+    ∙ ap (λ (told : List Told). flat_map tell (take i items) ++ told) (append-nil (tell item)))
+
+-- what each of some numbers tells, and one more
+pub flat_map-range : (tell : ℕ → List Told) (first n : ℕ) → flat_map tell (range_with_len first n) ++ tell (first + n) ≡ flat_map tell (range_with_len first (suc n))
+flat_map-range tell first n =
+    sym (ap (flat_map tell) (range_with_len-suc first n)
+    ∙ flat_map-append tell (range_with_len first n) ((first + n) ∷ [])
+    ∙ ap (λ (told : List Told). flat_map tell (range_with_len first n) ++ told) (append-nil (tell (first + n))))
+
+-- what two reports tell
+pub told_on-two : (number : ℕ) (side : Side) (first second : Report) → told_on number side (first ∷ []) ++ told_on number side (second ∷ []) ≡ told_on number side (first ∷ second ∷ [])
+told_on-two number side first second =
+    elim (cases_Bool (same_side first.side side)) [
+      | inl hit ↦ rw hit refl
+      | inr miss ↦ rw miss refl
+    ]
+
+-- a number beyond those of offers is that of none
+pub no_line : (reference : Tables) (totals : Totals) (n : ℕ) → length totals.offers ≤ 16000000 → (IsOfferNo n → ⊥) → told_of_line (register_in reference totals) n ≡ []
+no_line reference totals zero few other = refl
+no_line reference totals (suc place) few other =
+    elim (cases_Bool (nat_lt place (length totals.offers))) [
+      | inl hit ↦ absurd (other (record { some = omega arith; most = omega (arith, ltb-true place (length totals.offers) hit, few) }))
+      | inr miss ↦
+          let none : slice_get totals.offers place ≡ None = slice_get_past totals.offers place (ltb-false place (length totals.offers) miss) in
+          rw none refl
+    ]
+
+-- ---- what a book keeps
+
+-- the offer of a number stands in its row
+offer_at-is : (history : List Entry) (n : ℕ) → option_map (λ (r : Row). r.offer) (row_at (standing_of history) n) ≡ offer_at history n
+offer_at-is history zero = refl
+offer_at-is history (suc place) = go 1 (offers_of history) place
+  where
+    go : (m : ℕ) (offers : List Offer) (at : ℕ) → option_map (λ (r : Row). r.offer) (slice_get (standing_from history m offers) at) ≡ slice_get offers at
+    go m [] at = refl
+    go m (offer ∷ offers) zero = refl
+    go m (offer ∷ offers) (suc at) = go (m + 1) offers at
+
+-- notices are written by what is kept as by the history
+pub register-is : (reference : Tables) (history : List Entry) (totals : Totals) → IsBeside reference history totals → register_in reference totals ≡ register_of (record { reference = reference; history = history })
+register-is reference history totals beside =
+    λ i. record {
+      reference = reference;
+      reports = beside.reports i;
+      offer = λ n. (ap (λ (rows : List Row). option_map (λ (r : Row). r.offer) (row_at rows n)) beside.offers ∙ offer_at-is history n) i;
+    }
+
+-- what entries tell, and one more
+pub told_from-next : (register : Register) (first : ℕ) (entries : List Entry) (i : ℕ) {entry : Entry} → i < length entries → entry ≡ get_or entries i entry
+    → told_from register first (take i entries) ++ told_by register (first + i) entry ≡ told_from register first (take (i + 1) entries)
+told_from-next register first entries i {entry} within is =
+    sym (ap (told_from register first) (take_more entries i entry within ∙ ap (λ (e : Entry). take i entries ++ e ∷ []) (sym is)) ∙ last (take i entries) first ∙ at)
+  where
+    last : (before : List Entry) (n : ℕ) → told_from register n (before ++ entry ∷ []) ≡ told_from register n before ++ told_by register (n + length before) entry
+    last [] n = append-nil (told_by register n entry) ∙ ap (λ (k : ℕ). told_by register k entry) (omega arith)
+    last (e ∷ before) n =
+        let next : n + 1 + length before ≡ n + length (e ∷ before) = omega arith in
+        ap (λ (told : List Told). told_by register n e ++ told) (last before (n + 1) ∙ ap (λ (k : ℕ). told_from register (n + 1) before ++ told_by register k entry) next)
+        ∙ sym (append_assoc (told_by register n e) (told_from register (n + 1) before) (told_by register (n + length (e ∷ before)) entry))
+
+    at : told_from register first (take i entries) ++ told_by register (first + length (take i entries)) entry ≡ told_from register first (take i entries) ++ told_by register (first + i) entry
+    at =
+        let size : length (take i entries) ≡ i = omega (arith, length-take i entries, within) in
+        ap (λ (k : ℕ). told_from register first (take i entries) ++ told_by register (first + k) entry) size
+
+-- behind its end a list has nothing
+past : (xs : List Entry) (n : ℕ) → length xs ≤ n → drop n xs ≡ []
+past [] zero h = refl
+past [] (suc n) h = refl
+past (x ∷ xs) zero h = absurd (omega (arith, h))
+past (x ∷ xs) (suc n) h = past xs n (omega (arith, h))
+
+-- the entries from a number on
+pub rest-is : (entries : List Entry) (from start : ℕ) → start ≡ min (max 1 from - 1) (length entries) → take (length entries - start) (drop start entries) ≡ drop (from - 1) entries
+rest-is entries from start is =
+    let whole : take (length entries - start) (drop start entries) ≡ drop start entries = take_all (length entries - start) (drop start entries) (omega (arith, length-drop start entries)) in
+    whole ∙ by
+  where
+    by : drop start entries ≡ drop (from - 1) entries
+    by =
+        elim (cases_Bool (nat_lt (length entries) (from - 1))) [
+          | inl hit ↦
+              let far = ltb-true (length entries) (from - 1) hit in
+              let here : start ≡ length entries = omega (arith, is, far) in
+              past entries start (omega (arith, here)) ∙ sym (past entries (from - 1) (omega (arith, far)))
+          | inr miss ↦
+              let near = ltb-false (length entries) (from - 1) miss in
+              let here : start ≡ from - 1 = omega (arith, is, near) in
+              ap (λ (n : ℕ). drop n entries) here
+        ]
+
+-- beyond the last entry nothing is told, from whatever number on
+pub from-next : (register : Register) (history : List Entry) (from next : ℕ) → next ≡ length history + 1
+    → told_from register (max 1 (min from next)) (drop (min from next - 1) history) ≡ told_from register (max 1 from) (drop (from - 1) history)
+from-next register history from next is =
+    elim (cases_Bool (nat_lt next from)) [
+      | inl hit ↦
+          let far = ltb-true next from hit in
+          let all : drop (min from next - 1) history ≡ [] = past history (min from next - 1) (omega (arith, is, far)) in
+          let none : drop (from - 1) history ≡ [] = past history (from - 1) (omega (arith, is, far)) in
+          rw (all, none) refl
+      | inr miss ↦
+          let near = ltb-false next from miss in
+          let same : min from next ≡ from = omega (arith, near) in
+          ap (λ (n : ℕ). told_from register (max 1 n) (drop (n - 1) history)) same
+    ]

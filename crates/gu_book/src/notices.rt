@@ -1,0 +1,310 @@
+//! Notices: what entries tell of their own accord, and whom.
+
+ghost use Rattle.std.specs.Prelude.{◌≡◌, ◌+◌, ◌-◌, ◌<◌, ◌≤◌, ◌^◌, ◌∷◌, [], drop, max, IfOk, length};
+ghost use Rattle.std.specs.List.{flat_map, range_with_len};
+ghost use Rattle.gu_trades.specs.Reports.{with_match};
+ghost use Rattle.gu_trades.specs.Sides.{reports_in};
+ghost use Rattle.gu_book.specs.Notices.{offer_notice, to_both, to_carrier, told_by, told_from, told_of_event, told_of_line, told_of_take, told_of_trade, told_on, told_to};
+ghost use Rattle.gu_book.specs.Telling.{IsTold, register_in};
+
+use crate::totals::Totals;
+use gu_ref::Reference;
+use gu_terms::{
+    Command, Done, Entry, FirmId, Id, Lots, Notice, Offer, OfferEvent, OfferNo, OfferNotice, Reply,
+    Report, Side, Take,
+};
+use gu_trades::Sides;
+use std::alloc::{AllocError, Global};
+
+/// The notices to one firm.
+#[derive(Drop)]
+pub struct Mailbox {
+    pub firm: FirmId,
+    pub list: Vec<Notice>,
+}
+
+impl Mailbox {
+    /// Keeps a notice to a firm, where it is this one.
+    fn tell(&mut self, to: &FirmId, notice: &Notice) -> Result<(), AllocError>
+        ensures { IsTold self.old self.new result (record { firm = to.now; notice = notice.now } ∷ []) }
+    {
+        if *to == self.firm {
+            self.list.push(*notice)?;
+        }
+        Ok(())
+    }
+
+    /// Keeps a notice to the firm that carries an offer's account.
+    fn tell_carrier(
+        &mut self,
+        reference: &Reference,
+        offer: &Offer,
+        notice: &Notice,
+    ) -> Result<(), AllocError>
+        ensures { IsTold self.old self.new result (to_carrier reference.now offer.now notice.now) }
+    {
+        match reference.account(offer.account) {
+            Some(account) => self.tell(&account.firm, notice),
+            None => Ok(()),
+        }
+    }
+
+    /// Keeps a notice to both firms of an offer.
+    fn tell_both(
+        &mut self,
+        reference: &Reference,
+        offer: &Offer,
+        notice: &Notice,
+    ) -> Result<(), AllocError>
+        ensures { IsTold self.old self.new result (to_both reference.now offer.now notice.now) }
+    {
+        self.tell(&offer.firm, notice)?;
+        self.tell_carrier(reference, offer, notice)
+    }
+
+    /// Keeps what an offer's line tells.
+    fn tell_line(
+        &mut self,
+        reference: &Reference,
+        totals: &Totals,
+        number: u64,
+    ) -> Result<(), AllocError>
+        ensures { IsTold self.old self.new result (told_of_line (register_in reference.now totals.now) number) }
+    {
+        // There are numbers for all offers.
+        totals.offers.rules();
+        let Some(number) = OfferNo::new(number) else {
+            return Ok(());
+        };
+        match totals.given(number) {
+            Some((offer, report)) => {
+                let notice = offer_notice(number, OfferEvent::Offered, offer.lots, &offer, &report);
+                self.tell_carrier(reference, &offer, &notice)
+            }
+            None => Ok(()),
+        }
+    }
+
+    /// Keeps what an event of an offer tells.
+    fn tell_event(
+        &mut self,
+        reference: &Reference,
+        totals: &Totals,
+        number: OfferNo,
+        event: OfferEvent,
+        lots: Lots,
+    ) -> Result<(), AllocError>
+        ensures { IsTold self.old self.new result (told_of_event (register_in reference.now totals.now) number event lots) }
+    {
+        match totals.given(number) {
+            Some((offer, report)) => {
+                let notice = offer_notice(number, event, lots, &offer, &report);
+                self.tell_both(reference, &offer, &notice)
+            }
+            None => Ok(()),
+        }
+    }
+
+    /// Keeps what a take of a sweep tells.
+    fn tell_take(
+        &mut self,
+        reference: &Reference,
+        totals: &Totals,
+        take: &Take,
+    ) -> Result<(), AllocError>
+        ensures { IsTold self.old self.new result (told_of_take (register_in reference.now totals.now) take.now) }
+    {
+        match Lots::new(take.lots) {
+            Some(lots) => {
+                self.tell_event(reference, totals, take.offer, OfferEvent::Claimed, lots)
+            }
+            None => Ok(()),
+        }
+    }
+
+    /// Keeps what the lines of a give-up tell, so many from a number on.
+    fn tell_lines(
+        &mut self,
+        reference: &Reference,
+        totals: &Totals,
+        first: u64,
+        count: u64,
+    ) -> Result<(), AllocError>
+        requires { first + count < 2 ^ 64 }
+        ensures { IsTold self.old self.new result (flat_map (told_of_line (register_in reference.now totals.now)) (range_with_len first count)) }
+    {
+        for number in first..first + count {
+            self.tell_line(reference, totals, number)?;
+        }
+        Ok(())
+    }
+
+    /// Keeps what the takes of a sweep tell.
+    fn tell_takes(
+        &mut self,
+        reference: &Reference,
+        totals: &Totals,
+        takes: &[Take],
+    ) -> Result<(), AllocError>
+        ensures { IsTold self.old self.new result (flat_map (told_of_take (register_in reference.now totals.now)) takes.now) }
+    {
+        for take in takes {
+            self.tell_take(reference, totals, take)?;
+        }
+        Ok(())
+    }
+
+    /// Keeps what a report tells, where it is on a side.
+    fn tell_report(&mut self, number: u64, side: Side, report: &Report) -> Result<(), AllocError>
+        ensures { IsTold self.old self.new result (told_on number side (report.now ∷ [])) }
+    {
+        if report.side != side {
+            return Ok(());
+        }
+        let notice = Notice::Matched {
+            entry: number,
+            report: *report,
+        };
+        self.tell(&report.firm, &notice)
+    }
+
+    /// Keeps what the reports on a side tell.
+    fn tell_side(&mut self, number: u64, side: Side, sides: &Sides) -> Result<(), AllocError>
+        ensures { IsTold self.old self.new result (told_on number side (reports_in sides.now)) }
+    {
+        match sides {
+            Sides::Neither => Ok(()),
+            Sides::One(report) => self.tell_report(number, side, report),
+            Sides::Both(first, second) => {
+                self.tell_report(number, side, first)?;
+                self.tell_report(number, side, second)
+            }
+        }
+    }
+
+    /// Keeps what the entry that made a trade tells.
+    fn tell_trade(&mut self, totals: &Totals, number: u64, match_id: &Id) -> Result<(), AllocError>
+        ensures { IsTold self.old self.new result (told_of_trade number (with_match match_id.now totals.now.trades)) }
+    {
+        let sides = totals.trades.trade(*match_id);
+        self.tell_side(number, Side::Buy, &sides)?;
+        self.tell_side(number, Side::Sell, &sides)
+    }
+
+    /// Keeps what a command tells that was accepted, and did this.
+    fn tell_done(
+        &mut self,
+        reference: &Reference,
+        totals: &Totals,
+        number: u64,
+        command: &Command,
+        done: Done,
+    ) -> Result<(), AllocError>
+        ensures { IsTold self.old self.new result (told_by (register_in reference.now totals.now) number (Entry.Asked command.now (Reply.Accepted done))) }
+    {
+        match (command, done) {
+            (Command::ReportSide { match_id, .. }, Done::Reported { matched: true }) => {
+                self.tell_trade(totals, number, match_id)
+            }
+            (Command::GiveUp { lines, .. }, Done::Offered { first, .. }) => {
+                let count = lines.as_slice().len() as u64;
+                self.tell_lines(reference, totals, first.get(), count)
+            }
+            (Command::Claim { offer, .. }, Done::Claimed { lots }) => {
+                self.tell_event(reference, totals, *offer, OfferEvent::Claimed, lots)
+            }
+            (Command::Refuse { offer, why, .. }, Done::Refused { lots }) => {
+                self.tell_event(reference, totals, *offer, OfferEvent::Refused(*why), lots)
+            }
+            (Command::Reverse { offer, .. }, Done::Reversed { lots }) => {
+                self.tell_event(reference, totals, *offer, OfferEvent::Reversed, lots)
+            }
+            _ => Ok(()),
+        }
+    }
+
+    /// Keeps what the entry of a number tells.
+    fn tell_entry(
+        &mut self,
+        reference: &Reference,
+        totals: &Totals,
+        number: u64,
+        entry: &Entry,
+    ) -> Result<(), AllocError>
+        ensures { IsTold self.old self.new result (told_by (register_in reference.now totals.now) number entry.now) }
+    {
+        match entry {
+            Entry::Asked { command, reply } => match *reply {
+                Reply::Accepted(done) => self.tell_done(reference, totals, number, command, done),
+                Reply::Denied(_) => Ok(()),
+            },
+            Entry::Swept(sweep) => self.tell_takes(reference, totals, sweep.takes.as_slice()),
+        }
+    }
+
+    /// Keeps what entries tell, of which the first has this number.
+    fn tell_entries(
+        &mut self,
+        reference: &Reference,
+        totals: &Totals,
+        first: u64,
+        entries: &[Entry],
+    ) -> Result<(), AllocError>
+        requires { first + length entries.now < 2 ^ 64 }
+        ensures { IsTold self.old self.new result (told_from (register_in reference.now totals.now) first entries.now) }
+    {
+        let mut number = first;
+        for entry in entries {
+            self.tell_entry(reference, totals, number, entry)?;
+            number += 1;
+        }
+        Ok(())
+    }
+}
+
+/// An event of an offer, of so many lots.
+fn offer_notice(
+    number: OfferNo,
+    event: OfferEvent,
+    lots: Lots,
+    offer: &Offer,
+    report: &Report,
+) -> Notice
+    ensures { result ≡ offer_notice number event lots offer.now report.now }
+{
+    Notice::Offer(OfferNotice {
+        offer: number,
+        event,
+        lots,
+        account: offer.account,
+        symbol: report.symbol,
+        side: report.side,
+        price: report.price,
+        day: report.day,
+    })
+}
+
+/// The notices to a firm of the entries from a number on.
+pub fn notices_of(
+    alloc: Global,
+    reference: &Reference,
+    totals: &Totals,
+    entries: &[Entry],
+    firm: &FirmId,
+    from: u64,
+) -> Result<Vec<Notice>, AllocError>
+    requires few { length entries.now ≤ 1000000 }
+    requires number { from ≤ 1000001 }
+    ensures { IfOk result (λ list. list.items
+        ≡ told_to firm.now (told_from (register_in reference.now totals.now) (max 1 from) (drop (from - 1) entries.now))) }
+{
+    let first = from.max(1);
+    let start = (first - 1).min(entries.len() as u64);
+    let mut mailbox = Mailbox {
+        firm: *firm,
+        list: Vec::new(alloc),
+    };
+    mailbox.tell_entries(reference, totals, first, &entries[start as usize..])?;
+    let Mailbox { firm: _, list } = mailbox;
+    Ok(list)
+}
