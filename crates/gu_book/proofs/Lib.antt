@@ -6,11 +6,12 @@ pub mod Beginning
 pub mod BookViews
 pub mod ChangedPositions
 pub mod ChangedSums
-pub mod CountedLemmas
 pub mod Committing
+pub mod CountedLemmas
 pub mod Covered
 pub mod CurrentLemmas
 pub mod CurrentViews
+pub mod Elsewhere
 pub mod Facts
 pub mod Growing
 pub mod Holding

@@ -8,6 +8,7 @@ ghost use Rattle.gu_book.specs.Commits.{IsCurrent, Refuses, sweep_of};
 ghost use Rattle.gu_book.specs.Legal.{IsLegal, MayFollow, StandsLast};
 ghost use Rattle.gu_book.specs.Limits.{limit_rows};
 ghost use Rattle.gu_book.specs.Notices.{notices_of};
+ghost use Rattle.gu_book.specs.Orderly.{IsOrderly};
 ghost use Rattle.gu_book.specs.Positions.{is_of_firm, long_of, open_interest_of, position_rows, short_of};
 ghost use Rattle.gu_book.specs.Reports.{open_day};
 ghost use Rattle.gu_book.specs.Views.{group_view};
@@ -324,6 +325,7 @@ impl Book {
     pub fn history(&self) -> &History
         ensures history { result.now ≡ self.now.history }
         ensures legal { IsLegal self.now.reference self.now.history }
+        ensures orderly { IsOrderly self.now.history }
     {
         &self.history
     }

@@ -1,6 +1,6 @@
 //! What follows from the definitions alone.
 
-ghost use Rattle.std.specs.Prelude.{◌≡◌, ◌≤◌, ◌↔◌, ◌++◌, ℕ, true, false, AllPairs, List, Some, slice_get, take};
+ghost use Rattle.std.specs.Prelude.{◌≡◌, ◌≤◌, ◌↔◌, ◌++◌, ◌∷◌, [], ℕ, true, false, AllPairs, List, Some, slice_get, take};
 ghost use Rattle.gu_terms.specs.Refusals.{number_of};
 ghost use Rattle.gu_terms.specs.declared.command.Command.{Command as CommandOf};
 ghost use Rattle.gu_terms.specs.declared.entry.Entry.{Entry as EntryOf};
@@ -9,7 +9,9 @@ ghost use Rattle.gu_terms.specs.declared.refusal.Refusal.{Refusal as RefusalOf};
 ghost use Rattle.gu_terms.specs.declared.reply.Reply.TheVariants.{Denied};
 ghost use Rattle.gu_ref.specs.Tables.{Tables};
 ghost use Rattle.gu_book.specs.Answer.{State, answer_in, tests_of};
+ghost use Rattle.gu_book.specs.Legal.{MayFollow};
 ghost use Rattle.gu_book.specs.Versions.{touches, touching, touching_after, version_of};
+ghost use Rattle.gu_book.specs.Views.{group_view};
 
 /// The refusals of a command are tested in the order of their numbers: of those that stand, the one with the least
 /// number is the reply.
@@ -34,4 +36,12 @@ pub fn equal_versions_are_untouched()
     ensures { (history : List EntryOf) (first : ℕ) (group : GroupOf)
         → (version_of (take first history) group ≡ version_of history group)
         ↔ ((place : ℕ) (entry : EntryOf) → first ≤ place → slice_get history place ≡ Some entry → touches (take place history) group entry ≡ false) }
+{}
+
+/// An entry that may follow and doesn't touch a group leaves the group's view.
+pub fn an_entry_elsewhere_leaves_the_view()
+    ensures { (reference : Tables) (history : List EntryOf) (entry : EntryOf) (group : GroupOf)
+        → MayFollow reference history entry
+        → touches history group entry ≡ false
+        → group_view reference (history ++ entry ∷ []) group ≡ group_view reference history group }
 {}

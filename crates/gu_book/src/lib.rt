@@ -19,5 +19,6 @@ mod views;
 pub use book::Book;
 pub use error::{CommitError, EnterError, LookError};
 pub use laws::{
-    equal_versions_are_untouched, later_touches_come_behind, the_least_refusal_is_given,
+    an_entry_elsewhere_leaves_the_view, equal_versions_are_untouched, later_touches_come_behind,
+    the_least_refusal_is_given,
 };
