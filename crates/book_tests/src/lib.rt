@@ -6,6 +6,8 @@ mod answers;
 #[cfg(test)]
 mod claims;
 #[cfg(test)]
+mod commits;
+#[cfg(test)]
 mod files;
 #[cfg(test)]
 mod give_ups;
