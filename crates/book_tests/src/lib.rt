@@ -16,6 +16,8 @@ mod house;
 #[cfg(test)]
 mod limits;
 #[cfg(test)]
+mod looks;
+#[cfg(test)]
 mod memory;
 #[cfg(test)]
 mod offers;
@@ -33,6 +35,8 @@ mod thousands;
 mod trades;
 #[cfg(test)]
 mod transcript;
+#[cfg(test)]
+mod views;
 #[cfg(test)]
 mod words;
 #[cfg(test)]
