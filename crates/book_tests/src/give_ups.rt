@@ -161,7 +161,7 @@ fn sixteen(alloc: Global, n: u32) -> Option<Command> {
 }
 
 /// Gives up 4,096 lines in one group.
-fn fill_group(rt: &impl Abort, alloc: Global, book: &mut Book) {
+pub fn fill_group(rt: &impl Abort, alloc: Global, book: &mut Book) {
     for n in 0..256 {
         let command = sixteen(alloc, n).expect(rt, "a give-up");
         assert!(rt; book.enter(command).is_ok());

@@ -2,6 +2,7 @@
 //! second time in `house`.
 
 use crate::house::{Ask, Given, House, Side};
+use crate::looks::compare_view;
 use crate::sample::book_of;
 use crate::world::{
     KINDS, Key, ROWS, account_name, agreement, day_of, firm_name, group_name, id_name, key_name,
@@ -499,6 +500,8 @@ impl Both {
         }
         compare_limits(rt, &self.book, &self.house, 0, at);
         compare_limits(rt, &self.book, &self.house, 1, at);
+        compare_view(rt, alloc, &self.book, &self.house, 0, at);
+        compare_view(rt, alloc, &self.book, &self.house, 1, at);
     }
 }
 

@@ -201,6 +201,53 @@ impl House {
         count
     }
 
+    /// How many entries touched a group: each opening; a limit, a give-up, a claim, a refusal or a reversal of the group.
+    pub fn version(&self, group: usize) -> usize {
+        let limits = self.limits.iter().filter(|limit| limit.group == group);
+        let claims = self.moves.iter().filter(|step| !step.is_back);
+        self.days
+            .len()
+            .saturating_add(limits.count())
+            .saturating_add(
+                self.given
+                    .iter()
+                    .filter(|given| self.is_given_in(given, group))
+                    .count(),
+            )
+            .saturating_add(claims.filter(|step| self.is_in(step.offer, group)).count())
+            .saturating_add(
+                self.closed
+                    .iter()
+                    .filter(|offer| self.is_in(**offer, group))
+                    .count(),
+            )
+    }
+
+    /// Whether what is given up is of a group.
+    fn is_given_in(&self, given: &Given, group: usize) -> bool {
+        match self.side(given.firm, given.report) {
+            Some(side) => group_of(side.symbol) == Some(group),
+            None => false,
+        }
+    }
+
+    /// Whether an offer is of a group.
+    fn is_in(&self, number: u64, group: usize) -> bool {
+        match self.offer(number) {
+            Some(offer) => offer.group == group,
+            None => false,
+        }
+    }
+
+    /// The executing firm and the account of an open offer of a group.
+    pub fn open_offer(&self, number: u64, group: usize) -> Option<(usize, usize)> {
+        let offer = self.offer(number)?;
+        if offer.group != group || self.left(number) == 0 {
+            return None;
+        }
+        Some((offer.side.firm, offer.account))
+    }
+
     /// The limit that was set last on a key.
     pub fn limit(&self, group: usize, key: Key) -> Option<u64> {
         let mut found = None;

@@ -18,6 +18,8 @@ mod house;
 #[cfg(test)]
 mod limits;
 #[cfg(test)]
+mod looks;
+#[cfg(test)]
 mod memory;
 #[cfg(test)]
 mod offers;
@@ -35,6 +37,8 @@ mod thousands;
 mod trades;
 #[cfg(test)]
 mod transcript;
+#[cfg(test)]
+mod views;
 #[cfg(test)]
 mod words;
 #[cfg(test)]

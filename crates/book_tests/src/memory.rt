@@ -195,7 +195,7 @@ fn fill_again(rt: &impl Abort, alloc: Global, book: &mut Book, line: &str) {
 fn step_again(rt: &impl Abort, alloc: Global, book: &mut Book, line: &str) {
     let (asked, want) = line.split_once("=").expect(rt, "a line and an answer");
     let text = match word(asked, 0) {
-        Some(b"POSITION" | b"LIMITS") => told_again(rt, alloc, book, asked),
+        Some(b"POSITION" | b"LIMITS" | b"SEE") => told_again(rt, alloc, book, asked),
         Some(b"FILL") => {
             fill_again(rt, alloc, book, asked);
             String::new(alloc)
@@ -271,6 +271,7 @@ GIVEUP E1 L3 R1 A2 1              = 14 OK OFFERS 7 7
 GIVEUP E1 L4 R1 A2 1              = 15 OK OFFERS 8 8
 FILL 16                           =
 GIVEUP E1 L5 R1 A2 1              = 17 OK OFFERS 9 9
+SEE G9                            = UNKNOWN GROUP
 CLAIM C1 1                        = 18 OK LOTS 6
 POSITION A1 XF6                   = 6 0
 FILL 32                           =
@@ -301,6 +302,7 @@ POSITION H2 XF6                   = 0 25
 POSITION A1 XF6                   = 19 0
 POSITION A2 XF6                   = 4 0
 POSITION A3 XF6                   = 0 5
+SEE G1 = 29, OFFER 7 1 P2 E1 A2 C1 E2, OFFER 8 1 P2 E1 A2 C1 E2, OFFER 9 1 P2 E1 A2 C1 E2, OFFER 11 4 P1 E1 A1 C1 E2, ROOM EXEC E1 77, ROOM AGR P2 96, ROOM ACCT A2 96, ROOM CARRY C1 77, ROOM GUAR E2 72, ROOM AGR P1 81, ROOM ACCT A1 81
 LIMITS G1 = EXEC E1 100 23 77, EXEC E2 100 5 95, AGR P1 100 19 81, AGR P2 100 4 96, AGR P4 100 5 95, ACCT A1 100 19 81, ACCT A2 100 4 96, ACCT A3 100 5 95, CARRY C1 100 23 77, CARRY C2 100 5 95, GUAR E2 100 28 72
 ",
     );

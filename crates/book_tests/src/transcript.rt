@@ -1,8 +1,9 @@
 //! Transcripts: what is entered or asked, and what the house says to it, line by line.
 
 use crate::words::{account, command, group, symbol, word};
-use gu_book::Book;
-use gu_terms::{Command, Done, Entry, LimitRow, Receipt, Refusal, Reply};
+use gu_book::{Book, LookError};
+use gu_terms::{Command, Done, Entry, LimitKey, LimitRow, Receipt, Refusal, Reply};
+use gu_view::{Offer, Room, View};
 use std::alloc::Global;
 use std::fmt::Write;
 use std::process::Abort;
@@ -88,7 +89,52 @@ fn limits_text(alloc: Global, book: &Book, line: &str) -> Option<String> {
     Some(text)
 }
 
-/// What a book of the sample shows: its entries, the open day, what each account holds, and the limits of each group.
+/// Adds an open offer behind others: its number, what is left of it, its agreement, and the other names on its path.
+fn push_offer(text: &mut String, offer: &Offer) -> Option<()> {
+    let number = offer.number.get();
+    let agreement = str::from_utf8(offer.agreement.get()).ok()?;
+    write!(text, ", OFFER {number} {} {agreement}", offer.lots).ok()?;
+    for key in offer.path.keys() {
+        if !matches!(key, LimitKey::Agr(_)) {
+            let name = str::from_utf8(key.name()).ok()?;
+            write!(text, " {name}").ok()?;
+        }
+    }
+    Some(())
+}
+
+/// Adds the room of a key behind others.
+fn push_room(text: &mut String, room: &Room) -> Option<()> {
+    let name = str::from_utf8(room.key.name()).ok()?;
+    let kind = room.key.kind();
+    write!(text, ", ROOM {kind} {name} {}", room.lots).ok()
+}
+
+/// A view: its version, its open offers, and the rooms of their keys.
+fn shown_text(alloc: Global, view: &View) -> Option<String> {
+    let version = view.version();
+    let mut text = format!(in alloc; "{version}").ok()?;
+    for offer in view.offers() {
+        push_offer(&mut text, offer)?;
+    }
+    for room in view.rooms() {
+        push_room(&mut text, room)?;
+    }
+    Some(text)
+}
+
+/// The view of a group, from a line as `SEE G1`.
+fn view_text(alloc: Global, book: &Book, line: &str) -> Option<String> {
+    let group = group(line, 1)?;
+    match book.view(&group) {
+        Ok(view) if view.group() == group => shown_text(alloc, &view),
+        Ok(_) => None,
+        Err(LookError::UnknownGroup) => format!(in alloc; "UNKNOWN GROUP").ok(),
+        Err(LookError::Memory) => None,
+    }
+}
+
+/// What a book of the sample shows: its entries, the open day, what each account holds, the limits and the view of each group.
 pub fn picture(alloc: Global, book: &Book) -> Option<String> {
     let mut text = String::with_capacity(alloc, 2_000).ok()?;
     let entries = book.history().len();
@@ -105,15 +151,19 @@ pub fn picture(alloc: Global, book: &Book) -> Option<String> {
         for row in &book.limits(&group(name, 0)?).ok()? {
             push_row(&mut text, row)?;
         }
+        let view = book.view(&group(name, 0)?).ok()?;
+        text.push_str("; ").ok()?;
+        text.push_str(shown_text(alloc, &view)?.as_str()).ok()?;
     }
     Some(text)
 }
 
-/// What the house says to a line, which asks for a position or for limits or else is entered.
+/// What the house says to a line, which asks for a position, for limits or for a view, or else is entered.
 pub fn told(alloc: Global, book: &mut Book, line: &str) -> Option<String> {
     match word(line, 0)? {
         b"POSITION" => position_text(alloc, book, line),
         b"LIMITS" => limits_text(alloc, book, line),
+        b"SEE" => view_text(alloc, book, line),
         _ => receipt_text(alloc, &book.enter(command(alloc, line)?).ok()?),
     }
 }
