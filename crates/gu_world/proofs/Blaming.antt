@@ -1,0 +1,65 @@
+-- Which entry is to blame for an outcome.
+use Rattle.std.proofs.Common.{◌≡◌, ℕ, zero, suc, ◌-◌, ◌<◌, true, false, List, [], ◌∷◌, ◌++◌, length, take, get_or, Option, Some, None, Result, Ok, Err, refl, sym, ap, ◌∙◌, arith, subst, length-append}
+use Rattle.std.specs.Prelude.{slice_get, slice_index_or, IfOk}
+use Rattle.gu_ref.specs.Tables.{Tables}
+use Rattle.gu_world.specs.Blame.{IsBlamedFor, ends_stale, first_behind, is_stale}
+use Rattle.gu_world.specs.Runs.{Course, GoesOn, IsBlamedAt, IsCulprit, IsRunOf, blamed}
+use Rattle.gu_world.specs.Steps.{State}
+use Rattle.gu_world.specs.declared.outcome.Outcome.{Outcome}
+use Rattle.gu_world.specs.declared.outcome.Outcome.TheVariants.{Nothing, Stale}
+use Rattle.gu_world.specs.declared.step.Step.{Step}
+use Rattle.gu_world.specs.declared.step.Step.TheVariants.{Enter, See, Propose, Commit}
+
+-- what stands last
+last-at : {X : Type 0} (xs : List X) (x d : X) → slice_index_or (xs ++ x ∷ []) (length xs) d ≡ x
+last-at [] x d = refl
+last-at (first ∷ xs) x d = last-at xs x d
+
+ends-is : (outcomes : List Outcome) (outcome : Outcome) → ends_stale (outcomes ++ outcome ∷ []) ≡ is_stale outcome
+ends-is outcomes outcome =
+    let place : length (outcomes ++ outcome ∷ []) - 1 ≡ length outcomes = omega (arith, length-append outcomes (outcome ∷ [])) in
+    ap (λ (k : ℕ). is_stale (slice_index_or (outcomes ++ outcome ∷ []) k Nothing)) place ∙ ap is_stale (last-at outcomes outcome Nothing)
+
+-- of a stale outcome the first entry behind is to blame, and of others none
+blamed-is : (before : State) (step : Step) (outcome : Outcome) → is_stale outcome ≡ true → blamed before step outcome ≡ first_behind before step
+blamed-is before (Commit worker) (Stale seen now) stale = refl
+blamed-is before (Enter command) outcome stale = refl
+blamed-is before (See worker group) outcome stale = refl
+blamed-is before (Propose worker) outcome stale = refl
+blamed-is before (Commit worker) outcome stale = cc
+
+blamed-none : (before : State) (step : Step) (outcome : Outcome) → is_stale outcome ≡ false → blamed before step outcome ≡ None
+blamed-none before (Commit worker) (Stale seen now) stale = cc
+blamed-none before step outcome stale = refl
+
+module _ (old new : Course) (step : Step) (goes : GoesOn old step new) where
+  pub blames : (first : Option ℕ) → first ≡ first_behind old.state step → true ≡ ends_stale new.outcomes → IsBlamedFor old step new first
+  blames first is stale =
+      let same : is_stale goes.outcome ≡ true = sym (ends-is old.outcomes goes.outcome) ∙ ap ends_stale (sym goes.outcomes) ∙ sym stale in
+      record { goes_on = goes; culprit_is = is ∙ sym (blamed-is old.state step goes.outcome same) }
+
+  pub blames-none : false ≡ ends_stale new.outcomes → IsBlamedFor old step new None
+  blames-none stale =
+      let same : is_stale goes.outcome ≡ false = sym (ends-is old.outcomes goes.outcome) ∙ ap ends_stale (sym goes.outcomes) ∙ sym stale in
+      record { goes_on = goes; culprit_is = sym (blamed-none old.state step goes.outcome same) }
+
+-- ---- the step at a place
+
+get-at : {X : Type 0} (xs : List X) (place : ℕ) (x : X) → place < length xs → x ≡ get_or xs place x → slice_get xs place ≡ Some x
+get-at [] place x inside is = absurd (omega arith)
+get-at (first ∷ xs) zero x inside is = ap Some (sym is)
+get-at (first ∷ xs) (suc place) x inside is = get-at xs place x (omega arith) is
+
+pub culprit-none : (reference : Tables) (steps : List Step) (at : ℕ) → slice_get steps at ≡ None → IsCulprit reference steps at None
+culprit-none reference steps at none = subst (λ (found : Option Step). IsBlamedAt reference (take at steps) found None) (sym none) refl
+
+if_ok : {T E : Type 0} (P Q : T → Type 0) (r : Result T E) → ((x : T) → P x → Q x) → IfOk r P → IfOk r Q
+if_ok P Q (Ok x) f h = f x h
+if_ok P Q (Err e) f h = tt
+
+pub culprit-at : {E : Type 0} (reference : Tables) (steps : List Step) (at : ℕ) (step : Step) (old new : Course) (r : Result (Option ℕ) E) → at < length steps → step ≡ get_or steps at step → IsRunOf reference (take at steps) old
+    → IfOk r (IsBlamedFor old step new) → IfOk r (IsCulprit reference steps at)
+culprit-at reference steps at step old new r inside is run h =
+    if_ok (IsBlamedFor old step new) (IsCulprit reference steps at) r
+    (λ culprit b. subst (λ (found : Option Step). IsBlamedAt reference (take at steps) found culprit) (sym (get-at steps at step inside is))
+    (record { before = old; after = new; run = run; goes_on = b.goes_on; culprit_is = b.culprit_is })) h

@@ -1,0 +1,9 @@
+pub mod BlameLemmas
+pub mod Blaming
+pub mod CommitLemmas
+pub mod HeadlineLemmas
+pub mod Holding
+pub mod LookLemmas
+pub mod RunLemmas
+pub mod SlotLemmas
+pub mod Touches

@@ -1,0 +1,109 @@
+-- Versions that are equal, and entries that touch nothing.
+use Rattle.std.proofs.Common.{◌≡◌, ◌↔◌, ℕ, ◌+◌, ◌<◌, ◌≤◌, Bool, true, false, nat_lt, List, [], ◌∷◌, ◌++◌, length, take, drop, Option, Some, None, is_some, cond, if◌then◌else◌, refl, sym, ap, subst, ◌∙◌, arith, length-append, append_assoc, append-nil, take-append-drop}
+use Rattle.std.proofs.Math.Seq.{take-append_seam}
+use Rattle.std.specs.Prelude.{slice_get}
+use Rattle.std.specs.List.{find}
+use Rattle.std.specs.Option.{option_to_list}
+use Rattle.std.proofs.lemmas.Bool.Decides.{nat_tests}
+use Rattle.std.proofs.lemmas.List.{length-take}
+use Rattle.gu_terms.specs.declared.entry.Entry.{Entry}
+use Rattle.gu_terms.specs.declared.group.Group.{Group}
+use Rattle.gu_ref.specs.Tables.{Tables}
+use Rattle.gu_book.proofs.Elsewhere.{view-elsewhere}
+use Rattle.gu_book.specs.Legal.{IsLegal, MayFollow}
+use Rattle.gu_book.specs.Versions.{touches, touching, touching_after, version_of}
+use Rattle.gu_book.specs.Views.{group_view}
+use Rattle.gu_world.specs.Steps.{first_touch_above}
+
+-- a number in front, where a test passes
+abbrev in_front : Bool → ℕ → List ℕ → List ℕ
+in_front b n ns = option_to_list (if b then Some n else None) ++ ns
+
+pub touching_after-append : (before first later : List Entry) (group : Group) → touching_after before group (first ++ later) ≡ touching_after before group first ++ touching_after (before ++ first) group later
+touching_after-append before [] later group = ap (λ (b : List Entry). touching_after b group later) (sym (append-nil before))
+touching_after-append before (entry ∷ first) later group =
+    ap (in_front (touches before group entry) (length before + 1))
+    (touching_after-append (before ++ entry ∷ []) first later group
+    ∙ ap (λ (b : List Entry). touching_after (before ++ entry ∷ []) group first ++ touching_after b group later) (append_assoc before (entry ∷ []) first))
+    ∙ sym (append_assoc (option_to_list (if touches before group entry then Some (length before + 1) else None)) (touching_after (before ++ entry ∷ []) group first) (touching_after (before ++ entry ∷ first) group later))
+
+-- entries up to a number have no touch above it
+none_low : (b : Bool) (n k : ℕ) (ns : List ℕ) → k ≤ n → find (nat_lt n) ns ≡ None → find (nat_lt n) (in_front b k ns) ≡ None
+none_low true n k ns low h = grind (arith, nat_tests)
+none_low false n k ns low h = h
+
+low : (before es : List Entry) (group : Group) (n : ℕ) → length before + length es ≤ n → find (nat_lt n) (touching_after before group es) ≡ None
+low before [] group n h = refl
+low before (e ∷ es) group n h =
+    none_low (touches before group e) n (length before + 1) (touching_after (before ++ e ∷ []) group es) (omega arith)
+    (low (before ++ e ∷ []) es group n (omega (arith, length-append before (e ∷ []))))
+
+-- and those behind it have one above it where they have one
+some_high : (b : Bool) (n k : ℕ) (ns : List ℕ) → n < k → is_some (find (nat_lt n) ns) ≡ nat_lt 0 (length ns) → is_some (find (nat_lt n) (in_front b k ns)) ≡ nat_lt 0 (length (in_front b k ns))
+some_high true n k ns high h = grind (arith, nat_tests)
+some_high false n k ns high h = h
+
+high : (before es : List Entry) (group : Group) (n : ℕ) → n ≤ length before → is_some (find (nat_lt n) (touching_after before group es)) ≡ nat_lt 0 (length (touching_after before group es))
+high before [] group n h = refl
+high before (e ∷ es) group n h =
+    some_high (touches before group e) n (length before + 1) (touching_after (before ++ e ∷ []) group es) (omega arith)
+    (high (before ++ e ∷ []) es group n (omega (arith, length-append before (e ∷ []))))
+
+kept_behind : (b : Bool) (x : ℕ) (f g o : Option ℕ) → cond b (Some x) f ≡ None → (f ≡ None → g ≡ o) → cond b (Some x) g ≡ o
+kept_behind true x f g o h k = cc
+kept_behind false x f g o h k = k h
+
+pub found_behind : (n : ℕ) (first second : List ℕ) → find (nat_lt n) first ≡ None → find (nat_lt n) (first ++ second) ≡ find (nat_lt n) second
+found_behind n [] second h = refl
+found_behind n (x ∷ first) second h = kept_behind (nat_lt n x) x (find (nat_lt n) first) (find (nat_lt n) (first ++ second)) (find (nat_lt n) second) h (found_behind n first second)
+
+module _ (history : List Entry) (n : ℕ) (group : Group) where
+  -- the touches of the entries up to a number, and of those above it
+  pub touching_at : touching history group ≡ touching (take n history) group ++ touching_after (take n history) group (drop n history)
+  touching_at = ap (λ (h : List Entry). touching h group) (sym (take-append-drop n history)) ∙ touching_after-append [] (take n history) (drop n history) group
+
+  -- an entry above the number touches the group where there is a touch behind
+  touched_above : n ≤ length history → is_some (first_touch_above history group n) ≡ nat_lt 0 (length (touching_after (take n history) group (drop n history)))
+  touched_above within =
+      ap (λ (ns : List ℕ). is_some (find (nat_lt n) ns)) touching_at
+      ∙ ap (λ (o : Option ℕ). is_some o) (found_behind n (touching (take n history) group) (touching_after (take n history) group (drop n history)) (low [] (take n history) group n (omega (arith, length-take n history))))
+      ∙ high (take n history) (drop n history) group n (omega (arith, length-take n history, within))
+
+  -- versions at two moments are equal just where no entry between touches the group
+  sizes : (first second all : List ℕ) → all ≡ first ++ second → (length first ≡ length all) ↔ (nat_lt 0 (length second) ≡ false)
+  sizes first second all e =
+      let size : length all ≡ length first + length second = ap {A = List ℕ} length e ∙ length-append first second in
+      (λ h. grind (arith, nat_tests), λ h. grind (arith, nat_tests))
+
+  pub versions_and_touches : n ≤ length history → (version_of (take n history) group ≡ version_of history group) ↔ (is_some (first_touch_above history group n) ≡ false)
+  versions_and_touches within =
+      let parts = sizes (touching (take n history) group) (touching_after (take n history) group (drop n history)) (touching history group) touching_at in
+      (λ h. touched_above within ∙ parts.0 h, λ h. parts.1 (sym (touched_above within) ∙ h))
+
+  -- ---- views
+
+  nothing_behind : (b : Bool) (k : ℕ) (ns : List ℕ) → nat_lt 0 (length (in_front b k ns)) ≡ false → (b ≡ false) × (nat_lt 0 (length ns) ≡ false)
+  nothing_behind true k ns h = absurd (grind (arith, nat_tests))
+  nothing_behind false k ns h = (refl, h)
+
+  seam : (before rest : List Entry) (entry : Entry) → slice_get (before ++ entry ∷ rest) (length before) ≡ Some entry
+  seam [] rest entry = refl
+  seam (first ∷ before) rest entry = seam before rest entry
+
+  -- entries of which each may follow and none touches the group leave its view
+  view-behind : (reference : Tables) (all : List Entry) → ((k : ℕ) (entry : Entry) → slice_get all k ≡ Some entry → MayFollow reference (take k all) entry) → (before later : List Entry) → all ≡ before ++ later
+      → nat_lt 0 (length (touching_after before group later)) ≡ false → group_view reference all group ≡ group_view reference before group
+  view-behind reference all each before [] is none = ap (λ (h : List Entry). group_view reference h group) (is ∙ append-nil before)
+  view-behind reference all each before (entry ∷ rest) is none =
+      let parts = nothing_behind (touches before group entry) (length before + 1) (touching_after (before ++ entry ∷ []) group rest) none in
+      let at : slice_get all (length before) ≡ Some entry = ap (λ (h : List Entry). slice_get h (length before)) is ∙ seam before rest entry in
+      let front : take (length before) all ≡ before = ap (take (length before)) is ∙ take-append_seam before (entry ∷ rest) in
+      let may : MayFollow reference before entry = subst (λ (h : List Entry). MayFollow reference h entry) front (each (length before) entry at) in
+      view-behind reference all each (before ++ entry ∷ []) rest (is ∙ sym (append_assoc before (entry ∷ []) rest)) parts.1
+      ∙ view-elsewhere reference before entry group may parts.0
+
+  -- so equal versions in one legal history mean equal views
+  pub equal_views : (reference : Tables) → IsLegal reference history → n ≤ length history → version_of (take n history) group ≡ version_of history group → group_view reference (take n history) group ≡ group_view reference history group
+  equal_views reference legal within same =
+      let parts = sizes (touching (take n history) group) (touching_after (take n history) group (drop n history)) (touching history group) touching_at in
+      sym (view-behind reference history legal.each (take n history) (drop n history) (sym (take-append-drop n history)) (parts.0 same))

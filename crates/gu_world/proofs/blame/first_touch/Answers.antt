@@ -1,0 +1,33 @@
+use Rattle.std.proofs.Common.{◌≡◌, ◌⊎◌, ◌+◌, ◌≤◌, ◌++◌, ◌∷◌, [], false, List, take, refl, sym, ap, ◌∙◌, inl, inr}
+use Rattle.std.proofs.lemmas.List.{take_more}
+use Rattle.gu_terms.specs.declared.entry.Entry.{Entry}
+use Rattle.gu_book.specs.Versions.{touches}
+use Rattle.gu_world.specs.Blame.{own_of}
+use Rattle.gu_world.proofs.BlameLemmas.{touched-here, untouched-here}
+use Rattle.gu_world.proofs.blame.first_touch.Goals as goal
+use Rattle.gu_world.proofs.blame.first_touch.Goals.{else-number-seen-via-then-number-seen+else-is_touching, else-number-seen-via-else-number-seen}
+
+pub returns-then-is_touching : goal.returns-then-is_touching
+returns-then-is_touching c =
+    let entries = c.args.entries.now in
+    let place = c.loop-place.place in
+    let front = take place entries in
+    let touched = sym (c.is_touching.ensures front (c.deref.ensures.value ∙ c.loop-place.invariant.own)) ∙ c.if-is_touching.true in
+    touched-here c.args.group.now c.args.seen entries place c.index-entries-place.result c.loop-place-test.true c.index-entries-place.is c.loop-place.invariant.none (place + 1) refl c.if-number-seen.true touched
+
+pub loop-place-preserved : goal.loop-place-preserved
+loop-place-preserved c =
+    let entries = c.args.entries.now in
+    let place = c.loop-place.place in
+    let front = take place entries in
+    let entry = c.index-entries-place.result in
+    let next = take_more entries place entry c.loop-place-test.true ∙ ap (λ (e : Entry). front ++ e ∷ []) (sym c.index-entries-place.is) in
+    let why : (place + 1 ≤ c.args.seen) ⊎ (touches front c.args.group.now entry ≡ false) =
+    elim c.else-number-seen.branch [
+      | else-number-seen-via-then-number-seen+else-is_touching w ↦ inr (sym (w.is_touching.ensures front (w.deref.ensures.value ∙ c.loop-place.invariant.own)) ∙ w.if-is_touching.false)
+      | else-number-seen-via-else-number-seen w ↦ inl w.if-number-seen.false
+    ] in
+    record {
+      own = c.in_ok-know.ensures front c.loop-place.invariant.own ∙ ap (λ (es : List Entry). own_of es c.args.group.now) (sym next);
+      none = untouched-here c.args.group.now c.args.seen entries place entry c.loop-place-test.true c.index-entries-place.is c.loop-place.invariant.none (place + 1) refl why;
+    }

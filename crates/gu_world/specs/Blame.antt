@@ -1,0 +1,37 @@
+-- Machinery: what is known on the way to the entry to blame.
+use Rattle.std.specs.Prelude.{◌≡◌, ℕ, ◌-◌, Bool, true, false, List, length, map, slice_index_or, Option, None}
+use Rattle.std.specs.Option.{option_and_then}
+use Rattle.gu_terms.specs.Same.{same_group}
+use Rattle.gu_terms.specs.declared.entry.Entry.{Entry}
+use Rattle.gu_terms.specs.declared.group.Group.{Group}
+use Rattle.gu_terms.specs.declared.offer.Offer.{Offer}
+use Rattle.gu_book.specs.Offers.{offers_of}
+use Rattle.gu_world.specs.Runs.{Course, GoesOn, blamed}
+use Rattle.gu_world.specs.Steps.{Look, State, first_touch_above, look_of}
+use Rattle.gu_world.specs.declared.outcome.Outcome.{Outcome}
+use Rattle.gu_world.specs.declared.outcome.Outcome.TheVariants.{Nothing, Stale}
+use Rattle.gu_world.specs.declared.step.Step.{Step}
+use Rattle.gu_world.specs.declared.step.Step.TheVariants.{Commit}
+
+-- of each offer, in the order of their numbers, whether it is of a group
+abbrev pub own_of : List Entry → Group → List Bool
+own_of history group = map (λ (o : Offer). same_group o.group group) (offers_of history)
+
+-- a step leads from a course to another, and this entry is to blame for its outcome
+pub record IsBlamedFor (old : Course) (step : Step) (new : Course) (culprit : Option ℕ) : Type 0 where
+  pub goes_on : GoesOn old step new
+  pub culprit_is : culprit ≡ blamed old.state step goes_on.outcome
+
+-- the first entry that touched the group of a worker's look behind those that it saw, where the step is its commit
+abbrev pub first_behind : State → Step → Option ℕ
+first_behind before (Commit worker) = option_and_then (λ (look : Look). first_touch_above before.book.history look.group look.seen) (look_of before worker)
+first_behind before step = None
+
+-- an outcome is that of a stale commit
+abbrev pub is_stale : Outcome → Bool
+is_stale (Stale seen now) = true
+is_stale outcome = false
+
+-- and the last of these is
+abbrev pub ends_stale : List Outcome → Bool
+ends_stale outcomes = is_stale (slice_index_or outcomes (length outcomes - 1) Nothing)

@@ -1,0 +1,5 @@
+pub mod Blame
+pub mod Headline
+pub mod Looks
+pub mod Runs
+pub mod Steps

@@ -1,0 +1,62 @@
+-- Runs: what steps lead to from a book without entries, and which entry is to blame for a stale commit.
+use Rattle.std.specs.Prelude.{◌≡◌, ℕ, ◌++◌, List, [], ◌∷◌, take, Option, Some, None, slice_get}
+use Rattle.std.specs.Option.{option_and_then}
+use Rattle.gu_ref.specs.Tables.{Tables}
+use Rattle.gu_world.specs.Steps.{Look, State, LeadsTo, first_touch_above, look_of, start}
+use Rattle.gu_world.specs.declared.outcome.Outcome.{Outcome}
+use Rattle.gu_world.specs.declared.outcome.Outcome.TheVariants.{Stale}
+use Rattle.gu_world.specs.declared.step.Step.{Step}
+use Rattle.gu_world.specs.declared.step.Step.TheVariants.{Commit}
+
+-- steps lead from a state to another, with one outcome each
+abbrev pub IsRun : State → List Step → List Outcome → State → Type 0
+IsRun old [] [] new = new ≡ old
+IsRun old [] (outcome ∷ outcomes) new = ⊥
+IsRun old (step ∷ steps) [] new = ⊥
+IsRun old (step ∷ steps) (outcome ∷ outcomes) new = (mid : State) × LeadsTo old step outcome mid × IsRun mid steps outcomes new
+
+-- what steps led to: a state, and their outcomes
+pub record Course : Type 0 where
+  pub state : State
+  pub outcomes : List Outcome
+
+-- before the first step
+abbrev pub beginning : Tables → Course
+beginning reference = record { state = start reference; outcomes = [] }
+
+-- these steps lead there
+abbrev pub IsRunOf : Tables → List Step → Course → Type 0
+IsRunOf reference steps course = IsRun (start reference) steps course.outcomes course.state
+
+-- some steps lead there
+pub record IsReached (course : Course) : Type 0 where
+  pub steps : List Step
+  pub run : IsRunOf course.state.book.reference steps course
+
+-- one step more leads from a course to another, with one outcome more
+pub record GoesOn (old : Course) (step : Step) (new : Course) : Type 0 where
+  pub outcome : Outcome
+  pub leads : LeadsTo old.state step outcome new.state
+  pub outcomes : new.outcomes ≡ old.outcomes ++ outcome ∷ []
+
+-- the entry to blame for an outcome: of a stale commit the first that touched its group behind those that its worker saw
+abbrev pub blamed : State → Step → Outcome → Option ℕ
+blamed before (Commit worker) (Stale seen now) = option_and_then (λ (look : Look). first_touch_above before.book.history look.group look.seen) (look_of before worker)
+blamed before step outcome = None
+
+-- the entry to blame for the outcome of a step behind these, in some run of them
+pub record IsBlamed (reference : Tables) (steps : List Step) (step : Step) (culprit : Option ℕ) : Type 0 where
+  pub before : Course
+  pub after : Course
+  pub run : IsRunOf reference steps before
+  pub goes_on : GoesOn before step after
+  pub culprit_is : culprit ≡ blamed before.state step goes_on.outcome
+
+-- behind the last step none is
+abbrev pub IsBlamedAt : Tables → List Step → Option Step → Option ℕ → Type 0
+IsBlamedAt reference steps None culprit = culprit ≡ None
+IsBlamedAt reference steps (Some step) culprit = IsBlamed reference steps step culprit
+
+-- the entry to blame for the outcome of the step at a place, counted from 0, in some run of the steps up to it
+abbrev pub IsCulprit : Tables → List Step → ℕ → Option ℕ → Type 0
+IsCulprit reference steps at culprit = IsBlamedAt reference (take at steps) (slice_get steps at) culprit

@@ -1,0 +1,126 @@
+-- Steps: commands are entered, and workers look at groups, propose sweeps of what they saw, and commit them.
+use Rattle.std.specs.Prelude.{◌≡◌, ℕ, ◌+◌, ◌++◌, nat_le, nat_lt, Bool, List, [], ◌∷◌, length, take, replicate, Option, Some, None, is_some, slice_index_or, slice_set, if◌then◌else◌}
+use Rattle.std.specs.List.{find}
+use Rattle.std.specs.Option.{option_map_or}
+use Rattle.gu_terms.specs.declared.command.Command.{Command}
+use Rattle.gu_terms.specs.declared.entry.Entry.{Entry}
+use Rattle.gu_terms.specs.declared.entry.Entry.TheVariants.{Asked as AskedEntry, Swept as SweptEntry}
+use Rattle.gu_terms.specs.declared.entry.SweepEntry.{SweepEntry}
+use Rattle.gu_terms.specs.declared.group.Group.{Group}
+use Rattle.gu_terms.specs.declared.receipt.Receipt.{Receipt}
+use Rattle.gu_ref.specs.Reference.{is_group}
+use Rattle.gu_ref.specs.Tables.{Tables}
+use Rattle.gu_view.specs.View.{GroupView}
+use Rattle.gu_book.specs.Answer.{answer}
+use Rattle.gu_book.specs.Kept.{Kept}
+use Rattle.gu_book.specs.Sweeps.{MaySweep}
+use Rattle.gu_book.specs.Versions.{touching, version_of}
+use Rattle.gu_book.specs.Views.{group_view}
+use Rattle.gu_world.specs.declared.outcome.Outcome.{Outcome}
+use Rattle.gu_world.specs.declared.outcome.Outcome.TheVariants.{Asked, Full, Seen, NoGroup, Proposed, Swept, Stale, Nothing}
+use Rattle.gu_world.specs.declared.step.Step.{Step}
+use Rattle.gu_world.specs.declared.step.Step.TheVariants.{Enter, See, Propose, Commit}
+
+-- a worker's look: the group, how many entries the book had then, and the sweep that the worker proposes for what it saw, if it does
+pub record Look : Type 0 where
+  pub group : Group
+  pub seen : ℕ
+  pub proposal : Option SweepEntry
+
+-- a book, and the look of each worker
+pub record State : Type 0 where
+  pub book : Kept
+  pub looks : List (Option Look)
+
+-- a book without entries, and 64 workers that haven't looked
+abbrev pub start : Tables → State
+start reference = record { book = record { reference = reference; history = [] }; looks = replicate 64 None }
+
+-- the look of a worker
+abbrev pub look_of : State → ℕ → Option Look
+look_of state worker = slice_index_or state.looks worker None
+
+-- the same state with another look of a worker
+abbrev pub with_look : State → ℕ → Option Look → State
+with_look state worker look = record { book = state.book; looks = slice_set state.looks worker look }
+
+-- the same with one entry more
+abbrev pub with_entry : State → Entry → State
+with_entry state entry = record { book = record { reference = state.book.reference; history = state.book.history ++ entry ∷ [] }; looks = state.looks }
+
+-- the receipt of an entry that comes next
+abbrev pub next_receipt : State → Entry → Receipt
+next_receipt state entry = record { number = length state.book.history + 1; entry = entry }
+
+-- the book has a million entries
+abbrev pub is_full : State → Bool
+is_full state = nat_le 1000000 (length state.book.history)
+
+-- the entries that a worker saw
+abbrev pub seen_history : State → Look → List Entry
+seen_history state look = take look.seen state.book.history
+
+-- the view that it saw
+abbrev pub view_seen : State → Look → GroupView
+view_seen state look = group_view state.book.reference (seen_history state look) look.group
+
+-- the first entry above a number that touches a group
+abbrev pub first_touch_above : List Entry → Group → ℕ → Option ℕ
+first_touch_above history group n = find (nat_lt n) (touching history group)
+
+-- an entry behind those that a worker saw touches its group
+abbrev pub is_overtaken : State → Look → Bool
+is_overtaken state look = is_some (first_touch_above state.book.history look.group look.seen)
+
+-- a command is entered with its answer; in a full book nothing is
+abbrev pub entered : State → Command → Outcome × State
+entered state command =
+    let entry = AskedEntry command (answer state.book.reference state.book.history command) in
+    if is_full state then (Full, state) else (Asked (next_receipt state entry), with_entry state entry)
+
+-- a worker looks at a group, and what it saw or proposed before is gone; of a group that the reference lacks it sees nothing, and keeps what it had
+abbrev pub looked : State → ℕ → Group → Outcome × State
+looked state worker group =
+    if is_group state.book.reference group
+    then (
+      Seen (version_of state.book.history group),
+      with_look state worker (Some (record { group = group; seen = length state.book.history; proposal = None })),
+    )
+    else (NoGroup, state)
+
+-- the look with a proposal
+abbrev pub with_proposal : Look → SweepEntry → Look
+with_proposal look sweep = record { group = look.group; seen = look.seen; proposal = Some sweep }
+
+-- a worker proposes some sweep of its group that might be committed behind the entries that it saw, and no others
+pub record ProposesFor (old : State) (worker : ℕ) (look : Look) (outcome : Outcome) (new : State) : Type 0 where
+  pub sweep : SweepEntry
+  pub own : sweep.group ≡ look.group
+  pub right : MaySweep old.book.reference (seen_history old look) sweep
+  pub outcome_is : outcome ≡ Proposed sweep.lots
+  pub new_is : new ≡ with_look old worker (Some (with_proposal look sweep))
+
+-- without a look, nothing
+abbrev pub ProposesOn : Option Look → State → ℕ → Outcome → State → Type 0
+ProposesOn None old worker outcome new = (outcome ≡ Nothing) × (new ≡ old)
+ProposesOn (Some look) old worker outcome new = ProposesFor old worker look outcome new
+
+-- a proposed sweep is entered, but not in a full book, and not where the look was overtaken: then the versions are told, that which was seen and that of now
+abbrev pub committed_for : State → Look → SweepEntry → Outcome × State
+committed_for state look sweep =
+    if is_full state then (Full, state)
+    else if is_overtaken state look
+    then (Stale (version_of (seen_history state look) look.group) (version_of state.book.history look.group), state)
+    else (Swept (next_receipt state (SweptEntry sweep)), with_entry state (SweptEntry sweep))
+
+-- a worker commits: without a proposal nothing, and its look stays; with one, look and proposal go, whatever comes of it
+abbrev pub committed_on : Option Look → State → ℕ → Outcome × State
+committed_on None state worker = (Nothing, state)
+committed_on (Some look) state worker = option_map_or (committed_for (with_look state worker None) look) look.proposal (Nothing, state)
+
+-- a step leads from a state to another, with an outcome
+abbrev pub LeadsTo : State → Step → Outcome → State → Type 0
+LeadsTo old (Enter command) outcome new = (outcome, new) ≡ entered old command
+LeadsTo old (See worker group) outcome new = (outcome, new) ≡ looked old worker group
+LeadsTo old (Propose worker) outcome new = ProposesOn (look_of old worker) old worker outcome new
+LeadsTo old (Commit worker) outcome new = (outcome, new) ≡ committed_on (look_of old worker) old worker

@@ -1,0 +1,138 @@
+//! The entry to blame for a stale commit.
+
+ghost use Rattle.std.specs.Prelude.{◌≡◌, ◌≤◌, ◌∷◌, [], ◌++◌, List, length, replicate, IfOk, OnOk};
+ghost use Rattle.std.specs.Option.{option_and_then};
+ghost use Rattle.gu_terms.specs.declared.entry.Entry.{Entry as EntryOf};
+ghost use Rattle.gu_world.specs.Blame.{IsBlamedFor, ends_stale, first_behind, is_stale, own_of};
+ghost use Rattle.gu_world.specs.Runs.{IsCulprit};
+ghost use Rattle.gu_world.specs.Steps.{Look, first_touch_above, look_of};
+
+use crate::outcome::Outcome;
+use crate::running::take_all;
+use crate::step::Step;
+use crate::touching::is_touching;
+use crate::worker::Worker;
+use crate::world::World;
+use gu_ref::Reference;
+use gu_terms::{Command, Done, Entry, Group, Reply};
+use std::alloc::{AllocError, Global};
+
+/// Pushes, so many times, whether an offer is of the group.
+fn push_own(own: &mut Vec<bool>, is_own: bool, count: usize) -> Result<(), AllocError>
+    ensures { OnOk result (own.new.items ≡ own.old.items ++ replicate count is_own) }
+{
+    for _ in 0..count {
+        own.push(is_own)?;
+    }
+    Ok(())
+}
+
+/// Adds the offers that an entry makes to those of which it is known whether they are of the group.
+fn know(own: &mut Vec<bool>, group: &Group, entry: &Entry) -> Result<(), AllocError>
+    ensures { (before : List EntryOf) → own.old.items ≡ own_of before group.now → OnOk result (own.new.items ≡ own_of (before ++ entry.now ∷ []) group.now) }
+{
+    let Entry::Asked { command, reply } = entry else {
+        return Ok(());
+    };
+    let Command::GiveUp { lines, .. } = command else {
+        return Ok(());
+    };
+    let Reply::Accepted(done) = *reply else {
+        return Ok(());
+    };
+    let Done::Offered { group: at, .. } = done else {
+        return Ok(());
+    };
+    push_own(own, at == *group, lines.as_slice().len())
+}
+
+/// The first entry above a number that touches a group.
+fn first_touch(
+    alloc: Global,
+    entries: &[Entry],
+    group: &Group,
+    seen: u64,
+) -> Result<Option<u64>, AllocError>
+    requires { length entries.now ≤ 1000000 }
+    ensures { IfOk result (λ first. first ≡ first_touch_above entries.now group.now seen) }
+{
+    let mut own = Vec::new(alloc);
+    for (place, entry) in entries.iter().enumerate() {
+        let number = place as u64 + 1;
+        if number > seen && is_touching(&own, group, entry) {
+            return Ok(Some(number));
+        }
+        know(&mut own, group, entry)?;
+    }
+    Ok(None)
+}
+
+/// The first entry that touched the group of a worker's look behind those that the worker saw.
+fn first_behind(alloc: Global, world: &World, worker: Worker) -> Result<Option<u64>, AllocError>
+    ensures { IfOk result (λ first. first
+        ≡ option_and_then (λ (look : Look). first_touch_above world.now.state.book.history look.group look.seen) (look_of world.now.state worker)) }
+{
+    let Some((group, seen)) = world.seen(worker) else {
+        return Ok(None);
+    };
+    let history = world.book().history();
+    first_touch(alloc, history.as_slice(), &group, seen)
+}
+
+/// The same where a step is that worker's commit, and none for other steps.
+fn first_for(alloc: Global, world: &World, step: &Step) -> Result<Option<u64>, AllocError>
+    ensures { IfOk result (λ first. first ≡ first_behind world.now.state step.now) }
+{
+    match step {
+        Step::Commit(worker) => first_behind(alloc, world, *worker),
+        _ => Ok(None),
+    }
+}
+
+/// Whether an outcome is that of a stale commit.
+fn is_stale(outcome: &Outcome) -> bool
+    ensures { result ≡ is_stale outcome.now }
+{
+    matches!(outcome, Outcome::Stale { .. })
+}
+
+/// Whether the last outcome is that of a stale commit.
+fn ends_stale(outcomes: &[Outcome]) -> bool
+    ensures { result ≡ ends_stale outcomes.now }
+{
+    if outcomes.is_empty() {
+        return false;
+    }
+    is_stale(&outcomes[outcomes.len() - 1])
+}
+
+/// Takes one step more, and answers which entry is to blame for its outcome.
+fn blame(alloc: Global, world: &mut World, step: Step) -> Result<Option<u64>, AllocError>
+    ensures { IfOk result (IsBlamedFor world.old step world.new) }
+{
+    let first = first_for(alloc, world, &step)?;
+    world.step(step)?;
+    if ends_stale(world.outcomes()) {
+        Ok(first)
+    } else {
+        Ok(None)
+    }
+}
+
+/// The entry to blame for the outcome of the step at a place, counted from 0: where that is a stale commit, the first entry that
+/// touched its group behind those that its worker saw. None otherwise, and behind the last step.
+pub fn culprit(
+    alloc: Global,
+    reference: Reference,
+    steps: &[Step],
+    at: usize,
+) -> Result<Option<u64>, AllocError>
+    ensures { IfOk result (IsCulprit reference steps.now at) }
+{
+    if at >= steps.len() {
+        return Ok(None);
+    }
+    let mut world = take_all(alloc, reference, &steps[..at])?;
+    let step = steps[at].copy()?;
+    blame(alloc, &mut world, step)
+}

@@ -1,0 +1,40 @@
+//! What follows from the definitions alone.
+
+ghost use Rattle.std.specs.Prelude.{◌≡◌, ◌≤◌, ◌<◌, ◌++◌, ℕ, false, List, Some, length};
+ghost use Rattle.gu_terms.specs.declared.receipt.Receipt.{Receipt as ReceiptOf};
+ghost use Rattle.gu_world.specs.Runs.{IsRun, blamed};
+ghost use Rattle.gu_world.specs.Steps.{LeadsTo, Look, State, is_overtaken, look_of, seen_history, view_seen};
+ghost use Rattle.gu_world.specs.declared.outcome.Outcome.{Outcome as OutcomeOf};
+ghost use Rattle.gu_world.specs.declared.outcome.Outcome.TheVariants.{Stale, Swept};
+ghost use Rattle.gu_world.specs.declared.step.Step.{Step as StepOf};
+ghost use Rattle.gu_world.specs.declared.step.Step.TheVariants.{Commit};
+
+/// A run of some steps and a run of more that goes on where it ended are a run of all. It has one outcome a step.
+pub fn runs_join()
+    ensures joined { (old mid new : State) (steps more : List StepOf) (outcomes others : List OutcomeOf)
+        → IsRun old steps outcomes mid → IsRun mid more others new → IsRun old (steps ++ more) (outcomes ++ others) new }
+    ensures one_each { (old new : State) (steps : List StepOf) (outcomes : List OutcomeOf)
+        → IsRun old steps outcomes new → length outcomes ≡ length steps }
+{}
+
+/// What a worker saw stays what it saw, whatever steps come.
+pub fn a_look_stays_true()
+    ensures { (old new : State) (step : StepOf) (outcome : OutcomeOf) (look : Look)
+        → look.seen ≤ length old.book.history
+        → LeadsTo old step outcome new
+        → (seen_history new look ≡ seen_history old look) × (view_seen new look ≡ view_seen old look) }
+{}
+
+/// A commit is stale only where there is an entry to blame, behind those that the worker saw.
+pub fn a_stale_commit_has_a_culprit()
+    ensures { (before after : State) (worker seen now : ℕ)
+        → LeadsTo before (Commit worker) (Stale seen now) after
+        → (look : Look) × (k : ℕ) × (look_of before worker ≡ Some look) × (look.seen < k) × (blamed before (Commit worker) (Stale seen now) ≡ Some k) }
+{}
+
+/// A sweep is committed only where no entry behind those that the worker saw touches its group.
+pub fn a_committed_sweep_was_not_overtaken()
+    ensures { (before after : State) (worker : ℕ) (receipt : ReceiptOf)
+        → LeadsTo before (Commit worker) (Swept receipt) after
+        → (look : Look) × (look_of before worker ≡ Some look) × (is_overtaken before look ≡ false) }
+{}

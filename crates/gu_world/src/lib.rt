@@ -1,0 +1,26 @@
+//! Every order of steps: commands are entered while workers look, propose and commit.
+#![tactic(auto)]
+
+mod blame;
+mod committing;
+mod held;
+mod laws;
+mod looks;
+mod outcome;
+mod proposing;
+mod running;
+mod step;
+mod stepping;
+mod touching;
+mod worker;
+mod world;
+
+pub use blame::culprit;
+pub use laws::{
+    a_committed_sweep_was_not_overtaken, a_look_stays_true, a_stale_commit_has_a_culprit, runs_join,
+};
+pub use outcome::Outcome;
+pub use running::run;
+pub use step::Step;
+pub use worker::Worker;
+pub use world::World;

@@ -1,0 +1,42 @@
+//! Runs.
+
+ghost use Rattle.std.specs.Prelude.{◌≡◌, ◌≢◌, All, IfOk, take};
+ghost use Rattle.gu_book.specs.Legal.{IsLegal};
+ghost use Rattle.gu_world.specs.Headline.{AreGreatestSweeps, ArePositionsSums};
+ghost use Rattle.gu_world.specs.Runs.{IsRunOf};
+ghost use Rattle.gu_world.specs.declared.outcome.Outcome.TheVariants.{Foreign};
+
+use crate::step::Step;
+use crate::world::World;
+use gu_ref::Reference;
+use std::alloc::{AllocError, Global};
+
+/// Takes the steps, from a book without entries.
+pub fn take_all(alloc: Global, reference: Reference, steps: &[Step]) -> Result<World, AllocError>
+    ensures { IfOk result (IsRunOf reference steps.now) }
+{
+    let mut world = World::new(alloc, reference);
+    for step in steps {
+        world.step(step.copy()?)?;
+    }
+    Ok(world)
+}
+
+/// Runs the steps of firms and workers, in whatever order they come, from a book without entries.
+pub fn run(alloc: Global, reference: Reference, steps: &[Step]) -> Result<World, AllocError>
+    // The history, the looks and the outcomes are those of a run of the steps, with one outcome each.
+    ensures run { IfOk result (IsRunOf reference steps.now) }
+    ensures legal { IfOk result (λ world. IsLegal reference world.state.book.history) }
+
+    // Each committed sweep stays within every offer and limit of its group as the book stood at its commit, takes as many lots as any
+    // admissible takes would, oldest first, and its cut's room is the lots taken.
+    ensures sweeps { IfOk result (λ world. AreGreatestSweeps reference world.state.book.history) }
+
+    // Each position is the sum of the account's trades, and of what claims and sweeps moved to it, less what they moved from it.
+    ensures positions { IfOk result (λ world. ArePositionsSums world.state.book.history) }
+    ensures never_foreign { IfOk result (λ world. All (λ outcome. outcome ≢ Foreign) world.outcomes) }
+{
+    let world = take_all(alloc, reference, steps)?;
+    let _entries = world.book().history().len();
+    Ok(world)
+}

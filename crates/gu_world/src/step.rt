@@ -1,0 +1,34 @@
+//! Steps.
+
+ghost use Rattle.std.specs.Prelude.{◌≡◌, IfOk};
+
+use crate::worker::Worker;
+use gu_terms::{Command, Group};
+use std::alloc::AllocError;
+
+/// What a firm, the house or a worker does at one moment.
+#[derive(Debug, Drop)]
+pub enum Step {
+    /// A command is entered.
+    Enter(Command),
+    /// A worker looks at a group: its view, as the book stands.
+    See(Worker, Group),
+    /// A worker proposes a sweep of the view that it saw.
+    Propose(Worker),
+    /// A worker commits what it proposed.
+    Commit(Worker),
+}
+
+impl Step {
+    /// A copy.
+    pub fn copy(&self) -> Result<Step, AllocError>
+        ensures { IfOk result (λ step. step ≡ self.now) }
+    {
+        match self {
+            Step::Enter(command) => Ok(Step::Enter(command.copy()?)),
+            Step::See(worker, group) => Ok(Step::See(*worker, *group)),
+            Step::Propose(worker) => Ok(Step::Propose(*worker)),
+            Step::Commit(worker) => Ok(Step::Commit(*worker)),
+        }
+    }
+}

@@ -1,0 +1,52 @@
+//! Steps, one by one.
+
+ghost use Rattle.std.specs.Prelude.{◌≡◌, List, Option, IfOk, OnErr};
+ghost use Rattle.gu_world.specs.Looks.{AreTrue, Grows, looks_in, state_in};
+ghost use Rattle.gu_world.specs.Steps.{Look, entered, looked};
+
+use crate::held::{Held, Work};
+use crate::looks::Looks;
+use crate::outcome::Outcome;
+use crate::worker::Worker;
+use gu_book::{Book, CommitError, EnterError, LookError};
+use gu_terms::{Command, Group};
+use std::alloc::{AllocError, Global};
+
+/// Enters a command.
+pub fn enter(book: &mut Book, command: Command) -> Result<Outcome, AllocError>
+    ensures entered { IfOk result (λ outcome. (looks : List (Option Look))
+        → (outcome, record { book = book.new; looks = looks }) ≡ entered (record { book = book.old; looks = looks }) command) }
+    ensures grows { Grows book.old book.new }
+    ensures refused { OnErr result (book.new ≡ book.old) }
+{
+    match book.enter(command) {
+        Ok(receipt) => Ok(Outcome::Asked(receipt)),
+        Err(EnterError::Full) => Ok(Outcome::Full),
+        Err(EnterError::Memory) => Err(AllocError),
+    }
+}
+
+/// Has a worker look at a group.
+pub fn see(
+    book: &Book,
+    looks: &mut Looks,
+    worker: Worker,
+    group: Group,
+) -> Result<Outcome, AllocError>
+    requires { AreTrue book.now looks.old }
+    ensures looked { IfOk result (λ outcome. (outcome, state_in book.now looks.new) ≡ looked (state_in book.now looks.old) worker group) }
+    ensures still { AreTrue book.now looks.new }
+    ensures refused { OnErr result (looks_in looks.new ≡ looks_in looks.old) }
+{
+    let view = match book.view(&group) {
+        Ok(view) => view,
+        Err(LookError::UnknownGroup) => return Ok(Outcome::NoGroup),
+        Err(LookError::Memory) => return Err(AllocError),
+    };
+    looks.make()?;
+    let version = view.version();
+    let seen = book.history().len() as u64;
+    let work = Work::Looking(view);
+    looks.put(worker, Held { seen, work });
+    Ok(Outcome::Seen(version))
+}

@@ -1,0 +1,166 @@
+//! The world: a book, its workers, and what came of each step.
+
+ghost use Rattle.std.specs.Prelude.{◌≡◌, false, IfOk, OnOk, OnErr, Some};
+ghost use Rattle.std.specs.Option.{option_copied, option_map};
+ghost use Rattle.gu_book.specs.Views.{group_view};
+ghost use Rattle.gu_world.specs.Looks.{AreTrue, state_in};
+ghost use Rattle.gu_world.specs.Runs.{GoesOn, IsReached, beginning};
+ghost use Rattle.gu_world.specs.Steps.{LeadsTo, Look, is_overtaken, look_of, view_seen};
+
+use crate::committing::commit_for;
+use crate::looks::Looks;
+use crate::outcome::Outcome;
+use crate::proposing::propose_for;
+use crate::step::Step;
+use crate::stepping::{enter, see};
+use crate::worker::Worker;
+use gu_book::Book;
+use gu_ref::Reference;
+use gu_terms::Group;
+use gu_view::View;
+use std::alloc::{AllocError, Global};
+use std::marker::Model;
+
+/// Takes one step.
+fn take(
+    alloc: Global,
+    book: &mut Book,
+    looks: &mut Looks,
+    step: Step,
+) -> Result<Outcome, AllocError>
+    requires { AreTrue book.old looks.old }
+    ensures leads { IfOk result (λ outcome. LeadsTo (state_in book.old looks.old) step outcome (state_in book.new looks.new)) }
+    ensures still { AreTrue book.new looks.new }
+    ensures refused { OnErr result (state_in book.new looks.new ≡ state_in book.old looks.old) }
+{
+    match step {
+        Step::Enter(command) => enter(book, command),
+        Step::See(worker, group) => see(book, looks, worker, group),
+        Step::Propose(worker) => propose_for(alloc, looks, worker),
+        Step::Commit(worker) => commit_for(book, looks, worker),
+    }
+}
+
+/// A book, its workers, and what came of each step.
+/// To a contract it is a state, and the outcomes.
+pub struct World {
+    book: Book,
+    looks: Looks,
+    outcomes: Vec<Outcome>,
+    alloc: Global,
+}
+
+impl Model for World {
+    ghost use Rattle.gu_world.specs.Runs.{Course};
+
+    ghost Value = { Course };
+
+    ghost use Rattle.gu_world.specs.Looks.{IsKeptCourse, state_in};
+
+    ghost view = { λ w. record { state = state_in w.book w.looks; outcomes = w.outcomes.items } };
+
+    ghost invariant = { λ w. IsKeptCourse w.book w.looks w.outcomes.items };
+}
+
+// By hand, so that who holds a world lets it go by one call.
+impl Drop for World {
+    fn drop(self) {
+        let World {
+            book,
+            looks,
+            outcomes,
+            alloc: _,
+        } = self;
+        drop(book);
+        drop(looks);
+        drop(outcomes);
+    }
+}
+
+impl World {
+    /// A book without entries, whose workers haven't looked.
+    pub fn new(alloc: Global, reference: Reference) -> Self
+        ensures { result ≡ beginning reference }
+    {
+        World {
+            book: Book::new(alloc, reference),
+            looks: Looks::new(alloc),
+            outcomes: Vec::new(alloc),
+            alloc,
+        }
+    }
+
+    /// Takes one step, and adds its outcome.
+    pub fn step(&mut self, step: Step) -> Result<(), AllocError>
+        ensures stepped { OnOk result (GoesOn self.old step self.new) }
+        ensures refused { OnErr result (self.new ≡ self.old) }
+    {
+        let count = self.outcomes.len();
+        self.outcomes.push(Outcome::Nothing)?;
+        match take(self.alloc, &mut self.book, &mut self.looks, step) {
+            Ok(outcome) => {
+                self.outcomes[count] = outcome;
+                Ok(())
+            }
+            Err(refused) => {
+                self.outcomes.truncate(count);
+                Err(refused)
+            }
+        }
+    }
+
+    /// The book.
+    pub fn book(&self) -> &Book
+        ensures { result.now ≡ self.now.state.book }
+    {
+        &self.book
+    }
+
+    /// The group of a worker's look, and how many entries the book had then.
+    pub(crate) fn seen(&self, worker: Worker) -> Option<(Group, u64)>
+        ensures { result ≡ option_map (λ (look : Look). (look.group, look.seen)) (look_of self.now.state worker) }
+    {
+        match self.looks.get(worker) {
+            Some(held) => Some((held.view().group(), held.seen)),
+            None => None,
+        }
+    }
+
+    /// The view that a worker saw, while it has a look.
+    pub fn look(&self, worker: Worker) -> Option<&View>
+        ensures seen { option_copied result ≡ option_map (view_seen self.now.state) (look_of self.now.state worker) }
+
+        // Until an entry touches its group, it is the group's view.
+        ensures current { (look : Look) → look_of self.now.state worker ≡ Some look → is_overtaken self.now.state look ≡ false
+            → option_copied result ≡ Some (group_view self.now.state.book.reference self.now.state.book.history look.group) }
+    {
+        let _entries = self.book.history().len();
+        match self.looks.get(worker) {
+            Some(held) => Some(held.view()),
+            None => None,
+        }
+    }
+
+    /// The outcome of each step, in order.
+    pub fn outcomes(&self) -> &[Outcome]
+        ensures outcomes { result.now ≡ self.now.outcomes }
+        ensures reached { IsReached self.now }
+    {
+        self.outcomes.as_slice()
+    }
+
+    /// The book, for who keeps it.
+    pub fn into_book(self) -> Book
+        ensures { result ≡ self.state.book }
+    {
+        let World {
+            book,
+            looks,
+            outcomes,
+            alloc: _,
+        } = self;
+        drop(looks);
+        drop(outcomes);
+        book
+    }
+}
