@@ -3,14 +3,13 @@
 use crate::sample::{TRADED, book};
 use crate::transcript::{follow, picture};
 use crate::words::{agreement, group, key};
+use crate::workers::committed_text;
 use gu_book::{Book, CommitError};
 use gu_flow::{Proposal, propose};
-use gu_terms::{Command, Entry, OfferNo, Path, Receipt};
+use gu_terms::{Command, OfferNo, Path, Receipt};
 use gu_view::{Offer, Room, View};
 use std::alloc::Global;
-use std::fmt::Write;
 use std::process::Abort;
-use std::str;
 
 /// A proposal for a group of this name, as it stands.
 pub fn proposal(rt: &impl Abort, alloc: Global, book: &Book, name: &str) -> Proposal {
@@ -22,34 +21,6 @@ pub fn proposal(rt: &impl Abort, alloc: Global, book: &Book, name: &str) -> Prop
         },
         Err(_) => panic!(rt; "no view"),
     }
-}
-
-/// What a sweep took, and its cut: the number of the entry, the group, the lots, the takes above 0, the keys and offers of the cut.
-pub fn swept_text(alloc: Global, receipt: &Receipt) -> Option<String> {
-    let Entry::Swept(sweep) = &receipt.entry else {
-        return None;
-    };
-    let name = str::from_utf8(sweep.group.get()).ok()?;
-    let mut text = String::new(alloc);
-    write!(text, "{} SWEPT {name} {}", receipt.number, sweep.lots).ok()?;
-    for take in sweep.takes.as_slice() {
-        if take.lots > 0 {
-            write!(text, ", {} {}", take.offer.get(), take.lots).ok()?;
-        }
-    }
-    for key in sweep.cut.keys() {
-        write!(
-            text,
-            ", CUT {} {}",
-            key.kind(),
-            str::from_utf8(key.name()).ok()?
-        )
-        .ok()?;
-    }
-    for offer in sweep.cut.offers() {
-        write!(text, ", CUT OFFER {}", offer.get()).ok()?;
-    }
-    Some(text)
 }
 
 /// Sweeps a group of this name, which nobody touches in between.
@@ -86,12 +57,12 @@ fn book_after(rt: &impl Abort, alloc: Global, transcript: &str) -> Book {
 /// Sweeps the first group, and compares what it took.
 fn sweeps(rt: &impl Abort, alloc: Global, book: &mut Book, want: &str) {
     let receipt = sweep(rt, alloc, book, "G1");
-    let text = swept_text(alloc, &receipt).expect(rt, "a sweep");
+    let text = committed_text(alloc, &receipt).expect(rt, "a sweep");
     assert_eq!(rt; text.as_str(), want);
 }
 
 /// Three agreements of two executing firms, into two accounts of one carrying firm.
-const THREE: &str = "\
+pub const THREE: &str = "\
 DAY 20260105                      = 1 OK
 LIMIT G1 EXEC E1 10               = 2 OK
 LIMIT G1 EXEC E2 20               = 3 OK
@@ -107,13 +78,6 @@ GIVEUP E1 L1 R1 A1 10 A2 12       = 12 OK OFFERS 1 2
 GIVEUP E2 L2 R2 A1 15             = 13 OK OFFERS 3 3
 ";
 
-/// A trade of ten lots of which six were claimed and four are offered.
-const CLAIMED: &str = "\
-GIVEUP E1 L1 R1 A1 6 = 8 OK OFFERS 1 1
-CLAIM C1 1           = 9 OK LOTS 6
-GIVEUP E1 L2 R1 A1 4 = 10 OK OFFERS 2 2
-";
-
 #[test]
 fn takes_what_oldest_first_misses(rt: HostRuntime) {
     let alloc = rt.alloc();
@@ -122,7 +86,7 @@ fn takes_what_oldest_first_misses(rt: HostRuntime) {
         &rt,
         alloc,
         &mut book,
-        "14 SWEPT G1 20, 2 10, 3 10, CUT EXEC E1, CUT ACCT A1",
+        "14 SWEPT G1 20, TAKE 2 10, TAKE 3 10, CUT EXEC E1, CUT ACCT A1",
     );
     follow(
         &rt,
@@ -158,7 +122,12 @@ LIMIT G1 AGR P1 7         = 8 OK
 GIVEUP E1 L1 R1 A1 5 A1 5 = 9 OK OFFERS 1 2
 ",
     );
-    sweeps(&rt, alloc, &mut book, "10 SWEPT G1 7, 1 5, 2 2, CUT AGR P1");
+    sweeps(
+        &rt,
+        alloc,
+        &mut book,
+        "10 SWEPT G1 7, TAKE 1 5, TAKE 2 2, CUT AGR P1",
+    );
     follow(
         &rt,
         alloc,
@@ -199,80 +168,12 @@ fn a_copy_is_stale(rt: HostRuntime) {
     let first = proposal(&rt, alloc, &book, "G1");
     let copy = first.copy().ok().expect(&rt, "a copy");
     let receipt = book.commit(first).ok().expect(&rt, "a commit");
-    let text = swept_text(alloc, &receipt).expect(&rt, "a sweep");
-    assert_eq!(rt; text.as_str(), "9 SWEPT G1 7, 1 7, CUT OFFER 1");
+    let text = committed_text(alloc, &receipt).expect(&rt, "a sweep");
+    assert_eq!(rt; text.as_str(), "9 SWEPT G1 7, TAKE 1 7, CUT OFFER 1");
     assert_eq!(rt;
         refused(&rt, alloc, &mut book, copy),
         CommitError::Stale { seen: 6, now: 7 }
     );
-}
-
-#[test]
-fn a_claim_in_between_is_told_by_versions(rt: HostRuntime) {
-    let alloc = rt.alloc();
-    let mut book = book_after(&rt, alloc, TRADED);
-    follow(
-        &rt,
-        alloc,
-        &mut book,
-        "GIVEUP E1 L1 R1 A1 10 = 8 OK OFFERS 1 1",
-    );
-    let early = proposal(&rt, alloc, &book, "G1");
-    follow(&rt, alloc, &mut book, "CLAIM C1 1 = 9 OK LOTS 10");
-    assert_eq!(rt;
-        refused(&rt, alloc, &mut book, early),
-        CommitError::Stale { seen: 6, now: 7 }
-    );
-    sweeps(&rt, alloc, &mut book, "10 SWEPT G1 0");
-}
-
-#[test]
-fn a_report_in_between_touches_nothing(rt: HostRuntime) {
-    let alloc = rt.alloc();
-    let mut book = book_after(&rt, alloc, TRADED);
-    follow(
-        &rt,
-        alloc,
-        &mut book,
-        "GIVEUP E1 L1 R1 A1 10 = 8 OK OFFERS 1 1",
-    );
-    let early = proposal(&rt, alloc, &book, "G1");
-    let other = proposal(&rt, alloc, &book, "G2");
-    follow(
-        &rt,
-        alloc,
-        &mut book,
-        "REPORT E1 R3 M2 B XF6 1 100 H1 = 9 OK OPEN",
-    );
-    let receipt = book.commit(early).ok().expect(&rt, "a commit");
-    assert_eq!(rt; receipt.number, 10);
-    let receipt = book.commit(other).ok().expect(&rt, "a commit");
-    let text = swept_text(alloc, &receipt).expect(&rt, "a sweep");
-    assert_eq!(rt; text.as_str(), "11 SWEPT G2 0");
-}
-
-#[test]
-fn a_lowered_limit_a_day_and_a_reversal_in_between_are_told(rt: HostRuntime) {
-    let alloc = rt.alloc();
-    for (between, swept) in [
-        ("LIMIT G1 AGR P1 5 = 11 OK", "12 SWEPT G1 0, CUT AGR P1"),
-        ("DAY 20260106 = 11 OK", "12 SWEPT G1 4, 2 4, CUT OFFER 2"),
-        (
-            "REVERSE C1 1 = 11 OK LOTS 6",
-            "12 SWEPT G1 4, 2 4, CUT OFFER 2",
-        ),
-    ] {
-        let mut book = book_after(&rt, alloc, TRADED);
-        follow(&rt, alloc, &mut book, CLAIMED);
-        let early = proposal(&rt, alloc, &book, "G1");
-        assert_eq!(rt; early.lots(), 4);
-        follow(&rt, alloc, &mut book, between);
-        assert_eq!(rt;
-            refused(&rt, alloc, &mut book, early),
-            CommitError::Stale { seen: 8, now: 9 }
-        );
-        sweeps(&rt, alloc, &mut book, swept);
-    }
 }
 
 /// The path of the agreement P1.

@@ -22,15 +22,23 @@ mod looks;
 #[cfg(test)]
 mod memory;
 #[cfg(test)]
+mod memory_of_sweeps;
+#[cfg(test)]
+mod notices;
+#[cfg(test)]
 mod offers;
 #[cfg(test)]
 mod positions;
 #[cfg(test)]
 mod readers;
 #[cfg(test)]
+mod refused_steps;
+#[cfg(test)]
 mod reversals;
 #[cfg(test)]
 mod sample;
+#[cfg(test)]
+mod sweeps;
 #[cfg(test)]
 mod thousands;
 #[cfg(test)]
@@ -41,5 +49,7 @@ mod transcript;
 mod views;
 #[cfg(test)]
 mod words;
+#[cfg(test)]
+mod workers;
 #[cfg(test)]
 mod world;

@@ -17,7 +17,7 @@ use std::process::Abort;
 const GUARANTORS: &[u8] = b"GUARANTOR,E2,C1\nGUARANTOR,E2,C2\nGUARANTOR,C1,E1\n";
 
 /// The reference of the sample with guarantors, read at the second try where the first is refused.
-fn read_again(rt: &impl Abort, alloc: Global) -> Option<Reference> {
+pub fn read_again(rt: &impl Abort, alloc: Global) -> Option<Reference> {
     match read_with(alloc, GUARANTORS) {
         Ok(reference) => Some(reference),
         Err(fault) => {
@@ -143,7 +143,7 @@ fn picture_again(rt: &impl Abort, alloc: Global, book: &Book) -> String {
 }
 
 /// The command of a line, made at the second try where the first is refused.
-fn command_again(rt: &impl Abort, alloc: Global, line: &str) -> Command {
+pub fn command_again(rt: &impl Abort, alloc: Global, line: &str) -> Command {
     match command(alloc, line) {
         Some(command) => command,
         None => command(alloc, line).expect(rt, "a command"),
@@ -166,7 +166,7 @@ fn enter_again(rt: &impl Abort, alloc: Global, book: &mut Book, line: &str) -> R
 }
 
 /// The text of a receipt, made at the second try where the first is refused.
-fn text_again(rt: &impl Abort, alloc: Global, receipt: &Receipt) -> String {
+pub fn text_again(rt: &impl Abort, alloc: Global, receipt: &Receipt) -> String {
     match receipt_text(alloc, receipt) {
         Some(text) => text,
         None => receipt_text(alloc, receipt).expect(rt, "a text"),

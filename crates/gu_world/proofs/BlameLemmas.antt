@@ -21,7 +21,8 @@ use Rattle.gu_book.specs.Versions.{is_of_group, touches, touching, touching_afte
 use Rattle.gu_book.proofs.StandingLemmas.{offers_of-push}
 use Rattle.gu_world.specs.Blame.{own_of}
 use Rattle.gu_world.specs.Steps.{first_touch_above}
-use Rattle.gu_world.proofs.Touches.{found_behind, touching_after-append, touching_at}
+use Rattle.gu_book.proofs.VersionLemmas.{touching_after-append}
+use Rattle.gu_world.proofs.Touches.{found_behind, touching_at}
 
 -- of the offer of a number it is known whether it is of the group
 own-at : (group : Group) (offers : List Offer) (place : ℕ)

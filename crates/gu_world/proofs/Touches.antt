@@ -10,6 +10,7 @@ use Rattle.gu_terms.specs.declared.entry.Entry.{Entry}
 use Rattle.gu_terms.specs.declared.group.Group.{Group}
 use Rattle.gu_ref.specs.Tables.{Tables}
 use Rattle.gu_book.proofs.Elsewhere.{view-elsewhere}
+use Rattle.gu_book.proofs.VersionLemmas.{touching_after-append}
 use Rattle.gu_book.specs.Legal.{IsLegal, MayFollow}
 use Rattle.gu_book.specs.Versions.{touches, touching, touching_after, version_of}
 use Rattle.gu_book.specs.Views.{group_view}
@@ -18,14 +19,6 @@ use Rattle.gu_world.specs.Steps.{first_touch_above}
 -- a number in front, where a test passes
 abbrev in_front : Bool → ℕ → List ℕ → List ℕ
 in_front b n ns = option_to_list (if b then Some n else None) ++ ns
-
-pub touching_after-append : (before first later : List Entry) (group : Group) → touching_after before group (first ++ later) ≡ touching_after before group first ++ touching_after (before ++ first) group later
-touching_after-append before [] later group = ap (λ (b : List Entry). touching_after b group later) (sym (append-nil before))
-touching_after-append before (entry ∷ first) later group =
-    ap (in_front (touches before group entry) (length before + 1))
-    (touching_after-append (before ++ entry ∷ []) first later group
-    ∙ ap (λ (b : List Entry). touching_after (before ++ entry ∷ []) group first ++ touching_after b group later) (append_assoc before (entry ∷ []) first))
-    ∙ sym (append_assoc (option_to_list (if touches before group entry then Some (length before + 1) else None)) (touching_after (before ++ entry ∷ []) group first) (touching_after (before ++ entry ∷ first) group later))
 
 -- entries up to a number have no touch above it
 none_low : (b : Bool) (n k : ℕ) (ns : List ℕ) → k ≤ n → find (nat_lt n) ns ≡ None → find (nat_lt n) (in_front b k ns) ≡ None

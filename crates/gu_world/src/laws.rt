@@ -2,6 +2,10 @@
 
 ghost use Rattle.std.specs.Prelude.{◌≡◌, ◌≤◌, ◌<◌, ◌++◌, ℕ, false, List, Some, length};
 ghost use Rattle.gu_terms.specs.declared.receipt.Receipt.{Receipt as ReceiptOf};
+ghost use Rattle.gu_terms.specs.declared.entry.Entry.{Entry as EntryOf};
+ghost use Rattle.gu_ref.specs.Tables.{Tables};
+ghost use Rattle.gu_book.specs.Legal.{IsLegal};
+ghost use Rattle.gu_world.specs.Headline.{AreGreatestSweeps};
 ghost use Rattle.gu_world.specs.Runs.{IsRun, blamed};
 ghost use Rattle.gu_world.specs.Steps.{LeadsTo, Look, State, is_overtaken, look_of, seen_history, view_seen};
 ghost use Rattle.gu_world.specs.declared.outcome.Outcome.{Outcome as OutcomeOf};
@@ -37,4 +41,10 @@ pub fn a_committed_sweep_was_not_overtaken()
     ensures { (before after : State) (worker : ℕ) (receipt : ReceiptOf)
         → LeadsTo before (Commit worker) (Swept receipt) after
         → (look : Look) × (look_of before worker ≡ Some look) × (is_overtaken before look ≡ false) }
+{}
+
+/// Each sweep of a legal history stays within every offer and limit of its group as the book stood just before it, takes as many lots as
+/// any admissible takes would, oldest first, and its cut's room is the lots taken.
+pub fn each_committed_sweep_is_greatest()
+    ensures { (reference : Tables) (history : List EntryOf) → IsLegal reference history → AreGreatestSweeps reference history }
 {}
