@@ -1,0 +1,9 @@
+pub mod SeqNums
+pub mod Applications
+pub mod Hearing
+pub mod Plans
+pub mod FrameRules
+pub mod Logons
+pub mod AnswerRules
+pub mod TimeRules
+pub mod Resending
