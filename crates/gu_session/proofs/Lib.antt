@@ -1,1 +1,5 @@
 mod RequestLemmas
+mod WalkLemmas
+mod OutputLemmas
+mod NumberLemmas
+mod StepLemmas

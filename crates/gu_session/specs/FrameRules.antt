@@ -1,5 +1,5 @@
 -- What a session does on a frame once a firm is logged on (FIXT 1.1, Message Recovery and Rejects).
-use Rattle.std.specs.Prelude.{◌+◌, ℕ, Bool, false, not, nat_le, nat_lt, List, [], ◌∷◌, Option, None, Some, Result, Ok, Err, codes, if◌then◌else◌}
+use Rattle.std.specs.Prelude.{◌+◌, ℕ, Bool, false, not, nat_le, nat_lt, [], ◌∷◌, Option, None, Some, Result, Ok, Err, codes, if◌then◌else◌}
 use Rattle.std.specs.Option.{option_map_or}
 use Rattle.std.specs.Str.{bytes_eq}
 use Rattle.gu_terms.specs.declared.firm.FirmId.{FirmId}

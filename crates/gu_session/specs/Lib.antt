@@ -7,3 +7,10 @@ pub mod Logons
 pub mod AnswerRules
 pub mod TimeRules
 pub mod Resending
+pub mod Walks
+pub mod Encoded
+pub mod Given
+pub mod States
+pub mod Sound
+pub mod Sending
+pub mod Steps

@@ -1,5 +1,5 @@
 -- What a session does on a frame before a firm is logged on (FIXT 1.1, Logon).
-use Rattle.std.specs.Prelude.{ℕ, ◌==◌, List, [], ◌∷◌, Option, None, Some, Result, Ok, Err, find, if◌then◌else◌, false}
+use Rattle.std.specs.Prelude.{ℕ, ◌==◌, List, [], ◌∷◌, Option, None, Some, Result, Ok, find, if◌then◌else◌, false}
 use Rattle.gu_terms.specs.declared.firm.FirmId.{FirmId}
 use Rattle.gu_msgs.specs.declared.fault.Fault.{Fault}
 use Rattle.gu_msgs.specs.declared.inbound.Inbound.{Inbound}

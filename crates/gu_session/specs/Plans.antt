@@ -1,10 +1,9 @@
 -- What a step does, before numbers are given.
-use Rattle.std.specs.Prelude.{Bool, true, false, ℕ, List, [], ◌∷◌, Option, None, Some}
+use Rattle.std.specs.Prelude.{true, false, ℕ, List, [], Option, None, Some}
 use Rattle.gu_msgs.specs.declared.asking.Question.{Question}
 use Rattle.gu_msgs.specs.declared.asking.Request.{Request}
 use Rattle.gu_msgs.specs.declared.inbound.ResendRequest.{ResendRequest}
 use Rattle.gu_msgs.specs.declared.outbound.Body.{Body}
-use Rattle.gu_session.specs.declared.plan.Handed.{Handed}
 use Rattle.gu_session.specs.declared.plan.Plan.{Plan}
 use Rattle.gu_session.specs.declared.standing.Standing.{Standing}
 

@@ -1,5 +1,5 @@
 -- What is sent again where a firm asks for messages once more (FIXT 1.1, Message Recovery).
-use Rattle.std.specs.Prelude.{ℕ, ◌+◌, ◌==◌, ◌&&◌, nat_le, nat_lt, min, List, [], ◌∷◌, ◌++◌, filter, None, Some, if◌then◌else◌}
+use Rattle.std.specs.Prelude.{ℕ, ◌+◌, ◌==◌, ◌&&◌, nat_le, nat_lt, min, List, [], ◌∷◌, ◌++◌, filter, Some, if◌then◌else◌}
 use Rattle.gu_terms.specs.declared.firm.FirmId.{FirmId}
 use Rattle.gu_msgs.specs.declared.inbound.ResendRequest.{ResendRequest}
 use Rattle.gu_msgs.specs.declared.outbound.Body.TheVariants as body

@@ -1,11 +1,15 @@
 //! What is kept of what was sent.
 
-ghost use Rattle.std.specs.Prelude.{◌≡◌, [], ◌++◌, length, slice_get, IfOk};
+ghost use Rattle.std.specs.Prelude.{◌≡◌, [], ◌++◌, length, slice_get, IfOk, OnOk};
+ghost use Rattle.std.specs.Option.{option_to_list};
 ghost use Rattle.circular_buffer.specs.Buffer.{buffer, keep_last};
+ghost use Rattle.gu_session.specs.Sending.{sent_in};
+ghost use Rattle.gu_session.specs.SeqNums.{IsSeqNum};
 
 use crate::application::Application;
 use crate::seq_num::SeqNum;
 use circular_buffer::HeapCircularBuffer;
+use gu_msgs::Outbound;
 use gu_terms::Moment;
 use std::alloc::{AllocError, Global};
 use std::marker::Model;
@@ -87,5 +91,30 @@ impl Kept {
         if let Some(ring) = &mut self.ring {
             ring.extend_from_slice(sent);
         }
+    }
+}
+
+/// A message as it is kept.
+fn sent_in(message: &Outbound) -> Option<Sent>
+    requires { IsSeqNum message.now.msg_seq_num }
+    ensures { result ≡ sent_in message.now }
+{
+    let application = Application::of(&message.body)?;
+    let number = SeqNum::new(message.msg_seq_num)?;
+    Some(Sent {
+        number,
+        time: message.sending_time,
+        message: application,
+    })
+}
+
+/// Appends what is to be kept of a message.
+pub fn push_sent(sent: &mut Vec<Sent>, message: &Outbound) -> Result<(), AllocError>
+    requires { IsSeqNum message.now.msg_seq_num }
+    ensures { OnOk result (sent.new.items ≡ sent.old.items ++ option_to_list (sent_in message.now)) }
+{
+    match sent_in(message) {
+        Some(one) => sent.extend_from_slice(&[one]),
+        None => Ok(()),
     }
 }

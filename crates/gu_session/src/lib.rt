@@ -4,7 +4,9 @@
 mod answers;
 mod application;
 mod ask_ref;
+mod carrying;
 mod content;
+mod course;
 mod heard;
 mod hearing;
 mod heartbeat;
@@ -12,14 +14,18 @@ mod input;
 mod kept;
 mod logon;
 mod messages;
+mod numbering;
 mod output;
 mod plan;
 mod rejecting;
 mod resending;
+mod sending;
 mod seq_num;
 mod sequence;
+mod session;
 mod standing;
 
 pub use ask_ref::AskRef;
 pub use input::{Failure, Input, Outcome};
 pub use output::{Asked, Output};
+pub use session::Session;

@@ -1,10 +1,10 @@
 //! What is sent again.
 
-ghost use Rattle.std.specs.Prelude.{◌≡◌, ◌+◌, ◌++◌, ◌∷◌, [], OnOk, IfOk};
+ghost use Rattle.std.specs.Prelude.{◌≡◌, ◌+◌, ◌&&◌, ◌++◌, ◌∷◌, [], nat_le, nat_lt, OnOk, IfOk};
 ghost use Rattle.gu_session.specs.Resending.{again, behind_last, gap, gap_fill, resent, sent_within, with_gaps};
+ghost use Rattle.gu_session.specs.Walks.{asked_now, at_behind};
 
 use crate::kept::{Kept, Sent};
-use crate::seq_num::GREATEST;
 use gu_msgs::Outbound;
 use gu_msgs::inbound::ResendRequest;
 use gu_msgs::outbound::Body;
@@ -79,4 +79,61 @@ fn behind_last(next: u64, last: u64) -> u64
     } else {
         last + 1
     }
+}
+
+/// Whether a message has a number from one up to another.
+fn is_within(sent: &Sent, from: u64, to: u64) -> bool
+    ensures { result ≡ (nat_le from sent.now.number && nat_lt sent.now.number to) }
+{
+    from <= sent.number.get() && sent.number.get() < to
+}
+
+/// Numbers from one up to another.
+#[derive(Drop)]
+struct Range {
+    from: u64,
+    to: u64,
+}
+
+/// Appends a message that was kept as `push_again` does, if it is one of those that are asked for.
+fn push_asked(
+    messages: &mut Vec<Outbound>,
+    firm: &FirmId,
+    now: &Moment,
+    range: &Range,
+    at: u64,
+    sent: &Sent,
+) -> Result<u64, AllocError>
+    ensures pushed { OnOk result (messages.new.items ≡ messages.old.items ++ asked_now firm.now now.now range.now.from range.now.to at sent.now) }
+    ensures behind { IfOk result (λ behind. behind ≡ at_behind range.now.from range.now.to at sent.now) }
+{
+    if is_within(sent, range.from, range.to) {
+        push_again(messages, firm, now, at, sent)
+    } else {
+        Ok(at)
+    }
+}
+
+/// Appends what is sent again for a request.
+pub fn push_resent(
+    messages: &mut Vec<Outbound>,
+    firm: &FirmId,
+    now: &Moment,
+    kept: &Kept,
+    next: u64,
+    request: &ResendRequest,
+) -> Result<(), AllocError>
+    ensures { OnOk result (messages.new.items ≡ messages.old.items ++ resent firm.now kept.now.items next now.now request.now) }
+{
+    let range = Range {
+        from: request.begin_seq_no,
+        to: behind_last(next, request.end_seq_no),
+    };
+    let mut at = range.from;
+    for place in 0..kept.len() {
+        if let Some(sent) = kept.get(place) {
+            at = push_asked(messages, firm, now, &range, at, &sent)?;
+        }
+    }
+    push_gap(messages, firm, now, at, range.to)
 }

@@ -1,5 +1,3 @@
-use Rattle.std.proofs.Common.{◌≡◌, ◌∙◌, ap}
-use Rattle.gu_session.specs.FrameRules.{on_request}
 use Rattle.gu_session.proofs.RequestLemmas.{on_message-other}
 use Rattle.gu_session.proofs.content.on_message.Goals as goal
 
