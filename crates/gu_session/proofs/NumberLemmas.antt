@@ -17,7 +17,7 @@ numbered-push firm now number [] body = ap (λ (n : ℕ). new_message firm now n
 numbered-push firm now number (first ∷ bodies) body =
     let next : number + 1 + length bodies ≡ number + length (first ∷ bodies) = omega arith in
     ap (λ (messages : List Outbound). new_message firm now number first ∷ messages)
-      (numbered-push firm now (number + 1) bodies body ∙ ap (λ (n : ℕ). numbered firm now (number + 1) bodies ++ new_message firm now n body ∷ []) next)
+    (numbered-push firm now (number + 1) bodies body ∙ ap (λ (n : ℕ). numbered firm now (number + 1) bodies ++ new_message firm now n body ∷ []) next)
 
 -- what is to be kept of one message
 pub filter_map-one : (message : Outbound) (found : Option Sent) → sent_in message ≡ found → filter_map sent_in (message ∷ []) ≡ option_to_list (sent_in message)

@@ -25,8 +25,8 @@ pub with_gaps-more : (firm : FirmId) (now from to at : ℕ) (sent : Sent) (later
     ≡ with_gaps firm now at to (sent_within from to (sent ∷ later))
 with_gaps-more firm now from to at sent later =
     elim (nat_le from sent.number && nat_lt sent.number to) as (λ (b : Bool).
-      cond b (gap firm now at sent.number ++ again firm now sent ∷ []) [] ++ with_gaps firm now (cond b (sent.number + 1) at) to (sent_within from to later)
-      ≡ with_gaps firm now at to (cond b (sent ∷ sent_within from to later) (sent_within from to later))) [
+    cond b (gap firm now at sent.number ++ again firm now sent ∷ []) [] ++ with_gaps firm now (cond b (sent.number + 1) at) to (sent_within from to later)
+    ≡ with_gaps firm now at to (cond b (sent ∷ sent_within from to later) (sent_within from to later))) [
       | true ↦ append_assoc (gap firm now at sent.number) (again firm now sent ∷ []) (with_gaps firm now (sent.number + 1) to (sent_within from to later))
       | false ↦ refl
     ]

@@ -45,7 +45,7 @@ asked_by reference waiting = find (λ (one : Waiting). one.reference == referenc
 abbrev pub on_answer : Standing → List Waiting → ℕ → Outcome → Course
 on_answer at waiting reference outcome =
     option_map_or (λ messages. Go (answers at reference messages))
-      (option_and_then (λ (one : Waiting). answer_messages one.question one.reference outcome) (asked_by reference waiting)) Stay
+    (option_and_then (λ (one : Waiting). answer_messages one.question one.reference outcome) (asked_by reference waiting)) Stay
 
 -- a notice is sent as its message
 abbrev pub on_notice : Standing → Notice → Course

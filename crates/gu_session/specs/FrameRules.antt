@@ -99,7 +99,7 @@ on_content at heading number (Ok message) = on_message at heading number message
 abbrev pub as_expected : Standing → Heard → ℕ → Plan
 as_expected at heard number =
     option_map_or (λ tag. leaves at (reject heard.heading number tag CompIdProblem ∷ body.Logout (Some CompId) ∷ []))
-      (wrong_party at.firm heard.heading) (on_content at heard.heading number heard.content)
+    (wrong_party at.firm heard.heading) (on_content at heard.heading number heard.content)
 
 -- by the number that is expected; one that is met is used up before anything else
 abbrev pub by_number : Standing → Heard → ℕ → Plan

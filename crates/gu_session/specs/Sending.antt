@@ -58,7 +58,7 @@ given_by s now plan = map Sends (sent_by s now plan) ++ ending_of plan.handed pl
 abbrev pub sent_in : Outbound → Option Sent
 sent_in message =
     option_map (λ (application : Application). record { number = message.msg_seq_num; time = message.sending_time; message = application })
-      (application_of message.body)
+    (application_of message.body)
 
 -- the messages that are kept once new ones are sent: the last application messages of all
 abbrev pub kept_behind : List Sent → List Outbound → List Sent

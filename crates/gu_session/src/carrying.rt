@@ -15,8 +15,8 @@ use crate::plan::{Handed, Plan};
 use crate::resending::push_resent;
 use crate::seq_num::GREATEST;
 use crate::standing::{Standing, Waiting};
-use gu_msgs::{Outbound, Question};
 use gu_msgs::inbound::ResendRequest;
+use gu_msgs::{Outbound, Question};
 use gu_terms::{FirmId, Moment};
 use std::alloc::{AllocError, Global};
 

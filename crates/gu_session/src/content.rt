@@ -102,9 +102,7 @@ fn on_message(
 {
     match message {
         Inbound::Heartbeat | Inbound::Reject => Ok(Plan::quiet(alloc, at)),
-        Inbound::TestRequest(m) => {
-            Plan::says(alloc, at, Body::Heartbeat(Some(m.test_req_id)))
-        }
+        Inbound::TestRequest(m) => { Plan::says(alloc, at, Body::Heartbeat(Some(m.test_req_id))) }
         Inbound::ResendRequest(m) => Ok(Plan::repeats(at, Some(m), Messages::none(alloc))),
         Inbound::SequenceReset(m) => on_gap_fill(alloc, at, heading, number, m.new_seq_no),
         Inbound::Logout => Plan::leaves_with(alloc, at, Body::Logout(None)),

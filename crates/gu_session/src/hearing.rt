@@ -9,7 +9,8 @@ use crate::heard::{Heading, Heard};
 use crate::seq_num::SeqNum;
 use gu_fix::{FieldFault, Fields, Frame, fields};
 use gu_msgs::{
-    Fault, Header, Inbound, MsgFault, SessionRejectReason, TypeCode, header, is_numeral, number_of, read,
+    Fault, Header, Inbound, MsgFault, SessionRejectReason, TypeCode, header, is_numeral, number_of,
+    read,
 };
 use gu_terms::FirmId;
 use std::alloc::{AllocError, Global};

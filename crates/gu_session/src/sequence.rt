@@ -89,12 +89,7 @@ fn too_low(alloc: Global, at: &Standing, heading: &Heading) -> Result<Plan, Allo
 }
 
 /// A frame that is no reset.
-fn by_number(
-    alloc: Global,
-    at: &Standing,
-    heard: Heard,
-    number: SeqNum,
-) -> Result<Plan, AllocError>
+fn by_number(alloc: Global, at: &Standing, heard: Heard, number: SeqNum) -> Result<Plan, AllocError>
     ensures { IfOk result (λ plan. plan ≡ by_number at.now heard number) }
 {
     let place = number.get();
@@ -112,12 +107,7 @@ fn by_number(
 }
 
 /// A frame with a number.
-fn on_number(
-    alloc: Global,
-    at: &Standing,
-    heard: Heard,
-    number: SeqNum,
-) -> Result<Plan, AllocError>
+fn on_number(alloc: Global, at: &Standing, heard: Heard, number: SeqNum) -> Result<Plan, AllocError>
     ensures { IfOk result (λ plan. plan ≡ on_number at.now heard number) }
 {
     match reset_to(&heard.content) {

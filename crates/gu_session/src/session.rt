@@ -60,13 +60,13 @@ impl Model for Session {
     ghost use Rattle.gu_session.specs.Sound.{IsSound};
 
     ghost view = { λ s. record {
-        firms = s.firms.items;
-        at = s.at;
-        next = s.next;
-        sent_at = s.sent_at;
-        kept = s.kept.items;
-        waiting = s.waiting.items;
-        is_closed = s.is_closed;
+      firms = s.firms.items;
+      at = s.at;
+      next = s.next;
+      sent_at = s.sent_at;
+      kept = s.kept.items;
+      waiting = s.waiting.items;
+      is_closed = s.is_closed;
     } };
 
     ghost invariant = { λ s. IsSound s.at s.next s.kept };
@@ -111,9 +111,7 @@ impl Session {
         ensures { IfOk result (IsCourse self.now input now) }
     {
         match input {
-            Input::Frame(frame) => {
-                frame_course(self.alloc, &self.firms, &self.at, &frame, now)
-            }
+            Input::Frame(frame) => { frame_course(self.alloc, &self.firms, &self.at, &frame, now) }
             Input::Notice(notice) => notice_course(self.alloc, &self.at, &notice),
             Input::Answer(reference, outcome) => {
                 answer_course(self.alloc, &self.at, &self.waiting, reference, &outcome)
@@ -153,14 +151,7 @@ impl Session {
         } = plan;
         let count = bodies.len() as u64;
         let mut sent = Vec::new(self.alloc);
-        let mut messages = resent(
-            self.alloc,
-            &after.firm,
-            &now,
-            &self.kept,
-            self.next,
-            &again,
-        )?;
+        let mut messages = resent(self.alloc, &after.firm, &now, &self.kept, self.next, &again)?;
         push_new(
             &mut messages,
             &mut sent,
