@@ -3,3 +3,9 @@ mod WalkLemmas
 mod OutputLemmas
 mod NumberLemmas
 mod StepLemmas
+mod Closing
+mod GoingOn
+mod KeepingOn
+mod Covering
+mod Ascending
+mod Serving

@@ -14,3 +14,5 @@ pub mod States
 pub mod Sound
 pub mod Sending
 pub mod Steps
+pub mod Runs
+pub mod Laws

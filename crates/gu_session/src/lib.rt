@@ -12,6 +12,7 @@ mod hearing;
 mod heartbeat;
 mod input;
 mod kept;
+mod laws;
 mod logon;
 mod messages;
 mod numbering;
@@ -27,5 +28,9 @@ mod standing;
 
 pub use ask_ref::AskRef;
 pub use input::{Failure, Input, Outcome};
+pub use laws::{
+    asks_for_the_gap, closed_for_good, keeps_the_last_sent, numbers_go_up_by_one,
+    serves_what_is_asked,
+};
 pub use output::{Asked, Output};
 pub use session::Session;
