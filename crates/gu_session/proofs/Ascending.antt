@@ -38,7 +38,7 @@ within-numbered firm now number [] = omega arith
 within-numbered firm now number (body ∷ bodies) =
     let later = filter_map sent_in (numbered firm now (number + 1) bodies) in
     let rest : AreWithin (number + 1) (number + length (body ∷ bodies)) later =
-      subst (λ (n : ℕ). AreWithin (number + 1) n later) (omega arith) (within-numbered firm now (number + 1) bodies) in
+    subst (λ (n : ℕ). AreWithin (number + 1) n later) (omega arith) (within-numbered firm now (number + 1) bodies) in
     within-first firm now number (number + length (body ∷ bodies)) body bodies (application_of body) refl (omega arith) rest
 
 -- those with numbers of a range

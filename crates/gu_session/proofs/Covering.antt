@@ -38,7 +38,7 @@ pub covers_with_gaps : (firm : FirmId) (now from to : ℕ) (kept : List Sent) �
 covers_with_gaps firm now from to [] within = subst (λ (messages : List Outbound). Covers from to messages) (append-nil (gap firm now from to)) (gap_then firm now from to to [] within refl)
 covers_with_gaps firm now from to (sent ∷ later) (above, within) =
     gap_then firm now from sent.number to (again firm now sent ∷ with_gaps firm now (sent.number + 1) to later) above
-      (refl, sent.number + 1, inl (is_application sent.message, refl), covers_with_gaps firm now (sent.number + 1) to later within)
+    (refl, sent.number + 1, inl (is_application sent.message, refl), covers_with_gaps firm now (sent.number + 1) to later within)
 
 -- an application message in front
 pub longest-again : (message : Outbound) (messages : List Outbound) → is_some (application_of message.body) ≡ true → HasLongestRuns messages → HasLongestRuns (message ∷ messages)
@@ -63,4 +63,4 @@ longest_with_gaps firm now from to [] =
     ]
 longest_with_gaps firm now from to (sent ∷ later) =
     longest-gap firm now from sent.number (again firm now sent) (with_gaps firm now (sent.number + 1) to later) (is_application sent.message)
-      (longest-again (again firm now sent) (with_gaps firm now (sent.number + 1) to later) (is_application sent.message) (longest_with_gaps firm now (sent.number + 1) to later))
+    (longest-again (again firm now sent) (with_gaps firm now (sent.number + 1) to later) (is_application sent.message) (longest_with_gaps firm now (sent.number + 1) to later))

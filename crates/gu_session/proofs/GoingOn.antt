@@ -27,7 +27,7 @@ pub new_messages-numbered : (firm : FirmId) (now number : ℕ) (bodies : List Bo
 new_messages-numbered firm now number [] = refl
 new_messages-numbered firm now number (body ∷ bodies) =
     ap (λ (messages : List Outbound). record { firm = firm; msg_seq_num = number; sending_time = now; orig_sending_time = None; body = body } ∷ messages)
-      (new_messages-numbered firm now (number + 1) bodies)
+    (new_messages-numbered firm now (number + 1) bodies)
 
 -- a gap fill is not new
 pub new_messages-gap : (firm : FirmId) (now from to : ℕ) (rest : List Outbound) →
@@ -135,10 +135,10 @@ run_goes_on old new (input ∷ inputs) given (first, later, next, steps, parts, 
     let one = step_goes_on old next input.0 input.1 first steps in
     let more = run_goes_on next new inputs later rest in
     let messages : filter_map new_message given ≡ filter_map new_message first ++ filter_map new_message later =
-      ap (filter_map new_message) parts ∙ filter_map-append new_message first later in
+    ap (filter_map new_message) parts ∙ filter_map-append new_message first later in
     subst (λ (ms : List Outbound). GoesOn old new ms) (sym messages) (record {
       counts = counts-append old.next (filter_map new_message first) (filter_map new_message later) one.counts
-        (subst (λ (n : ℕ). CountsFrom n (filter_map new_message later)) one.next more.counts);
+          (subst (λ (n : ℕ). CountsFrom n (filter_map new_message later)) one.next more.counts);
       next = omega (arith, more.next, one.next, length-append (filter_map new_message first) (filter_map new_message later));
       most = λ most. more.most (one.most most);
     })

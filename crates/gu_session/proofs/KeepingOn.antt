@@ -65,10 +65,10 @@ run_keeps_on old new (input ∷ inputs) given (first, later, next, steps, parts,
     let one = step_keeps_on old next input.0 input.1 first steps all before in
     let more = run_keeps_on next new inputs later rest (all ++ filter_map sent_in (filter_map new_message first)) one in
     let messages : filter_map new_message given ≡ filter_map new_message first ++ filter_map new_message later =
-      ap (filter_map new_message) parts ∙ filter_map-append new_message first later in
+    ap (filter_map new_message) parts ∙ filter_map-append new_message first later in
     more ∙ ap (keep_last 4096) (append_assoc all (filter_map sent_in (filter_map new_message first)) (filter_map sent_in (filter_map new_message later))
-      ∙ ap (λ (sent : List Sent). all ++ sent)
-        (sym (ap (filter_map sent_in) messages ∙ filter_map-append sent_in (filter_map new_message first) (filter_map new_message later))))
+    ∙ ap (λ (sent : List Sent). all ++ sent)
+    (sym (ap (filter_map sent_in) messages ∙ filter_map-append sent_in (filter_map new_message first) (filter_map new_message later))))
 
 pub keeps_the_last : KeepsTheLastSent
 keeps_the_last firms given s reached = run_keeps_on (new_session firms) s reached.inputs given reached.runs [] refl

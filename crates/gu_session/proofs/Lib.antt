@@ -9,3 +9,6 @@ mod KeepingOn
 mod Covering
 mod Ascending
 mod Serving
+mod Ending
+mod InOrder
+mod HandingOut

@@ -26,7 +26,7 @@ pub plan_ascends : (s : SessionState) (now : ℕ) (plan : Plan) → IsAscending 
 plan_ascends s now plan before =
     let sent = filter_map sent_in (new_of s now plan) in
     within-drop (length (s.kept ++ sent) - 4096) 1 (s.next + length plan.messages) (s.kept ++ sent)
-      (within-append 1 s.next (s.next + length plan.messages) s.kept sent before (within-numbered plan.after.firm now s.next plan.messages))
+    (within-append 1 s.next (s.next + length plan.messages) s.kept sent before (within-numbered plan.after.firm now s.next plan.messages))
 
 pub plan_or_end_ascends : (s : SessionState) (now : ℕ) (plan : Plan) (over : Bool) → is_over s.next plan ≡ over → IsAscending s → IsAscending (session_behind s now (Go plan))
 plan_or_end_ascends s now plan true over before = rw over before

@@ -87,7 +87,7 @@ ServesWhatIsAsked = (firms : List FirmId) (given : List Response) (s : SessionSt
 abbrev pub WasSent : List Outbound → Outbound → Type 0
 WasSent before message =
     ((place : ℕ) × (one : Outbound) × (slice_get before place ≡ Some one) × (message.msg_seq_num ≡ one.msg_seq_num)
-      × (message.orig_sending_time ≡ Some one.sending_time) × (message.body ≡ one.body))
+    × (message.orig_sending_time ≡ Some one.sending_time) × (message.body ≡ one.body))
     ⊎ ((to : ℕ) × (message.body ≡ body.SequenceReset to) × (message.orig_sending_time ≡ Some message.sending_time))
 
 -- whatever a step of a session that was reached sends again was sent before, or is a gap fill

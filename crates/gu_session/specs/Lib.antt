@@ -16,3 +16,4 @@ pub mod Sending
 pub mod Steps
 pub mod Runs
 pub mod Laws
+pub mod Orders

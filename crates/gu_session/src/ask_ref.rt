@@ -23,7 +23,7 @@ impl Model for AskRef {
 
 impl AskRef {
     /// The reference of a message with this number.
-    pub fn new(number: SeqNum) -> Self
+    pub(crate) fn new(number: SeqNum) -> Self
         ensures { result ≡ number }
     {
         AskRef { number }

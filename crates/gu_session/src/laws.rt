@@ -1,6 +1,7 @@
 //! What holds of every session.
 
 ghost use Rattle.gu_session.specs.Laws.{AsksForTheGap, ClosedForGood, KeepsTheLastSent, NumbersGoUpByOne, ServesWhatIsAsked};
+ghost use Rattle.gu_session.specs.Orders.{CloseIsLast, ExpectedNeverFalls, HandsOutInOrder, NothingBeforeTheLogon};
 
 /// New messages are numbered 1, 2, 3 and so on, over every run.
 pub fn numbers_go_up_by_one()
@@ -25,4 +26,24 @@ pub fn closed_for_good()
 /// What is missing before a message is asked for, each time.
 pub fn asks_for_the_gap()
     ensures { AsksForTheGap }
+{}
+
+/// A session ends once at most, and gives nothing behind it.
+pub fn close_is_last()
+    ensures { CloseIsLast }
+{}
+
+/// Before a firm is logged on nothing is given but the end.
+pub fn nothing_before_the_logon()
+    ensures { NothingBeforeTheLogon }
+{}
+
+/// A step hands out at most one thing, with the number that was expected.
+pub fn hands_out_in_order()
+    ensures { HandsOutInOrder }
+{}
+
+/// The number that is expected never falls.
+pub fn expected_never_falls()
+    ensures { ExpectedNeverFalls }
 {}
