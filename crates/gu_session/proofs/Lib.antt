@@ -12,3 +12,4 @@ mod Serving
 mod Ending
 mod InOrder
 mod HandingOut
+mod Repeating

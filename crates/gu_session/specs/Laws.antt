@@ -1,5 +1,5 @@
 -- What holds of a session over every run. Each of these is the clause of a public function.
-use Rattle.std.specs.Prelude.{◌≡◌, ◌<◌, ◌≤◌, ◌+◌, ◌⊎◌, ℕ, true, false, List, [], ◌∷◌, length, slice_get, None, Some, codes, is_some, ⊤}
+use Rattle.std.specs.Prelude.{◌≡◌, ◌<◌, ◌≤◌, ◌+◌, ◌⊎◌, ℕ, true, false, List, [], ◌∷◌, length, None, Some, codes, is_some, ⊤}
 use Rattle.std.specs.List.{AllByRecursion, filter_map}
 use Rattle.circular_buffer.specs.Buffer.{keep_last}
 use Rattle.gu_terms.specs.declared.firm.FirmId.{FirmId}
@@ -83,12 +83,26 @@ abbrev pub ServesWhatIsAsked : Type 0
 ServesWhatIsAsked = (firms : List FirmId) (given : List Response) (s : SessionState) (firm : FirmId) (now : ℕ) (request : ResendRequest) →
     IsReached firms given s → IsServed s.next request (resent firm s.kept s.next now request)
 
--- a message that is sent again was sent before, with this number, moment and content; or it is a gap fill, marked with its own moment
+-- one of these messages is such
+abbrev pub IsAmong : (Outbound → Type 0) → List Outbound → Type 0
+IsAmong IsSuch [] = ⊥
+IsAmong IsSuch (message ∷ messages) = IsSuch message ⊎ IsAmong IsSuch messages
+
+-- a message is another once more: with its number, what it said, and the moment of its sending
+pub record IsOnceMore (message first : Outbound) : Type 0 where
+  pub number : message.msg_seq_num ≡ first.msg_seq_num
+  pub time : message.orig_sending_time ≡ Some first.sending_time
+  pub content : message.body ≡ first.body
+
+-- a gap fill, marked with its own moment
+pub record IsGapFill (message : Outbound) : Type 0 where
+  pub to : ℕ
+  pub content : message.body ≡ body.SequenceReset to
+  pub time : message.orig_sending_time ≡ Some message.sending_time
+
+-- a message is one of these once more, or a gap fill
 abbrev pub WasSent : List Outbound → Outbound → Type 0
-WasSent before message =
-    ((place : ℕ) × (one : Outbound) × (slice_get before place ≡ Some one) × (message.msg_seq_num ≡ one.msg_seq_num)
-    × (message.orig_sending_time ≡ Some one.sending_time) × (message.body ≡ one.body))
-    ⊎ ((to : ℕ) × (message.body ≡ body.SequenceReset to) × (message.orig_sending_time ≡ Some message.sending_time))
+WasSent before message = IsAmong (IsOnceMore message) before ⊎ IsGapFill message
 
 -- whatever a step of a session that was reached sends again was sent before, or is a gap fill
 abbrev pub ResendsWhatWasSent : Type 0

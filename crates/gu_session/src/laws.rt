@@ -1,6 +1,6 @@
 //! What holds of every session.
 
-ghost use Rattle.gu_session.specs.Laws.{AsksForTheGap, ClosedForGood, KeepsTheLastSent, NumbersGoUpByOne, ServesWhatIsAsked};
+ghost use Rattle.gu_session.specs.Laws.{AsksForTheGap, ClosedForGood, KeepsTheLastSent, NumbersGoUpByOne, ResendsWhatWasSent, ServesWhatIsAsked};
 ghost use Rattle.gu_session.specs.Orders.{CloseIsLast, ExpectedNeverFalls, HandsOutInOrder, NothingBeforeTheLogon};
 
 /// New messages are numbered 1, 2, 3 and so on, over every run.
@@ -46,4 +46,9 @@ pub fn hands_out_in_order()
 /// The number that is expected never falls.
 pub fn expected_never_falls()
     ensures { ExpectedNeverFalls }
+{}
+
+/// What a step sends again was sent before, or is a gap fill.
+pub fn resends_what_was_sent()
+    ensures { ResendsWhatWasSent }
 {}
