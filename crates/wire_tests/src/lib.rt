@@ -24,6 +24,8 @@ mod heartbeats;
 #[cfg(test)]
 mod history;
 #[cfg(test)]
+mod kept;
+#[cfg(test)]
 mod logons;
 #[cfg(test)]
 mod memory;

@@ -12,7 +12,7 @@ use crate::bodies::{body_again, body_in, body_out, frame_of, message_of};
 use crate::messages::wire;
 use crate::words::{notice_of, outcome_of, request_text};
 use crate::writing::{Values, sample};
-use gu_session::{AskRef, Asked, Input, Output, Session};
+use gu_session::{AskRef, Input, Output, Session};
 use gu_terms::{FirmId, Moment};
 use std::alloc::{AllocError, Global};
 
@@ -123,15 +123,25 @@ impl Talk {
         }
     }
 
+    /// What the session hands out next, in words, and its reference.
+    fn handed(&self, alloc: Global) -> Result<Option<(String, AskRef)>, AllocError> {
+        match self.given.last() {
+            Some(Output::Hand(asked)) => {
+                let text = request_text(alloc, &asked.what)?;
+                Ok(Some((text, asked.reference)))
+            }
+            _ => Ok(None),
+        }
+    }
+
     /// Whether the session hands this out next.
     fn hands(&mut self, alloc: Global, text: &str) -> Result<bool, AllocError> {
-        match self.given.pop() {
-            Some(Output::Hand(Asked { what, reference })) => {
-                self.asked = Some(reference);
-                Ok(request_text(alloc, &what)?.as_str() == text)
-            }
-            _ => Ok(false),
-        }
+        let Some((told, reference)) = self.handed(alloc)? else {
+            return Ok(false);
+        };
+        let _ = self.given.pop();
+        self.asked = Some(reference);
+        Ok(told.as_str() == text)
     }
 
     /// Whether the session ends next.
