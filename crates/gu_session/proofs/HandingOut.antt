@@ -34,7 +34,7 @@ use Rattle.gu_session.proofs.InOrder.{HandsNext, IsInOrder, frame_in_order}
 abbrev pub Takes : Option Standing → Course → Type 0
 Takes at Stay = Unit {0}
 Takes at Leave = Unit {0}
-Takes None (Go plan) = plan.handed ≡ None
+Takes None (Go plan) = (plan.handed ≡ None) × (1 ≤ plan.after.expected)
 Takes (Some at) (Go plan) = IsInOrder at.expected plan
 
 -- a choice of courses
@@ -69,12 +69,13 @@ takes-tick (Some at) sent_at now =
     (takes-if (Some at) (have_passed 1 at sent_at now) (Go (says at (body.Heartbeat None ∷ []))) Stay (record { hands = tt; on = omega arith }) tt)))
 
 -- logons
-pub nothing_handed-logged_on : (firm : FirmId) (number : ℕ) (m : Logon) (now : ℕ) (is_first : Bool) → (number == 1) ≡ is_first → (logged_on firm number m now).handed ≡ None
-nothing_handed-logged_on firm number m now true is = rw is refl
-nothing_handed-logged_on firm number m now false is = rw is refl
+pub begins-logged_on : (firm : FirmId) (number : ℕ) (m : Logon) (now : ℕ) (is_first : Bool) → (number == 1) ≡ is_first →
+    ((logged_on firm number m now).handed ≡ None) × (1 ≤ (logged_on firm number m now).after.expected)
+begins-logged_on firm number m now true is = rw is (refl, omega arith)
+begins-logged_on firm number m now false is = rw is (refl, omega arith)
 
 pub takes-logon : (now : ℕ) (number : Option ℕ) (firm : Option FirmId) (m : Option Logon) → Takes None (on_logon now number firm m)
-takes-logon now (Some number) (Some firm) (Some m) = nothing_handed-logged_on firm number m now (number == 1) refl
+takes-logon now (Some number) (Some firm) (Some m) = begins-logged_on firm number m now (number == 1) refl
 takes-logon now (Some number) (Some firm) None = tt
 takes-logon now (Some number) None m = tt
 takes-logon now None firm m = tt
@@ -116,7 +117,7 @@ next-none after None false none = tt
 next-none after (Some handed) ends none = absurd (cc)
 
 pub plan_next : (at : Option Standing) (plan : Plan) → Takes at (Go plan) → AreNext at (Some plan.after) (filter_map handed_reference (ending_of plan.handed plan.ends))
-plan_next None plan takes = next-none plan.after plan.handed plan.ends takes
+plan_next None plan takes = next-none plan.after plan.handed plan.ends takes.0
 plan_next (Some at) plan takes = next-one (Some at) plan.after plan.handed plan.ends at refl takes.hands
 
 pub over_next : (s : SessionState) (now : ℕ) (plan : Plan) (over : Bool) → is_over s.next plan ≡ over → Takes s.at (Go plan) →

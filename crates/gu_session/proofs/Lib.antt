@@ -13,3 +13,4 @@ mod Ending
 mod InOrder
 mod HandingOut
 mod Repeating
+mod AnsweringOnce

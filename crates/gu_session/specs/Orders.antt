@@ -1,13 +1,16 @@
 -- What holds of the order in which a session gives and hands out. Each law is the clause of a public function.
-use Rattle.std.specs.Prelude.{◌≡◌, ◌≤◌, ◌⊎◌, ◌+◌, ℕ, List, [], ◌∷◌, Option, None, Some, ⊤}
+use Rattle.std.specs.Prelude.{◌≡◌, ◌≤◌, ◌⊎◌, ◌+◌, ℕ, true, List, [], ◌∷◌, Option, None, Some, ⊤}
 use Rattle.std.specs.List.{filter_map}
 use Rattle.gu_terms.specs.declared.firm.FirmId.{FirmId}
+use Rattle.gu_session.specs.AnswerRules.{asked_by}
 use Rattle.gu_session.specs.Encoded.{Response, Sends, Hands, Closes}
 use Rattle.gu_session.specs.Laws.{IsReached}
 use Rattle.gu_session.specs.Runs.{handed_reference}
 use Rattle.gu_session.specs.States.{SessionState}
 use Rattle.gu_session.specs.Steps.{Steps}
 use Rattle.gu_session.specs.declared.input.Input.{Input}
+use Rattle.gu_session.specs.declared.input.Input.TheVariants.{Answer}
+use Rattle.gu_session.specs.declared.input.Outcome.{Outcome}
 use Rattle.gu_session.specs.declared.standing.Standing.{Standing}
 
 -- nothing stands behind an end
@@ -52,3 +55,22 @@ HandsOutInOrder = (old new : SessionState) (input : Input) (now : ℕ) (given : 
 abbrev pub ExpectedNeverFalls : Type 0
 ExpectedNeverFalls = (old new : SessionState) (input : Input) (now : ℕ) (given : List Response) (at after : Standing) → Steps old input now given new →
     old.at ≡ Some at → new.at ≡ Some after → at.expected ≤ after.expected
+
+-- references go up, from this one on
+abbrev pub AscendsFrom : ℕ → List ℕ → Type 0
+AscendsFrom low [] = ⊤
+AscendsFrom low (reference ∷ references) = (low ≤ reference) × AscendsFrom (reference + 1) references
+
+-- over every run the references of what is handed out go up, so that each is handed out once
+abbrev pub ReferencesGoUp : Type 0
+ReferencesGoUp = (firms : List FirmId) (given : List Response) (s : SessionState) → IsReached firms given s → AscendsFrom 1 (filter_map handed_reference given)
+
+-- an answer to what doesn't wait gives nothing; behind one that gives anything the question doesn't wait any more, unless the session ended
+pub record IsAnswered (old new : SessionState) (reference : ℕ) (given : List Response) : Type 0 where
+  pub unasked : asked_by reference old.waiting ≡ None → given ≡ []
+  pub settled : (given ≡ []) ⊎ (asked_by reference new.waiting ≡ None) ⊎ (new.is_closed ≡ true)
+
+-- each question is answered once
+abbrev pub OneAnswer : Type 0
+OneAnswer = (old new : SessionState) (reference : ℕ) (outcome : Outcome) (now : ℕ) (given : List Response) →
+    Steps old (Answer reference outcome) now given new → IsAnswered old new reference given

@@ -1,7 +1,7 @@
 //! What holds of every session.
 
 ghost use Rattle.gu_session.specs.Laws.{AsksForTheGap, ClosedForGood, KeepsTheLastSent, NumbersGoUpByOne, ResendsWhatWasSent, ServesWhatIsAsked};
-ghost use Rattle.gu_session.specs.Orders.{CloseIsLast, ExpectedNeverFalls, HandsOutInOrder, NothingBeforeTheLogon};
+ghost use Rattle.gu_session.specs.Orders.{CloseIsLast, ExpectedNeverFalls, HandsOutInOrder, NothingBeforeTheLogon, OneAnswer, ReferencesGoUp};
 
 /// New messages are numbered 1, 2, 3 and so on, over every run.
 pub fn numbers_go_up_by_one()
@@ -51,4 +51,14 @@ pub fn expected_never_falls()
 /// What a step sends again was sent before, or is a gap fill.
 pub fn resends_what_was_sent()
     ensures { ResendsWhatWasSent }
+{}
+
+/// Each reference is handed out once, over every run.
+pub fn references_go_up()
+    ensures { ReferencesGoUp }
+{}
+
+/// Each question is answered once.
+pub fn one_answer()
+    ensures { OneAnswer }
 {}
