@@ -60,6 +60,8 @@ pub use reject_reason::SessionRejectReason;
 pub use rejection::{Rejection, TradeReportRejectReason};
 pub use sending_firm::sender;
 pub use standard_header::Header;
+pub use tags::{NEW_SEQ_NO, SENDER_COMP_ID, TARGET_COMP_ID};
 pub use test_req_id::TestReqId;
 pub use type_code::TypeCode;
+pub use whole_number::{is_numeral, number_of};
 pub use writing::write;

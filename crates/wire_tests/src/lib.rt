@@ -1,10 +1,14 @@
-//! Tests of the words that all share, of frames and fields, and of typed messages.
+//! Tests of the words that all share, of frames and fields, of typed messages, and of sessions.
 #![tactic(auto)]
 
 #[cfg(test)]
 mod answering;
 #[cfg(test)]
 mod asking;
+#[cfg(test)]
+mod bodies;
+#[cfg(test)]
+mod commands;
 #[cfg(test)]
 mod cut;
 #[cfg(test)]
@@ -16,7 +20,13 @@ mod fields;
 #[cfg(test)]
 mod header;
 #[cfg(test)]
+mod heartbeats;
+#[cfg(test)]
 mod history;
+#[cfg(test)]
+mod kept;
+#[cfg(test)]
+mod logons;
 #[cfg(test)]
 mod memory;
 #[cfg(test)]
@@ -28,10 +38,20 @@ mod numbers;
 #[cfg(test)]
 mod reading;
 #[cfg(test)]
+mod rejects;
+#[cfg(test)]
 mod reports;
+#[cfg(test)]
+mod resends;
+#[cfg(test)]
+mod session;
 #[cfg(test)]
 mod tables;
 #[cfg(test)]
 mod takes;
+#[cfg(test)]
+mod talk;
+#[cfg(test)]
+mod words;
 #[cfg(test)]
 mod writing;

@@ -1,6 +1,7 @@
 //! Growths that are refused: run with each allocation failing in turn (`rt try --test --fail-alloc N`). A call that is
 //! refused leaves its value as it was, and passes when it is made again.
 use crate::messages::first_of;
+use crate::talk::wrong_line;
 use crate::{answering, asking, encoding, fields, header, reading, writing};
 use gu_fix::{Feed, Fields};
 use gu_terms::{Command, Cut, Day, Done, Entry, FirmId, History, LimitKey, OfferNo, Reply, Takes};
@@ -172,4 +173,34 @@ fn takes_entries_and_members_of_a_cut_are_added_again(rt: HostRuntime) {
     let mut cut = Cut::new(rt.alloc());
     assert_eq!(rt; bound_all(&mut cut, 20), Some((20, 1)));
     drop(cut);
+}
+
+/// A conversation in which something is handed out, answered, and sent again.
+const CONVERSATION: [&str; 15] = [
+    "in A 1 98=0|108=30|1137=9|",
+    "out A 1 98=0|108=30|1137=9|",
+    "in AE 3 571=R1|880=M1|55=XF6|32=10|31=101.5|552=1|54=1|1=H1|",
+    "out 2 2 7=2|16=0|",
+    "in AE 2 571=R1|880=M1|55=XF6|32=10|31=101.5|552=1|54=1|1=H1|",
+    "hand report",
+    "answer open",
+    "out AR 3 571=R1|880=M1|939=0|",
+    "in 2 3 7=1|16=0|",
+    "again 1 09:00:00.000 4 123=Y|36=3|",
+    "again 3 09:00:00.000 AR 571=R1|880=M1|939=0|",
+    "in AE 2 43=Y|571=R1|880=M1|55=XF6|32=10|31=101.5|552=1|54=1|1=H1|",
+    "in AE 2 571=R1|880=M1|55=XF6|32=10|31=101.5|552=1|54=1|1=H1|",
+    "out 5 4 58=SeqTooLow|",
+    "close",
+];
+
+#[test]
+fn a_session_that_is_refused_memory_goes_on_as_it_was(rt: HostRuntime) {
+    let first = wrong_line(rt.alloc(), &CONVERSATION);
+    let settled = if first.is_ok() {
+        first
+    } else {
+        wrong_line(rt.alloc(), &CONVERSATION)
+    };
+    assert_eq!(rt; settled, Ok(None));
 }

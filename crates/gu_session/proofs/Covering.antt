@@ -1,0 +1,66 @@
+-- Messages that are sent again stand for each number once.
+use Rattle.std.proofs.Common.{◌≡◌, inl, inr, ℕ, ◌+◌, ◌≤◌, Bool, cond, true, false, nat_lt, List, [], ◌∷◌, ◌++◌, refl, sym, subst, is_some, arith}
+use Rattle.std.proofs.lemmas.List.{append-nil}
+use Rattle.gu_terms.specs.declared.firm.FirmId.{FirmId}
+use Rattle.gu_msgs.specs.declared.outbound.Outbound.{Outbound}
+use Rattle.gu_session.specs.Applications.{application_of, body_of}
+use Rattle.gu_session.specs.Laws.{Covers, HasLongestRuns}
+use Rattle.gu_session.specs.Resending.{again, gap, gap_fill, with_gaps}
+use Rattle.gu_session.specs.declared.application.Application.{Application}
+use Rattle.gu_session.specs.declared.application.Application.TheVariants as application
+use Rattle.gu_session.specs.declared.kept.Sent.{Sent}
+
+-- what was kept is an application message
+pub is_application : (message : Application) → is_some (application_of (body_of message)) ≡ true
+is_application (application.BusinessMessageReject m) = refl
+is_application (application.TradeCaptureReportAck m) = refl
+is_application (application.AllocationInstructionAck m) = refl
+is_application (application.TradeCaptureReport m) = refl
+is_application (application.AllocationReport m) = refl
+is_application (application.RequestForPositionsAck m) = refl
+is_application (application.PositionReport m) = refl
+
+-- messages with ascending numbers from one up to another
+abbrev pub AreWithin : ℕ → ℕ → List Sent → Type 0
+AreWithin from to [] = from ≤ to
+AreWithin from to (sent ∷ later) = (from ≤ sent.number) × AreWithin (sent.number + 1) to later
+
+-- a gap fill, and what covers the numbers behind it
+pub gap_then : (firm : FirmId) (now from mid to : ℕ) (messages : List Outbound) → from ≤ mid → Covers mid to messages → Covers from to (gap firm now from mid ++ messages)
+gap_then firm now from mid to messages within rest =
+    elim (nat_lt from mid) as (λ (b : Bool). nat_lt from mid ≡ b → Covers from to (cond b (gap_fill firm now from mid ∷ []) [] ++ messages)) [
+      | true ↦ λ less. (refl, mid, inr (refl, grind (arith, less)), rest)
+      | false ↦ λ more. let same : from ≡ mid = grind (arith, more, within) in subst (λ (n : ℕ). Covers n to messages) (sym same) rest
+    ] refl
+
+-- what was kept, with gap fills between
+pub covers_with_gaps : (firm : FirmId) (now from to : ℕ) (kept : List Sent) → AreWithin from to kept → Covers from to (with_gaps firm now from to kept)
+covers_with_gaps firm now from to [] within = subst (λ (messages : List Outbound). Covers from to messages) (append-nil (gap firm now from to)) (gap_then firm now from to to [] within refl)
+covers_with_gaps firm now from to (sent ∷ later) (above, within) =
+    gap_then firm now from sent.number to (again firm now sent ∷ with_gaps firm now (sent.number + 1) to later) above
+    (refl, sent.number + 1, inl (is_application sent.message, refl), covers_with_gaps firm now (sent.number + 1) to later within)
+
+-- an application message in front
+pub longest-again : (message : Outbound) (messages : List Outbound) → is_some (application_of message.body) ≡ true → HasLongestRuns messages → HasLongestRuns (message ∷ messages)
+longest-again message [] kind rest = tt
+longest-again message (other ∷ messages) kind rest = (inl kind, rest)
+
+-- a gap fill in front of an application message
+pub longest-gap : (firm : FirmId) (now from to : ℕ) (message : Outbound) (messages : List Outbound) → is_some (application_of message.body) ≡ true →
+    HasLongestRuns (message ∷ messages) → HasLongestRuns (gap firm now from to ++ message ∷ messages)
+longest-gap firm now from to message messages kind rest =
+    elim (nat_lt from to) as (λ (b : Bool). HasLongestRuns (cond b (gap_fill firm now from to ∷ []) [] ++ message ∷ messages)) [
+      | true ↦ (inr kind, rest)
+      | false ↦ rest
+    ]
+
+-- gap fills are the longest
+pub longest_with_gaps : (firm : FirmId) (now from to : ℕ) (kept : List Sent) → HasLongestRuns (with_gaps firm now from to kept)
+longest_with_gaps firm now from to [] =
+    elim (nat_lt from to) as (λ (b : Bool). HasLongestRuns (cond b (gap_fill firm now from to ∷ []) [])) [
+      | true ↦ tt
+      | false ↦ tt
+    ]
+longest_with_gaps firm now from to (sent ∷ later) =
+    longest-gap firm now from sent.number (again firm now sent) (with_gaps firm now (sent.number + 1) to later) (is_application sent.message)
+    (longest-again (again firm now sent) (with_gaps firm now (sent.number + 1) to later) (is_application sent.message) (longest_with_gaps firm now (sent.number + 1) to later))

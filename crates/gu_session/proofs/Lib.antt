@@ -1,0 +1,16 @@
+mod RequestLemmas
+mod WalkLemmas
+mod OutputLemmas
+mod NumberLemmas
+mod StepLemmas
+mod Closing
+mod GoingOn
+mod KeepingOn
+mod Covering
+mod Ascending
+mod Serving
+mod Ending
+mod InOrder
+mod HandingOut
+mod Repeating
+mod AnsweringOnce

@@ -1,0 +1,32 @@
+-- How what a session gives is given, part by part.
+use Rattle.std.proofs.Common.{◌≡◌, ◌<◌, ◌+◌, ℕ, Bool, true, false, List, [], ◌∷◌, ◌++◌, Option, None, Some, map, length, take, get_or, refl}
+use Rattle.std.proofs.lemmas.List.{map_more}
+use Rattle.gu_msgs.specs.declared.outbound.Outbound.{Outbound}
+use Rattle.gu_session.specs.Encoded.{AreOutputs, IsOutput, Response, Sends}
+use Rattle.gu_session.specs.Given.{end_outputs, handed_outputs}
+use Rattle.gu_session.specs.Sending.{ending_of}
+use Rattle.gu_session.specs.declared.output.Output.{Output}
+use Rattle.gu_session.specs.declared.plan.Handed.{Handed}
+
+-- one part behind another
+pub AreOutputs-append : (responses more : List Response) (outputs others : List Output) → AreOutputs responses outputs → AreOutputs more others →
+    AreOutputs (responses ++ more) (outputs ++ others)
+AreOutputs-append [] more [] others first second = second
+AreOutputs-append [] more (output ∷ outputs) others first second = absurd first
+AreOutputs-append (response ∷ responses) more [] others first second = absurd first
+AreOutputs-append (response ∷ responses) more (output ∷ outputs) others first second =
+    (first.0, AreOutputs-append responses more outputs others first.1 second)
+
+-- what is handed out and the end
+pub ending_is_given : (handed : Option Handed) (ends : Bool) → AreOutputs (ending_of handed ends) (handed_outputs handed ++ end_outputs ends)
+ending_is_given None true = (tt, tt)
+ending_is_given None false = tt
+ending_is_given (Some handed) true = (refl, (tt, tt))
+ending_is_given (Some handed) false = (refl, tt)
+
+-- one message more
+pub one_more : (messages : List Outbound) (place : ℕ) (message : Outbound) (outputs : List Output) (output : Output) → place < length messages →
+    message ≡ get_or messages place message → AreOutputs (map Sends (take place messages)) outputs → IsOutput (Sends message) output →
+    AreOutputs (map Sends (take (place + 1) messages)) (outputs ++ output ∷ [])
+one_more messages place message outputs output within here so_far is =
+    rw (map_more Sends messages place message within, ← here) (AreOutputs-append (map Sends (take place messages)) (Sends message ∷ []) outputs (output ∷ []) so_far (is, tt))

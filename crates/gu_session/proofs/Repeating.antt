@@ -1,0 +1,169 @@
+-- What is sent again was sent before.
+use Rattle.std.proofs.Common.{◌≡◌, inl, inr, ℕ, ◌+◌, ◌-◌, Bool, cond, true, false, nat_lt, List, [], ◌∷◌, ◌++◌, map, filter, filter_map, drop, length, Option, None, Some, zero, suc, refl, ap, sym, subst, ◌∙◌}
+use Rattle.std.specs.List.{AllByRecursion, cons_option}
+use Rattle.std.proofs.lemmas.List.{append-nil, map-append}
+use Rattle.std.proofs.lemmas.List.Elements.{filter_map-append}
+use Rattle.gu_terms.specs.declared.firm.FirmId.{FirmId}
+use Rattle.gu_msgs.specs.declared.inbound.ResendRequest.{ResendRequest}
+use Rattle.gu_msgs.specs.declared.outbound.Body.{Body}
+use Rattle.gu_msgs.specs.declared.outbound.Body.TheVariants as body
+use Rattle.gu_msgs.specs.declared.outbound.Outbound.{Outbound}
+use Rattle.gu_session.specs.Applications.{application_of, body_of}
+use Rattle.gu_session.specs.Encoded.{Sends}
+use Rattle.gu_session.specs.Laws.{IsAmong, IsOnceMore, ResendsWhatWasSent, WasSent}
+use Rattle.gu_session.specs.Resending.{again, behind_last, gap, gap_fill, sent_within, with_gaps}
+use Rattle.gu_session.specs.Runs.{if_again, new_message, repeated_message}
+use Rattle.gu_session.specs.Sending.{ending_of, given_by, is_over, new_of, numbered, repeats_of, sent_in}
+use Rattle.gu_session.specs.States.{SessionState}
+use Rattle.gu_session.specs.Steps.{responses_of}
+use Rattle.gu_session.specs.declared.application.Application.{Application}
+use Rattle.gu_session.specs.declared.kept.Sent.{Sent}
+use Rattle.gu_session.specs.declared.plan.Course.{Course}
+use Rattle.gu_session.specs.declared.plan.Course.TheVariants.{Stay, Leave, Go}
+use Rattle.gu_session.specs.declared.plan.Handed.{Handed}
+use Rattle.gu_session.specs.declared.plan.Plan.{Plan}
+use Rattle.gu_session.proofs.KeepingOn.{keeps_the_last}
+
+-- a message that some is
+pub back : (known message : Application) → Some message ≡ Some known → body_of message ≡ body_of known
+back known message same = let one : message ≡ known = cc in ap body_of one
+
+-- an application message is the message that it is of
+pub body_of-application : (content : Body) (message : Application) → application_of content ≡ Some message → body_of message ≡ content
+body_of-application (body.Logon interval resets) message is = absurd (cc)
+body_of-application (body.Heartbeat id) message is = absurd (cc)
+body_of-application body.TestRequest message is = absurd (cc)
+body_of-application (body.ResendRequest from) message is = absurd (cc)
+body_of-application (body.Reject m) message is = absurd (cc)
+body_of-application (body.SequenceReset to) message is = absurd (cc)
+body_of-application (body.Logout reason) message is = absurd (cc)
+body_of-application (body.BusinessMessageReject m) message is = back _ message (sym is)
+body_of-application (body.TradeCaptureReportAck m) message is = back _ message (sym is)
+body_of-application (body.AllocationInstructionAck m) message is = back _ message (sym is)
+body_of-application (body.TradeCaptureReport m) message is = back _ message (sym is)
+body_of-application (body.AllocationReport m) message is = back _ message (sym is)
+body_of-application (body.RequestForPositionsAck m) message is = back _ message (sym is)
+body_of-application (body.PositionReport m) message is = back _ message (sym is)
+
+-- what is kept of a message
+pub record IsKeptOf (sent : Sent) (message : Outbound) : Type 0 where
+  pub number : sent.number ≡ message.msg_seq_num
+  pub time : sent.time ≡ message.sending_time
+  pub content : body_of sent.message ≡ message.body
+
+-- of each of these one message is kept
+abbrev pub AreKeptOf : List Outbound → List Sent → Type 0
+AreKeptOf messages kept = AllByRecursion (λ sent. IsAmong (IsKeptOf sent) messages) kept
+
+-- with one message more
+pub kept-more : (message : Outbound) (messages : List Outbound) (kept : List Sent) → AreKeptOf messages kept → AreKeptOf (message ∷ messages) kept
+kept-more message messages [] each = tt
+kept-more message messages (sent ∷ later) each = (inr each.0, kept-more message messages later each.1)
+
+-- what is kept of all
+pub kept-one : (message : Outbound) (messages : List Outbound) (found : Option Application) → application_of message.body ≡ found →
+    AreKeptOf messages (filter_map sent_in messages) → AreKeptOf (message ∷ messages) (filter_map sent_in (message ∷ messages))
+kept-one message messages None is rest = rw is (kept-more message messages (filter_map sent_in messages) rest)
+kept-one message messages (Some found) is rest =
+    rw is (inl (record { number = refl; time = refl; content = body_of-application message.body found is }), kept-more message messages (filter_map sent_in messages) rest)
+
+pub kept-all : (messages : List Outbound) → AreKeptOf messages (filter_map sent_in messages)
+kept-all [] = tt
+kept-all (message ∷ messages) = kept-one message messages (application_of message.body) refl (kept-all messages)
+
+-- the last of them, and those of a range
+pub kept-drop : (n : ℕ) (messages : List Outbound) (kept : List Sent) → AreKeptOf messages kept → AreKeptOf messages (drop n kept)
+kept-drop zero messages kept each = each
+kept-drop (suc n) messages [] each = tt
+kept-drop (suc n) messages (sent ∷ later) each = kept-drop n messages later each.1
+
+pub kept-filter : (test : Sent → Bool) (messages : List Outbound) (kept : List Sent) → AreKeptOf messages kept → AreKeptOf messages (filter test kept)
+kept-filter test messages [] each = tt
+kept-filter test messages (sent ∷ later) each =
+    elim (test sent) as (λ (b : Bool). AreKeptOf messages (cond b (sent ∷ filter test later) (filter test later))) [
+      | true ↦ (each.0, kept-filter test messages later each.1)
+      | false ↦ kept-filter test messages later each.1
+    ]
+
+-- what is kept of a message is that message once more
+pub among-again : (firm : FirmId) (now : ℕ) (sent : Sent) (messages : List Outbound) → IsAmong (IsKeptOf sent) messages → IsAmong (IsOnceMore (again firm now sent)) messages
+among-again firm now sent [] among = among
+among-again firm now sent (message ∷ messages) (inl here) = inl (record { number = here.number; time = ap (λ (n : ℕ). Some n) here.time; content = here.content })
+among-again firm now sent (message ∷ messages) (inr later) = inr (among-again firm now sent messages later)
+
+-- a gap fill before others
+pub sent-gap : (before : List Outbound) (firm : FirmId) (now from to : ℕ) (messages : List Outbound) → AllByRecursion (WasSent before) messages → AllByRecursion (WasSent before) (gap firm now from to ++ messages)
+sent-gap before firm now from to messages each =
+    elim (nat_lt from to) as (λ (b : Bool). AllByRecursion (WasSent before) (cond b (gap_fill firm now from to ∷ []) [] ++ messages)) [
+      | true ↦ (inr (record { to = to; content = refl; time = refl }), each)
+      | false ↦ each
+    ]
+
+pub sent-gaps : (before : List Outbound) (firm : FirmId) (now from to : ℕ) (kept : List Sent) → AreKeptOf before kept → AllByRecursion (WasSent before) (with_gaps firm now from to kept)
+sent-gaps before firm now from to [] each = subst (λ (messages : List Outbound). AllByRecursion (WasSent before) messages) (append-nil (gap firm now from to)) (sent-gap before firm now from to [] tt)
+sent-gaps before firm now from to (sent ∷ later) each =
+    sent-gap before firm now from sent.number (again firm now sent ∷ with_gaps firm now (sent.number + 1) to later)
+    (inl (among-again firm now sent before each.0), sent-gaps before firm now (sent.number + 1) to later each.1)
+
+-- what is seen of a message that was sent, before others
+pub one_seen : (before : List Outbound) (message : Outbound) (time : Option ℕ) (others : List Outbound) → WasSent before message → AllByRecursion (WasSent before) others →
+    AllByRecursion (WasSent before) (cons_option (if_again message time) others)
+one_seen before message None others was rest = rest
+one_seen before message (Some first) others was rest = (was, rest)
+
+pub repeated-all : (before messages : List Outbound) → AllByRecursion (WasSent before) messages → AllByRecursion (WasSent before) (filter_map repeated_message (map Sends messages))
+repeated-all before [] each = tt
+repeated-all before (message ∷ messages) each = one_seen before message message.orig_sending_time (filter_map repeated_message (map Sends messages)) each.0 (repeated-all before messages each.1)
+
+-- new messages aren't repeated
+pub none_repeated-numbered : (firm : FirmId) (now number : ℕ) (bodies : List Body) → filter_map repeated_message (map Sends (numbered firm now number bodies)) ≡ []
+none_repeated-numbered firm now number [] = refl
+none_repeated-numbered firm now number (content ∷ bodies) = none_repeated-numbered firm now (number + 1) bodies
+
+pub none_repeated-ending : (handed : Option Handed) (ends : Bool) → filter_map repeated_message (ending_of handed ends) ≡ []
+none_repeated-ending None true = refl
+none_repeated-ending None false = refl
+none_repeated-ending (Some one) true = refl
+none_repeated-ending (Some one) false = refl
+
+-- what a plan repeats
+pub repeated-plan : (s : SessionState) (now : ℕ) (plan : Plan) → filter_map repeated_message (given_by s now plan) ≡ filter_map repeated_message (map Sends (repeats_of s now plan))
+repeated-plan s now plan =
+    let repeats = repeats_of s now plan in
+    let new = new_of s now plan in
+    filter_map-append repeated_message (map Sends (repeats ++ new)) (ending_of plan.handed plan.ends)
+    ∙ ap (λ (messages : List Outbound). filter_map repeated_message (map Sends (repeats ++ new)) ++ messages) (none_repeated-ending plan.handed plan.ends)
+    ∙ append-nil (filter_map repeated_message (map Sends (repeats ++ new)))
+    ∙ ap (filter_map repeated_message) (map-append Sends repeats new)
+    ∙ filter_map-append repeated_message (map Sends repeats) (map Sends new)
+    ∙ ap (λ (messages : List Outbound). filter_map repeated_message (map Sends repeats) ++ messages) (none_repeated-numbered plan.after.firm now s.next plan.messages)
+    ∙ append-nil (filter_map repeated_message (map Sends repeats))
+
+pub sent-repeats : (before : List Outbound) (s : SessionState) (now : ℕ) (plan : Plan) (request : Option ResendRequest) → plan.again ≡ request → AreKeptOf before s.kept →
+    AllByRecursion (WasSent before) (repeats_of s now plan)
+sent-repeats before s now plan None is each = rw is tt
+sent-repeats before s now plan (Some request) is each =
+    let to = behind_last s.next request.end_seq_no in
+    rw is (sent-gaps before plan.after.firm now request.begin_seq_no to (sent_within request.begin_seq_no to s.kept) (kept-filter _ before s.kept each))
+
+pub sent-plan : (before : List Outbound) (s : SessionState) (now : ℕ) (plan : Plan) (over : Bool) → is_over s.next plan ≡ over → AreKeptOf before s.kept →
+    AllByRecursion (WasSent before) (filter_map repeated_message (responses_of s now (Go plan)))
+sent-plan before s now plan true over each = rw over tt
+sent-plan before s now plan false over each =
+    rw (over, repeated-plan s now plan) (repeated-all before (repeats_of s now plan) (sent-repeats before s now plan plan.again refl each))
+
+pub sent-course : (before : List Outbound) (s : SessionState) (now : ℕ) (course : Course) → AreKeptOf before s.kept →
+    AllByRecursion (WasSent before) (filter_map repeated_message (responses_of s now course))
+sent-course before s now Stay each = tt
+sent-course before s now Leave each = tt
+sent-course before s now (Go plan) each = sent-plan before s now plan (is_over s.next plan) refl each
+
+pub resends : ResendsWhatWasSent
+resends firms before given s new input now reached steps =
+    let messages = filter_map new_message before in
+    let kept : AreKeptOf messages s.kept = subst (λ (kept : List Sent). AreKeptOf messages kept) (sym (keeps_the_last firms before s reached))
+    (kept-drop (length (filter_map sent_in messages) - 4096) messages (filter_map sent_in messages) (kept-all messages)) in
+    elim steps as (λ _. AllByRecursion (WasSent messages) (filter_map repeated_message given)) [
+      | inl closed ↦ rw closed.gives tt
+      | inr other ↦ rw other.gives (sent-course messages s now other.course kept)
+    ]

@@ -1,0 +1,39 @@
+-- What a step does, before numbers are given.
+use Rattle.std.specs.Prelude.{true, false, ℕ, List, [], Option, None, Some}
+use Rattle.gu_msgs.specs.declared.asking.Question.{Question}
+use Rattle.gu_msgs.specs.declared.asking.Request.{Request}
+use Rattle.gu_msgs.specs.declared.inbound.ResendRequest.{ResendRequest}
+use Rattle.gu_msgs.specs.declared.outbound.Body.{Body}
+use Rattle.gu_session.specs.declared.plan.Plan.{Plan}
+use Rattle.gu_session.specs.declared.standing.Standing.{Standing}
+
+-- nothing is sent
+abbrev pub quiet : Standing → Plan
+quiet at = record { after = at; again = None; messages = []; handed = None; answered = None; ends = false }
+
+-- new messages
+abbrev pub says : Standing → List Body → Plan
+says at messages = record { after = at; again = None; messages = messages; handed = None; answered = None; ends = false }
+
+-- new messages, and the end
+abbrev pub leaves : Standing → List Body → Plan
+leaves at messages = record { after = at; again = None; messages = messages; handed = None; answered = None; ends = true }
+
+-- what was asked for again, then new messages
+abbrev pub repeats : Standing → Option ResendRequest → List Body → Plan
+repeats at again messages = record { after = at; again = again; messages = messages; handed = None; answered = None; ends = false }
+
+-- what a message of this number asks for is handed out
+abbrev pub hands : Standing → ℕ → Request → Question → Plan
+hands at number request question = record {
+  after = at;
+  again = None;
+  messages = [];
+  handed = Some (record { request = request; waiting = record { reference = number; question = question } });
+  answered = None;
+  ends = false;
+}
+
+-- the messages that answer a question
+abbrev pub answers : Standing → ℕ → List Body → Plan
+answers at reference messages = record { after = at; again = None; messages = messages; handed = None; answered = Some reference; ends = false }

@@ -1,0 +1,52 @@
+-- What is sent again where a firm asks for messages once more (FIXT 1.1, Message Recovery).
+use Rattle.std.specs.Prelude.{ℕ, ◌+◌, ◌==◌, ◌&&◌, nat_le, nat_lt, min, List, [], ◌∷◌, ◌++◌, filter, Some, if◌then◌else◌}
+use Rattle.gu_terms.specs.declared.firm.FirmId.{FirmId}
+use Rattle.gu_msgs.specs.declared.inbound.ResendRequest.{ResendRequest}
+use Rattle.gu_msgs.specs.declared.outbound.Body.TheVariants as body
+use Rattle.gu_msgs.specs.declared.outbound.Outbound.{Outbound}
+use Rattle.gu_session.specs.Applications.{body_of}
+use Rattle.gu_session.specs.declared.kept.Sent.{Sent}
+
+-- a message that was kept once more: with its number, what it said, and the moment of its first sending
+abbrev pub again : FirmId → ℕ → Sent → Outbound
+again firm now sent = record {
+  firm = firm;
+  msg_seq_num = sent.number;
+  sending_time = now;
+  orig_sending_time = Some sent.time;
+  body = body_of sent.message;
+}
+
+-- a gap fill that stands for all numbers from one up to another
+abbrev pub gap_fill : FirmId → ℕ → ℕ → ℕ → Outbound
+gap_fill firm now from to = record {
+  firm = firm;
+  msg_seq_num = from;
+  sending_time = now;
+  orig_sending_time = Some now;
+  body = body.SequenceReset to;
+}
+
+-- one gap fill for a run of numbers, and nothing for none
+abbrev pub gap : FirmId → ℕ → ℕ → ℕ → List Outbound
+gap firm now from to = if nat_lt from to then gap_fill firm now from to ∷ [] else []
+
+-- each message once more, and a gap fill for each run of numbers before, between and behind them
+abbrev pub with_gaps : FirmId → ℕ → ℕ → ℕ → List Sent → List Outbound
+with_gaps firm now from to [] = gap firm now from to
+with_gaps firm now from to (sent ∷ later) =
+    gap firm now from sent.number ++ again firm now sent ∷ with_gaps firm now (sent.number + 1) to later
+
+-- the number behind the last that is asked for: 0, or a number that wasn't sent, stands for the last that was
+abbrev pub behind_last : ℕ → ℕ → ℕ
+behind_last next last = if last == 0 then next else min (last + 1) next
+
+-- the messages with numbers from one up to another
+abbrev pub sent_within : ℕ → ℕ → List Sent → List Sent
+sent_within from to kept = filter (λ (sent : Sent). nat_le from sent.number && nat_lt sent.number to) kept
+
+-- what is sent again for a request, where these messages are kept and this number is the next to send
+abbrev pub resent : FirmId → List Sent → ℕ → ℕ → ResendRequest → List Outbound
+resent firm kept next now request =
+    let to = behind_last next request.end_seq_no in
+    with_gaps firm now request.begin_seq_no to (sent_within request.begin_seq_no to kept)

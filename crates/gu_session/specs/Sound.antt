@@ -1,0 +1,20 @@
+-- Machinery: what holds of the fields of a session. No other crate names this file.
+use Rattle.std.specs.Prelude.{◌≡◌, ◌≤◌, ℕ, List, [], ◌++◌, Option, None, Some}
+use Rattle.circular_buffer.specs.Buffer.{Buffer, buffer, keep_last}
+use Rattle.gu_session.specs.declared.kept.Sent.{Sent}
+use Rattle.gu_session.specs.declared.standing.Standing.{Standing}
+
+-- nothing is kept before a firm is logged on, and there is room for 4,096 messages once it is
+abbrev pub HasRoom : Option Standing → Buffer Sent → Type 0
+HasRoom None kept = kept.items ≡ []
+HasRoom (Some at) kept = kept.capacity ≡ 4096
+
+-- the next number is one that a message can have, or the one behind the greatest
+pub record IsSound (at : Option Standing) (next : ℕ) (kept : Buffer Sent) : Type 0 where
+  pub some : 1 ≤ next
+  pub most : next ≤ 1000000001
+  pub room : HasRoom at kept
+
+-- what was kept, and these messages behind it, the last that there is room for
+abbrev pub extended : Buffer Sent → List Sent → Buffer Sent
+extended kept sent = buffer (keep_last kept.capacity (kept.items ++ sent)) kept.capacity

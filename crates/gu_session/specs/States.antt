@@ -1,0 +1,21 @@
+-- How a session stands between its inputs.
+use Rattle.std.specs.Prelude.{ℕ, Bool, false, List, [], Option, None}
+use Rattle.gu_terms.specs.declared.firm.FirmId.{FirmId}
+use Rattle.gu_session.specs.declared.kept.Sent.{Sent}
+use Rattle.gu_session.specs.declared.standing.Standing.{Standing}
+use Rattle.gu_session.specs.declared.standing.Waiting.{Waiting}
+
+-- a session: the firms that may log on, how it stands once one has, and what sending, handing out and closing change: the next number to
+-- send, the moment of the last sending, the last application messages that were sent, what isn't answered, and whether it is closed
+pub record SessionState : Type 0 where
+  pub firms : List FirmId
+  pub at : Option Standing
+  pub next : ℕ
+  pub sent_at : ℕ
+  pub kept : List Sent
+  pub waiting : List Waiting
+  pub is_closed : Bool
+
+-- a session before its first input
+abbrev pub new_session : List FirmId → SessionState
+new_session firms = record { firms = firms; at = None; next = 1; sent_at = 0; kept = []; waiting = []; is_closed = false }

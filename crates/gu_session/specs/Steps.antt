@@ -1,0 +1,78 @@
+-- One step of a session: what an input gives, and the session that it leaves.
+use Rattle.std.specs.Prelude.{◌≡◌, ◌⊎◌, ℕ, true, false, List, [], ◌∷◌, Option, None, Some, if◌then◌else◌}
+use Rattle.std.specs.Option.{option_map_or}
+use Rattle.gu_terms.specs.declared.firm.FirmId.{FirmId}
+use Rattle.gu_session.specs.AnswerRules.{on_answer, on_notice}
+use Rattle.gu_session.specs.Encoded.{AreOutputs, Response, Closes}
+use Rattle.gu_session.specs.FrameRules.{frame_plan}
+use Rattle.gu_session.specs.Hearing.{Hears}
+use Rattle.gu_session.specs.Logons.{logon_course}
+use Rattle.gu_session.specs.Sending.{behind, closed, given_by, is_over}
+use Rattle.gu_session.specs.States.{SessionState}
+use Rattle.gu_session.specs.TimeRules.{on_tick}
+use Rattle.gu_session.specs.declared.heard.Heard.{Heard}
+use Rattle.gu_session.specs.declared.input.Input.{Input}
+use Rattle.gu_session.specs.declared.input.Input.TheVariants.{Frame, Notice, Answer, Tick, End}
+use Rattle.gu_session.specs.declared.output.Output.{Output}
+use Rattle.gu_session.specs.declared.plan.Course.{Course}
+use Rattle.gu_session.specs.declared.plan.Course.TheVariants.{Stay, Leave, Go}
+use Rattle.gu_session.specs.declared.standing.Standing.{Standing}
+
+-- how a session stands once a frame is heard, whatever it says
+abbrev pub at_frame : Standing → ℕ → Standing
+at_frame at now = record at { heard_at = now; is_tested = false }
+
+-- what is done on a frame
+abbrev pub frame_course : List FirmId → Option Standing → Heard → ℕ → Course
+frame_course firms None heard now = logon_course firms heard now
+frame_course firms (Some at) heard now = Go (frame_plan (at_frame at now) heard)
+
+-- what is done on a frame: what its bytes say decides
+pub record IsFrameCourse (firms : List FirmId) (at : Option Standing) (bytes : List ℕ) (now : ℕ) (course : Course) : Type 0 where
+  pub heard : Heard
+  pub hears : Hears bytes heard
+  pub course_is : course ≡ frame_course firms at heard now
+
+-- what is done on an input; notices, answers and time do nothing before a firm is logged on
+abbrev pub IsCourse : SessionState → Input → ℕ → Course → Type 0
+IsCourse s (Frame bytes) now course = IsFrameCourse s.firms s.at bytes now course
+IsCourse s (Notice notice) now course = course ≡ option_map_or (λ at. on_notice at notice) s.at Stay
+IsCourse s (Answer reference outcome) now course = course ≡ option_map_or (λ at. on_answer at s.waiting reference outcome) s.at Stay
+IsCourse s Tick now course = course ≡ option_map_or (λ at. on_tick at s.sent_at now) s.at Stay
+IsCourse s End now course = course ≡ Leave
+
+-- what a course gives; a plan that needs a number above the greatest gives the end alone
+abbrev pub responses_of : SessionState → ℕ → Course → List Response
+responses_of s now Stay = []
+responses_of s now Leave = Closes ∷ []
+responses_of s now (Go plan) = if is_over s.next plan then Closes ∷ [] else given_by s now plan
+
+-- the session that a course leaves
+abbrev pub session_behind : SessionState → ℕ → Course → SessionState
+session_behind s now Stay = s
+session_behind s now Leave = closed s
+session_behind s now (Go plan) = if is_over s.next plan then closed s else behind s now plan
+
+-- a step of an open session
+pub record StepsOpen (old : SessionState) (input : Input) (now : ℕ) (given : List Response) (new : SessionState) : Type 0 where
+  pub is_open : old.is_closed ≡ false
+  pub course : Course
+  pub is_course : IsCourse old input now course
+  pub gives : given ≡ responses_of old now course
+  pub leaves : new ≡ session_behind old now course
+
+-- a step of a closed one gives nothing
+pub record StepsClosed (old : SessionState) (given : List Response) (new : SessionState) : Type 0 where
+  pub is_closed : old.is_closed ≡ true
+  pub gives : given ≡ []
+  pub leaves : new ≡ old
+
+-- one step of a session
+abbrev pub Steps : SessionState → Input → ℕ → List Response → SessionState → Type 0
+Steps old input now given new = StepsClosed old given new ⊎ StepsOpen old input now given new
+
+-- a step, and how all that it gives is given
+pub record StepsWith (old : SessionState) (input : Input) (now : ℕ) (outputs : List Output) (new : SessionState) : Type 0 where
+  pub given : List Response
+  pub steps : Steps old input now given new
+  pub are_outputs : AreOutputs given outputs

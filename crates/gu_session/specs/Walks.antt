@@ -1,0 +1,21 @@
+-- Machinery: what is sent again and what is new, message by message. No other crate names this file.
+use Rattle.std.specs.Prelude.{ℕ, ◌+◌, ◌&&◌, nat_le, nat_lt, List, [], ◌∷◌, ◌++◌, None, if◌then◌else◌}
+use Rattle.gu_terms.specs.declared.firm.FirmId.{FirmId}
+use Rattle.gu_msgs.specs.declared.outbound.Body.{Body}
+use Rattle.gu_msgs.specs.declared.outbound.Outbound.{Outbound}
+use Rattle.gu_session.specs.Resending.{again, gap}
+use Rattle.gu_session.specs.declared.kept.Sent.{Sent}
+
+-- what a message adds, where what comes before this number was sent: itself and the run before it, if it is asked for
+abbrev pub asked_now : FirmId → ℕ → ℕ → ℕ → ℕ → Sent → List Outbound
+asked_now firm now from to at sent =
+    if nat_le from sent.number && nat_lt sent.number to then gap firm now at sent.number ++ again firm now sent ∷ [] else []
+
+-- the number behind what was sent with it
+abbrev pub at_behind : ℕ → ℕ → ℕ → Sent → ℕ
+at_behind from to at sent = if nat_le from sent.number && nat_lt sent.number to then sent.number + 1 else at
+
+-- a message that is sent for the first time
+abbrev pub new_message : FirmId → ℕ → ℕ → Body → Outbound
+new_message firm now number body =
+    record { firm = firm; msg_seq_num = number; sending_time = now; orig_sending_time = None; body = body }

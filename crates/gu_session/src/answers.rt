@@ -1,0 +1,115 @@
+//! Answers to what was handed out, and notices.
+
+ghost use Rattle.std.specs.Prelude.{◌≡◌, IfOk};
+ghost use Rattle.gu_session.specs.AnswerRules.{answer_messages, asked_by, command_messages, entered, on_answer, on_notice};
+ghost use Rattle.gu_session.specs.declared.input.Outcome.TheVariants.{Replied};
+
+use crate::ask_ref::AskRef;
+use crate::input::{Failure, Outcome};
+use crate::messages::Messages;
+use crate::plan::{Course, Plan};
+use crate::standing::{Standing, Waiting};
+use gu_msgs::{Question, Rejection, notice_body, positions_answer};
+use gu_terms::{Notice, Reply};
+use std::alloc::{AllocError, Global};
+
+/// What became of a command, by the reply to it.
+fn replied(question: Question, reply: Reply) -> Option<Option<Rejection>>
+    ensures { result ≡ entered question (Replied reply) }
+{
+    match reply {
+        Reply::Accepted(done) => {
+            if question.is_done(done) {
+                Some(None)
+            } else {
+                None
+            }
+        }
+        Reply::Denied(refusal) => Some(Some(Rejection::Refused(refusal))),
+    }
+}
+
+/// What became of a command.
+fn entered(question: Question, outcome: &Outcome) -> Option<Option<Rejection>>
+    ensures { result ≡ entered question outcome.now }
+{
+    match outcome {
+        Outcome::Replied(reply) => replied(question, *reply),
+        Outcome::Failed(Failure::Memory) => Some(Some(Rejection::Memory)),
+        Outcome::Failed(Failure::Full) => Some(Some(Rejection::Full)),
+        Outcome::Positions(_) => None,
+    }
+}
+
+/// The answer to a command that the message with this number asked for.
+fn command_messages(
+    alloc: Global,
+    question: Question,
+    number: u64,
+    outcome: &Outcome,
+) -> Result<Option<Messages>, AllocError>
+    ensures { IfOk result (λ messages. messages ≡ command_messages question number outcome.now) }
+{
+    let Some(why) = entered(question, outcome) else {
+        return Ok(None);
+    };
+    Ok(Some(Messages::of_option(alloc, question.answer(number, why))?))
+}
+
+/// The answer to what the message with this number asked for, where the outcome is of its kind.
+fn answer_messages(
+    alloc: Global,
+    question: Question,
+    number: u64,
+    outcome: &Outcome,
+) -> Result<Option<Messages>, AllocError>
+    ensures { IfOk result (λ messages. messages ≡ answer_messages question number outcome.now) }
+{
+    let Question::Positions(request) = question else {
+        return command_messages(alloc, question, number, outcome);
+    };
+    match outcome {
+        Outcome::Positions(rows) => {
+            Ok(Some(Messages::of(positions_answer(alloc, &request, rows)?)))
+        }
+        _ => Ok(None),
+    }
+}
+
+/// The question with this reference.
+fn asked_by(reference: AskRef, waiting: &[Waiting]) -> Option<Waiting>
+    ensures { result ≡ asked_by reference waiting.now }
+{
+    for one in waiting {
+        if one.reference == reference {
+            return Some(*one);
+        }
+    }
+    None
+}
+
+/// What is done on an answer.
+pub fn on_answer(
+    alloc: Global,
+    at: &Standing,
+    waiting: &[Waiting],
+    reference: AskRef,
+    outcome: &Outcome,
+) -> Result<Course, AllocError>
+    ensures { IfOk result (λ course. course ≡ on_answer at.now waiting.now reference outcome.now) }
+{
+    let Some(one) = asked_by(reference, waiting) else {
+        return Ok(Course::Stay);
+    };
+    match answer_messages(alloc, one.question, one.reference.get(), outcome)? {
+        Some(messages) => Ok(Course::Go(Plan::answers(at, reference, messages))),
+        None => Ok(Course::Stay),
+    }
+}
+
+/// What is done on a notice.
+pub fn on_notice(alloc: Global, at: &Standing, notice: &Notice) -> Result<Course, AllocError>
+    ensures { IfOk result (λ course. course ≡ on_notice at.now notice.now) }
+{
+    Ok(Course::Go(Plan::says(alloc, at, notice_body(notice))?))
+}

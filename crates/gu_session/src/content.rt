@@ -1,0 +1,153 @@
+//! Frames whose number was expected, by what they say.
+
+ghost use Rattle.std.specs.Prelude.{◌≡◌, IfOk};
+ghost use Rattle.gu_msgs.specs.declared.coded_values.BusinessRejectReason.TheVariants.{UnsupportedMessageType};
+ghost use Rattle.gu_msgs.specs.declared.outbound.Body.TheVariants as body;
+ghost use Rattle.gu_session.specs.FrameRules.{as_expected, is_sender, on_content, on_gap_fill, on_message, on_request, wrong_party};
+
+use crate::heard::{Heading, Heard};
+use crate::messages::Messages;
+use crate::plan::Plan;
+use crate::rejecting::reject;
+use crate::seq_num::SeqNum;
+use crate::standing::Standing;
+use gu_msgs::outbound::{Body, BusinessMessageReject};
+use gu_msgs::{
+    BusinessRejectReason, Fault, Inbound, LogoutReason, NEW_SEQ_NO, Question, Request,
+    SENDER_COMP_ID, SessionRejectReason, TARGET_COMP_ID, TypeCode,
+};
+use gu_terms::FirmId;
+use std::alloc::{AllocError, Global};
+
+/// Whether this firm is the sender.
+pub fn is_sender(firm: &FirmId, sender: &Option<FirmId>) -> bool
+    ensures { result ≡ is_sender firm.now sender.now }
+{
+    match sender {
+        Some(named) => named.get() == firm.get(),
+        None => false,
+    }
+}
+
+/// The tag of the first party that is wrong.
+fn wrong_party(firm: &FirmId, heading: &Heading) -> Option<u32>
+    ensures { result ≡ wrong_party firm.now heading.now }
+{
+    if !is_sender(firm, &heading.sender) {
+        return Some(SENDER_COMP_ID);
+    }
+    if heading.is_to_house {
+        None
+    } else {
+        Some(TARGET_COMP_ID)
+    }
+}
+
+/// A gap fill up to a number.
+fn on_gap_fill(
+    alloc: Global,
+    at: &Standing,
+    heading: &Heading,
+    number: SeqNum,
+    to: u64,
+) -> Result<Plan, AllocError>
+    ensures { IfOk result (λ plan. plan ≡ on_gap_fill at.now heading.now number to) }
+{
+    if number.get() < to {
+        let after = Standing {
+            expected: to,
+            ..*at
+        };
+        return Ok(Plan::quiet(alloc, &after));
+    }
+    let reason = SessionRejectReason::ValueIsIncorrect;
+    Plan::says(alloc, at, reject(heading, number, NEW_SEQ_NO, reason))
+}
+
+/// What a message asks for is handed out.
+fn on_request(
+    alloc: Global,
+    at: &Standing,
+    number: SeqNum,
+    request: Option<Request>,
+    question: Option<Question>,
+) -> Plan
+    ensures { result ≡ on_request at.now number request question }
+{
+    match (request, question) {
+        (Some(request), Some(question)) => Plan::hands(alloc, at, number, request, question),
+        _ => Plan::quiet(alloc, at),
+    }
+}
+
+/// The answer to a message of a type that isn't read.
+fn unsupported(number: SeqNum, code: TypeCode) -> Body
+    ensures { result ≡ body.BusinessMessageReject (record { ref_seq_num = number; reason = UnsupportedMessageType code }) }
+{
+    Body::BusinessMessageReject(BusinessMessageReject {
+        ref_seq_num: number.get(),
+        reason: BusinessRejectReason::UnsupportedMessageType(code),
+    })
+}
+
+/// A sound message.
+fn on_message(
+    alloc: Global,
+    at: &Standing,
+    heading: &Heading,
+    number: SeqNum,
+    message: Inbound,
+) -> Result<Plan, AllocError>
+    ensures { IfOk result (λ plan. plan ≡ on_message at.now heading.now number message) }
+{
+    match message {
+        Inbound::Heartbeat | Inbound::Reject => Ok(Plan::quiet(alloc, at)),
+        Inbound::TestRequest(m) => { Plan::says(alloc, at, Body::Heartbeat(Some(m.test_req_id))) }
+        Inbound::ResendRequest(m) => Ok(Plan::repeats(at, Some(m), Messages::none(alloc))),
+        Inbound::SequenceReset(m) => on_gap_fill(alloc, at, heading, number, m.new_seq_no),
+        Inbound::Logout => Plan::leaves_with(alloc, at, Body::Logout(None)),
+        Inbound::Logon(_) => {
+            Plan::leaves_with(alloc, at, Body::Logout(Some(LogoutReason::LoggedOn)))
+        }
+        Inbound::Unread(code) => Plan::says(alloc, at, unsupported(number, code)),
+        message => {
+            let question = message.question();
+            Ok(on_request(alloc, at, number, message.request(at.firm), question))
+        }
+    }
+}
+
+/// A message of the right parties, or its fault.
+fn on_content(
+    alloc: Global,
+    at: &Standing,
+    heading: &Heading,
+    number: SeqNum,
+    content: Result<Inbound, Fault>,
+) -> Result<Plan, AllocError>
+    ensures { IfOk result (λ plan. plan ≡ on_content at.now heading.now number content) }
+{
+    match content {
+        Ok(message) => on_message(alloc, at, heading, number, message),
+        Err(fault) => Plan::says(alloc, at, reject(heading, number, fault.tag, fault.reason)),
+    }
+}
+
+/// What is done on a frame whose number was expected.
+pub fn as_expected(
+    alloc: Global,
+    at: &Standing,
+    heard: Heard,
+    number: SeqNum,
+) -> Result<Plan, AllocError>
+    ensures { IfOk result (λ plan. plan ≡ as_expected at.now heard number) }
+{
+    let Heard { heading, content } = heard;
+    let Some(tag) = wrong_party(&at.firm, &heading) else {
+        return on_content(alloc, at, &heading, number, content);
+    };
+    let first = reject(&heading, number, tag, SessionRejectReason::CompIdProblem);
+    let second = Body::Logout(Some(LogoutReason::CompId));
+    let messages = Messages::two(alloc, first, second)?;
+    Ok(Plan::leaves(at, messages))
+}

@@ -1,0 +1,110 @@
+//! What is done on an input.
+
+ghost use Rattle.std.specs.Prelude.{◌≡◌, IfOk};
+ghost use Rattle.std.specs.Option.{option_map_or};
+ghost use Rattle.gu_session.specs.AnswerRules.{on_answer, on_notice};
+ghost use Rattle.gu_session.specs.Hearing.{Hears};
+ghost use Rattle.gu_session.specs.Steps.{IsFrameCourse, at_frame, frame_course};
+ghost use Rattle.gu_session.specs.TimeRules.{on_tick};
+ghost use Rattle.gu_session.specs.declared.plan.Course.TheVariants.{Stay};
+ghost use Rattle.gu_session.specs.declared.standing.Standing.{Standing as StandingOf};
+
+use crate::answers::{on_answer, on_notice};
+use crate::ask_ref::AskRef;
+use crate::heard::Heard;
+use crate::hearing::hear;
+use crate::heartbeat::on_tick;
+use crate::input::Outcome;
+use crate::logon::logon_course;
+use crate::plan::Course;
+use crate::sequence::frame_plan;
+use crate::standing::{Standing, Waiting};
+use gu_fix::Frame;
+use gu_terms::{FirmId, Moment, Notice};
+use std::alloc::{AllocError, Global};
+
+/// How a session stands once it hears a frame.
+fn at_frame(at: &Standing, now: Moment) -> Standing
+    ensures { result ≡ at_frame at.now now }
+{
+    Standing {
+        heard_at: now,
+        is_tested: false,
+        ..*at
+    }
+}
+
+/// What is done on a frame that says this.
+fn heard_course(
+    alloc: Global,
+    firms: &[FirmId],
+    at: &Option<Standing>,
+    heard: Heard,
+    now: Moment,
+) -> Result<Course, AllocError>
+    ensures { IfOk result (λ course. course ≡ frame_course firms.now at.now heard now) }
+{
+    match at {
+        Some(at) => Ok(Course::Go(frame_plan(alloc, &at_frame(at, now), heard)?)),
+        None => logon_course(alloc, firms, &heard, now),
+    }
+}
+
+/// What is done on a frame.
+pub fn frame_course(
+    alloc: Global,
+    firms: &[FirmId],
+    at: &Option<Standing>,
+    frame: &Frame,
+    now: Moment,
+) -> Result<Course, AllocError>
+    ensures { IfOk result (IsFrameCourse firms.now at.now frame.now now) }
+{
+    let heard = hear(alloc, frame)?;
+    heard_course(alloc, firms, at, heard, now)
+}
+
+/// What is done on a notice.
+pub fn notice_course(
+    alloc: Global,
+    at: &Option<Standing>,
+    notice: &Notice,
+) -> Result<Course, AllocError>
+    ensures { IfOk result (λ course. course ≡ option_map_or (λ (at : StandingOf). on_notice at notice.now) at.now Stay) }
+{
+    match at {
+        Some(at) => on_notice(alloc, at, notice),
+        None => Ok(Course::Stay),
+    }
+}
+
+/// What is done on an answer.
+pub fn answer_course(
+    alloc: Global,
+    at: &Option<Standing>,
+    waiting: &[Waiting],
+    reference: AskRef,
+    outcome: &Outcome,
+) -> Result<Course, AllocError>
+    ensures { IfOk result (λ course. course ≡ option_map_or (λ (at : StandingOf). on_answer at waiting.now reference outcome.now) at.now Stay) }
+{
+    match at {
+        Some(at) => on_answer(alloc, at, waiting, reference, outcome),
+        None => Ok(Course::Stay),
+    }
+}
+
+/// What is done as time passes.
+pub fn tick_course(
+    alloc: Global,
+    at: &Option<Standing>,
+    sent_at: Moment,
+    now: Moment,
+) -> Result<Course, AllocError>
+    ensures { IfOk result (λ course. course ≡ option_map_or (λ (at : StandingOf). on_tick at sent_at now) at.now Stay) }
+{
+    match at {
+        Some(at) => on_tick(alloc, at, sent_at, now),
+        None => Ok(Course::Stay),
+    }
+}

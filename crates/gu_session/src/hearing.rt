@@ -1,0 +1,121 @@
+//! What frames say.
+
+ghost use Rattle.std.specs.Prelude.{◌≡◌, codes, IfOk, option_and_then};
+ghost use Rattle.std.specs.Option.{option_map};
+ghost use Rattle.gu_msgs.specs.StandardHeader.{IsHeader};
+ghost use Rattle.gu_session.specs.Hearing.{Hears, IsContent, IsFirmIn, IsHeading, IsNumberIn, code_in, is_given};
+
+use crate::heard::{Heading, Heard};
+use crate::seq_num::SeqNum;
+use gu_fix::{FieldFault, Fields, Frame, fields};
+use gu_msgs::{
+    Fault, Header, Inbound, MsgFault, SessionRejectReason, TypeCode, header, is_numeral, number_of,
+    read,
+};
+use gu_terms::FirmId;
+use std::alloc::{AllocError, Global};
+
+/// The house's name as a target.
+const HOUSE: &[u8] = b"GIVEUP";
+
+/// The number that a text writes, where a message can have it.
+fn number_in(text: &Option<Vec<u8>>) -> Option<SeqNum>
+    ensures { IsNumberIn (option_map (λ bytes. bytes.items) text.now) result }
+{
+    let Some(text) = text else {
+        return None;
+    };
+    if !is_numeral(text) {
+        return None;
+    }
+    match number_of(text) {
+        Some(number) => SeqNum::new(number),
+        None => None,
+    }
+}
+
+/// The firm with this name.
+fn firm_in(name: &Option<Vec<u8>>) -> Option<FirmId>
+    ensures { IsFirmIn (option_map (λ bytes. bytes.items) name.now) result }
+{
+    match name {
+        Some(name) => FirmId::new(name),
+        None => None,
+    }
+}
+
+/// The code of a type, where it has the form of one.
+fn code_in(text: &Option<Vec<u8>>) -> Option<TypeCode>
+    ensures { result ≡ option_and_then code_in (option_map (λ bytes. bytes.items) text.now) }
+{
+    match text {
+        Some(text) => TypeCode::new(text),
+        None => None,
+    }
+}
+
+/// Whether a value is given and is the house's name.
+fn is_house(value: &Option<Vec<u8>>) -> bool
+    ensures { result ≡ is_given (codes "GIVEUP") (option_map (λ bytes. bytes.items) value.now) }
+{
+    match value {
+        Some(value) => value.as_slice() == HOUSE,
+        None => false,
+    }
+}
+
+/// Whether a value is given and is yes.
+fn is_yes(value: &Option<Vec<u8>>) -> bool
+    ensures { result ≡ is_given (codes "Y") (option_map (λ bytes. bytes.items) value.now) }
+{
+    match value {
+        Some(value) => value.as_slice() == b"Y".as_slice(),
+        None => false,
+    }
+}
+
+/// What the header of these fields says.
+fn read_heading(alloc: Global, fields: &Fields) -> Result<Heading, AllocError>
+    ensures { IfOk result (IsHeading fields.now) }
+{
+    let header = header(alloc, fields)?;
+    Ok(Heading {
+        number: number_in(&header.msg_seq_num),
+        msg_type: code_in(&header.msg_type),
+        sender: firm_in(&header.sender_comp_id),
+        is_to_house: is_house(&header.target_comp_id),
+        is_poss_dup: is_yes(&header.poss_dup_flag),
+    })
+}
+
+/// What these fields say, or what is wrong with them; a malformed one comes first.
+fn read_content(
+    alloc: Global,
+    fields: &Fields,
+    malformed: Option<FieldFault>,
+) -> Result<Result<Inbound, Fault>, AllocError>
+    ensures { IfOk result (IsContent malformed fields.now) }
+{
+    if let Some(fault) = malformed {
+        let reason = SessionRejectReason::from(fault.reason);
+        return Ok(Err(Fault {
+            tag: fault.tag,
+            reason,
+        }));
+    }
+    match read(alloc, fields) {
+        Ok(message) => Ok(Ok(message)),
+        Err(MsgFault::Rejected(fault)) => Ok(Err(fault)),
+        Err(MsgFault::Memory) => Err(AllocError),
+    }
+}
+
+/// What a frame says.
+pub fn hear(alloc: Global, frame: &Frame) -> Result<Heard, AllocError>
+    ensures { IfOk result (Hears frame.now) }
+{
+    let (fields, malformed) = fields(alloc, frame)?;
+    let heading = read_heading(alloc, &fields)?;
+    let content = read_content(alloc, &fields, malformed)?;
+    Ok(Heard { heading, content })
+}

@@ -1,0 +1,37 @@
+//! The session of a firm with the house: what it hears, what it sends, and what it hands out.
+#![tactic(auto)]
+
+mod answers;
+mod application;
+mod ask_ref;
+mod carrying;
+mod content;
+mod course;
+mod heard;
+mod hearing;
+mod heartbeat;
+mod input;
+mod kept;
+mod laws;
+mod logon;
+mod messages;
+mod numbering;
+mod output;
+mod plan;
+mod rejecting;
+mod resending;
+mod sending;
+mod seq_num;
+mod sequence;
+mod session;
+mod standing;
+
+pub use ask_ref::AskRef;
+pub use input::{Failure, Input, Outcome};
+pub use laws::{
+    asks_for_the_gap, close_is_last, closed_for_good, expected_never_falls, hands_out_in_order,
+    keeps_the_last_sent, nothing_before_the_logon, numbers_go_up_by_one, one_answer,
+    references_go_up, resends_what_was_sent, serves_what_is_asked,
+};
+pub use output::{Asked, Output};
+pub use session::Session;

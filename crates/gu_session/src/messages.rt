@@ -1,0 +1,85 @@
+//! Messages in order.
+
+ghost use Rattle.std.specs.Prelude.{◌≡◌, ◌∷◌, [], length, IfOk};
+ghost use Rattle.std.specs.Option.{option_to_list};
+
+use gu_msgs::outbound::Body;
+use std::alloc::{AllocError, Global};
+use std::marker::Model;
+
+/// Messages, in the order in which they are to be sent. To a contract they are their list.
+#[derive(Drop)]
+pub struct Messages {
+    bodies: Vec<Body>,
+}
+
+impl Model for Messages {
+    ghost use Rattle.std.specs.Prelude.{List};
+    ghost use Rattle.gu_msgs.specs.declared.outbound.Body.{Body};
+
+    ghost Value = { List Body };
+
+    ghost view = { λ m. m.bodies.items };
+}
+
+impl Messages {
+    /// No messages.
+    pub fn none(alloc: Global) -> Self
+        ensures { result ≡ [] }
+    {
+        Messages {
+            bodies: Vec::new(alloc),
+        }
+    }
+
+    /// One message.
+    pub fn one(alloc: Global, body: Body) -> Result<Self, AllocError>
+        ensures { IfOk result (λ messages. messages ≡ body ∷ []) }
+    {
+        let mut bodies = Vec::with_capacity(alloc, 1)?;
+        bodies.push(body)?;
+        Ok(Messages { bodies })
+    }
+
+    /// Two messages.
+    pub fn two(alloc: Global, first: Body, second: Body) -> Result<Self, AllocError>
+        ensures { IfOk result (λ messages. messages ≡ first ∷ second ∷ []) }
+    {
+        let mut bodies = Vec::with_capacity(alloc, 2)?;
+        bodies.push(first)?;
+        bodies.push(second)?;
+        Ok(Messages { bodies })
+    }
+
+    /// These messages.
+    pub fn of(bodies: Vec<Body>) -> Self
+        ensures { result ≡ bodies.items }
+    {
+        Messages { bodies }
+    }
+
+    /// The message, if there is one.
+    pub fn of_option(alloc: Global, body: Option<Body>) -> Result<Self, AllocError>
+        ensures { IfOk result (λ messages. messages ≡ option_to_list body) }
+    {
+        match body {
+            Some(body) => Messages::one(alloc, body),
+            None => Ok(Messages::none(alloc)),
+        }
+    }
+
+    /// How many there are.
+    pub fn len(&self) -> usize
+        ensures { result ≡ length self.now }
+    {
+        self.bodies.len()
+    }
+
+    /// The messages in a buffer of their own.
+    pub fn into_vec(self) -> Vec<Body>
+        ensures { result.items ≡ self }
+    {
+        let Messages { bodies } = self;
+        bodies
+    }
+}

@@ -1,0 +1,156 @@
+//! What a step does, before numbers are given.
+
+ghost use Rattle.std.specs.Prelude.{◌≡◌, ◌∷◌, [], IfOk};
+ghost use Rattle.gu_session.specs.Plans.{answers, hands, leaves, quiet, repeats, says};
+
+use crate::ask_ref::AskRef;
+use crate::messages::Messages;
+use crate::seq_num::SeqNum;
+use crate::standing::{Standing, Waiting};
+use gu_msgs::inbound::ResendRequest;
+use gu_msgs::outbound::Body;
+use gu_msgs::{Question, Request};
+use std::alloc::{AllocError, Global};
+
+/// What is handed out, with what its answer needs.
+#[derive(Drop)]
+pub struct Handed {
+    pub request: Request,
+    pub waiting: Waiting,
+}
+
+/// What is done in a step of a session in which a firm is logged on.
+#[derive(Drop)]
+pub struct Plan {
+    /// How the session stands behind it.
+    pub after: Standing,
+    /// What is sent again first.
+    pub again: Option<ResendRequest>,
+    /// New messages, which get the next numbers.
+    pub messages: Messages,
+    /// What is handed out then.
+    pub handed: Option<Handed>,
+    /// What is answered by it.
+    pub answered: Option<AskRef>,
+    /// Whether the session ends.
+    pub ends: bool,
+}
+
+/// What a step does.
+#[derive(Drop)]
+pub enum Course {
+    /// Nothing.
+    Stay,
+    /// The session ends without a byte.
+    Leave,
+    /// A plan is carried out.
+    Go(Plan),
+}
+
+impl Plan {
+    /// Nothing is sent.
+    pub fn quiet(alloc: Global, at: &Standing) -> Self
+        ensures { result ≡ quiet at.now }
+    {
+        Plan {
+            after: *at,
+            again: None,
+            messages: Messages::none(alloc),
+            handed: None,
+            answered: None,
+            ends: false,
+        }
+    }
+
+    /// A new message.
+    pub fn says(alloc: Global, at: &Standing, body: Body) -> Result<Self, AllocError>
+        ensures { IfOk result (λ plan. plan ≡ says at.now (body ∷ [])) }
+    {
+        let messages = Messages::one(alloc, body)?;
+        Ok(Plan {
+            after: *at,
+            again: None,
+            messages,
+            handed: None,
+            answered: None,
+            ends: false,
+        })
+    }
+
+    /// New messages, and the end.
+    pub fn leaves(at: &Standing, messages: Messages) -> Self
+        ensures { result ≡ leaves at.now messages }
+    {
+        Plan {
+            after: *at,
+            again: None,
+            messages,
+            handed: None,
+            answered: None,
+            ends: true,
+        }
+    }
+
+    /// A Logout or the like, and the end.
+    pub fn leaves_with(alloc: Global, at: &Standing, body: Body) -> Result<Self, AllocError>
+        ensures { IfOk result (λ plan. plan ≡ leaves at.now (body ∷ [])) }
+    {
+        let messages = Messages::one(alloc, body)?;
+        Ok(Plan::leaves(at, messages))
+    }
+
+    /// What was asked for again, then new messages.
+    pub fn repeats(at: &Standing, again: Option<ResendRequest>, messages: Messages) -> Self
+        ensures { result ≡ repeats at.now again messages }
+    {
+        Plan {
+            after: *at,
+            again,
+            messages,
+            handed: None,
+            answered: None,
+            ends: false,
+        }
+    }
+
+    /// What a message of this number asks for is handed out.
+    pub fn hands(
+        alloc: Global,
+        at: &Standing,
+        number: SeqNum,
+        request: Request,
+        question: Question,
+    ) -> Self
+        ensures { result ≡ hands at.now number request question }
+    {
+        let reference = AskRef::new(number);
+        Plan {
+            after: *at,
+            again: None,
+            messages: Messages::none(alloc),
+            handed: Some(Handed {
+                request,
+                waiting: Waiting {
+                    reference,
+                    question,
+                },
+            }),
+            answered: None,
+            ends: false,
+        }
+    }
+
+    /// The messages that answer a question.
+    pub fn answers(at: &Standing, reference: AskRef, messages: Messages) -> Self
+        ensures { result ≡ answers at.now reference messages }
+    {
+        Plan {
+            after: *at,
+            again: None,
+            messages,
+            handed: None,
+            answered: Some(reference),
+            ends: false,
+        }
+    }
+}

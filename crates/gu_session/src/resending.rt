@@ -1,0 +1,139 @@
+//! What is sent again.
+
+ghost use Rattle.std.specs.Prelude.{◌≡◌, ◌+◌, ◌&&◌, ◌++◌, ◌∷◌, [], nat_le, nat_lt, OnOk, IfOk};
+ghost use Rattle.gu_session.specs.Resending.{again, behind_last, gap, gap_fill, resent, sent_within, with_gaps};
+ghost use Rattle.gu_session.specs.Walks.{asked_now, at_behind};
+
+use crate::kept::{Kept, Sent};
+use gu_msgs::Outbound;
+use gu_msgs::inbound::ResendRequest;
+use gu_msgs::outbound::Body;
+use gu_terms::{FirmId, Moment};
+use std::alloc::{AllocError, Global};
+
+/// A message that was kept, once more.
+fn again(firm: FirmId, now: Moment, sent: &Sent) -> Outbound
+    ensures { result ≡ again firm now sent.now }
+{
+    Outbound {
+        firm,
+        msg_seq_num: sent.number.get(),
+        sending_time: now,
+        orig_sending_time: Some(sent.time),
+        body: sent.message.body(),
+    }
+}
+
+/// What stands for a run of numbers.
+fn gap_fill(firm: FirmId, now: Moment, from: u64, to: u64) -> Outbound
+    ensures { result ≡ gap_fill firm now from to }
+{
+    let sent_at = &now;
+    Outbound {
+        firm,
+        msg_seq_num: from,
+        sending_time: *sent_at,
+        orig_sending_time: Some(*sent_at),
+        body: Body::SequenceReset(to),
+    }
+}
+
+/// Appends what stands for the numbers from one up to another.
+fn push_gap(
+    messages: &mut Vec<Outbound>,
+    firm: &FirmId,
+    now: &Moment,
+    from: u64,
+    to: u64,
+) -> Result<(), AllocError>
+    ensures { OnOk result (messages.new.items ≡ messages.old.items ++ gap firm.now now.now from to) }
+{
+    if from < to {
+        messages.push(gap_fill(*firm, *now, from, to))?;
+    }
+    Ok(())
+}
+
+/// Appends a message that was kept, and what stands for the numbers before it; answers the number behind it.
+fn push_again(
+    messages: &mut Vec<Outbound>,
+    firm: &FirmId,
+    now: &Moment,
+    from: u64,
+    sent: &Sent,
+) -> Result<u64, AllocError>
+    ensures pushed { OnOk result (messages.new.items ≡ messages.old.items ++ gap firm.now now.now from sent.now.number ++ again firm.now now.now sent.now ∷ []) }
+    ensures behind { IfOk result (λ behind. behind ≡ sent.now.number + 1) }
+{
+    push_gap(messages, firm, now, from, sent.number.get())?;
+    messages.push(again(*firm, *now, sent))?;
+    Ok(sent.number.get() + 1)
+}
+
+/// The number behind the last that is asked for.
+fn behind_last(next: u64, last: u64) -> u64
+    ensures { result ≡ behind_last next last }
+{
+    if last == 0 || next <= last {
+        next
+    } else {
+        last + 1
+    }
+}
+
+/// Whether a message has a number from one up to another.
+fn is_within(sent: &Sent, from: u64, to: u64) -> bool
+    ensures { result ≡ (nat_le from sent.now.number && nat_lt sent.now.number to) }
+{
+    from <= sent.number.get() && sent.number.get() < to
+}
+
+/// Numbers from one up to another.
+#[derive(Drop)]
+struct Range {
+    from: u64,
+    to: u64,
+}
+
+/// Appends a message that was kept as `push_again` does, if it is one of those that are asked for.
+fn push_asked(
+    messages: &mut Vec<Outbound>,
+    firm: &FirmId,
+    now: &Moment,
+    range: &Range,
+    at: u64,
+    sent: &Sent,
+) -> Result<u64, AllocError>
+    ensures pushed { OnOk result (messages.new.items ≡ messages.old.items ++ asked_now firm.now now.now range.now.from range.now.to at sent.now) }
+    ensures behind { IfOk result (λ behind. behind ≡ at_behind range.now.from range.now.to at sent.now) }
+{
+    if is_within(sent, range.from, range.to) {
+        push_again(messages, firm, now, at, sent)
+    } else {
+        Ok(at)
+    }
+}
+
+/// Appends what is sent again for a request.
+pub fn push_resent(
+    messages: &mut Vec<Outbound>,
+    firm: &FirmId,
+    now: &Moment,
+    kept: &Kept,
+    next: u64,
+    request: &ResendRequest,
+) -> Result<(), AllocError>
+    ensures { OnOk result (messages.new.items ≡ messages.old.items ++ resent firm.now kept.now.items next now.now request.now) }
+{
+    let range = Range {
+        from: request.begin_seq_no,
+        to: behind_last(next, request.end_seq_no),
+    };
+    let mut at = range.from;
+    for place in 0..kept.len() {
+        if let Some(sent) = kept.get(place) {
+            at = push_asked(messages, firm, now, &range, at, &sent)?;
+        }
+    }
+    push_gap(messages, firm, now, at, range.to)
+}
