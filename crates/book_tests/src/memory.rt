@@ -17,7 +17,7 @@ use std::process::Abort;
 const GUARANTORS: &[u8] = b"GUARANTOR,E2,C1\nGUARANTOR,E2,C2\nGUARANTOR,C1,E1\n";
 
 /// The reference of the sample with guarantors, read at the second try where the first is refused.
-pub fn read_again(rt: &impl Abort, alloc: Global) -> Option<Reference> {
+fn read_again(rt: &impl Abort, alloc: Global) -> Option<Reference> {
     match read_with(alloc, GUARANTORS) {
         Ok(reference) => Some(reference),
         Err(fault) => {
@@ -166,7 +166,7 @@ fn enter_again(rt: &impl Abort, alloc: Global, book: &mut Book, line: &str) -> R
 }
 
 /// The text of a receipt, made at the second try where the first is refused.
-pub fn text_again(rt: &impl Abort, alloc: Global, receipt: &Receipt) -> String {
+fn text_again(rt: &impl Abort, alloc: Global, receipt: &Receipt) -> String {
     match receipt_text(alloc, receipt) {
         Some(text) => text,
         None => receipt_text(alloc, receipt).expect(rt, "a text"),

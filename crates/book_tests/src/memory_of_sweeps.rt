@@ -1,7 +1,8 @@
 //! Growths that are refused to views, proposals, commits and notices, each in turn, as in `memory`.
 
 use crate::commits::THREE;
-use crate::memory::{command_again, read_again};
+use crate::memory::command_again;
+use crate::refused_steps::reference;
 use crate::words::{firm, group};
 use gu_book::{Book, CommitError, LookError};
 use gu_flow::{Proposal, propose};
@@ -18,7 +19,7 @@ fn enter_again(rt: &impl Abort, alloc: Global, book: &mut Book, line: &str) {
 
 /// A book that entered the lines of a transcript.
 fn book_again(rt: &impl Abort, alloc: Global, transcript: &str) -> Book {
-    let reference = read_again(rt, alloc).expect(rt, "the sample");
+    let reference = reference(alloc).expect(rt, "the sample");
     let mut book = Book::new(alloc, reference);
     for line in transcript.lines() {
         let (asked, _) = line.split_once("=").expect(rt, "a line and an answer");

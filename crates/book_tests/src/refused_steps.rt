@@ -33,7 +33,7 @@ const STEPS: [&str; 19] = [
 ];
 
 /// The sample's reference, at the second try where the first is refused.
-fn reference(alloc: Global) -> Option<Reference> {
+pub fn reference(alloc: Global) -> Option<Reference> {
     match read_with(alloc, b"") {
         Ok(reference) => Some(reference),
         Err(_) => read_with(alloc, b"").ok(),

@@ -325,10 +325,15 @@ fn a_stale_commit_has_its_culprit(rt: HostRuntime) {
 #[test]
 fn a_claim_is_to_blame(rt: HostRuntime) {
     let alloc = rt.alloc();
-    let script = format!(in alloc; "{TRADED}GIVEUP E1 L1 R1 A1 10 = \nSEE 0 G1 = \nPROPOSE 0 = \nCLAIM C1 1 = \nCOMMIT 0 = \n").expect(&rt, "a script");
+    let script = format!(in alloc;
+        "{TRADED}GIVEUP E1 L1 R1 A1 10 = \nSEE 0 G1 = \nPROPOSE 0 = \nCLAIM C1 1 = \nCOMMIT 0 = \n"
+    ).expect(&rt, "a script");
     let steps = steps(alloc, &script).expect(&rt, "steps");
     let reference = read_with(alloc, b"").expect(&rt, "the sample");
-    assert_eq!(rt; culprit(alloc, reference, &steps, 11).expect(&rt, "an answer"), Some(9));
+    assert_eq!(rt;
+        culprit(alloc, reference, &steps, 11).expect(&rt, "an answer"),
+        Some(9)
+    );
 }
 
 #[test]

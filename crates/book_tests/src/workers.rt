@@ -88,7 +88,13 @@ fn view_text(alloc: Global, view: &View) -> Option<String> {
     let mut text = format!(in alloc; "{}", view.version()).ok()?;
     for offer in view.offers() {
         let agreement = str::from_utf8(offer.agreement.get()).ok()?;
-        write!(text, ", OFFER {} {} {agreement}", offer.number.get(), offer.lots).ok()?;
+        write!(
+            text,
+            ", OFFER {} {} {agreement}",
+            offer.number.get(),
+            offer.lots
+        )
+        .ok()?;
     }
     for room in view.rooms() {
         let name = str::from_utf8(room.key.name()).ok()?;
