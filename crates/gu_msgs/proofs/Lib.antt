@@ -9,7 +9,7 @@ mod TextLemmas
 mod AllocLemmas
 mod DateLemmas
 pub mod NoFault
-mod OneFault
+pub mod OneFault
 mod PlainTexts
 mod Encodables
 mod SaidOnce

@@ -14,3 +14,4 @@ mod InOrder
 mod HandingOut
 mod Repeating
 mod AnsweringOnce
+mod SteppingOnce

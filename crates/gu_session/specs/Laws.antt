@@ -108,3 +108,8 @@ WasSent before message = IsAmong (IsOnceMore message) before ⊎ IsGapFill messa
 abbrev pub ResendsWhatWasSent : Type 0
 ResendsWhatWasSent = (firms : List FirmId) (before given : List Response) (s new : SessionState) (input : Input) (now : ℕ) →
     IsReached firms before s → Steps s input now given new → AllByRecursion (WasSent (filter_map new_message before)) (filter_map repeated_message given)
+
+-- from a state, for an input at a moment, there is one step
+abbrev pub OneStep : Type 0
+OneStep = (old new other : SessionState) (input : Input) (now : ℕ) (given others : List Response) →
+    Steps old input now given new → Steps old input now others other → (given ≡ others) × (new ≡ other)

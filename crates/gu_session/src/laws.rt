@@ -1,6 +1,6 @@
 //! What holds of every session.
 
-ghost use Rattle.gu_session.specs.Laws.{AsksForTheGap, ClosedForGood, KeepsTheLastSent, NumbersGoUpByOne, ResendsWhatWasSent, ServesWhatIsAsked};
+ghost use Rattle.gu_session.specs.Laws.{AsksForTheGap, ClosedForGood, KeepsTheLastSent, NumbersGoUpByOne, OneStep, ResendsWhatWasSent, ServesWhatIsAsked};
 ghost use Rattle.gu_session.specs.Orders.{CloseIsLast, ExpectedNeverFalls, HandsOutInOrder, NothingBeforeTheLogon, OneAnswer, ReferencesGoUp};
 
 /// New messages are numbered 1, 2, 3 and so on, over every run.
@@ -61,4 +61,9 @@ pub fn references_go_up()
 /// Each question is answered once.
 pub fn one_answer()
     ensures { OneAnswer }
+{}
+
+/// From a state there is one step for an input at a moment.
+pub fn one_step()
+    ensures { OneStep }
 {}

@@ -30,7 +30,7 @@ pub use ask_ref::AskRef;
 pub use input::{Failure, Input, Outcome};
 pub use laws::{
     asks_for_the_gap, close_is_last, closed_for_good, expected_never_falls, hands_out_in_order,
-    keeps_the_last_sent, nothing_before_the_logon, numbers_go_up_by_one, one_answer,
+    keeps_the_last_sent, nothing_before_the_logon, numbers_go_up_by_one, one_answer, one_step,
     references_go_up, resends_what_was_sent, serves_what_is_asked,
 };
 pub use output::{Asked, Output};
