@@ -1,10 +1,13 @@
 //! What follows from the definitions alone.
 
-ghost use Rattle.std.specs.Prelude.{◌≡◌, ◌≤◌, ◌<◌, ◌++◌, ℕ, false, List, Some, length};
+ghost use Rattle.std.specs.Prelude.{◌≡◌, ◌≤◌, ◌<◌, ◌++◌, ℕ, false, List, Some, length, take};
 ghost use Rattle.gu_terms.specs.declared.receipt.Receipt.{Receipt as ReceiptOf};
 ghost use Rattle.gu_terms.specs.declared.entry.Entry.{Entry as EntryOf};
+ghost use Rattle.gu_terms.specs.declared.group.Group.{Group as GroupOf};
 ghost use Rattle.gu_ref.specs.Tables.{Tables};
 ghost use Rattle.gu_book.specs.Legal.{IsLegal};
+ghost use Rattle.gu_book.specs.Versions.{version_of};
+ghost use Rattle.gu_book.specs.Views.{group_view};
 ghost use Rattle.gu_world.specs.Headline.{AreGreatestSweeps};
 ghost use Rattle.gu_world.specs.Runs.{IsRun, blamed};
 ghost use Rattle.gu_world.specs.Steps.{LeadsTo, Look, State, is_overtaken, look_of, seen_history, view_seen};
@@ -41,6 +44,15 @@ pub fn a_committed_sweep_was_not_overtaken()
     ensures { (before after : State) (worker : ℕ) (receipt : ReceiptOf)
         → LeadsTo before (Commit worker) (Swept receipt) after
         → (look : Look) × (look_of before worker ≡ Some look) × (is_overtaken before look ≡ false) }
+{}
+
+/// Where a group has one version at two moments of a legal history, it has one view.
+pub fn equal_versions_are_equal_views()
+    ensures { (reference : Tables) (history : List EntryOf) (first : ℕ) (group : GroupOf)
+        → IsLegal reference history
+        → first ≤ length history
+        → version_of (take first history) group ≡ version_of history group
+        → group_view reference (take first history) group ≡ group_view reference history group }
 {}
 
 /// Each sweep of a legal history stays within every offer and limit of its group as the book stood just before it, takes as many lots as
