@@ -6,8 +6,8 @@ use crate::refused_steps::reference;
 use crate::words::{firm, group};
 use gu_book::{Book, CommitError, LookError};
 use gu_flow::{Proposal, propose};
-use gu_terms::{Notices, Receipt};
-use std::alloc::Global;
+use gu_terms::{FirmId, Notices, Receipt};
+use std::alloc::{AllocError, Global};
 use std::process::Abort;
 
 /// Enters a command of a line, at the second try where the first is refused.
@@ -64,15 +64,19 @@ fn commit_again(rt: &impl Abort, book: &mut Book, proposal: Proposal) -> Receipt
     }
 }
 
+/// The notices to a firm of all entries.
+fn notices(book: &Book, firm: &FirmId) -> Result<Notices, AllocError> {
+    book.notices(*firm, 1)
+}
+
 /// The notices to a firm of this name, asked for at the second try where the first is refused.
 fn notices_again(rt: &impl Abort, book: &Book, name: &str) -> Notices {
     let firm = firm(name, 0).expect(rt, "a firm");
-    match book.notices(firm, 1) {
+    match notices(book, &firm) {
         Ok(notices) => notices,
-        Err(_) => {
-            let second = book.notices(firm, 1);
-            second.ok().expect(rt, "memory at the second try")
-        }
+        Err(_) => notices(book, &firm)
+            .ok()
+            .expect(rt, "memory at the second try"),
     }
 }
 
