@@ -8,12 +8,13 @@ use Rattle.gu_terms.specs.declared.reply.Done.{Done}
 use Rattle.gu_terms.specs.declared.reply.Reply.{Reply}
 use Rattle.gu_terms.specs.declared.reply.Reply.TheVariants.{Accepted, Denied}
 use Rattle.gu_terms.specs.declared.refusal.Refusal.{Refusal}
+use Rattle.gu_terms.specs.declared.side.Side.TheVariants.{Buy, Sell}
 use Rattle.gu_ref.specs.Tables.{Tables}
 use Rattle.gu_limits.specs.Limits.{GroupLimit, has_limit, limit_in, used_in}
 use Rattle.gu_positions.specs.Rows.{Row as PositionRow, has_row, lots_in, lots_on}
 use Rattle.gu_book.specs.Accepted.{IsAccepted, TakesIn, accepts}
 use Rattle.gu_book.specs.Answer.{answer, done_of, state_of, tests_of}
-use Rattle.gu_book.specs.Beside.{AreKnown, IsKept, IsKeptLegal, IsShown, is_kept_give_up}
+use Rattle.gu_book.specs.Beside.{IsAccounted, IsKept, IsKeptLegal, IsShown, is_kept_give_up}
 use Rattle.gu_book.specs.Counted.{AreVersions, version_in}
 use Rattle.gu_book.specs.Effects.{SameAnswers}
 use Rattle.gu_book.specs.Offers.{standing_of}
@@ -61,6 +62,7 @@ nothing-kept reference totals versions today trades offers give_ups limits posit
     reports = rw trades tt;
     offers = rw offers tt;
     rows = λ account symbol has. let no : has_row [] account symbol ≡ true = ap (λ (rs : List PositionRow). has_row rs account symbol) (sym positions) ∙ has in cc;
+    even = λ symbol. (λ i. lots_on (positions i) Buy symbol) ∙ sym (λ i. lots_on (positions i) Sell symbol);
   };
   shown = rw offers (record { few = λ group. omega arith; agreed = tt });
   counted = record { each = none; days = omega (arith, days) };
@@ -103,7 +105,7 @@ is-accepted reference history command reply room is accepted =
 
 -- a legal history grows by it
 pub legal-accepted : (reference : Tables) (history : List Entry) (old new : Totals) (before after : Versions) (command : Command) (reply : Reply) → IsKeptLegal reference history old before
-    → length history < 1000000 → reply ≡ answer reference history command → accepts reply ≡ true → TakesIn reference old new command → (AreKnown reference old → AreKnown reference new)
+    → length history < 1000000 → reply ≡ answer reference history command → accepts reply ≡ true → TakesIn reference old new command → (IsAccounted reference old → IsAccounted reference new)
     → AreVersions (history ++ Asked command reply ∷ []) after → IsKeptLegal reference (history ++ Asked command reply ∷ []) new after
 legal-accepted reference history old new before after command reply kept room is accepted takes known counted =
     let it = is-accepted reference history command reply room is accepted in
@@ -135,7 +137,7 @@ legal-denied reference history totals before after command reply kept room is de
 
 -- where nothing was entered, all of it stays
 pub legal-refused : (reference : Tables) (history : List Entry) (old new : Totals) (before after : Versions) → IsKeptLegal reference history old before → SameAnswers old new
-    → (AreKnown reference old → AreKnown reference new) → AreVersions history after → IsKeptLegal reference history new after
+    → (IsAccounted reference old → IsAccounted reference new) → AreVersions history after → IsKeptLegal reference history new after
 legal-refused reference history old new before after kept same known counted = record {
   legal = kept.legal;
   kept = still-kept reference history old new kept.kept same;

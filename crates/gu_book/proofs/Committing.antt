@@ -8,7 +8,7 @@ use Rattle.gu_terms.specs.declared.takes.Take.{Take}
 use Rattle.gu_ref.specs.Tables.{Tables}
 use Rattle.gu_flow.specs.Proposals.{ProposedSweep}
 use Rattle.gu_view.specs.View.{GroupView}
-use Rattle.gu_book.specs.Beside.{AreKnown, IsKeptLegal, IsShown}
+use Rattle.gu_book.specs.Beside.{IsAccounted, IsKeptLegal, IsShown}
 use Rattle.gu_book.specs.Commits.{IsCurrent, sweep_of}
 use Rattle.gu_book.specs.Counted.{is_touched, version_in}
 use Rattle.gu_book.specs.Effects.{SameAnswers}
@@ -37,7 +37,7 @@ may-move book proposal old mid versions kept current right same made =
 
 -- where a growth was refused, all stays
 pub legal-still : (reference : Tables) (history : List Entry) (old mid : Totals) (old_counts new_counts : Versions) → IsKeptLegal reference history old old_counts → SameAnswers old mid
-    → (AreKnown reference old → AreKnown reference mid) → new_counts.days ≡ old_counts.days → ((group : Group) → version_in new_counts group ≡ version_in old_counts group)
+    → (IsAccounted reference old → IsAccounted reference mid) → new_counts.days ≡ old_counts.days → ((group : Group) → version_in new_counts group ≡ version_in old_counts group)
     → IsKeptLegal reference history mid new_counts
 legal-still reference history old mid old_counts new_counts kept same known days counts = record {
   legal = kept.legal;

@@ -30,8 +30,8 @@ use Rattle.gu_offers.specs.Rows.{Row, row_at}
 use Rattle.gu_positions.specs.Rows.{Row as PositionRow, has_row}
 use Rattle.gu_book.specs.Accepted.{MayTakeIn}
 use Rattle.gu_book.specs.Answer.{done_of, has_unknown_account, report_tests, state_of, tests_of}
-use Rattle.gu_book.specs.Beside.{AreKnown}
-use Rattle.gu_book.specs.Effects.{OnlyRowsOf, SameAnswers}
+use Rattle.gu_book.specs.Beside.{IsAccounted}
+use Rattle.gu_book.specs.Effects.{IsEven, OnlyRowsOf, SameAnswers}
 use Rattle.gu_book.specs.Reports.{open_day, reports_of}
 use Rattle.gu_book.specs.declared.totals.Totals.{Totals}
 use Rattle.gu_book.proofs.Accepting.{IsSeen}
@@ -106,8 +106,8 @@ seen-row totals n offer report seen = by (row_at totals.offers n) refl seen.show
 -- a claim or a reversal
 pub known-moved : {T E : Type 0} (reference : Tables) (old new : Totals) (r : Result T E) (n : ℕ) (change : Row → Row) (offer : Offer) (report : Report) → IsSeen old n offer report → ((row : Row) → (change row).offer ≡ row.offer)
     → new.trades ≡ old.trades → OnOk r (new.offers ≡ changed old.offers n change) → OnErr r (SameAnswers old new) → OnlyRowsOf old.positions new.positions (report.account ∷ offer.account ∷ [])
-    → AreKnown reference old → AreKnown reference new
-known-moved reference old new r n change offer report seen same trades ok err rows known =
+    → (IsEven old.positions → IsEven new.positions) → IsAccounted reference old → IsAccounted reference new
+known-moved reference old new r n change offer report seen same trades ok err rows even known =
     let one = seen-row old n offer report seen in
     let mine = subst (λ (o : Offer). is_there reference o.account) one.2 (all-at (λ (o : Row). is_there reference o.offer.account) old.offers n one.0 one.1 known.offers) in
     let theirs = all-found (λ (q : Report). is_there reference q.account) (is_by offer.firm offer.report) old.trades report known.reports (sym seen.found) in
@@ -115,15 +115,17 @@ known-moved reference old new r n change offer report seen same trades ok err ro
       reports = subst (AllByRecursion (λ (q : Report). is_there reference q.account)) (sym trades) known.reports;
       offers = offers-known reference old new r n one.0 change one.1 (same one.0) known.offers ok err;
       rows = rows-known reference old.positions new.positions (report.account ∷ offer.account ∷ []) known.rows (theirs, (mine, tt)) rows;
+      even = even known.even;
     }
 
 -- a refusal
 pub known-refused : (reference : Tables) (old new : Totals) (n : ℕ) (change : Row → Row) → ((row : Row) → (change row).offer ≡ row.offer) → new.trades ≡ old.trades → new.offers ≡ changed old.offers n change → new.positions ≡ old.positions
-    → AreKnown reference old → AreKnown reference new
+    → IsAccounted reference old → IsAccounted reference new
 known-refused reference old new n change same trades offers positions known = record {
   reports = subst (AllByRecursion (λ (q : Report). is_there reference q.account)) (sym trades) known.reports;
   offers = subst (AllByRecursion (λ (o : Row). is_there reference o.offer.account)) (sym offers) (by (row_at old.offers n) refl);
   rows = rw positions known.rows;
+  even = rw positions known.even;
 }
   where
     by : (found : Option Row) → row_at old.offers n ≡ found → AllByRecursion (λ (o : Row). is_there reference o.offer.account) (changed old.offers n change)
@@ -137,11 +139,12 @@ known-refused reference old new n change same trades offers positions known = re
         (subst (λ (o : Offer). is_there reference o.account) (sym (same row)) (all-at (λ (o : Row). is_there reference o.offer.account) old.offers n row e known.offers)) known.offers
 
 -- an opening
-pub known-opened : (reference : Tables) (old new : Totals) → new.trades ≡ old.trades → new.offers ≡ map next_day old.offers → new.positions ≡ old.positions → AreKnown reference old → AreKnown reference new
+pub known-opened : (reference : Tables) (old new : Totals) → new.trades ≡ old.trades → new.offers ≡ map next_day old.offers → new.positions ≡ old.positions → IsAccounted reference old → IsAccounted reference new
 known-opened reference old new trades offers positions known = record {
   reports = subst (AllByRecursion (λ (q : Report). is_there reference q.account)) (sym trades) known.reports;
   offers = subst (AllByRecursion (λ (o : Row). is_there reference o.offer.account)) (sym offers) (all old.offers known.offers);
   rows = rw positions known.rows;
+  even = rw positions known.even;
 }
   where
     all : (rows : List Row) → AllByRecursion (λ (o : Row). is_there reference o.offer.account) rows → AllByRecursion (λ (o : Row). is_there reference o.offer.account) (map next_day rows)
@@ -156,11 +159,12 @@ some-not-none (Some x) e = refl
 pub known-reported : {T E : Type 0} (reference : Tables) (firm : FirmId) (id match_id : Id) (symbol : Symbol) (lots : Lots) (price : Price) (given : Option Day) (side : Side) (account : AccountId) (day : Day) (old new : Totals) (r : Result T E)
     → old.today ≡ Some day → MayTakeIn reference old (ReportSide firm id match_id symbol lots price given side account) → new.offers ≡ old.offers
     → OnOk r (new.trades ≡ old.trades ++ report_of firm id match_id symbol lots price day side account ∷ []) → OnErr r (SameAnswers old new)
-    → OnlyRowsOf old.positions new.positions (account ∷ map (λ (w : Report). w.account) (with_match match_id old.trades)) → AreKnown reference old → AreKnown reference new
-known-reported {T} {E} reference firm id match_id symbol lots price given side account day old new r day_is may offers ok err rows known = record {
+    → OnlyRowsOf old.positions new.positions (account ∷ map (λ (w : Report). w.account) (with_match match_id old.trades)) → (IsEven old.positions → IsEven new.positions) → IsAccounted reference old → IsAccounted reference new
+known-reported {T} {E} reference firm id match_id symbol lots price given side account day old new r day_is may offers ok err rows even known = record {
   reports = reports r ok err;
   offers = subst (AllByRecursion (λ (o : Row). is_there reference o.offer.account)) (sym offers) known.offers;
   rows = rows-known reference old.positions new.positions (account ∷ map (λ (w : Report). w.account) (with_match match_id old.trades)) known.rows (mine, theirs) rows;
+  even = even known.even;
 }
   where
     mine : is_there reference account
@@ -189,11 +193,12 @@ known-reported {T} {E} reference firm id match_id symbol lots price given side a
 -- a give-up
 pub known-given_up : {T E : Type 0} (reference : Tables) (old new : Totals) (firm : FirmId) (id own : Id) (lines : List Line) (group : Group) (r : Result T E)
     → MayTakeIn reference old (GiveUp firm id own lines) → new.trades ≡ old.trades → new.positions ≡ old.positions
-    → OnOk r (new.offers ≡ with_lines old.offers firm own group lines) → OnErr r (SameAnswers old new) → AreKnown reference old → AreKnown reference new
+    → OnOk r (new.offers ≡ with_lines old.offers firm own group lines) → OnErr r (SameAnswers old new) → IsAccounted reference old → IsAccounted reference new
 known-given_up {T} {E} reference old new firm id own lines group r may trades positions ok err known = record {
   reports = subst (AllByRecursion (λ (q : Report). is_there reference q.account)) (sym trades) known.reports;
   offers = offers r ok err;
   rows = rw positions known.rows;
+  even = rw positions known.even;
 }
   where
     theirs : AllByRecursion (λ (l : Line). is_none (account_row reference l.account) ≡ false) lines

@@ -12,6 +12,7 @@ pub mod Covered
 pub mod CurrentLemmas
 pub mod CurrentViews
 pub mod Elsewhere
+pub mod Even
 pub mod Facts
 pub mod Growing
 pub mod Holding

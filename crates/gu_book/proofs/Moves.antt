@@ -14,6 +14,7 @@ use Rattle.gu_terms.specs.declared.group.Group.{Group}
 use Rattle.gu_terms.specs.declared.limit_key.LimitKey.{LimitKey}
 use Rattle.gu_terms.specs.declared.offer.Offer.{Offer}
 use Rattle.gu_terms.specs.declared.report.Report.{Report}
+use Rattle.gu_terms.specs.declared.side.Side.TheVariants.{Buy, Sell}
 use Rattle.gu_terms.specs.declared.takes.Take.{Take}
 use Rattle.gu_ref.specs.Reference.{account_row}
 use Rattle.gu_ref.specs.Tables.{Tables}
@@ -24,7 +25,7 @@ use Rattle.gu_offers.specs.Changes.{changed, taken}
 use Rattle.gu_offers.specs.Rows.{Row, left_in, left_of, row_at}
 use Rattle.gu_positions.specs.Changes.{KeepsRows}
 use Rattle.gu_positions.specs.Rows.{has_row, lots_in}
-use Rattle.gu_book.specs.Beside.{AreKnown, IsKept, IsShown}
+use Rattle.gu_book.specs.Beside.{IsAccounted, IsKept, IsShown}
 use Rattle.gu_book.specs.Effects.{HoldsMoved, KeepsMade, OnlyRowsOf, SameAnswers, SameEntries, UsesMore}
 use Rattle.gu_book.specs.Limits.{path_behind}
 use Rattle.gu_book.specs.Moving.{HasRows, MayMove, MovesAll, MovesOne, given_by, lots_used, part, parts}
@@ -122,7 +123,7 @@ has_rows-none totals n none =
 
 -- their accounts are in the reference
 pub known-way : (reference : Tables) (old new : Totals) (n : ℕ) (offer : Offer) (report : Report) → Some (offer, report) ≡ given_by old n → SameAnswers old new
-    → OnlyRowsOf old.positions new.positions (report.account ∷ offer.account ∷ []) → AreKnown reference old → AreKnown reference new
+    → OnlyRowsOf old.positions new.positions (report.account ∷ offer.account ∷ []) → IsAccounted reference old → IsAccounted reference new
 known-way reference old new n offer report is same rows known =
     let seen = given-seen old n offer report is in
     let one = seen-row old n offer report seen in
@@ -132,6 +133,7 @@ known-way reference old new n offer report is same rows known =
       reports = subst (AllByRecursion (λ (q : Report). is_some (account_row reference q.account) ≡ true)) (sym same.entries.trades) known.reports;
       offers = subst (AllByRecursion (λ (o : Row). is_some (account_row reference o.offer.account) ≡ true)) (sym same.offers) known.offers;
       rows = rows-known reference old.positions new.positions (report.account ∷ offer.account ∷ []) known.rows (theirs, (mine, tt)) rows;
+      even = λ symbol. same.positions.sums Buy symbol ∙ known.even symbol ∙ sym (same.positions.sums Sell symbol);
     }
 
 -- no answer changes twice
@@ -208,7 +210,8 @@ moves-one reference old new one_take offer report is may same offers uses holds 
       kept = λ history sweep kept.
           let f = found-there reference history old one_take.offer kept may.still_open.0 in
           lots-taken reference history old new (part sweep one_take) one_take.offer one_take.lots offer report f.1 f.0 seen (part-takes sweep one_take) same offers uses holds kept f.2 f.3 (omega (arith, f.4, may.left.0));
-      known = known-moved {T = Unit {0}} {E = Unit {0}} reference old new (Ok tt) one_take.offer (taken one_take.lots) offer report seen (λ row. refl) same.trades offers tt (only rows);
+      known = known-moved {T = Unit {0}} {E = Unit {0}} reference old new (Ok tt) one_take.offer (taken one_take.lots) offer report seen (λ row. refl) same.trades offers tt (only rows)
+          (λ even symbol. holds.sums Buy symbol ∙ even symbol ∙ sym (holds.sums Sell symbol));
     }
   where
     only : KeepsRows old.positions new.positions → OnlyRowsOf old.positions new.positions (report.account ∷ offer.account ∷ [])

@@ -11,6 +11,7 @@ use Rattle.gu_terms.specs.declared.id.Id.{Id}
 use Rattle.gu_terms.specs.declared.limit_key.LimitKey.{LimitKey}
 use Rattle.gu_terms.specs.declared.report.Report.{Report}
 use Rattle.gu_terms.specs.declared.side.Side.{Side}
+use Rattle.gu_terms.specs.declared.side.Side.TheVariants.{Buy, Sell}
 use Rattle.gu_terms.specs.declared.symbol.Symbol.{Symbol}
 use Rattle.gu_ref.specs.Reference.{account_row, agreement_between}
 use Rattle.gu_ref.specs.Tables.{Tables}
@@ -71,11 +72,12 @@ pub record IsKept (reference : Tables) (history : List Entry) (totals : Totals) 
   pub orderly : IsOrderly history
   pub beside : IsBeside reference history totals
 
--- the accounts of all reports, of all offers and of all positions are in the reference
-pub record AreKnown (reference : Tables) (totals : Totals) : Type 0 where
+-- all is accounted for: the accounts of all reports, of all offers and of all positions are in the reference, and of each instrument as many lots are held long as short
+pub record IsAccounted (reference : Tables) (totals : Totals) : Type 0 where
   pub reports : AllByRecursion (λ (r : Report). is_some (account_row reference r.account) ≡ true) totals.trades
   pub offers : AllByRecursion (λ (r : Row). is_some (account_row reference r.offer.account) ≡ true) totals.offers
   pub rows : (account : AccountId) (symbol : Symbol) → has_row totals.positions account symbol ≡ true → is_some (account_row reference account) ≡ true
+  pub even : (symbol : Symbol) → lots_on totals.positions Buy symbol ≡ lots_on totals.positions Sell symbol
 
 -- no product group has more than 4,096 open offers
 abbrev pub AreFew : List Row → Type 0
@@ -94,6 +96,6 @@ pub record IsShown (reference : Tables) (rows : List Row) : Type 0 where
 pub record IsKeptLegal (reference : Tables) (history : List Entry) (totals : Totals) (versions : Versions) : Type 0 where
   pub legal : IsLegal reference history
   pub kept : IsKept reference history totals
-  pub known : AreKnown reference totals
+  pub known : IsAccounted reference totals
   pub shown : IsShown reference totals.offers
   pub counted : AreVersions history versions

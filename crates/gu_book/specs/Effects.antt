@@ -8,6 +8,7 @@ use Rattle.gu_terms.specs.declared.limit_key.LimitKey.{LimitKey}
 use Rattle.gu_terms.specs.declared.offer.Offer.{Offer}
 use Rattle.gu_terms.specs.declared.report.Report.{Report}
 use Rattle.gu_terms.specs.declared.side.Side.{Side}
+use Rattle.gu_terms.specs.declared.side.Side.TheVariants.{Buy, Sell}
 use Rattle.gu_terms.specs.declared.symbol.Symbol.{Symbol}
 use Rattle.gu_ref.specs.Tables.{Tables}
 use Rattle.gu_limits.specs.Changes.{SameLimits, lots_under}
@@ -34,6 +35,10 @@ OnlyRowsOf old new accounts =
 -- the rows that there were are there
 abbrev pub KeepsMade : List Row → List Row → Type 0
 KeepsMade old new = (account : AccountId) (symbol : Symbol) → has_row old account symbol ≡ true → has_row new account symbol ≡ true
+
+-- of each instrument as many lots are held long as short
+abbrev pub IsEven : List Row → Type 0
+IsEven rows = (symbol : Symbol) → lots_on rows Buy symbol ≡ lots_on rows Sell symbol
 
 -- lots of reports are held more
 pub record HoldsMore (old new : List Row) (reports : List Report) : Type 0 where

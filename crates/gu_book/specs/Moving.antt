@@ -20,7 +20,7 @@ use Rattle.gu_offers.specs.Changes.{changed, taken}
 use Rattle.gu_offers.specs.Rows.{Row, left_in, row_at}
 use Rattle.gu_positions.specs.Changes.{KeepsRows}
 use Rattle.gu_positions.specs.Rows.{has_row, lots_on}
-use Rattle.gu_book.specs.Beside.{AreKnown, IsKept, IsShown}
+use Rattle.gu_book.specs.Beside.{IsAccounted, IsKept, IsShown}
 use Rattle.gu_book.specs.Effects.{SameEntries, UsesMore}
 use Rattle.gu_book.specs.Limits.{path_behind}
 use Rattle.gu_book.specs.Positions.{report_behind}
@@ -65,11 +65,11 @@ pub record MovesOne (reference : Tables) (old new : Totals) (take : Take) : Type
   pub rows : KeepsRows old.positions new.positions
   pub sums : (side : Side) (symbol : Symbol) → lots_on new.positions side symbol ≡ lots_on old.positions side symbol
   pub kept : (history : List Entry) (sweep : SweepEntry) → IsKept reference history old → IsKept reference (history ++ part sweep take ∷ []) new
-  pub known : AreKnown reference old → AreKnown reference new
+  pub known : IsAccounted reference old → IsAccounted reference new
 
 -- takes were moved, one after another
 pub record MovesAll (reference : Tables) (old new : Totals) (takes : List Take) : Type 0 where
   pub sums : (side : Side) (symbol : Symbol) → lots_on new.positions side symbol ≡ lots_on old.positions side symbol
   pub kept : (history : List Entry) (sweep : SweepEntry) → IsKept reference history old → IsKept reference (history ++ parts sweep takes) new
-  pub known : AreKnown reference old → AreKnown reference new
+  pub known : IsAccounted reference old → IsAccounted reference new
   pub shown : IsShown reference old.offers → IsShown reference new.offers

@@ -1,5 +1,5 @@
 -- Positions: what an account holds of an instrument.
-use Rattle.std.specs.Prelude.{ℕ, ◌+◌, ◌-◌, ◌==◌, ◌&&◌, Bool, false, List, Option, Some, None, sum_by, if◌then◌else◌}
+use Rattle.std.specs.Prelude.{◌≡◌, ℕ, ◌+◌, ◌-◌, ◌==◌, ◌&&◌, Bool, false, List, Option, Some, None, sum_by, if◌then◌else◌}
 use Rattle.std.specs.List.{filter_map}
 use Rattle.std.specs.Option.{option_map_or}
 use Rattle.gu_terms.specs.declared.account.AccountId.{AccountId}
@@ -87,3 +87,10 @@ is_of_firm reference firm account = option_map_or (λ row. same_firm row.firm fi
 abbrev pub open_interest_of : Kept → Symbol → ℕ
 open_interest_of book symbol =
     sum_by (λ (a : Account). long_of book.history a.account symbol - short_of book.history a.account symbol) book.reference.accounts
+
+-- over the accounts, as many lots of each instrument are held long as short
+abbrev pub LongIsShort : Kept → Type 0
+LongIsShort book =
+    (symbol : Symbol)
+    → sum_by (λ (a : Account). long_of book.history a.account symbol) book.reference.accounts
+    ≡ sum_by (λ (a : Account). short_of book.history a.account symbol) book.reference.accounts

@@ -9,7 +9,7 @@ ghost use Rattle.gu_book.specs.Legal.{IsLegal, MayFollow, StandsLast};
 ghost use Rattle.gu_book.specs.Limits.{limit_rows};
 ghost use Rattle.gu_book.specs.Notices.{notices_of};
 ghost use Rattle.gu_book.specs.Orderly.{IsOrderly};
-ghost use Rattle.gu_book.specs.Positions.{is_of_firm, long_of, open_interest_of, position_rows, short_of};
+ghost use Rattle.gu_book.specs.Positions.{LongIsShort, is_of_firm, long_of, open_interest_of, position_rows, short_of};
 ghost use Rattle.gu_book.specs.Reports.{open_day};
 ghost use Rattle.gu_book.specs.Views.{group_view};
 ghost use Rattle.gu_view.specs.View.{IsNested};
@@ -326,7 +326,12 @@ impl Book {
         ensures history { result.now ≡ self.now.history }
         ensures legal { IsLegal self.now.reference self.now.history }
         ensures orderly { IsOrderly self.now.history }
+
+        // Over the accounts, as many lots of each instrument are held long as short.
+        ensures even { LongIsShort self.now }
     {
+        self.reference.rules();
+        self.totals.positions.rules();
         &self.history
     }
 

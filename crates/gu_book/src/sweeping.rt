@@ -3,7 +3,7 @@
 ghost use Rattle.std.specs.Prelude.{◌≡◌, ◌∷◌, [], IfOk, OnOk};
 ghost use Rattle.std.specs.List.{AllByRecursion};
 ghost use Rattle.gu_ref.specs.Tables.{Tables};
-ghost use Rattle.gu_book.specs.Beside.{AreKnown};
+ghost use Rattle.gu_book.specs.Beside.{IsAccounted};
 ghost use Rattle.gu_book.specs.Effects.{KeepsMade, SameAnswers};
 ghost use Rattle.gu_book.specs.Commits.{sweep_of};
 ghost use Rattle.gu_book.specs.Moving.{HasRows, MayMove, MovesAll, MovesOne};
@@ -52,7 +52,7 @@ fn make_way(totals: &mut Totals, number: OfferNo) -> Result<(), AllocError>
     ensures rows { OnOk result (HasRows totals.new number) }
     ensures stay { KeepsMade totals.old.positions totals.new.positions }
     ensures same { SameAnswers totals.old totals.new }
-    ensures known { (reference : Tables) → AreKnown reference totals.old → AreKnown reference totals.new }
+    ensures known { (reference : Tables) → IsAccounted reference totals.old → IsAccounted reference totals.new }
 {
     match totals.given(number) {
         Some((offer, report)) => totals.make_way(&offer, &report),
@@ -64,7 +64,7 @@ fn make_way(totals: &mut Totals, number: OfferNo) -> Result<(), AllocError>
 pub fn make_ways(totals: &mut Totals, takes: &[Take]) -> Result<(), AllocError>
     ensures rows { OnOk result (AllByRecursion (λ t. HasRows totals.new t.offer) takes.now) }
     ensures same { SameAnswers totals.old totals.new }
-    ensures known { (reference : Tables) → AreKnown reference totals.old → AreKnown reference totals.new }
+    ensures known { (reference : Tables) → IsAccounted reference totals.old → IsAccounted reference totals.new }
 {
     for take in takes {
         make_way(totals, take.offer)?;

@@ -3,7 +3,7 @@
 ghost use Rattle.std.specs.Prelude.{OnErr, OnOk};
 ghost use Rattle.gu_terms.specs.declared.alloc_reject.AllocReject.{AllocReject as AllocRejectOf};
 ghost use Rattle.gu_terms.specs.declared.firm.FirmId.{FirmId as FirmIdOf};
-ghost use Rattle.gu_book.specs.Beside.{AreKnown};
+ghost use Rattle.gu_book.specs.Beside.{IsAccounted};
 ghost use Rattle.gu_book.specs.Effects.{SameAnswers};
 ghost use Rattle.gu_book.specs.Accepted.{MayClaim, MayReverse, MayTakeIn, TakesIn};
 
@@ -25,7 +25,7 @@ fn take_in_give_up(
     requires { MayTakeIn reference.now totals.old (Command.GiveUp firm.now id.now report.now lines.now) }
     ensures taken { OnOk result (TakesIn reference.now totals.old totals.new (Command.GiveUp firm.now id.now report.now lines.now)) }
     ensures refused { OnErr result (SameAnswers totals.old totals.new) }
-    ensures known { AreKnown reference.now totals.old → AreKnown reference.now totals.new }
+    ensures known { IsAccounted reference.now totals.old → IsAccounted reference.now totals.new }
 {
     let Some((_, group)) = given_up(reference, totals, firm, report) else {
         unreachable!();
@@ -44,7 +44,7 @@ fn take_in_claim(
     requires { MayClaim reference.now totals.old number }
     ensures taken { OnOk result ((firm : FirmIdOf) → TakesIn reference.now totals.old totals.new (Command.Claim firm number)) }
     ensures refused { OnErr result (SameAnswers totals.old totals.new) }
-    ensures known { AreKnown reference.now totals.old → AreKnown reference.now totals.new }
+    ensures known { IsAccounted reference.now totals.old → IsAccounted reference.now totals.new }
 {
     let Some(offer) = totals.offers.get(number) else {
         unreachable!();
@@ -65,7 +65,7 @@ fn take_in_reversal(
     requires { MayReverse reference.now totals.old number }
     ensures taken { OnOk result ((firm : FirmIdOf) → TakesIn reference.now totals.old totals.new (Command.Reverse firm number)) }
     ensures refused { OnErr result (SameAnswers totals.old totals.new) }
-    ensures known { AreKnown reference.now totals.old → AreKnown reference.now totals.new }
+    ensures known { IsAccounted reference.now totals.old → IsAccounted reference.now totals.new }
 {
     let Some(offer) = totals.offers.get(number) else {
         unreachable!();
@@ -86,7 +86,7 @@ pub fn take_in(
     requires { MayTakeIn reference.now totals.old command.now }
     ensures taken { OnOk result (TakesIn reference.now totals.old totals.new command.now) }
     ensures refused { OnErr result (SameAnswers totals.old totals.new) }
-    ensures known { AreKnown reference.now totals.old → AreKnown reference.now totals.new }
+    ensures known { IsAccounted reference.now totals.old → IsAccounted reference.now totals.new }
 {
     match command {
         Command::OpenDay { day } => {

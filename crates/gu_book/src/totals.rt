@@ -5,7 +5,7 @@ ghost use Rattle.std.specs.Option.{option_to_list};
 ghost use Rattle.gu_limits.specs.Limits.{room_in, used_in};
 ghost use Rattle.gu_offers.specs.Changes.{changed, closed, next_day, reversed, taken, with_lines};
 ghost use Rattle.gu_offers.specs.Rows.{left_in, row_at, today_in};
-ghost use Rattle.gu_positions.specs.Changes.{KeepsLots, KeepsRows, lots_at};
+ghost use Rattle.gu_positions.specs.Changes.{KeepsLots, KeepsRows, lots_at, lots_at_side};
 ghost use Rattle.gu_positions.specs.Rows.{has_row, lots_in, lots_on};
 ghost use Rattle.gu_terms.specs.declared.account.AccountId.{AccountId as AccountOf};
 ghost use Rattle.gu_terms.specs.declared.side.Side.{Side as SideOf};
@@ -14,7 +14,7 @@ ghost use Rattle.gu_trades.specs.Matching.{conflicts, is_waiting};
 ghost use Rattle.gu_trades.specs.Sides.{reports_in};
 ghost use Rattle.gu_trades.specs.Reports.{has_report, report_by, with_match};
 ghost use Rattle.gu_book.specs.Beside.{is_kept_give_up};
-ghost use Rattle.gu_book.specs.Effects.{HoldsMore, HoldsMoved, KeepsMade, OnlyRowsOf, SameAnswers, SameEntries, SetsLimit, UsesLess, UsesMore, UsesNothing, made_a_trade};
+ghost use Rattle.gu_book.specs.Effects.{HoldsMore, HoldsMoved, IsEven, KeepsMade, OnlyRowsOf, SameAnswers, SameEntries, SetsLimit, UsesLess, UsesMore, UsesNothing, made_a_trade};
 ghost use Rattle.gu_book.specs.Limits.{path_behind};
 ghost use Rattle.gu_book.specs.Moving.{given_by};
 ghost use Rattle.gu_book.specs.Reports.{Fits};
@@ -143,6 +143,7 @@ impl Totals {
         ensures limits { self.new.limits ≡ self.old.limits }
         ensures positions { OnOk result
             (HoldsMore self.old.positions self.new.positions (made_a_trade (with_match report.now.match_id self.old.trades) report.now)) }
+        ensures even { IsEven self.old.positions → IsEven self.new.positions }
         ensures rows { OnlyRowsOf self.old.positions self.new.positions
             (report.now.account ∷ map (λ w. w.account) (with_match report.now.match_id self.old.trades)) }
         ensures refused { OnErr result (SameAnswers self.old self.new) }
@@ -270,6 +271,7 @@ impl Totals {
         ensures limits { OnOk result (UsesMore reference.now self.old.limits self.new.limits offer.now lots) }
         ensures positions { OnOk result
             (HoldsMoved self.old.positions self.new.positions report.now report.now.account offer.now.account lots) }
+        ensures even { IsEven self.old.positions → IsEven self.new.positions }
         ensures rows { OnlyRowsOf self.old.positions self.new.positions (report.now.account ∷ offer.now.account ∷ []) }
         ensures refused { OnErr result (SameAnswers self.old self.new) }
     {
@@ -296,6 +298,7 @@ impl Totals {
         ensures limits { OnOk result (UsesLess reference.now self.old.limits self.new.limits offer.now lots) }
         ensures positions { OnOk result
             (HoldsMoved self.old.positions self.new.positions report.now offer.now.account report.now.account lots) }
+        ensures even { IsEven self.old.positions → IsEven self.new.positions }
         ensures rows { OnlyRowsOf self.old.positions self.new.positions (report.now.account ∷ offer.now.account ∷ []) }
         ensures refused { OnErr result (SameAnswers self.old self.new) }
     {
@@ -373,6 +376,9 @@ fn hold(positions: &mut Positions, report: &Report)
     ensures lots { (on : SideOf) (other : AccountOf) (another : SymbolOf) → lots_in positions.new on other another
         ≡ lots_in positions.old on other another + lots_at report.now.side report.now.account report.now.symbol report.now.lots on other another }
     ensures sums { (on : SideOf) (another : SymbolOf) → lots_on positions.new on another ≤ lots_on positions.old on another + 1000000 }
+    ensures added { (on : SideOf) (another : SymbolOf) → lots_on positions.new on another
+        ≡ lots_on positions.old on another + lots_at_side report.now.side report.now.symbol report.now.lots on another }
+    ensures most { report.now.lots ≤ 1000000 }
 {
     positions.add(
         report.account,

@@ -2,6 +2,7 @@
 
 ghost use Rattle.std.specs.Prelude.{◌≡◌, ◌≢◌, All, IfOk, take};
 ghost use Rattle.gu_book.specs.Legal.{IsLegal};
+ghost use Rattle.gu_book.specs.Positions.{LongIsShort};
 ghost use Rattle.gu_world.specs.Headline.{AreGreatestSweeps, ArePositionsSums};
 ghost use Rattle.gu_world.specs.Runs.{IsRunOf};
 ghost use Rattle.gu_world.specs.declared.outcome.Outcome.TheVariants.{Foreign};
@@ -32,8 +33,10 @@ pub fn run(alloc: Global, reference: Reference, steps: &[Step]) -> Result<World,
     // admissible takes would, oldest first, and its cut's room is the lots taken.
     ensures sweeps { IfOk result (λ world. AreGreatestSweeps reference world.state.book.history) }
 
-    // Each position is the sum of the account's trades, and of what claims and sweeps moved to it, less what they moved from it.
+    // Each position is the sum of the account's trades, and of what claims and sweeps moved to it, less what they moved from it; and over
+    // the accounts, as many lots of each instrument are held long as short.
     ensures positions { IfOk result (λ world. ArePositionsSums world.state.book.history) }
+    ensures even { IfOk result (λ world. LongIsShort world.state.book) }
     ensures never_foreign { IfOk result (λ world. All (λ outcome. outcome ≢ Foreign) world.outcomes) }
 {
     let world = take_all(alloc, reference, steps)?;

@@ -56,7 +56,7 @@ returns-in-Some-clause-known c =
     let at = c.in-ReportSide in
     let e = c.report.ensures in
     known-reported c.args.reference.now at.firm at.id at.match_id at.symbol at.lots at.price at.day at.side at.account c.in-Some.day c.args.totals.now c.report.new.self c.report.result c.in-Some.is
-    (subst (λ (command : Command). MayTakeIn c.args.reference.now c.args.totals.now command) at.is c.requires) e.offers e.trades e.refused e.rows
+    (subst (λ (command : Command). MayTakeIn c.args.reference.now c.args.totals.now command) at.is c.requires) e.offers e.trades e.refused e.rows e.even
 
 pub returns-in-Refuse-clause-known : goal.returns-in-Refuse-clause-known
 returns-in-Refuse-clause-known c =

@@ -26,4 +26,4 @@ returns-clause-taken c =
 pub returns-clause-known : goal.returns-clause-known
 returns-clause-known c =
     known-moved c.args.reference.now c.args.totals.now c.claim.new.self c.claim.result c.args.number (taken c.left-lots.result) c.in-Some.offer c.in-Some-side_of.report
-    (record { shown = c.in-Some.ensures; found = c.in-Some-side_of.ensures.found }) (λ row. refl) c.claim.ensures.entries.trades c.claim.ensures.offers c.claim.ensures.refused c.claim.ensures.rows
+    (record { shown = c.in-Some.ensures; found = c.in-Some-side_of.ensures.found }) (λ row. refl) c.claim.ensures.entries.trades c.claim.ensures.offers c.claim.ensures.refused c.claim.ensures.rows c.claim.ensures.even

@@ -26,4 +26,4 @@ returns-clause-taken c =
 pub returns-clause-known : goal.returns-clause-known
 returns-clause-known c =
     known-moved c.args.reference.now c.args.totals.now c.reverse.new.self c.reverse.result c.args.number reversed c.in-Some.offer c.in-Some-side_of.report
-    (record { shown = c.in-Some.ensures; found = c.in-Some-side_of.ensures.found }) (λ row. refl) c.reverse.ensures.entries.trades c.reverse.ensures.offers c.reverse.ensures.refused c.reverse.ensures.rows
+    (record { shown = c.in-Some.ensures; found = c.in-Some-side_of.ensures.found }) (λ row. refl) c.reverse.ensures.entries.trades c.reverse.ensures.offers c.reverse.ensures.refused c.reverse.ensures.rows c.reverse.ensures.even

@@ -3,6 +3,7 @@ use Rattle.gu_ref.specs.Tables.{Tables}
 use Rattle.gu_book.specs.Kept.{Kept}
 use Rattle.gu_book.specs.Legal.{IsLegal}
 use Rattle.gu_book.specs.Orderly.{IsOrderly}
+use Rattle.gu_book.specs.Positions.{LongIsShort}
 use Rattle.gu_world.specs.Steps.{start}
 use Rattle.gu_world.proofs.HeadlineLemmas.{never_foreign, positions_are_sums, run-reference, sweeps_are_greatest}
 use Rattle.gu_world.proofs.running.run.Goals as goal
@@ -20,6 +21,9 @@ returns-clause-sweeps c = sweeps_are_greatest c.args.reference c.in_ok-world.wor
 pub returns-clause-positions : goal.returns-clause-positions
 returns-clause-positions c =
     positions_are_sums c.in_ok-world.world.state.book.history (subst (λ (b : Kept). IsOrderly b.history) c.book.ensures c.history.ensures.orderly)
+
+pub returns-clause-even : goal.returns-clause-even
+returns-clause-even c = subst LongIsShort c.book.ensures c.history.ensures.even
 
 pub returns-clause-never_foreign : goal.returns-clause-never_foreign
 returns-clause-never_foreign c = never_foreign (start c.args.reference) c.args.steps.now c.in_ok-world.world.outcomes c.in_ok-world.world.state c.in_ok-world.ensures
