@@ -1,7 +1,12 @@
 pub mod Lines
+pub mod Outcomes
 pub mod Reading
+pub mod Replies
+pub mod Rows
+pub mod Scripts
 pub mod SheetLines
 pub mod SheetParts
+pub mod SheetText
 pub mod Sheets
 pub mod Texts
 pub mod Verdicts

@@ -4,6 +4,7 @@
 mod error;
 mod lines;
 mod numbers;
+mod script_line;
 mod sheet;
 mod sheet_line;
 mod sheet_parts;
@@ -13,5 +14,6 @@ mod verdicts;
 mod words;
 
 pub use error::SheetError;
+pub use script_line::Line;
 pub use sheet::Sheet;
 pub use verdicts::verdict_text;
