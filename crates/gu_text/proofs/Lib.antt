@@ -1,3 +1,4 @@
+pub mod LineFeedLaws
 mod LineLemmas
 mod NumberLemmas
 mod Places

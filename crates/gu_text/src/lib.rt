@@ -2,6 +2,7 @@
 #![tactic(auto)]
 
 mod error;
+mod line_feed;
 mod lines;
 mod numbers;
 mod script_line;
@@ -14,6 +15,8 @@ mod verdicts;
 mod words;
 
 pub use error::SheetError;
+pub use line_feed::{is_too_long, split_at_line_feed};
+pub use lines::without_return;
 pub use script_line::Line;
 pub use sheet::Sheet;
 pub use verdicts::verdict_text;
