@@ -60,18 +60,18 @@ leaves_behind bytes front behind is =
       ended_are = λ more. ap ended_lines (split more) ∙ ended_lines-parted front (behind ++ more) is.first;
     }
 
-leaves_then_by : (f : List ℕ → List (List ℕ)) (text piece rest last : List ℕ) (ended others : List (List ℕ))
-    → ((more : List ℕ) → f (text ++ more) ≡ ended ++ f (rest ++ more)) → ((more : List ℕ) → f ((rest ++ piece) ++ more) ≡ others ++ f (last ++ more))
-    → (more : List ℕ) → f ((text ++ piece) ++ more) ≡ (ended ++ others) ++ f (last ++ more)
-leaves_then_by f text piece rest last ended others first second more =
-    ap f (append_assoc text piece more) ∙ first (piece ++ more) ∙ ap (λ (t : List ℕ). ended ++ f t) (sym (append_assoc rest piece more))
-    ∙ ap (λ (ls : List (List ℕ)). ended ++ ls) (second more) ∙ sym (append_assoc ended others (f (last ++ more)))
+-- lines of the rest are ended too
+pub leaves_on : (text rest last : List ℕ) (ended others : List (List ℕ)) → LeavesOpen text ended rest → LeavesOpen rest others last → LeavesOpen text (ended ++ others) last
+leaves_on text rest last ended others first second = record {
+  lines_are = λ more. first.lines_are more ∙ ap (λ (ls : List (List ℕ)). ended ++ ls) (second.lines_are more) ∙ sym (append_assoc ended others (lines (last ++ more)));
+  ended_are = λ more. first.ended_are more ∙ ap (λ (ls : List (List ℕ)). ended ++ ls) (second.ended_are more) ∙ sym (append_assoc ended others (ended_lines (last ++ more)));
+}
 
--- a piece comes behind a text, and lines of the rest are ended by it
-pub leaves_then : (text piece rest last : List ℕ) (ended others : List (List ℕ)) → LeavesOpen text ended rest → LeavesOpen (rest ++ piece) others last → LeavesOpen (text ++ piece) (ended ++ others) last
-leaves_then text piece rest last ended others first second = record {
-  lines_are = leaves_then_by lines text piece rest last ended others first.lines_are second.lines_are;
-  ended_are = leaves_then_by ended_lines text piece rest last ended others first.ended_are second.ended_are;
+-- a piece comes behind a text, and so behind its rest
+pub leaves_with : (text piece rest : List ℕ) (ended : List (List ℕ)) → LeavesOpen text ended rest → LeavesOpen (text ++ piece) ended (rest ++ piece)
+leaves_with text piece rest ended leaves = record {
+  lines_are = λ more. ap lines (append_assoc text piece more) ∙ leaves.lines_are (piece ++ more) ∙ ap (λ (t : List ℕ). ended ++ lines t) (sym (append_assoc rest piece more));
+  ended_are = λ more. ap ended_lines (append_assoc text piece more) ∙ leaves.ended_are (piece ++ more) ∙ ap (λ (t : List ℕ). ended ++ ended_lines t) (sym (append_assoc rest piece more));
 }
 
 -- the lines of a text of which this rest is left
