@@ -1,3 +1,4 @@
+mod JoinedWords
 mod LineLemmas
 mod NumberLemmas
 mod Places

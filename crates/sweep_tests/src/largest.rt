@@ -2,7 +2,7 @@
 
 use crate::fixture::{CROSSED, proposal, sheet, view};
 use gu_flow::Proposal;
-use gu_text::{Sheet, SheetError, verdict_text};
+use gu_text::{Sheet, TextError, verdict_text};
 use gu_view::{View, check};
 use std::alloc::Global;
 use std::process::Abort;
@@ -70,8 +70,8 @@ fn sheet_of_4096_offers_is_read_checked_and_swept(rt: HostRuntime) -> Result<(),
 fn bad_line(alloc: Global, offers: u64) -> Option<u64> {
     let text = format!(in alloc; "{}END\n", apart(alloc, offers)?).ok()?;
     match Sheet::read(alloc, text.as_bytes()) {
-        Ok(_) | Err(SheetError::Memory) => None,
-        Err(SheetError::BadLine(number)) => Some(number),
+        Ok(_) | Err(TextError::Memory) => None,
+        Err(TextError::BadLine(number)) => Some(number),
     }
 }
 

@@ -2,7 +2,7 @@
 
 use crate::fixture::{OfferLine, RoomLine, SHARED, made, proposed};
 use gu_flow::{Proposal, propose};
-use gu_text::{Sheet, SheetError, verdict_text};
+use gu_text::{Sheet, TextError, verdict_text};
 use gu_view::{View, ViewError, check};
 use std::alloc::Global;
 use std::process::Abort;
@@ -162,7 +162,7 @@ fn read_again(rt: &impl Abort, alloc: Global, text: &str) -> Option<Sheet> {
     match Sheet::read(alloc, text.as_bytes()) {
         Ok(sheet) => Some(sheet),
         Err(refused) => {
-            assert_eq!(rt; refused, SheetError::Memory);
+            assert_eq!(rt; refused, TextError::Memory);
             Sheet::read(alloc, text.as_bytes()).ok()
         }
     }
