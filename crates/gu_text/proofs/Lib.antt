@@ -1,7 +1,11 @@
+mod FormLemmas
 mod JoinedWords
 mod LineLemmas
 mod NumberLemmas
+mod OneLine
+mod OneMeaning
 mod Places
+mod ScriptLemmas
 mod SheetLemmas
 mod Splits
 mod TakesLemmas

@@ -3,6 +3,7 @@ pub mod Outcomes
 pub mod Reading
 pub mod Replies
 pub mod Rows
+pub mod ScriptForms
 pub mod Scripts
 pub mod SheetLines
 pub mod SheetParts

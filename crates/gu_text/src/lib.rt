@@ -2,11 +2,12 @@
 #![tactic(auto)]
 
 mod error;
+mod laws;
 mod lines;
-mod numbers;
 mod outcomes;
 mod replies;
 mod rows;
+mod script_forms;
 mod script_line;
 mod sheet;
 mod sheet_line;
@@ -14,10 +15,12 @@ mod sheet_parts;
 mod sheet_writing;
 mod takes_in_order;
 pub mod texts;
+mod values;
 mod verdicts;
 mod words;
 
 pub use error::TextError;
+pub use laws::a_line_says_one_thing;
 pub use outcomes::{append_outcome, outcome_text};
 pub use replies::{append_reply, reply_text};
 pub use rows::{
