@@ -5,6 +5,7 @@ mod NumberLemmas
 mod OneLine
 mod OneMeaning
 mod Places
+mod ReadBackLemmas
 mod ScriptLemmas
 mod SheetLemmas
 mod Splits

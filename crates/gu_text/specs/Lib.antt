@@ -1,5 +1,6 @@
 pub mod Lines
 pub mod Outcomes
+pub mod ReadBack
 pub mod Reading
 pub mod Replies
 pub mod Rows
