@@ -6,6 +6,7 @@ mod OneLine
 mod OneMeaning
 mod Places
 mod ReadBackLemmas
+mod ReadLemmas
 mod ScriptLemmas
 mod SheetLemmas
 mod Splits
