@@ -6,6 +6,7 @@ use Rattle.std.specs.Str.Lines.{lines, lines_of_parts, strip_carriage_return}
 use Rattle.std.proofs.lemmas.List.Splits.{length-slice_split}
 use Rattle.gu_text.proofs.Splits.{split_first, split_none}
 
+-- the first of some parts is a line without its CR
 pub first_of_parts : (part : List ℕ) (parts : List (List ℕ)) → 0 < length parts → lines_of_parts (part ∷ parts) ≡ strip_carriage_return part ∷ lines_of_parts parts
 first_of_parts part [] h = absurd (omega (arith, h))
 first_of_parts part (next ∷ parts) h = refl

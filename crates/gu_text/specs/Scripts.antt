@@ -46,7 +46,7 @@ WritesCommand words (SetLimit group key lots) =
 WritesCommand words (ReportSide firm id match_id symbol lots price day side account) =
     (lots_text : List ℕ) × (price_text : List ℕ)
     × (words
-        ≡ codes "REPORT" ∷ firm.name ∷ id ∷ match_id ∷ side_word side ∷ symbol.name ∷ lots_text ∷ price_text ∷ account.name ∷ [])
+    ≡ codes "REPORT" ∷ firm.name ∷ id ∷ match_id ∷ side_word side ∷ symbol.name ∷ lots_text ∷ price_text ∷ account.name ∷ [])
     × IsTrue (is_name firm.name && is_name symbol.name && is_name account.name)
     × IsId id × IsId match_id × MeansLots lots_text lots × MeansPrice price_text price × (day ≡ None)
 WritesCommand words (GiveUp firm id report lines) =

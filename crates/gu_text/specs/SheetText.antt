@@ -14,8 +14,8 @@ use Rattle.gu_text.specs.Replies.{key_words}
 use Rattle.gu_text.specs.Texts.{line_of}
 
 -- `SHEET group version`
-abbrev pub head_line : GroupView → List ℕ
-head_line view = line_of (codes "SHEET" ∷ view.group.name ∷ decimal view.version ∷ [])
+abbrev pub head_words : GroupView → List (List ℕ)
+head_words view = codes "SHEET" ∷ view.group.name ∷ decimal view.version ∷ []
 
 -- the names on a path but its agreement's: executing firm, account, carrying firm, and the guarantor where there is one
 abbrev pub path_words : List LimitKey → List (List ℕ)
@@ -23,24 +23,46 @@ path_words (executing ∷ agreement ∷ others) = name_of_key executing ∷ map 
 path_words _ = []
 
 -- `OFFER number lots agreement`, and the path
-abbrev pub offer_line : Offer → List ℕ
-offer_line offer = line_of (codes "OFFER" ∷ decimal offer.number ∷ decimal offer.lots ∷ offer.agreement.name ∷ path_words offer.path)
+abbrev pub offer_words : Offer → List (List ℕ)
+offer_words offer = codes "OFFER" ∷ decimal offer.number ∷ decimal offer.lots ∷ offer.agreement.name ∷ path_words offer.path
 
 -- `ROOM KIND name lots`
+abbrev pub room_words : Room → List (List ℕ)
+room_words room = codes "ROOM" ∷ key_words room.key ++ decimal room.lots ∷ []
+
+-- `TAKE number lots`
+abbrev pub take_words : ℕ → ℕ → List (List ℕ)
+take_words number lots = codes "TAKE" ∷ decimal number ∷ decimal lots ∷ []
+
+-- `CUT KIND name`
+abbrev pub cut_key_words : LimitKey → List (List ℕ)
+cut_key_words key = codes "CUT" ∷ key_words key
+
+-- `CUT OFFER number`
+abbrev pub cut_offer_words : ℕ → List (List ℕ)
+cut_offer_words number = codes "CUT" ∷ codes "OFFER" ∷ decimal number ∷ []
+
+-- the lines of these words: the head, an offer, and the room of a key
+abbrev pub head_line : GroupView → List ℕ
+head_line view = line_of (head_words view)
+
+abbrev pub offer_line : Offer → List ℕ
+offer_line offer = line_of (offer_words offer)
+
 abbrev pub room_line : Room → List ℕ
-room_line room = line_of (codes "ROOM" ∷ key_words room.key ++ decimal room.lots ∷ [])
+room_line room = line_of (room_words room)
 
--- `TAKE number lots`, of 0 lots too
+-- the lots that are taken of an offer, 0 too
 abbrev pub take_line : List Take → Offer → List ℕ
-take_line takes offer = line_of (codes "TAKE" ∷ decimal offer.number ∷ decimal (lots_of takes offer.number) ∷ [])
+take_line takes offer = line_of (take_words offer.number (lots_of takes offer.number))
 
--- `CUT KIND name`, where the key is in the cut
+-- the key of a room, where it is in the cut
 abbrev pub cut_key_line : CutLists → Room → List ℕ
-cut_key_line cut room = if has_key cut.keys room.key then line_of (codes "CUT" ∷ key_words room.key) else []
+cut_key_line cut room = if has_key cut.keys room.key then line_of (cut_key_words room.key) else []
 
--- `CUT OFFER number`, where the offer is in the cut
+-- the number of an offer, where it is in the cut
 abbrev pub cut_offer_line : CutLists → Offer → List ℕ
-cut_offer_line cut offer = if has_number cut.offers offer.number then line_of (codes "CUT" ∷ codes "OFFER" ∷ decimal offer.number ∷ []) else []
+cut_offer_line cut offer = if has_number cut.offers offer.number then line_of (cut_offer_words offer.number) else []
 
 -- `END`
 abbrev pub end_line : List ℕ

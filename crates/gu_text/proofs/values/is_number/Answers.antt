@@ -1,7 +1,7 @@
 use Rattle.std.proofs.Common.{◌<◌, ◌≤◌, length, rules}
 use Rattle.gu_text.proofs.NumberLemmas.{number_tested}
-use Rattle.gu_text.proofs.numbers.is_number.Goals as goal
-use Rattle.gu_text.proofs.numbers.is_number.Goals.{then-not-is_empty, else-not-is_empty}
+use Rattle.gu_text.proofs.values.is_number.Goals as goal
+use Rattle.gu_text.proofs.values.is_number.Goals.{then-not-is_empty, else-not-is_empty}
 
 pub returns-then-word-le-MOST_DIGITS : goal.returns-then-word-le-MOST_DIGITS
 returns-then-word-le-MOST_DIGITS c =
