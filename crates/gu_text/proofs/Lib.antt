@@ -1,6 +1,14 @@
+mod FormLemmas
+mod JoinedWords
+pub mod LineFeedLaws
 mod LineLemmas
 mod NumberLemmas
+mod OneLine
+mod OneMeaning
 mod Places
+mod ReadBackLemmas
+mod ReadLemmas
+mod ScriptLemmas
 mod SheetLemmas
 mod Splits
 mod TakesLemmas

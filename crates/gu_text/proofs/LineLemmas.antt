@@ -6,7 +6,8 @@ use Rattle.std.specs.Str.Lines.{lines, lines_of_parts, strip_carriage_return}
 use Rattle.std.proofs.lemmas.List.Splits.{length-slice_split}
 use Rattle.gu_text.proofs.Splits.{split_first, split_none}
 
-first_of_parts : (part : List ℕ) (parts : List (List ℕ)) → 0 < length parts → lines_of_parts (part ∷ parts) ≡ strip_carriage_return part ∷ lines_of_parts parts
+-- the first of some parts is a line without its CR
+pub first_of_parts : (part : List ℕ) (parts : List (List ℕ)) → 0 < length parts → lines_of_parts (part ∷ parts) ≡ strip_carriage_return part ∷ lines_of_parts parts
 first_of_parts part [] h = absurd (omega (arith, h))
 first_of_parts part (next ∷ parts) h = refl
 
@@ -16,7 +17,7 @@ line_in_front text place h =
     ap lines_of_parts (split_first (λ b. b == 10) text place h)
     ∙ first_of_parts (take place text) (slice_split (λ b. b == 10) (drop (place + 1) text)) (omega (arith, length-slice_split (λ b. b == 10) (drop (place + 1) text)))
 
-last_part : (part : List ℕ) → part ≢ [] → lines_of_parts (part ∷ []) ≡ part ∷ []
+pub last_part : (part : List ℕ) → part ≢ [] → lines_of_parts (part ∷ []) ≡ part ∷ []
 last_part [] h = absurd (h refl)
 last_part (b ∷ part) h = cond-false (length (b ∷ part) == 0) [] ((b ∷ part) ∷ []) (ne_eqb (length (b ∷ part)) 0 (λ e. absurd (omega arith)))
 

@@ -11,10 +11,12 @@ at_either (z ∷ xs) ys (suc place) y h =
       | inr second ↦ inr (second.0, second.1, omega (arith, second.2))
     ]
 
-zero_more : (k : ℕ) → 0 + k ≡ k
+-- no places behind the front
+pub zero_more : (k : ℕ) → 0 + k ≡ k
 zero_more k = omega arith
 
-suc_more : (n k : ℕ) → suc n + k ≡ suc (n + k)
+-- one place more
+pub suc_more : (n k : ℕ) → suc n + k ≡ suc (n + k)
 suc_more n k = omega arith
 
 -- a place behind others

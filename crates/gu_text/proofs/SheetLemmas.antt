@@ -16,8 +16,8 @@ use Rattle.gu_text.specs.SheetParts.{SheetParts, part_of, header_in, offer_in, r
 use Rattle.gu_text.specs.Sheets.{MayFollow, IsRightBehind, AreRight, said_in, comes_behind, is_repeated, fits_behind, IsFirstBad, IsUnended, IsSheet, AreTakes, Refuses}
 use Rattle.gu_text.specs.Reading.{with_line, with_text_line, line_fits, is_end, is_ended, AreSilent, BreaksSilence, EndsAt, IsMadeOf, MakesNone}
 use Rattle.gu_text.specs.declared.sheet.Sheet.{Sheet}
-use Rattle.gu_text.specs.declared.error.SheetError.{SheetError}
-use Rattle.gu_text.specs.declared.error.SheetError.TheVariants.{Memory, BadLine}
+use Rattle.gu_text.specs.declared.error.TextError.{TextError}
+use Rattle.gu_text.specs.declared.error.TextError.TheVariants.{Memory, BadLine}
 use Rattle.gu_text.specs.declared.sheet_line.Part.{Part}
 use Rattle.gu_text.specs.declared.sheet_line.Part.TheVariants as part
 use Rattle.gu_text.specs.declared.sheet_line.SheetLine.{SheetLine}
@@ -197,7 +197,7 @@ module _ (text : List ℕ) (parts : SheetParts) (rest : List ℕ) (number : ℕ)
     said_to_end = ap (λ ls. parts_of (said_in ls)) to_end ∙ parts_of-said (take ends.place (lines text)) ends.end ∙ ap (λ (o : Option SheetLine). option_map_or (with_line (parts_of (said_in (take ends.place (lines text))))) o (parts_of (said_in (take ends.place (lines text))))) ends.says_end ∙ sym ends.parts_are
 
     -- a line that speaks behind the end is the first bad one
-    pub bad_behind : (error : SheetError) → BreaksSilence (lines rest) number error → (n : ℕ) × (error ≡ BadLine n) × IsFirstBad (lines text) n
+    pub bad_behind : (error : TextError) → BreaksSilence (lines rest) number error → (n : ℕ) × (error ≡ BadLine n) × IsFirstBad (lines text) n
     bad_behind error breaks =
         let place = number + breaks.place in
         let taken : take place (lines text) ≡ take number (lines text) ++ take breaks.place (lines rest) = take-add number breaks.place (lines text) ∙ ap (λ ls. take number (lines text) ++ take breaks.place ls) ends.rest_are in
@@ -239,17 +239,17 @@ made_sheet text parts rest number ends sheet made silent =
     }
 
 -- why the parts make no sheet is why the text is none
-pub refused_end : (text : List ℕ) (parts : SheetParts) (rest : List ℕ) (number : ℕ) → EndsAt text parts rest number → (error : SheetError) → MakesNone parts number error → Refuses text error
+pub refused_end : (text : List ℕ) (parts : SheetParts) (rest : List ℕ) (number : ℕ) → EndsAt text parts rest number → (error : TextError) → MakesNone parts number error → Refuses text error
 refused_end text parts rest number ends Memory none = tt
 refused_end text parts rest number ends (BadLine n) none = inl (rw (none.0) (bad_end text parts rest number ends none.1))
 
 -- and so is what speaks behind the end
-pub refused_behind : (text : List ℕ) (parts : SheetParts) (rest : List ℕ) (number : ℕ) → EndsAt text parts rest number → MakesView parts.offers parts.rooms → (error : SheetError) → BreaksSilence (lines rest) number error → Refuses text error
+pub refused_behind : (text : List ℕ) (parts : SheetParts) (rest : List ℕ) (number : ℕ) → EndsAt text parts rest number → MakesView parts.offers parts.rooms → (error : TextError) → BreaksSilence (lines rest) number error → Refuses text error
 refused_behind text parts rest number ends makes error breaks =
     let bad = bad_behind text parts rest number ends makes error breaks in
     rw (bad.1) (inl bad.2)
 
 -- an error that is passed on
-pub passed_on : {T : Type 0} (text : List ℕ) (result : Result T SheetError) (error : SheetError) → IsErrAnd result (λ e. e ≡ error) → Refuses text error → IfErr result (Refuses text)
+pub passed_on : {T : Type 0} (text : List ℕ) (result : Result T TextError) (error : TextError) → IsErrAnd result (λ e. e ≡ error) → Refuses text error → IfErr result (Refuses text)
 passed_on text (Ok x) error h refused = tt
 passed_on text (Err e) error h refused = rw h refused

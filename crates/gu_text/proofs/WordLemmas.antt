@@ -10,7 +10,8 @@ use Rattle.gu_text.proofs.Splits.{split_first, split_none}
 pub words_of-blank : (rest : List ℕ) → words_of (32 ∷ rest) ≡ words_of rest
 words_of-blank rest = refl
 
-kept : (part : List ℕ) (parts : List (List ℕ)) → part ≢ [] → filter (λ word. not (is_empty word)) (part ∷ parts) ≡ part ∷ filter (λ word. not (is_empty word)) parts
+-- a part that isn't empty is a word
+pub kept : (part : List ℕ) (parts : List (List ℕ)) → part ≢ [] → filter (λ word. not (is_empty word)) (part ∷ parts) ≡ part ∷ filter (λ word. not (is_empty word)) parts
 kept [] parts h = absurd (h refl)
 kept (b ∷ part) parts h = refl
 

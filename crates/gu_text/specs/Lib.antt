@@ -1,7 +1,15 @@
+pub mod LineFeeds
 pub mod Lines
+pub mod Outcomes
+pub mod ReadBack
 pub mod Reading
+pub mod Replies
+pub mod Rows
+pub mod ScriptForms
+pub mod Scripts
 pub mod SheetLines
 pub mod SheetParts
+pub mod SheetText
 pub mod Sheets
 pub mod Texts
 pub mod Verdicts

@@ -10,8 +10,8 @@ use Rattle.gu_text.specs.SheetLines.{says}
 use Rattle.gu_text.specs.SheetParts.{SheetParts, part_of, header_in, offer_in, room_in, take_in, key_in, number_in, parts_of}
 use Rattle.gu_text.specs.Sheets.{fits_behind, said_in, AreRight, AreTakes}
 use Rattle.gu_text.specs.declared.sheet.Sheet.{Sheet}
-use Rattle.gu_text.specs.declared.error.SheetError.{SheetError}
-use Rattle.gu_text.specs.declared.error.SheetError.TheVariants.{Memory, BadLine}
+use Rattle.gu_text.specs.declared.error.TextError.{TextError}
+use Rattle.gu_text.specs.declared.error.TextError.TheVariants.{Memory, BadLine}
 use Rattle.gu_text.specs.declared.sheet_line.Part.{Part}
 use Rattle.gu_text.specs.declared.sheet_line.Part.TheVariants as part
 use Rattle.gu_text.specs.declared.sheet_line.SheetLine.{SheetLine}
@@ -67,7 +67,7 @@ abbrev pub AreSilent : List (List ℕ) → Type 0
 AreSilent lines = (place : ℕ) (line : List ℕ) → slice_get lines place ≡ Some line → is_silent line ≡ true
 
 -- the first line that isn't silent stands so far behind a line with this number
-pub record BreaksSilence (lines : List (List ℕ)) (from : ℕ) (error : SheetError) : Type 0 where
+pub record BreaksSilence (lines : List (List ℕ)) (from : ℕ) (error : TextError) : Type 0 where
   pub place : ℕ
   pub line : List ℕ
   pub at : slice_get lines place ≡ Some line
@@ -84,10 +84,10 @@ pub record IsMadeOf (parts : SheetParts) (sheet : Sheet) : Type 0 where
   pub cut : sheet.cut ≡ parts.cut
 
 -- why offers and rooms make no view at the end, which has this number: for want of memory, or because they can't
-abbrev pub MakesNoView : List Offer → List Room → ℕ → SheetError → Type 0
+abbrev pub MakesNoView : List Offer → List Room → ℕ → TextError → Type 0
 MakesNoView offers rooms number Memory = Unit {0}
 MakesNoView offers rooms number (BadLine n) = (n ≡ number) × (¬ MakesView offers rooms)
 
 -- why parts make no sheet at the end
-abbrev pub MakesNone : SheetParts → ℕ → SheetError → Type 0
+abbrev pub MakesNone : SheetParts → ℕ → TextError → Type 0
 MakesNone parts number error = MakesNoView parts.offers parts.rooms number error

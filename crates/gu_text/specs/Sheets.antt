@@ -10,8 +10,8 @@ use Rattle.gu_view.specs.Making.{MakesView, view_of}
 use Rattle.gu_text.specs.Lines.{is_silent}
 use Rattle.gu_text.specs.SheetLines.{says}
 use Rattle.gu_text.specs.SheetParts.{SheetParts, part_of, rank_of, parts_of}
-use Rattle.gu_text.specs.declared.error.SheetError.{SheetError}
-use Rattle.gu_text.specs.declared.error.SheetError.TheVariants.{Memory, BadLine}
+use Rattle.gu_text.specs.declared.error.TextError.{TextError}
+use Rattle.gu_text.specs.declared.error.TextError.TheVariants.{Memory, BadLine}
 use Rattle.gu_text.specs.declared.sheet.Sheet.{Sheet}
 use Rattle.gu_text.specs.declared.sheet_line.Part.{Part}
 use Rattle.gu_text.specs.declared.sheet_line.Part.TheVariants as part
@@ -67,7 +67,7 @@ pub record IsUnended (lines : List (List ℕ)) (number : ℕ) : Type 0 where
   pub number_is : number ≡ length lines + 1
 
 -- why a text is no sheet: for want of memory, or by its first bad line
-abbrev pub Refuses : List ℕ → SheetError → Type 0
+abbrev pub Refuses : List ℕ → TextError → Type 0
 Refuses text Memory = Unit {0}
 Refuses text (BadLine number) = IsFirstBad (lines text) number ⊎ IsUnended (lines text) number
 

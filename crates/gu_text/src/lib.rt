@@ -1,17 +1,36 @@
-//! Texts of the desk: sweep sheets that are read, and verdicts that are written.
+//! Texts of the desk: scripts and sweep sheets that are read; replies, outcomes, rows, sheets and verdicts that are written.
 #![tactic(auto)]
 
 mod error;
+mod laws;
+mod line_feed;
 mod lines;
-mod numbers;
+mod outcomes;
+mod replies;
+mod rows;
+mod script_forms;
+mod script_line;
 mod sheet;
 mod sheet_line;
 mod sheet_parts;
+mod sheet_writing;
 mod takes_in_order;
 pub mod texts;
+mod values;
 mod verdicts;
 mod words;
 
-pub use error::SheetError;
+pub use error::TextError;
+pub use laws::{a_line_says_one_thing, written_words_are_read_back};
+pub use line_feed::{is_too_long, split_at_line_feed};
+pub use lines::without_return;
+pub use outcomes::{append_outcome, outcome_text};
+pub use replies::{append_reply, reply_text};
+pub use rows::{
+    append_interest, append_limit, append_position, append_unknown, interest_text, limit_text,
+    position_text,
+};
+pub use script_line::Line;
 pub use sheet::Sheet;
+pub use sheet_writing::{append_sheet, sheet_text};
 pub use verdicts::verdict_text;

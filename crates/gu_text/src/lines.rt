@@ -9,7 +9,7 @@ ghost use Rattle.gu_text.specs.Lines.{is_silent};
 pub(crate) const LONGEST_LINE: usize = 1_024;
 
 /// The line without the CR at its end.
-fn without_return(line: &[u8]) -> &[u8]
+pub fn without_return(line: &[u8]) -> &[u8]
     ensures { result.now ≡ strip_carriage_return line.now }
 {
     match line {
@@ -19,7 +19,7 @@ fn without_return(line: &[u8]) -> &[u8]
 }
 
 /// The place of the first LF.
-fn end_of_line(text: &[u8]) -> Option<usize>
+pub(crate) fn end_of_line(text: &[u8]) -> Option<usize>
     ensures { result ≡ position (λ b. b == 10) text.now }
 {
     text.iter().position(|byte| *byte == b'\n')

@@ -5,7 +5,7 @@ ghost use Rattle.std.specs.Str.Lines.{lines};
 ghost use Rattle.gu_text.specs.Reading.{line_fits, with_text_line, AreSilent, BreaksSilence, EndsAt};
 ghost use Rattle.gu_text.specs.Sheets.{IsSheet, Refuses};
 
-use crate::error::SheetError;
+use crate::error::TextError;
 use crate::lines::{first_line, is_silent};
 use crate::sheet_line::spoken;
 use crate::sheet_parts::Parts;
@@ -45,7 +45,7 @@ fn add_line(parts: &mut Parts, line: &[u8]) -> Result<bool, AllocError>
 }
 
 /// The parts of a sheet up to its end, the text behind that, and the number of the end.
-fn read_parts(alloc: Global, text: &[u8]) -> Result<(Parts, &[u8], u64), SheetError>
+fn read_parts(alloc: Global, text: &[u8]) -> Result<(Parts, &[u8], u64), TextError>
     ensures ends { IfOk result (λ r. EndsAt text.now r.0 r.1.now r.2) }
     ensures refused { IfErr result (Refuses text.now) }
 {
@@ -57,17 +57,17 @@ fn read_parts(alloc: Global, text: &[u8]) -> Result<(Parts, &[u8], u64), SheetEr
         rest = behind;
         number += 1;
         if !add_line(&mut parts, line)? {
-            return Err(SheetError::BadLine(number));
+            return Err(TextError::BadLine(number));
         }
         if parts.are_ended() {
             return Ok((parts, rest, number));
         }
     }
-    Err(SheetError::BadLine(number + 1))
+    Err(TextError::BadLine(number + 1))
 }
 
 /// Whether the lines behind one with this number say nothing.
-fn read_silence(text: &[u8], from: u64) -> Result<(), SheetError>
+fn read_silence(text: &[u8], from: u64) -> Result<(), TextError>
     requires { from + length text.now < 2 ^ 64 }
     ensures silent { OnOk result (AreSilent (lines text.now)) }
     ensures spoken { IfErr result (BreaksSilence (lines text.now) from) }
@@ -79,7 +79,7 @@ fn read_silence(text: &[u8], from: u64) -> Result<(), SheetError>
         rest = behind;
         number += 1;
         if !is_silent(line) {
-            return Err(SheetError::BadLine(number));
+            return Err(TextError::BadLine(number));
         }
     }
     Ok(())
@@ -87,7 +87,7 @@ fn read_silence(text: &[u8], from: u64) -> Result<(), SheetError>
 
 impl Sheet {
     /// The sheet that a text is.
-    pub fn read(alloc: Global, text: &[u8]) -> Result<Sheet, SheetError>
+    pub fn read(alloc: Global, text: &[u8]) -> Result<Sheet, TextError>
         ensures sheet { IfOk result (IsSheet text.now) }
         ensures refused { IfErr result (Refuses text.now) }
     {

@@ -2,12 +2,12 @@
 
 ghost use Rattle.std.specs.Prelude.{◌≡◌};
 ghost use Rattle.std.specs.Option.{option_map};
-ghost use Rattle.gu_text.specs.SheetLines.{key_said, sheet_said, guarantor_said, path_said, offer_said, room_said, take_said, cut_said, end_said, words_say, said_by, spoken};
+ghost use Rattle.gu_text.specs.SheetLines.{sheet_said, guarantor_said, path_said, offer_said, room_said, take_said, cut_said, end_said, words_say, said_by, spoken};
 ghost use Rattle.gu_text.specs.SheetParts.{part_of, rank_of};
 ghost use Rattle.gu_text.specs.Words.{words_of};
 
 use crate::lines::LONGEST_LINE;
-use crate::numbers::{name_of, number_of, offer_no_of};
+use crate::values::{key_said, name_of, number_of, offer_no_of};
 use crate::words::{first_three_words, first_word, is_ragged, three_words, two_words};
 use gu_terms::{AccountId, AgreementId, FirmId, Group, LimitKey, Name, OfferNo, Path, Take};
 use gu_view::{Offer, Room};
@@ -86,14 +86,6 @@ impl SheetLine {
             SheetLine::End => Part::End,
         }
     }
-}
-
-/// The key that a kind and a name say.
-fn key_said(kind: &[u8], word: &[u8]) -> Option<LimitKey>
-    ensures { result ≡ key_said kind.now word.now }
-{
-    let name = name_of(word)?;
-    LimitKey::of(kind, name)
 }
 
 /// The group and its version.

@@ -6,7 +6,7 @@ ghost use Rattle.gu_text.specs.Sheets.{comes_behind, is_repeated, fits_behind};
 ghost use Rattle.gu_text.specs.Reading.{no_parts, with_line, is_ended, IsMadeOf, MakesNone, MakesNoView};
 ghost use Rattle.gu_view.specs.Making.{MakesView, view_of};
 
-use crate::error::SheetError;
+use crate::error::TextError;
 use crate::sheet::Sheet;
 use crate::sheet_line::{Header, Part, SheetLine};
 use crate::takes_in_order::takes_in_order;
@@ -156,7 +156,7 @@ impl Parts {
     }
 
     /// The sheet that the parts make; this is the number of the end.
-    pub(crate) fn into_sheet(self, alloc: Global, number: u64) -> Result<Sheet, SheetError>
+    pub(crate) fn into_sheet(self, alloc: Global, number: u64) -> Result<Sheet, TextError>
         requires { IsSome self.last }
         ensures made { IfOk result (IsMadeOf self) }
         ensures refused { IfErr result (MakesNone self number) }
@@ -187,16 +187,16 @@ fn view_at(
     offers: Vec<Offer>,
     rooms: Vec<Room>,
     number: u64,
-) -> Result<View, SheetError>
+) -> Result<View, TextError>
     ensures view { IfOk result (λ view. view ≡ view_of header.group header.version offers.items rooms.items) }
     ensures makes { OnOk result (MakesView offers.items rooms.items) }
     ensures refused { IfErr result (MakesNoView offers.items rooms.items number) }
 {
     match View::new(alloc, header.group, header.version, offers, rooms) {
         Ok(view) => Ok(view),
-        Err(ViewError::Memory) => Err(SheetError::Memory),
+        Err(ViewError::Memory) => Err(TextError::Memory),
         Err(ViewError::BadOffer(_) | ViewError::PathDiffers(_) | ViewError::BadRooms) => {
-            Err(SheetError::BadLine(number))
+            Err(TextError::BadLine(number))
         }
     }
 }

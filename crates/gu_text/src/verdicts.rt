@@ -1,26 +1,20 @@
 //! The answer to a check as a line.
 
-ghost use Rattle.std.specs.Prelude.{◌≡◌, ◌++◌, IfOk, OnOk};
-ghost use Rattle.gu_text.specs.Verdicts.{fault_text, key_text, unknown_text, verdict_text};
+ghost use Rattle.std.specs.Prelude.{◌≡◌, ◌++◌, ◌∷◌, IfOk, OnOk};
+ghost use Rattle.gu_text.specs.Texts.{line_of};
+ghost use Rattle.gu_text.specs.Verdicts.{lacking_words, named_words, verdict_text};
+ghost use Rattle.gu_view.specs.Faults.{name_of};
 
+use crate::replies::append_key;
 use crate::texts::{append_last_number, append_last_word, append_number, append_word};
-use gu_terms::LimitKey;
 use gu_view::{CutFault, Unknown};
 use std::alloc::{AllocError, Global};
 
-/// Appends a key, which ends the line.
-fn append_key(output: &mut Vec<u8>, key: LimitKey) -> Result<(), AllocError>
-    ensures { OnOk result (output.new.items ≡ output.old.items ++ key_text key) }
-{
-    append_word(output, key.kind().as_bytes())?;
-    append_last_word(output, key.name())
-}
-
 /// Appends what the view lacks, which ends the line.
-fn append_unknown(output: &mut Vec<u8>, unknown: Unknown) -> Result<(), AllocError>
-    ensures { OnOk result (output.new.items ≡ output.old.items ++ unknown_text unknown) }
+fn append_lacking(output: &mut Vec<u8>, lacking: Unknown) -> Result<(), AllocError>
+    ensures { OnOk result (output.new.items ≡ output.old.items ++ line_of (lacking_words lacking)) }
 {
-    match unknown {
+    match lacking {
         Unknown::Key(key) => append_key(output, key),
         Unknown::Offer(offer) => {
             append_word(output, b"OFFER")?;
@@ -29,9 +23,10 @@ fn append_unknown(output: &mut Vec<u8>, unknown: Unknown) -> Result<(), AllocErr
     }
 }
 
+#[tactic(auto, using(crate::proofs::JoinedWords::lacking_line))]
 /// Appends a fault's name and what it names, which end the line.
 fn append_fault(output: &mut Vec<u8>, fault: CutFault) -> Result<(), AllocError>
-    ensures { OnOk result (output.new.items ≡ output.old.items ++ fault_text fault) }
+    ensures { OnOk result (output.new.items ≡ output.old.items ++ line_of (name_of fault ∷ named_words fault)) }
 {
     let name = fault.name().as_bytes();
     match &fault {
@@ -44,9 +39,9 @@ fn append_fault(output: &mut Vec<u8>, fault: CutFault) -> Result<(), AllocError>
             append_word(output, name)?;
             append_key(output, *key)
         }
-        CutFault::Unknown(unknown) => {
+        CutFault::Unknown(lacking) => {
             append_word(output, name)?;
-            append_unknown(output, *unknown)
+            append_lacking(output, *lacking)
         }
         CutFault::RoomDiffers => append_last_word(output, name),
     }

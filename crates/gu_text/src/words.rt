@@ -1,6 +1,6 @@
 //! The words of a line.
 
-ghost use Rattle.std.specs.Prelude.{◌≡◌, ◌≢◌, ◌<◌, ◌∷◌, [], false, length, MatchOption};
+ghost use Rattle.std.specs.Prelude.{◌≡◌, ◌≢◌, ◌<◌, ◌≤◌, ◌↔◌, ◌∷◌, [], false, length, IfSome, IsTrue, MatchOption};
 ghost use Rattle.std.specs.List.{position};
 ghost use Rattle.gu_text.specs.Words.{is_blank, is_blank_at, is_ragged, words_of};
 
@@ -24,6 +24,7 @@ pub(crate) fn is_ragged(line: &[u8]) -> bool
 fn without_blanks(text: &[u8]) -> &[u8]
     ensures words { words_of result.now ≡ words_of text.now }
     ensures front { is_blank_at result.now 0 ≡ false }
+    ensures short { length result.now ≤ length text.now }
 {
     let mut rest = text;
     'blanks: while let [b' ', behind @ ..] = rest {
@@ -42,7 +43,8 @@ fn blank_place(text: &[u8]) -> Option<usize>
 #[tactic(auto, using(crate::proofs::WordLemmas::word_in_front, crate::proofs::WordLemmas::word_alone))]
 /// The first word of a text, and the text behind it.
 pub(crate) fn first_word(text: &[u8]) -> Option<(&[u8], &[u8])>
-    ensures { MatchOption result (words_of text.now ≡ []) (λ found. words_of text.now ≡ found.0.now ∷ words_of found.1.now) }
+    ensures words { MatchOption result (words_of text.now ≡ []) (λ found. words_of text.now ≡ found.0.now ∷ words_of found.1.now) }
+    ensures shorter { IfSome result (λ found. length found.1.now < length text.now) }
 {
     let text = without_blanks(text);
     if text.is_empty() {
@@ -52,6 +54,13 @@ pub(crate) fn first_word(text: &[u8]) -> Option<(&[u8], &[u8])>
         Some(place) => Some((&text[..place], &text[place + 1..])),
         None => Some((text, &[])),
     }
+}
+
+/// Whether a text has words.
+pub(crate) fn has_words(text: &[u8]) -> bool
+    ensures { IsTrue result ↔ (words_of text.now ≢ []) }
+{
+    first_word(text).is_some()
 }
 
 /// The first three words of a text, and the text behind them.
@@ -85,6 +94,17 @@ pub(crate) fn two_words(text: &[u8]) -> Option<(&[u8], &[u8])>
     let (second, rest) = first_word(rest)?;
     match first_word(rest) {
         None => Some((first, second)),
+        Some(_) => None,
+    }
+}
+
+/// The only word of a text that has one.
+pub(crate) fn only_word(text: &[u8]) -> Option<&[u8]>
+    ensures { MatchOption result (length (words_of text.now) ≢ 1) (λ word. words_of text.now ≡ word.now ∷ []) }
+{
+    let (word, rest) = first_word(text)?;
+    match first_word(rest) {
+        None => Some(word),
         Some(_) => None,
     }
 }

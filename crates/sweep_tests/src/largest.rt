@@ -2,7 +2,7 @@
 
 use crate::fixture::{CROSSED, proposal, sheet, view};
 use gu_flow::Proposal;
-use gu_text::{Sheet, SheetError, verdict_text};
+use gu_text::{Line, Sheet, TextError, sheet_text, verdict_text};
 use gu_view::{View, check};
 use std::alloc::Global;
 use std::process::Abort;
@@ -70,8 +70,8 @@ fn sheet_of_4096_offers_is_read_checked_and_swept(rt: HostRuntime) -> Result<(),
 fn bad_line(alloc: Global, offers: u64) -> Option<u64> {
     let text = format!(in alloc; "{}END\n", apart(alloc, offers)?).ok()?;
     match Sheet::read(alloc, text.as_bytes()) {
-        Ok(_) | Err(SheetError::Memory) => None,
-        Err(SheetError::BadLine(number)) => Some(number),
+        Ok(_) | Err(TextError::Memory) => None,
+        Err(TextError::BadLine(number)) => Some(number),
     }
 }
 
@@ -114,6 +114,44 @@ fn sheet_is_read_checked_and_swept_5000_times(rt: HostRuntime) -> Result<(), Fai
     for turn in 0..5_000 {
         let answered = is_answered(&rt, rt.alloc(), CROSSED, rest, "OK 20\n", 20);
         assert_eq!(rt; answered, Some(true), "in turn {turn}");
+    }
+    Ok(())
+}
+
+/// Whether the sheet of so many offers, each with five rooms of its own, is written as it was read.
+fn is_written(alloc: Global, offers: u64) -> Option<bool> {
+    let view = apart(alloc, offers)?;
+    let rest = taken(alloc, offers)?;
+    let cut = numbered(alloc, "CUT OFFER #\n", offers)?;
+    let text = format!(in alloc; "{view}{rest}{cut}END\n").ok()?;
+    let sheet = Sheet::read(alloc, text.as_bytes()).ok()?;
+    let written = sheet_text(alloc, &sheet.view, &sheet.takes, &sheet.cut).ok()?;
+    Some(written.as_slice() == text.as_bytes())
+}
+
+#[test]
+fn sheet_of_4096_offers_and_8192_members_of_its_cut_is_written(
+    rt: HostRuntime,
+) -> Result<(), Fail> {
+    assert_eq!(rt; is_written(rt.alloc(), MOST), Some(true));
+    Ok(())
+}
+
+#[test]
+fn sheet_is_read_and_written_5000_times(rt: HostRuntime) -> Result<(), Fail> {
+    for turn in 0..5_000 {
+        assert_eq!(rt; is_written(rt.alloc(), 2), Some(true), "in turn {turn}");
+    }
+    Ok(())
+}
+
+#[test]
+fn line_of_16_pairs_is_read_5000_times(rt: HostRuntime) -> Result<(), Fail> {
+    let pairs = " ABCDEFGHIJKL 1000000".repeat(rt.alloc(), 16)?;
+    let line = format!(in rt.alloc(); "GIVEUP E1 L1 R1{pairs}")?;
+    for turn in 0..5_000 {
+        let said = Line::read(rt.alloc(), line.as_bytes(), 1);
+        assert!(rt; matches!(said, Ok(Some(Line::Step(_)))), "in turn {turn}");
     }
     Ok(())
 }

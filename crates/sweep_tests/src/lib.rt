@@ -1,4 +1,4 @@
-//! Tests of views, checks, sweeps, sheets and verdicts, over public calls.
+//! Tests of views, checks, sweeps, scripts, sheets and other texts, over public calls.
 #![tactic(auto)]
 
 #[cfg(test)]
@@ -12,12 +12,18 @@ mod memory;
 #[cfg(test)]
 mod nesting;
 #[cfg(test)]
+mod script_lines;
+#[cfg(test)]
 mod search;
 #[cfg(test)]
 mod sheets;
 #[cfg(test)]
 mod sweep;
 #[cfg(test)]
+mod texts;
+#[cfg(test)]
 mod verdicts;
 #[cfg(test)]
 mod view;
+#[cfg(test)]
+mod written;

@@ -2,7 +2,7 @@
 
 use crate::fixture::{OfferLine, RoomLine, SHARED, made, proposed};
 use gu_flow::{Proposal, propose};
-use gu_text::{Sheet, SheetError, verdict_text};
+use gu_text::{Line, Sheet, TextError, sheet_text, verdict_text};
 use gu_view::{View, ViewError, check};
 use std::alloc::Global;
 use std::process::Abort;
@@ -162,7 +162,7 @@ fn read_again(rt: &impl Abort, alloc: Global, text: &str) -> Option<Sheet> {
     match Sheet::read(alloc, text.as_bytes()) {
         Ok(sheet) => Some(sheet),
         Err(refused) => {
-            assert_eq!(rt; refused, SheetError::Memory);
+            assert_eq!(rt; refused, TextError::Memory);
             Sheet::read(alloc, text.as_bytes()).ok()
         }
     }
@@ -185,5 +185,61 @@ fn refused_to_a_sheet_or_its_verdict_leaves_it_to_be_read_again(
 ) -> Result<(), Fail> {
     let line = line_again(&rt, rt.alloc());
     assert!(rt; line.is_some_and(|line| line.as_slice() == b"OK 7\n".as_slice()));
+    Ok(())
+}
+
+/// What a line says, read again where a growth was refused: then the refusal is Memory.
+fn said_again(rt: &impl Abort, alloc: Global, line: &[u8]) -> Option<Line> {
+    match Line::read(alloc, line, 1) {
+        Ok(said) => said,
+        Err(refused) => {
+            assert_eq!(rt; refused, TextError::Memory);
+            Line::read(alloc, line, 1).ok()?
+        }
+    }
+}
+
+#[test]
+fn refused_to_a_line_leave_it_to_be_read_again(rt: HostRuntime) -> Result<(), Fail> {
+    for line in [
+        b"GIVEUP E1 L1 R1 A1 1 A2 2 A3 3 A4 4 A5 5 A6 6".as_slice(),
+        b"REPORT E1 R1 M1 B XF6 10 101.5 H1".as_slice(),
+        b"SWEEP G1".as_slice(),
+    ] {
+        assert!(rt; said_again(&rt, rt.alloc(), line).is_some());
+    }
+    Ok(())
+}
+
+/// The text of a sheet, written again where a growth was refused.
+fn written_again(rt: &impl Abort, alloc: Global) -> Option<Vec<u8>> {
+    let text = text_again(alloc)?;
+    let sheet = read_again(rt, alloc, &text)?;
+    match sheet_text(alloc, &sheet.view, &sheet.takes, &sheet.cut) {
+        Ok(text) => Some(text),
+        Err(_) => sheet_text(alloc, &sheet.view, &sheet.takes, &sheet.cut).ok(),
+    }
+}
+
+/// The sheet in the order of its view.
+const WRITTEN: &[u8] = b"SHEET G1 7
+OFFER 1 5 P1 E1 A1 C1
+OFFER 2 5 P1 E1 A1 C1
+ROOM EXEC E1 100
+ROOM AGR P1 7
+ROOM ACCT A1 100
+ROOM CARRY C1 100
+TAKE 1 5
+TAKE 2 2
+CUT AGR P1
+END
+";
+
+#[test]
+fn refused_to_a_sheet_that_is_written_leave_it_to_be_written_again(
+    rt: HostRuntime,
+) -> Result<(), Fail> {
+    let text = written_again(&rt, rt.alloc());
+    assert!(rt; text.is_some_and(|text| text.as_slice() == WRITTEN));
     Ok(())
 }

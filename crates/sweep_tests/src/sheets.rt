@@ -2,7 +2,7 @@
 
 use crate::fixture::{MIXED, SHARED, UNDER_ONE_GUARANTOR, sheet};
 use gu_terms::{LimitKey, Take};
-use gu_text::{Sheet, SheetError};
+use gu_text::{Sheet, TextError};
 use gu_view::{Room, View};
 use std::alloc::Global;
 use std::test::Fail;
@@ -10,8 +10,8 @@ use std::test::Fail;
 /// The number of the bad line of a text, if it has one.
 fn bad_line(alloc: Global, text: &str) -> Option<u64> {
     match Sheet::read(alloc, text.as_bytes()) {
-        Ok(_) | Err(SheetError::Memory) => None,
-        Err(SheetError::BadLine(number)) => Some(number),
+        Ok(_) | Err(TextError::Memory) => None,
+        Err(TextError::BadLine(number)) => Some(number),
     }
 }
 

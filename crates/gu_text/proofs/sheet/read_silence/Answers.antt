@@ -1,7 +1,7 @@
 use Rattle.std.proofs.Common.{◌≡◌, ◌+◌, ◌-◌, [], ◌∙◌, length, take, drop, sym, ap, arith, rules}
 use Rattle.std.specs.Str.Lines.{lines}
 use Rattle.std.proofs.lemmas.List.{length-drop, take_all}
-use Rattle.gu_text.specs.declared.error.SheetError.TheVariants.{BadLine}
+use Rattle.gu_text.specs.declared.error.TextError.TheVariants.{BadLine}
 use Rattle.std.proofs.lemmas.List.{nil_from_length}
 use Rattle.gu_text.proofs.Places.{next_taken}
 use Rattle.gu_text.proofs.SheetLemmas.{silent_last}

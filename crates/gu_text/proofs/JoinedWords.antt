@@ -1,0 +1,32 @@
+-- Words as a line: the first of them stands in front.
+use Rattle.std.proofs.Common.{◌≡◌, ◌≤◌, ◌++◌, ◌∷◌, [], ◌∙◌, ℕ, List, length, refl, arith}
+use Rattle.gu_terms.specs.declared.limit_key.LimitKey.{LimitKey}
+use Rattle.gu_terms.specs.declared.reply.Reply.{Reply}
+use Rattle.gu_terms.specs.declared.reply.Reply.TheVariants.{Accepted, Denied}
+use Rattle.gu_view.specs.declared.error.Unknown.{Unknown}
+use Rattle.gu_view.specs.declared.error.Unknown.TheVariants.{Key, Offer}
+use Rattle.gu_text.specs.Replies.{reply_words}
+use Rattle.gu_text.specs.SheetText.{path_words}
+use Rattle.gu_text.specs.Texts.{word, line_of}
+use Rattle.gu_text.specs.Verdicts.{lacking_words}
+
+-- a word, and others behind it
+pub line_of-front : (first : List ℕ) (others : List (List ℕ)) → 1 ≤ length others → line_of (first ∷ others) ≡ word first ++ line_of others
+line_of-front first [] some = absurd (omega (arith, some))
+line_of-front first (next ∷ others) some = refl
+
+-- a reply has words
+pub reply_line : (first : List ℕ) (reply : Reply) → line_of (first ∷ reply_words reply) ≡ word first ++ line_of (reply_words reply)
+reply_line first (Accepted done) = refl
+reply_line first (Denied refusal) = refl
+
+-- and so has what a view lacks
+pub lacking_line : (first : List ℕ) (lacking : Unknown) → line_of (first ∷ lacking_words lacking) ≡ word first ++ line_of (lacking_words lacking)
+lacking_line first (Key key) = refl
+lacking_line first (Offer offer) = refl
+
+-- and so has a path
+pub path_line : (first : List ℕ) (path : List LimitKey) → 4 ≤ length path → line_of (first ∷ path_words path) ≡ word first ++ line_of (path_words path)
+path_line first [] some = absurd (omega (arith, some))
+path_line first (only ∷ []) some = absurd (omega (arith, some))
+path_line first (executing ∷ agreement ∷ others) some = refl

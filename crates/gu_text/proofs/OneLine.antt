@@ -1,0 +1,279 @@
+-- A line of a script says one thing at most.
+use Rattle.std.proofs.Common.{◌≡◌, ◌∷◌, [], ◌∙◌, ℕ, ℤ, List, Option, None, Some, refl, sym, ap, subst}
+use Rattle.std.specs.Prelude.{codes}
+use Rattle.gu_terms.specs.Days.{WritesDay}
+use Rattle.gu_terms.specs.LimitKeys.{kind_of, name_of_key}
+use Rattle.gu_terms.specs.NumberText.{MeansLots, MeansPrice}
+use Rattle.gu_terms.specs.declared.command.Command.TheVariants.{OpenDay, SetLimit, ReportSide, GiveUp, Claim, Refuse, Reverse}
+use Rattle.gu_terms.specs.declared.account.AccountId.{AccountId}
+use Rattle.gu_terms.specs.declared.alloc_reject.AllocReject.{AllocReject}
+use Rattle.gu_terms.specs.declared.day.Day.{Day}
+use Rattle.gu_terms.specs.declared.firm.FirmId.{FirmId}
+use Rattle.gu_terms.specs.declared.group.Group.{Group}
+use Rattle.gu_terms.specs.declared.id.Id.{Id}
+use Rattle.gu_terms.specs.declared.limit_key.LimitKey.{LimitKey}
+use Rattle.gu_terms.specs.declared.lines.Line.{Line as GiveUpLine}
+use Rattle.gu_terms.specs.declared.side.Side.{Side}
+use Rattle.gu_terms.specs.declared.symbol.Symbol.{Symbol}
+use Rattle.gu_world.specs.declared.step.Step.TheVariants.{Enter, See, Propose, Commit}
+use Rattle.gu_text.specs.ScriptForms.{form_begun, form_of, form_word}
+use Rattle.gu_text.specs.Scripts.{Says, WriteLines, Writes, side_word}
+use Rattle.gu_text.specs.SheetLines.{number_of, offer_no_of}
+use Rattle.gu_text.specs.declared.script_forms.Form.{Form}
+use Rattle.gu_text.specs.declared.script_forms.Form.TheVariants as form
+use Rattle.gu_text.specs.declared.script_line.Line.{Line}
+use Rattle.gu_text.specs.declared.script_line.Line.TheVariants as line
+use Rattle.gu_text.proofs.OneMeaning.{one_account, one_day, one_firm, one_group, one_key, one_lots, one_price, one_reject, one_side, one_symbol}
+use Rattle.gu_text.proofs.ScriptLemmas.{begins, form_begun-word}
+
+one_form : (words : List (List ℕ)) (a b : Line) → Writes words a → Writes words b → form_of a ≡ form_of b
+one_form words a b p q =
+    let m = begins words a p in
+    let n = begins words b q in
+    let same : form_word (form_of a) ≡ form_word (form_of b) = let e = sym m.1 ∙ n.1 in cc in
+    let both : Some (form_of a) ≡ Some (form_of b) = sym (form_begun-word (form_of a)) ∙ ap form_begun same ∙ form_begun-word (form_of b) in
+    cc
+
+one_pair : (a b : GiveUpLine) → a.account ≡ b.account → a.lots ≡ b.lots → a ≡ b
+one_pair a b accounts lots = λ i. record { account = accounts i; lots = lots i }
+
+-- words write the lines of one give-up
+lines_once : (words : List (List ℕ)) (a b : List GiveUpLine) → WriteLines words a → WriteLines words b → a ≡ b
+lines_once [] [] [] p q = refl
+lines_once [] [] (d ∷ b) p q = absurd q
+lines_once [] (c ∷ a) b p q = absurd p
+lines_once (account ∷ []) [] b p q = absurd p
+lines_once (account ∷ []) (c ∷ a) b p q = absurd p
+lines_once (account ∷ lots ∷ words) [] b p q = absurd p
+lines_once (account ∷ lots ∷ words) (c ∷ a) [] p q = absurd q
+lines_once (account ∷ lots ∷ words) (c ∷ a) (d ∷ b) p q =
+    let first = one_pair c d (one_account c.account d.account (sym p.0 ∙ q.0)) (one_lots lots c.lots d.lots p.2 q.2) in
+    let others = lines_once words a b p.3 q.3 in
+    cc
+
+-- what a line of a form says
+abbrev IsOf : Form → Line → Type 0
+IsOf form.Day said = (day : Day) × (said ≡ line.Step (Enter (OpenDay day)))
+IsOf form.Limit said = (group : Group) × (key : LimitKey) × (lots : ℕ) × (said ≡ line.Step (Enter (SetLimit group key lots)))
+IsOf form.Report said = (firm : FirmId) × (id : Id) × (match_id : Id) × (symbol : Symbol) × (lots : ℕ) × (price : ℤ) × (day : Option Day) × (side : Side) × (account : AccountId) × (said ≡ line.Step (Enter (ReportSide firm id match_id symbol lots price day side account)))
+IsOf form.GiveUp said = (firm : FirmId) × (id : Id) × (report : Id) × (lines : List GiveUpLine) × (said ≡ line.Step (Enter (GiveUp firm id report lines)))
+IsOf form.Claim said = (firm : FirmId) × (offer : ℕ) × (said ≡ line.Step (Enter (Claim firm offer)))
+IsOf form.Refuse said = (firm : FirmId) × (offer : ℕ) × (why : AllocReject) × (said ≡ line.Step (Enter (Refuse firm offer why)))
+IsOf form.Reverse said = (firm : FirmId) × (offer : ℕ) × (said ≡ line.Step (Enter (Reverse firm offer)))
+IsOf form.See said = (worker : ℕ) × (group : Group) × (said ≡ line.Step (See worker group))
+IsOf form.Propose said = (worker : ℕ) × (said ≡ line.Step (Propose worker))
+IsOf form.Commit said = (worker : ℕ) × (said ≡ line.Step (Commit worker))
+IsOf form.Sweep said = (group : Group) × (said ≡ line.Sweep group)
+IsOf form.Position said = (account : AccountId) × (symbol : Symbol) × (said ≡ line.Position account symbol)
+IsOf form.Interest said = (symbol : Symbol) × (said ≡ line.Interest symbol)
+IsOf form.Limits said = (group : Group) × (said ≡ line.Limits group)
+
+of_form : (said : Line) → IsOf (form_of said) said
+of_form (line.Step (Enter (OpenDay day))) = (day, refl)
+of_form (line.Step (Enter (SetLimit group key lots))) = (group, key, lots, refl)
+of_form (line.Step (Enter (ReportSide firm id match_id symbol lots price day side account))) = (firm, id, match_id, symbol, lots, price, day, side, account, refl)
+of_form (line.Step (Enter (GiveUp firm id report lines))) = (firm, id, report, lines, refl)
+of_form (line.Step (Enter (Claim firm offer))) = (firm, offer, refl)
+of_form (line.Step (Enter (Refuse firm offer why))) = (firm, offer, why, refl)
+of_form (line.Step (Enter (Reverse firm offer))) = (firm, offer, refl)
+of_form (line.Step (See worker group)) = (worker, group, refl)
+of_form (line.Step (Propose worker)) = (worker, refl)
+of_form (line.Step (Commit worker)) = (worker, refl)
+of_form (line.Sweep group) = (group, refl)
+of_form (line.Position account symbol) = (account, symbol, refl)
+of_form (line.Interest symbol) = (symbol, refl)
+of_form (line.Limits group) = (group, refl)
+
+-- a line of the form of another one
+alike : (a b : Line) → form_of a ≡ form_of b → IsOf (form_of a) b
+alike a b forms = subst (λ f. IsOf f b) (sym forms) (of_form b)
+
+-- words write one report
+report_once : (words : List (List ℕ)) (firm firm' : FirmId) (id id' match_id match_id' : Id) (symbol symbol' : Symbol) (lots lots' : ℕ) (price price' : ℤ) (day day' : Option Day) (side side' : Side) (account account' : AccountId)
+    → Writes words (line.Step (Enter (ReportSide firm id match_id symbol lots price day side account))) → Writes words (line.Step (Enter (ReportSide firm' id' match_id' symbol' lots' price' day' side' account'))) → line.Step (Enter (ReportSide firm id match_id symbol lots price day side account)) ≡ line.Step (Enter (ReportSide firm' id' match_id' symbol' lots' price' day' side' account'))
+report_once words firm firm' id id' match_id match_id' symbol symbol' lots lots' price price' day day' side side' account account' p q =
+    let e = sym p.2 ∙ q.2 in
+    let firm_names : firm.name ≡ firm'.name = cc in
+    let ids : id ≡ id' = cc in
+    let match_ids : match_id ≡ match_id' = cc in
+    let letters : side_word side ≡ side_word side' = cc in
+    let symbol_names : symbol.name ≡ symbol'.name = cc in
+    let lots_texts : p.0 ≡ q.0 = cc in
+    let price_texts : p.1 ≡ q.1 = cc in
+    let account_names : account.name ≡ account'.name = cc in
+    let firms = one_firm firm firm' firm_names in
+    let sides = one_side side side' letters in
+    let symbols = one_symbol symbol symbol' symbol_names in
+    let same_lots = one_lots q.0 lots lots' (subst (λ (t : List ℕ). MeansLots t lots) lots_texts p.6) q.6 in
+    let prices = one_price q.1 price price' (subst (λ (t : List ℕ). MeansPrice t price) price_texts p.7) q.7 in
+    let days : day ≡ day' = p.8 ∙ sym q.8 in
+    let accounts = one_account account account' account_names in
+    cc
+
+-- words write one give-up
+give_up_once : (words : List (List ℕ)) (firm firm' : FirmId) (id id' report report' : Id) (lines lines' : List GiveUpLine)
+    → Writes words (line.Step (Enter (GiveUp firm id report lines))) → Writes words (line.Step (Enter (GiveUp firm' id' report' lines')))
+    → line.Step (Enter (GiveUp firm id report lines)) ≡ line.Step (Enter (GiveUp firm' id' report' lines'))
+give_up_once words firm firm' id id' report report' lines lines' p q =
+    let e = sym p.1 ∙ q.1 in
+    let firm_names : firm.name ≡ firm'.name = cc in
+    let ids : id ≡ id' = cc in
+    let reports : report ≡ report' = cc in
+    let pairs : p.0 ≡ q.0 = cc in
+    let firms = one_firm firm firm' firm_names in
+    let same_lines = lines_once q.0 lines lines' (subst (λ (ws : List (List ℕ)). WriteLines ws lines) pairs p.5) q.5 in
+    cc
+
+-- words write one line
+written_once : (words : List (List ℕ)) (a b : Line) → form_of a ≡ form_of b → Writes words a → Writes words b → a ≡ b
+written_once words (line.Step (Enter (OpenDay day))) b forms p q =
+    let w = alike (line.Step (Enter (OpenDay day))) b forms in
+    let day' = w.0 in
+    let r : Writes words (line.Step (Enter (OpenDay day'))) = subst (λ (l : Line). Writes words l) w.1 q in
+    let same : p.0 ≡ r.0 = let e = sym p.1 ∙ r.1 in cc in
+    let done : line.Step (Enter (OpenDay day)) ≡ line.Step (Enter (OpenDay day')) = ap (λ d. line.Step (Enter (OpenDay d))) (one_day r.0 day day' (subst (λ (t : List ℕ). WritesDay t day.year day.month day.day) same p.2) r.2) in
+    done ∙ sym w.1
+written_once words (line.Step (Enter (SetLimit group key lots))) b forms p q =
+    let w = alike (line.Step (Enter (SetLimit group key lots))) b forms in
+    let group' = w.0 in
+    let key' = w.1 in
+    let lots' = w.2 in
+    let r : Writes words (line.Step (Enter (SetLimit group' key' lots'))) = subst (λ (l : Line). Writes words l) w.3 q in
+    let e = sym p.1 ∙ r.1 in
+    let names : group.name ≡ group'.name = cc in
+    let kinds : kind_of key ≡ kind_of key' = cc in
+    let key_names : name_of_key key ≡ name_of_key key' = cc in
+    let texts : p.0 ≡ r.0 = cc in
+    let value : Some lots ≡ Some lots' = sym p.3 ∙ ap number_of texts ∙ r.3 in
+    let groups = one_group group group' names in
+    let keys = one_key key key' kinds key_names in
+    let done : line.Step (Enter (SetLimit group key lots)) ≡ line.Step (Enter (SetLimit group' key' lots')) = cc in
+    done ∙ sym w.3
+written_once words (line.Step (Enter (ReportSide firm id match_id symbol lots price day side account))) b forms p q =
+    let w = alike (line.Step (Enter (ReportSide firm id match_id symbol lots price day side account))) b forms in
+    let firm' = w.0 in
+    let id' = w.1 in
+    let match_id' = w.2 in
+    let symbol' = w.3 in
+    let lots' = w.4 in
+    let price' = w.5 in
+    let day' = w.6 in
+    let side' = w.7 in
+    let account' = w.8 in
+    let r : Writes words (line.Step (Enter (ReportSide firm' id' match_id' symbol' lots' price' day' side' account'))) = subst (λ (l : Line). Writes words l) w.9 q in
+    let done : line.Step (Enter (ReportSide firm id match_id symbol lots price day side account)) ≡ line.Step (Enter (ReportSide firm' id' match_id' symbol' lots' price' day' side' account')) = report_once words firm firm' id id' match_id match_id' symbol symbol' lots lots' price price' day day' side side' account account' p r in
+    done ∙ sym w.9
+written_once words (line.Step (Enter (GiveUp firm id report lines))) b forms p q =
+    let w = alike (line.Step (Enter (GiveUp firm id report lines))) b forms in
+    let firm' = w.0 in
+    let id' = w.1 in
+    let report' = w.2 in
+    let lines' = w.3 in
+    let r : Writes words (line.Step (Enter (GiveUp firm' id' report' lines'))) = subst (λ (l : Line). Writes words l) w.4 q in
+    let done : line.Step (Enter (GiveUp firm id report lines)) ≡ line.Step (Enter (GiveUp firm' id' report' lines')) = give_up_once words firm firm' id id' report report' lines lines' p r in
+    done ∙ sym w.4
+written_once words (line.Step (Enter (Claim firm offer))) b forms p q =
+    let w = alike (line.Step (Enter (Claim firm offer))) b forms in
+    let firm' = w.0 in
+    let offer' = w.1 in
+    let r : Writes words (line.Step (Enter (Claim firm' offer'))) = subst (λ (l : Line). Writes words l) w.2 q in
+    let e = sym p.1 ∙ r.1 in
+    let names : firm.name ≡ firm'.name = cc in
+    let texts : p.0 ≡ r.0 = cc in
+    let value : Some offer ≡ Some offer' = sym p.3 ∙ ap offer_no_of texts ∙ r.3 in
+    let firms = one_firm firm firm' names in
+    let done : line.Step (Enter (Claim firm offer)) ≡ line.Step (Enter (Claim firm' offer')) = cc in
+    done ∙ sym w.2
+written_once words (line.Step (Enter (Refuse firm offer why))) b forms p q =
+    let w = alike (line.Step (Enter (Refuse firm offer why))) b forms in
+    let firm' = w.0 in
+    let offer' = w.1 in
+    let why' = w.2 in
+    let r : Writes words (line.Step (Enter (Refuse firm' offer' why'))) = subst (λ (l : Line). Writes words l) w.3 q in
+    let e = sym p.2 ∙ r.2 in
+    let names : firm.name ≡ firm'.name = cc in
+    let texts : p.0 ≡ r.0 = cc in
+    let why_texts : p.1 ≡ r.1 = cc in
+    let value : Some offer ≡ Some offer' = sym p.4 ∙ ap offer_no_of texts ∙ r.4 in
+    let numbers = sym p.5 ∙ ap number_of why_texts ∙ r.5 in
+    let whys = one_reject why why' cc in
+    let firms = one_firm firm firm' names in
+    let done : line.Step (Enter (Refuse firm offer why)) ≡ line.Step (Enter (Refuse firm' offer' why')) = cc in
+    done ∙ sym w.3
+written_once words (line.Step (Enter (Reverse firm offer))) b forms p q =
+    let w = alike (line.Step (Enter (Reverse firm offer))) b forms in
+    let firm' = w.0 in
+    let offer' = w.1 in
+    let r : Writes words (line.Step (Enter (Reverse firm' offer'))) = subst (λ (l : Line). Writes words l) w.2 q in
+    let e = sym p.1 ∙ r.1 in
+    let names : firm.name ≡ firm'.name = cc in
+    let texts : p.0 ≡ r.0 = cc in
+    let value : Some offer ≡ Some offer' = sym p.3 ∙ ap offer_no_of texts ∙ r.3 in
+    let firms = one_firm firm firm' names in
+    let done : line.Step (Enter (Reverse firm offer)) ≡ line.Step (Enter (Reverse firm' offer')) = cc in
+    done ∙ sym w.2
+written_once words (line.Step (See worker group)) b forms p q =
+    let w = alike (line.Step (See worker group)) b forms in
+    let worker' = w.0 in
+    let group' = w.1 in
+    let r : Writes words (line.Step (See worker' group')) = subst (λ (l : Line). Writes words l) w.2 q in
+    let e = sym p.1 ∙ r.1 in
+    let names : group.name ≡ group'.name = cc in
+    let texts : p.0 ≡ r.0 = cc in
+    let value : Some worker ≡ Some worker' = sym p.2.0 ∙ ap number_of texts ∙ r.2.0 in
+    let groups = one_group group group' names in
+    let done : line.Step (See worker group) ≡ line.Step (See worker' group') = cc in
+    done ∙ sym w.2
+written_once words (line.Step (Propose worker)) b forms p q =
+    let w = alike (line.Step (Propose worker)) b forms in
+    let worker' = w.0 in
+    let r : Writes words (line.Step (Propose worker')) = subst (λ (l : Line). Writes words l) w.1 q in
+    let texts : p.0 ≡ r.0 = let e = sym p.1 ∙ r.1 in cc in
+    let value : Some worker ≡ Some worker' = sym p.2.0 ∙ ap number_of texts ∙ r.2.0 in
+    let done : line.Step (Propose worker) ≡ line.Step (Propose worker') = cc in
+    done ∙ sym w.1
+written_once words (line.Step (Commit worker)) b forms p q =
+    let w = alike (line.Step (Commit worker)) b forms in
+    let worker' = w.0 in
+    let r : Writes words (line.Step (Commit worker')) = subst (λ (l : Line). Writes words l) w.1 q in
+    let texts : p.0 ≡ r.0 = let e = sym p.1 ∙ r.1 in cc in
+    let value : Some worker ≡ Some worker' = sym p.2.0 ∙ ap number_of texts ∙ r.2.0 in
+    let done : line.Step (Commit worker) ≡ line.Step (Commit worker') = cc in
+    done ∙ sym w.1
+written_once words (line.Sweep group) b forms p q =
+    let w = alike (line.Sweep group) b forms in
+    let group' = w.0 in
+    let r : Writes words (line.Sweep group') = subst (λ (l : Line). Writes words l) w.1 q in
+    let names : group.name ≡ group'.name = let e = sym p.0 ∙ r.0 in cc in
+    let done : line.Sweep group ≡ line.Sweep group' = ap line.Sweep (one_group group group' names) in
+    done ∙ sym w.1
+written_once words (line.Position account symbol) b forms p q =
+    let w = alike (line.Position account symbol) b forms in
+    let account' = w.0 in
+    let symbol' = w.1 in
+    let r : Writes words (line.Position account' symbol') = subst (λ (l : Line). Writes words l) w.2 q in
+    let e = sym p.0 ∙ r.0 in
+    let account_names : account.name ≡ account'.name = cc in
+    let symbol_names : symbol.name ≡ symbol'.name = cc in
+    let accounts = one_account account account' account_names in
+    let symbols = one_symbol symbol symbol' symbol_names in
+    let done : line.Position account symbol ≡ line.Position account' symbol' = cc in
+    done ∙ sym w.2
+written_once words (line.Interest symbol) b forms p q =
+    let w = alike (line.Interest symbol) b forms in
+    let symbol' = w.0 in
+    let r : Writes words (line.Interest symbol') = subst (λ (l : Line). Writes words l) w.1 q in
+    let names : symbol.name ≡ symbol'.name = let e = sym p.0 ∙ r.0 in cc in
+    let done : line.Interest symbol ≡ line.Interest symbol' = ap line.Interest (one_symbol symbol symbol' names) in
+    done ∙ sym w.1
+written_once words (line.Limits group) b forms p q =
+    let w = alike (line.Limits group) b forms in
+    let group' = w.0 in
+    let r : Writes words (line.Limits group') = subst (λ (l : Line). Writes words l) w.1 q in
+    let names : group.name ≡ group'.name = let e = sym p.0 ∙ r.0 in cc in
+    let done : line.Limits group ≡ line.Limits group' = ap line.Limits (one_group group group' names) in
+    done ∙ sym w.1
+
+-- a line says one thing
+pub said_once : (text : List ℕ) (a b : Line) → Says text a → Says text b → a ≡ b
+said_once text a b p q = written_once _ a b (one_form _ a b p.writes q.writes) p.writes q.writes

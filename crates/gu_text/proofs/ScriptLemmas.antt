@@ -1,0 +1,114 @@
+-- A line of a script is read.
+use Rattle.std.proofs.Common.{◌≡◌, ◌≢◌, ◌⊎◌, ◌∷◌, [], ◌∙◌, ◌<◌, ◌≤◌, ℕ, Bool, true, false, List, Option, None, Some, length, MatchOption, Result, Ok, Err, IfOk, refl, sym, ap, subst, inl, inr, arith}
+use Rattle.std.specs.Prelude.{codes}
+use Rattle.std.specs.List.{AllByRecursion}
+use Rattle.std.specs.Str.{bytes_eq}
+use Rattle.std.proofs.lemmas.Slice.Eq.{bytes_eq-Decides}
+use Rattle.gu_terms.specs.declared.command.Command.TheVariants.{OpenDay, SetLimit, ReportSide, GiveUp, Claim, Refuse, Reverse}
+use Rattle.gu_world.specs.declared.step.Step.TheVariants.{Enter, See, Propose, Commit}
+use Rattle.gu_text.specs.Lines.{is_silent, longest_line}
+use Rattle.gu_text.specs.ScriptForms.{Reads, ReadsWords, WriteNone, form_begun, form_of, form_word, forms}
+use Rattle.gu_text.specs.Scripts.{IsBad, Says, Writes}
+use Rattle.gu_text.specs.Words.{is_ragged, words_of}
+use Rattle.gu_text.specs.declared.script_forms.Form.{Form}
+use Rattle.gu_text.specs.declared.script_forms.Form.TheVariants as form
+use Rattle.gu_text.specs.declared.script_line.Line.{Line}
+use Rattle.gu_text.specs.declared.script_line.Line.TheVariants as line
+use Rattle.gu_text.proofs.FormLemmas.{found}
+
+-- what is written begins with the word of its form
+pub begins : (words : List (List ℕ)) (said : Line) → Writes words said → (rest : List (List ℕ)) × (words ≡ form_word (form_of said) ∷ rest)
+begins words (line.Step (Enter (OpenDay day))) h = (h.0 ∷ [], h.1)
+begins words (line.Step (Enter (SetLimit group key lots))) h = (_, h.1)
+begins words (line.Step (Enter (ReportSide firm id match_id symbol lots price day side account))) h = (_, h.2)
+begins words (line.Step (Enter (GiveUp firm id report lines))) h = (_, h.1)
+begins words (line.Step (Enter (Claim firm offer))) h = (_, h.1)
+begins words (line.Step (Enter (Refuse firm offer why))) h = (_, h.2)
+begins words (line.Step (Enter (Reverse firm offer))) h = (_, h.1)
+begins words (line.Step (See worker group)) h = (_, h.1)
+begins words (line.Step (Propose worker)) h = (_, h.1)
+begins words (line.Step (Commit worker)) h = (_, h.1)
+begins words (line.Sweep group) h = (_, h.0)
+begins words (line.Position account symbol) h = (_, h.0)
+begins words (line.Interest symbol) h = (_, h.0)
+begins words (line.Limits group) h = (_, h.0)
+
+-- each form is found by its word
+pub form_begun-word : (f : Form) → form_begun (form_word f) ≡ Some f
+form_begun-word form.Day = refl
+form_begun-word form.Limit = refl
+form_begun-word form.Report = refl
+form_begun-word form.GiveUp = refl
+form_begun-word form.Claim = refl
+form_begun-word form.Refuse = refl
+form_begun-word form.Reverse = refl
+form_begun-word form.See = refl
+form_begun-word form.Propose = refl
+form_begun-word form.Commit = refl
+form_begun-word form.Sweep = refl
+form_begun-word form.Position = refl
+form_begun-word form.Interest = refl
+form_begun-word form.Limits = refl
+
+-- words that write nothing of its form don't write a line
+none_written : (words : List (List ℕ)) (said : Line) → WriteNone (form_of said) words → ¬ Writes words said
+none_written words (line.Step (Enter (OpenDay day))) none h = none day h
+none_written words (line.Step (Enter (SetLimit group key lots))) none h = none group key lots h
+none_written words (line.Step (Enter (ReportSide firm id match_id symbol lots price day side account))) none h = none firm id match_id symbol lots price day side account h
+none_written words (line.Step (Enter (GiveUp firm id report lines))) none h = none firm id report lines h
+none_written words (line.Step (Enter (Claim firm offer))) none h = none firm offer h
+none_written words (line.Step (Enter (Refuse firm offer why))) none h = none firm offer why h
+none_written words (line.Step (Enter (Reverse firm offer))) none h = none firm offer h
+none_written words (line.Step (See worker group)) none h = none worker group h
+none_written words (line.Step (Propose worker)) none h = none worker h
+none_written words (line.Step (Commit worker)) none h = none worker h
+none_written words (line.Sweep group) none h = none group h
+none_written words (line.Position account symbol) none h = none account symbol h
+none_written words (line.Interest symbol) none h = none symbol h
+none_written words (line.Limits group) none h = none group h
+
+-- a line that words write is of the form that the first of them begins
+form_written : (kind : List ℕ) (words : List (List ℕ)) (said : Line) → Writes (kind ∷ words) said → form_begun kind ≡ Some (form_of said)
+form_written kind words said h =
+    let b = begins (kind ∷ words) said h in
+    let first : kind ≡ form_word (form_of said) = let whole = b.1 in cc in
+    ap form_begun first ∙ form_begun-word (form_of said)
+
+-- where the first word begins no form, words write nothing
+pub unbegun : (kind : List ℕ) (words : List (List ℕ)) → form_begun kind ≡ None → ReadsWords (kind ∷ words) None
+unbegun kind words none said h = let some = form_written kind words said h in cc
+
+all_forms : (kind : List ℕ) → AllByRecursion (λ (f : Form). Unit {0}) forms
+all_forms kind = (tt, (tt, (tt, (tt, (tt, (tt, (tt, (tt, (tt, (tt, (tt, (tt, (tt, (tt, tt))))))))))))))
+
+form_word_is : (kind : List ℕ) (f : Form) → form_begun kind ≡ Some f → form_word f ≡ kind
+form_word_is kind f h = (bytes_eq-Decides (form_word f) kind).0 (found (λ g. bytes_eq (form_word g) kind) (λ g. Unit {0}) forms f (all_forms kind) h).0
+
+-- what is read of the words of a form is what the words write
+pub begun : (kind : List ℕ) (words : List (List ℕ)) (f : Form) (read : Option Line) → form_begun kind ≡ Some f → Reads f words read → ReadsWords (kind ∷ words) read
+begun kind words f (Some said) is reads = subst (λ (k : List ℕ). Writes (k ∷ words) said) (form_word_is kind f is) reads
+begun kind words f None is reads = λ said h.
+    let same : f ≡ form_of said = let e = sym is ∙ form_written kind words said h in cc in
+    let none : WriteNone (form_of said) (form_word f ∷ words) = subst (λ g. WriteNone g (form_word f ∷ words)) same reads in
+    none_written (kind ∷ words) said (subst (λ (k : List ℕ). WriteNone (form_of said) (k ∷ words)) (form_word_is kind f is) none) h
+
+-- and so where reading may want memory
+pub begun_result : {E : Type 0} (kind : List ℕ) (words : List (List ℕ)) (f : Form) (result : Result (Option Line) E) → form_begun kind ≡ Some f → IfOk result (Reads f words) → IfOk result (ReadsWords (kind ∷ words))
+begun_result kind words f (Ok read) is reads = begun kind words f read is reads
+begun_result kind words f (Err e) is reads = tt
+
+-- no words write nothing
+pub wordless : (said : Line) → ¬ Writes [] said
+wordless said h = let b = begins [] said h in let e = b.1 in cc
+
+-- a line that is too long is bad, and one with a blank at an end
+pub long_bad : (text : List ℕ) → is_silent text ≡ false → longest_line < length text → IsBad text
+long_bad text speaks long = record { speaks = speaks; nothing = λ said says. absurd (omega (arith, long, says.short)) }
+
+pub ragged_bad : (text : List ℕ) → is_silent text ≡ false → is_ragged text ≡ true → IsBad text
+ragged_bad text speaks ragged = record { speaks = speaks; nothing = λ said says. let e : true ≡ false = sym ragged ∙ says.even in cc }
+
+-- other lines say what their words write
+pub words_said : (text : List ℕ) (read : Option Line) → is_silent text ≡ false → length text ≤ longest_line → is_ragged text ≡ false → ReadsWords (words_of text) read → MatchOption read (IsBad text) (Says text)
+words_said text (Some said) speaks short even reads = record { speaks = speaks; short = short; even = even; writes = reads }
+words_said text None speaks short even reads = record { speaks = speaks; nothing = λ said says. reads said says.writes }

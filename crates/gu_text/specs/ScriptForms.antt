@@ -1,0 +1,133 @@
+-- Machinery: the forms of a script's lines, while one is read. (No other crate names this file.)
+use Rattle.std.specs.Prelude.{◌≡◌, ℕ, ℤ, List, [], ◌∷◌, codes, IsTrue, MatchOption, Option, Some, None, nat_le, if◌then◌else◌}
+use Rattle.std.specs.List.{find}
+use Rattle.std.specs.Option.{option_and_then}
+use Rattle.std.specs.Str.{bytes_eq}
+use Rattle.gu_terms.specs.AllocRejects.{reject_number}
+use Rattle.gu_terms.specs.Lines.{AreLines}
+use Rattle.gu_terms.specs.Names.{IsId, is_name}
+use Rattle.gu_terms.specs.NumberText.{MeansLots}
+use Rattle.gu_terms.specs.declared.account.AccountId.{AccountId}
+use Rattle.gu_terms.specs.declared.alloc_reject.AllocReject.{AllocReject}
+use Rattle.gu_terms.specs.declared.command.Command.{Command}
+use Rattle.gu_terms.specs.declared.command.Command.TheVariants.{OpenDay, SetLimit, ReportSide, GiveUp, Claim, Refuse, Reverse}
+use Rattle.gu_terms.specs.declared.day.Day.{Day}
+use Rattle.gu_terms.specs.declared.firm.FirmId.{FirmId}
+use Rattle.gu_terms.specs.declared.group.Group.{Group}
+use Rattle.gu_terms.specs.declared.id.Id.{Id}
+use Rattle.gu_terms.specs.declared.limit_key.LimitKey.{LimitKey}
+use Rattle.gu_terms.specs.declared.lines.Line.{Line as GiveUpLine}
+use Rattle.gu_terms.specs.declared.side.Side.{Side}
+use Rattle.gu_terms.specs.declared.symbol.Symbol.{Symbol}
+use Rattle.gu_world.specs.declared.step.Step.{Step}
+use Rattle.gu_world.specs.declared.step.Step.TheVariants.{Enter, See, Propose, Commit}
+use Rattle.gu_text.specs.Scripts.{WriteLines, Writes}
+use Rattle.gu_text.specs.SheetLines.{number_of}
+use Rattle.gu_text.specs.declared.script_forms.Form.{Form}
+use Rattle.gu_text.specs.declared.script_forms.Form.TheVariants as form
+use Rattle.gu_text.specs.declared.script_line.Line.{Line}
+use Rattle.gu_text.specs.declared.script_line.Line.TheVariants as line
+
+-- the worker that a word writes, among those that scripts can name
+abbrev pub worker_said : List ℕ → Option ℕ
+worker_said word = option_and_then (λ n. if nat_le n 62 then Some n else None) (number_of word)
+
+-- a word writes the number of a reason
+abbrev pub WritesReject : List ℕ → AllocReject → Type 0
+WritesReject word reject = number_of word ≡ Some (reject_number reject)
+
+-- the word that the lines of a form begin with
+abbrev pub form_word : Form → List ℕ
+form_word form.Day = codes "DAY"
+form_word form.Limit = codes "LIMIT"
+form_word form.Report = codes "REPORT"
+form_word form.GiveUp = codes "GIVEUP"
+form_word form.Claim = codes "CLAIM"
+form_word form.Refuse = codes "REFUSE"
+form_word form.Reverse = codes "REVERSE"
+form_word form.See = codes "SEE"
+form_word form.Propose = codes "PROPOSE"
+form_word form.Commit = codes "COMMIT"
+form_word form.Sweep = codes "SWEEP"
+form_word form.Position = codes "POSITION"
+form_word form.Interest = codes "INTEREST"
+form_word form.Limits = codes "LIMITS"
+
+-- the forms
+abbrev pub forms : List Form
+forms =
+    form.Day ∷ form.Limit ∷ form.Report ∷ form.GiveUp ∷ form.Claim ∷ form.Refuse ∷ form.Reverse ∷ form.See ∷ form.Propose ∷ form.Commit
+    ∷ form.Sweep ∷ form.Position ∷ form.Interest ∷ form.Limits ∷ []
+
+-- the form whose lines begin with a word
+abbrev pub form_begun : List ℕ → Option Form
+form_begun word = find (λ f. bytes_eq (form_word f) word) forms
+
+-- the form of what a line says
+abbrev pub form_of : Line → Form
+form_of (line.Step (Enter (OpenDay day))) = form.Day
+form_of (line.Step (Enter (SetLimit group key lots))) = form.Limit
+form_of (line.Step (Enter (ReportSide firm id match_id symbol lots price day side account))) = form.Report
+form_of (line.Step (Enter (GiveUp firm id report lines))) = form.GiveUp
+form_of (line.Step (Enter (Claim firm offer))) = form.Claim
+form_of (line.Step (Enter (Refuse firm offer why))) = form.Refuse
+form_of (line.Step (Enter (Reverse firm offer))) = form.Reverse
+form_of (line.Step (See worker group)) = form.See
+form_of (line.Step (Propose worker)) = form.Propose
+form_of (line.Step (Commit worker)) = form.Commit
+form_of (line.Sweep group) = form.Sweep
+form_of (line.Position account symbol) = form.Position
+form_of (line.Interest symbol) = form.Interest
+form_of (line.Limits group) = form.Limits
+
+-- words write nothing of a form
+abbrev pub WriteNone : Form → List (List ℕ) → Type 0
+WriteNone form.Day words = (day : Day) → ¬ Writes words (line.Step (Enter (OpenDay day)))
+WriteNone form.Limit words = (group : Group) (key : LimitKey) (lots : ℕ) → ¬ Writes words (line.Step (Enter (SetLimit group key lots)))
+WriteNone form.Report words =
+    (firm : FirmId) (id match_id : Id) (symbol : Symbol) (lots : ℕ) (price : ℤ) (day : Option Day) (side : Side) (account : AccountId)
+    → ¬ Writes words (line.Step (Enter (ReportSide firm id match_id symbol lots price day side account)))
+WriteNone form.GiveUp words =
+    (firm : FirmId) (id report : Id) (lines : List GiveUpLine) → ¬ Writes words (line.Step (Enter (GiveUp firm id report lines)))
+WriteNone form.Claim words = (firm : FirmId) (offer : ℕ) → ¬ Writes words (line.Step (Enter (Claim firm offer)))
+WriteNone form.Refuse words = (firm : FirmId) (offer : ℕ) (why : AllocReject) → ¬ Writes words (line.Step (Enter (Refuse firm offer why)))
+WriteNone form.Reverse words = (firm : FirmId) (offer : ℕ) → ¬ Writes words (line.Step (Enter (Reverse firm offer)))
+WriteNone form.See words = (worker : ℕ) (group : Group) → ¬ Writes words (line.Step (See worker group))
+WriteNone form.Propose words = (worker : ℕ) → ¬ Writes words (line.Step (Propose worker))
+WriteNone form.Commit words = (worker : ℕ) → ¬ Writes words (line.Step (Commit worker))
+WriteNone form.Sweep words = (group : Group) → ¬ Writes words (line.Sweep group)
+WriteNone form.Position words = (account : AccountId) (symbol : Symbol) → ¬ Writes words (line.Position account symbol)
+WriteNone form.Interest words = (symbol : Symbol) → ¬ Writes words (line.Interest symbol)
+WriteNone form.Limits words = (group : Group) → ¬ Writes words (line.Limits group)
+
+-- what is read of the words behind the word of a form, if they write anything
+abbrev pub Reads : Form → List (List ℕ) → Option Line → Type 0
+Reads form words read = MatchOption read (WriteNone form (form_word form ∷ words)) (Writes (form_word form ∷ words))
+
+-- what is read of words, if they write anything
+abbrev pub ReadsWords : List (List ℕ) → Option Line → Type 0
+ReadsWords words read = MatchOption read ((said : Line) → ¬ Writes words said) (Writes words)
+
+-- what is read of words as the lines of a give-up
+abbrev pub ReadsLines : List (List ℕ) → Option (List GiveUpLine) → Type 0
+ReadsLines words read =
+    MatchOption read ((lines : List GiveUpLine) → AreLines lines → ¬ WriteLines words lines)
+    (λ lines. AreLines lines × WriteLines words lines)
+
+-- words begin with the firm of a give-up, its ids of the give-up and of the report, and these stand behind
+pub record IsGiver (words : List (List ℕ)) (firm : FirmId) (id report : Id) (pairs : List (List ℕ)) : Type 0 where
+  pub words_are : words ≡ firm.name ∷ id ∷ report ∷ pairs
+  pub name : IsTrue (is_name firm.name)
+  pub own : IsId id
+  pub reported : IsId report
+
+-- words begin with an account and its lots, and these stand behind
+pub record WritesLine (words : List (List ℕ)) (first : GiveUpLine) (behind : List (List ℕ)) : Type 0 where
+  pub lots_text : List ℕ
+  pub words_are : words ≡ first.account.name ∷ lots_text ∷ behind
+  pub name : IsTrue (is_name first.account.name)
+  pub lots : MeansLots lots_text first.lots
+
+-- words begin with no line of a give-up
+abbrev pub WritesNoLine : List (List ℕ) → Type 0
+WritesNoLine words = (first : GiveUpLine) (others : List GiveUpLine) → ¬ WriteLines words (first ∷ others)

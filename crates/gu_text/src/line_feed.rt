@@ -1,0 +1,25 @@
+//! Lines of a text that still comes.
+
+ghost use Rattle.std.specs.Prelude.{MatchOption, IsTrue};
+ghost use Rattle.gu_text.specs.LineFeeds.{HasNoLineFeed, IsParted, IsTooLong};
+
+use crate::lines::{LONGEST_LINE, end_of_line};
+
+/// The bytes in front of the first LF, and those behind it.
+pub fn split_at_line_feed(bytes: &[u8]) -> Option<(&[u8], &[u8])>
+    ensures { MatchOption result (HasNoLineFeed bytes.now) (λ parts. IsParted bytes.now parts.0.now parts.1.now) }
+{
+    match end_of_line(bytes) {
+        Some(place) => Some((&bytes[..place], &bytes[place + 1..])),
+        None => None,
+    }
+}
+
+/// Whether a line that begins so, without an LF as yet, is longer than any good line, whatever comes.
+/// (One byte more than the longest line may be the CR that is dropped.)
+pub fn is_too_long(bytes: &[u8]) -> bool
+    requires { HasNoLineFeed bytes.now }
+    ensures { IsTrue result → IsTooLong bytes.now }
+{
+    bytes.len() > LONGEST_LINE + 1
+}

@@ -1,0 +1,87 @@
+//! Positions, open interest and limits as lines.
+
+ghost use Rattle.std.specs.Prelude.{◌≡◌, ◌++◌, IfOk, OnOk};
+ghost use Rattle.gu_text.specs.Rows.{interest_text, limit_text, position_text, unknown_text};
+
+use crate::texts::{append_last_number, append_last_word, append_number, append_word};
+use gu_terms::{AccountId, Group, LimitRow, Symbol};
+use std::alloc::{AllocError, Global};
+
+/// Appends what an account holds of an instrument.
+pub fn append_position(
+    output: &mut Vec<u8>,
+    account: &AccountId,
+    symbol: &Symbol,
+    long: u64,
+    short: u64,
+) -> Result<(), AllocError>
+    ensures text { OnOk result (output.new.items ≡ output.old.items ++ position_text account.now symbol.now long short) }
+{
+    append_word(output, b"POSITION")?;
+    append_word(output, account.get())?;
+    append_word(output, symbol.get())?;
+    append_number(output, long)?;
+    append_last_number(output, short)
+}
+
+/// What an account holds of an instrument, as a line.
+pub fn position_text(
+    alloc: Global,
+    account: &AccountId,
+    symbol: &Symbol,
+    long: u64,
+    short: u64,
+) -> Result<Vec<u8>, AllocError>
+    ensures text { IfOk result (λ text. text.items ≡ position_text account.now symbol.now long short) }
+{
+    let mut output = Vec::new(alloc);
+    append_position(&mut output, account, symbol, long, short)?;
+    Ok(output)
+}
+
+/// Appends the open interest of an instrument.
+pub fn append_interest(output: &mut Vec<u8>, symbol: &Symbol, lots: u64) -> Result<(), AllocError>
+    ensures text { OnOk result (output.new.items ≡ output.old.items ++ interest_text symbol.now lots) }
+{
+    append_word(output, b"INTEREST")?;
+    append_word(output, symbol.get())?;
+    append_last_number(output, lots)
+}
+
+/// The open interest of an instrument, as a line.
+pub fn interest_text(alloc: Global, symbol: &Symbol, lots: u64) -> Result<Vec<u8>, AllocError>
+    ensures text { IfOk result (λ text. text.items ≡ interest_text symbol.now lots) }
+{
+    let mut output = Vec::new(alloc);
+    append_interest(&mut output, symbol, lots)?;
+    Ok(output)
+}
+
+/// Appends a limit in a group, with its use and its room.
+pub fn append_limit(output: &mut Vec<u8>, group: &Group, row: &LimitRow) -> Result<(), AllocError>
+    ensures text { OnOk result (output.new.items ≡ output.old.items ++ limit_text group.now row.now) }
+{
+    append_word(output, b"LIMIT")?;
+    append_word(output, group.get())?;
+    append_word(output, row.key.kind().as_bytes())?;
+    append_word(output, row.key.name())?;
+    append_number(output, row.limit)?;
+    append_number(output, row.used)?;
+    append_last_number(output, row.room)
+}
+
+/// A limit in a group, with its use and its room, as a line.
+pub fn limit_text(alloc: Global, group: &Group, row: &LimitRow) -> Result<Vec<u8>, AllocError>
+    ensures text { IfOk result (λ text. text.items ≡ limit_text group.now row.now) }
+{
+    let mut output = Vec::new(alloc);
+    append_limit(&mut output, group, row)?;
+    Ok(output)
+}
+
+/// Appends what answers a question for a name that the reference lacks.
+pub fn append_unknown(output: &mut Vec<u8>) -> Result<(), AllocError>
+    ensures text { OnOk result (output.new.items ≡ output.old.items ++ unknown_text) }
+{
+    append_last_word(output, b"UNKNOWN")
+}

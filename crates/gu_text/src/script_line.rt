@@ -1,0 +1,95 @@
+//! What a line of a script says.
+
+ghost use Rattle.std.specs.Prelude.{◌≡◌, ◌∷◌, ℕ, false, IfOk, IsErrOf, IsTrue, MatchOption};
+ghost use Rattle.gu_text.specs.Lines.{is_silent};
+ghost use Rattle.gu_text.specs.ScriptForms.{Reads, ReadsWords};
+ghost use Rattle.gu_text.specs.Scripts.{IsBad, Says};
+ghost use Rattle.gu_text.specs.Words.{words_of};
+
+use crate::error::TextError;
+use crate::lines::{LONGEST_LINE, is_silent};
+use crate::script_forms::{
+    Form, claim_said, commit_said, day_said, give_up_said, interest_said, limit_said, limits_said,
+    position_said, propose_said, refuse_said, report_said, reverse_said, see_said, sweep_said,
+};
+use crate::words::{first_word, is_ragged};
+use gu_terms::{AccountId, Group, Symbol};
+use gu_world::Step;
+use std::alloc::{AllocError, Global};
+
+/// What a line of a script says.
+#[derive(Debug, Drop)]
+pub enum Line {
+    /// A step: a command, or what a worker from 0 to 62 does.
+    Step(Step),
+    /// A whole sweep of a group: a look, a proposal and its commit.
+    Sweep(Group),
+    /// What does this account hold of this instrument?
+    Position(AccountId, Symbol),
+    /// What is the open interest of this instrument?
+    Interest(Symbol),
+    /// What limits are set in this group?
+    Limits(Group),
+}
+
+/// What the words behind the word of a form say.
+fn form_said(alloc: Global, form: Form, words: &[u8]) -> Result<Option<Line>, AllocError>
+    ensures { IfOk result (Reads form (words_of words.now)) }
+{
+    match form {
+        Form::Day => Ok(day_said(words)),
+        Form::Limit => Ok(limit_said(words)),
+        Form::Report => Ok(report_said(words)),
+        Form::GiveUp => give_up_said(alloc, words),
+        Form::Claim => Ok(claim_said(words)),
+        Form::Refuse => Ok(refuse_said(words)),
+        Form::Reverse => Ok(reverse_said(words)),
+        Form::See => Ok(see_said(words)),
+        Form::Propose => Ok(propose_said(words)),
+        Form::Commit => Ok(commit_said(words)),
+        Form::Sweep => Ok(sweep_said(words)),
+        Form::Position => Ok(position_said(words)),
+        Form::Interest => Ok(interest_said(words)),
+        Form::Limits => Ok(limits_said(words)),
+    }
+}
+
+/// What words say, the first of which stands apart.
+fn words_say(alloc: Global, kind: &[u8], words: &[u8]) -> Result<Option<Line>, AllocError>
+    ensures { IfOk result (ReadsWords (kind.now ∷ words_of words.now)) }
+{
+    match Form::begun(kind) {
+        Some(form) => form_said(alloc, form, words),
+        None => Ok(None),
+    }
+}
+
+/// What a line says that isn't silent.
+fn spoken(alloc: Global, line: &[u8]) -> Result<Option<Line>, AllocError>
+    requires { is_silent line.now ≡ false }
+    ensures { IfOk result (λ said. MatchOption said (IsBad line.now) (Says line.now)) }
+{
+    if line.len() > LONGEST_LINE || is_ragged(line) {
+        return Ok(None);
+    }
+    match first_word(line) {
+        Some((kind, words)) => words_say(alloc, kind, words),
+        None => Ok(None),
+    }
+}
+
+impl Line {
+    /// What the line with this number says: nothing where it is silent.
+    pub fn read(alloc: Global, line: &[u8], number: u64) -> Result<Option<Line>, TextError>
+        ensures said { IfOk result (λ said. MatchOption said (IsTrue (is_silent line.now)) (Says line.now)) }
+        ensures bad { (n : ℕ) → IsErrOf result (TextError.BadLine n) → (n ≡ number) × IsBad line.now }
+    {
+        if is_silent(line) {
+            return Ok(None);
+        }
+        match spoken(alloc, line)? {
+            Some(said) => Ok(Some(said)),
+            None => Err(TextError::BadLine(number)),
+        }
+    }
+}
