@@ -8,6 +8,7 @@ mod Places
 mod ReadBackLemmas
 mod ReadLemmas
 mod ScriptLemmas
+mod SheetBack
 mod SheetLemmas
 mod Splits
 mod TakesLemmas

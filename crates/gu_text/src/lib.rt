@@ -20,7 +20,9 @@ mod verdicts;
 mod words;
 
 pub use error::TextError;
-pub use laws::{a_line_says_one_thing, written_words_are_read_back};
+pub use laws::{
+    a_line_says_one_thing, a_written_sheet_says_what_it_is, written_words_are_read_back,
+};
 pub use outcomes::{append_outcome, outcome_text};
 pub use replies::{append_reply, reply_text};
 pub use rows::{
