@@ -9,6 +9,7 @@ mod Places
 mod ReadBackLemmas
 mod ReadLemmas
 mod ScriptLemmas
+mod SheetBack
 mod SheetLemmas
 mod Splits
 mod TakesLemmas

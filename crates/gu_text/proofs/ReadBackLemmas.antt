@@ -139,10 +139,11 @@ lines-line_of words rest are =
     ∙ first_of_parts text (slice_split (λ b. b == 10) rest) (omega (arith, length-slice_split (λ b. b == 10) rest))
     ∙ ap (λ (line : List ℕ). line ∷ lines rest) (cond-false (get_or text (length text - 1) 0 == 13) (take (length text - 1) text) text (no_return words each are.some))
 
-lines_of_rows : (rows : List (List (List ℕ))) → AllByRecursion AreWords rows → HasLines rows
+-- a text that is written line by line has these lines
+pub lines_of_rows : (rows : List (List (List ℕ))) → AllByRecursion AreWords rows → HasLines rows
 lines_of_rows [] each = refl
 lines_of_rows (words ∷ rows) each = lines-line_of words (flat_map line_of rows) each.0 ∙ ap (λ (ls : List (List ℕ)). joined words ∷ ls) (lines_of_rows rows each.1)
 
--- a text that is written line by line has these lines
+-- and so for rows by their places
 pub has_lines : (rows : List (List (List ℕ))) → All AreWords rows → HasLines rows
 has_lines rows each = lines_of_rows rows (recursion_from_All AreWords rows each)

@@ -26,8 +26,8 @@ use Rattle.gu_view.specs.View.{GroupView, IsPath}
 use Rattle.gu_view.specs.declared.view.Offer.{Offer}
 use Rattle.gu_view.specs.declared.view.Room.{Room}
 use Rattle.gu_text.specs.Lines.{is_silent, longest_line}
-use Rattle.gu_text.specs.ReadBack.{AreWords, IsWord, is_word_byte, joined}
-use Rattle.gu_text.specs.SheetLines.{guarantor_said, is_number, key_said, name_of, number_of, offer_no_of, path_said, said_by, says, spoken}
+use Rattle.gu_text.specs.ReadBack.{AreWords, IsLineOf, IsWord, is_word_byte, joined}
+use Rattle.gu_text.specs.SheetLines.{guarantor_said, is_number, key_said, name_of, number_of, offer_no_of, path_said, said_by, spoken}
 use Rattle.gu_text.specs.SheetText.{cut_key_words, cut_offer_words, head_words, offer_words, room_words, take_words}
 use Rattle.gu_text.specs.Texts.{word}
 use Rattle.gu_text.specs.Words.{is_ragged, words_of}
@@ -133,16 +133,20 @@ words_of_short (first ∷ others) each =
 
 -- a line of a few short words that isn't silent says what the words say
 pub line_back : (words : List (List ℕ)) (said : SheetLine) → AllByRecursion (λ w. IsWord w × (length w ≤ 12)) words → 1 ≤ length words → length words ≤ 8
-    → is_silent (joined words) ≡ false → said_by words ≡ Some said → says (joined words) ≡ Some said
+    → is_silent (joined words) ≡ false → said_by words ≡ Some said → IsLineOf words said
 line_back words said each some few speaks is =
     let both = words_of_short words each in
-    let back = read_back words (record { some = some; each = All-from_recursion IsWord words both.0 }) in
+    let are : AreWords words = record { some = some; each = All-from_recursion IsWord words both.0 } in
+    let back = read_back words are in
     let bytes = length-joined words both.1 in
     let short : nat_lt longest_line (length (joined words)) ≡ false = le-ltb longest_line (length (joined words)) (omega (arith, bytes, few)) in
-    cond-false (is_silent (joined words)) None (spoken (joined words)) speaks
-    ∙ cond-false (nat_lt longest_line (length (joined words)) || is_ragged (joined words)) None (said_by (words_of (joined words)))
-    (ap (λ (b : Bool). b || is_ragged (joined words)) short ∙ back.even)
-    ∙ ap said_by back.words_are ∙ is
+    record {
+      are = are;
+      says_it = cond-false (is_silent (joined words)) None (spoken (joined words)) speaks
+          ∙ cond-false (nat_lt longest_line (length (joined words)) || is_ragged (joined words)) None (said_by (words_of (joined words)))
+          (ap (λ (b : Bool). b || is_ragged (joined words)) short ∙ back.even)
+          ∙ ap said_by back.words_are ∙ is;
+    }
 
 -- ---- the lines of a sheet
 
@@ -177,7 +181,7 @@ offer_no_back n is =
     ∙ cond-true (nat_le 1 n && nat_le n 16000000) (Some n) None (rw (low, high) refl)
 
 pub head_back : (view : GroupView) → IsTrue (is_name view.group.name) → view.version < 10 ^ 12
-    → says (joined (head_words view)) ≡ Some (line.Sheet (record { group = view.group; version = view.version }))
+    → IsLineOf (head_words view) (line.Sheet (record { group = view.group; version = view.version }))
 head_back view named small =
     let name = name_back view.group.name named in
     let version = number_back view.version small in
@@ -187,7 +191,7 @@ head_back view named small =
     (ap (option_and_then (λ n. option_map (λ m. line.Sheet (record { group = record { name = n }; version = m })) (number_of (decimal view.version)))) name
     ∙ ap (option_map (λ m. line.Sheet (record { group = view.group; version = m }))) version)
 
-pub room_back : (room : Room) → IsTrue (is_name (name_of_key room.key)) → room.lots < 10 ^ 12 → says (joined (room_words room)) ≡ Some (line.Room room)
+pub room_back : (room : Room) → IsTrue (is_name (name_of_key room.key)) → room.lots < 10 ^ 12 → IsLineOf (room_words room) (line.Room room)
 room_back room named small =
     let key = key_back room.key named in
     let lots = number_back room.lots small in
@@ -197,7 +201,7 @@ room_back room named small =
     (ap (option_and_then (λ k. option_map (λ l. line.Room (record { key = k; lots = l })) (number_of (decimal room.lots)))) key
     ∙ ap (option_map (λ l. line.Room (record { key = room.key; lots = l }))) lots)
 
-pub take_back : (t : Take) → IsOfferNo t.offer → t.lots < 10 ^ 12 → says (joined (take_words t.offer t.lots)) ≡ Some (line.Take t)
+pub take_back : (t : Take) → IsOfferNo t.offer → t.lots < 10 ^ 12 → IsLineOf (take_words t.offer t.lots) (line.Take t)
 take_back t is small =
     let number = offer_no_back t.offer is in
     let lots = number_back t.lots small in
@@ -207,7 +211,7 @@ take_back t is small =
     (ap (option_and_then (λ n. option_map (λ l. line.Take (record { offer = n; lots = l })) (number_of (decimal t.lots)))) number
     ∙ ap (option_map (λ l. line.Take (record { offer = t.offer; lots = l }))) lots)
 
-pub cut_key_back : (key : LimitKey) → IsTrue (is_name (name_of_key key)) → says (joined (cut_key_words key)) ≡ Some (line.CutKey key)
+pub cut_key_back : (key : LimitKey) → IsTrue (is_name (name_of_key key)) → IsLineOf (cut_key_words key) (line.CutKey key)
 cut_key_back key named =
     line_back (cut_key_words key) (line.CutKey key)
     (literal (codes "CUT") refl refl, (kind_word key, (name_word (name_of_key key) named, tt)))
@@ -215,15 +219,15 @@ cut_key_back key named =
     (cond-false (bytes_eq (kind_of key) (codes "OFFER")) (option_map line.CutOffer (offer_no_of (name_of_key key))) (option_map line.CutKey (key_said (kind_of key) (name_of_key key))) (kind_is_no_offer key)
     ∙ ap (option_map line.CutKey) (key_back key named))
 
-pub cut_offer_back : (number : ℕ) → IsOfferNo number → says (joined (cut_offer_words number)) ≡ Some (line.CutOffer number)
+pub cut_offer_back : (number : ℕ) → IsOfferNo number → IsLineOf (cut_offer_words number) (line.CutOffer number)
 cut_offer_back number is =
     line_back (cut_offer_words number) (line.CutOffer number)
     (literal (codes "CUT") refl refl, (literal (codes "OFFER") refl refl, (number_word number (offer_small number is), tt)))
     (omega arith) (omega arith) refl
     (ap (option_map line.CutOffer) (offer_no_back number is))
 
-pub end_back : says (codes "END") ≡ Some line.End
-end_back = refl
+pub end_back : IsLineOf (codes "END" ∷ []) line.End
+end_back = line_back (codes "END" ∷ []) line.End (literal (codes "END") refl refl, tt) (omega arith) (omega arith) refl refl
 
 guarantor_back : (guarantor : Option FirmId) → list_all (λ k. is_name (name_of_key k)) (guarantor_key guarantor) ≡ true → guarantor_said (map name_of_key (guarantor_key guarantor)) ≡ Some guarantor
 guarantor_back None named = refl
@@ -242,8 +246,7 @@ few_guarantors (Some firm) = omega arith
 
 path_back : (number lots : ℕ) (executing : FirmId) (agreement : AgreementId) (account : AccountId) (carrying : FirmId) (guarantor : Option FirmId)
     → IsOfferNo number → lots < 10 ^ 12 → list_all (λ k. is_name (name_of_key k)) (path_through executing agreement account carrying guarantor) ≡ true
-    → says (joined (offer_words (record { number = number; lots = lots; agreement = agreement; path = path_through executing agreement account carrying guarantor })))
-    ≡ Some (line.Offer (record { number = number; lots = lots; agreement = agreement; path = path_through executing agreement account carrying guarantor }))
+    → IsLineOf (offer_words (record { number = number; lots = lots; agreement = agreement; path = path_through executing agreement account carrying guarantor })) (line.Offer (record { number = number; lots = lots; agreement = agreement; path = path_through executing agreement account carrying guarantor }))
 path_back number lots executing agreement account carrying guarantor is small named =
     let rest = list_all (λ k. is_name (name_of_key k)) (guarantor_key guarantor) in
     let e = and_parts (is_name executing.name) (is_name agreement.name && (is_name account.name && (is_name carrying.name && rest))) named in
@@ -272,8 +275,8 @@ path_back number lots executing agreement account carrying guarantor is small na
     (omega arith) (omega (arith, few_guarantors guarantor)) refl
     (rw (offer_no_back number is, number_back lots small, name_back agreement.name p.0, path_words_said) refl)
 
-pub offer_back : (offer : Offer) → IsPath offer → IsTrue (list_all (λ k. is_name (name_of_key k)) offer.path) → IsOfferNo offer.number → offer.lots < 10 ^ 12 → says (joined (offer_words offer)) ≡ Some (line.Offer offer)
+pub offer_back : (offer : Offer) → IsPath offer → IsTrue (list_all (λ k. is_name (name_of_key k)) offer.path) → IsOfferNo offer.number → offer.lots < 10 ^ 12 → IsLineOf (offer_words offer) (line.Offer offer)
 offer_back offer is_path named is small =
     let path = path_through is_path.0 offer.agreement is_path.1 is_path.2 is_path.3 in
     let given = path_back offer.number offer.lots is_path.0 offer.agreement is_path.1 is_path.2 is_path.3 is small (sym (ap (list_all (λ k. is_name (name_of_key k))) is_path.4) ∙ named) in
-    subst (λ (keys : List LimitKey). let o : Offer = record { number = offer.number; lots = offer.lots; agreement = offer.agreement; path = keys } in says (joined (offer_words o)) ≡ Some (line.Offer o)) (sym is_path.4) given
+    subst (λ (keys : List LimitKey). let o : Offer = record { number = offer.number; lots = offer.lots; agreement = offer.agreement; path = keys } in IsLineOf (offer_words o) (line.Offer o)) (sym is_path.4) given

@@ -21,7 +21,9 @@ mod verdicts;
 mod words;
 
 pub use error::TextError;
-pub use laws::{a_line_says_one_thing, written_words_are_read_back};
+pub use laws::{
+    a_line_says_one_thing, a_written_sheet_says_what_it_is, written_words_are_read_back,
+};
 pub use line_feed::{is_too_long, split_at_line_feed};
 pub use lines::without_return;
 pub use outcomes::{append_outcome, outcome_text};
