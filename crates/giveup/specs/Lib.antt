@@ -1,8 +1,11 @@
 pub mod Capture
 pub mod Checking
+pub mod Exchange
+pub mod Houses
 pub mod Input
 pub mod PositionText
 pub mod ProgramWords
 pub mod RunErrors
+pub mod Sends
 pub mod Serving
 pub mod Statuses
