@@ -18,9 +18,10 @@ use Rattle.gu_msgs.specs.declared.inbound.Inbound.{Inbound}
 use Rattle.gu_msgs.specs.declared.inbound.Inbound.TheVariants as inbound
 use Rattle.gu_msgs.specs.declared.inbound.TradeCaptureReport.{TradeCaptureReport}
 use Rattle.gu_msgs.proofs.OneReport.{one_report}
-use Rattle.giveup.specs.Capture.{Capture, IsReportOf, IsTextOf, Reports, PassesOver, AnswersFrame, Captured, CapturedFront, acknowledgement, capture_behind, capture_at_start}
+use Rattle.giveup.specs.Capture.{Capture, IsReportOf, IsTextOf, Reports, PassesOver, AnswersFrame, Captured, CapturedFront, CapturedSoFar, acknowledgement, capture_behind, capture_at_start}
 use Rattle.giveup.specs.PositionText.{positions_text}
-use Rattle.giveup.specs.Serving.{Served, ServedFront, WrotePart}
+use Rattle.giveup.specs.Serving.{WrotePart}
+use Rattle.giveup.proofs.Joining.{Answered, AnsweredAll, AnsweredFront}
 use Rattle.giveup.proofs.Writing.{wrote_all, wrote_then}
 
 -- a frame with a malformed field asks for nothing
@@ -133,7 +134,7 @@ module _ (reference : Tables) (day : Day) where
   }
 
   -- the answers were written in part
-  pub captured_in_part : (i j o p : Option (List ℕ)) → ServedFront AnswersFrame (capture_at_start reference day) i j o p → CapturedFront reference day i j o p
+  pub captured_in_part : (i j o p : Option (List ℕ)) → AnsweredFront (capture_at_start reference day) i j o p → CapturedFront reference day i j o p
   captured_in_part i j o p front = record {
     read = front.read;
     frames = front.frames;
@@ -150,8 +151,21 @@ module _ (reference : Tables) (day : Day) where
     wrote = subst (λ (t : List ℕ). WrotePart t o p) (sym (append-nil front.text)) front.wrote;
   }
 
+  -- all that was read is answered
+  pub captured_so_far : (last : Capture) (i j o p : Option (List ℕ)) → Answered (capture_at_start reference day) last i j o p → CapturedSoFar reference day i j o p
+  captured_so_far last i j o p all = record {
+    read = all.read;
+    frames = all.frames;
+    text = all.text;
+    last = last;
+    consumed = all.consumed;
+    are_frames = all.are_frames;
+    answered = all.answered;
+    appended = all.appended;
+  }
+
   -- the answers were written, and a front of the lines
-  pub captured_but_lines : (last : Capture) (i j o p q : Option (List ℕ)) → Served AnswersFrame (capture_at_start reference day) last i j o p → WrotePart (positions_text last.book) p q → CapturedFront reference day i j o q
+  pub captured_but_lines : (last : Capture) (i j o p q : Option (List ℕ)) → AnsweredAll (capture_at_start reference day) last i j o p → WrotePart (positions_text last.book) p q → CapturedFront reference day i j o q
   captured_but_lines last i j o p q served part = record {
     read = served.all.read;
     frames = served.all.frames;
@@ -169,7 +183,7 @@ module _ (reference : Tables) (day : Day) where
   }
 
   -- and all of them
-  pub captured_all : (last : Capture) (i j o p q : Option (List ℕ)) → Served AnswersFrame (capture_at_start reference day) last i j o p → Appends p q (positions_text last.book) → Captured reference day i j o q
+  pub captured_all : (last : Capture) (i j o p q : Option (List ℕ)) → AnsweredAll (capture_at_start reference day) last i j o p → Appends p q (positions_text last.book) → Captured reference day i j o q
   captured_all last i j o p q served sent = record {
     read = served.all.read;
     frames = served.all.frames;

@@ -1,5 +1,10 @@
 pub mod Capturings
 pub mod Checkings
+pub mod Exchanging
+pub mod Holding
+pub mod InTurn
+pub mod Joining
+pub mod Parting
 pub mod ReplayLooks
 pub mod ReplayPieces
 pub mod ReplayRuns

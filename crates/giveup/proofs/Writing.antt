@@ -59,3 +59,8 @@ wrote_then text next a b c sent part = record {
   appended = Appends-trans a b c text part.written sent part.appended;
   front = record { rest = part.front.rest; parts = ap (λ (t : List ℕ). text ++ t) part.front.parts ∙ sym (append_assoc text part.written part.front.rest) };
 }
+
+-- what follows from an error
+pub on_err_then : {T E P Q : Type 0} (r : Result T E) → (P → Q) → OnErr r P → OnErr r Q
+on_err_then (Ok x) f h = tt
+on_err_then (Err e) f h = f h

@@ -1,5 +1,5 @@
 -- Trade capture without a session: the answer to each frame, and the positions at the end.
-use Rattle.std.specs.Prelude.{◌≡◌, ℕ, ◌+◌, ◌⊎◌, ◌++◌, List, [], ◌∷◌, length, min, nat_lt, None, Some, Option, if◌then◌else◌}
+use Rattle.std.specs.Prelude.{◌≡◌, ℕ, ◌+◌, ◌⊎◌, ◌++◌, false, List, [], ◌∷◌, length, min, nat_lt, None, Some, Option, if◌then◌else◌}
 use Rattle.std.specs.Io.KnownBytes.{Consumes, Appends, IsAtEnd}
 use Rattle.gu_terms.specs.declared.command.Command.{Command}
 use Rattle.gu_terms.specs.declared.command.Command.TheVariants.{OpenDay}
@@ -28,7 +28,7 @@ use Rattle.gu_msgs.specs.declared.rejection.Rejection.{Rejection}
 use Rattle.gu_msgs.specs.declared.rejection.Rejection.TheVariants.{Full}
 use Rattle.gu_ref.specs.Tables.{Tables}
 use Rattle.giveup.specs.PositionText.{positions_text}
-use Rattle.giveup.specs.Serving.{Answered, AnswersEach, WrotePart}
+use Rattle.giveup.specs.Serving.{AnswersEach, Engine, WrotePart}
 
 -- what the engine has: its book, the moment at which its messages are sent, and the number of the next one
 pub record Capture : Type 0 where
@@ -120,6 +120,17 @@ pub record PassesOver (old : Capture) (frame text : List ℕ) (new : Capture) : 
 abbrev pub AnswersFrame : Capture → List ℕ → List ℕ → Capture → Type 0
 AnswersFrame old frame text new = Acknowledges old frame text new ⊎ PassesOver old frame text new
 
+-- trade capture as an engine: all is done at the moment at which its messages are sent, a read has no end of its own, and there is
+-- always more to be done
+abbrev pub capturing : Engine Capture
+capturing = record {
+  begins = λ old now new. (now ≡ old.sending_time) × (new ≡ old);
+  answers = λ now. AnswersFrame;
+  ends = λ now old text new. (text ≡ []) × (new ≡ old);
+  stops = λ old new. ⊥;
+  is_done = λ capture. false;
+}
+
 -- the engine at its start: the day is open, nothing else was entered, and messages are sent at the day's midnight
 abbrev pub capture_at_start : Tables → Day → Capture
 capture_at_start reference day = record {
@@ -142,8 +153,14 @@ pub record Captured (reference : Tables) (day : Day) (input_old input_new output
 
 -- the frames of what was read are answered, and exactly these answers were written
 pub record CapturedSoFar (reference : Tables) (day : Day) (input_old input_new output_old output_new : Option (List ℕ)) : Type 0 where
+  pub read : List ℕ
+  pub frames : List (List ℕ)
+  pub text : List ℕ
   pub last : Capture
-  pub all : Answered AnswersFrame (capture_at_start reference day) last input_old input_new output_old output_new
+  pub consumed : Consumes input_old input_new read
+  pub are_frames : AreFrames read frames
+  pub answered : AnswersEach AnswersFrame (capture_at_start reference day) frames text last
+  pub appended : Appends output_old output_new text
 
 -- the lines of the positions, where these are all the frames of what the reader had, and none of them before its end
 abbrev pub MayClose : List (List ℕ) → Option (List ℕ) → List ℕ → List ℕ → Type 0

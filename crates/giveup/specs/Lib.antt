@@ -1,5 +1,7 @@
 pub mod Capture
 pub mod Checking
+pub mod Exchange
+pub mod Houses
 pub mod Input
 pub mod PositionText
 pub mod ProgramWords
@@ -8,5 +10,6 @@ pub mod RunErrors
 pub mod ScriptPieces
 pub mod ScriptRuns
 pub mod ScriptSteps
+pub mod Sends
 pub mod Serving
 pub mod Statuses

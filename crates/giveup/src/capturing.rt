@@ -164,12 +164,25 @@ impl Capturing {
 }
 
 impl Answerer for Capturing {
-    ghost use Rattle.giveup.specs.Capture.{AnswersFrame};
+    ghost use Rattle.giveup.specs.Capture.{capturing};
 
-    ghost answers = { AnswersFrame };
+    ghost engine = { capturing };
 
-    fn answer(&mut self, frame: &Frame, output: &mut Vec<u8>) -> Result<(), AllocError> {
-        let (fields, fault) = fields(self.alloc, frame)?;
+    fn is_done(&self) -> bool {
+        false
+    }
+
+    fn begin_read(&mut self) -> Result<Moment, EngineError> {
+        Ok(self.sending_time)
+    }
+
+    fn answer(
+        &mut self,
+        frame: Frame,
+        _now: Moment,
+        output: &mut Vec<u8>,
+    ) -> Result<(), AllocError> {
+        let (fields, fault) = fields(self.alloc, &frame)?;
         if fault.is_some() {
             return Ok(());
         }
@@ -180,6 +193,10 @@ impl Answerer for Capturing {
             Some(firm) => self.acknowledge(&firm, &report, output),
             None => Ok(()),
         }
+    }
+
+    fn end_read(&mut self, _now: Moment, _output: &mut Vec<u8>) -> Result<(), AllocError> {
+        Ok(())
     }
 }
 

@@ -7,12 +7,19 @@ mod capturing;
 #[cfg(test)]
 mod check_tests;
 mod checking;
+mod clock;
+mod connection;
 mod error;
 #[cfg(test)]
 mod error_tests;
+#[cfg(test)]
+mod fix_tests;
+mod fixing;
+mod house;
 mod input;
 #[cfg(test)]
 mod largest_tests;
+mod laws;
 mod position_lines;
 mod questions;
 #[cfg(test)]
@@ -31,20 +38,28 @@ mod stepping;
 #[cfg(test)]
 mod streams;
 #[cfg(test)]
+mod talks;
+#[cfg(test)]
 mod word_tests;
 mod words;
 
 use crate::capturing::capture;
 use crate::checking::check;
-use crate::error::RunError;
+use crate::clock::SystemClock;
+use crate::connection::Connection;
+use crate::error::{EngineError, RunError};
+use crate::fixing::fix;
 use crate::sample::{sample_day, sample_reference};
 use crate::status::Status;
-use crate::words::{Task, answer, given, read};
-use gu_ref::CountedReads;
+use crate::words::{Task, answer, firm_named, given, read};
+use gu_book::Book;
+use gu_ref::{CountedReads, RefFault, Reference};
+use gu_terms::FirmId;
 use std::alloc::Global;
+use std::fs::File;
 use std::io;
 use std::process::ExitCode;
-use std::rt::Env;
+use std::rt::{Clock, Env, Files};
 
 fn main(rt: HostRuntime) -> ExitCode {
     let status = match run(&rt) {
@@ -59,7 +74,9 @@ fn main(rt: HostRuntime) -> ExitCode {
 }
 
 /// Does what the words of this run ask for.
-fn run<R: Input + Print + Eprint + Env + Alloc<A = Global>>(rt: &R) -> Result<Status, RunError> {
+fn run<R: Input + Print + Eprint + Env + Files + Clock + Alloc<A = Global>>(
+    rt: &R,
+) -> Result<Status, RunError> {
     match given(rt) {
         Ok(words) => perform(rt, words.as_slice()),
         Err(error) => Ok(answer(rt, &error)?),
@@ -67,13 +84,17 @@ fn run<R: Input + Print + Eprint + Env + Alloc<A = Global>>(rt: &R) -> Result<St
 }
 
 /// Does what these words ask for.
-fn perform<R: Input + Print + Eprint + Alloc<A = Global>>(
+fn perform<R: Input + Print + Eprint + Files + Clock + Alloc<A = Global>>(
     rt: &R,
     words: &[String],
 ) -> Result<Status, RunError> {
     match read(rt.alloc(), words) {
         Ok(Task::Capture) => run_capture(rt),
         Ok(Task::Check) => run_check(rt),
+        Ok(Task::Fix { firm, reference }) => match firm_named(rt.alloc(), firm) {
+            Ok(firm) => run_fix(rt, firm, reference),
+            Err(error) => Ok(answer(rt, &error)?),
+        },
         Err(error) => Ok(answer(rt, &error)?),
     }
 }
@@ -93,4 +114,29 @@ fn run_check<R: Input + Print + Alloc<A = Global>>(rt: &R) -> Result<Status, Run
     let mut reads = CountedReads::new(rt.reader());
     let mut writer = io::writer(rt);
     Ok(check(rt.alloc(), &mut reads, &mut writer)?)
+}
+
+/// One session of a firm, over standard input and output, on the reference of a file.
+fn run_fix<R: Input + Print + Files + Clock + Alloc<A = Global>>(
+    rt: &R,
+    firm: FirmId,
+    path: &str,
+) -> Result<Status, RunError> {
+    let alloc = rt.alloc();
+    let book = Book::new(alloc, reference_at(rt, path)?);
+    let firms = Vec::from_slice(alloc, &[firm]).map_err(EngineError::from)?;
+    let mut connection = Connection::new(alloc, firms, book, SystemClock::new(rt));
+    let mut reads = CountedReads::new(rt.reader());
+    let mut writer = io::writer(rt);
+    fix(alloc, &mut connection, &mut reads, &mut writer)?;
+    Ok(Status::Done)
+}
+
+/// The reference of a file.
+fn reference_at<R: Files + Alloc<A = Global>>(rt: &R, path: &str) -> Result<Reference, RefFault> {
+    match File::open(rt, path) {
+        Ok(file) => Reference::read(rt.alloc(), &mut CountedReads::new(file)),
+        Err(error) if error.kind() == io::ErrorKind::OutOfMemory => Err(RefFault::Memory),
+        Err(_) => Err(RefFault::ReadFault),
+    }
 }

@@ -2,7 +2,7 @@
 
 use crate::error::EngineError;
 use crate::status::Status;
-use crate::words::{Task, answer, read};
+use crate::words::{Task, answer, firm_named, read};
 use clap::error::ErrorKind;
 use std::alloc::Global;
 use std::cell::Cell;
@@ -82,7 +82,7 @@ fn answered(
 }
 
 /// The task that these words ask for, or the kind of their error and the status that it gives.
-fn asked(alloc: Global, words: &'static [&'static str]) -> Result<Task, (ErrorKind, i32)> {
+fn asked(alloc: Global, words: &'static [&'static str]) -> Result<Task<'static>, (ErrorKind, i32)> {
     read(alloc, words).map_err(|error| (error.kind(), error.exit_code()))
 }
 
@@ -98,6 +98,11 @@ fn said(alloc: Global, words: &'static [&'static str]) -> Result<String, Fail> {
 fn words_ask_for_a_task(rt: HostRuntime) {
     assert!(rt; asked(rt.alloc(), &["giveup"]) == Ok(Task::Capture));
     assert!(rt; asked(rt.alloc(), &["giveup", "check"]) == Ok(Task::Check));
+    let fix = Task::Fix {
+        firm: "E1",
+        reference: "house.csv",
+    };
+    assert!(rt; asked(rt.alloc(), &["giveup", "fix", "E1", "house.csv"]) == Ok(fix));
 }
 
 #[test]
@@ -119,6 +124,23 @@ fn other_words_are_refused_with_status_2(rt: HostRuntime) {
     assert!(rt; asked(rt.alloc(), &["giveup", "--sheet"]) == argument);
     assert!(rt; asked(rt.alloc(), &["giveup", "check", "sheet"]) == argument);
     assert!(rt; asked(rt.alloc(), &["giveup", "check", "check"]) == argument);
+    assert!(rt; asked(rt.alloc(), &["giveup", "fix", "E1", "house.csv", "E2"]) == argument);
+    let missing = Err((ErrorKind::MissingRequiredArgument, 2));
+    assert!(rt; asked(rt.alloc(), &["giveup", "fix"]) == missing);
+    assert!(rt; asked(rt.alloc(), &["giveup", "fix", "E1"]) == missing);
+}
+
+#[test]
+fn a_word_that_names_no_firm_is_refused_with_status_2(rt: HostRuntime) {
+    for name in ["", "e1", "E 1", "ABCDEFGHIJKLM"] {
+        let refused = firm_named(rt.alloc(), name);
+        assert!(rt;
+            refused.is_err_and(|error| error.kind() == ErrorKind::InvalidValue
+                && error.exit_code() == 2),
+            "{name}"
+        );
+    }
+    assert!(rt; firm_named(rt.alloc(), "E-1").is_ok_and(|firm| firm.get() == b"E-1".as_slice()));
 }
 
 #[test]
@@ -141,7 +163,7 @@ fn help_names_each_task(rt: HostRuntime) -> Result<(), Fail> {
     let help = said(rt.alloc(), &["giveup", "--help"])?;
     assert!(rt;
         help.as_str()
-            == "The desk of a clearing house. Without a command: trade capture on the sample, from standard input\n\nUsage: giveup [COMMAND]\n\nCommands:\n  check  Checks the sweep sheet on standard input: prints OK and its lots, or its first fault\n  help   Print this message or the help of the given subcommand(s)\n\nOptions:\n  -h, --help  Print help\n"
+            == "The desk of a clearing house. Without a command: trade capture on the sample, from standard input\n\nUsage: giveup [COMMAND]\n\nCommands:\n  check  Checks the sweep sheet on standard input: prints OK and its lots, or its first fault\n  fix    Serves one session of a firm over standard input and output\n  help   Print this message or the help of the given subcommand(s)\n\nOptions:\n  -h, --help  Print help\n"
     );
     Ok(())
 }

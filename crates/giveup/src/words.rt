@@ -1,14 +1,15 @@
 //! The words that the program is called with.
 
-ghost use Rattle.std.specs.Prelude.{◌≡◌, ◌∷◌, [], List, ℕ, Err, IfOk, codes, map};
-ghost use Rattle.clap.specs.Words.{FailsBy, app_of, fault_of, kind_of, subcommand_name_of};
+ghost use Rattle.std.specs.Prelude.{◌≡◌, ◌∷◌, [], List, ℕ, Err, IfOk, codes, false, map, unwrap_or};
+ghost use Rattle.clap.specs.Words.{FailsBy, app_of, fault_of, first_value, found_of, kind_of, rule_of, shape_of, subcommand_rows_of};
 ghost use Rattle.clap.specs.declared.error.kind.ErrorKind.TheVariants.{OutOfMemory};
-ghost use Rattle.giveup.specs.ProgramWords.{Reads, program, status_of, task_named, task_of_words};
+ghost use Rattle.giveup.specs.ProgramWords.{Captures, Checks, Reads, check_shape, fix_shape, needed, program, status_of, wanted_by, wanted_in, wanted_of};
 
 use crate::error::EngineError;
 use crate::status::Status;
 use clap::error::ErrorKind;
-use clap::{ArgMatches, Command, Error};
+use clap::{Arg, ArgMatches, Command, Error};
+use gu_terms::FirmId;
 use std::alloc::{AllocError, Global};
 use std::convert::AsStr;
 use std::rt::Env;
@@ -17,50 +18,104 @@ use std::{env, io};
 /// What is said of a word that is no text.
 const NOT_TEXT: &str = "invalid UTF-8 was detected in one or more arguments";
 
+/// What is said of a word that names no firm.
+const NO_FIRM: &str = "invalid value for '<FIRM>': a firm is 1 to 12 of A-Z, 0-9 and -";
+
 /// What the words ask for.
 #[derive(Clone, Copy, Debug, PartialEq, Eq)]
-pub enum Task {
+pub enum Task<'a> {
     /// Trade capture on the sample.
     Capture,
     /// The check of a sheet.
     Check,
+    /// One session, of the firm of this name, on the reference of the file of this path.
+    Fix { firm: &'a str, reference: &'a str },
+}
+
+/// A word that must stand behind a command.
+fn needed<'a>(alloc: Global, name: &'a str) -> Arg<'a>
+    ensures rule { rule_of result ≡ needed name.entry.now }
+    ensures local { result.global ≡ false }
+{
+    Arg::new(alloc, name).required(true)
+}
+
+/// The command `check`.
+fn check_command<'a>(alloc: Global) -> Command<'a>
+    ensures { shape_of result ≡ check_shape }
+{
+    Command::new(alloc, "check").about(
+        "Checks the sweep sheet on standard input: prints OK and its lots, or its first fault",
+    )
+}
+
+/// The command `fix`.
+fn fix_command<'a>(alloc: Global) -> Result<Command<'a>, AllocError>
+    ensures { IfOk result (λ command. shape_of command ≡ fix_shape) }
+{
+    let bare = Command::new(alloc, "fix").about(
+        "Serves one session of a firm over standard input and output",
+    );
+    let firm = needed(alloc, "FIRM");
+    let reference = needed(alloc, "REF");
+    let of_firm = bare.arg(firm)?;
+    of_firm.arg(reference)
 }
 
 /// The program's command, a subcommand for each task but trade capture.
 fn program<'a>(alloc: Global) -> Result<Command<'a>, AllocError>
     ensures { IfOk result (λ command. app_of command ≡ program) }
 {
-    let check = Command::new(alloc, "check").about(
-        "Checks the sweep sheet on standard input: prints OK and its lots, or its first fault",
+    let bare = Command::new(alloc, "giveup").about(
+        "The desk of a clearing house. Without a command: trade capture on the sample, from standard input",
     );
-    Command::new(alloc, "giveup")
-        .about(
-            "The desk of a clearing house. Without a command: trade capture on the sample, from standard input",
-        )
-        .subcommand(check)
+    let fix = fix_command(alloc)?;
+    let checking = bare.subcommand(check_command(alloc))?;
+    checking.subcommand(fix)
+}
+
+/// The word that was given for a name.
+fn word<'a>(matches: &ArgMatches<'a>, name: &str) -> &'a str
+    ensures { result.now ≡ unwrap_or (first_value (found_of matches.now) name.now) [] }
+{
+    matches.get_str(name).unwrap_or("")
 }
 
 /// The task of a command that was read.
-fn task_of(matches: &ArgMatches<'_>) -> Task
-    ensures { result ≡ task_named (subcommand_name_of matches.now) }
+fn task_of<'a>(matches: &ArgMatches<'a>) -> Task<'a>
+    ensures { wanted_of result ≡ wanted_in (subcommand_rows_of matches.now) }
 {
-    match matches.subcommand_name() {
-        Some("check") => Task::Check,
+    match matches.subcommand() {
+        Some(("check", _)) => Task::Check,
+        Some(("fix", found)) => Task::Fix {
+            firm: word(found, "FIRM"),
+            reference: word(found, "REF"),
+        },
         _ => Task::Capture,
     }
 }
 
 /// The task that the words ask for. The first word is the program's own name.
-pub fn read<'a, S: AsStr>(alloc: Global, words: &'a [S]) -> Result<Task, Error>
-    ensures task { IfOk result (λ task. task ≡ task_of_words (map S.text words.now)) }
+pub fn read<'a, S: AsStr>(alloc: Global, words: &'a [S]) -> Result<Task<'a>, Error>
+    ensures task { IfOk result (λ task. wanted_of task ≡ wanted_by (map S.text words.now)) }
     ensures refused { FailsBy (fault_of program (map S.text words.now)) result }
 
     // The words of each task.
-    ensures capture { (name : List ℕ) → map S.text words.now ≡ name ∷ [] → Reads result Task.Capture }
-    ensures check { (name : List ℕ) → map S.text words.now ≡ name ∷ codes "check" ∷ [] → Reads result Task.Check }
+    ensures capture { (name : List ℕ) → map S.text words.now ≡ name ∷ [] → Reads result Captures }
+    ensures check { (name : List ℕ) → map S.text words.now ≡ name ∷ codes "check" ∷ [] → Reads result Checks }
 {
     let matches = program(alloc)?.try_get_matches_from(words)?;
     Ok(task_of(&matches))
+}
+
+/// The firm of a name; a word that is none is refused.
+pub fn firm_named(alloc: Global, name: &str) -> Result<FirmId, Error>
+    ensures { IfOk result (λ firm. firm.name ≡ name.now) }
+{
+    match FirmId::new(name.as_bytes()) {
+        Some(firm) => Ok(firm),
+        None => Err(program(alloc)?.error(ErrorKind::InvalidValue, NO_FIRM)?),
+    }
 }
 
 /// The words of this run.

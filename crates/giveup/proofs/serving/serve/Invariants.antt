@@ -4,7 +4,7 @@ use Rattle.giveup.proofs.serving.serve.Given as goal
 
 abbrev pub invariant-reading : goal.invariant-reading
 invariant-reading g l =
-    Serving g.A.Answerer.answers l.initial.answerer l.answerer (bytes_left g.R.Read.remaining l.initial.reads) (bytes_left g.R.Read.remaining l.reads)
+    Serving g.A.Answerer.engine l.initial.answerer l.answerer (bytes_left g.R.Read.remaining l.initial.reads) (bytes_left g.R.Read.remaining l.reads)
     (g.W.Write.contents l.initial.writer) (g.W.Write.contents l.writer) l.feed
 
 abbrev pub decreases-reading : goal.decreases-reading

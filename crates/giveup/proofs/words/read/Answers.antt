@@ -1,8 +1,8 @@
 use Rattle.std.proofs.Common.{rules, ◌≡◌, ap, ◌∙◌, sym, map}
 use Rattle.std.proofs.lemmas.Result.{err_from_is_err_and}
 use Rattle.clap.specs.Words.{App, fault_of, takes, is_simple_and_free}
-use Rattle.giveup.specs.ProgramWords.{program, task_of_words}
-use Rattle.giveup.proofs.WordLemmas.{takes-name, takes-check, task_of_words-check}
+use Rattle.giveup.specs.ProgramWords.{program, wanted_by, wanted_of}
+use Rattle.giveup.proofs.WordLemmas.{takes-name, takes-check, wanted_by-check, wanted_by-name}
 use Rattle.giveup.proofs.words.read.Goals as goal
 
 pub returns-in_err-matches-clause-capture : goal.returns-in_err-matches-clause-capture
@@ -19,7 +19,12 @@ pub returns-clause-refused : goal.returns-clause-refused
 returns-clause-refused g c =
     ap (λ (a : App). fault_of a (map g.S.AsStr.text c.args.words.now)) (sym c.in_ok-program.ensures) ∙ c.in_ok-matches.ensures.kinds (ap is_simple_and_free c.in_ok-program.ensures)
 
+pub returns-clause-capture : goal.returns-clause-capture
+returns-clause-capture g c name words =
+    let wanted : wanted_of c.task_of.result ≡ wanted_by (map g.S.AsStr.text c.args.words.now) = search rules in
+    wanted ∙ ap wanted_by words ∙ wanted_by-name name
+
 pub returns-clause-check : goal.returns-clause-check
 returns-clause-check g c name words =
-    let task : c.task_of.result ≡ task_of_words (map g.S.AsStr.text c.args.words.now) = search rules in
-    task ∙ ap task_of_words words ∙ task_of_words-check name
+    let wanted : wanted_of c.task_of.result ≡ wanted_by (map g.S.AsStr.text c.args.words.now) = search rules in
+    wanted ∙ ap wanted_by words ∙ wanted_by-check name

@@ -3,15 +3,15 @@ use Rattle.giveup.proofs.Capturings.{acknowledged, passes_faulty, passes_unsaid,
 use Rattle.giveup.proofs.capturing.CapturingAnswerer.answer.Goals as goal
 
 pub returns-then-is_some : goal.returns-then-is_some
-returns-then-is_some c = ([], sym (append-nil c.args.output.now.items), inr (passes_faulty c.args.self.now c.args.frame.now _ _ c.in_ok-fields.ensures (sym c.if-is_some.ensures)))
+returns-then-is_some c = ([], sym (append-nil c.args.output.now.items), inr (passes_faulty c.args.self.now c.args.frame _ _ c.in_ok-fields.ensures (sym c.if-is_some.ensures)))
 
 pub returns-in_default : goal.returns-in_default
-returns-in_default c = ([], sym (append-nil c.args.output.now.items), inr (passes_unsaid c.args.self.now c.args.frame.now _ _ c.in_ok-fields.ensures (unsaid _ c.in_ok-report.field-0 c.in_ok-report.ensures c.in_default.is)))
+returns-in_default c = ([], sym (append-nil c.args.output.now.items), inr (passes_unsaid c.args.self.now c.args.frame _ _ c.in_ok-fields.ensures (unsaid _ c.in_ok-report.field-0 c.in_ok-report.ensures c.in_default.is)))
 
 pub returns : goal.returns
-returns c = ([], sym (append-nil c.args.output.now.items), inr (passes_unsent c.args.self.now c.args.frame.now _ _ c.in_ok-fields.ensures c.in-None.ensures))
+returns c = ([], sym (append-nil c.args.output.now.items), inr (passes_unsent c.args.self.now c.args.frame _ _ c.in_ok-fields.ensures c.in-None.ensures))
 
 pub returns-in-Some-sender : goal.returns-in-Some-sender
 returns-in-Some-sender c =
-    acknowledged c.acknowledge.result c.args.self.now c.acknowledge.new.self c.args.frame.now _ _ c.in-Some-sender.firm c.in-Some.report c.args.output.now.items c.acknowledge.new.output.items
+    acknowledged c.acknowledge.result c.args.self.now c.acknowledge.new.self c.args.frame _ _ c.in-Some-sender.firm c.in-Some.report c.args.output.now.items c.acknowledge.new.output.items
     c.in_ok-fields.ensures (sym c.if-is_some.ensures) (said _ c.in_ok-report.field-0 c.in-Some.report c.in_ok-report.ensures c.in-Some.is) c.in-Some-sender.ensures c.acknowledge.ensures.text c.acknowledge.ensures.behind
