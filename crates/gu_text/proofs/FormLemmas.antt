@@ -1,10 +1,9 @@
 -- Lines of a script, form by form.
-use Rattle.std.proofs.Common.{◌≡◌, ◌≢◌, ◌⊎◌, ◌++◌, ◌∷◌, [], ◌∙◌, ◌&&◌, ◌↔◌, ℕ, Bool, true, false, cond, List, Option, None, Some, IsTrue, IsSome, IfSome, MatchOption, refl, sym, ap, subst, inl, inr, append_assoc}
+use Rattle.std.proofs.Common.{◌≡◌, ◌≢◌, ◌⊎◌, ◌++◌, ◌∷◌, [], ◌∙◌, ◌↔◌, ℕ, Bool, true, false, cond, List, Option, None, Some, IsTrue, IsSome, IfSome, MatchOption, refl, sym, ap, subst, inl, inr, append_assoc}
 use Rattle.std.specs.Prelude.{codes}
 use Rattle.std.specs.List.{find, AllByRecursion}
 use Rattle.std.specs.Option.{option_and_then}
 use Rattle.std.specs.Str.{bytes_eq}
-use Rattle.std.proofs.lemmas.Bool.{cases_Bool}
 use Rattle.std.proofs.lemmas.List.{append-nil}
 use Rattle.std.proofs.lemmas.Slice.Eq.{bytes_eq-Decides}
 use Rattle.gu_terms.specs.Days.{WritesDay}
@@ -12,7 +11,7 @@ use Rattle.gu_terms.specs.LimitKeys.{key_of, keys_named, kind_of, name_of_key}
 use Rattle.gu_terms.specs.Lines.{AreLines}
 use Rattle.gu_terms.specs.Names.{is_name}
 use Rattle.gu_terms.specs.NumberText.{MeansLots}
-use Rattle.gu_terms.specs.declared.command.Command.TheVariants.{OpenDay, SetLimit}
+use Rattle.gu_terms.specs.declared.command.Command.TheVariants.{SetLimit}
 use Rattle.gu_terms.specs.declared.day.Day.{Day}
 use Rattle.gu_terms.specs.declared.group.Group.{Group}
 use Rattle.gu_terms.specs.declared.limit_key.LimitKey.{LimitKey}

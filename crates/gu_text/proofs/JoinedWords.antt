@@ -1,5 +1,5 @@
 -- Words as a line: the first of them stands in front.
-use Rattle.std.proofs.Common.{◌≡◌, ◌≤◌, ◌++◌, ◌∷◌, [], ◌∙◌, ℕ, List, length, refl, arith}
+use Rattle.std.proofs.Common.{◌≡◌, ◌≤◌, ◌++◌, ◌∷◌, [], ℕ, List, length, refl, arith}
 use Rattle.gu_terms.specs.declared.limit_key.LimitKey.{LimitKey}
 use Rattle.gu_terms.specs.declared.reply.Reply.{Reply}
 use Rattle.gu_terms.specs.declared.reply.Reply.TheVariants.{Accepted, Denied}
@@ -9,11 +9,6 @@ use Rattle.gu_text.specs.Replies.{reply_words}
 use Rattle.gu_text.specs.SheetText.{path_words}
 use Rattle.gu_text.specs.Texts.{word, line_of}
 use Rattle.gu_text.specs.Verdicts.{lacking_words}
-
--- a word, and others behind it
-pub line_of-front : (first : List ℕ) (others : List (List ℕ)) → 1 ≤ length others → line_of (first ∷ others) ≡ word first ++ line_of others
-line_of-front first [] some = absurd (omega (arith, some))
-line_of-front first (next ∷ others) some = refl
 
 -- a reply has words
 pub reply_line : (first : List ℕ) (reply : Reply) → line_of (first ∷ reply_words reply) ≡ word first ++ line_of (reply_words reply)

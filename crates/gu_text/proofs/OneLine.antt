@@ -1,6 +1,5 @@
 -- A line of a script says one thing at most.
-use Rattle.std.proofs.Common.{◌≡◌, ◌∷◌, [], ◌∙◌, ℕ, ℤ, List, Option, None, Some, refl, sym, ap, subst}
-use Rattle.std.specs.Prelude.{codes}
+use Rattle.std.proofs.Common.{◌≡◌, ◌∷◌, [], ◌∙◌, ℕ, ℤ, List, Option, Some, refl, sym, ap, subst}
 use Rattle.gu_terms.specs.Days.{WritesDay}
 use Rattle.gu_terms.specs.LimitKeys.{kind_of, name_of_key}
 use Rattle.gu_terms.specs.NumberText.{MeansLots, MeansPrice}

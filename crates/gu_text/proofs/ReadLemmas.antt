@@ -1,9 +1,9 @@
 -- Values that are written are read back, and so are the lines of a sheet.
-use Rattle.std.proofs.Common.{◌≡◌, ◌≢◌, ◌<◌, ◌≤◌, ◌+◌, ◌*◌, ◌^◌, ◌++◌, ◌∷◌, [], ◌∙◌, ◌||◌, ◌&&◌, ◌==◌, ℕ, Bool, true, false, not, nat_le, nat_lt, zero, suc, List, Option, None, Some, IsTrue, length, map, get_or, refl, sym, ap, subst, inl, inr, length-append, arith, rules}
-use Rattle.std.specs.Prelude.{All, codes, if◌then◌else◌}
+use Rattle.std.proofs.Common.{◌≡◌, ◌<◌, ◌≤◌, ◌*◌, ◌^◌, ◌∷◌, [], ◌∙◌, ◌||◌, ◌&&◌, ℕ, Bool, true, false, nat_le, nat_lt, List, Option, None, Some, IsTrue, length, map, get_or, refl, sym, ap, subst, inl, inr, length-append, arith}
+use Rattle.std.specs.Prelude.{codes, if◌then◌else◌}
 use Rattle.std.specs.Char.{is_digit}
 use Rattle.std.specs.Fmt.{decimal}
-use Rattle.std.specs.List.{AllByRecursion, AllPass, list_all}
+use Rattle.std.specs.List.{AllByRecursion, list_all}
 use Rattle.std.specs.Option.{option_and_then, option_map}
 use Rattle.std.specs.Str.{bytes_eq}
 use Rattle.std.specs.Str.Parse.{AllDigits, digits_value}

@@ -9,7 +9,6 @@ use Rattle.gu_terms.specs.Names.{IsId, is_name}
 use Rattle.gu_terms.specs.NumberText.{MeansLots}
 use Rattle.gu_terms.specs.declared.account.AccountId.{AccountId}
 use Rattle.gu_terms.specs.declared.alloc_reject.AllocReject.{AllocReject}
-use Rattle.gu_terms.specs.declared.command.Command.{Command}
 use Rattle.gu_terms.specs.declared.command.Command.TheVariants.{OpenDay, SetLimit, ReportSide, GiveUp, Claim, Refuse, Reverse}
 use Rattle.gu_terms.specs.declared.day.Day.{Day}
 use Rattle.gu_terms.specs.declared.firm.FirmId.{FirmId}
@@ -19,7 +18,6 @@ use Rattle.gu_terms.specs.declared.limit_key.LimitKey.{LimitKey}
 use Rattle.gu_terms.specs.declared.lines.Line.{Line as GiveUpLine}
 use Rattle.gu_terms.specs.declared.side.Side.{Side}
 use Rattle.gu_terms.specs.declared.symbol.Symbol.{Symbol}
-use Rattle.gu_world.specs.declared.step.Step.{Step}
 use Rattle.gu_world.specs.declared.step.Step.TheVariants.{Enter, See, Propose, Commit}
 use Rattle.gu_text.specs.Scripts.{WriteLines, Writes}
 use Rattle.gu_text.specs.SheetLines.{number_of}

@@ -1,5 +1,5 @@
 -- What a line of a script says: a step, a whole sweep, or a question.
-use Rattle.std.specs.Prelude.{◌≡◌, ℕ, ◌≤◌, ◌&&◌, false, List, [], ◌∷◌, codes, length, Option, Some, None, IsTrue}
+use Rattle.std.specs.Prelude.{◌≡◌, ℕ, ◌≤◌, ◌&&◌, false, List, [], ◌∷◌, codes, length, Some, None, IsTrue}
 use Rattle.gu_terms.specs.AllocRejects.{reject_number}
 use Rattle.gu_terms.specs.Days.{WritesDay}
 use Rattle.gu_terms.specs.LimitKeys.{kind_of, name_of_key}
