@@ -4,11 +4,11 @@ use Rattle.std.specs.Option.{option_and_then, option_map}
 use Rattle.std.specs.Prelude.{find, slice_get}
 use Rattle.std.proofs.lemmas.Option.{slice_get-map}
 use Rattle.std.specs.Prelude.{IfOk}
-use Rattle.clap.specs.Words.{AddsArg, AddsSubcommand, App, Row, Rule, Shape, Text, app_of, new_app, rule_of, shape_of, takes, with_rule, with_subcommand}
+use Rattle.clap.specs.Words.{AddsArg, AddsSubcommand, App, Row, Rule, Shape, Text, app_of, first_of, new_app, rule_of, shape_of, takes, with_rule, with_subcommand}
 use Rattle.clap.specs.declared.builder.arg.Arg.{Arg}
 use Rattle.clap.specs.declared.builder.command.Command.{Command}
 use Rattle.clap.proofs.OnLiterals.{clap_on_literals}
-use Rattle.giveup.specs.ProgramWords.{Captures, Checks, Fixes, check_shape, fix_shape, needed, program, wanted_by, wanted_in, wanted_of_command, word_in}
+use Rattle.giveup.specs.ProgramWords.{Captures, Checks, Fixes, Replays, check_shape, fix_shape, needed, program, replay_shape, wanted_by, wanted_in, wanted_of_command, word_in}
 
 -- the program's name alone is taken
 pub takes-name : (name : List ℕ) → takes program (name ∷ []) ≡ true
@@ -37,38 +37,62 @@ third_fails true false true others all = cc
 third_fails true true c others all = cc
 third_fails false b c others all = cc
 
--- a command with two words behind it
-pub two_needed : {E : Type 0} (result : Result Command E) (old mid : Command) (first second : Arg) → app_of old ≡ new_app (codes "fix")
-    → AddsArg old first mid → rule_of first ≡ needed (codes "FIRM") → first.global ≡ false → rule_of second ≡ needed (codes "REF") → second.global ≡ false
-    → IfOk result (λ command. AddsArg mid second command) → IfOk result (λ command. shape_of command ≡ fix_shape)
-two_needed (Ok command) old mid first second bare one rule_one local_one rule_two local_two two =
-    let app : app_of command ≡ with_rule (with_rule (new_app (codes "fix")) (needed (codes "FIRM"))) (needed (codes "REF")) =
-    two.shape local_two
-    ∙ ap (λ (a : App). with_rule a (rule_of second)) (one.shape local_one ∙ ap (λ (a : App). with_rule a (rule_of first)) bare)
-    ∙ ap (λ (r : Rule). with_rule (with_rule (new_app (codes "fix")) r) (rule_of second)) rule_one
-    ∙ ap (λ (r : Rule). with_rule (with_rule (new_app (codes "fix")) (needed (codes "FIRM"))) r) rule_two in
-    ap (λ (a : App). a.top) app
-two_needed (Err error) old mid first second bare one rule_one local_one rule_two local_two two = tt
+-- a word is added to a command
+word_added : (old new : Command) (word : Arg) (app : App) (rule : Rule) → AddsArg old word new → word.global ≡ false → rule_of word ≡ rule → app_of old ≡ app → app_of new ≡ with_rule app rule
+word_added old new word app rule adds local is bare = adds.shape local ∙ ap (λ (a : App). with_rule a (rule_of word)) bare ∙ ap (with_rule app) is
 
--- a program with two commands
-pub two_commands : {E : Type 0} (result : Result Command E) (old mid check fix : Command) → app_of old ≡ new_app (codes "giveup") → AddsSubcommand old check mid → shape_of check ≡ check_shape → shape_of fix ≡ fix_shape
-    → IfOk result (λ command. AddsSubcommand mid fix command) → IfOk result (λ command. app_of command ≡ program)
-two_commands (Ok command) old mid check fix bare one is_check is_fix two =
-    two.shape (third_fails _ _ _ _ (ap (λ (s : Shape). s.is_plain) is_fix))
-    ∙ ap (λ (a : App). with_subcommand a (shape_of fix)) (one.shape (third_fails _ _ _ _ (ap (λ (s : Shape). s.is_plain) is_check)) ∙ ap (λ (a : App). with_subcommand a (shape_of check)) bare)
-    ∙ ap (λ (s : Shape). with_subcommand (with_subcommand (new_app (codes "giveup")) s) (shape_of fix)) is_check
-    ∙ ap (λ (s : Shape). with_subcommand (with_subcommand (new_app (codes "giveup")) check_shape) s) is_fix
-two_commands (Err error) old mid check fix bare one is_check is_fix two = tt
+-- a command with one word more is the last of its making
+pub last_word_added : {E : Type 0} (result : Result Command E) (old : Command) (word : Arg) (app : App) (rule : Rule) → app_of old ≡ app → word.global ≡ false → rule_of word ≡ rule
+    → IfOk result (λ command. AddsArg old word command) → IfOk result (λ command. shape_of command ≡ (with_rule app rule).top)
+last_word_added (Ok command) old word app rule bare local is adds = ap (λ (a : App). a.top) (word_added old command word app rule adds local is bare)
+last_word_added (Err error) old word app rule bare local is adds = tt
+
+-- the command `fix` before its last word
+pub two_words_added : (bare mid old : Command) (first second : Arg) → app_of bare ≡ new_app (codes "fix")
+    → AddsArg bare first mid → rule_of first ≡ needed (codes "FIRM") → first.global ≡ false
+    → AddsArg mid second old → rule_of second ≡ needed (codes "REF") → second.global ≡ false
+    → app_of old ≡ with_rule (with_rule (new_app (codes "fix")) (needed (codes "FIRM"))) (needed (codes "REF"))
+two_words_added bare mid old first second is one rule_one local_one two rule_two local_two =
+    word_added mid old second (with_rule (new_app (codes "fix")) (needed (codes "FIRM"))) (needed (codes "REF")) two local_two rule_two
+    (word_added bare mid first (new_app (codes "fix")) (needed (codes "FIRM")) one local_one rule_one is)
+
+-- a command is added to the program
+command_added : (old sub new : Command) (app : App) (shape : Shape) → AddsSubcommand old sub new → shape.is_plain ≡ true → shape_of sub ≡ shape → app_of old ≡ app → app_of new ≡ with_subcommand app shape
+command_added old sub new app shape adds plain is bare =
+    adds.shape (third_fails _ _ _ _ (ap (λ (s : Shape). s.is_plain) is ∙ plain))
+    ∙ ap (λ (a : App). with_subcommand a (shape_of sub)) bare
+    ∙ ap (with_subcommand app) is
+
+-- the program with its three commands
+pub three_commands : {E : Type 0} (result : Result Command E) (bare one two check fix replay : Command) → app_of bare ≡ new_app (codes "giveup")
+    → AddsSubcommand bare check one → shape_of check ≡ check_shape → AddsSubcommand one fix two → shape_of fix ≡ fix_shape
+    → shape_of replay ≡ replay_shape → IfOk result (λ command. AddsSubcommand two replay command) → IfOk result (λ command. app_of command ≡ program)
+three_commands (Ok command) bare one two check fix replay is checks is_check fixes is_fix is_replay replays =
+    let checking = command_added bare check one (new_app (codes "giveup")) check_shape checks refl is_check is in
+    let fixing = command_added one fix two (with_subcommand (new_app (codes "giveup")) check_shape) fix_shape fixes refl is_fix checking in
+    command_added two replay command (with_subcommand (with_subcommand (new_app (codes "giveup")) check_shape) fix_shape) replay_shape replays refl is_replay fixing
+three_commands (Err error) bare one two check fix replay is checks is_check fixes is_fix is_replay replays = tt
 
 -- the command `fix`, with these rows, asks for a session
-pub fixes : (sub : Option (Text × List Row)) (rows : List Row) (firm reference : Text) → option_map (λ (p : Text × List Row). p.0) sub ≡ Some (codes "fix") → option_map (λ (p : Text × List Row). p.1) sub ≡ Some rows
-    → firm ≡ word_in rows (codes "FIRM") → reference ≡ word_in rows (codes "REF") → Fixes firm reference ≡ wanted_in sub
-fixes None rows firm reference name row is_firm is_reference = cc
-fixes (Some (name, found)) rows firm reference is_name is_rows is_firm is_reference =
+pub fixes : (sub : Option (Text × List Row)) (rows : List Row) (firm reference : Text) (script : Option Text) → option_map (λ (p : Text × List Row). p.0) sub ≡ Some (codes "fix") → option_map (λ (p : Text × List Row). p.1) sub ≡ Some rows
+    → firm ≡ word_in rows (codes "FIRM") → reference ≡ word_in rows (codes "REF") → script ≡ first_of (codes "FILE") rows → Fixes firm reference script ≡ wanted_in sub
+fixes None rows firm reference script name row is_firm is_reference is_script = cc
+fixes (Some (name, found)) rows firm reference script is_name is_rows is_firm is_reference is_script =
     let named : name ≡ codes "fix" = cc in
     let same : found ≡ rows = cc in
-    ap (λ (t : Text). Fixes t reference) is_firm ∙ ap (λ (t : Text). Fixes (word_in rows (codes "FIRM")) t) is_reference
-    ∙ ap (λ (rs : List Row). Fixes (word_in rs (codes "FIRM")) (word_in rs (codes "REF"))) (sym same)
+    (λ i. Fixes (is_firm i) (is_reference i) (is_script i))
+    ∙ ap (λ (rs : List Row). Fixes (word_in rs (codes "FIRM")) (word_in rs (codes "REF")) (first_of (codes "FILE") rs)) (sym same)
+    ∙ ap (λ (n : Text). wanted_of_command n found) (sym named)
+
+-- the command `replay`, for a script
+pub replays : (sub : Option (Text × List Row)) (rows : List Row) (reference : Text) → option_map (λ (p : Text × List Row). p.0) sub ≡ Some (codes "replay") → option_map (λ (p : Text × List Row). p.1) sub ≡ Some rows
+    → reference ≡ word_in rows (codes "REF") → Replays reference ≡ wanted_in sub
+replays None rows reference name row is_reference = cc
+replays (Some (name, found)) rows reference is_name is_rows is_reference =
+    let named : name ≡ codes "replay" = cc in
+    let same : found ≡ rows = cc in
+    ap Replays is_reference
+    ∙ ap (λ (rs : List Row). Replays (word_in rs (codes "REF"))) (sym same)
     ∙ ap (λ (n : Text). wanted_of_command n found) (sym named)
 
 module _ {E A B : Type 0} (p : E → Bool) (snd : E → A) (vals : A → List B) (now : B → Text) (row : E → Row) (q : Row → Bool) (same : (e : E) → q (row e) ≡ p e) (values : (e : E) → (row e).values ≡ map now (vals (snd e))) where

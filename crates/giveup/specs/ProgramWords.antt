@@ -1,5 +1,6 @@
 -- The words that the program is called with.
 use Rattle.std.specs.Prelude.{◌≡◌, true, List, [], codes, Option, Some, None, unwrap_or, Result, MatchResult, if◌then◌else◌}
+use Rattle.std.specs.Option.{option_map}
 use Rattle.std.specs.Str.{bytes_eq}
 use Rattle.clap.specs.Words.{App, Row, Rule, Shape, Text, first_of, new_app, new_rule, with_rule, with_subcommand, subcommand_of, kind_of}
 use Rattle.clap.specs.declared.error.Error.{Error}
@@ -8,7 +9,7 @@ use Rattle.clap.specs.declared.error.kind.ErrorKind.TheVariants.{OutOfMemory, Di
 use Rattle.giveup.specs.declared.status.Status.{Status}
 use Rattle.giveup.specs.declared.status.Status.TheVariants.{Done, Refused}
 use Rattle.giveup.specs.declared.words.Task.{Task}
-use Rattle.giveup.specs.declared.words.Task.TheVariants.{Capture, Check, Fix}
+use Rattle.giveup.specs.declared.words.Task.TheVariants.{Capture, Check, Fix, Replay}
 
 -- a word that must stand behind a command
 abbrev pub needed : Text → Rule
@@ -18,25 +19,36 @@ needed name = record (new_rule name) { required = true }
 abbrev pub check_shape : Shape
 check_shape = (new_app (codes "check")).top
 
--- the command `fix`, which takes a firm and the path of a reference
+-- the path of a script, behind the word `--script`
+abbrev pub script_rule : Rule
+script_rule = record (new_rule (codes "FILE")) { long = Some (codes "script") }
+
+-- the command `fix`, which takes a firm and the path of a reference, and perhaps that of a script
 abbrev pub fix_shape : Shape
-fix_shape = (with_rule (with_rule (new_app (codes "fix")) (needed (codes "FIRM"))) (needed (codes "REF"))).top
+fix_shape = (with_rule (with_rule (with_rule (new_app (codes "fix")) (needed (codes "FIRM"))) (needed (codes "REF"))) script_rule).top
+
+-- the command `replay`, which takes the path of a reference
+abbrev pub replay_shape : Shape
+replay_shape = (with_rule (new_app (codes "replay")) (needed (codes "REF"))).top
 
 -- the program's command line
 abbrev pub program : App
-program = with_subcommand (with_subcommand (new_app (codes "giveup")) check_shape) fix_shape
+program = with_subcommand (with_subcommand (with_subcommand (new_app (codes "giveup")) check_shape) fix_shape) replay_shape
 
--- what words may ask for: trade capture, the check of a sheet, or one session of a firm on the reference of a file
+-- what words may ask for: trade capture, the check of a sheet, one session of a firm on the reference of a file, perhaps behind a script,
+-- or a script on such a reference
 pub data Wanted : Type 0 where
   Captures : Wanted
   Checks : Wanted
-  Fixes : (firm reference : Text) → Wanted
+  Fixes : (firm reference : Text) (script : Option Text) → Wanted
+  Replays : (reference : Text) → Wanted
 
 -- what a task does
 abbrev pub wanted_of : Task → Wanted
 wanted_of Capture = Captures
 wanted_of Check = Checks
-wanted_of (Fix firm reference) = Fixes firm.now reference.now
+wanted_of (Fix firm reference script) = Fixes firm.now reference.now (option_map (λ word. word.now) script)
+wanted_of (Replay reference) = Replays reference.now
 
 -- the word that was given for a name
 abbrev pub word_in : List Row → Text → Text
@@ -46,7 +58,9 @@ word_in rows name = unwrap_or (first_of name rows) []
 abbrev pub wanted_of_command : Text → List Row → Wanted
 wanted_of_command name rows =
     if bytes_eq name (codes "check") then Checks
-    else if bytes_eq name (codes "fix") then Fixes (word_in rows (codes "FIRM")) (word_in rows (codes "REF"))
+    else if bytes_eq name (codes "fix")
+    then Fixes (word_in rows (codes "FIRM")) (word_in rows (codes "REF")) (first_of (codes "FILE") rows)
+    else if bytes_eq name (codes "replay") then Replays (word_in rows (codes "REF"))
     else Captures
 
 -- and trade capture without one

@@ -49,6 +49,7 @@ use crate::clock::SystemClock;
 use crate::connection::Connection;
 use crate::error::{EngineError, RunError};
 use crate::fixing::fix;
+use crate::replaying::{played, replay};
 use crate::sample::{sample_day, sample_reference};
 use crate::status::Status;
 use crate::words::{Task, answer, firm_named, given, read};
@@ -91,8 +92,15 @@ fn perform<R: Input + Print + Eprint + Files + Clock + Alloc<A = Global>>(
     match read(rt.alloc(), words) {
         Ok(Task::Capture) => run_capture(rt),
         Ok(Task::Check) => run_check(rt),
-        Ok(Task::Fix { firm, reference }) => match firm_named(rt.alloc(), firm) {
-            Ok(firm) => run_fix(rt, firm, reference),
+        Ok(Task::Replay { reference }) => run_replay(rt, reference),
+        Ok(
+            Task::Fix {
+                firm,
+                reference,
+                script,
+            },
+        ) => match firm_named(rt.alloc(), firm) {
+            Ok(firm) => run_fix(rt, firm, reference, script),
             Err(error) => Ok(answer(rt, &error)?),
         },
         Err(error) => Ok(answer(rt, &error)?),
@@ -116,14 +124,43 @@ fn run_check<R: Input + Print + Alloc<A = Global>>(rt: &R) -> Result<Status, Run
     Ok(check(rt.alloc(), &mut reads, &mut writer)?)
 }
 
-/// One session of a firm, over standard input and output, on the reference of a file.
+/// The script on standard input, answered on standard output, on the reference of a file.
+fn run_replay<R: Input + Print + Files + Alloc<A = Global>>(
+    rt: &R,
+    path: &str,
+) -> Result<Status, RunError> {
+    let reference = reference_at(rt, path)?;
+    let mut reads = CountedReads::new(rt.reader());
+    let mut writer = io::writer(rt);
+    replay(rt.alloc(), reference, &mut reads, &mut writer)?;
+    Ok(Status::Done)
+}
+
+/// The book that the script of a file leads to, or one without entries.
+fn book_behind<R: Files + Alloc<A = Global>>(
+    rt: &R,
+    reference: Reference,
+    script: Option<&str>,
+) -> Result<Book, EngineError> {
+    let Some(path) = script else {
+        return Ok(Book::new(rt.alloc(), reference));
+    };
+    match File::open(rt, path) {
+        Ok(file) => played(rt.alloc(), reference, &mut CountedReads::new(file)),
+        Err(error) if error.kind() == io::ErrorKind::OutOfMemory => Err(EngineError::Memory),
+        Err(_) => Err(EngineError::Read),
+    }
+}
+
+/// One session of a firm, over standard input and output, on the reference of a file, behind a script, where one is named.
 fn run_fix<R: Input + Print + Files + Clock + Alloc<A = Global>>(
     rt: &R,
     firm: FirmId,
     path: &str,
+    script: Option<&str>,
 ) -> Result<Status, RunError> {
     let alloc = rt.alloc();
-    let book = Book::new(alloc, reference_at(rt, path)?);
+    let book = book_behind(rt, reference_at(rt, path)?, script)?;
     let firms = Vec::from_slice(alloc, &[firm]).map_err(EngineError::from)?;
     let mut connection = Connection::new(alloc, firms, book, SystemClock::new(rt));
     let mut reads = CountedReads::new(rt.reader());

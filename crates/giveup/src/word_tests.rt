@@ -98,11 +98,23 @@ fn said(alloc: Global, words: &'static [&'static str]) -> Result<String, Fail> {
 fn words_ask_for_a_task(rt: HostRuntime) {
     assert!(rt; asked(rt.alloc(), &["giveup"]) == Ok(Task::Capture));
     assert!(rt; asked(rt.alloc(), &["giveup", "check"]) == Ok(Task::Check));
+    let replay = Task::Replay {
+        reference: "house.csv",
+    };
+    assert!(rt; asked(rt.alloc(), &["giveup", "replay", "house.csv"]) == Ok(replay));
     let fix = Task::Fix {
         firm: "E1",
         reference: "house.csv",
+        script: None,
     };
     assert!(rt; asked(rt.alloc(), &["giveup", "fix", "E1", "house.csv"]) == Ok(fix));
+    let behind_a_script = Task::Fix {
+        firm: "E1",
+        reference: "house.csv",
+        script: Some("day"),
+    };
+    let words = ["giveup", "fix", "E1", "house.csv", "--script", "day"];
+    assert!(rt; asked(rt.alloc(), &words) == Ok(behind_a_script));
 }
 
 #[test]
@@ -128,6 +140,8 @@ fn other_words_are_refused_with_status_2(rt: HostRuntime) {
     let missing = Err((ErrorKind::MissingRequiredArgument, 2));
     assert!(rt; asked(rt.alloc(), &["giveup", "fix"]) == missing);
     assert!(rt; asked(rt.alloc(), &["giveup", "fix", "E1"]) == missing);
+    assert!(rt; asked(rt.alloc(), &["giveup", "replay"]) == missing);
+    assert!(rt; asked(rt.alloc(), &["giveup", "replay", "house.csv", "day"]) == argument);
 }
 
 #[test]

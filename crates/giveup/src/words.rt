@@ -3,7 +3,7 @@
 ghost use Rattle.std.specs.Prelude.{◌≡◌, ◌∷◌, [], List, ℕ, Err, IfOk, codes, false, map, unwrap_or};
 ghost use Rattle.clap.specs.Words.{FailsBy, app_of, fault_of, first_value, found_of, kind_of, rule_of, shape_of, subcommand_rows_of};
 ghost use Rattle.clap.specs.declared.error.kind.ErrorKind.TheVariants.{OutOfMemory};
-ghost use Rattle.giveup.specs.ProgramWords.{Captures, Checks, Reads, check_shape, fix_shape, needed, program, status_of, wanted_by, wanted_in, wanted_of};
+ghost use Rattle.giveup.specs.ProgramWords.{Captures, Checks, Reads, check_shape, fix_shape, needed, program, replay_shape, script_rule, status_of, wanted_by, wanted_in, wanted_of};
 
 use crate::error::EngineError;
 use crate::status::Status;
@@ -28,8 +28,16 @@ pub enum Task<'a> {
     Capture,
     /// The check of a sheet.
     Check,
-    /// One session, of the firm of this name, on the reference of the file of this path.
-    Fix { firm: &'a str, reference: &'a str },
+    /// One session, of the firm of this name, on the reference of the file of this path, behind the script of a file, where one is named.
+    Fix {
+        firm: &'a str,
+        reference: &'a str,
+        script: Option<&'a str>,
+    },
+    /// A script, on the reference of the file of this path.
+    Replay {
+        reference: &'a str,
+    },
 }
 
 /// A word that must stand behind a command.
@@ -38,6 +46,14 @@ fn needed<'a>(alloc: Global, name: &'a str) -> Arg<'a>
     ensures local { result.global ≡ false }
 {
     Arg::new(alloc, name).required(true)
+}
+
+/// The path of a script that is run first, without output.
+fn script_option<'a>(alloc: Global) -> Arg<'a>
+    ensures rule { rule_of result ≡ script_rule }
+    ensures local { result.global ≡ false }
+{
+    Arg::new(alloc, "FILE").long("script")
 }
 
 /// The command `check`.
@@ -58,8 +74,21 @@ fn fix_command<'a>(alloc: Global) -> Result<Command<'a>, AllocError>
     );
     let firm = needed(alloc, "FIRM");
     let reference = needed(alloc, "REF");
+    let script = script_option(alloc);
     let of_firm = bare.arg(firm)?;
-    of_firm.arg(reference)
+    let on_reference = of_firm.arg(reference)?;
+    on_reference.arg(script)
+}
+
+/// The command `replay`.
+fn replay_command<'a>(alloc: Global) -> Result<Command<'a>, AllocError>
+    ensures { IfOk result (λ command. shape_of command ≡ replay_shape) }
+{
+    let bare = Command::new(alloc, "replay").about(
+        "Answers the script on standard input, line by line",
+    );
+    let reference = needed(alloc, "REF");
+    bare.arg(reference)
 }
 
 /// The program's command, a subcommand for each task but trade capture.
@@ -70,8 +99,10 @@ fn program<'a>(alloc: Global) -> Result<Command<'a>, AllocError>
         "The desk of a clearing house. Without a command: trade capture on the sample, from standard input",
     );
     let fix = fix_command(alloc)?;
+    let replay = replay_command(alloc)?;
     let checking = bare.subcommand(check_command(alloc))?;
-    checking.subcommand(fix)
+    let fixing = checking.subcommand(fix)?;
+    fixing.subcommand(replay)
 }
 
 /// The word that was given for a name.
@@ -89,6 +120,10 @@ fn task_of<'a>(matches: &ArgMatches<'a>) -> Task<'a>
         Some(("check", _)) => Task::Check,
         Some(("fix", found)) => Task::Fix {
             firm: word(found, "FIRM"),
+            reference: word(found, "REF"),
+            script: found.get_str("FILE"),
+        },
+        Some(("replay", found)) => Task::Replay {
             reference: word(found, "REF"),
         },
         _ => Task::Capture,
