@@ -5,7 +5,7 @@ use Rattle.std.specs.Io.KnownBytes.{Consumes, Keeps}
 use Rattle.std.specs.Option.{option_map}
 use Rattle.gu_terms.specs.declared.firm.FirmId.{FirmId}
 use Rattle.gu_terms.specs.declared.notice.Notice.{Notice as NoticeOf}
-use Rattle.gu_session.specs.States.{SessionState}
+use Rattle.gu_session.specs.States.{SessionState, new_session}
 use Rattle.gu_session.specs.Steps.{StepsWith}
 use Rattle.gu_session.specs.declared.input.Input.{Input}
 use Rattle.gu_session.specs.declared.input.Input.TheVariants.{Frame, Notice, Answer, Tick, End}
@@ -41,6 +41,14 @@ abbrev pub firm_of : SessionState → Option FirmId
 firm_of session = option_map (λ (at : Standing). at.firm) session.at
 
 module _ {H C : Type 0} where
+  -- a connection before its first read: one of these firms may log on, and its notices begin with the first entry
+  pub record IsNew (connection : Connection H C) (firms : List FirmId) (house : H) (clock : C) : Type 0 where
+    pub session : connection.session ≡ new_session firms
+    pub house_is : connection.house ≡ house
+    pub clock_is : connection.clock ≡ clock
+    pub first_entry : connection.next ≡ 1
+    pub is_open : connection.is_over ≡ false
+
   -- A session takes an input at a moment: this is handed out, and these bytes are sent. With a close the connection is over.
   pub record TakesInput (old : Connection H C) (input : Input) (now : ℕ) (handed : List Asked) (text : List ℕ) (new : Connection H C) : Type 0 where
     pub outputs : List Output

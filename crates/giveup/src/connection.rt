@@ -3,7 +3,7 @@
 ghost use Rattle.std.specs.Prelude.{◌≡◌, ◌++◌, ◌||◌, [], List, ℕ, IfOk, OnOk, OnErr};
 ghost use Rattle.std.specs.List.{filter_map, flat_map, list_any};
 ghost use Rattle.std.specs.Option.{option_to_list};
-ghost use Rattle.giveup.specs.Exchange.{AnswersAsked, EndsSession, SendsNotice, TakesInput, Tells, TellsFirm, bytes_in, handed_in, is_close};
+ghost use Rattle.giveup.specs.Exchange.{AnswersAsked, EndsSession, IsNew, SendsNotice, TakesInput, Tells, TellsFirm, bytes_in, handed_in, is_close};
 ghost use Rattle.giveup.specs.Serving.{AnswersEach};
 
 use crate::clock::Clock;
@@ -82,7 +82,9 @@ fn part(
 
 impl<H, C> Connection<H, C> {
     /// A connection in which one of these firms may log on. Its notices begin with the first entry.
-    pub fn new(alloc: Global, firms: Vec<FirmId>, house: H, clock: C) -> Self {
+    pub fn new(alloc: Global, firms: Vec<FirmId>, house: H, clock: C) -> Self
+        ensures { IsNew result firms.items house clock }
+    {
         Connection {
             alloc,
             house,
