@@ -1,5 +1,10 @@
 pub mod Capturings
 pub mod Checkings
+pub mod ReplayLooks
+pub mod ReplayPieces
+pub mod ReplayRuns
+pub mod ReplaySteps
+pub mod ReplayTexts
 pub mod Servings
 pub mod WordLemmas
 pub mod Writing

@@ -3,8 +3,8 @@ use Rattle.std.specs.Prelude.{◌≡◌, ℕ, ◌⊎◌, List, [], OnOk, Option,
 use Rattle.std.specs.Io.KnownBytes.{Consumes, Appends, Keeps, IsAtEnd}
 use Rattle.gu_text.specs.Sheets.{IsSheet, Refuses}
 use Rattle.gu_text.specs.Verdicts.{verdict_text}
-use Rattle.gu_text.specs.declared.error.SheetError.{SheetError}
-use Rattle.gu_text.specs.declared.error.SheetError.TheVariants as sheet_error
+use Rattle.gu_text.specs.declared.error.TextError.{TextError}
+use Rattle.gu_text.specs.declared.error.TextError.TheVariants as text_error
 use Rattle.gu_text.specs.declared.sheet.Sheet.{Sheet}
 use Rattle.gu_terms.specs.Takes.{lots_of}
 use Rattle.gu_view.specs.Check.{verdict}
@@ -18,9 +18,9 @@ use Rattle.giveup.specs.declared.status.Status.{Status}
 use Rattle.giveup.specs.declared.status.Status.TheVariants.{Done, Fault}
 
 -- why the engine stops where a text is no sheet
-abbrev pub error_of : SheetError → EngineError
-error_of sheet_error.Memory = Memory
-error_of (sheet_error.BadLine number) = BadLine number
+abbrev pub error_of : TextError → EngineError
+error_of text_error.Memory = Memory
+error_of (text_error.BadLine number) = BadLine number
 
 -- a text is a sheet, and this is the verdict on its takes and its cut; takes that are right are greatest
 pub record IsVerdictOn (text : List ℕ) (answer : Result ℕ CutFault) : Type 0 where
@@ -47,7 +47,7 @@ pub record Checked (status : Status) (input_old input_new output_old output_new 
 pub record HasBadLine (number : ℕ) (input_old input_new output_old output_new : Option (List ℕ)) : Type 0 where
   pub read : List ℕ
   pub all : ReadsAll input_old input_new read
-  pub refused : Refuses read (sheet_error.BadLine number)
+  pub refused : Refuses read (text_error.BadLine number)
   pub nothing : Keeps output_old output_new
 
 -- a line says nothing, or it is the line of the verdict on what was read, where this is all that the reader had

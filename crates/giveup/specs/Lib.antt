@@ -3,6 +3,10 @@ pub mod Checking
 pub mod Input
 pub mod PositionText
 pub mod ProgramWords
+pub mod Replaying
 pub mod RunErrors
+pub mod ScriptPieces
+pub mod ScriptRuns
+pub mod ScriptSteps
 pub mod Serving
 pub mod Statuses

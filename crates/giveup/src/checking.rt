@@ -3,7 +3,7 @@
 ghost use Rattle.std.specs.Prelude.{◌≡◌, ℕ, IfOk, IsErrOf};
 ghost use Rattle.std.specs.Io.KnownBytes.{Keeps};
 ghost use Rattle.gu_text.specs.Sheets.{Refuses};
-ghost use Rattle.gu_text.specs.declared.error.SheetError.TheVariants as sheet_error;
+ghost use Rattle.gu_text.specs.declared.error.TextError.TheVariants as text_error;
 ghost use Rattle.gu_ref.specs.Reads.{bytes_left, HasStopped};
 ghost use Rattle.giveup.specs.Checking.{Checked, CheckedFront, HasBadLine, IsVerdictOn, status_after};
 
@@ -20,7 +20,7 @@ use std::io::{Read, Write};
 /// The verdict on the sheet that a text is.
 fn verdict_on(alloc: Global, text: &[u8]) -> Result<Result<u64, CutFault>, EngineError>
     ensures sheet { IfOk result (IsVerdictOn text.now) }
-    ensures bad_line { (n : ℕ) → IsErrOf result (EngineError.BadLine n) → Refuses text.now (sheet_error.BadLine n) }
+    ensures bad_line { (n : ℕ) → IsErrOf result (EngineError.BadLine n) → Refuses text.now (text_error.BadLine n) }
     ensures not_read { ¬ IsErrOf result EngineError.Read }
 {
     let sheet = Sheet::read(alloc, text)?;

@@ -2,7 +2,7 @@
 
 use gu_fix::FeedError;
 use gu_ref::RefFault;
-use gu_text::SheetError;
+use gu_text::TextError;
 use std::alloc::AllocError;
 use thiserror::Error;
 
@@ -45,16 +45,16 @@ impl From<FeedError> for EngineError {
     }
 }
 
-impl From<SheetError> for EngineError {
+impl From<TextError> for EngineError {
     ghost use Rattle.std.specs.Prelude.{◌≡◌};
     ghost use Rattle.giveup.specs.Checking.{error_of};
 
     ghost from_gives = { λ sheet error. error ≡ error_of sheet };
 
-    fn from(error: SheetError) -> Self {
+    fn from(error: TextError) -> Self {
         match error {
-            SheetError::Memory => EngineError::Memory,
-            SheetError::BadLine(number) => EngineError::BadLine(number),
+            TextError::Memory => EngineError::Memory,
+            TextError::BadLine(number) => EngineError::BadLine(number),
         }
     }
 }

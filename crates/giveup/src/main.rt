@@ -14,12 +14,20 @@ mod input;
 #[cfg(test)]
 mod largest_tests;
 mod position_lines;
+mod questions;
+#[cfg(test)]
+mod replay_stream_tests;
+#[cfg(test)]
+mod replay_tests;
+mod replaying;
 mod sample;
 #[cfg(test)]
 mod sample_tests;
+mod script;
 mod sending;
 mod serving;
 mod status;
+mod stepping;
 #[cfg(test)]
 mod streams;
 #[cfg(test)]

@@ -1,44 +1,27 @@
 //! Positions as lines of text.
 
 ghost use Rattle.std.specs.Prelude.{◌≡◌, ◌++◌, IfOk, OnOk};
-ghost use Rattle.giveup.specs.PositionText.{position_line, position_text, account_text, positions_text};
+ghost use Rattle.giveup.specs.PositionText.{account_text, position_line, positions_text};
 
 use gu_book::Book;
 use gu_terms::{AccountId, Symbol};
-use gu_text::texts::{append_last_number, append_number, append_word};
+use gu_text::append_position;
 use std::alloc::{AllocError, Global};
 
-/// Appends a position's line.
-fn append_line(
-    output: &mut Vec<u8>,
-    account: &AccountId,
-    symbol: &Symbol,
-    long: u64,
-    short: u64,
-) -> Result<(), AllocError>
-    ensures { OnOk result (output.new.items ≡ output.old.items ++ position_line account.now symbol.now long short) }
-{
-    append_word(output, b"POSITION")?;
-    append_word(output, account.get())?;
-    append_word(output, symbol.get())?;
-    append_number(output, long)?;
-    append_last_number(output, short)
-}
-
 /// Appends a position's line, unless the account holds nothing of the instrument.
-fn append_position(
+fn append_line(
     output: &mut Vec<u8>,
     book: &Book,
     account: AccountId,
     symbol: Symbol,
 ) -> Result<(), AllocError>
-    ensures { OnOk result (output.new.items ≡ output.old.items ++ position_text book.now account symbol) }
+    ensures { OnOk result (output.new.items ≡ output.old.items ++ position_line book.now account symbol) }
 {
     let (long, short) = book.position(account, symbol);
     if long == 0 && short == 0 {
         return Ok(());
     }
-    append_line(output, &account, &symbol, long, short)
+    append_position(output, &account, &symbol, long, short)
 }
 
 /// Appends the lines of an account.
@@ -46,7 +29,7 @@ fn append_account(output: &mut Vec<u8>, book: &Book, account: &AccountId) -> Res
     ensures { OnOk result (output.new.items ≡ output.old.items ++ account_text book.now account.now) }
 {
     for instrument in book.reference().instruments() {
-        append_position(output, book, *account, instrument.symbol)?;
+        append_line(output, book, *account, instrument.symbol)?;
     }
     Ok(())
 }
