@@ -201,10 +201,12 @@ fn a_group_has_so_many_open_offers_at_most(rt: HostRuntime) -> Result<(), Fail> 
 }
 
 /// A short script, whose text is known.
-const SHORT: &[u8] = b"DAY 20260105\nLIMIT G1 EXEC E1 100\nLIMIT G1 AGR P1 100\nLIMIT G1 ACCT A1 100\nLIMIT G1 CARRY C1 100\nREPORT E1 R1 M1 B XF6 7 101.5 H1\nREPORT E2 R2 M1 S XF6 7 101.5 H2\nGIVEUP E1 L1 R1 A1 7\nSWEEP G1\n";
+const SHORT: &[u8] =
+    b"DAY 20260105\nLIMIT G1 EXEC E1 100\nLIMIT G1 AGR P1 100\nLIMIT G1 ACCT A1 100\nLIMIT G1 CARRY C1 100\nREPORT E1 R1 M1 B XF6 7 101.5 H1\nREPORT E2 R2 M1 S XF6 7 101.5 H2\nGIVEUP E1 L1 R1 A1 7\nSWEEP G1\n";
 
 /// And its text.
-const SHORT_TEXT: &[u8] = b"1 OK\n2 OK\n3 OK\n4 OK\n5 OK\n6 OK OPEN\n7 OK MATCHED\n8 OK OFFERS 1 1\n9 SWEPT G1 7\nSHEET G1 6\nOFFER 1 7 P1 E1 A1 C1\nROOM EXEC E1 100\nROOM AGR P1 100\nROOM ACCT A1 100\nROOM CARRY C1 100\nTAKE 1 7\nCUT OFFER 1\nEND\n";
+const SHORT_TEXT: &[u8] =
+    b"1 OK\n2 OK\n3 OK\n4 OK\n5 OK\n6 OK OPEN\n7 OK MATCHED\n8 OK OFFERS 1 1\n9 SWEPT G1 7\nSHEET G1 6\nOFFER 1 7 P1 E1 A1 C1\nROOM EXEC E1 100\nROOM AGR P1 100\nROOM ACCT A1 100\nROOM CARRY C1 100\nTAKE 1 7\nCUT OFFER 1\nEND\n";
 
 /// How the short script ends that comes a line or two at a time, and what it writes, unless the reference isn't made for want of memory.
 fn ran_short(alloc: Global) -> Option<(Result<(), EngineError>, Vec<u8>)> {
@@ -216,7 +218,12 @@ fn ran_short(alloc: Global) -> Option<(Result<(), EngineError>, Vec<u8>)> {
         reads: 1_000,
     };
     let mut written = Vec::new(alloc);
-    let end = replay(alloc, reference, &mut CountedReads::new(source), &mut written);
+    let end = replay(
+        alloc,
+        reference,
+        &mut CountedReads::new(source),
+        &mut written,
+    );
     Some((end, written))
 }
 
