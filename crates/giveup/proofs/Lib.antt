@@ -10,6 +10,7 @@ pub mod ReplayPieces
 pub mod ReplayRuns
 pub mod ReplaySteps
 pub mod ReplayTexts
+pub mod ScriptLaws
 pub mod Servings
 pub mod WordLemmas
 pub mod Writing

@@ -110,3 +110,9 @@ pub record IsTextOfLines (old : State) (texts : List (List ℕ)) (text : List �
   pub said : List Line
   pub all : SayAll texts said
   pub has_text : HasText old said text new
+
+-- the steps of lines that are answered so are a run, each line's behind those of the lines before it
+abbrev pub StepsAreARun : Type 0
+StepsAreARun =
+    (old new : State) (said : List Line) (text : List ℕ)
+    → HasText old said text new → (outcomes : List Outcome) × IsRun old (flat_map steps_of said) outcomes new
