@@ -113,8 +113,12 @@ fn words_ask_for_a_task(rt: HostRuntime) {
         reference: "house.csv",
         script: Some("day"),
     };
-    let words = ["giveup", "fix", "E1", "house.csv", "--script", "day"];
-    assert!(rt; asked(rt.alloc(), &words) == Ok(behind_a_script));
+    assert!(rt;
+        asked(
+            rt.alloc(),
+            &["giveup", "fix", "E1", "house.csv", "--script", "day"]
+        ) == Ok(behind_a_script)
+    );
 }
 
 #[test]
