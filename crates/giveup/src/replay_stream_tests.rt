@@ -184,14 +184,16 @@ fn a_group_has_so_many_open_offers_at_most(rt: HostRuntime) -> Result<(), Fail> 
         rt.alloc(),
         "1 OK\n2 OK\n3 OK\n4 OK\n5 OK\n6 OK OPEN\n7 OK MATCHED\n",
     )?;
+    let mut first = 1_u64;
     for number in 0..256 {
         write!(script, "GIVEUP E1 L{number} R1")?;
         for _ in 0..16 {
             script.push_str(" A1 1")?;
         }
         script.push_str("\n")?;
-        let first = number * 16 + 1;
-        writeln!(texts, "{} OK OFFERS {first} {}", number + 8, first + 15)?;
+        let last = first.saturating_add(15);
+        writeln!(texts, "{} OK OFFERS {first} {last}", number + 8)?;
+        first = first.saturating_add(16);
     }
     script.push_str("GIVEUP E1 L256 R1 A1 1\n")?;
     texts.push_str("264 NO 12 TooManyOffers\n")?;
