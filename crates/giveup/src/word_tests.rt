@@ -181,7 +181,7 @@ fn help_names_each_task(rt: HostRuntime) -> Result<(), Fail> {
     let help = said(rt.alloc(), &["giveup", "--help"])?;
     assert!(rt;
         help.as_str()
-            == "The desk of a clearing house. Without a command: trade capture on the sample, from standard input\n\nUsage: giveup [COMMAND]\n\nCommands:\n  check  Checks the sweep sheet on standard input: prints OK and its lots, or its first fault\n  fix    Serves one session of a firm over standard input and output\n  help   Print this message or the help of the given subcommand(s)\n\nOptions:\n  -h, --help  Print help\n"
+            == "The desk of a clearing house. Without a command: trade capture on the sample, from standard input\n\nUsage: giveup [COMMAND]\n\nCommands:\n  check   Checks the sweep sheet on standard input: prints OK and its lots, or its first fault\n  fix     Serves one session of a firm over standard input and output\n  replay  Answers the script on standard input, line by line\n  help    Print this message or the help of the given subcommand(s)\n\nOptions:\n  -h, --help  Print help\n"
     );
     Ok(())
 }
