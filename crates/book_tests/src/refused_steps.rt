@@ -61,12 +61,20 @@ fn take_again(rt: &impl Abort, alloc: Global, world: &mut World, line: &str) {
     }
 }
 
-/// The lots that were swept in all, and how many commits were stale.
-fn swept(world: &World) -> (u64, usize) {
+/// The outcome of the step at a place, at the second try where the first is refused.
+fn outcome_at(world: &World, place: usize) -> Option<Outcome> {
+    match world.outcomes().get(place) {
+        Ok(outcome) => outcome,
+        Err(_) => world.outcomes().get(place).ok()?,
+    }
+}
+
+/// The lots that were swept last, and how many commits were stale.
+fn swept(world: &World) -> Option<(u64, usize)> {
     let mut lots = 0;
     let mut stale = 0;
-    for outcome in world.outcomes() {
-        match outcome {
+    for place in 0..world.outcomes().len() {
+        match outcome_at(world, place)? {
             Outcome::Swept(receipt) => {
                 if let Entry::Swept(sweep) = &receipt.entry {
                     lots = sweep.lots;
@@ -76,7 +84,7 @@ fn swept(world: &World) -> (u64, usize) {
             _ => {}
         }
     }
-    (lots, stale)
+    Some((lots, stale))
 }
 
 #[test]
@@ -86,7 +94,7 @@ fn each_step_is_taken_again(rt: HostRuntime) {
     for line in STEPS {
         take_again(&rt, rt.alloc(), &mut world, line);
     }
-    assert_eq!(rt; swept(&world), (20, 1));
+    assert_eq!(rt; swept(&world), Some((20, 1)));
     assert_eq!(rt; world.book().history().len(), 14);
 }
 
@@ -112,5 +120,5 @@ fn a_run_is_made_again(rt: HostRuntime) {
         Ok(world) => world,
         Err(_) => run(alloc, again, &steps).expect(&rt, "a world"),
     };
-    assert_eq!(rt; swept(&world), (20, 1));
+    assert_eq!(rt; swept(&world), Some((20, 1)));
 }

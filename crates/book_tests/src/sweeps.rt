@@ -1,7 +1,7 @@
 //! Looks, proposals and commits of workers, in every order that the rules name.
 
 use crate::sample::{GUARANTOR, TRADED, read_with};
-use crate::workers::{follow_steps, outcome_text, steps};
+use crate::workers::{follow_steps, last_text, steps};
 use gu_terms::Entry;
 use gu_world::{Outcome, Step, Worker, World, culprit, run};
 use std::alloc::Global;
@@ -17,7 +17,7 @@ fn after(rt: &impl Abort, alloc: Global, rows: &[u8], transcript: &str) -> World
 
 /// The number and the lots of the sweep that was committed last.
 fn swept_lots(world: &World) -> Option<(u64, u64)> {
-    let Outcome::Swept(receipt) = world.outcomes().last()? else {
+    let Some(Outcome::Swept(receipt)) = world.outcomes().last().ok()? else {
         return None;
     };
     let Entry::Swept(sweep) = &receipt.entry else {
@@ -343,8 +343,7 @@ fn a_run_takes_every_step(rt: HostRuntime) {
     let steps = steps(alloc, &script).expect(&rt, "steps");
     let reference = read_with(alloc, b"").expect(&rt, "the sample");
     let world = run(alloc, reference, &steps).expect(&rt, "a world");
-    let last = world.outcomes().last().expect(&rt, "an outcome");
-    let text = outcome_text(alloc, last).expect(&rt, "a text");
+    let text = last_text(alloc, &world).expect(&rt, "a text");
     assert_eq!(rt; world.outcomes().len(), steps.len());
     assert_eq!(rt; text.as_str(), "STALE 6 7");
     assert_eq!(rt; world.into_book().history().len(), 9);

@@ -69,7 +69,7 @@ pub fn committed_text(alloc: Global, receipt: &Receipt) -> Option<String> {
 }
 
 /// What came of a line's step.
-pub fn outcome_text(alloc: Global, outcome: &Outcome) -> Option<String> {
+fn outcome_text(alloc: Global, outcome: &Outcome) -> Option<String> {
     match outcome {
         Outcome::Asked(receipt) => receipt_text(alloc, receipt),
         Outcome::Swept(receipt) => committed_text(alloc, receipt),
@@ -117,6 +117,12 @@ fn position_text(alloc: Global, world: &World, line: &str) -> Option<String> {
     format!(in alloc; "{long} {short}").ok()
 }
 
+/// What came of the last step.
+pub fn last_text(alloc: Global, world: &World) -> Option<String> {
+    let outcome = world.outcomes().last().ok()??;
+    outcome_text(alloc, &outcome)
+}
+
 /// What is told to a line: the answer to a question, or what came of a step.
 fn told(alloc: Global, world: &mut World, line: &str) -> Option<String> {
     match word(line, 0)? {
@@ -124,7 +130,7 @@ fn told(alloc: Global, world: &mut World, line: &str) -> Option<String> {
         b"POSITION" => position_text(alloc, world, line),
         _ => {
             world.step(step(alloc, line)?).ok()?;
-            outcome_text(alloc, world.outcomes().last()?)
+            last_text(alloc, world)
         }
     }
 }

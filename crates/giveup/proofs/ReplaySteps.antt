@@ -68,20 +68,15 @@ one_text old new (Commit worker) outcome view own leads shows =
       | inr is ↦ uncommitted_text old worker view outcome is
     ]
 
-last_of : (outcomes : List Outcome) (outcome d : Outcome) → get_or (outcomes ++ outcome ∷ []) (length outcomes) d ≡ outcome
-last_of [] outcome d = refl
-last_of (first ∷ outcomes) outcome d = last_of outcomes outcome d
-
 -- a step is taken, and the text of its outcome is appended
-pub step_told : (old new : Course) (step : Step) (view : Option GroupView) (outcome : Outcome) (before behind : List ℕ) → IsReached old → GoesOn old step new → ShowsFor old.state step view
-    → outcome ≡ get_or new.outcomes (length old.outcomes) outcome → behind ≡ before ++ outcome_text view (looked step) outcome → TellsStep old.state step before new.state behind
-step_told old new step view outcome before behind reached goes_on shows at told =
-    let same : outcome ≡ goes_on.outcome = at ∙ ap (λ (os : List Outcome). get_or os (length old.outcomes) outcome) goes_on.outcomes ∙ last_of old.outcomes goes_on.outcome outcome in
+pub step_told : (old new : Course) (step : Step) (view : Option GroupView) (outcome : Outcome) (before behind : List ℕ) → IsReached old → (goes_on : GoesOn old step new) × (goes_on.outcome ≡ outcome) → ShowsFor old.state step view
+    → behind ≡ before ++ outcome_text view (looked step) outcome → TellsStep old.state step before new.state behind
+step_told old new step view outcome before behind reached goes shows told =
+    let leads : LeadsTo old.state step outcome new.state = subst (λ (o : Outcome). LeadsTo old.state step o new.state) goes.1 goes.0.leads in
     record {
       outcome = outcome;
-      leads = subst (λ (o : Outcome). LeadsTo old.state step o new.state) (sym same) goes_on.leads;
-      told = told ∙ ap (λ (t : List ℕ). before ++ t)
-          (one_text old.state new.state step outcome view (own_reached old reached) (subst (λ (o : Outcome). LeadsTo old.state step o new.state) (sym same) goes_on.leads) shows);
+      leads = leads;
+      told = told ∙ ap (λ (t : List ℕ). before ++ t) (one_text old.state new.state step outcome view (own_reached old reached) leads shows);
     }
 
 -- ---- lines

@@ -60,9 +60,11 @@ pub fn answer_step(world: &mut World, step: Step, output: &mut Vec<u8>) -> Resul
 {
     let before = view_for(world, &step)?;
     let looked = looked(&step);
-    let place = world.outcomes().len();
-    world.step(step)?;
-    append_outcome(output, before.as_ref(), looked, &world.outcomes()[place])
+    let _steps = world.outcomes().len();
+    let outcome = world.take(step)?;
+    let appended = append_outcome(output, before.as_ref(), looked, &outcome);
+    drop(outcome);
+    appended
 }
 
 /// Has the sweeper look at a group and propose for what it saw.

@@ -1,13 +1,13 @@
 -- What is told, one thing after another.
-use Rattle.std.proofs.Common.{◌≡◌, ℕ, zero, suc, ◌+◌, ◌-◌, ◌<◌, ◌≤◌, ◌++◌, List, [], ◌∷◌, length, take, drop, max, min, map, filter, get_or, None, Result, Ok, Err, refl, sym, ap, ◌∙◌, arith, append-nil, append_assoc, subst, nat_lt, inl, inr}
+use Rattle.std.proofs.Common.{◌≡◌, ℕ, zero, suc, ◌+◌, ◌-◌, ◌<◌, ◌≤◌, ◌++◌, List, [], ◌∷◌, length, take, drop, max, min, map, filter, get_or, None, Some, Result, Ok, Err, refl, sym, ap, ◌∙◌, arith, append-nil, append_assoc, subst, nat_lt, inl, inr}
 use Rattle.std.specs.List.{flat_map, range_with_len}
 use Rattle.std.specs.Option.{option_map}
 use Rattle.std.specs.Prelude.{slice_get}
 use Rattle.std.proofs.lemmas.Bool.{cases_Bool, ltb-false, ltb-true}
-use Rattle.std.proofs.lemmas.List.{length-drop, length-take, map-append, take_all, take_more}
+use Rattle.std.proofs.lemmas.List.{get_or-drop, length-drop, length-take, map-append, take_all, take_more}
 use Rattle.std.proofs.lemmas.List.Concat.{flat_map-append}
 use Rattle.std.proofs.lemmas.List.Elements.{filter-append}
-use Rattle.std.proofs.lemmas.Option.{slice_get_past}
+use Rattle.std.proofs.lemmas.Option.{get_or_from_slice_get, slice_get_past, slice_get_within}
 use Rattle.gu_terms.specs.Numbers.{IsOfferNo}
 use Rattle.gu_terms.specs.Same.{same_firm, same_side}
 use Rattle.gu_terms.specs.declared.entry.Entry.{Entry}
@@ -140,24 +140,42 @@ past [] (suc n) h = refl
 past (x ∷ xs) zero h = absurd (omega (arith, h))
 past (x ∷ xs) (suc n) h = past xs n (omega (arith, h))
 
--- the entries from a number on
-pub rest-is : (entries : List Entry) (from start : ℕ) → start ≡ min (max 1 from - 1) (length entries) → take (length entries - start) (drop start entries) ≡ drop (from - 1) entries
-rest-is entries from start is =
-    let whole : take (length entries - start) (drop start entries) ≡ drop start entries = take_all (length entries - start) (drop start entries) (omega (arith, length-drop start entries)) in
-    whole ∙ by
-  where
-    by : drop start entries ≡ drop (from - 1) entries
-    by =
-        elim (cases_Bool (nat_lt (length entries) (from - 1))) [
-          | inl hit ↦
-              let far = ltb-true (length entries) (from - 1) hit in
-              let here : start ≡ length entries = omega (arith, is, far) in
-              past entries start (omega (arith, here)) ∙ sym (past entries (from - 1) (omega (arith, far)))
-          | inr miss ↦
-              let near = ltb-false (length entries) (from - 1) miss in
-              let here : start ≡ from - 1 = omega (arith, is, near) in
-              ap (λ (n : ℕ). drop n entries) here
-        ]
+-- what the entries behind so many tell, and the next of them
+pub told_at : (register : Register) (first : ℕ) (history : List Entry) (place : ℕ) (entry : Entry) → 1 ≤ first → first - 1 ≤ place → slice_get history place ≡ Some entry
+    → told_from register first (take (place - (first - 1)) (drop (first - 1) history)) ++ told_by register (place + 1) entry
+    ≡ told_from register first (take (place + 1 - (first - 1)) (drop (first - 1) history))
+told_at register first history place entry some behind is =
+    let start : ℕ = first - 1 in
+    let i : ℕ = place - start in
+    let rest : List Entry = drop start history in
+    let inside : place < length history = slice_get_within history place entry is in
+    let there : entry ≡ get_or rest i entry =
+    sym (get_or-drop start history i entry ∙ ap (λ (n : ℕ). get_or history n entry) (omega (arith, behind)) ∙ get_or_from_slice_get history place entry entry is) in
+    let number : place + 1 ≡ first + i = omega (arith, some, behind) in
+    let next : i + 1 ≡ place + 1 - start = omega (arith, behind) in
+    ap (λ (n : ℕ). told_from register first (take i rest) ++ told_by register n entry) number
+    ∙ told_from-next register first rest i (omega (arith, length-drop start history, inside, behind)) there
+    ∙ ap (λ (n : ℕ). told_from register first (take n rest)) next
+
+-- before the first of them nothing was told
+pub told-nothing : (box : Mailbox) (register : Register) (first : ℕ) (history : List Entry)
+    → IsToldSoFar box box (told_from register first (take (first - 1 - (first - 1)) (drop (first - 1) history)))
+told-nothing box register first history =
+    let none : first - 1 - (first - 1) ≡ 0 = omega arith in
+    rw none (told-none box)
+
+-- and behind the last one all was
+pub rest-is : (register : Register) (history : List Entry) (first place : ℕ) → first - 1 ≤ place → length history ≤ place
+    → told_from register first (take (place - (first - 1)) (drop (first - 1) history)) ≡ told_from register first (drop (first - 1) history)
+rest-is register history first place behind end =
+    ap (told_from register first) (take_all (place - (first - 1)) (drop (first - 1) history) (omega (arith, length-drop (first - 1) history, end, behind)))
+
+-- where a number is asked from that no entry has, that is from the first on
+pub from-first : (register : Register) (from : ℕ) (history : List Entry)
+    → told_from register (max 1 from) (drop (max 1 from - 1) history) ≡ told_from register (max 1 from) (drop (from - 1) history)
+from-first register from history =
+    let same : max 1 from - 1 ≡ from - 1 = omega arith in
+    ap (λ (n : ℕ). told_from register (max 1 from) (drop n history)) same
 
 -- beyond the last entry nothing is told, from whatever number on
 pub from-next : (register : Register) (history : List Entry) (from next : ℕ) → next ≡ length history + 1

@@ -117,11 +117,7 @@ impl Book {
         let count = self.history.len();
         let touched = touched_in(&self.totals, &command, reply);
         know(&mut self.versions, &touched)?;
-        let kept = command.copy()?;
-        self.history.push(Entry::Asked {
-            command: kept,
-            reply: *reply,
-        })?;
+        self.history.push_asked(&command, *reply)?;
         if accepts(reply) {
             if let Err(refused) = take_in(&mut self.totals, &self.reference, &command) {
                 self.history.truncate(count);
@@ -219,7 +215,7 @@ impl Book {
             self.alloc,
             &self.reference,
             &self.totals,
-            self.history.as_slice(),
+            &self.history,
             &firm,
             from.min(next),
         )?;
@@ -278,7 +274,7 @@ impl Book {
         let touched = Touched::Only(sweep.group);
         know(&mut self.versions, &touched)?;
         make_ways(&mut self.totals, proposal.takes().as_slice())?;
-        self.history.push(Entry::Swept(sweep))?;
+        self.history.push_swept(sweep)?;
         move_takes(
             &mut self.totals,
             &self.reference,

@@ -10,8 +10,8 @@ ghost use Rattle.gu_book.specs.Telling.{IsTold, register_in};
 use crate::totals::Totals;
 use gu_ref::Reference;
 use gu_terms::{
-    Command, Done, Entry, FirmId, Id, Lots, Notice, Offer, OfferEvent, OfferNo, OfferNotice, Reply,
-    Report, Side, Take,
+    Command, Done, Entry, FirmId, History, Id, Lots, Notice, Offer, OfferEvent, OfferNo,
+    OfferNotice, Reply, Report, Side, Take,
 };
 use gu_trades::Sides;
 use std::alloc::{AllocError, Global};
@@ -242,21 +242,20 @@ impl Mailbox {
         }
     }
 
-    /// Keeps what entries tell, of which the first has this number.
+    /// Keeps what the entries from a number on tell.
     fn tell_entries(
         &mut self,
         reference: &Reference,
         totals: &Totals,
+        history: &History,
         first: u64,
-        entries: &[Entry],
     ) -> Result<(), AllocError>
-        requires { first + length entries.now < 2 ^ 64 }
-        ensures { IsTold self.old self.new result (told_from (register_in reference.now totals.now) first entries.now) }
+        requires { (1 ≤ first) × (length history.now < 2 ^ 63) }
+        ensures { IsTold self.old self.new result (told_from (register_in reference.now totals.now) first (drop (first - 1) history.now)) }
     {
-        let mut number = first;
-        for entry in entries {
-            self.tell_entry(reference, totals, number, entry)?;
-            number += 1;
+        for place in first as usize - 1..history.len() {
+            let entry = history.at(place)?;
+            self.tell_entry(reference, totals, place as u64 + 1, &entry)?;
         }
         Ok(())
     }
@@ -289,22 +288,19 @@ pub fn notices_of(
     alloc: Global,
     reference: &Reference,
     totals: &Totals,
-    entries: &[Entry],
+    history: &History,
     firm: &FirmId,
     from: u64,
 ) -> Result<Vec<Notice>, AllocError>
-    requires few { length entries.now ≤ 1000000 }
-    requires number { from ≤ 1000001 }
+    requires few { length history.now ≤ 1000000 }
     ensures { IfOk result (λ list. list.items
-        ≡ told_to firm.now (told_from (register_in reference.now totals.now) (max 1 from) (drop (from - 1) entries.now))) }
+        ≡ told_to firm.now (told_from (register_in reference.now totals.now) (max 1 from) (drop (from - 1) history.now))) }
 {
-    let first = from.max(1);
-    let start = (first - 1).min(entries.len() as u64);
     let mut mailbox = Mailbox {
         firm: *firm,
         list: Vec::new(alloc),
     };
-    mailbox.tell_entries(reference, totals, first, &entries[start as usize..])?;
+    mailbox.tell_entries(reference, totals, history, from.max(1))?;
     let Mailbox { firm: _, list } = mailbox;
     Ok(list)
 }

@@ -1,5 +1,6 @@
 pub mod FirstPlaces
 pub mod Gathered
+pub mod KeptLemmas
 pub mod KeyLemmas
 pub mod LastTake
 pub mod Lists

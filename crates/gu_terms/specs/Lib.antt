@@ -2,6 +2,7 @@ pub mod AllocRejects
 pub mod Cuts
 pub mod Days
 pub mod Histories
+pub mod KeptEntries
 pub mod LimitKeys
 pub mod Lines
 pub mod Names

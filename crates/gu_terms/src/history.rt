@@ -1,26 +1,112 @@
 //! The history: all that was entered, in order.
 
-ghost use Rattle.std.specs.Prelude.{◌≡◌, ◌-◌, ◌∷◌, [], ◌++◌, length, take, OnOk, OnErr};
-ghost use Rattle.std.specs.Option.{option_copied};
+ghost use Rattle.std.specs.Prelude.{◌≡◌, ◌+◌, ◌-◌, ◌^◌, ◌<◌, ◌∷◌, [], ◌++◌, ◌≤◌, length, map, slice_get, take, IfOk, OnOk, OnErr, Some};
 ghost use Rattle.gu_terms.specs.Histories.{entry_at};
+ghost use Rattle.gu_terms.specs.KeptEntries.{end_of_last, entry_by, entry_of, AreIdsOf, AreKept};
 
-use crate::entry::Entry;
+use crate::command::Command;
+use crate::entry::{Entry, SweepEntry};
+use crate::kept::{Body, Ids, Kept, body_of, ids_of};
+use crate::reply::Reply;
 use std::alloc::{AllocError, Global};
 use std::marker::Model;
 
+/// The bytes of ids that are kept at most. Entries that come when there are so many are kept whole.
+const MOST_TEXTS: usize = 4_000_000_000;
+
 /// Entries, numbered from 1. To a contract it is their list.
-#[derive(Drop)]
 pub struct History {
-    entries: Vec<Entry>,
+    entries: Vec<Kept>,
+    /// The ids of all entries, one behind the other.
+    texts: Vec<u8>,
+    alloc: Global,
 }
 
 impl Model for History {
-    ghost use Rattle.std.specs.Prelude.{List};
+    ghost use Rattle.std.specs.Prelude.{List, map};
+    ghost use Rattle.gu_terms.specs.KeptEntries.{entry_of, AreKept};
     ghost use Rattle.gu_terms.specs.declared.entry.Entry.{Entry};
 
     ghost Value = { List Entry };
 
-    ghost view = { λ h. h.entries.items };
+    ghost view = { λ h. map (entry_of h.texts.items) h.entries.items };
+
+    ghost invariant = { λ h. AreKept h.texts.items h.entries.items };
+}
+
+// By hand, so that who holds a history lets it go by one call.
+impl Drop for History {
+    fn drop(self) {
+        let History {
+            entries,
+            texts,
+            alloc: _,
+        } = self;
+        drop(entries);
+        drop(texts);
+    }
+}
+
+/// Appends two texts, or neither.
+fn append_texts(texts: &mut Vec<u8>, first: &[u8], second: &[u8]) -> Result<(), AllocError>
+    ensures appended { OnOk result (texts.new.items ≡ texts.old.items ++ first.now ++ second.now) }
+    ensures refused { OnErr result (texts.new.items ≡ texts.old.items) }
+{
+    texts.reserve(first.len() + second.len())?;
+    let _ = texts.extend_from_slice(first);
+    let _ = texts.extend_from_slice(second);
+    Ok(())
+}
+
+#[tactic(auto, using(crate::proofs::KeptLemmas::entries_more))]
+/// Adds what is kept of an entry behind the others, and its ids behind theirs. The growths come first.
+fn add(
+    entries: &mut Vec<Kept>,
+    texts: &mut Vec<u8>,
+    first: &[u8],
+    second: &[u8],
+    body: Body,
+) -> Result<(), AllocError>
+    requires kept { AreKept texts.old.items entries.old.items }
+    requires first { length first.now ≤ 64 }
+    requires second { length second.now ≤ 64 }
+    requires room { length first.now + length second.now + length texts.old.items < 2 ^ 32 }
+    requires ids { AreIdsOf body first.now second.now }
+    ensures kept { AreKept texts.new.items entries.new.items }
+    ensures added { OnOk result (map (entry_of texts.new.items) entries.new.items
+        ≡ map (entry_of texts.old.items) entries.old.items ++ entry_by first.now second.now body ∷ []) }
+    ensures refused { OnErr result ((texts.new.items ≡ texts.old.items) × (entries.new.items ≡ entries.old.items)) }
+{
+    let ids = Ids {
+        at: texts.len() as u32,
+        first: first.len() as u8,
+        second: second.len() as u8,
+    };
+    entries.reserve(1)?;
+    append_texts(texts, first, second)?;
+    let _ = entries.push(Kept { ids, body });
+    Ok(())
+}
+
+/// The place behind the ids of the last entry.
+fn end_of_last(entries: &[Kept]) -> usize
+    ensures { result ≡ end_of_last entries.now }
+{
+    match entries.last() {
+        Some(last) => last.end(),
+        None => 0,
+    }
+}
+
+#[tactic(auto, using(crate::proofs::KeptLemmas::kept_fewer, crate::proofs::KeptLemmas::entries_fewer))]
+/// Keeps the first entries, so many of them, with their ids.
+fn truncate(entries: &mut Vec<Kept>, texts: &mut Vec<u8>, count: usize)
+    requires { AreKept texts.old.items entries.old.items }
+    ensures kept { AreKept texts.new.items entries.new.items }
+    ensures first { map (entry_of texts.new.items) entries.new.items ≡ take count (map (entry_of texts.old.items) entries.old.items) }
+{
+    entries.truncate(count);
+    texts.truncate(end_of_last(entries));
 }
 
 impl History {
@@ -30,6 +116,8 @@ impl History {
     {
         History {
             entries: Vec::new(alloc),
+            texts: Vec::new(alloc),
+            alloc,
         }
     }
 
@@ -40,40 +128,69 @@ impl History {
         self.entries.len()
     }
 
-    /// The entries, in order.
-    pub fn as_slice(&self) -> &[Entry]
-        ensures { result.now ≡ self.now }
+    #[tactic(auto, using(crate::proofs::KeptLemmas::entry_there))]
+    /// The entry at a place, counted from 0.
+    pub fn at(&self, place: usize) -> Result<Entry, AllocError>
+        requires { place < length self.now }
+        ensures { IfOk result (λ entry. slice_get self.now place ≡ Some entry) }
     {
-        self.entries.as_slice()
+        self.entries[place].entry(&self.texts)
     }
 
     /// The entry of a number. There is none of number 0.
-    pub fn entry(&self, number: u64) -> Option<&Entry>
-        ensures { option_copied result ≡ entry_at self.now number }
+    pub fn entry(&self, number: u64) -> Result<Option<Entry>, AllocError>
+        ensures { IfOk result (λ entry. entry ≡ entry_at self.now number) }
     {
-        if number == 0 {
-            return None;
+        if number == 0 || number > self.entries.len() as u64 {
+            return Ok(None);
         }
-        self.entries.get(number as usize - 1)
+        Ok(Some(self.at(number as usize - 1)?))
     }
 
-    /// Adds an entry behind the others.
-    pub fn push(&mut self, entry: Entry) -> Result<(), AllocError>
+    /// Adds an entry behind the others, as it is.
+    fn push_whole(&mut self, entry: Entry) -> Result<(), AllocError>
         ensures added { OnOk result (self.new ≡ self.old ++ entry ∷ []) }
         ensures refused { OnErr result (self.new ≡ self.old) }
     {
-        // Taken apart and made again, so that the check is told of the types within.
-        match entry {
-            Entry::Asked { command, reply } => self.entries.push(Entry::Asked { command, reply })?,
-            Entry::Swept(sweep) => self.entries.push(Entry::Swept(sweep))?,
+        let entry = Box::new(self.alloc, entry)?;
+        let body = Body::Whole(entry);
+        add(&mut self.entries, &mut self.texts, &[], &[], body)
+    }
+
+    /// Adds a command with its reply behind the others.
+    pub fn push_asked(&mut self, command: &Command, reply: Reply) -> Result<(), AllocError>
+        ensures added { OnOk result (self.new ≡ self.old ++ Entry.Asked command.now reply ∷ []) }
+        ensures refused { OnErr result (self.new ≡ self.old) }
+    {
+        let body = if self.texts.len() > MOST_TEXTS {
+            None
+        } else {
+            body_of(command, &reply)?
+        };
+        match body {
+            Some(body) => {
+                let (first, second) = ids_of(command);
+                add(&mut self.entries, &mut self.texts, first, second, body)
+            }
+            None => {
+                let command = command.copy()?;
+                self.push_whole(Entry::Asked { command, reply })
+            }
         }
-        Ok(())
+    }
+
+    /// Adds a sweep behind the others.
+    pub fn push_swept(&mut self, sweep: SweepEntry) -> Result<(), AllocError>
+        ensures added { OnOk result (self.new ≡ self.old ++ Entry.Swept sweep ∷ []) }
+        ensures refused { OnErr result (self.new ≡ self.old) }
+    {
+        self.push_whole(Entry::Swept(sweep))
     }
 
     /// Keeps the first entries, so many of them. It takes no memory.
     pub fn truncate(&mut self, count: usize)
         ensures { self.new ≡ take count self.old }
     {
-        self.entries.truncate(count);
+        truncate(&mut self.entries, &mut self.texts, count);
     }
 }

@@ -13,6 +13,7 @@ mod firm;
 mod group;
 mod history;
 mod id;
+mod kept;
 mod limit_key;
 mod limit_row;
 mod lines;

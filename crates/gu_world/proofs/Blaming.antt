@@ -1,24 +1,26 @@
 -- Which entry is to blame for an outcome.
 use Rattle.std.proofs.Common.{◌≡◌, ℕ, zero, suc, ◌-◌, ◌<◌, true, false, List, [], ◌∷◌, ◌++◌, length, take, get_or, Option, Some, None, Result, Ok, Err, refl, sym, ap, ◌∙◌, arith, subst, length-append}
-use Rattle.std.specs.Prelude.{slice_get, slice_index_or, IfOk}
+use Rattle.std.specs.Prelude.{slice_get, IfOk}
+use Rattle.std.specs.Option.{option_map_or}
 use Rattle.gu_ref.specs.Tables.{Tables}
 use Rattle.gu_world.specs.Blame.{IsBlamedFor, ends_stale, first_behind, is_stale}
 use Rattle.gu_world.specs.Runs.{Course, GoesOn, IsBlamedAt, IsCulprit, IsRunOf, blamed}
 use Rattle.gu_world.specs.Steps.{State}
 use Rattle.gu_world.specs.declared.outcome.Outcome.{Outcome}
-use Rattle.gu_world.specs.declared.outcome.Outcome.TheVariants.{Nothing, Stale}
+use Rattle.gu_world.specs.declared.outcome.Outcome.TheVariants.{Stale}
 use Rattle.gu_world.specs.declared.step.Step.{Step}
 use Rattle.gu_world.specs.declared.step.Step.TheVariants.{Enter, See, Propose, Commit}
 
 -- what stands last
-last-at : {X : Type 0} (xs : List X) (x d : X) → slice_index_or (xs ++ x ∷ []) (length xs) d ≡ x
-last-at [] x d = refl
-last-at (first ∷ xs) x d = last-at xs x d
+last-at : {X : Type 0} (xs : List X) (x : X) → slice_get (xs ++ x ∷ []) (length xs) ≡ Some x
+last-at [] x = refl
+last-at (first ∷ xs) x = last-at xs x
 
 ends-is : (outcomes : List Outcome) (outcome : Outcome) → ends_stale (outcomes ++ outcome ∷ []) ≡ is_stale outcome
 ends-is outcomes outcome =
     let place : length (outcomes ++ outcome ∷ []) - 1 ≡ length outcomes = omega (arith, length-append outcomes (outcome ∷ [])) in
-    ap (λ (k : ℕ). is_stale (slice_index_or (outcomes ++ outcome ∷ []) k Nothing)) place ∙ ap is_stale (last-at outcomes outcome Nothing)
+    ap (λ (k : ℕ). option_map_or is_stale (slice_get (outcomes ++ outcome ∷ []) k) false) place
+    ∙ ap (λ (found : Option Outcome). option_map_or is_stale found false) (last-at outcomes outcome)
 
 -- of a stale outcome the first entry behind is to blame, and of others none
 blamed-is : (before : State) (step : Step) (outcome : Outcome) → is_stale outcome ≡ true → blamed before step outcome ≡ first_behind before step

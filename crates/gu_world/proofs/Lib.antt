@@ -4,6 +4,7 @@ pub mod CommitLemmas
 pub mod HeadlineLemmas
 pub mod Holding
 pub mod LookLemmas
+pub mod OutcomeLemmas
 pub mod RunLemmas
 pub mod SlotLemmas
 pub mod Touches

@@ -1,5 +1,5 @@
 -- Runs, one step on.
-use Rattle.std.proofs.Common.{◌≤◌, arith, ◌≡◌, ℕ, suc, Bool, true, false, List, [], ◌∷◌, ◌++◌, length, Option, Some, None, refl, sym, ap, ◌∙◌, subst, if◌then◌else◌}
+use Rattle.std.proofs.Common.{◌≤◌, arith, ◌≡◌, ℕ, suc, Bool, true, false, List, [], ◌∷◌, ◌++◌, length, map, Option, Some, None, refl, sym, ap, ◌∙◌, subst, if◌then◌else◌}
 use Rattle.std.specs.Prelude.{slice_index_or, slice_set, take}
 use Rattle.std.specs.Option.{option_map, option_map_or}
 use Rattle.gu_terms.specs.declared.entry.SweepEntry.{SweepEntry}
@@ -10,6 +10,7 @@ use Rattle.gu_book.specs.Kept.{Kept}
 use Rattle.gu_book.specs.Legal.{IsLegal}
 use Rattle.gu_book.specs.Views.{group_view}
 use Rattle.gu_world.specs.Looks.{AreTrue, IsKeptCourse, look_in, state_in, view_in}
+use Rattle.gu_world.specs.Outcomes.{AreNumbered, kept_of, outcome_in}
 use Rattle.gu_world.specs.Runs.{Course, GoesOn, IsRun, IsRunOf, beginning}
 use Rattle.gu_world.specs.Steps.{LeadsTo, Look, ProposesOn, State, committed_for, committed_on, is_full, is_overtaken, look_of, view_seen, with_look}
 use Rattle.gu_world.specs.declared.held.Held.{Held}
@@ -17,6 +18,9 @@ use Rattle.gu_world.specs.declared.outcome.Outcome.{Outcome}
 use Rattle.gu_world.specs.declared.outcome.Outcome.TheVariants.{Nothing}
 use Rattle.gu_world.specs.declared.step.Step.{Step}
 use Rattle.gu_world.specs.declared.step.Step.TheVariants.{Enter, See, Propose, Commit}
+use Rattle.gu_world.specs.declared.outcomes.KeptOutcome.{KeptOutcome}
+use Rattle.gu_world.specs.declared.outcomes.KeptOutcome.TheVariants as noted
+use Rattle.gu_world.proofs.OutcomeLemmas.{numbered-one_more, outcomes-one_more}
 use Rattle.gu_world.proofs.Holding.{look_by-group, look_by-seen}
 use Rattle.gu_world.proofs.SlotLemmas.{look_of-held}
 use Rattle.gu_world.proofs.Touches.{equal_views, versions_and_touches}
@@ -73,13 +77,14 @@ leads-reference old (Commit worker) outcome new h = ap (λ (p : Outcome × State
 
 -- ---- what is kept
 
-pub kept-beginning : (reference : Tables) (book : Kept) (slots : List (Option Held)) (outcomes : List Outcome) → book ≡ record { reference = reference; history = [] } → slots ≡ [] → outcomes ≡ []
+pub kept-beginning : (reference : Tables) (book : Kept) (slots : List (Option Held)) (outcomes : List KeptOutcome) → book ≡ record { reference = reference; history = [] } → slots ≡ [] → outcomes ≡ []
     → IsKeptCourse book slots outcomes
 kept-beginning reference book slots outcomes new none nothing =
-    subst (λ (os : List Outcome). IsKeptCourse book slots os) (sym nothing)
+    subst (λ (os : List KeptOutcome). IsKeptCourse book slots os) (sym nothing)
     (subst (λ (ss : List (Option Held)). IsKeptCourse book ss []) (sym none)
     (subst (λ (b : Kept). IsKeptCourse b [] []) (sym new) (record {
       trues = λ worker held at. cc;
+      numbered = λ k d within. absurd (omega (arith, within));
       reached = record { steps = []; run = refl };
     })))
 
@@ -88,26 +93,37 @@ last-set : {X : Type 0} (xs : List X) (x y : X) → slice_set (xs ++ x ∷ []) (
 last-set [] x y = refl
 last-set (first ∷ xs) x y = ap (λ more. first ∷ more) (last-set xs x y)
 
-module _ (book after : Kept) (slots left : List (Option Held)) (outcomes pushed : List Outcome) (count : ℕ) (step : Step) (outcome : Outcome) (leads : LeadsTo (state_in book slots) step outcome (state_in after left))
-    (pushed_is : pushed ≡ outcomes ++ Nothing ∷ []) (count_is : count ≡ length outcomes) where
-  pub taken-goes_on : GoesOn (record { state = state_in book slots; outcomes = outcomes }) step (record { state = state_in after left; outcomes = slice_set pushed count outcome })
+module _ (book after : Kept) (slots left : List (Option Held)) (outcomes pushed : List KeptOutcome) (count : ℕ) (step : Step) (outcome : Outcome) (leads : LeadsTo (state_in book slots) step outcome (state_in after left))
+    (pushed_is : pushed ≡ outcomes ++ noted.Nothing ∷ []) (count_is : count ≡ length outcomes) (kept : IsKeptCourse book slots outcomes) where
+  written : slice_set pushed count (kept_of outcome) ≡ outcomes ++ kept_of outcome ∷ []
+  written = (λ i. slice_set (pushed_is i) (count_is i) (kept_of outcome)) ∙ last-set outcomes noted.Nothing (kept_of outcome)
+
+  pub taken-goes_on : GoesOn (record { state = state_in book slots; outcomes = map (outcome_in book.history) outcomes }) step
+      (record { state = state_in after left; outcomes = map (outcome_in after.history) (slice_set pushed count (kept_of outcome)) })
   taken-goes_on = record {
     outcome = outcome;
     leads = leads;
-    outcomes = (λ i. slice_set (pushed_is i) (count_is i) outcome) ∙ last-set outcomes Nothing outcome;
+    outcomes = ap (map (outcome_in after.history)) written ∙ outcomes-one_more outcomes (state_in book slots) step outcome (state_in after left) leads kept.numbered;
   }
 
-  pub taken-kept : IsKeptCourse book slots outcomes → AreTrue after left → IsKeptCourse after left (slice_set pushed count outcome)
-  taken-kept kept trues = record {
-    trues = trues;
-    reached = record {
-      steps = kept.reached.steps ++ step ∷ [];
-      run = subst (λ (r : Tables). IsRunOf r (kept.reached.steps ++ step ∷ []) (record { state = state_in after left; outcomes = slice_set pushed count outcome }))
-          (sym (leads-reference (state_in book slots) step outcome (state_in after left) leads))
-          (run-goes_on book.reference kept.reached.steps step (record { state = state_in book slots; outcomes = outcomes }) (record { state = state_in after left; outcomes = slice_set pushed count outcome })
-          kept.reached.run taken-goes_on);
-    };
-  }
+  -- with just this outcome
+  pub taken-told : (goes : GoesOn (record { state = state_in book slots; outcomes = map (outcome_in book.history) outcomes }) step
+      (record { state = state_in after left; outcomes = map (outcome_in after.history) (slice_set pushed count (kept_of outcome)) })) × (goes.outcome ≡ outcome)
+  unfolding taken-goes_on
+  taken-told = (taken-goes_on, refl)
+
+  pub taken-kept : AreTrue after left → IsKeptCourse after left (slice_set pushed count (kept_of outcome))
+  taken-kept trues =
+      let new : Course = record { state = state_in after left; outcomes = map (outcome_in after.history) (slice_set pushed count (kept_of outcome)) } in record {
+        trues = trues;
+        numbered = subst (AreNumbered (length after.history)) (sym written) (numbered-one_more outcomes (state_in book slots) step outcome (state_in after left) leads kept.numbered);
+        reached = record {
+          steps = kept.reached.steps ++ step ∷ [];
+          run = subst (λ (r : Tables). IsRunOf r (kept.reached.steps ++ step ∷ []) new)
+              (sym (leads-reference (state_in book slots) step outcome (state_in after left) leads))
+              (run-goes_on book.reference kept.reached.steps step (record { state = state_in book slots; outcomes = map (outcome_in book.history) outcomes }) new kept.reached.run taken-goes_on);
+        };
+      }
 
 -- ---- looks
 

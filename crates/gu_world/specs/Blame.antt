@@ -1,6 +1,6 @@
 -- Machinery: what is known on the way to the entry to blame.
-use Rattle.std.specs.Prelude.{◌≡◌, ℕ, ◌-◌, Bool, true, false, List, length, map, slice_index_or, Option, None}
-use Rattle.std.specs.Option.{option_and_then}
+use Rattle.std.specs.Prelude.{◌≡◌, ℕ, ◌-◌, Bool, true, false, List, length, map, slice_get, Option, None}
+use Rattle.std.specs.Option.{option_and_then, option_map_or}
 use Rattle.gu_terms.specs.Same.{same_group}
 use Rattle.gu_terms.specs.declared.entry.Entry.{Entry}
 use Rattle.gu_terms.specs.declared.group.Group.{Group}
@@ -9,7 +9,7 @@ use Rattle.gu_book.specs.Offers.{offers_of}
 use Rattle.gu_world.specs.Runs.{Course, GoesOn, blamed}
 use Rattle.gu_world.specs.Steps.{Look, State, first_touch_above, look_of}
 use Rattle.gu_world.specs.declared.outcome.Outcome.{Outcome}
-use Rattle.gu_world.specs.declared.outcome.Outcome.TheVariants.{Nothing, Stale}
+use Rattle.gu_world.specs.declared.outcome.Outcome.TheVariants.{Stale}
 use Rattle.gu_world.specs.declared.step.Step.{Step}
 use Rattle.gu_world.specs.declared.step.Step.TheVariants.{Commit}
 
@@ -34,4 +34,4 @@ is_stale outcome = false
 
 -- and the last of these is
 abbrev pub ends_stale : List Outcome → Bool
-ends_stale outcomes = is_stale (slice_index_or outcomes (length outcomes - 1) Nothing)
+ends_stale outcomes = option_map_or is_stale (slice_get outcomes (length outcomes - 1)) false

@@ -1,5 +1,6 @@
 pub mod Blame
 pub mod Headline
 pub mod Looks
+pub mod Outcomes
 pub mod Runs
 pub mod Steps

@@ -9,7 +9,8 @@ use Rattle.gu_book.specs.Kept.{Kept}
 use Rattle.gu_book.specs.Views.{group_view}
 use Rattle.gu_world.specs.Runs.{IsReached}
 use Rattle.gu_world.specs.Steps.{Look, State}
-use Rattle.gu_world.specs.declared.outcome.Outcome.{Outcome}
+use Rattle.gu_world.specs.Outcomes.{AreNumbered, outcome_in}
+use Rattle.gu_world.specs.declared.outcomes.KeptOutcome.{KeptOutcome}
 use Rattle.gu_world.specs.declared.held.Held.{Held}
 use Rattle.gu_world.specs.declared.held.Work.{Work}
 use Rattle.gu_world.specs.declared.held.Work.TheVariants.{Looking, Ready}
@@ -61,7 +62,8 @@ pub record Grows (old new : Kept) : Type 0 where
   pub reference : new.reference ≡ old.reference
   pub history : new.history ≡ old.history ++ later
 
--- what is kept for a course: true looks, and some steps that lead there
-pub record IsKeptCourse (book : Kept) (slots : List (Option Held)) (outcomes : List Outcome) : Type 0 where
+-- what is kept for a course: true looks, numbers of entries that are there, and some steps that lead there
+pub record IsKeptCourse (book : Kept) (slots : List (Option Held)) (outcomes : List KeptOutcome) : Type 0 where
   pub trues : AreTrue book slots
-  pub reached : IsReached (record { state = state_in book slots; outcomes = outcomes })
+  pub numbered : AreNumbered (length book.history) outcomes
+  pub reached : IsReached (record { state = state_in book slots; outcomes = map (outcome_in book.history) outcomes })

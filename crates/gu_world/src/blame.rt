@@ -8,13 +8,14 @@ ghost use Rattle.gu_world.specs.Runs.{IsCulprit};
 ghost use Rattle.gu_world.specs.Steps.{Look, first_touch_above, look_of};
 
 use crate::outcome::Outcome;
+use crate::outcomes::Outcomes;
 use crate::running::take_all;
 use crate::step::Step;
 use crate::touching::is_touching;
 use crate::worker::Worker;
 use crate::world::World;
 use gu_ref::Reference;
-use gu_terms::{Command, Done, Entry, Group, Reply};
+use gu_terms::{Command, Done, Entry, Group, History, Reply};
 use std::alloc::{AllocError, Global};
 
 /// Pushes, so many times, whether an offer is of the group.
@@ -49,20 +50,21 @@ fn know(own: &mut Vec<bool>, group: &Group, entry: &Entry) -> Result<(), AllocEr
 /// The first entry above a number that touches a group.
 fn first_touch(
     alloc: Global,
-    entries: &[Entry],
+    history: &History,
     group: &Group,
     seen: u64,
 ) -> Result<Option<u64>, AllocError>
-    requires { length entries.now ≤ 1000000 }
-    ensures { IfOk result (λ first. first ≡ first_touch_above entries.now group.now seen) }
+    requires { length history.now ≤ 1000000 }
+    ensures { IfOk result (λ first. first ≡ first_touch_above history.now group.now seen) }
 {
     let mut own = Vec::new(alloc);
-    for (place, entry) in entries.iter().enumerate() {
+    for place in 0..history.len() {
+        let entry = history.at(place)?;
         let number = place as u64 + 1;
-        if number > seen && is_touching(&own, group, entry) {
+        if number > seen && is_touching(&own, group, &entry) {
             return Ok(Some(number));
         }
-        know(&mut own, group, entry)?;
+        know(&mut own, group, &entry)?;
     }
     Ok(None)
 }
@@ -76,7 +78,7 @@ fn first_behind(alloc: Global, world: &World, worker: Worker) -> Result<Option<u
         return Ok(None);
     };
     let history = world.book().history();
-    first_touch(alloc, history.as_slice(), &group, seen)
+    first_touch(alloc, history, &group, seen)
 }
 
 /// The same where a step is that worker's commit, and none for other steps.
@@ -97,13 +99,13 @@ fn is_stale(outcome: &Outcome) -> bool
 }
 
 /// Whether the last outcome is that of a stale commit.
-fn ends_stale(outcomes: &[Outcome]) -> bool
-    ensures { result ≡ ends_stale outcomes.now }
+fn ends_stale(outcomes: &Outcomes<'_>) -> Result<bool, AllocError>
+    ensures { IfOk result (λ ends. ends ≡ ends_stale outcomes.now) }
 {
-    if outcomes.is_empty() {
-        return false;
+    match outcomes.last()? {
+        Some(outcome) => Ok(is_stale(&outcome)),
+        None => Ok(false),
     }
-    is_stale(&outcomes[outcomes.len() - 1])
 }
 
 /// Takes one step more, and answers which entry is to blame for its outcome.
@@ -112,11 +114,8 @@ fn blame(alloc: Global, world: &mut World, step: Step) -> Result<Option<u64>, Al
 {
     let first = first_for(alloc, world, &step)?;
     world.step(step)?;
-    if ends_stale(world.outcomes()) {
-        Ok(first)
-    } else {
-        Ok(None)
-    }
+    let ends = ends_stale(&world.outcomes())?;
+    if ends { Ok(first) } else { Ok(None) }
 }
 
 /// The entry to blame for the outcome of the step at a place, counted from 0: where that is a stale commit, the first entry that

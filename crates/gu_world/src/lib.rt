@@ -7,6 +7,7 @@ mod held;
 mod laws;
 mod looks;
 mod outcome;
+mod outcomes;
 mod proposing;
 mod running;
 mod step;
@@ -21,6 +22,7 @@ pub use laws::{
     each_committed_sweep_is_greatest, equal_versions_are_equal_views, runs_join,
 };
 pub use outcome::Outcome;
+pub use outcomes::Outcomes;
 pub use running::run;
 pub use step::Step;
 pub use worker::Worker;

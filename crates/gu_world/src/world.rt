@@ -10,6 +10,7 @@ ghost use Rattle.gu_world.specs.Steps.{LeadsTo, Look, is_overtaken, look_of, vie
 use crate::committing::commit_for;
 use crate::looks::Looks;
 use crate::outcome::Outcome;
+use crate::outcomes::{KeptOutcome, Outcomes};
 use crate::proposing::propose_for;
 use crate::step::Step;
 use crate::stepping::{enter, see};
@@ -46,7 +47,7 @@ fn take(
 pub struct World {
     book: Book,
     looks: Looks,
-    outcomes: Vec<Outcome>,
+    outcomes: Vec<KeptOutcome>,
     alloc: Global,
 }
 
@@ -55,9 +56,11 @@ impl Model for World {
 
     ghost Value = { Course };
 
+    ghost use Rattle.std.specs.Prelude.{map};
     ghost use Rattle.gu_world.specs.Looks.{IsKeptCourse, state_in};
+    ghost use Rattle.gu_world.specs.Outcomes.{outcome_in};
 
-    ghost view = { λ w. record { state = state_in w.book w.looks; outcomes = w.outcomes.items } };
+    ghost view = { λ w. record { state = state_in w.book w.looks; outcomes = map (outcome_in w.book.history) w.outcomes.items } };
 
     ghost invariant = { λ w. IsKeptCourse w.book w.looks w.outcomes.items };
 }
@@ -90,23 +93,33 @@ impl World {
         }
     }
 
-    /// Takes one step, and adds its outcome.
-    pub fn step(&mut self, step: Step) -> Result<(), AllocError>
-        ensures stepped { OnOk result (GoesOn self.old step self.new) }
+    /// Takes one step, adds its outcome, and tells it.
+    pub fn take(&mut self, step: Step) -> Result<Outcome, AllocError>
+        ensures taken { IfOk result (λ outcome. (goes : GoesOn self.old step self.new) × (goes.outcome ≡ outcome)) }
         ensures refused { OnErr result (self.new ≡ self.old) }
     {
         let count = self.outcomes.len();
-        self.outcomes.push(Outcome::Nothing)?;
+        self.outcomes.push(KeptOutcome::Nothing)?;
         match take(self.alloc, &mut self.book, &mut self.looks, step) {
             Ok(outcome) => {
-                self.outcomes[count] = outcome;
-                Ok(())
+                self.outcomes[count] = KeptOutcome::of(&outcome);
+                Ok(outcome)
             }
             Err(refused) => {
                 self.outcomes.truncate(count);
                 Err(refused)
             }
         }
+    }
+
+    /// Takes one step, and adds its outcome.
+    pub fn step(&mut self, step: Step) -> Result<(), AllocError>
+        ensures stepped { OnOk result (GoesOn self.old step self.new) }
+        ensures refused { OnErr result (self.new ≡ self.old) }
+    {
+        let outcome = self.take(step)?;
+        drop(outcome);
+        Ok(())
     }
 
     /// The book.
@@ -142,11 +155,11 @@ impl World {
     }
 
     /// The outcome of each step, in order.
-    pub fn outcomes(&self) -> &[Outcome]
-        ensures outcomes { result.now ≡ self.now.outcomes }
+    pub fn outcomes(&self) -> Outcomes<'_>
+        ensures outcomes { result ≡ self.now.outcomes }
         ensures reached { IsReached self.now }
     {
-        self.outcomes.as_slice()
+        Outcomes::new(self.outcomes.as_slice(), self.book.history())
     }
 
     /// The book, for who keeps it.

@@ -4,7 +4,7 @@ use crate::messages::first_of;
 use crate::talk::wrong_line;
 use crate::{answering, asking, encoding, fields, header, reading, writing};
 use gu_fix::{Feed, Fields};
-use gu_terms::{Command, Cut, Day, Done, Entry, FirmId, History, LimitKey, OfferNo, Reply, Takes};
+use gu_terms::{Command, Cut, Day, Done, FirmId, History, LimitKey, OfferNo, Reply, Takes};
 use std::alloc::{AllocError, Global};
 
 /// How many messages a feed gives with a piece, at the second try where the first is refused.
@@ -125,10 +125,7 @@ fn enter(history: &mut History, day: Day) -> Option<usize> {
     for _ in 0..2 {
         let command = Command::OpenDay { day };
         let is_added = history
-            .push(Entry::Asked {
-                command,
-                reply: Reply::Accepted(Done::Opened),
-            })
+            .push_asked(&command, Reply::Accepted(Done::Opened))
             .is_ok();
         if is_added || history.len() != before {
             return Some(history.len());

@@ -1,5 +1,4 @@
 use Rattle.std.proofs.Common.{◌≡◌, ◌∙◌, ◌++◌, ◌∷◌, ◌+◌, ◌<◌, ◌^◌, [], List, length, ap, sym, subst, if◌then◌else◌}
-use Rattle.gu_terms.specs.declared.command.Command.{Command}
 use Rattle.gu_terms.specs.declared.entry.Entry.{Entry}
 use Rattle.gu_terms.specs.declared.entry.Entry.TheVariants.{Asked}
 use Rattle.gu_terms.specs.declared.group.Group.{Group}
@@ -32,8 +31,8 @@ take_in-requires c =
 pub invariant_of-self-in-Err : goal.invariant_of-self-in-Err
 invariant_of-self-in-Err c =
     let old = c.self.inside in
-    let pushed = c.in_ok-push.ensures.added ∙ ap (λ (k : Command). old.history ++ Asked k c.args.reply.now ∷ []) c.in_ok-kept.ensures in
-    let back = truncated old.history (Asked c.args.command c.args.reply.now) c.len-count.result c.push.new.self c.truncate.new.self c.len-count.ensures pushed c.truncate.ensures in
+    let pushed = c.in_ok-push_asked.ensures.added in
+    let back = truncated old.history (Asked c.args.command c.args.reply.now) c.len-count.result c.push_asked.new.self c.truncate.new.self c.len-count.ensures pushed c.truncate.ensures in
     subst (λ (history : List Entry). IsKeptLegal old.reference history c.take_in.new.totals c.know.new.versions) (sym back)
     (legal-refused old.reference old.history old.totals c.take_in.new.totals old.versions c.know.new.versions c.self.invariant c.in-Err.ensures.refused c.take_in.ensures.known
     (versions-same old.history old.versions c.know.new.versions c.self.invariant.counted c.know.ensures.days c.know.ensures.same))
@@ -57,7 +56,7 @@ invariant_of-self-2 c =
     let entry = Asked command reply in
     let room = rw (sym c.self.view_is) at c.requires.room in
     let is : reply ≡ answer old.reference old.history command = c.requires.answered ∙ ap (λ (k : Kept). answer k.reference k.history command) (sym c.self.view_is) in
-    let pushed = c.in_ok-push.ensures.added ∙ ap (λ (k : Command). old.history ++ Asked k reply ∷ []) c.in_ok-kept.ensures in
+    let pushed = c.in_ok-push_asked.ensures.added in
     let before = versions-same old.history old.versions c.know.new.versions c.self.invariant.counted c.know.ensures.days c.know.ensures.same in
     let touched : (group : Group) → is_touched c.touched_in-touched.result group ≡ touches old.history group entry =
     λ group. ap (λ (t : Touched). is_touched t group) c.touched_in-touched.ensures ∙ touched-is old.reference old.history old.totals.offers command reply c.self.invariant.kept.beside.offers is group in

@@ -21,10 +21,10 @@ invariant_of-self-in_err-make_ways c =
     legal-still old.reference old.history old.totals c.make_ways.new.totals old.versions c.know.new.versions c.self.invariant c.make_ways.ensures.same (c.make_ways.ensures.known old.reference) c.know.ensures.days
     c.know.ensures.same
 
-pub invariant_of-self-in_err-push : goal.invariant_of-self-in_err-push
-invariant_of-self-in_err-push c =
+pub invariant_of-self-in_err-push_swept : goal.invariant_of-self-in_err-push_swept
+invariant_of-self-in_err-push_swept c =
     let old = c.self.inside in
-    subst (λ (history : List Entry). IsKeptLegal old.reference history c.make_ways.new.totals c.know.new.versions) (sym c.in_err-push.ensures.refused)
+    subst (λ (history : List Entry). IsKeptLegal old.reference history c.make_ways.new.totals c.know.new.versions) (sym c.in_err-push_swept.ensures.refused)
     (legal-still old.reference old.history old.totals c.make_ways.new.totals old.versions c.know.new.versions c.self.invariant c.make_ways.ensures.same (c.make_ways.ensures.known old.reference)
     c.know.ensures.days c.know.ensures.same)
 
@@ -54,7 +54,7 @@ invariant_of-self-2 c =
     c.know.ensures.same in
     let moves = subst (MovesAll old.reference c.make_ways.new.totals c.move_takes.new.totals) (c.as_slice-2.ensures.takes ∙ c.takes-2.ensures.takes) c.move_takes.ensures in
     let is = c.in_ok-sweep.ensures.sweep in
-    let pushed = c.in_ok-push.ensures.added ∙ ap (λ (s : SweepEntry). old.history ++ Swept s ∷ []) is in
+    let pushed = c.in_ok-push_swept.ensures.added ∙ ap (λ (s : SweepEntry). old.history ++ Swept s ∷ []) is in
     subst (λ (history : List Entry). IsKeptLegal old.reference history c.move_takes.new.totals c.touch.new.versions) (sym pushed)
     (legal-swept book proposal c.make_ways.new.totals c.move_takes.new.totals c.know.new.versions c.touch.new.versions still current c.in_ok-sweep.ensures.right moves c.touch.ensures.days
     (λ group.

@@ -12,6 +12,6 @@ returns-clause-list c =
     let next = c.len.result + 1 in
     let start : c.min.result ≡ min from next = omega (arith, c.min.ensures) in
     c.in_ok-list.ensures
-    ∙ (λ i. told_to firm (told_from (register-is old.reference old.history old.totals c.self.invariant.kept.beside i) (max 1 (start i)) (drop (start i - 1) (c.as_slice.ensures i))))
+    ∙ (λ i. told_to firm (told_from (register-is old.reference old.history old.totals c.self.invariant.kept.beside i) (max 1 (start i)) (drop (start i - 1) old.history)))
     ∙ ap (told_to firm) (from-next (register_of (record { reference = old.reference; history = old.history })) old.history from next (omega (arith, c.len.ensures)))
     ∙ ap (λ (k : Kept). notices_of k firm from) c.self.view_is

@@ -1,0 +1,130 @@
+//! The outcomes of a world, as they are kept and as they are shown.
+
+ghost use Rattle.std.specs.Prelude.{◌≡◌, ◌-◌, ◌≤◌, length, map, slice_get, IfOk, Some};
+ghost use Rattle.gu_terms.specs.Histories.{entry_at};
+ghost use Rattle.gu_world.specs.Outcomes.{kept_of, outcome_in, AreNumbered, IsNumbered};
+
+use crate::outcome::Outcome;
+use gu_terms::{History, Receipt};
+use std::alloc::AllocError;
+use std::marker::Model;
+
+/// An outcome as it is kept: of what was entered, the number alone.
+#[derive(Clone, Copy)]
+pub(crate) enum KeptOutcome {
+    Asked(u64),
+    Full,
+    Seen(u64),
+    NoGroup,
+    Proposed(u64),
+    Swept(u64),
+    Stale { seen: u64, now: u64 },
+    Foreign,
+    Nothing,
+}
+
+impl KeptOutcome {
+    /// What is kept of an outcome.
+    pub(crate) fn of(outcome: &Outcome) -> Self
+        ensures { result ≡ kept_of outcome.now }
+    {
+        match outcome {
+            Outcome::Asked(receipt) => KeptOutcome::Asked(receipt.number),
+            Outcome::Full => KeptOutcome::Full,
+            Outcome::Seen(version) => KeptOutcome::Seen(*version),
+            Outcome::NoGroup => KeptOutcome::NoGroup,
+            Outcome::Proposed(lots) => KeptOutcome::Proposed(*lots),
+            Outcome::Swept(receipt) => KeptOutcome::Swept(receipt.number),
+            Outcome::Stale { seen, now } => KeptOutcome::Stale {
+                seen: *seen,
+                now: *now,
+            },
+            Outcome::Foreign => KeptOutcome::Foreign,
+            Outcome::Nothing => KeptOutcome::Nothing,
+        }
+    }
+
+    /// The outcome that is kept so, with the entry out of the history.
+    fn outcome(self, history: &History) -> Result<Outcome, AllocError>
+        requires { IsNumbered (length history.now) self }
+        ensures { IfOk result (λ outcome. outcome ≡ outcome_in history.now self) }
+    {
+        match self {
+            KeptOutcome::Asked(number) => Ok(Outcome::Asked(receipt(history, number)?)),
+            KeptOutcome::Full => Ok(Outcome::Full),
+            KeptOutcome::Seen(version) => Ok(Outcome::Seen(version)),
+            KeptOutcome::NoGroup => Ok(Outcome::NoGroup),
+            KeptOutcome::Proposed(lots) => Ok(Outcome::Proposed(lots)),
+            KeptOutcome::Swept(number) => Ok(Outcome::Swept(receipt(history, number)?)),
+            KeptOutcome::Stale { seen, now } => Ok(Outcome::Stale { seen, now }),
+            KeptOutcome::Foreign => Ok(Outcome::Foreign),
+            KeptOutcome::Nothing => Ok(Outcome::Nothing),
+        }
+    }
+}
+
+/// The receipt of the entry of a number.
+fn receipt(history: &History, number: u64) -> Result<Receipt, AllocError>
+    requires { (1 ≤ number) × (number ≤ length history.now) }
+    ensures number { IfOk result (λ r. r.number ≡ number) }
+    ensures entry { IfOk result (λ r. entry_at history.now number ≡ Some r.entry) }
+{
+    let entry = history.at(number as usize - 1)?;
+    Ok(Receipt { number, entry })
+}
+
+/// The outcome of each step, in order. To a contract it is their list.
+#[derive(Drop)]
+pub struct Outcomes<'a> {
+    kept: &'a [KeptOutcome],
+    history: &'a History,
+}
+
+impl<'a> Model for Outcomes<'a> {
+    ghost use Rattle.std.specs.Prelude.{List, length, map};
+    ghost use Rattle.gu_world.specs.Outcomes.{outcome_in, AreNumbered};
+    ghost use Rattle.gu_world.specs.declared.outcome.Outcome.{Outcome as OutcomeOf};
+
+    ghost Value = { List OutcomeOf };
+
+    ghost view = { λ o. map (outcome_in o.history.now) o.kept.now };
+
+    ghost invariant = { λ o. AreNumbered (length o.history.now) o.kept.now };
+}
+
+impl<'a> Outcomes<'a> {
+    /// These outcomes, with the entries of this history.
+    pub(crate) fn new(kept: &'a [KeptOutcome], history: &'a History) -> Self
+        requires { AreNumbered (length history.now) kept.now }
+        ensures { result ≡ map (outcome_in history.now) kept.now }
+    {
+        Outcomes { kept, history }
+    }
+
+    /// How many there are, which is how many steps were taken.
+    pub fn len(&self) -> usize
+        ensures { result ≡ length self.now }
+    {
+        self.kept.len()
+    }
+
+    /// The outcome of the step at a place, counted from 0.
+    pub fn get(&self, place: usize) -> Result<Option<Outcome>, AllocError>
+        ensures { IfOk result (λ outcome. outcome ≡ slice_get self.now place) }
+    {
+        match self.kept.get(place) {
+            Some(kept) => Ok(Some(kept.outcome(self.history)?)),
+            None => Ok(None),
+        }
+    }
+
+    /// The outcome of the last step.
+    pub fn last(&self) -> Result<Option<Outcome>, AllocError>
+        ensures { IfOk result (λ outcome. outcome ≡ slice_get self.now (length self.now - 1)) }
+    {
+        match self.kept.last() {
+            Some(kept) => Ok(Some(kept.outcome(self.history)?)),
+            None => Ok(None),
+        }
+    }
+}
