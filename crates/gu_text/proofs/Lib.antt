@@ -17,4 +17,5 @@ mod Splits
 mod TakesLemmas
 pub mod ViewsAgain
 mod WordLemmas
+pub mod Writable
 pub mod WrittenTakes

@@ -36,7 +36,7 @@ lots_told takes (o ∷ offers) n =
     ]
 
 -- of an offer that the view lacks, nothing is taken
-none_taken : (takes : List Take) (offers : List Offer) (n : ℕ) → AllByRecursion (λ (t : Take). has_offer offers t.offer ≡ true) takes → has_offer offers n ≡ false → lots_of takes n ≡ 0
+pub none_taken : (takes : List Take) (offers : List Offer) (n : ℕ) → AllByRecursion (λ (t : Take). has_offer offers t.offer ≡ true) takes → has_offer offers n ≡ false → lots_of takes n ≡ 0
 none_taken [] offers n known none = refl
 none_taken (t ∷ takes) offers n known none =
     elim (cases_Bool (t.offer == n)) [
@@ -160,7 +160,7 @@ mapped : {X Y : Type 0} (P : Y → Type 0) (f : X → Y) (xs : List X) → AllBy
 mapped P f [] h = tt
 mapped P f (x ∷ xs) h = (h.0, mapped P f xs h.1)
 
-passing : {X : Type 0} (P : X → Type 0) (p : X → Bool) (xs : List X) → AllByRecursion P xs → AllByRecursion P (filter p xs)
+pub passing : {X : Type 0} (P : X → Type 0) (p : X → Bool) (xs : List X) → AllByRecursion P xs → AllByRecursion P (filter p xs)
 passing P p [] h = tt
 passing P p (x ∷ xs) h =
     elim (cases_Bool (p x)) [

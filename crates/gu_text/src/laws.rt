@@ -1,6 +1,6 @@
 //! Laws of scripts, and of what is written.
 
-ghost use Rattle.std.specs.Prelude.{◌≡◌, ℕ, List, All, IsTrue};
+ghost use Rattle.std.specs.Prelude.{◌≡◌, ◌<◌, ◌^◌, ℕ, List, All, IsTrue};
 ghost use Rattle.gu_text.specs.ReadBack.{AreWords, HasLines, IsReadAsWritten, IsReadBack, IsWritable};
 ghost use Rattle.gu_terms.specs.Cuts.{CutLists, has_number};
 ghost use Rattle.gu_terms.specs.LimitKeys.{has_key};
@@ -10,13 +10,13 @@ ghost use Rattle.gu_terms.specs.declared.takes.Take.{Take};
 ghost use Rattle.gu_text.specs.Scripts.{Says};
 ghost use Rattle.gu_text.specs.SheetText.{sheet_text};
 ghost use Rattle.gu_text.specs.Sheets.{IsSheet, Refuses};
-ghost use Rattle.gu_text.specs.WrittenSheets.{cut_of, sheet_of, takes_of};
+ghost use Rattle.gu_text.specs.WrittenSheets.{IsNamed, cut_of, sheet_of, takes_of};
 ghost use Rattle.gu_text.specs.declared.error.TextError.{TextError as ErrorOf};
 ghost use Rattle.gu_text.specs.declared.error.TextError.TheVariants.{Memory};
 ghost use Rattle.gu_text.specs.declared.script_line.Line.{Line as LineOf};
 ghost use Rattle.gu_text.specs.declared.sheet.Sheet.{Sheet as SheetOf};
 ghost use Rattle.gu_view.specs.Check.{IsRight, has_offer, has_room};
-ghost use Rattle.gu_view.specs.View.{GroupView, IsView};
+ghost use Rattle.gu_view.specs.View.{GroupView, IsNested, IsView};
 
 /// A line of a script says one thing at most.
 pub fn a_line_says_one_thing()
@@ -56,4 +56,13 @@ pub fn a_written_sheet_is_read_back()
         → has_number (cut_of view cut).offers number ≡ has_number cut.offers number }
     ensures right { (view : GroupView) (takes : List Take) (cut : CutLists) (lots : ℕ)
         → IsRight view takes cut lots → IsRight view (takes_of view takes) (cut_of view cut) lots }
+
+    // What is right can be written so: its version apart, by what the types of names and of numbers keep.
+    ensures writable { (view : GroupView) (takes : List Take) (cut : CutLists) (lots : ℕ)
+        → IsView view
+        → IsNested view
+        → IsNamed view
+        → view.version < 10 ^ 12
+        → IsRight view takes cut lots
+        → IsWritable view takes }
 {}
