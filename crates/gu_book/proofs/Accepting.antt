@@ -40,6 +40,7 @@ use Rattle.gu_book.proofs.ChangedPositions.{held_in-has, held_in-moved}
 use Rattle.gu_book.proofs.ChangedSums.{today-le-use_in}
 use Rattle.gu_book.proofs.Covered.{covered-taken}
 use Rattle.gu_book.proofs.Facts.{IsThere, claimable, refusable, reversible, today-is}
+use Rattle.gu_book.proofs.InOrder.{in_order}
 use Rattle.gu_book.proofs.KeptOffers.{kept-refused, kept-taken, kept-taken_back, within-taken}
 use Rattle.gu_book.proofs.OrderlyLemmas.{today-le-moved}
 use Rattle.gu_book.proofs.Spoken.{either-true, taken_back}
@@ -109,7 +110,7 @@ pub claim-room : (reference : Tables) (totals : Totals) (n : ℕ) (offer : Offer
 claim-room reference totals n offer report seen may k d within =
     let history = may.may.history in
     let b = may.may.kept.beside in
-    let f = claimable reference history may.firm n may.may.kept.orderly may.may.accepted in
+    let f = claimable reference history may.firm n (in_order history may.may.kept.orderly) may.may.accepted in
     let same = (seen-is reference history totals n offer report f.1 f.0 b seen f.2.there).0 in
     let Room : Offer → Type 0 = λ o. k < length (path_behind reference o) → left_in (standing_of history) n ≤ room_of reference history o.group (slice_index_or (path_behind reference o) k d) in
     let has = subst Room (sym same) (f.2.room k d) within in
@@ -133,7 +134,7 @@ pub claim-there : (reference : Tables) (totals : Totals) (n : ℕ) (offer : Offe
 claim-there reference totals n offer report seen may =
     let history = may.may.history in
     let kept = may.may.kept in
-    let f = claimable reference history may.firm n kept.orderly may.may.accepted in
+    let f = claimable reference history may.firm n (in_order history kept.orderly) may.may.accepted in
     let same = (seen-is reference history totals n offer report f.1 f.0 kept.beside seen f.2.there).1 in
     let left = ap (λ (rs : List Row). left_in rs n) kept.beside.offers in
     let fits = taken-there reference history totals n (left_in (standing_of history) n) f.0 f.1 kept f.2.there f.2.stands f.2.less in
@@ -156,7 +157,7 @@ pub claim-taken : (reference : Tables) (old new : Totals) (n : ℕ) (offer : Off
     → new.offers ≡ changed old.offers n (taken (left_in old.offers n)) → UsesMore reference old.limits new.limits offer (left_in old.offers n)
     → HoldsMoved old.positions new.positions report report.account offer.account (left_in old.offers n) → (firm : FirmId) → TakesIn reference old new (Claim firm n)
 claim-taken reference old new n offer report seen same offers uses holds firm history kept accepted =
-    let f = claimable reference history firm n kept.orderly accepted in
+    let f = claimable reference history firm n (in_order history kept.orderly) accepted in
     let left : left_in old.offers n ≡ left_in (standing_of history) n = ap (λ (rs : List Row). left_in rs n) kept.beside.offers in
     subst (λ (lots : ℕ). IsKept reference (history ++ claimed firm n lots ∷ []) new) left
     (lots-taken reference history old new (claimed firm n (left_in old.offers n)) n (left_in old.offers n) offer report f.1 f.0 seen (claim-takes firm n (left_in old.offers n)) same offers uses holds kept f.2.there
@@ -168,7 +169,7 @@ claim-taken reference old new n offer report seen same offers uses holds firm hi
 pub refusal-taken : (reference : Tables) (old new : Totals) (n : ℕ) → SameEntries old new → new.offers ≡ changed old.offers n closed → new.limits ≡ old.limits → new.positions ≡ old.positions
     → (firm : FirmId) (why : AllocReject) → TakesIn reference old new (Refuse firm n why)
 refusal-taken reference old new n same offers limits positions firm why history kept accepted =
-    let f = refusable reference history firm n why kept.orderly accepted in
+    let f = refusable reference history firm n why (in_order history kept.orderly) accepted in
     kept-refused reference history old new firm n why (left_in (standing_of history) n) f.0 f.1 kept f.2 same offers limits positions
 
 -- ---- reversals
@@ -185,7 +186,7 @@ pub reversal-used : (reference : Tables) (totals : Totals) (n : ℕ) (offer : Of
 reversal-used reference totals n offer report seen may k d within =
     let history = may.may.history in
     let b = may.may.kept.beside in
-    let f = reversible reference history may.firm n may.may.kept.orderly may.may.accepted in
+    let f = reversible reference history may.firm n (in_order history may.may.kept.orderly) may.may.accepted in
     let row = f.0 in
     let there = f.2.there in
     let same = (seen-is reference history totals n offer report f.1 row b seen there).0 in
@@ -202,7 +203,7 @@ reversal-there reference totals n offer report seen may =
     let history = may.may.history in
     let b = may.may.kept.beside in
     let o = may.may.kept.orderly in
-    let f = reversible reference history may.firm n o may.may.accepted in
+    let f = reversible reference history may.firm n (in_order history o) may.may.accepted in
     let row = f.0 in
     let found = f.1 in
     let there = f.2.there in
@@ -227,7 +228,7 @@ pub reversal-taken : (reference : Tables) (old new : Totals) (n : ℕ) (offer : 
     → new.offers ≡ changed old.offers n reversed → UsesLess reference old.limits new.limits offer (today_in old.offers n)
     → HoldsMoved old.positions new.positions report offer.account report.account (today_in old.offers n) → (firm : FirmId) → TakesIn reference old new (Reverse firm n)
 reversal-taken reference old new n offer report seen same offers uses holds firm history kept accepted =
-    let f = reversible reference history firm n kept.orderly accepted in
+    let f = reversible reference history firm n (in_order history kept.orderly) accepted in
     let row = f.0 in
     let found = f.1 in
     let there = f.2.there in

@@ -24,11 +24,12 @@ use Rattle.gu_book.specs.declared.totals.Totals.{Totals}
 use Rattle.gu_book.specs.declared.versions.Versions.{Versions}
 use Rattle.gu_book.proofs.Accepting.{accepted-done}
 use Rattle.gu_book.proofs.Growing.{legal_push}
+use Rattle.gu_book.proofs.InOrder.{in_order}
 use Rattle.gu_book.proofs.Quiet.{kept-denied}
 use Rattle.gu_book.proofs.StillShown.{shown-accepted}
 
 -- nothing is orderly
-nothing-orderly : IsOrderly []
+pub nothing-orderly : IsOrderly []
 nothing-orderly = record {
   balanced = record { all = λ n. omega arith; today = λ n. omega arith; within = λ n. omega arith };
   named = record { takes = λ n beyond. refl; today = λ n beyond. refl; closed = λ n beyond. refl };
@@ -111,7 +112,7 @@ legal-accepted reference history old new before after command reply kept room is
     let it = is-accepted reference history command reply room is accepted in
     let grown : IsKept reference (history ++ Asked command reply ∷ []) new =
     subst (λ (r : Reply). IsKept reference (history ++ Asked command r ∷ []) new) (sym (is ∙ it.accepted)) (takes history kept.kept it) in
-    let rows = shown-accepted reference history command kept.kept.orderly it (subst (IsShown reference) kept.kept.beside.offers kept.shown) in
+    let rows = shown-accepted reference history command (in_order history kept.kept.orderly) it (subst (IsShown reference) kept.kept.beside.offers kept.shown) in
     record {
       legal = legal_push reference history (Asked command reply) kept.legal room is;
       kept = grown;

@@ -1,5 +1,5 @@
 -- As many lots are held long as short once both sides of a trade are.
-use Rattle.std.proofs.Common.{◌≡◌, ℕ, ◌+◌, Bool, ◌&&◌, ◌==◌, not, true, false, List, [], ◌∷◌, Option, None, Some, IfSome, subst, refl, sym, ap, ◌∙◌, arith, if◌then◌else◌}
+use Rattle.std.proofs.Common.{◌≡◌, ℕ, ◌+◌, Bool, ◌==◌, not, true, false, List, [], ◌∷◌, Option, None, Some, IfSome, subst, refl, arith}
 use Rattle.std.specs.Ordering.{int_eq}
 use Rattle.std.proofs.lemmas.Bool.Decides.{Decides-eqb}
 use Rattle.gu_terms.specs.Same.{same_day, same_side, same_symbol}
@@ -15,7 +15,7 @@ use Rattle.gu_trades.specs.Matching.{conflicts, is_other_side}
 use Rattle.gu_book.specs.Effects.{IsEven}
 
 -- lots of both sides of one instrument count as many on either
-sides-even : (one other : Side) (symbol on : Symbol) (lots : ℕ) → same_side one other ≡ false
+pub sides-even : (one other : Side) (symbol on : Symbol) (lots : ℕ) → same_side one other ≡ false
     → lots_at_side one symbol lots Buy on + lots_at_side other symbol lots Buy on ≡ lots_at_side one symbol lots Sell on + lots_at_side other symbol lots Sell on
 sides-even Buy Buy symbol on lots apart = cc
 sides-even Buy Sell symbol on lots apart = omega arith
@@ -23,7 +23,7 @@ sides-even Sell Buy symbol on lots apart = omega arith
 sides-even Sell Sell symbol on lots apart = cc
 
 -- the other side of a report has its instrument and its lots, and another side
-other-side : (first second : Report) → is_other_side first second ≡ true → (first.symbol ≡ second.symbol) × ((first.lots ≡ second.lots) × (same_side first.side second.side ≡ false))
+pub other-side : (first second : Report) → is_other_side first second ≡ true → (first.symbol ≡ second.symbol) × ((first.lots ≡ second.lots) × (same_side first.side second.side ≡ false))
 other-side first second is =
     let a = both _ (not (same_side first.side second.side)) is in
     let b = both _ (same_day first.day second.day) a.0 in

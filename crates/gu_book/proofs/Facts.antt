@@ -17,9 +17,9 @@ use Rattle.gu_book.specs.Accepted.{IsAccepted}
 use Rattle.gu_book.specs.Answer.{done_of, room_tests, state_of, tests_of}
 use Rattle.gu_book.specs.Limits.{path_behind, room_of}
 use Rattle.gu_book.specs.Offers.{standing_of}
-use Rattle.gu_book.specs.Orderly.{IsOrderly}
 use Rattle.gu_book.specs.Positions.{report_behind}
 use Rattle.gu_book.specs.Reports.{reports_of}
+use Rattle.gu_book.proofs.InOrder.{IsInOrder}
 use Rattle.gu_book.proofs.OrderlyLemmas.{all-at}
 use Rattle.gu_book.proofs.Passing.{none_stands}
 
@@ -37,7 +37,7 @@ pub record IsThere (history : List Entry) (n : ℕ) (row : Row) (report : Report
   pub behind : report_behind (reports_of history) row ≡ Some report
   pub within : row.moved ≤ row.offer.lots
 
-pub there : (history : List Entry) (n : ℕ) → IsOrderly history → is_none (row_at (standing_of history) n) ≡ false → (row : Row) × (report : Report) × IsThere history n row report
+pub there : (history : List Entry) (n : ℕ) → IsInOrder history → is_none (row_at (standing_of history) n) ≡ false → (row : Row) × (report : Report) × IsThere history n row report
 there history n orderly some =
     let found = some-of (row_at (standing_of history) n) some in
     let row = found.0 in
@@ -78,7 +78,7 @@ pub record MayBeClaimed (reference : Tables) (history : List Entry) (n : ℕ) (r
   pub room : (k : ℕ) (d : LimitKey) → k < length (path_behind reference row.offer)
       → left_in (standing_of history) n ≤ room_of reference history row.offer.group (slice_index_or (path_behind reference row.offer) k d)
 
-pub claimable : (reference : Tables) (history : List Entry) (firm : FirmId) (n : ℕ) → IsOrderly history → IsAccepted reference history (Claim firm n)
+pub claimable : (reference : Tables) (history : List Entry) (firm : FirmId) (n : ℕ) → IsInOrder history → IsAccepted reference history (Claim firm n)
     → (row : Row) × (report : Report) × MayBeClaimed reference history n row report
 claimable reference history firm n orderly is =
     let state = state_of reference history in
@@ -108,7 +108,7 @@ claimable reference history firm n orderly is =
     )
 
 -- a refusal that is accepted
-pub refusable : (reference : Tables) (history : List Entry) (firm : FirmId) (n : ℕ) (why : AllocReject) → IsOrderly history → IsAccepted reference history (Refuse firm n why)
+pub refusable : (reference : Tables) (history : List Entry) (firm : FirmId) (n : ℕ) (why : AllocReject) → IsInOrder history → IsAccepted reference history (Refuse firm n why)
     → (row : Row) × (report : Report) × IsThere history n row report
 refusable reference history firm n why orderly is =
     let state = state_of reference history in
@@ -121,7 +121,7 @@ pub record MayBeReversed (history : List Entry) (n : ℕ) (row : Row) (report : 
   pub nothing : left_in (standing_of history) n ≡ 0
   pub some : 0 < today_in (standing_of history) n
 
-pub reversible : (reference : Tables) (history : List Entry) (firm : FirmId) (n : ℕ) → IsOrderly history → IsAccepted reference history (Reverse firm n)
+pub reversible : (reference : Tables) (history : List Entry) (firm : FirmId) (n : ℕ) → IsInOrder history → IsAccepted reference history (Reverse firm n)
     → (row : Row) × (report : Report) × MayBeReversed history n row report
 reversible reference history firm n orderly is =
     let state = state_of reference history in

@@ -83,7 +83,7 @@ module _ (counted : Row → ℕ) where
       let none : counted_at other.account symbol r ≡ 0 = rw miss refl in
       omega (arith, sum_by-cons (λ (o : Account). counted_at o.account symbol r) other accounts, none, no-more r symbol a accounts own apart.1)
 
-  one-account : (r : Row) (symbol : Symbol) (accounts : List Account) → IsDistinct (λ a b. same_account a.account b.account) accounts → is_some (account_in accounts r.account) ≡ true
+  pub one-account : (r : Row) (symbol : Symbol) (accounts : List Account) → IsDistinct (λ a b. same_account a.account b.account) accounts → is_some (account_in accounts r.account) ≡ true
       → sum_by (λ (a : Account). counted_at a.account symbol r) accounts ≡ counts r symbol
   one-account r symbol [] once there = cc
   one-account r symbol (a ∷ accounts) once there =

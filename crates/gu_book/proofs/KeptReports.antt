@@ -27,7 +27,7 @@ use Rattle.gu_book.specs.Beside.{IsKept, is_kept_give_up}
 use Rattle.gu_book.specs.Effects.{HoldsMore, lots_of_reports, made_a_trade}
 use Rattle.gu_book.specs.Limits.{limit_set_by, use_in}
 use Rattle.gu_book.specs.Offers.{gave_up, lines_by, standing_of}
-use Rattle.gu_book.specs.Orderly.{AreFound, AreOwn, IsCovered, IsOrderly, lots_traded}
+use Rattle.gu_book.specs.Orderly.{AreFound, AreOwn, IsCovered, lots_traded}
 use Rattle.gu_book.specs.Positions.{held_in, moved_into, moved_out, report_behind, traded}
 use Rattle.gu_book.specs.Reports.{Fits, open_day, opened_day, report_on, reports_of}
 use Rattle.gu_book.specs.declared.totals.GiveUpKey.{GiveUpKey}
@@ -35,6 +35,7 @@ use Rattle.gu_book.specs.declared.totals.Totals.{Totals}
 use Rattle.gu_book.proofs.Balanced.{balanced-push, named-push}
 use Rattle.gu_book.proofs.ChangedSums.{moved_out-le-traded}
 use Rattle.gu_book.proofs.Growing.{reports_of-push}
+use Rattle.gu_book.proofs.InOrder.{IsInOrder, in_order, whole}
 use Rattle.gu_book.proofs.OrderlyLemmas.{few-kept}
 use Rattle.gu_book.proofs.Quiet.{has_give_up-kept, limit_set-kept, open_day-kept}
 use Rattle.gu_book.proofs.Reported.{behind-push, held_in-reported, is_of_trade-grows, traded-matched, traded-opened}
@@ -101,9 +102,9 @@ own-push reports r none own =
     (find-append (is_by r.firm r.id) reports (r ∷ []) ∙ ap (λ (found : Option Report). option_or found (find (is_by r.firm r.id) (r ∷ []))) none ∙ rw (same_firm-own r.firm, same_id-own r.id) refl)
 
 -- an entry that takes a report in
-orderly-reported : (history : List Entry) (entry : Entry) (r : Report) → IsOrderly history → report_on (open_day history) entry ≡ Some r → opened_day entry ≡ None → lines_by entry ≡ [] → IsIdle entry
-    → Fits (reports_of history) r → reports_of (history ++ entry ∷ []) ≡ reports_of history ++ r ∷ [] → standing_of (history ++ entry ∷ []) ≡ standing_of history → IsOrderly (history ++ entry ∷ [])
-orderly-reported history entry r o reports opens nothing idle fits taken rows =
+pub ordered-reported : (history : List Entry) (entry : Entry) (r : Report) → IsInOrder history → opened_day entry ≡ None → IsIdle entry
+    → Fits (reports_of history) r → reports_of (history ++ entry ∷ []) ≡ reports_of history ++ r ∷ [] → standing_of (history ++ entry ∷ []) ≡ standing_of history → IsInOrder (history ++ entry ∷ [])
+ordered-reported history entry r o opens idle fits taken rows =
     let none = not_found (reports_of history) r fits.new_id in
     record {
       balanced = balanced-push history entry opens o.balanced (λ n. omega (arith, idle.gives n));
@@ -112,7 +113,6 @@ orderly-reported history entry r o reports opens nothing idle fits taken rows =
       found = rw (taken, rows) (found-push (reports_of history) (standing_of history) r o.found);
       within = rw rows o.within;
       own = rw taken (own-push (reports_of history) r none o.own);
-      few = few-kept history entry nothing o.few;
     }
 
 -- what is held more once it is taken in: its own lots and those of the one that waited for it, or nothing
@@ -153,7 +153,7 @@ kept-reported reference history entry old new r kept reports opens nothing idle 
     let rows = standing_of-idle history entry opens nothing o.balanced idle in
     let taken : reports_of (history ++ entry ∷ []) ≡ reports_of history ++ r ∷ [] = reports_of-push history entry ∙ ap (λ (q : Option Report). reports_of history ++ option_to_list q) reports in
     record {
-      orderly = orderly-reported history entry r o reports opens nothing idle fits taken rows;
+      orderly = whole (history ++ entry ∷ []) (ordered-reported history entry r (in_order history o) opens idle fits taken rows) (few-kept history entry nothing o.few);
       beside = record {
         today = today ∙ b.today ∙ sym (open_day-kept history entry opens);
         reports = trades ∙ ap (λ (rs : List Report). rs ++ r ∷ []) b.reports ∙ sym taken;

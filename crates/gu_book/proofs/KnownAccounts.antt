@@ -58,7 +58,7 @@ all-found {X} P test (first ∷ xs) x all is =
     ]
 
 -- and of those that pass a test
-all-passing : {X : Type 0} (P : X → Type 0) (test : X → Bool) (xs : List X) → AllByRecursion P xs → AllByRecursion P (filter test xs)
+pub all-passing : {X : Type 0} (P : X → Type 0) (test : X → Bool) (xs : List X) → AllByRecursion P xs → AllByRecursion P (filter test xs)
 all-passing P test [] all = tt
 all-passing {X} P test (x ∷ xs) all = by (test x) (all-passing P test xs all.1)
   where

@@ -34,6 +34,7 @@ use Rattle.gu_book.specs.Positions.{report_behind}
 use Rattle.gu_book.specs.declared.totals.Totals.{Totals}
 use Rattle.gu_book.proofs.Accepting.{IsSeen, key_at, lots-taken, seen-is, taken-there}
 use Rattle.gu_book.proofs.Facts.{IsThere, open-left, left-is, there}
+use Rattle.gu_book.proofs.InOrder.{IsInOrder, in_order}
 use Rattle.gu_book.proofs.KeptReports.{all-push}
 use Rattle.gu_book.proofs.KnownAccounts.{all-found, known-moved, rows-known, seen-row}
 use Rattle.gu_book.proofs.OrderlyLemmas.{all-at}
@@ -64,21 +65,28 @@ given-seen totals n offer report is = by (row_at totals.offers n) refl is
               found = ap (λ (q : Report). Some q) reports ∙ sym f ∙ (λ i. report_by totals.trades (sym offers i).firm (sym offers i).report);
             }
 
--- an open offer of an orderly history is found
+-- an open offer of a history in order is there
+pub open-there : (history : List Entry) (n : ℕ) → IsInOrder history → 0 < left_in (standing_of history) n
+    → (row : Row) × (report : Report) × IsThere history n row report × (row.is_shut ≡ false) × (row.moved + left_in (standing_of history) n ≤ row.offer.lots)
+open-there history n o some =
+    let found = there history n o (is_there (row_at (standing_of history) n) some) in
+    let row = found.0 in
+    let it = found.2 in
+    let left = left_in (standing_of history) n in
+    let opens = open-left row left it.within (left-is (standing_of history) n row it.at) (apart left 0 (λ none. absurd (omega (arith, some, none)))) in
+    (row, found.1, it, opens.0, opens.1)
+  where
+    is_there : (found : Option Row) → 0 < option_map_or left_of found 0 → is_none found ≡ false
+    is_there None h = absurd (omega (arith, h))
+    is_there (Some row) h = refl
+
+-- and found by what is kept
 pub found-there : (reference : Tables) (history : List Entry) (totals : Totals) (n : ℕ) → IsKept reference history totals → 0 < left_in totals.offers n
     → (row : Row) × (report : Report) × IsThere history n row report × (row.is_shut ≡ false) × (row.moved + left_in totals.offers n ≤ row.offer.lots)
 found-there reference history totals n kept open_ =
     let same = ap (λ (rs : List Row). left_in rs n) kept.beside.offers in
-    let found = there history n kept.orderly (some (row_at (standing_of history) n) (omega (arith, open_, same))) in
-    let row = found.0 in
-    let it = found.2 in
-    let is : left_in totals.offers n ≡ left_of row = same ∙ left-is (standing_of history) n row it.at in
-    let opens = open-left row (left_in totals.offers n) it.within is (apart (left_in totals.offers n) 0 (λ none. absurd (omega (arith, open_, none)))) in
-    (row, found.1, it, opens.0, opens.1)
-  where
-    some : (found : Option Row) → 0 < option_map_or left_of found 0 → is_none found ≡ false
-    some None h = absurd (omega (arith, h))
-    some (Some row) h = refl
+    let it = open-there history n (in_order history kept.orderly) (omega (arith, open_, same)) in
+    (it.0, it.1, it.2, it.3, omega (arith, it.4, same))
 
 -- ---- rows that are made
 
@@ -224,7 +232,7 @@ moves-one reference old new one_take offer report is may same offers uses holds 
 -- ---- one take after another
 
 -- a take of another offer leaves an offer as it is
-row_at-other : (rows : List Row) (n m : ℕ) (change : Row → Row) → m ≢ n → row_at (changed rows n change) m ≡ row_at rows m
+pub row_at-other : (rows : List Row) (n m : ℕ) (change : Row → Row) → m ≢ n → row_at (changed rows n change) m ≡ row_at rows m
 row_at-other rows zero m change differ = refl
 row_at-other rows (suc place) zero change differ = refl
 row_at-other rows (suc place) (suc other) change differ = by (slice_get rows place) refl

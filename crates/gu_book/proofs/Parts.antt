@@ -25,10 +25,11 @@ use Rattle.gu_book.specs.Beside.{IsBeside, IsKept}
 use Rattle.gu_book.specs.Limits.{limit_set, use_in}
 use Rattle.gu_book.specs.Moving.{part, parts}
 use Rattle.gu_book.specs.Offers.{given_back_by, has_give_up, is_shut, moved_of, offers_of, standing_from, standing_of, taken_by}
-use Rattle.gu_book.specs.Orderly.{AreFound, AreOwn, AreWithin, IsCovered, IsOrderly}
+use Rattle.gu_book.specs.Orderly.{AreFound, AreOwn, AreWithin, IsCovered}
 use Rattle.gu_book.specs.Positions.{held_in}
 use Rattle.gu_book.specs.Reports.{entries_today, open_day, reports_of}
 use Rattle.gu_book.specs.declared.totals.Totals.{Totals}
+use Rattle.gu_book.proofs.InOrder.{IsInOrder, in_order, whole}
 use Rattle.gu_book.proofs.OrderlyLemmas.{reports_of-kept}
 use Rattle.gu_book.proofs.Quiet.{has_give_up-kept, limit_set-kept, open_day-kept}
 use Rattle.gu_book.proofs.StandingLemmas.{either-false, is_shut-push, offers_of-push}
@@ -175,7 +176,7 @@ pub record ComeToSame (one two : List Entry) : Type 0 where
   pub taken_today : (n : ℕ) → sum_by (taken_by n) (entries_today one) ≡ sum_by (taken_by n) (entries_today two)
 
 -- the takes of a sweep and the sweep do
-parts-same : (history : List Entry) (sweep : SweepEntry) → IsAscending sweep.takes → ComeToSame (history ++ parts sweep sweep.takes) (history ++ Swept sweep ∷ [])
+pub parts-same : (history : List Entry) (sweep : SweepEntry) → IsAscending sweep.takes → ComeToSame (history ++ parts sweep sweep.takes) (history ++ Swept sweep ∷ [])
 parts-same history sweep ascending =
     let later = Later-from_AllPairs (λ (a b : Take). a.offer < b.offer) sweep.takes ascending in
     let swept = alike-push history (Swept sweep) (sweep-takes sweep) in
@@ -222,9 +223,9 @@ module _ (one two : List Entry) (same : ComeToSame one two) where
   count : length (offers_of two) ≡ length (offers_of one)
   count = ap {A = List Offer} length (sym same.alike.offers)
 
-  -- and what is orderly is
-  orderly-same : IsOrderly one → length (offers_of two) ≤ 16 * length two → IsOrderly two
-  orderly-same o few =
+  -- and what is in order is
+  pub ordered-same : IsInOrder one → IsInOrder two
+  ordered-same o =
       let reports = same.alike.reports in
       let rows = standing_of-same in
       record {
@@ -242,7 +243,6 @@ module _ (one two : List Entry) (same : ComeToSame one two) where
         found = subst (λ (rs : List Row). AreFound (reports_of two) rs) rows (subst (λ (qs : List Report). AreFound qs (standing_of one)) reports o.found);
         within = subst AreWithin rows o.within;
         own = subst AreOwn reports o.own;
-        few = few;
       }
 
   -- what is kept beside the one is kept beside the other
@@ -273,7 +273,8 @@ kept-whole reference history sweep totals ascending few sums kept =
     let offers : length (offers_of (history ++ Swept sweep ∷ [])) ≡ length (offers_of history) =
     ap {A = List Offer} length (alike-push history (Swept sweep) (sweep-takes sweep)).offers in
     record {
-      orderly = orderly-same (history ++ parts sweep sweep.takes) (history ++ Swept sweep ∷ []) same kept.orderly (omega (arith, few, longer, offers));
+      orderly = whole (history ++ Swept sweep ∷ [])
+          (ordered-same (history ++ parts sweep sweep.takes) (history ++ Swept sweep ∷ []) same (in_order (history ++ parts sweep sweep.takes) kept.orderly)) (omega (arith, few, longer, offers));
       beside = beside-same (history ++ parts sweep sweep.takes) (history ++ Swept sweep ∷ []) same reference totals kept.beside
           (λ side symbol. omega (arith, sums side symbol, longer));
     }

@@ -105,7 +105,7 @@ denied-quiet history (Refuse firm offer reason) why = record { opens = refl; rep
 denied-quiet history (Reverse firm offer) why = record { opens = refl; reports = unreported (Asked (Reverse firm offer) (Denied why)) (λ d. refl) (open_day history); gives_up = λ f i. refl; sets = λ g k. refl }
 
 -- which makes no offers
-denied-lines : (command : Command) (why : Refusal) → lines_by (Asked command (Denied why)) ≡ []
+pub denied-lines : (command : Command) (why : Refusal) → lines_by (Asked command (Denied why)) ≡ []
 denied-lines (OpenDay day) why = refl
 denied-lines (SetLimit group key lots) why = refl
 denied-lines (ReportSide firm id match_id symbol lots price day side account) why = refl

@@ -26,8 +26,8 @@ use Rattle.gu_book.specs.Accepted.{IsAccepted, accepted_entry}
 use Rattle.gu_book.specs.Answer.{done_of, given_up, lacks_agreement, lines_tests, state_of, tests_of}
 use Rattle.gu_book.specs.Beside.{IsShown}
 use Rattle.gu_book.specs.Offers.{standing_of}
-use Rattle.gu_book.specs.Orderly.{IsOrderly}
 use Rattle.gu_book.proofs.Facts.{claimable, refusable, reversible, some-of, today-is}
+use Rattle.gu_book.proofs.InOrder.{IsInOrder}
 use Rattle.gu_book.proofs.KeptDays.{giving_up, opening, setting}
 use Rattle.gu_book.proofs.KnownAccounts.{some-not-none}
 use Rattle.gu_book.proofs.Passing.{none_stands}
@@ -38,7 +38,7 @@ use Rattle.gu_book.proofs.TakenIn.{names-are, report-is}
 use Rattle.gu_book.proofs.Takers.{claim-takes, claimed, takes-others, takes-own}
 
 -- a give-up
-module _ (reference : Tables) (history : List Entry) (firm : FirmId) (id own : Id) (lines : List Line) (orderly : IsOrderly history) (is : IsAccepted reference history (GiveUp firm id own lines))
+module _ (reference : Tables) (history : List Entry) (firm : FirmId) (id own : Id) (lines : List Line) (orderly : IsInOrder history) (is : IsAccepted reference history (GiveUp firm id own lines))
     (shown : IsShown reference (standing_of history)) where
   behind-lines : (report : Report) (group : Group) → given_up reference (state_of reference history) firm own ≡ Some (report, group)
       → IsShown reference (standing_of (history ++ accepted_entry reference history (GiveUp firm id own lines) ∷ []))
@@ -73,7 +73,7 @@ module _ (reference : Tables) (history : List Entry) (firm : FirmId) (id own : I
       behind-lines found.0.0 found.0.1 found.1
 
 -- any accepted command
-pub shown-accepted : (reference : Tables) (history : List Entry) (command : Command) → IsOrderly history → IsAccepted reference history command → IsShown reference (standing_of history)
+pub shown-accepted : (reference : Tables) (history : List Entry) (command : Command) → IsInOrder history → IsAccepted reference history command → IsShown reference (standing_of history)
     → IsShown reference (standing_of (history ++ accepted_entry reference history command ∷ []))
 shown-accepted reference history (OpenDay day) orderly is shown =
     subst (IsShown reference) (sym (standing_of-opened history (opening day) day refl refl (record { takes = λ n. refl; gives = λ n. refl; closed = λ n. refl }) orderly.balanced))

@@ -147,7 +147,7 @@ among (o ∷ offers) = (
 )
 
 -- so is each of a sweep
-all-left : (reference : Tables) (history : List Entry) (sweep : SweepEntry) → IsSweepOf (group_view reference history sweep.group) sweep
+pub all-left : (reference : Tables) (history : List Entry) (sweep : SweepEntry) → IsSweepOf (group_view reference history sweep.group) sweep
     → AllByRecursion (TakesLeft reference (standing_of history) sweep.group (offers_shown reference history sweep.group)) sweep.takes
 all-left reference history sweep right =
     let rows = standing_of history in

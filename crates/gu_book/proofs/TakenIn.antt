@@ -73,7 +73,7 @@ module _
   made = report_of firm id match_id symbol lots price day side account
 
   -- one that is accepted fits those before it
-  fits-in : (history : List Entry) → open_day history ≡ Some day → IsAccepted reference history (ReportSide firm id match_id symbol lots price given side account) → Fits (reports_of history) made
+  pub fits-in : (history : List Entry) → open_day history ≡ Some day → IsAccepted reference history (ReportSide firm id match_id symbol lots price given side account) → Fits (reports_of history) made
   fits-in history opened is =
       let state = state_of reference history in
       let command = ReportSide firm id match_id symbol lots price given side account in
@@ -122,7 +122,7 @@ names-are reports firm own report found =
     let parts = both _ _ (find-passes (is_by firm own) reports report found) in
     (same_firm-true report.firm firm parts.0, same_id-true report.id own parts.1)
 
-not_not : (b : Bool) → not b ≡ false → b ≡ true
+pub not_not : (b : Bool) → not b ≡ false → b ≡ true
 not_not true e = refl
 not_not false e = cc
 

@@ -6,6 +6,7 @@ pub mod Counted
 pub mod Current
 pub mod Effects
 pub mod Kept
+pub mod Laws
 pub mod Legal
 pub mod Limits
 pub mod Moving

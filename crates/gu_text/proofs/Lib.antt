@@ -8,9 +8,14 @@ mod OneMeaning
 mod Places
 mod ReadBackLemmas
 mod ReadLemmas
+pub mod RightLines
 mod ScriptLemmas
+pub mod SheetAgain
 mod SheetBack
 mod SheetLemmas
 mod Splits
 mod TakesLemmas
+pub mod ViewsAgain
 mod WordLemmas
+pub mod Writable
+pub mod WrittenTakes

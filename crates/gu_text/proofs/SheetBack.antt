@@ -22,7 +22,7 @@ use Rattle.gu_text.proofs.ReadBackLemmas.{lines_of_rows}
 use Rattle.gu_text.proofs.ReadLemmas.{cut_key_back, cut_offer_back, end_back, head_back, offer_back, room_back, take_back}
 
 -- each row is a line that says what stands at its place
-abbrev Matches : List (List (List ℕ)) → List SheetLine → Type 0
+abbrev pub Matches : List (List (List ℕ)) → List SheetLine → Type 0
 Matches [] [] = Unit {0}
 Matches (words ∷ rows) (said ∷ others) = IsLineOf words said × Matches rows others
 Matches rows said = ⊥
@@ -31,18 +31,18 @@ matches_map : {X : Type 0} (f : X → List (List ℕ)) (g : X → SheetLine) (xs
 matches_map f g [] each = tt
 matches_map f g (x ∷ xs) each = (each.0, matches_map f g xs each.1)
 
-matches_append : (rows : List (List (List ℕ))) (said : List SheetLine) (more : List (List (List ℕ))) (others : List SheetLine) → Matches rows said → Matches more others → Matches (rows ++ more) (said ++ others)
+pub matches_append : (rows : List (List (List ℕ))) (said : List SheetLine) (more : List (List (List ℕ))) (others : List SheetLine) → Matches rows said → Matches more others → Matches (rows ++ more) (said ++ others)
 matches_append [] [] more others h k = k
 matches_append [] (s ∷ said) more others h k = absurd h
 matches_append (words ∷ rows) [] more others h k = absurd h
 matches_append (words ∷ rows) (s ∷ said) more others h k = (h.0, matches_append rows said more others h.1 k)
 
-rows_are : (rows : List (List (List ℕ))) (said : List SheetLine) → Matches rows said → AllByRecursion AreWords rows
+pub rows_are : (rows : List (List (List ℕ))) (said : List SheetLine) → Matches rows said → AllByRecursion AreWords rows
 rows_are [] said h = tt
 rows_are (words ∷ rows) [] h = absurd h
 rows_are (words ∷ rows) (s ∷ said) h = (h.0.are, rows_are rows said h.1)
 
-said_rows : (rows : List (List (List ℕ))) (said : List SheetLine) → Matches rows said → said_in (map joined rows) ≡ said
+pub said_rows : (rows : List (List (List ℕ))) (said : List SheetLine) → Matches rows said → said_in (map joined rows) ≡ said
 said_rows [] [] h = refl
 said_rows [] (s ∷ said) h = absurd h
 said_rows (words ∷ rows) [] h = absurd h
@@ -87,7 +87,7 @@ seven_match r0 r1 r2 r3 r4 r5 r6 s0 s1 s2 s3 s4 s5 s6 e0 e1 e2 e3 e4 e5 e6 =
     matches_append (r0 ++ r1 ++ r2 ++ r3 ++ r4 ++ r5) (s0 ++ s1 ++ s2 ++ s3 ++ s4 ++ s5) r6 s6 (matches_append (r0 ++ r1 ++ r2 ++ r3 ++ r4) (s0 ++ s1 ++ s2 ++ s3 ++ s4) r5 s5 (matches_append (r0 ++ r1 ++ r2 ++ r3) (s0 ++ s1 ++ s2 ++ s3) r4 s4 (matches_append (r0 ++ r1 ++ r2) (s0 ++ s1 ++ s2) r3 s3 (matches_append (r0 ++ r1) (s0 ++ s1) r2 s2 (matches_append r0 s0 r1 s1 e0 e1) e2) e3) e4) e5) e6
 
 -- the rows of a sheet
-abbrev rows_of : GroupView → List Take → CutLists → List (List (List ℕ))
+abbrev pub rows_of : GroupView → List Take → CutLists → List (List (List ℕ))
 rows_of view takes cut =
     head_words view ∷ []
     ++ map offer_words view.offers
@@ -97,7 +97,7 @@ rows_of view takes cut =
     ++ map (λ o. cut_offer_words o.number) (filter (λ o. has_number cut.offers o.number) view.offers)
     ++ (codes "END" ∷ []) ∷ []
 
-text_of_rows : (view : GroupView) (takes : List Take) (cut : CutLists) → sheet_text view takes cut ≡ flat_map line_of (rows_of view takes cut)
+pub text_of_rows : (view : GroupView) (takes : List Take) (cut : CutLists) → sheet_text view takes cut ≡ flat_map line_of (rows_of view takes cut)
 text_of_rows view takes cut =
     let held_keys = filter (λ (r : Room). has_key cut.keys r.key) view.rooms in
     let held_offers = filter (λ (o : Offer). has_number cut.offers o.number) view.offers in
@@ -113,7 +113,7 @@ text_of_rows view takes cut =
     (rows_filtered (λ (o : Offer). has_number cut.offers o.number) (λ (o : Offer). cut_offer_words o.number) view.offers)
     (sym (append-nil (line_of (codes "END" ∷ []))))
 
-rows_match : (view : GroupView) (takes : List Take) (cut : CutLists) → IsWritable view takes → Matches (rows_of view takes cut) (said_of view takes cut)
+pub rows_match : (view : GroupView) (takes : List Take) (cut : CutLists) → IsWritable view takes → Matches (rows_of view takes cut) (said_of view takes cut)
 rows_match view takes cut writable =
     let offers = matches_map offer_words line.Offer view.offers (recursion_from_All (λ (o : Offer). IsLineOf (offer_words o) (line.Offer o)) view.offers
     (λ k d k_in. offer_back (get_or view.offers k d) (writable.paths k d k_in) (writable.names k d k_in) (writable.numbers k d k_in) (writable.lots k d k_in))) in

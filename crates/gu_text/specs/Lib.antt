@@ -14,3 +14,4 @@ pub mod Sheets
 pub mod Texts
 pub mod Verdicts
 pub mod Words
+pub mod WrittenSheets

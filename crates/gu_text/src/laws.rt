@@ -1,12 +1,22 @@
 //! Laws of scripts, and of what is written.
 
-ghost use Rattle.std.specs.Prelude.{◌≡◌, ℕ, List, All};
+ghost use Rattle.std.specs.Prelude.{◌≡◌, ◌<◌, ◌^◌, ℕ, List, All, IsTrue};
 ghost use Rattle.gu_text.specs.ReadBack.{AreWords, HasLines, IsReadAsWritten, IsReadBack, IsWritable};
-ghost use Rattle.gu_terms.specs.Cuts.{CutLists};
+ghost use Rattle.gu_terms.specs.Cuts.{CutLists, has_number};
+ghost use Rattle.gu_terms.specs.LimitKeys.{has_key};
+ghost use Rattle.gu_terms.specs.Takes.{lots_of};
+ghost use Rattle.gu_terms.specs.declared.limit_key.LimitKey.{LimitKey as KeyOf};
 ghost use Rattle.gu_terms.specs.declared.takes.Take.{Take};
 ghost use Rattle.gu_text.specs.Scripts.{Says};
+ghost use Rattle.gu_text.specs.SheetText.{sheet_text};
+ghost use Rattle.gu_text.specs.Sheets.{IsSheet, Refuses};
+ghost use Rattle.gu_text.specs.WrittenSheets.{IsNamed, cut_of, sheet_of, takes_of};
+ghost use Rattle.gu_text.specs.declared.error.TextError.{TextError as ErrorOf};
+ghost use Rattle.gu_text.specs.declared.error.TextError.TheVariants.{Memory};
 ghost use Rattle.gu_text.specs.declared.script_line.Line.{Line as LineOf};
-ghost use Rattle.gu_view.specs.View.{GroupView};
+ghost use Rattle.gu_text.specs.declared.sheet.Sheet.{Sheet as SheetOf};
+ghost use Rattle.gu_view.specs.Check.{IsRight, has_offer, has_room};
+ghost use Rattle.gu_view.specs.View.{GroupView, IsNested, IsView};
 
 /// A line of a script says one thing at most.
 pub fn a_line_says_one_thing()
@@ -22,4 +32,37 @@ pub fn written_words_are_read_back()
 /// The lines of a sheet that is written say what it was made of: its head, offers, rooms, takes and cut, and the end.
 pub fn a_written_sheet_says_what_it_is()
     ensures { (view : GroupView) (takes : List Take) (cut : CutLists) → IsWritable view takes → IsReadAsWritten view takes cut }
+{}
+
+/// A text is one sheet at most, and one that is a sheet is refused for want of memory alone.
+pub fn a_text_is_one_sheet()
+    ensures one { (text : List ℕ) (a b : SheetOf) → IsSheet text a → IsSheet text b → a ≡ b }
+    ensures accepted { (text : List ℕ) (sheet : SheetOf) (error : ErrorOf) → IsSheet text sheet → Refuses text error → error ≡ Memory }
+{}
+
+/// A sheet that is written is read as one: of the view, a take of each of its offers, and the cut in its order. Takes and a cut that name
+/// only the view's own are told as they are.
+pub fn a_written_sheet_is_read_back()
+    ensures sheet { (view : GroupView) (takes : List Take) (cut : CutLists) → IsView view → IsWritable view takes
+        → IsSheet (sheet_text view takes cut) (sheet_of view takes cut) }
+    ensures lots { (view : GroupView) (takes : List Take) (number : ℕ)
+        → All (λ t. IsTrue (has_offer view.offers t.offer)) takes
+        → lots_of (takes_of view takes) number ≡ lots_of takes number }
+    ensures keys { (view : GroupView) (cut : CutLists) (key : KeyOf)
+        → All (λ k. IsTrue (has_room view.rooms k)) cut.keys
+        → has_key (cut_of view cut).keys key ≡ has_key cut.keys key }
+    ensures numbers { (view : GroupView) (cut : CutLists) (number : ℕ)
+        → All (λ n. IsTrue (has_offer view.offers n)) cut.offers
+        → has_number (cut_of view cut).offers number ≡ has_number cut.offers number }
+    ensures right { (view : GroupView) (takes : List Take) (cut : CutLists) (lots : ℕ)
+        → IsRight view takes cut lots → IsRight view (takes_of view takes) (cut_of view cut) lots }
+
+    // What is right can be written so: its version apart, by what the types of names and of numbers keep.
+    ensures writable { (view : GroupView) (takes : List Take) (cut : CutLists) (lots : ℕ)
+        → IsView view
+        → IsNested view
+        → IsNamed view
+        → view.version < 10 ^ 12
+        → IsRight view takes cut lots
+        → IsWritable view takes }
 {}

@@ -22,7 +22,8 @@ mod words;
 
 pub use error::TextError;
 pub use laws::{
-    a_line_says_one_thing, a_written_sheet_says_what_it_is, written_words_are_read_back,
+    a_line_says_one_thing, a_text_is_one_sheet, a_written_sheet_is_read_back,
+    a_written_sheet_says_what_it_is, written_words_are_read_back,
 };
 pub use line_feed::{is_too_long, split_at_line_feed};
 pub use lines::without_return;
