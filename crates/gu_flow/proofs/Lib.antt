@@ -16,5 +16,5 @@ pub mod RoomPlaces
 pub mod ArcLists
 pub mod ShareLemmas
 pub mod CutMembers
-pub mod WayLayers
+pub mod OfferWays
 pub mod Certifying
