@@ -1,10 +1,10 @@
 -- Ways are augmented one after another.
-use Rattle.std.proofs.Common.{ℕ, ◌<◌, ◌≤◌, List, length, arith, take}
+use Rattle.std.proofs.Common.{ℕ, ◌<◌, ◌≤◌, List, length, subst, arith, take, get_or-take}
 use Rattle.gu_flow.specs.declared.network.Arc.{Arc}
 use Rattle.gu_flow.specs.declared.levels.Entry.{Entry}
+use Rattle.gu_flow.specs.Ends.{residual_in, IsCurrent}
 use Rattle.gu_flow.specs.Flows.{IsFlow, value_of}
-use Rattle.gu_flow.specs.Ways.{HasRoom, IsCurrent, IsAhead, IsDescent}
-use Rattle.gu_flow.proofs.Descents.{no_descent, way_front, falling_front, front_kept}
+use Rattle.gu_flow.specs.Ways.{HasRoom, IsAhead, IsDescent}
 
 -- more flows than at the start, and the steps that are kept have room
 pub record Blocking (arcs : List Arc) (start flow : List ℕ) (entries : List Entry) (current way : List ℕ) (kept : ℕ) : Type 0 where
@@ -20,7 +20,7 @@ pub block_begins : (arcs : List Arc) (start flow : List ℕ) (entries : List Ent
 block_begins arcs start flow entries current way is more current_is = record {
   flow_is = is;
   more = more;
-  descent = no_descent arcs flow entries way;
+  descent = record { each = λ i i_in. absurd (omega arith) };
   current_is = current_is;
   ahead = λ i i_in. absurd (omega arith);
   within = omega arith;
@@ -33,9 +33,12 @@ block_goes_on arcs start old flow entries current way steps kept more is rises d
   flow_is = is;
   more = omega arith;
   descent = record {
-    is_way = way_front arcs entries way kept steps fewer d.is_way;
-    falling = falling_front arcs entries way kept steps fewer d.falling;
-    room = front_kept arcs flow way steps kept fewer room;
+    each = λ i i_in. let s = d.each i (omega arith) in record {
+      end_in = s.end_in;
+      here = s.here;
+      room = subst (λ e. 0 < residual_in arcs flow e) (get_or-take steps way i 0 (omega arith)) (room.room i i_in);
+      falls = s.falls;
+    };
   };
   current_is = current_is;
   ahead = λ i i_in. ahead i (omega arith);

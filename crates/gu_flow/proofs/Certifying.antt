@@ -249,7 +249,7 @@ module _ (view : GroupView) (sound : IsView view) (nested : IsNested view) (arcs
   unfolding sum_over
   room_is_total =
       let n = places (length arcs) in
-      let all = total_is_cut arcs view.offers way lots 0 1 each reached from_source not_to_sink flow flows_are closed in
+      let all = total_is_cut arcs view.offers way lots 0 1 each reached from_source not_to_sink flow flows_are is_flow.within closed in
       let split : sum_by (λ k. cond (leads_out reached (arc_at arcs k)) (arc_at arcs k).capacity 0) n
       ≡ sum_by (λ k. cond (cuts_key reached arcs view.rooms k) (room_at view.rooms k).lots 0) n + sum_by (λ k. cond (cuts_offers reached arcs view.rooms k) (agreement_lots view.rooms view.offers k) 0) n =
       sum_places_by (λ k. cond (leads_out reached (arc_at arcs k)) (arc_at arcs k).capacity 0)

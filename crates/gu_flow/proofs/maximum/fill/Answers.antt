@@ -2,11 +2,6 @@ use Rattle.std.proofs.Common.{arith}
 use Rattle.gu_flow.proofs.PushLemmas.{left_less}
 use Rattle.gu_flow.proofs.maximum.fill.Goals as goal
 
-pub block-requires-clause-current : goal.block-requires-clause-current
-block-requires-clause-current c =
-    let index = c.args.net.now.is_network.index in
-    rw (c.copy_from_slice.ensures.after, c.last_ends.ensures) (record { ends = index.within; here = index.at })
-
 pub searches-smaller : goal.searches-smaller
 searches-smaller c = left_less c.args.net.now.arcs.items c.searches.flow c.block.new.flow c.block.ensures.flow.within c.block.ensures.more
 
