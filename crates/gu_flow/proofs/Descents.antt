@@ -1,4 +1,4 @@
--- Ways that fall a level at each step.
+-- Ways that fall a level at each step, and are augmented one after another.
 use Rattle.std.proofs.Common.{◌≡◌, ◌≢◌, ℕ, ◌+◌, ◌-◌, ◌*◌, ◌/◌, ◌<◌, ◌≤◌, ◌==◌, cond, List, zero, suc, length, refl, sym, ◌∙◌, ap, subst, arith, inl, inr, get_or, get_or-set_other, get_or-set_same, get_or-take, take}
 use Rattle.std.proofs.Math.ListN.{set, length-set}
 use Rattle.std.proofs.lemmas.Bool.{cases_Bool, cases_eq}
@@ -7,7 +7,8 @@ use Rattle.std.proofs.lemmas.List.Sums.{sum_by-set}
 use Rattle.std.specs.List.{sum}
 use Rattle.gu_flow.specs.declared.network.Arc.{Arc}
 use Rattle.gu_flow.specs.declared.levels.Entry.{Entry}
-use Rattle.gu_flow.specs.Ends.{arc_at, is_tail, near, far, last_before, IsCurrent}
+use Rattle.gu_flow.specs.Ends.{arc_at, is_tail, near, far, residual_in, last_before, IsCurrent}
+use Rattle.gu_flow.specs.Flows.{IsFlow, value_of}
 use Rattle.gu_flow.specs.Levels.{entry_at, level_at, IsStep, IsTree}
 use Rattle.gu_flow.specs.Ways.{stand, HasRoom, TakesEachOnce, IsWhole, IsAhead, IsDown, IsDescent}
 use Rattle.gu_flow.proofs.Linking.{last_is_before, last_is_at}
@@ -174,3 +175,42 @@ module _ (arcs : List Arc) (flow : List ℕ) (entries : List Entry) (current way
               absurd (omega (arith, before i (omega arith), before (steps - 1) (omega arith), ap (level_at entries) (d.standing.descent.each i (omega arith)).here, ap (level_at entries) same, ap (level_at entries) last.here)) in
               omega (arith, get_or-set_other current' (near arcs end) (near arcs (get_or way i 0)) (last_before arcs end (near arcs end)) 0 apart, ahead_still i (omega arith));
         }
+
+-- more flows than at the start, and the steps that are kept have room
+pub record Blocking (arcs : List Arc) (start flow : List ℕ) (entries : List Entry) (current way : List ℕ) (kept : ℕ) : Type 0 where
+  pub flow_is : IsFlow arcs flow
+  pub more : value_of arcs start < value_of arcs flow
+  pub descent : IsDescent arcs flow entries way kept
+  pub current_is : IsCurrent arcs current
+  pub ahead : IsAhead arcs current way kept
+  pub within : kept ≤ length way
+
+-- the first way is brought
+pub block_begins : (arcs : List Arc) (start flow : List ℕ) (entries : List Entry) (current way : List ℕ) → IsFlow arcs flow → value_of arcs start < value_of arcs flow → IsCurrent arcs current → Blocking arcs start flow entries current way 0
+block_begins arcs start flow entries current way is more current_is = record {
+  flow_is = is;
+  more = more;
+  descent = record { each = λ i i_in. absurd (omega arith) };
+  current_is = current_is;
+  ahead = λ i i_in. absurd (omega arith);
+  within = omega arith;
+}
+
+-- one more way is brought, and the steps before the first without room are kept
+pub block_goes_on : (arcs : List Arc) (start old flow : List ℕ) (entries : List Entry) (current way : List ℕ) (steps kept : ℕ) → value_of arcs start < value_of arcs old → IsFlow arcs flow → value_of arcs old < value_of arcs flow
+    → IsDescent arcs old entries way steps → IsCurrent arcs current → IsAhead arcs current way steps → steps ≤ length way → kept ≤ steps → HasRoom arcs flow (take steps way) kept 1 → Blocking arcs start flow entries current way kept
+block_goes_on arcs start old flow entries current way steps kept more is rises d current_is ahead within fewer room = record {
+  flow_is = is;
+  more = omega arith;
+  descent = record {
+    each = λ i i_in. let s = d.each i (omega arith) in record {
+      end_in = s.end_in;
+      here = s.here;
+      room = subst (λ e. 0 < residual_in arcs flow e) (get_or-take steps way i 0 (omega arith)) (room.room i i_in);
+      falls = s.falls;
+    };
+  };
+  current_is = current_is;
+  ahead = λ i i_in. ahead i (omega arith);
+  within = omega arith;
+}

@@ -6,7 +6,6 @@ pub mod PushLemmas
 pub mod PreflowLemmas
 pub mod Augmenting
 pub mod Descents
-pub mod Blocking
 pub mod SumLemmas
 pub mod Walks
 pub mod Loads

@@ -1,5 +1,5 @@
 -- The places of keys among the rooms of a view, and the ways that go by them.
-use Rattle.std.proofs.Common.{◌≡◌, ℕ, ◌+◌, min, ◌<◌, ◌≤◌, ◌==◌, Bool, true, false, cond, List, [], ◌∷◌, suc, length, map, get_or, refl, sym, ◌∙◌, ap, subst, arith, inl, inr, add-zero, zero-add}
+use Rattle.std.proofs.Common.{◌≡◌, ℕ, ◌+◌, min, ◌<◌, ◌≤◌, ◌==◌, Bool, true, cond, List, [], ◌∷◌, suc, length, map, get_or, refl, sym, ◌∙◌, ap, subst, arith, inl, inr, add-zero, zero-add}
 use Rattle.std.specs.Prelude.{slice_get, sum_by, IfSome}
 use Rattle.std.specs.List.{AllByRecursion, list_any}
 use Rattle.std.proofs.lemmas.Bool.{cases_Bool, cases_eq, eqb-true, eq-eqb}
@@ -8,7 +8,7 @@ use Rattle.std.proofs.lemmas.List.Folds.{list_any_at}
 use Rattle.std.proofs.lemmas.List.Sums.{sum_by-le}
 use Rattle.std.proofs.lemmas.Option.{slice_get_cases, slice_get-get_or}
 use Rattle.gu_terms.proofs.KeyLemmas.{key_eq-same, key_eq-refl, key_eq-from}
-use Rattle.gu_terms.proofs.Lists.{position_or_len-within}
+use Rattle.gu_terms.proofs.Lists.{part-le, position_or_len-within}
 use Rattle.gu_terms.specs.LimitKeys.{key_eq, has_key}
 use Rattle.gu_terms.specs.declared.agreement.AgreementId.{AgreementId}
 use Rattle.gu_terms.specs.declared.limit_key.LimitKey.{LimitKey}
@@ -33,14 +33,10 @@ lots_under_places offers k places are =
     ∙ sum_by-places (λ (o : Offer). has_key o.path k) (λ (o : Offer). o.lots) (λ p. (offer_at offers p).lots) 0 offers
     (λ i d inside. ap (λ p. (offer_at offers p).lots) (zero-add i) ∙ ap (λ (o : Offer). o.lots) (get_or_default offers i no_offer d inside))
 
-part-le : (b : Bool) (n most : ℕ) → n ≤ most → cond b n 0 ≤ most
-part-le true n most h = h
-part-le false n most h = omega arith
-
 -- they fit a number of 64 bits
 pub lots_fit : (view : GroupView) → IsView view → (k : LimitKey) → lots_with view.offers k ≤ 4096000000
 lots_fit view sound k =
-    let all = sum_by-le (λ (o : Offer). cond (has_key o.path k) o.lots 0) 1000000 view.offers (λ i d inside. part-le (has_key (get_or view.offers i d).path k) (get_or view.offers i d).lots 1000000 (sound.lots i d inside).most) in
+    let all = sum_by-le (λ (o : Offer). cond (has_key o.path k) o.lots 0) 1000000 view.offers (λ i d inside. omega (arith, part-le (has_key (get_or view.offers i d).path k) (get_or view.offers i d).lots, (sound.lots i d inside).most)) in
     omega (arith, all, sound.few)
 
 -- the first place at which a list passes a test

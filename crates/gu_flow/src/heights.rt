@@ -1,6 +1,6 @@
 //! Lots pushed down from node to node: a node is as high as it is far from the sink.
 
-ghost use Rattle.std.specs.Prelude.{◌≡◌, ℕ, ◌*◌, ◌^◌, ◌<◌, ◌≤◌, OnErr, OnOk, length, slice_index, vec_len};
+ghost use Rattle.std.specs.Prelude.{◌≡◌, ℕ, ◌*◌, ◌^◌, ◌<◌, ◌≤◌, All, OnErr, OnOk, length, slice_index, vec_len};
 ghost use Rattle.gu_flow.specs.Flows.{IsFlow, IsWithin, value_of};
 ghost use Rattle.gu_flow.specs.Preflows.{IsPreflow};
 
@@ -170,14 +170,12 @@ fn discharge(
     cost
 }
 
-/// Leaves no node with too much but the source, which has as much as it can give.
+/// Gives the source as much as it can give, where no node has too much.
 fn begin(excess: &mut [u64])
-    requires { 0 < length excess.old }
+    requires some { 0 < length excess.old }
+    requires none { All (λ lots. lots ≡ 0) excess.old }
     ensures { (n : ℕ) → 0 < n → slice_index excess.new n ≡ 0 }
 {
-    for lots in excess.iter_mut() {
-        *lots = 0;
-    }
     excess[SOURCE as usize] = u64::MAX;
 }
 

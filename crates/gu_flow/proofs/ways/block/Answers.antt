@@ -1,8 +1,7 @@
 use Rattle.std.proofs.Common.{arith}
 use Rattle.std.proofs.lemmas.List.{length-take-le}
 use Rattle.gu_flow.proofs.PushLemmas.{left_less}
-use Rattle.gu_flow.proofs.Descents.{front_whole}
-use Rattle.gu_flow.proofs.Blocking.{block_begins, block_goes_on}
+use Rattle.gu_flow.proofs.Descents.{front_whole, block_begins, block_goes_on}
 use Rattle.gu_flow.proofs.ways.block.Goals as goal
 
 pub augment-requires-clause-whole : goal.augment-requires-clause-whole
