@@ -2,6 +2,7 @@
 use Rattle.std.proofs.Common.{◌≡◌, ◌≢◌, ℕ, ◌+◌, ◌<◌, ◌≤◌, ◌==◌, ◌⊎◌, ◌&&◌, not, Bool, true, false, cond, List, [], ◌∷◌, suc, length, get_or, slice_get, Some, refl, sym, ◌∙◌, ap, subst, arith, inl, inr}
 use Rattle.std.specs.Prelude.{sum_by}
 use Rattle.std.specs.List.{AllByRecursion, list_any}
+use Rattle.std.proofs.Math.Bool.{and-true, and-false}
 use Rattle.std.proofs.lemmas.Bool.{cases_eq, cases_order, or_cases, or_left, or_right, eq-eqb, ne_eqb, eqb-true, lt-ltb, and_from}
 use Rattle.std.proofs.lemmas.List.{get_or_default}
 use Rattle.std.proofs.lemmas.List.Elements.{All-from_get_or, recursion_from_All}
@@ -55,15 +56,6 @@ any_key test key (k ∷ path) on passes = elim (or_cases (key_eq k key) (has_key
   | inl here ↦ or_left (test k) (list_any test path) (ap test (key_eq-same k key here) ∙ passes)
   | inr there ↦ or_right (test k) (list_any test path) (any_key test key path there passes)
 ]
-
--- an arc that leads out counts as its key's room where it can carry it, and else as its offers' lots
-whole_room : (out same : Bool) (capacity room all : ℕ) → same ≡ true → capacity ≡ room → cond out capacity 0 ≡ cond (out && same) room 0 + cond (out && not same) all 0
-whole_room true same capacity room all hit is = rw hit (omega arith)
-whole_room false same capacity room all hit is = omega arith
-
-whole_lots : (out same : Bool) (capacity room all : ℕ) → same ≡ false → capacity ≡ all → cond out capacity 0 ≡ cond (out && same) room 0 + cond (out && not same) all 0
-whole_lots true same capacity room all miss is = rw miss (omega arith)
-whole_lots false same capacity room all miss is = omega arith
 
 module _ (view : GroupView) (sound : IsView view) (nested : IsNested view) (arcs : List Arc) (are : AreArcs view arcs) (flow : List ℕ) (is_flow : IsFlow arcs flow)
     (reached : ℕ → Bool) (from_source : reached 0 ≡ true) (not_to_sink : reached 1 ≡ false) (closed : IsClosed arcs flow reached)
@@ -220,10 +212,11 @@ module _ (view : GroupView) (sound : IsView view) (nested : IsNested view) (arcs
       let room = (room_at view.rooms k).lots in
       let all = agreement_lots view.rooms view.offers k in
       elim (cases_eq (arc_at arcs k).capacity room) [
-        | inl same ↦ whole_room (leads_out reached (arc_at arcs k)) ((arc_at arcs k).capacity == room) (arc_at arcs k).capacity room all (eq-eqb (arc_at arcs k).capacity room same) same
+        | inl same ↦ rw (eq-eqb (arc_at arcs k).capacity room same, and-true, and-false) (ap (λ n. cond (leads_out reached (arc_at arcs k)) n 0) same ∙ omega arith)
         | inr other ↦
             let s = agreement_of k k_in (inr other) in
-            whole_lots (leads_out reached (arc_at arcs k)) ((arc_at arcs k).capacity == room) (arc_at arcs k).capacity room all (ne_eqb (arc_at arcs k).capacity room other) (omega (arith, s.capacity_is, other, under_agreement (λ o. o.lots) k k_room s.agreement s.is))
+            let lots : (arc_at arcs k).capacity ≡ all = omega (arith, s.capacity_is, other, under_agreement (λ o. o.lots) k k_room s.agreement s.is) in
+            rw (ne_eqb (arc_at arcs k).capacity room other, and-true, and-false) (ap (λ n. cond (leads_out reached (arc_at arcs k)) n 0) lots ∙ omega arith)
       ]
 
   keys_room : sum_by (λ r. cond (has_key cut.keys r.key) r.lots 0) view.rooms ≡ sum_by (λ k. cond (cuts_key reached arcs view.rooms k) (room_at view.rooms k).lots 0) (places (length arcs))

@@ -1,5 +1,5 @@
 -- Lots are pushed over an end of an arc, and given back.
-use Rattle.std.proofs.Common.{◌≡◌, ◌≢◌, ℕ, ◌+◌, ◌-◌, ◌^◌, ◌<◌, ◌≤◌, ◌==◌, cond, List, length, refl, arith, sym, ◌∙◌, subst, inl, inr, get_or}
+use Rattle.std.proofs.Common.{◌≡◌, ◌≢◌, ℕ, ◌+◌, ◌-◌, ◌^◌, ◌<◌, ◌≤◌, ◌==◌, cond, List, length, refl, arith, sym, ◌∙◌, subst, inl, inr, below_more, get_or}
 use Rattle.std.proofs.lemmas.Bool.{cases_eq, eqb-true, eq-eqb, ne_eqb, cond-true}
 use Rattle.gu_terms.proofs.Lists.{sum_by-zeros}
 use Rattle.gu_flow.specs.declared.network.Arc.{Arc}
@@ -65,7 +65,4 @@ settled_flow arcs flow excess preflow settled = record {
 
 -- one more place is settled
 pub settled_more : (arcs : List Arc) (flow excess : List ℕ) (k : ℕ) → AreSettled arcs flow excess k → (1 < (arc_at arcs k).to → 0 < get_or flow k 0 → get_or excess (arc_at arcs k).to 0 ≡ 0) → AreSettled arcs flow excess (k + 1)
-settled_more arcs flow excess k before here j j_in to flows = elim (cases_eq j k) [
-  | inl same ↦ subst (λ i. 1 < (arc_at arcs i).to → 0 < get_or flow i 0 → get_or excess (arc_at arcs i).to 0 ≡ 0) (sym same) here to flows
-  | inr other ↦ before j (omega arith) to flows
-]
+settled_more arcs flow excess = below_more (λ k. 1 < (arc_at arcs k).to → 0 < get_or flow k 0 → get_or excess (arc_at arcs k).to 0 ≡ 0)

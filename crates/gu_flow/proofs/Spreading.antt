@@ -93,29 +93,25 @@ pub record Searching (arcs : List Arc) (flow : List ℕ) (entries : List Entry) 
   pub within : done ≤ count
   pub spent : (k : ℕ) → k < done → IsSpent arcs flow entries (get_or queue k 0)
 
--- a node stays spent
-spent_still : (arcs : List Arc) (flow : List ℕ) (old entries : List Entry) (before queue : List ℕ) (reached n : ℕ) → GoesOn old entries before queue reached → IsSpent arcs flow old n → IsSpent arcs flow entries n
-spent_still arcs flow old entries before queue reached n on was = record {
-  far_reached = λ e e_in at room. let r = was.far_reached e e_in at room in omega (arith, r, on.levels (far arcs e) r);
-}
-
 pub search_begins : (arcs : List Arc) (flow : List ℕ) (entries : List Entry) (queue : List ℕ) → 1 < length entries → ((n : ℕ) → 0 < n → level_at entries n ≡ 0) → level_at entries 0 ≡ 1 → get_or queue 0 0 ≡ 0 → Searching arcs flow entries queue 0 1
-search_begins arcs flow entries queue some others source at = record {
-  tree = record {
-    begun = source;
-    entered = λ n not_source reached. absurd (omega (arith, others n (omega arith)));
-    above = λ n not_source reached. absurd (omega (arith, others n (omega arith)));
-    levels = λ n. elim (cases_eq n 0) [ inl same ↦ rw (same, source) (omega arith) | inr other ↦ omega (arith, others n (omega arith)) ];
-  };
-  waits = record {
-    counted = count_one entries (omega arith) others source;
-    waits = λ n reached. elim (cases_eq n 0) [ inl same ↦ (0, (omega arith, at ∙ sym same)) | inr other ↦ absurd (omega (arith, others n (omega arith))) ];
-    reached = λ k k_in. let is : get_or queue k 0 ≡ 0 = ap (λ j. get_or queue j 0) (omega arith) ∙ at in (omega arith, subst (λ j. 0 < level_at entries j) (sym is) (omega arith));
-    low = λ n. elim (cases_eq n 0) [ inl same ↦ rw (same, source) (omega arith) | inr other ↦ omega (arith, others n (omega arith)) ];
-  };
-  within = omega arith;
-  spent = λ k none. absurd (omega arith);
-}
+search_begins arcs flow entries queue some others source at =
+    let low : (n : ℕ) → level_at entries n ≤ 1 = λ n. elim (cases_eq n 0) [ inl same ↦ rw (same, source) (omega arith) | inr other ↦ omega (arith, others n (omega arith)) ] in
+    record {
+      tree = record {
+        begun = source;
+        entered = λ n not_source reached. absurd (omega (arith, others n (omega arith)));
+        above = λ n not_source reached. absurd (omega (arith, others n (omega arith)));
+        levels = λ n. omega (arith, low n);
+      };
+      waits = record {
+        counted = count_one entries (omega arith) others source;
+        waits = λ n reached. elim (cases_eq n 0) [ inl same ↦ (0, (omega arith, at ∙ sym same)) | inr other ↦ absurd (omega (arith, others n (omega arith))) ];
+        reached = λ k k_in. let is : get_or queue k 0 ≡ 0 = ap (λ j. get_or queue j 0) (omega arith) ∙ at in (omega arith, subst (λ j. 0 < level_at entries j) (sym is) (omega arith));
+        low = low;
+      };
+      within = omega arith;
+      spent = λ k none. absurd (omega arith);
+    }
 
 -- one more node is spent
 pub search_goes_on : (arcs : List Arc) (flow : List ℕ) (old entries : List Entry) (before queue : List ℕ) (done reached count : ℕ) → Searching arcs flow old before done reached → done < reached → IsTree arcs flow entries → IsQueue entries queue count
@@ -126,7 +122,7 @@ search_goes_on arcs flow old entries before queue done reached count s more tree
   within = omega arith;
   spent = λ k k_in. subst (IsSpent arcs flow entries) (sym (on.places k (omega arith))) (elim (cases_eq k done) [
     | inl last ↦ subst (λ j. IsSpent arcs flow entries (get_or before j 0)) (sym last) now
-    | inr earlier ↦ spent_still arcs flow old entries before queue reached (get_or before k 0) on (s.spent k (omega arith))
+    | inr earlier ↦ record { far_reached = λ e e_in at room. let was = (s.spent k (omega arith)).far_reached e e_in at room in omega (arith, was, on.levels (far arcs e) was) }
   ]);
 }
 

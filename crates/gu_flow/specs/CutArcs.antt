@@ -26,7 +26,8 @@ cuts_offers reached arcs rooms place =
     leads_out reached (arc_at arcs place) && not ((arc_at arcs place).capacity == (room_at rooms place).lots)
 
 -- of so many names, these members are those that are cut and stand before a place, and each of them is known
-pub record AreCut {X : Type 0} (eq : X → X → Bool) (is_known : X → Bool) (name : ℕ → X) (cuts : ℕ → Bool) (names : ℕ) (members : List X) (before : ℕ) : Type 0 where
+pub record AreCut {X : Type 0} (eq : X → X → Bool) (is_known : X → Bool) (name : ℕ → X)
+    (cuts : ℕ → Bool) (names : ℕ) (members : List X) (before : ℕ) : Type 0 where
   pub exact : (k : ℕ) → k < names → list_any (λ x. eq x (name k)) members ≡ (nat_lt k before && cuts k)
   pub known : All (λ x. IsTrue (is_known x)) members
 

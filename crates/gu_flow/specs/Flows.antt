@@ -45,4 +45,5 @@ pub record Pushes (arcs : List Arc) (old new : List ℕ) (end lots : ℕ) : Type
 
 -- no more can be brought from the nodes that were reached to the others
 pub record IsClosed (arcs : List Arc) (flow : List ℕ) (reached : ℕ → Bool) : Type 0 where
-  pub each : (e : ℕ) → e < 2 * length arcs → reached (near arcs e) ≡ true → reached (far arcs e) ≡ false → residual_out arcs flow e ≡ 0
+  pub each : (e : ℕ) → e < 2 * length arcs → reached (near arcs e) ≡ true → reached (far arcs e) ≡ false
+      → residual_out arcs flow e ≡ 0
