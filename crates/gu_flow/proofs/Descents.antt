@@ -58,7 +58,7 @@ front_whole arcs flow entries way steps within d source =
         source = ap (stand arcs (take steps way)) (length-take-le steps way within) ∙ stand_by arcs way (take steps way) steps (λ some. get_or-take steps way (steps - 1) 0 (omega arith)) ∙ source;
         once = falling_once arcs flow entries (take steps way) (length (take steps way)) t;
       },
-      record { room = λ i i_in. (t.each i i_in).room },
+      λ i i_in. (t.each i i_in).room,
     )
 
 -- a way stands at a node
@@ -206,7 +206,7 @@ block_goes_on arcs start old flow entries current way steps kept more is rises d
     each = λ i i_in. let s = d.each i (omega arith) in record {
       end_in = s.end_in;
       here = s.here;
-      room = subst (λ e. 0 < residual_in arcs flow e) (get_or-take steps way i 0 (omega arith)) (room.room i i_in);
+      room = subst (λ e. 0 < residual_in arcs flow e) (get_or-take steps way i 0 (omega arith)) (room i i_in);
       falls = s.falls;
     };
   };

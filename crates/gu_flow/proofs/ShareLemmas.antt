@@ -1,5 +1,5 @@
 -- Shares of the offers of an agreement: oldest first, and together what flows.
-use Rattle.std.proofs.Common.{◌≡◌, ℕ, ◌+◌, ◌-◌, ◌<◌, ◌≤◌, ◌==◌, min, true, cond, List, [], ◌∷◌, ◌++◌, zero, suc, length, take, set, get_or, refl, sym, ◌∙◌, ap, subst, arith, inl, inr, length-append, get_or-set_same, get_or-set_other, length-set, add-one, Some}
+use Rattle.std.proofs.Common.{◌≡◌, ℕ, ◌+◌, ◌-◌, ◌<◌, ◌≤◌, ◌==◌, min, true, cond, List, [], ◌∷◌, ◌++◌, zero, suc, length, take, set, get_or, refl, sym, ◌∙◌, ap, subst, arith, inl, inr, length-append, length-set, add-one, Some}
 use Rattle.std.specs.Prelude.{All, unwrap_or, sum_by, IsTrue}
 use Rattle.std.specs.List.{find}
 use Rattle.std.specs.Option.{option_map}
@@ -35,13 +35,6 @@ module _ (view : GroupView) (flow : List ℕ) where
     pub shares : AreSharesBefore view flow takes i
     pub size : length rests ≡ length view.rooms
     pub left : (p : ℕ) → get_or rests p 0 ≡ get_or flow p 0 - agreement_lots view.rooms (take i view.offers) p
-
-  pub none_shared : length flow ≡ length view.rooms → IsSharing [] flow 0
-  none_shared size = record {
-    shares = record { all = refl; each = λ i inside. absurd (omega arith) };
-    size = size;
-    left = λ p. omega arith;
-  }
 
   -- one more offer takes its share
   pub one_more_share : (takes : List Take) (rests : List ℕ) (i place lots : ℕ) → i < length view.offers → IsSharing takes rests i → place ≡ agreement_place view.rooms (offer_at view.offers i) → place < length rests

@@ -25,8 +25,8 @@ pub record IsWhole (arcs : List Arc) (way : List ℕ) : Type 0 where
   pub once : TakesEachOnce way (length way)
 
 -- each step has room for so many lots
-pub record HasRoom (arcs : List Arc) (flow way : List ℕ) (steps lots : ℕ) : Type 0 where
-  pub room : (i : ℕ) → i < steps → lots ≤ residual_in arcs flow (slice_index way i)
+abbrev pub HasRoom : List Arc → List ℕ → List ℕ → ℕ → ℕ → Type 0
+HasRoom arcs flow way steps lots = (i : ℕ) → i < steps → lots ≤ residual_in arcs flow (slice_index way i)
 
 -- some step has room for exactly so many lots
 pub record IsNarrow (arcs : List Arc) (flow way : List ℕ) (steps lots : ℕ) : Type 0 where
