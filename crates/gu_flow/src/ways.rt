@@ -158,6 +158,7 @@ pub(crate) fn extend(
 /// Brings lots along ways that fall a level at each step, until the search for one ends or no more steps are left,
 /// of those that there were and that ways paid for; at least along the way on which the sink was reached.
 /// Returns how many steps are left.
+#[tactic(auto, using(crate::proofs::PushLemmas::left_less))]
 pub(crate) fn block(
     net: &Network,
     flow: &mut [u64],

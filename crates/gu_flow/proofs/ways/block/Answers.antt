@@ -1,6 +1,5 @@
 use Rattle.std.proofs.Common.{arith}
 use Rattle.std.proofs.lemmas.List.{length-take-le}
-use Rattle.gu_flow.proofs.PushLemmas.{left_less}
 use Rattle.gu_flow.proofs.Descents.{front_whole, block_begins, block_goes_on}
 use Rattle.gu_flow.proofs.ways.block.Goals as goal
 
@@ -23,9 +22,6 @@ pub clear_steps-kept-requires-clause-way : goal.clear_steps-kept-requires-clause
 clear_steps-kept-requires-clause-way c =
     let e = c.in-Some.ensures in
     (front_whole c.args.net.now.arcs.items c.ways.flow c.args.entries.now c.extend.new.way c.in-Some.steps e.within e.descent e.whole).0.is_way
-
-pub ways-smaller : goal.ways-smaller
-ways-smaller c = left_less c.args.net.now.arcs.items c.ways.flow c.augment-in-Some.new.flow c.augment-in-Some.ensures.flow.within c.augment-in-Some.ensures.more
 
 pub ways-preserved : goal.ways-preserved
 ways-preserved c =
