@@ -1,8 +1,9 @@
 -- Lists of arcs that are laid out one room after another.
-use Rattle.std.proofs.Common.{◌≡◌, ◌≢◌, ℕ, zero, suc, slice_get, ◌+◌, ◌^◌, ◌<◌, ◌≤◌, ◌==◌, ◌⊎◌, min, cond, List, [], ◌∷◌, map, length, arith, refl, inl, inr}
+use Rattle.std.proofs.Common.{◌≡◌, ◌≢◌, ℕ, zero, suc, slice_get, ◌+◌, ◌^◌, ◌<◌, ◌≤◌, ◌==◌, ◌⊎◌, min, cond, List, [], ◌∷◌, ◌++◌, map, length, arith, refl, inl, inr}
 use Rattle.std.specs.Prelude.{All}
 use Rattle.std.specs.List.{AllByRecursion}
-use Rattle.std.proofs.lemmas.Bool.{cond_both}
+use Rattle.std.proofs.lemmas.Bool.{cases_lt, cond_both}
+use Rattle.std.proofs.lemmas.List.{get_or_append_left, get_or_push, length_push}
 use Rattle.std.proofs.lemmas.List.Elements.{All-from_get_or}
 use Rattle.std.proofs.lemmas.List.Sums.{sum_by-le}
 use Rattle.gu_view.specs.View.{GroupView, IsView, place_of}
@@ -19,6 +20,15 @@ use Rattle.gu_flow.proofs.RoomPlaces.{roomed}
 -- each arc is that of the room at its place
 pub record IsLaidOut (view : GroupView) (arcs : List Arc) : Type 0 where
   pub each : (k : ℕ) → k < length arcs → IsArcOf view k (arc_at arcs k)
+
+-- one more arc is laid out
+pub laid_more : (view : GroupView) (arcs : List Arc) (a : Arc) (place : ℕ) → IsLaidOut view arcs → length arcs ≡ place → IsArcOf view place a → IsLaidOut view (arcs ++ a ∷ [])
+laid_more view arcs a place laid long is = record {
+  each = λ k k_in. elim (cases_lt k (length arcs)) [
+    | inl before ↦ rw (get_or_append_left arcs (a ∷ []) no_arc k before) (laid.each k before)
+    | inr last ↦ let here : k ≡ place = omega (arith, length_push arcs a) in rw (here, get_or_push arcs a no_arc place long) is
+  ];
+}
 
 -- the ends of an arc are nodes
 place_within : (n : ℕ) (way : List ℕ) (i : ℕ) → AllByRecursion (λ p. p < n) way → node_or_sink (slice_get way i) < n + 2
