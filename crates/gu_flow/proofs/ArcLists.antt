@@ -1,50 +1,44 @@
 -- Lists of arcs that are laid out one room after another.
-use Rattle.std.proofs.Common.{◌≡◌, ℕ, ◌+◌, ◌^◌, ◌<◌, ◌≤◌, ◌==◌, ◌⊎◌, min, Bool, true, false, cond, List, [], ◌∷◌, map, length, sym, subst, arith, refl, inl, inr}
+use Rattle.std.proofs.Common.{◌≡◌, ◌≢◌, ℕ, zero, suc, slice_get, ◌+◌, ◌^◌, ◌<◌, ◌≤◌, ◌==◌, ◌⊎◌, min, cond, List, [], ◌∷◌, ◌++◌, map, length, arith, refl, inl, inr}
 use Rattle.std.specs.Prelude.{All}
 use Rattle.std.specs.List.{AllByRecursion}
+use Rattle.std.proofs.lemmas.Bool.{cases_lt, cond_both}
+use Rattle.std.proofs.lemmas.List.{get_or_append_left, get_or_push, length_push}
 use Rattle.std.proofs.lemmas.List.Elements.{All-from_get_or}
 use Rattle.std.proofs.lemmas.List.Sums.{sum_by-le}
-use Rattle.gu_view.proofs.MarkLemmas.{path_inside}
 use Rattle.gu_view.specs.View.{GroupView, IsView, place_of}
 use Rattle.gu_flow.specs.Ends.{no_arc, arc_at, capacities, JoinsNodes}
-use Rattle.gu_flow.specs.Layouts.{first_node, next_node, tail_on, head_on}
+use Rattle.gu_flow.specs.Layouts.{step_of, node_or_sink, node_at}
 use Rattle.gu_flow.specs.Networks.{no_room, room_at, lots_with, capacity_of, way_of, IsArcOf}
 use Rattle.gu_flow.specs.declared.network.Arc.{Arc}
 use Rattle.gu_terms.specs.declared.agreement.AgreementId.{AgreementId}
 use Rattle.gu_terms.specs.declared.limit_key.LimitKey.{LimitKey}
 use Rattle.gu_terms.specs.declared.limit_key.LimitKey.TheVariants.{Exec, Agr, Acct, Carry, Guar}
 use Rattle.gu_view.specs.declared.view.Offer.{Offer}
-use Rattle.gu_flow.proofs.WayLayers.{layer_of}
+use Rattle.gu_flow.proofs.RoomPlaces.{roomed}
 
 -- each arc is that of the room at its place
 pub record IsLaidOut (view : GroupView) (arcs : List Arc) : Type 0 where
   pub each : (k : ℕ) → k < length arcs → IsArcOf view k (arc_at arcs k)
 
-either : (n : ℕ) (b : Bool) (x y : ℕ) → x < n + 2 → y < n + 2 → cond b x y < n + 2
-either n true x y one other = one
-either n false x y one other = other
+-- one more arc is laid out
+pub laid_more : (view : GroupView) (arcs : List Arc) (a : Arc) (place : ℕ) → IsLaidOut view arcs → length arcs ≡ place → IsArcOf view place a → IsLaidOut view (arcs ++ a ∷ [])
+laid_more view arcs a place laid long is = record {
+  each = λ k k_in. elim (cases_lt k (length arcs)) [
+    | inl before ↦ rw (get_or_append_left arcs (a ∷ []) no_arc k before) (laid.each k before)
+    | inr last ↦ let here : k ≡ place = omega (arith, length_push arcs a) in rw (here, get_or_push arcs a no_arc place long) is
+  ];
+}
 
 -- the ends of an arc are nodes
-first_within : (n : ℕ) (way : List ℕ) → AllByRecursion (λ p. p < n) way → first_node way < n + 2
-first_within n [] each = omega arith
-first_within n (p ∷ way) each = omega (arith, each.0)
+place_within : (n : ℕ) (way : List ℕ) (i : ℕ) → AllByRecursion (λ p. p < n) way → node_or_sink (slice_get way i) < n + 2
+place_within n [] i each = omega arith
+place_within n (p ∷ way) zero each = omega (arith, each.0)
+place_within n (p ∷ way) (suc i) each = place_within n way i each.1
 
-next_within : (n place : ℕ) (way : List ℕ) → AllByRecursion (λ p. p < n) way → next_node way place < n + 2
-next_within n place [] each = omega arith
-next_within n place (p ∷ way) each = either n (p == place) (first_node way) (next_node way place) (first_within n way each.1) (next_within n place way each.1)
-
-tail_within : (n place : ℕ) (way : List ℕ) → place < n → AllByRecursion (λ p. p < n) way → tail_on way place < n + 2
-tail_within n place [] inside each = omega arith
-tail_within n place (first ∷ []) inside each = omega arith
-tail_within n place (first ∷ second ∷ others) inside each =
-    either n (first == place) 0 (cond (second == place) (first + 2) (place + 2)) (omega arith) (either n (second == place) (first + 2) (place + 2) (omega (arith, each.0)) (omega arith))
-
-head_within : (n place : ℕ) (way : List ℕ) → AllByRecursion (λ p. p < n) way → head_on way place < n + 2
-head_within n place [] each = omega arith
-head_within n place (first ∷ []) each = omega (arith, each.0)
-head_within n place (first ∷ second ∷ others) each =
-    either n (first == place) (first + 2) (cond (second == place) (first_node others) (next_node others place)) (omega (arith, each.0))
-    (either n (second == place) (first_node others) (next_node others place) (first_within n others each.1.1) (next_within n place others each.1.1))
+node_within : (n : ℕ) (way : List ℕ) (i : ℕ) → AllByRecursion (λ p. p < n) way → node_at way i < n + 2
+node_within n way i each =
+    cond_both (i == 0) 0 (node_or_sink (slice_get way (cond (i == 1) 0 i))) (λ node. node < n + 2) (λ _. omega arith) (λ _. place_within n way (cond (i == 1) 0 i) each)
 
 -- the places of a path's keys are small where each key's is
 pub places_within : (n : ℕ) (f : LimitKey → ℕ) (path : List LimitKey) → AllByRecursion (λ k. f k < n) path → AllByRecursion (λ p. p < n) (map f path)
@@ -56,9 +50,9 @@ arcs_join view arcs sound long laid = All-from_get_or (λ a. (a.from < length vi
     let n = length view.rooms in
     let h = laid.each k k_in in
     let way = way_of view.rooms h.offer in
-    let each : AllByRecursion (λ p. p < n) way = places_within n (place_of view.rooms) h.offer.path (path_inside view sound h.known.place h.offer h.known.within h.known.is) in
-    let inside : k < n = omega arith in
-    (subst (λ m. m < n + 2) (sym h.from) (tail_within n k way inside each), subst (λ m. m < n + 2) (sym h.to) (head_within n k way each)))
+    let each = places_within n (place_of view.rooms) h.offer.path (roomed view sound h.offer h.known) in
+    let within : (i : ℕ) → node_at way i < n + 2 = λ i. node_within n way i each in
+    (rw h.from (within _), rw h.to (within _)))
 
 -- an agreement's arc can carry its room, and no more than its offers have
 pub record IsAgreement (offers : List Offer) (room capacity : ℕ) (key : LimitKey) : Type 0 where
@@ -66,8 +60,8 @@ pub record IsAgreement (offers : List Offer) (room capacity : ℕ) (key : LimitK
   pub is : key ≡ Agr agreement
   pub capacity_is : capacity ≡ min room (lots_with offers key)
 
--- and any other its room; only an agreement's is of layer 0
-pub kind_of : (offers : List Offer) (room capacity : ℕ) (key : LimitKey) → capacity ≡ capacity_of offers room key → IsAgreement offers room capacity key ⊎ ((capacity ≡ room) × (0 < layer_of key))
+-- and any other its room; only an agreement's is at the middle step
+pub kind_of : (offers : List Offer) (room capacity : ℕ) (key : LimitKey) → capacity ≡ capacity_of offers room key → IsAgreement offers room capacity key ⊎ ((capacity ≡ room) × (step_of key ≢ 1))
 kind_of offers room capacity (Agr agreement) is = inl (record { agreement = agreement; is = refl; capacity_is = is })
 kind_of offers room capacity (Exec firm) is = inr (is, omega arith)
 kind_of offers room capacity (Acct account) is = inr (is, omega arith)

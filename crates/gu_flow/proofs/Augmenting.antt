@@ -1,10 +1,10 @@
 -- Lots are brought back along a way, arc by arc.
-use Rattle.std.proofs.Common.{◌≡◌, ◌≢◌, ℕ, ◌+◌, ◌-◌, ◌/◌, ◌<◌, ◌≤◌, ◌==◌, cond, List, length, sym, ◌∙◌, ap, subst, arith, inl, inr, below_more, get_or, min}
-use Rattle.std.proofs.lemmas.Bool.{cases_eq, cases_lt, eq-eqb, ne_eqb, cond-false}
+use Rattle.std.proofs.Common.{◌≡◌, ◌≢◌, ℕ, ◌+◌, ◌-◌, ◌/◌, ◌<◌, ◌≤◌, ◌==◌, cond, List, length, sym, ◌∙◌, ap, arith, inl, inr, get_or, min}
+use Rattle.std.proofs.lemmas.Bool.{cases_eq, cases_lt, ne_eqb, cond-false}
 use Rattle.gu_flow.specs.declared.network.Arc.{Arc}
 use Rattle.gu_flow.specs.Ends.{near, far, other_end, residual_in, residual_out}
-use Rattle.gu_flow.specs.Flows.{inflow, outflow, value_of, IsFlow, IsWithin, Pushes}
-use Rattle.gu_flow.specs.Ways.{stand, IsWhole, IsNarrow, HasRoom}
+use Rattle.gu_flow.specs.Flows.{inflow, outflow, value_of, IsWithin, Pushes}
+use Rattle.gu_flow.specs.Ways.{stand, IsWhole, IsNarrow}
 use Rattle.gu_flow.proofs.EndLemmas.{other_end-arc, near-other_end, far-other_end, residual_out-other_end}
 
 -- the node at which the way stands lacks the lots, all others are balanced, and the steps ahead have room
@@ -17,14 +17,6 @@ pub record Augmenting (arcs : List Arc) (start flow way : List ℕ) (lots i : �
 pub stand-more : (arcs : List Arc) (way : List ℕ) (i : ℕ) → stand arcs way (i + 1) ≡ far arcs (get_or way i 0)
 stand-more arcs way i = cond-false (i + 1 == 0) 1 (far arcs (get_or way (i + 1 - 1) 0)) (ne_eqb (i + 1) 0 (omega arith)) ∙ ap (λ k. far arcs (get_or way k 0)) (omega arith)
 
--- one more step has room
-pub room_more : (arcs : List Arc) (flow way : List ℕ) (i lots least : ℕ) → HasRoom arcs flow way i lots → least ≤ lots → least ≤ residual_in arcs flow (get_or way i 0) → HasRoom arcs flow way (i + 1) least
-room_more arcs flow way i lots least before less here = record { room = below_more (λ j. least ≤ residual_in arcs flow (get_or way j 0)) i (λ j j_in. omega (arith, before.room j j_in)) here }
-
--- the first steps have it too
-pub room_front : (arcs : List Arc) (flow way : List ℕ) (few steps lots : ℕ) → few ≤ steps → HasRoom arcs flow way steps lots → HasRoom arcs flow way few lots
-room_front arcs flow way few steps lots fewer all = record { room = λ j j_in. all.room j (omega arith) }
-
 -- one more step, of which the least room is known
 pub narrow_more : (arcs : List Arc) (flow way : List ℕ) (i least here next : ℕ) → (0 < i → IsNarrow arcs flow way i least) → (i ≡ 0 → here ≤ least) → here ≡ residual_in arcs flow (get_or way i 0) → next ≡ min least here
     → IsNarrow arcs flow way (i + 1) next
@@ -36,17 +28,6 @@ narrow_more arcs flow way i least here next before first here_is next_is =
       ]
       | inr narrower ↦ record { step = i; within = omega arith; room = omega arith }
     ]
-
--- nothing is brought yet
-pub augment_begins : (arcs : List Arc) (flow way : List ℕ) (lots : ℕ) → IsFlow arcs flow → HasRoom arcs flow way (length way) lots → Augmenting arcs flow flow way lots 0
-augment_begins arcs flow way lots f room = record {
-  within = f.within;
-  kept = λ n not_source. elim (cases_eq 1 n) [
-    | inl sink ↦ rw (eq-eqb 1 n sink) (let taken : outflow arcs flow n ≤ inflow arcs flow n = subst (λ k. outflow arcs flow k ≤ inflow arcs flow k) sink f.taken in let same : value_of arcs flow ≡ inflow arcs flow n - outflow arcs flow n = ap (λ k. inflow arcs flow k - outflow arcs flow k) sink in omega arith)
-    | inr other ↦ rw (ne_eqb 1 n other) (ap (λ k. k + 0) (f.kept n not_source (λ e. other (sym e))))
-  ];
-  ahead = λ j from j_in. room.room j j_in;
-}
 
 module _ (arcs : List Arc) (start flow way : List ℕ) (lots i : ℕ) (is_whole : IsWhole arcs way) (b : Augmenting arcs start flow way lots i) where
   -- the next step has room, and when the lots are carried over it the way goes on at its far end
@@ -65,23 +46,3 @@ module _ (arcs : List Arc) (start flow way : List ℕ) (lots i : ℕ) (is_whole 
             let apart : get_or way j 0 / 2 ≢ other_end end / 2 = λ same. absurd (omega (arith, is_whole.once j i j_in i_in (same ∙ other_end-arc end))) in
             omega (arith, c.others (get_or way j 0) apart, b.ahead j (omega arith) j_in);
       }
-
--- all is brought
-module _ (arcs : List Arc) (start flow way : List ℕ) (lots : ℕ) (is_whole : IsWhole arcs way) (b : Augmenting arcs start flow way lots (length way)) where
-  balanced : (n : ℕ) → n ≢ 0 → inflow arcs flow n ≡ outflow arcs flow n + cond (1 == n) (value_of arcs start + lots) 0
-  balanced n other =
-      let none : cond (stand arcs way (length way) == n) lots 0 ≡ 0 = cond-false (stand arcs way (length way) == n) lots 0 (ne_eqb (stand arcs way (length way)) n (λ e. other (sym e ∙ is_whole.source))) in
-      omega (arith, b.kept n other)
-
-  at_sink : inflow arcs flow 1 ≡ outflow arcs flow 1 + (value_of arcs start + lots)
-  at_sink = balanced 1 (omega arith)
-
-  pub brought : IsFlow arcs flow
-  brought = record {
-    within = b.within;
-    kept = λ n not_source not_sink. balanced n not_source ∙ ap (λ k. outflow arcs flow n + k) (cond-false (1 == n) (value_of arcs start + lots) 0 (ne_eqb 1 n (λ e. not_sink (sym e)))) ∙ omega arith;
-    taken = omega (arith, at_sink);
-  }
-
-  pub value_of-brought : value_of arcs flow ≡ value_of arcs start + lots
-  value_of-brought = omega (arith, at_sink)

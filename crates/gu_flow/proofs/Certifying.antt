@@ -1,10 +1,13 @@
 -- The shares of a greatest flow and the cut where its last search stops: right takes, a right cut, and no takes are greater.
-use Rattle.std.proofs.Common.{◌≡◌, ◌≢◌, ℕ, ◌+◌, ◌<◌, ◌≤◌, ◌==◌, ◌⊎◌, ◌&&◌, not, Bool, true, false, cond, List, [], ◌∷◌, suc, length, get_or, refl, sym, ◌∙◌, ap, subst, arith, inl, inr}
+use Rattle.std.proofs.Common.{◌≡◌, ◌≢◌, ℕ, ◌+◌, ◌<◌, ◌≤◌, ◌==◌, ◌⊎◌, ◌&&◌, not, Bool, true, false, cond, List, [], ◌∷◌, suc, length, get_or, slice_get, Some, refl, sym, ◌∙◌, ap, subst, arith, inl, inr}
 use Rattle.std.specs.Prelude.{sum_by}
 use Rattle.std.specs.List.{AllByRecursion, list_any}
-use Rattle.std.proofs.lemmas.Bool.{cases_eq, or_cases, or_left, or_right, eq-eqb, ne_eqb, eqb-true, lt-ltb, and_from}
+use Rattle.std.proofs.Math.Bool.{and-true, and-false}
+use Rattle.std.proofs.lemmas.Bool.{cases_eq, cases_order, or_cases, or_left, or_right, eq-eqb, ne_eqb, eqb-true, lt-ltb, and_from}
 use Rattle.std.proofs.lemmas.List.{get_or_default}
 use Rattle.std.proofs.lemmas.List.Elements.{All-from_get_or, recursion_from_All}
+use Rattle.std.proofs.lemmas.List.Folds.{list_any_at}
+use Rattle.std.proofs.lemmas.Option.{slice_get_within, get_or_from_slice_get}
 use Rattle.gu_terms.proofs.KeyLemmas.{key_eq-same}
 use Rattle.gu_terms.specs.Cuts.{CutLists, has_number}
 use Rattle.gu_terms.specs.LimitKeys.{key_eq, has_key}
@@ -14,15 +17,15 @@ use Rattle.gu_terms.specs.declared.limit_key.LimitKey.{LimitKey}
 use Rattle.gu_terms.specs.declared.limit_key.LimitKey.TheVariants.{Agr}
 use Rattle.gu_terms.specs.declared.takes.Take.{Take}
 use Rattle.gu_view.proofs.CutBounds.{greatest_by_cut}
-use Rattle.gu_view.proofs.MarkLemmas.{path_inside}
 use Rattle.gu_view.specs.Check.{IsRight}
 use Rattle.gu_view.specs.Cut.{Covers, is_covered, room_of}
 use Rattle.gu_view.specs.Takes.{IsAdmissible, IsGreatest, IsOldestFirst, lots_under, total}
-use Rattle.gu_view.specs.View.{GroupView, IsView, IsNested, IsPath, place_of}
+use Rattle.gu_view.specs.View.{GroupView, IsView, IsNested, place_of}
 use Rattle.gu_view.specs.declared.view.Offer.{Offer}
 use Rattle.gu_flow.specs.CutArcs.{leads_out, cuts_key, cuts_offers, IsCutBy}
 use Rattle.gu_flow.specs.Ends.{arc_at}
 use Rattle.gu_flow.specs.Flows.{places, sum_over, IsFlow, IsClosed}
+use Rattle.gu_flow.specs.Layouts.{node_at}
 use Rattle.gu_flow.specs.Networks.{no_room, room_at, no_offer, offer_at, way_of, IsOfferOf, AreArcs}
 use Rattle.gu_flow.specs.Proposals.{IsSound}
 use Rattle.gu_flow.specs.Shares.{agreement_place, agreement_lots, AreShares}
@@ -30,13 +33,13 @@ use Rattle.gu_flow.specs.declared.network.Arc.{Arc}
 use Rattle.gu_flow.proofs.ArcLists.{places_within, IsAgreement, kind_of, capacity-le}
 use Rattle.gu_flow.proofs.CutTotals.{walk_leads_out, total_is_cut}
 use Rattle.gu_flow.proofs.Loads.{agree, Sided}
-use Rattle.gu_flow.proofs.RoomPlaces.{goes_by_key, at_place}
+use Rattle.gu_flow.proofs.RoomPlaces.{goes_by_key, roomed}
 use Rattle.gu_flow.proofs.ShareLemmas.{share_taken, share_fits, shares_oldest_first, shares_together, shares_known}
-use Rattle.gu_flow.proofs.Sides.{IsLaid, LiesOn, way_walks, way_once, way_lays, first_left, later_right}
+use Rattle.gu_flow.proofs.Sides.{IsLaid, distance, stepped_at, walks_from, way_once, first_left, later_right}
 use Rattle.gu_terms.proofs.Lists.{sum_by-add, sum_by-swap, sum_by-agree}
 use Rattle.gu_flow.proofs.SumLemmas.{sum_by-by, sum_by_place, sum_places_by, sum_one_place, cond-sum, cond-swap}
 use Rattle.gu_flow.proofs.Walks.{has_place, Walking, load}
-use Rattle.gu_flow.proofs.WayLayers.{agreement_on, layer_at, layered_at, key_on, lies_alike}
+use Rattle.gu_flow.proofs.OfferWays.{step_at, own_in, under_own, way_stepped, way_ends, way_on, alike}
 
 -- a member of a list of small numbers is small
 has_within : (n k : ℕ) (ps : List ℕ) → AllByRecursion (λ p. p < n) ps → list_any (λ p. p == k) ps ≡ true → k < n
@@ -54,15 +57,6 @@ any_key test key (k ∷ path) on passes = elim (or_cases (key_eq k key) (has_key
   | inr there ↦ or_right (test k) (list_any test path) (any_key test key path there passes)
 ]
 
--- an arc that leads out counts as its key's room where it can carry it, and else as its offers' lots
-whole_room : (out same : Bool) (capacity room all : ℕ) → same ≡ true → capacity ≡ room → cond out capacity 0 ≡ cond (out && same) room 0 + cond (out && not same) all 0
-whole_room true same capacity room all hit is = rw hit (omega arith)
-whole_room false same capacity room all hit is = omega arith
-
-whole_lots : (out same : Bool) (capacity room all : ℕ) → same ≡ false → capacity ≡ all → cond out capacity 0 ≡ cond (out && same) room 0 + cond (out && not same) all 0
-whole_lots true same capacity room all miss is = rw miss (omega arith)
-whole_lots false same capacity room all miss is = omega arith
-
 module _ (view : GroupView) (sound : IsView view) (nested : IsNested view) (arcs : List Arc) (are : AreArcs view arcs) (flow : List ℕ) (is_flow : IsFlow arcs flow)
     (reached : ℕ → Bool) (from_source : reached 0 ≡ true) (not_to_sink : reached 1 ≡ false) (closed : IsClosed arcs flow reached)
     (takes : List Take) (shares : AreShares view flow takes) (cut : CutLists) (cut_is : IsCutBy view reached arcs cut) where
@@ -72,97 +66,95 @@ module _ (view : GroupView) (sound : IsView view) (nested : IsNested view) (arcs
   abbrev lots : Offer → ℕ
   lots o = lots_of takes o.number
 
-  abbrev layer : ℕ → ℕ
-  layer = layer_at view.rooms
+  abbrev step : ℕ → ℕ
+  step = step_at view.rooms
 
   offer_here : (i : ℕ) (d : Offer) → i < length view.offers → IsOfferOf view (get_or view.offers i d)
-  offer_here i d inside = record { place = i; within = inside; is = get_or_default view.offers i d (get_or view.offers i d) inside }
+  offer_here i d inside = record { place = i; within = inside; is = get_or_default view.offers i d no_offer inside }
 
   each_offer : AllByRecursion (IsOfferOf view) view.offers
   each_offer = recursion_from_All (IsOfferOf view) view.offers offer_here
 
-  roomed : (o : Offer) → IsOfferOf view o → AllByRecursion (λ k. place_of view.rooms k < length view.rooms) o.path
-  roomed o h = path_inside view sound h.place o h.within h.is
-
   place_in : (o : Offer) → IsOfferOf view o → (k : ℕ) → has_place (way o) k ≡ true → k < length view.rooms
-  place_in o h k on = has_within (length view.rooms) k (way o) (places_within (length view.rooms) (place_of view.rooms) o.path (roomed o h)) on
+  place_in o h k on = has_within (length view.rooms) k (way o) (places_within (length view.rooms) (place_of view.rooms) o.path (roomed view sound o h)) on
+
+  -- a way that goes by a place has its room's key on the path
+  key_on : (o : Offer) → IsOfferOf view o → (k : ℕ) → k < length view.rooms → has_place (way o) k ≡ true → has_key o.path (room_at view.rooms k).key ≡ true
+  key_on o h k k_in on = sym (goes_by_key view sound k k_in o.path (roomed view sound o h)) ∙ on
+
+  laid : (k : ℕ) → k < length arcs → IsLaid arcs step k
+  laid k k_in =
+      let a = are.each k k_in in
+      let k_room : k < length view.rooms = omega (arith, are.all) in
+      record {
+        way = way a.offer;
+        stepped = way_stepped view sound nested a.offer a.known;
+        on = way_on view sound nested a.offer a.known k k_room (key_on a.offer a.known k k_room a.goes_by);
+        from = a.from;
+        to = a.to;
+      }
 
   -- each way lays out the arcs that it goes by
-  lies : (o : Offer) → IsOfferOf view o → (k : ℕ) → has_place (way o) k ≡ true → LiesOn arcs (way o) k
-  lies o h k on =
-      let k_in : k < length arcs = omega (arith, place_in o h k on, are.all) in
+  lies : (o : Offer) → IsOfferOf view o → (i k : ℕ) → slice_get (way o) i ≡ Some k → (k < length arcs) × ((arc_at arcs k).from ≡ node_at (way o) i) × ((arc_at arcs k).to ≡ node_at (way o) (i + 1))
+  lies o h i k at =
+      let on : has_place (way o) k ≡ true = list_any_at (λ p. p == k) (way o) i 0 (slice_get_within (way o) i k at) (eq-eqb (get_or (way o) i 0) k (get_or_from_slice_get (way o) i k 0 at)) in
+      let k_room = place_in o h k on in
+      let k_in : k < length arcs = omega (arith, are.all) in
       let a = are.each k k_in in
-      let same = lies_alike view sound nested o a.offer h a.known k (place_in o h k on) on a.goes_by in
-      record { within = k_in; from = a.from ∙ sym same.from; to = a.to ∙ sym same.to }
+      let same = alike view sound nested a.offer o a.known h (room_at view.rooms k).key (key_on a.offer a.known k k_room a.goes_by) (key_on o h k k_room on) in
+      let step_is : step k ≡ i = omega (arith, stepped_at step 0 (way o) (way_stepped view sound nested o h) i k at) in
+      rw (← step_is) (k_in, a.from ∙ same.0, a.to ∙ same.1)
 
   walking : (o : Offer) → IsOfferOf view o → Walking arcs way 0 1 o
   walking o h = record {
-    walk = way_walks arcs layer (way o) (layered_at view sound nested o h) (lies o h);
-    once = way_once arcs layer (way o) (layered_at view sound nested o h);
+    walk = rw (way_ends view sound nested o h) at (walks_from arcs (node_at (way o)) (way o) (lies o h));
+    once = way_once step 0 (way o) (way_stepped view sound nested o h);
   }
 
   each : AllByRecursion (Walking arcs way 0 1) view.offers
   each = recursion_from_All (Walking arcs way 0 1) view.offers (λ i d inside. walking (get_or view.offers i d) (offer_here i d inside))
-
-  laid : (k : ℕ) → k < length arcs → IsLaid arcs layer k
-  laid k k_in =
-      let a = are.each k k_in in
-      way_lays arcs layer (way a.offer) k (layered_at view sound nested a.offer a.known) a.goes_by (lies a.offer a.known k a.goes_by)
 
   -- what is brought through an arc is what is taken under its key
   load_is : (k : ℕ) → k < length view.rooms → load arcs view.offers way lots 0 1 each k ≡ lots_under view.offers (room_at view.rooms k).key (lots_of takes)
   unfolding load
   load_is k k_in =
       sum_by-by (IsOfferOf view) (λ o. cond (has_place (way o) k) (lots o) 0) (λ o. cond (has_key o.path (room_at view.rooms k).key) (lots o) 0) view.offers
-      (λ o h. ap (λ b. cond b (lots o) 0) (goes_by_key view sound k k_in o.path (roomed o h))) each_offer
-
-  agreement_in : (o : Offer) → IsOfferOf view o → agreement_place view.rooms o < length arcs
-  agreement_in o h =
-      let p : IsPath o = subst IsPath (sym h.is) (nested.paths h.place o h.within) in
-      let within = subst (λ path. AllByRecursion (λ k. place_of view.rooms k < length view.rooms) path) p.4 (roomed o h) in
-      omega (arith, within.1.0, are.all)
-
-  -- an offer is under an agreement where the agreement is its own
-  on_agreement : (o : Offer) → IsOfferOf view o → (k : ℕ) → k < length view.rooms → (agreement : AgreementId) → (room_at view.rooms k).key ≡ Agr agreement → has_key o.path (room_at view.rooms k).key ≡ (agreement_place view.rooms o == k)
-  on_agreement o h k k_in agreement is =
-      let p : IsPath o = subst IsPath (sym h.is) (nested.paths h.place o h.within) in
-      let within = subst (λ path. AllByRecursion (λ k. place_of view.rooms k < length view.rooms) path) p.4 (roomed o h) in
-      ap (has_key o.path) is ∙ ap (λ path. has_key path (Agr agreement)) p.4 ∙ agreement_on p.0 o.agreement p.1 p.2 p.3 agreement ∙ ap (key_eq (Agr o.agreement)) (sym is) ∙ sym (at_place view sound k (Agr o.agreement) k_in within.1.0)
+      (λ o h. ap (λ b. cond b (lots o) 0) (goes_by_key view sound k k_in o.path (roomed view sound o h))) each_offer
 
   -- sums under an agreement, by the places of the offers' agreements
   under_agreement : (f : Offer → ℕ) (k : ℕ) → k < length view.rooms → (agreement : AgreementId) → (room_at view.rooms k).key ≡ Agr agreement
       → sum_by (λ o. cond (has_key o.path (room_at view.rooms k).key) (f o) 0) view.offers ≡ sum_by (λ o. cond (agreement_place view.rooms o == k) (f o) 0) view.offers
   under_agreement f k k_in agreement is =
       sum_by-by (IsOfferOf view) (λ o. cond (has_key o.path (room_at view.rooms k).key) (f o) 0) (λ o. cond (agreement_place view.rooms o == k) (f o) 0) view.offers
-      (λ o h. ap (λ b. cond b (f o) 0) (on_agreement o h k k_in agreement is)) each_offer
+      (λ o h. ap (λ b. cond b (f o) 0) (under_own view sound nested o h k k_in agreement is)) each_offer
 
-  -- an arc of layer 0 is an agreement's, and so is one that can carry less than its room
-  agreement_of : (k : ℕ) (k_in : k < length arcs) → (layer k ≡ 0) ⊎ ((arc_at arcs k).capacity ≢ (room_at view.rooms k).lots) → IsAgreement view.offers (room_at view.rooms k).lots (arc_at arcs k).capacity (room_at view.rooms k).key
+  -- an arc of the middle step is an agreement's, and so is one that can carry less than its room
+  agreement_of : (k : ℕ) (k_in : k < length arcs) → (step k ≡ 1) ⊎ ((arc_at arcs k).capacity ≢ (room_at view.rooms k).lots) → IsAgreement view.offers (room_at view.rooms k).lots (arc_at arcs k).capacity (room_at view.rooms k).key
   agreement_of k k_in either = elim (kind_of view.offers (room_at view.rooms k).lots (arc_at arcs k).capacity (room_at view.rooms k).key (are.each k k_in).capacity) [
     | inl agreement ↦ agreement
-    | inr other ↦ elim either [ inl is ↦ absurd (omega (arith, other.1, is)) | inr less ↦ absurd (less other.0) ]
+    | inr other ↦ elim either [ inl is ↦ absurd (other.1 is) | inr less ↦ absurd (less other.0) ]
   ]
 
   -- through an agreement's arc flows what its offers take
-  middle : (k : ℕ) → k < length arcs → layer k ≡ 0 → get_or flow k 0 ≡ load arcs view.offers way lots 0 1 each k
+  middle : (k : ℕ) → k < length arcs → step k ≡ 1 → get_or flow k 0 ≡ load arcs view.offers way lots 0 1 each k
   middle k k_in is =
       let k_room : k < length view.rooms = omega (arith, are.all) in
       let a = agreement_of k k_in (inl is) in
       let enough : get_or flow k 0 ≤ agreement_lots view.rooms view.offers k = omega (arith, is_flow.within.each k, a.capacity_is, under_agreement (λ o. o.lots) k k_room a.agreement a.is) in
       sym (load_is k k_room ∙ under_agreement lots k k_room a.agreement a.is ∙ shares_together view sound flow takes shares k enough)
 
-  sided : (k : ℕ) → k < length arcs → Sided arcs (λ k. get_or flow k 0) view.offers way lots 0 1 layer each is_flow.kept k
-  sided k k_in = elim (laid k k_in) [
-    | inl first ↦ inr (inl (first_left arcs layer laid k first))
-    | inr other ↦ elim other [
-      | inl mid ↦ inl (middle k k_in mid.at)
-      | inr later ↦ inr (inr (later_right arcs layer laid k later))
+  sided : (k : ℕ) → k < length arcs → Sided arcs (λ k. get_or flow k 0) view.offers way lots 0 1 (distance step) each is_flow.kept k
+  sided k k_in = elim (cases_order (step k) 1) [
+    | inl mid ↦ inl (middle k k_in mid)
+    | inr side ↦ elim side [
+      | inl first ↦ inr (inl (first_left arcs step laid k k_in (omega arith)))
+      | inr late ↦ inr (inr (later_right arcs step laid k k_in late))
     ]
   ]
 
   -- so each arc's flow is what is taken under its key
   flows_are : (k : ℕ) → k < length arcs → get_or flow k 0 ≡ load arcs view.offers way lots 0 1 each k
-  flows_are k k_in = agree arcs (λ k. get_or flow k 0) view.offers way lots 0 1 layer each is_flow.kept sided (suc (layer k)) k k_in (omega arith)
+  flows_are k k_in = agree arcs (λ k. get_or flow k 0) view.offers way lots 0 1 (distance step) each is_flow.kept sided (suc (distance step k)) k k_in (omega arith)
 
   pub admissible : IsAdmissible view (lots_of takes)
   admissible = record {
@@ -187,10 +179,9 @@ module _ (view : GroupView) (sound : IsView view) (nested : IsNested view) (arcs
 
   offer_told : (o : Offer) → IsOfferOf view o → has_number cut.offers o.number ≡ cuts_offers reached arcs view.rooms (agreement_place view.rooms o)
   offer_told o h =
-      let at : o ≡ offer_at view.offers h.place = h.is ∙ get_or_default view.offers h.place o no_offer h.within in
       let told : has_number cut.offers (offer_at view.offers h.place).number ≡ cuts_offers reached arcs view.rooms (agreement_place view.rooms (offer_at view.offers h.place)) =
       cut_is.offers.exact h.place h.within ∙ ap (λ b. b && cuts_offers reached arcs view.rooms (agreement_place view.rooms (offer_at view.offers h.place))) (lt-ltb h.place (length view.offers) h.within) in
-      subst (λ (x : Offer). has_number cut.offers x.number ≡ cuts_offers reached arcs view.rooms (agreement_place view.rooms x)) (sym at) told
+      subst (λ (x : Offer). has_number cut.offers x.number ≡ cuts_offers reached arcs view.rooms (agreement_place view.rooms x)) (sym h.is) told
 
   -- where an offer's way leads out, its key is cut, or the offer itself
   covered : (o : Offer) → IsOfferOf view o → is_covered cut o ≡ true
@@ -198,13 +189,13 @@ module _ (view : GroupView) (sound : IsView view) (nested : IsNested view) (arcs
       let out = walk_leads_out arcs reached (way o) 0 1 (walking o h).walk from_source not_to_sink in
       let k = out.place in
       let k_in : k < length view.rooms = omega (arith, out.place_in, are.all) in
-      let on = key_on view sound nested o h k k_in out.on_way in
+      let on = key_on o h k k_in out.on_way in
       elim (cases_eq (arc_at arcs k).capacity (room_at view.rooms k).lots) [
         | inl same ↦ or_right (has_number cut.offers o.number) (list_any (has_key cut.keys) o.path)
             (any_key (has_key cut.keys) (room_at view.rooms k).key o.path on (key_told k k_in ∙ and_from (leads_out reached (arc_at arcs k)) ((arc_at arcs k).capacity == (room_at view.rooms k).lots) out.out (eq-eqb (arc_at arcs k).capacity (room_at view.rooms k).lots same)))
         | inr other ↦
             let s = agreement_of k out.place_in (inr other) in
-            let own : agreement_place view.rooms o ≡ k = eqb-true (agreement_place view.rooms o) k (sym (on_agreement o h k k_in s.agreement s.is) ∙ on) in
+            let own : agreement_place view.rooms o ≡ k = eqb-true (agreement_place view.rooms o) k (sym (under_own view sound nested o h k k_in s.agreement s.is) ∙ on) in
             or_left (has_number cut.offers o.number) (list_any (has_key cut.keys) o.path)
             (offer_told o h ∙ ap (cuts_offers reached arcs view.rooms) own
             ∙ and_from (leads_out reached (arc_at arcs k)) (not ((arc_at arcs k).capacity == (room_at view.rooms k).lots)) out.out (ap not (ne_eqb (arc_at arcs k).capacity (room_at view.rooms k).lots other)))
@@ -221,10 +212,11 @@ module _ (view : GroupView) (sound : IsView view) (nested : IsNested view) (arcs
       let room = (room_at view.rooms k).lots in
       let all = agreement_lots view.rooms view.offers k in
       elim (cases_eq (arc_at arcs k).capacity room) [
-        | inl same ↦ whole_room (leads_out reached (arc_at arcs k)) ((arc_at arcs k).capacity == room) (arc_at arcs k).capacity room all (eq-eqb (arc_at arcs k).capacity room same) same
+        | inl same ↦ rw (eq-eqb (arc_at arcs k).capacity room same, and-true, and-false) (ap (λ n. cond (leads_out reached (arc_at arcs k)) n 0) same ∙ omega arith)
         | inr other ↦
             let s = agreement_of k k_in (inr other) in
-            whole_lots (leads_out reached (arc_at arcs k)) ((arc_at arcs k).capacity == room) (arc_at arcs k).capacity room all (ne_eqb (arc_at arcs k).capacity room other) (omega (arith, s.capacity_is, other, under_agreement (λ o. o.lots) k k_room s.agreement s.is))
+            let lots : (arc_at arcs k).capacity ≡ all = omega (arith, s.capacity_is, other, under_agreement (λ o. o.lots) k k_room s.agreement s.is) in
+            rw (ne_eqb (arc_at arcs k).capacity room other, and-true, and-false) (ap (λ n. cond (leads_out reached (arc_at arcs k)) n 0) lots ∙ omega arith)
       ]
 
   keys_room : sum_by (λ r. cond (has_key cut.keys r.key) r.lots 0) view.rooms ≡ sum_by (λ k. cond (cuts_key reached arcs view.rooms k) (room_at view.rooms k).lots 0) (places (length arcs))
@@ -239,7 +231,7 @@ module _ (view : GroupView) (sound : IsView view) (nested : IsNested view) (arcs
       let w = cuts_offers reached arcs view.rooms in
       let at = agreement_place view.rooms in
       sum_by-by (IsOfferOf view) (λ o. cond (has_number cut.offers o.number) o.lots 0) (λ o. sum_by (λ k. cond (at o == k) (cond (w k) o.lots 0) 0) (places (length arcs))) view.offers
-      (λ o h. ap (λ b. cond b o.lots 0) (offer_told o h) ∙ sym (sum_one_place (λ k. cond (w k) o.lots 0) (length arcs) (at o) (agreement_in o h))) each_offer
+      (λ o h. ap (λ b. cond b o.lots 0) (offer_told o h) ∙ sym (sum_one_place (λ k. cond (w k) o.lots 0) (length arcs) (at o) (omega (arith, own_in view sound nested o h, are.all)))) each_offer
       ∙ sum_by-swap (λ (o : Offer) k. cond (at o == k) (cond (w k) o.lots 0) 0) view.offers (places (length arcs))
       ∙ sum_by-agree (λ k. sum_by (λ (o : Offer). cond (at o == k) (cond (w k) o.lots 0) 0) view.offers) (λ k. cond (w k) (agreement_lots view.rooms view.offers k) 0) (places (length arcs))
       (λ k. sum_by-agree (λ (o : Offer). cond (at o == k) (cond (w k) o.lots 0) 0) (λ (o : Offer). cond (w k) (cond (at o == k) o.lots 0) 0) view.offers (λ o. cond-swap (at o == k) (w k) o.lots)
@@ -250,7 +242,7 @@ module _ (view : GroupView) (sound : IsView view) (nested : IsNested view) (arcs
   unfolding sum_over
   room_is_total =
       let n = places (length arcs) in
-      let all = total_is_cut arcs view.offers way lots 0 1 each reached from_source not_to_sink flow flows_are closed in
+      let all = total_is_cut arcs view.offers way lots 0 1 each reached from_source not_to_sink flow flows_are is_flow.within closed in
       let split : sum_by (λ k. cond (leads_out reached (arc_at arcs k)) (arc_at arcs k).capacity 0) n
       ≡ sum_by (λ k. cond (cuts_key reached arcs view.rooms k) (room_at view.rooms k).lots 0) n + sum_by (λ k. cond (cuts_offers reached arcs view.rooms k) (agreement_lots view.rooms view.offers k) 0) n =
       sum_places_by (λ k. cond (leads_out reached (arc_at arcs k)) (arc_at arcs k).capacity 0)

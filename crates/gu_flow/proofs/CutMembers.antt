@@ -1,19 +1,18 @@
 -- The members of the cut, one after another.
-use Rattle.std.proofs.Common.{◌≡◌, ◌≢◌, zero, ℕ, ◌+◌, ◌<◌, ◌==◌, ◌||◌, ◌&&◌, not, nat_lt, Bool, true, false, cond, List, [], ◌∷◌, ◌++◌, suc, length, refl, sym, ◌∙◌, ap, arith, inl, inr}
+use Rattle.std.proofs.Common.{◌≡◌, ◌≢◌, ℕ, ◌+◌, ◌<◌, ◌==◌, ◌||◌, ◌&&◌, not, nat_lt, Bool, true, false, cond, List, [], ◌∷◌, ◌++◌, length, refl, sym, ◌∙◌, ap, arith, inl, inr}
 use Rattle.std.specs.Prelude.{All}
 use Rattle.std.specs.List.{list_any}
-use Rattle.std.proofs.Math.Bool.{or-false}
-use Rattle.std.proofs.lemmas.Bool.{cases_Bool, cases_eq, cases_lt, cases_order, eq-eqb, ne_eqb, eqb-true, lt-ltb, le-ltb, not-false}
-use Rattle.std.proofs.lemmas.List.Elements.{All-append}
+use Rattle.std.proofs.Math.Bool.{or-false, and-true}
+use Rattle.std.proofs.lemmas.Bool.{cases_Bool, cases_eq, cases_lt, cases_order, eq-eqb, ne_eqb, eqb-true, lt-ltb, le-ltb, not-false, and_right}
+use Rattle.std.proofs.lemmas.List.Elements.{All-push}
 use Rattle.std.proofs.lemmas.List.Folds.{list_any-append, list_any_at}
 use Rattle.gu_terms.proofs.KeyLemmas.{key_eq-same, key_eq-refl}
 use Rattle.gu_terms.specs.Cuts.{has_number}
 use Rattle.gu_terms.specs.LimitKeys.{key_eq, has_key}
 use Rattle.gu_terms.specs.declared.limit_key.LimitKey.{LimitKey}
 use Rattle.gu_view.proofs.RoomLemmas.{apart}
-use Rattle.gu_view.specs.Check.{has_offer, has_room}
 use Rattle.gu_view.specs.View.{GroupView, IsView}
-use Rattle.gu_flow.specs.CutArcs.{cuts_key, cuts_offers, AreKeysCut, AreOffersCut}
+use Rattle.gu_flow.specs.CutArcs.{cuts_key, cuts_offers, AreCut, AreKeysCut, AreOffersCut}
 use Rattle.gu_flow.specs.Networks.{no_offer, offer_at, no_room, room_at}
 use Rattle.gu_flow.specs.Shares.{agreement_place}
 use Rattle.gu_flow.specs.declared.network.Arc.{Arc}
@@ -31,17 +30,9 @@ next_place n i cuts old new before adds k k_in = elim (cases_eq i k) [
       adds k k_in ∙ ap (λ b. old k || (b && cuts i)) (ne_eqb i k other) ∙ or-false (old k) ∙ before k k_in ∙ ap (λ b. b && cuts k) (sym until)
 ]
 
--- where nothing is cut, nothing is added
 none_added : (b c : Bool) → c ≡ false → b ≡ (b || c)
 none_added true c none = refl
 none_added false c none = sym none
-
-no_cut : (b c : Bool) → c ≡ false → (b && c) ≡ false
-no_cut true c none = none
-no_cut false c none = refl
-
-not_cut : (n i : ℕ) (cuts had : ℕ → Bool) → ((k : ℕ) → k < n → had k ≡ (nat_lt k i && cuts k)) → cuts i ≡ false → (k : ℕ) → k < n → had k ≡ (nat_lt k (i + 1) && cuts k)
-not_cut n i cuts had before none = next_place n i cuts had had before (λ k k_in. none_added (had k) ((i == k) && cuts i) (no_cut (i == k) (cuts i) none))
 
 module _ {X : Type 0} (eq : X → X → Bool) (same : (a b : X) → eq a b ≡ true → a ≡ b) where
   -- a member that is added where it is new is there in any case
@@ -54,17 +45,26 @@ module _ {X : Type 0} (eq : X → X → Bool) (same : (a b : X) → eq a b ≡ t
         | inr miss ↦ none_added (list_any (λ z. eq z y) xs) (eq x y) miss
       ]
 
-added_all : {X : Type 0} (P : X → Type 0) (xs new : List X) (x : X) (added : Bool) → new ≡ cond added (xs ++ x ∷ []) xs → All P xs → P x → All P new
-added_all P xs new x true is all here = rw is (All-append P xs (x ∷ []) all (λ k d k_in. first k d k_in))
-  where
-    first : All P (x ∷ [])
-    first zero d k_in = here
-    first (suc k) d k_in = absurd (omega arith)
-added_all P xs new x false is all here = rw is all
+module _ {X : Type 0} {eq : X → X → Bool} {is_known : X → Bool} {name : ℕ → X} {cuts : ℕ → Bool} {names : ℕ} {members : List X} {i : ℕ} (h : AreCut eq is_known name cuts names members i) where
+  -- where the next isn't cut, nothing is added
+  pub none_cut : cuts i ≡ false → AreCut eq is_known name cuts names members (i + 1)
+  none_cut none = record {
+    exact = next_place names i cuts (λ k. list_any (λ x. eq x (name k)) members) (λ k. list_any (λ x. eq x (name k)) members) h.exact (λ k k_in. none_added _ ((i == k) && cuts i) (and_right (i == k) (cuts i) none));
+    known = h.known;
+  }
 
-yes : (b c : Bool) → c ≡ true → (b && c) ≡ b
-yes true c cut = cut
-yes false c cut = refl
+  -- where it is cut, it is added, if it wasn't there
+  one_cut : ((a b : X) → eq a b ≡ true → a ≡ b) → ((k : ℕ) → k < names → eq (name i) (name k) ≡ (i == k)) → is_known (name i) ≡ true → cuts i ≡ true
+      → (new : List X) (added : Bool) → added ≡ not (list_any (λ x. eq x (name i)) members) → new ≡ cond added (members ++ name i ∷ []) members → AreCut eq is_known name cuts names new (i + 1)
+  one_cut same own known_here cut new added told is = record {
+    exact = next_place names i cuts (λ k. list_any (λ x. eq x (name k)) members) (λ k. list_any (λ x. eq x (name k)) new) h.exact
+        (λ k k_in. added_member eq same members new (name i) added told is (name k) ∙ ap (λ b. list_any (λ x. eq x (name k)) members || b) (own k k_in ∙ rw cut (sym (and-true (i == k)))));
+    known = all added is;
+  }
+    where
+      all : (added : Bool) → new ≡ cond added (members ++ name i ∷ []) members → All (λ x. is_known x ≡ true) new
+      all true is = rw is (All-push (λ x. is_known x ≡ true) members (name i) h.known known_here)
+      all false is = rw is h.known
 
 module _ (view : GroupView) (sound : IsView view) (reached : ℕ → Bool) (arcs : List Arc) where
   own_key : (i k : ℕ) → i < length view.rooms → k < length view.rooms → key_eq (room_at view.rooms i).key (room_at view.rooms k).key ≡ (i == k)
@@ -84,35 +84,15 @@ module _ (view : GroupView) (sound : IsView view) (reached : ℕ → Bool) (arcs
         ne_eqb (offer_at view.offers i).number (offer_at view.offers k).number differ ∙ sym (ne_eqb i k (λ e. absurd (omega arith)))
   ]
 
-  -- the key of the next room is cut, and is added, or it isn't
+  -- the key of the next room
   pub key_cut : (keys new : List LimitKey) (i : ℕ) (added : Bool) → i < length view.rooms → AreKeysCut view reached arcs keys i → cuts_key reached arcs view.rooms i ≡ true
       → added ≡ not (has_key keys (room_at view.rooms i).key) → new ≡ cond added (keys ++ (room_at view.rooms i).key ∷ []) keys → AreKeysCut view reached arcs new (i + 1)
-  key_cut keys new i added inside h cut told is =
-      let key = (room_at view.rooms i).key in
-      record {
-        exact = next_place (length view.rooms) i (cuts_key reached arcs view.rooms) (λ k. has_key keys (room_at view.rooms k).key) (λ k. has_key new (room_at view.rooms k).key) h.exact
-            (λ k k_in. added_member key_eq key_eq-same keys new key added told is (room_at view.rooms k).key
-            ∙ ap (λ b. has_key keys (room_at view.rooms k).key || b) (own_key i k inside k_in ∙ sym (yes (i == k) (cuts_key reached arcs view.rooms i) cut)));
-        known = added_all (λ k. has_room view.rooms k ≡ true) keys new key added is h.known (list_any_at (λ r. key_eq r.key key) view.rooms i no_room inside (key_eq-refl key));
-      }
+  key_cut keys new i added inside h cut =
+      one_cut h key_eq-same (λ k. own_key i k inside) (list_any_at (λ r. key_eq r.key (room_at view.rooms i).key) view.rooms i no_room inside (key_eq-refl (room_at view.rooms i).key)) cut new added
 
-  pub key_not_cut : (keys : List LimitKey) (i : ℕ) → AreKeysCut view reached arcs keys i → cuts_key reached arcs view.rooms i ≡ false → AreKeysCut view reached arcs keys (i + 1)
-  key_not_cut keys i h none = record { exact = not_cut (length view.rooms) i (cuts_key reached arcs view.rooms) (λ k. has_key keys (room_at view.rooms k).key) h.exact none; known = h.known }
-
-  -- and so with the next offer
-  abbrev offer_cut_at : ℕ → Bool
-  offer_cut_at i = cuts_offers reached arcs view.rooms (agreement_place view.rooms (offer_at view.offers i))
-
-  pub offer_cut : (numbers new : List ℕ) (i : ℕ) (added : Bool) → i < length view.offers → AreOffersCut view reached arcs numbers i → offer_cut_at i ≡ true
+  -- and the number of the next offer
+  pub offer_cut : (numbers new : List ℕ) (i : ℕ) (added : Bool) → i < length view.offers → AreOffersCut view reached arcs numbers i
+      → cuts_offers reached arcs view.rooms (agreement_place view.rooms (offer_at view.offers i)) ≡ true
       → added ≡ not (has_number numbers (offer_at view.offers i).number) → new ≡ cond added (numbers ++ (offer_at view.offers i).number ∷ []) numbers → AreOffersCut view reached arcs new (i + 1)
-  offer_cut numbers new i added inside h cut told is =
-      let number = (offer_at view.offers i).number in
-      record {
-        exact = next_place (length view.offers) i offer_cut_at (λ k. has_number numbers (offer_at view.offers k).number) (λ k. has_number new (offer_at view.offers k).number) h.exact
-            (λ k k_in. added_member (λ m n. m == n) eqb-true numbers new number added told is (offer_at view.offers k).number
-            ∙ ap (λ b. has_number numbers (offer_at view.offers k).number || b) (own_number i k inside k_in ∙ sym (yes (i == k) (offer_cut_at i) cut)));
-        known = added_all (λ n. has_offer view.offers n ≡ true) numbers new number added is h.known (list_any_at (λ o. o.number == number) view.offers i no_offer inside (eq-eqb number number refl));
-      }
-
-  pub offer_not_cut : (numbers : List ℕ) (i : ℕ) → AreOffersCut view reached arcs numbers i → offer_cut_at i ≡ false → AreOffersCut view reached arcs numbers (i + 1)
-  offer_not_cut numbers i h none = record { exact = not_cut (length view.offers) i offer_cut_at (λ k. has_number numbers (offer_at view.offers k).number) h.exact none; known = h.known }
+  offer_cut numbers new i added inside h cut =
+      one_cut h eqb-true (λ k. own_number i k inside) (list_any_at (λ o. o.number == (offer_at view.offers i).number) view.offers i no_offer inside (eq-eqb (offer_at view.offers i).number (offer_at view.offers i).number refl)) cut new added

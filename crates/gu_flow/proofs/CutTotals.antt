@@ -1,11 +1,11 @@
 -- What many walks bring together is what the arcs out of a closed set of nodes can carry.
-use Rattle.std.proofs.Common.{◌≡◌, ℕ, ◌+◌, ◌<◌, ◌==◌, ◌&&◌, not, Bool, true, false, cond, List, [], ◌∷◌, length, get_or, refl, sym, ◌∙◌, ap, arith, inl, inr}
+use Rattle.std.proofs.Common.{◌≡◌, ℕ, ◌+◌, ◌*◌, ◌/◌, ◌%◌, ◌<◌, ◌==◌, ◌&&◌, not, Bool, true, false, cond, List, [], ◌∷◌, length, get_or, refl, sym, ◌∙◌, ap, arith, inl, inr}
 use Rattle.std.specs.List.{sum_by, AllByRecursion}
-use Rattle.std.proofs.lemmas.Bool.{cond-false, cond-true, and_parts, and_from, cases_Bool, not-true, not_from_false, or_left, or_right, eq-eqb}
+use Rattle.std.proofs.lemmas.Bool.{cond-false, cond-true, and_parts, and_from, cases_Bool, not-true, not_from_false, or_left, or_right, eq-eqb, ne_eqb}
 use Rattle.gu_flow.specs.declared.network.Arc.{Arc}
 use Rattle.gu_flow.specs.CutArcs.{leads_out}
 use Rattle.gu_flow.specs.Ends.{arc_at}
-use Rattle.gu_flow.specs.Flows.{places, sum_over, IsClosed}
+use Rattle.gu_flow.specs.Flows.{places, sum_over, IsWithin, IsClosed}
 use Rattle.gu_terms.proofs.Lists.{sum_by-add, sum_by-zeros}
 use Rattle.gu_flow.proofs.SumLemmas.{sum_by-by, sum_places_by, at_test, cond_same}
 use Rattle.gu_flow.proofs.Walks.{Walks, has_place, Walking, way_sum, along_walk, load, by_walks}
@@ -49,6 +49,20 @@ walk_leads_out arcs reached (k ∷ way) a b (k_in, from, walk) here there = elim
   }
 ]
 
+-- an arc out of what was reached is full, and one back is empty
+module _ (arcs : List Arc) (flow : List ℕ) (reached : ℕ → Bool) (w : IsWithin arcs flow) (closed : IsClosed arcs flow reached) (k : ℕ) (k_in : k < length arcs) where
+  full : reached (arc_at arcs k).from ≡ true → reached (arc_at arcs k).to ≡ false → get_or flow k 0 ≡ (arc_at arcs k).capacity
+  full from to =
+      let tail : (2 * k) % 2 == 0 ≡ true = eq-eqb ((2 * k) % 2) 0 (omega arith) in
+      let place : 2 * k / 2 ≡ k = omega arith in
+      omega (arith, w.each k, (rw (tail, place) at (closed.each (2 * k) (omega arith))) from to)
+
+  empty : reached (arc_at arcs k).from ≡ false → reached (arc_at arcs k).to ≡ true → get_or flow k 0 ≡ 0
+  empty from to =
+      let head : (2 * k + 1) % 2 == 0 ≡ false = ne_eqb ((2 * k + 1) % 2) 0 (omega arith) in
+      let place : (2 * k + 1) / 2 ≡ k = omega arith in
+      (rw (head, place) at (closed.each (2 * k + 1) (omega arith))) to from
+
 module _ {X : Type 0} (arcs : List Arc) (walkers : List X) (way : X → List ℕ) (lots : X → ℕ) (s t : ℕ) (each : AllByRecursion (Walking arcs way s t) walkers)
     (reached : ℕ → Bool) (from_s : reached s ≡ true) (not_t : reached t ≡ false) where
   -- what is brought is what goes out less what comes back
@@ -61,20 +75,20 @@ module _ {X : Type 0} (arcs : List Arc) (walkers : List X) (way : X → List ℕ
       ∙ ap (λ n. n + sum_by lots walkers) (sym (by_walks arcs walkers way lots s t each (leads_back reached)))
 
   -- where the loads are a flow and the nodes are closed, the total is what the arcs that lead out can carry
-  pub total_is_cut : (flow : List ℕ) → ((k : ℕ) → k < length arcs → get_or flow k 0 ≡ load arcs walkers way lots s t each k) → IsClosed arcs flow reached → sum_by lots walkers ≡ sum_over arcs (leads_out reached) (λ k. (arc_at arcs k).capacity)
+  pub total_is_cut : (flow : List ℕ) → ((k : ℕ) → k < length arcs → get_or flow k 0 ≡ load arcs walkers way lots s t each k) → IsWithin arcs flow → IsClosed arcs flow reached → sum_by lots walkers ≡ sum_over arcs (leads_out reached) (λ k. (arc_at arcs k).capacity)
   unfolding sum_over
-  total_is_cut flow same closed =
+  total_is_cut flow same within closed =
       let loads = load arcs walkers way lots s t each in
       let outs : sum_over arcs (leads_out reached) loads ≡ sum_over arcs (leads_out reached) (λ k. (arc_at arcs k).capacity) =
       sum_places_by (λ k. cond (leads_out reached (arc_at arcs k)) (loads k) 0) (λ k. cond (leads_out reached (arc_at arcs k)) (arc_at arcs k).capacity 0) (length arcs)
       (λ k k_in. at_test (leads_out reached (arc_at arcs k)) (loads k) (arc_at arcs k).capacity (λ out.
       let p = and_parts (reached (arc_at arcs k).from) (not (reached (arc_at arcs k).to)) out in
-      sym (same k k_in) ∙ closed.full k k_in p.0 (not-true (reached (arc_at arcs k).to) p.1))) in
+      sym (same k k_in) ∙ full arcs flow reached within closed k k_in p.0 (not-true (reached (arc_at arcs k).to) p.1))) in
       let backs : sum_over arcs (leads_back reached) loads ≡ 0 =
       sum_places_by (λ k. cond (leads_back reached (arc_at arcs k)) (loads k) 0) (λ k. 0) (length arcs)
       (λ k k_in. at_test (leads_back reached (arc_at arcs k)) (loads k) 0 (λ back.
       let p = and_parts (not (reached (arc_at arcs k).from)) (reached (arc_at arcs k).to) back in
-      sym (same k k_in) ∙ closed.empty k k_in (not-true (reached (arc_at arcs k).from) p.0) p.1)
+      sym (same k k_in) ∙ empty arcs flow reached within closed k k_in (not-true (reached (arc_at arcs k).from) p.0) p.1)
       ∙ cond_same (leads_back reached (arc_at arcs k)) 0)
       ∙ sum_by-zeros (places (length arcs)) in
       omega (arith, total_leaves)

@@ -1,277 +1,216 @@
--- Ways that fall a level at each step.
-use Rattle.std.proofs.Common.{◌≡◌, ◌≢◌, ℕ, ◌+◌, ◌-◌, ◌*◌, ◌/◌, ◌<◌, ◌≤◌, Bool, true, false, cond, List, zero, suc, length, refl, sym, ◌∙◌, ap, subst, arith, inl, inr, below_more, get_or, get_or-set_other, get_or-set_same, get_or-take, take}
+-- Ways that fall a level at each step, and are augmented one after another.
+use Rattle.std.proofs.Common.{◌≡◌, ◌≢◌, ℕ, ◌+◌, ◌-◌, ◌*◌, ◌/◌, ◌<◌, ◌≤◌, ◌==◌, cond, List, zero, suc, length, refl, sym, ◌∙◌, ap, subst, arith, inl, inr, get_or, get_or-set_other, get_or-set_same, get_or-take, take}
 use Rattle.std.proofs.Math.ListN.{set, length-set}
-use Rattle.std.proofs.lemmas.Bool.{cases_eq}
+use Rattle.std.proofs.lemmas.Bool.{cases_Bool, cases_eq}
 use Rattle.std.proofs.lemmas.List.{length-take-le}
 use Rattle.std.proofs.lemmas.List.Sums.{sum_by-set}
 use Rattle.std.specs.List.{sum}
 use Rattle.gu_flow.specs.declared.network.Arc.{Arc}
 use Rattle.gu_flow.specs.declared.levels.Entry.{Entry}
-use Rattle.gu_flow.specs.Ends.{arc_at, is_tail, near, far, residual_in, IsChain}
-use Rattle.gu_flow.specs.Levels.{entry_at, level_at, IsEntered, IsTree}
-use Rattle.gu_flow.specs.Ways.{stand, IsWay, IsFalling, HasRoom, TakesEachOnce, IsWhole, IsCurrent, IsAhead, IsDown, IsDescent}
-use Rattle.gu_flow.proofs.Augmenting.{stand-more, room_front}
+use Rattle.gu_flow.specs.Ends.{arc_at, is_tail, near, far, residual_in, last_before, IsCurrent}
+use Rattle.gu_flow.specs.Flows.{IsFlow, value_of}
+use Rattle.gu_flow.specs.Levels.{entry_at, level_at, IsStep, IsTree}
+use Rattle.gu_flow.specs.Ways.{stand, HasRoom, TakesEachOnce, IsWhole, IsAhead, IsDown, IsDescent}
+use Rattle.gu_flow.proofs.Linking.{last_is_before, last_is_at}
+use Rattle.gu_flow.proofs.SumLemmas.{at_set}
+use Rattle.gu_flow.proofs.Augmenting.{stand-more}
 
--- a way of no steps
-pub no_descent : (arcs : List Arc) (flow : List ℕ) (entries : List Entry) (way : List ℕ) → IsDescent arcs flow entries way 0
-no_descent arcs flow entries way = record {
-  is_way = record { ends = λ i i_in. absurd (omega arith); joined = λ i i_in. absurd (omega arith) };
-  falling = record { falls = λ i i_in. absurd (omega arith) };
-  room = record { room = λ i i_in. absurd (omega arith) };
-}
+-- a way's steps before a place tell where it stands there
+stand_by : (arcs : List Arc) (way other : List ℕ) (i : ℕ) → (0 < i → get_or other (i - 1) 0 ≡ get_or way (i - 1) 0) → stand arcs other i ≡ stand arcs way i
+stand_by arcs way other i same = elim (cases_eq i 0) [ inl none ↦ rw none refl | inr some ↦ ap (λ e. cond (i == 0) 1 (far arcs e)) (same (omega arith)) ]
 
--- each step is a level lower
-pub stand_level : (arcs : List Arc) (entries : List Entry) (way : List ℕ) (steps i : ℕ) → IsWay arcs way steps → IsFalling arcs entries way steps → i ≤ steps → level_at entries (stand arcs way i) + i ≡ level_at entries 1
-stand_level arcs entries way steps zero is_way falling i_in = omega arith
-stand_level arcs entries way steps (suc i) is_way falling i_in =
-    let one : suc i ≡ i + 1 = omega arith in
-    let now : level_at entries (stand arcs way (suc i)) ≡ level_at entries (far arcs (get_or way i 0)) = ap (λ k. level_at entries (stand arcs way k)) one ∙ ap (level_at entries) (stand-more arcs way i) in
-    let was : level_at entries (near arcs (get_or way i 0)) ≡ level_at entries (stand arcs way i) = ap (level_at entries) (is_way.joined i (omega arith)) in
-    omega (arith, now, was, falling.falls i (omega arith), stand_level arcs entries way steps i is_way falling (omega arith))
+module _ (arcs : List Arc) (flow : List ℕ) (entries : List Entry) (way : List ℕ) (steps : ℕ) (d : IsDescent arcs flow entries way steps) where
+  -- each step is a level lower
+  stand_level : (i : ℕ) → i ≤ steps → level_at entries (stand arcs way i) + i ≡ level_at entries 1
+  stand_level zero i_in = omega arith
+  stand_level (suc i) i_in =
+      let one : suc i ≡ i + 1 = omega arith in
+      omega (arith, ap (level_at entries) (ap (stand arcs way) one ∙ stand-more arcs way i), (d.each i (omega arith)).falls, stand_level i (omega arith))
 
-level_cond : (entries : List Entry) (b : Bool) (x y : ℕ) → level_at entries (cond b x y) ≡ cond b (level_at entries x) (level_at entries y)
-level_cond entries true x y = refl
-level_cond entries false x y = refl
+  both_levels : (i : ℕ) → i < steps → level_at entries (near arcs (get_or way i 0)) + level_at entries (far arcs (get_or way i 0)) + 2 * i + 1 ≡ 2 * level_at entries 1
+  both_levels i i_in = let s = d.each i i_in in omega (arith, ap (level_at entries) s.here, s.falls, stand_level i (omega arith))
 
-same_place : (b c : Bool) (f t top i j : ℕ) → cond b f t + i ≡ top → cond b t f + 1 ≡ cond b f t → cond c f t + j ≡ top → cond c t f + 1 ≡ cond c f t → i ≡ j
-same_place true true f t top i j p q r s = omega arith
-same_place true false f t top i j p q r s = omega arith
-same_place false true f t top i j p q r s = omega arith
-same_place false false f t top i j p q r s = omega arith
-
--- so no arc is taken twice
-module _ (arcs : List Arc) (entries : List Entry) (way : List ℕ) (steps : ℕ) (is_way : IsWay arcs way steps) (falling : IsFalling arcs entries way steps) where
-  at_step : (i : ℕ) → i < steps → (a : Arc) → arc_at arcs (get_or way i 0 / 2) ≡ a
-      → (cond (is_tail (get_or way i 0)) (level_at entries a.from) (level_at entries a.to) + i ≡ level_at entries 1)
-      × (cond (is_tail (get_or way i 0)) (level_at entries a.to) (level_at entries a.from) + 1 ≡ cond (is_tail (get_or way i 0)) (level_at entries a.from) (level_at entries a.to))
-  at_step i i_in a is =
-      let e = get_or way i 0 in
-      let here : level_at entries (near arcs e) ≡ cond (is_tail e) (level_at entries a.from) (level_at entries a.to) =
-      ap (λ (x : Arc). level_at entries (cond (is_tail e) x.from x.to)) is ∙ level_cond entries (is_tail e) a.from a.to in
-      let there : level_at entries (far arcs e) ≡ cond (is_tail e) (level_at entries a.to) (level_at entries a.from) =
-      ap (λ (x : Arc). level_at entries (cond (is_tail e) x.to x.from)) is ∙ level_cond entries (is_tail e) a.to a.from in
-      let stands : level_at entries (near arcs e) + i ≡ level_at entries 1 = ap (λ n. level_at entries n + i) (is_way.joined i i_in) ∙ stand_level arcs entries way steps i is_way falling (omega arith) in
-      (omega arith, omega (arith, falling.falls i i_in))
-
+  -- so no arc is taken twice
   pub falling_once : TakesEachOnce way steps
   falling_once i j i_in j_in same =
-      let a = arc_at arcs (get_or way j 0 / 2) in
-      let p = at_step i i_in a (ap (arc_at arcs) same) in
-      let q = at_step j j_in a refl in
-      same_place (is_tail (get_or way i 0)) (is_tail (get_or way j 0)) (level_at entries a.from) (level_at entries a.to) (level_at entries 1) i j p.0 p.1 q.0 q.1
+      omega (arith, both_levels i i_in, both_levels j j_in, both_ends (get_or way i 0), both_ends (get_or way j 0), ap (λ k. level_at entries (arc_at arcs k).from + level_at entries (arc_at arcs k).to) same)
+    where
+      both_ends : (e : ℕ) → level_at entries (near arcs e) + level_at entries (far arcs e) ≡ level_at entries (arc_at arcs (e / 2)).from + level_at entries (arc_at arcs (e / 2)).to
+      both_ends e = elim (cases_Bool (is_tail e)) [ inl tail ↦ rw tail refl | inr head ↦ rw head (omega arith) ]
 
--- the front of a way is one
-pub way_front : (arcs : List Arc) (entries : List Entry) (way : List ℕ) (few steps : ℕ) → few ≤ steps → IsWay arcs way steps → IsWay arcs way few
-way_front arcs entries way few steps fewer is_way = record { ends = λ i i_in. is_way.ends i (omega arith); joined = λ i i_in. is_way.joined i (omega arith) }
+  -- the front of a way is one
+  pub front : (few : ℕ) → few ≤ steps → IsDescent arcs flow entries way few
+  front few fewer = record { each = λ i i_in. d.each i (omega arith) }
 
-pub falling_front : (arcs : List Arc) (entries : List Entry) (way : List ℕ) (few steps : ℕ) → few ≤ steps → IsFalling arcs entries way steps → IsFalling arcs entries way few
-falling_front arcs entries way few steps fewer falling = record { falls = λ i i_in. falling.falls i (omega arith) }
+  -- also by itself; one that comes to the source is whole, and has room
+  taken : steps ≤ length way → IsDescent arcs flow entries (take steps way) (length (take steps way))
+  taken within = rw (length-take-le steps way within) (record {
+    each = λ i i_in. subst (λ n. IsStep arcs flow entries n (level_at entries n) (get_or (take steps way) i 0)) (sym (stand_by arcs way (take steps way) i (λ some. get_or-take steps way (i - 1) 0 (omega arith))))
+        (subst (IsStep arcs flow entries (stand arcs way i) (level_at entries (stand arcs way i))) (sym (get_or-take steps way i 0 i_in)) (d.each i i_in));
+  })
+
+pub front_whole : (arcs : List Arc) (flow : List ℕ) (entries : List Entry) (way : List ℕ) (steps : ℕ) → steps ≤ length way → IsDescent arcs flow entries way steps → stand arcs way steps ≡ 0
+    → IsWhole arcs (take steps way) × HasRoom arcs flow (take steps way) (length (take steps way)) 1
+front_whole arcs flow entries way steps within d source =
+    let t = taken arcs flow entries way steps d within in (
+      record {
+        is_way = record { ends = λ i i_in. (t.each i i_in).end_in; joined = λ i i_in. (t.each i i_in).here };
+        source = ap (stand arcs (take steps way)) (length-take-le steps way within) ∙ stand_by arcs way (take steps way) steps (λ some. get_or-take steps way (steps - 1) 0 (omega arith)) ∙ source;
+        once = falling_once arcs flow entries (take steps way) (length (take steps way)) t;
+      },
+      λ i i_in. (t.each i i_in).room,
+    )
+
+-- a way stands at a node
+pub record Standing (arcs : List Arc) (flow : List ℕ) (entries : List Entry) (way : List ℕ) (steps node : ℕ) : Type 0 where
+  pub descent : IsDescent arcs flow entries way steps
+  pub stands : stand arcs way steps ≡ node
+  pub within : steps ≤ length way
 
 -- a step more
-module _ (arcs : List Arc) (flow : List ℕ) (entries : List Entry) (way : List ℕ) (steps end : ℕ) (d : IsDescent arcs flow entries way steps) (steps_in : steps < length way) (end_in : end < 2 * length arcs) (here : near arcs end ≡ stand arcs way steps) (room : 0 < residual_in arcs flow end) (falls : level_at entries (far arcs end) + 1 ≡ level_at entries (near arcs end)) where
-  way' : List ℕ
-  way' = set way steps end
+module _ (arcs : List Arc) (flow : List ℕ) (entries : List Entry) (way : List ℕ) (steps node end : ℕ) (top : level_at entries 1 ≤ length way)
+    (s : Standing arcs flow entries way steps node) (step : IsStep arcs flow entries node (level_at entries node) end) where
+  pub room_ahead : steps < length way
+  room_ahead = omega (arith, stand_level arcs flow entries way steps s.descent steps (omega arith), ap (level_at entries) s.stands, step.falls)
 
-  last : get_or way' steps 0 ≡ end
-  unfolding way'
-  last = get_or-set_same way steps end 0 steps_in
-
-  earlier : (i : ℕ) → i < steps → get_or way' i 0 ≡ get_or way i 0
-  unfolding way'
-  earlier i i_in = get_or-set_other way steps i end 0 (omega arith)
-
-  stand_kept : (i : ℕ) → i ≤ steps → stand arcs way' i ≡ stand arcs way i
-  stand_kept zero i_in = refl
-  stand_kept (suc i) i_in =
-      let one : suc i ≡ i + 1 = omega arith in
-      ap (stand arcs way') one ∙ stand-more arcs way' i ∙ ap (far arcs) (earlier i (omega arith)) ∙ sym (stand-more arcs way i) ∙ ap (stand arcs way) (sym one)
-
-  by_step : (P : ℕ → ℕ → Type 0) → ((i : ℕ) → i < steps → P i (get_or way i 0)) → P steps end → (i : ℕ) → i < steps + 1 → P i (get_or way' i 0)
-  by_step P before now = below_more (λ i. P i (get_or way' i 0)) steps (λ i i_in. subst (P i) (sym (earlier i i_in)) (before i i_in)) (subst (P steps) (sym last) now)
-
-  pub descends : IsDescent arcs flow entries (set way steps end) (steps + 1)
-  unfolding way'
-  descends = record {
-    is_way = record {
-      ends = by_step (λ i e. e < 2 * length arcs) d.is_way.ends end_in;
-      joined = by_step (λ i e. near arcs e ≡ stand arcs way' i) (λ i i_in. d.is_way.joined i i_in ∙ sym (stand_kept i (omega arith))) (here ∙ sym (stand_kept steps (omega arith)));
+  pub stands_on : Standing arcs flow entries (set way steps end) (steps + 1) (far arcs end)
+  stands_on = record {
+    descent = record {
+      each = λ i i_in. subst (λ n. IsStep arcs flow entries n (level_at entries n) (get_or (set way steps end) i 0))
+          (sym (stand_by arcs way (set way steps end) i (λ some. get_or-set_other way steps (i - 1) end 0 (λ e. absurd (omega arith)))))
+          (at_set (λ i e. i < steps + 1 → IsStep arcs flow entries (stand arcs way i) (level_at entries (stand arcs way i)) e) way steps end 0 room_ahead (λ _. rw s.stands step) (λ i other i_in. s.descent.each i (omega arith)) i i_in);
     };
-    falling = record { falls = by_step (λ i e. level_at entries (far arcs e) + 1 ≡ level_at entries (near arcs e)) d.falling.falls falls };
-    room = record { room = by_step (λ i e. 1 ≤ residual_in arcs flow e) d.room.room room };
+    stands = stand-more arcs (set way steps end) steps ∙ ap (far arcs) (get_or-set_same way steps end 0 room_ahead);
+    within = omega (arith, room_ahead, length-set way steps end);
   }
 
-  pub stands_far : stand arcs (set way steps end) (steps + 1) ≡ far arcs end
-  unfolding way'
-  stands_far = stand-more arcs way' steps ∙ ap (far arcs) last
-
-  pub ahead_more : (current : List ℕ) → IsAhead arcs current way steps → end < get_or current (near arcs end) 0 → IsAhead arcs current (set way steps end) (steps + 1)
-  unfolding way'
-  ahead_more current before now = by_step (λ i e. e < get_or current (near arcs e) 0) before now
+  ahead_on : (current : List ℕ) → IsAhead arcs current way steps → end < get_or current node 0 → IsAhead arcs current (set way steps end) (steps + 1)
+  ahead_on current before now = at_set (λ i e. i < steps + 1 → e < get_or current (near arcs e) 0) way steps end 0 room_ahead (λ _. rw step.here now) (λ i other i_in. before i (omega arith))
 
 -- the way on which a search came to the sink is followed back
 pub record Tracing (arcs : List Arc) (flow : List ℕ) (entries : List Entry) (way : List ℕ) (steps node : ℕ) : Type 0 where
-  pub descent : IsDescent arcs flow entries way steps
-  pub stands : stand arcs way steps ≡ node
-  pub within : steps ≤ length way
+  pub standing : Standing arcs flow entries way steps node
   pub reached : 0 < level_at entries node
 
-pub trace_begins : (arcs : List Arc) (flow : List ℕ) (entries : List Entry) (way : List ℕ) → 0 < level_at entries 1 → Tracing arcs flow entries way 0 1
-trace_begins arcs flow entries way found = record {
-  descent = no_descent arcs flow entries way;
-  stands = refl;
-  within = omega arith;
-  reached = found;
-}
-
-module _ (arcs : List Arc) (flow : List ℕ) (entries : List Entry) (way : List ℕ) (steps node : ℕ) (tree : IsTree arcs flow entries) (long : length entries ≤ length way) (t : Tracing arcs flow entries way steps node) (on_way : node ≢ 0) where
-  abbrev via : ℕ
-  via = (entry_at entries node).via
-
-  pub entered : IsEntered arcs flow entries node
+module _ (arcs : List Arc) (flow : List ℕ) (entries : List Entry) (way : List ℕ) (steps node : ℕ) (tree : IsTree arcs flow entries) (top : level_at entries 1 ≤ length way) (t : Tracing arcs flow entries way steps node) (on_way : node ≢ 0) where
+  pub entered : IsStep arcs flow entries node (level_at entries node) (entry_at entries node).via
   entered = tree.entered node on_way t.reached
 
   pub trace_within : steps < length way
-  trace_within = omega (arith, stand_level arcs entries way steps steps t.descent.is_way t.descent.falling (omega arith), ap (level_at entries) t.stands, t.reached, tree.levels 1)
-
-  falls_here : level_at entries (far arcs via) + 1 ≡ level_at entries (near arcs via)
-  falls_here = entered.before ∙ ap (level_at entries) (sym entered.here)
+  trace_within = room_ahead arcs flow entries way steps node (entry_at entries node).via top t.standing entered
 
   pub traces : Tracing arcs flow entries (set way steps (entry_at entries node).via) (steps + 1) (far arcs (entry_at entries node).via)
-  traces =
-      let here : near arcs via ≡ stand arcs way steps = entered.here ∙ sym t.stands in
-      record {
-        descent = descends arcs flow entries way steps via t.descent trace_within entered.end_in here entered.room falls_here;
-        stands = stands_far arcs flow entries way steps via t.descent trace_within entered.end_in here entered.room falls_here;
-        within = omega (arith, trace_within, length-set way steps via);
-        reached = entered.reached;
-      }
+  traces = record { standing = stands_on arcs flow entries way steps node (entry_at entries node).via top t.standing entered; reached = omega (arith, entered.falls, tree.above node on_way t.reached) }
 
 -- a search for ways goes on from where a way stands
 pub record Descending (arcs : List Arc) (flow : List ℕ) (entries : List Entry) (current way : List ℕ) (steps node : ℕ) : Type 0 where
-  pub descent : IsDescent arcs flow entries way steps
-  pub stands : stand arcs way steps ≡ node
-  pub within : steps ≤ length way
+  pub standing : Standing arcs flow entries way steps node
   pub node_in : node < length entries
   pub current_is : IsCurrent arcs current
   pub ahead : IsAhead arcs current way steps
 
 -- the next end at a node
-pub next_current : (arcs : List Arc) (next current : List ℕ) (node end : ℕ) → IsChain arcs next (2 * length arcs) → IsCurrent arcs current → node < length current → end < 2 * length arcs → near arcs end ≡ node → IsCurrent arcs (set current node (get_or next end 0))
-next_current arcs next current node end chain is node_in end_in here =
-    let now : get_or (set current node (get_or next end 0)) node 0 ≡ get_or next end 0 = get_or-set_same current node (get_or next end 0) 0 node_in in
+pub next_current : (arcs : List Arc) (current : List ℕ) (node end : ℕ) → IsCurrent arcs current → node < length current → end < 2 * length arcs → near arcs end ≡ node → IsCurrent arcs (set current node (last_before arcs end (near arcs end)))
+next_current arcs current node end is node_in end_in here =
+    let next = last_before arcs end (near arcs end) in
     record {
-      ends = λ n. elim (cases_eq n node) [
-        | inl same ↦ omega (arith, ap (λ k. get_or (set current node (get_or next end 0)) k 0) same, now, chain.before end end_in)
-        | inr other ↦ omega (arith, get_or-set_other current node n (get_or next end 0) 0 other, is.ends n)
-      ];
-      here = λ n some. elim (cases_eq n node) [
-        | inl same ↦
-            let at : get_or (set current node (get_or next end 0)) n 0 ≡ get_or next end 0 = ap (λ k. get_or (set current node (get_or next end 0)) k 0) same ∙ now in
-            ap (λ k. near arcs (k - 1)) at ∙ chain.at end end_in (omega arith) ∙ here ∙ sym same
-        | inr other ↦
-            let at = get_or-set_other current node n (get_or next end 0) 0 other in
-            ap (λ k. near arcs (k - 1)) at ∙ is.here n (omega (arith, at))
-      ];
+      ends = at_set (λ n x. x ≤ 2 * length arcs) current node next 0 node_in (omega (arith, last_is_before arcs end (near arcs end))) (λ n other. is.ends n);
+      here = at_set (λ n x. 0 < x → near arcs (x - 1) ≡ n) current node next 0 node_in (λ some. last_is_at arcs end (near arcs end) some ∙ here) (λ n other. is.here n);
     }
 
 -- a smaller number makes a smaller sum
 pub sum_set_less : (xs : List ℕ) (i x : ℕ) → i < length xs → x < get_or xs i 0 → sum (set xs i x) < sum xs
 sum_set_less xs i x i_in less = omega (arith, sum_by-set (λ (y : ℕ). y) xs i x 0 i_in)
 
--- where a way stands, no step has been before
-stands_apart : (arcs : List Arc) (entries : List Entry) (way : List ℕ) (steps i : ℕ) → IsWay arcs way steps → IsFalling arcs entries way steps → i < steps → near arcs (get_or way i 0) ≢ stand arcs way steps
-stands_apart arcs entries way steps i is_way falling i_in same =
-    absurd (omega (arith, stand_level arcs entries way steps i is_way falling (omega arith), stand_level arcs entries way steps steps is_way falling (omega arith), ap (level_at entries) (sym (is_way.joined i i_in) ∙ same)))
-
-module _ (arcs : List Arc) (flow : List ℕ) (entries : List Entry) (current way : List ℕ) (steps node : ℕ) (levels : (n : ℕ) → level_at entries n ≤ length entries) (long : length entries ≤ length way) (d : Descending arcs flow entries current way steps node) where
-  -- each node's place in the search stays, but for the one where the way stands
-  ahead_still : (current' : List ℕ) → ((n : ℕ) → n ≢ node → get_or current' n 0 ≡ get_or current n 0) → IsAhead arcs current' way steps
-  ahead_still current' others i i_in =
-      let apart : near arcs (get_or way i 0) ≢ node = λ same. stands_apart arcs entries way steps i d.descent.is_way d.descent.falling i_in (same ∙ sym d.stands) in
+module _ (arcs : List Arc) (flow : List ℕ) (entries : List Entry) (current way : List ℕ) (steps node : ℕ) (top : level_at entries 1 ≤ length way) (d : Descending arcs flow entries current way steps node)
+    (current' : List ℕ) (is : IsCurrent arcs current') (others : (n : ℕ) → n ≢ node → get_or current' n 0 ≡ get_or current n 0) where
+  -- where a way stands, no step has been before, and elsewhere each node's place in the search stays
+  ahead_still : IsAhead arcs current' way steps
+  ahead_still i i_in =
+      let standing = d.standing in
+      let before = stand_level arcs flow entries way steps standing.descent in
+      let apart : near arcs (get_or way i 0) ≢ node = λ same.
+      absurd (omega (arith, before i (omega arith), before steps (omega arith), ap (level_at entries) (standing.descent.each i i_in).here, ap (level_at entries) same, ap (level_at entries) standing.stands)) in
       omega (arith, others (near arcs (get_or way i 0)) apart, d.ahead i i_in)
 
-  module _ (current' : List ℕ) (end : ℕ) (is : IsCurrent arcs current') (others : (n : ℕ) → n ≢ node → get_or current' n 0 ≡ get_or current n 0) (down : IsDown arcs flow entries current' node end) where
+  module _ (end : ℕ) (down : IsDown arcs flow entries current' node end) where
     pub descent_within : steps < length way
-    descent_within = omega (arith, stand_level arcs entries way steps steps d.descent.is_way d.descent.falling (omega arith), ap (level_at entries) d.stands, down.falls, levels 1)
-
-    here : near arcs end ≡ stand arcs way steps
-    here = down.here ∙ sym d.stands
-
-    falls : level_at entries (far arcs end) + 1 ≡ level_at entries (near arcs end)
-    falls = down.falls ∙ ap (level_at entries) (sym down.here)
+    descent_within = room_ahead arcs flow entries way steps node end top d.standing down.step
 
     pub goes_down : far arcs end < length entries → Descending arcs flow entries current' (set way steps end) (steps + 1) (far arcs end)
     goes_down node_in = record {
-      descent = descends arcs flow entries way steps end d.descent descent_within down.end_in here down.room falls;
-      stands = stands_far arcs flow entries way steps end d.descent descent_within down.end_in here down.room falls;
-      within = omega (arith, descent_within, length-set way steps end);
+      standing = stands_on arcs flow entries way steps node end top d.standing down.step;
       node_in = node_in;
       current_is = is;
-      ahead = ahead_more arcs flow entries way steps end d.descent descent_within down.end_in here down.room falls current' (ahead_still current' others) (subst (λ n. end < get_or current' n 0) (sym down.here) down.ahead);
+      ahead = ahead_on arcs flow entries way steps node end top d.standing down.step current' ahead_still down.ahead;
     }
 
   -- one step back, and past its end
-  module _ (next current' : List ℕ) (chain : IsChain arcs next (2 * length arcs)) (is : IsCurrent arcs current') (others : (n : ℕ) → n ≢ node → get_or current' n 0 ≡ get_or current n 0) (some : 0 < steps) where
+  module _ (some : 0 < steps) where
     abbrev end : ℕ
     end = get_or way (steps - 1) 0
 
-    pub end_in : end < 2 * length arcs
-    end_in = d.descent.is_way.ends (steps - 1) (omega arith)
+    pub last : IsStep arcs flow entries (stand arcs way (steps - 1)) (level_at entries (stand arcs way (steps - 1))) (get_or way (steps - 1) 0)
+    last = d.standing.descent.each (steps - 1) (omega arith)
 
-    pub falls_back : level_at entries (near arcs end) ≡ level_at entries node + 1
+    pub falls_back : level_at entries (near arcs (get_or way (steps - 1) 0)) ≡ level_at entries node + 1
     falls_back =
-        let stands : far arcs end ≡ node = sym (stand-more arcs way (steps - 1)) ∙ ap (stand arcs way) (let e : steps - 1 + 1 ≡ steps = omega arith in e) ∙ d.stands in
-        omega (arith, d.descent.falling.falls (steps - 1) (omega arith), ap (level_at entries) stands)
+        let same : steps ≡ steps - 1 + 1 = omega arith in
+        omega (arith, ap (level_at entries) last.here, last.falls, ap (level_at entries) (sym (stand-more arcs way (steps - 1)) ∙ ap (stand arcs way) (sym same) ∙ d.standing.stands))
 
-    pub passes : get_or next end 0 < get_or current' (near arcs end) 0
-    passes = omega (arith, chain.before end end_in, ahead_still current' others (steps - 1) (omega arith))
+    pub passes : last_before arcs (get_or way (steps - 1) 0) (near arcs (get_or way (steps - 1) 0)) < get_or current' (near arcs (get_or way (steps - 1) 0)) 0
+    passes = omega (arith, last_is_before arcs end (near arcs end), ahead_still (steps - 1) (omega arith))
 
-    pub goes_back : near arcs end < length current' → near arcs end < length entries → Descending arcs flow entries (set current' (near arcs end) (get_or next end 0)) way (steps - 1) (near arcs end)
+    pub goes_back : near arcs (get_or way (steps - 1) 0) < length current' → near arcs (get_or way (steps - 1) 0) < length entries
+        → Descending arcs flow entries (set current' (near arcs (get_or way (steps - 1) 0)) (last_before arcs (get_or way (steps - 1) 0) (near arcs (get_or way (steps - 1) 0)))) way (steps - 1) (near arcs (get_or way (steps - 1) 0))
     goes_back back_in node_in =
-        let is_way = way_front arcs entries way (steps - 1) steps (omega arith) d.descent.is_way in
-        let falling = falling_front arcs entries way (steps - 1) steps (omega arith) d.descent.falling in
-        let stands : near arcs end ≡ stand arcs way (steps - 1) = d.descent.is_way.joined (steps - 1) (omega arith) in
+        let fewer = front arcs flow entries way steps d.standing.descent (steps - 1) (omega arith) in
+        let before = stand_level arcs flow entries way steps d.standing.descent in
         record {
-          descent = record { is_way = is_way; falling = falling; room = room_front arcs flow way (steps - 1) steps 1 (omega arith) d.descent.room };
-          stands = sym stands;
-          within = omega (arith, d.within);
+          standing = record { descent = fewer; stands = sym last.here; within = omega (arith, d.standing.within) };
           node_in = node_in;
-          current_is = next_current arcs next current' (near arcs end) end chain is back_in end_in refl;
+          current_is = next_current arcs current' (near arcs end) end is back_in last.end_in refl;
           ahead = λ i i_in.
-              let apart : near arcs (get_or way i 0) ≢ near arcs end = λ same. stands_apart arcs entries way (steps - 1) i is_way falling i_in (same ∙ stands) in
-              omega (arith, get_or-set_other current' (near arcs end) (near arcs (get_or way i 0)) (get_or next end 0) 0 apart, ahead_still current' others i (omega arith));
+              let apart : near arcs (get_or way i 0) ≢ near arcs end = λ same.
+              absurd (omega (arith, before i (omega arith), before (steps - 1) (omega arith), ap (level_at entries) (d.standing.descent.each i (omega arith)).here, ap (level_at entries) same, ap (level_at entries) last.here)) in
+              omega (arith, get_or-set_other current' (near arcs end) (near arcs (get_or way i 0)) (last_before arcs end (near arcs end)) 0 apart, ahead_still i (omega arith));
         }
 
--- the steps of a way that comes to the source
-module _ (arcs : List Arc) (flow : List ℕ) (entries : List Entry) (way : List ℕ) (steps : ℕ) (within : steps ≤ length way) (d : IsDescent arcs flow entries way steps) where
-  front_long : length (take steps way) ≡ steps
-  front_long = length-take-le steps way within
+-- more flows than at the start, and the steps that are kept have room
+pub record Blocking (arcs : List Arc) (start flow : List ℕ) (entries : List Entry) (current way : List ℕ) (kept : ℕ) : Type 0 where
+  pub flow_is : IsFlow arcs flow
+  pub more : value_of arcs start < value_of arcs flow
+  pub descent : IsDescent arcs flow entries way kept
+  pub current_is : IsCurrent arcs current
+  pub ahead : IsAhead arcs current way kept
+  pub within : kept ≤ length way
 
-  front_at : (i : ℕ) → i < length (take steps way) → (i < steps) × (get_or (take steps way) i 0 ≡ get_or way i 0)
-  front_at i i_in = let i_in' : i < steps = omega (arith, front_long) in (i_in', get_or-take steps way i 0 i_in')
+-- the first way is brought
+pub block_begins : (arcs : List Arc) (start flow : List ℕ) (entries : List Entry) (current way : List ℕ) → IsFlow arcs flow → value_of arcs start < value_of arcs flow → IsCurrent arcs current → Blocking arcs start flow entries current way 0
+block_begins arcs start flow entries current way is more current_is = record {
+  flow_is = is;
+  more = more;
+  descent = record { each = λ i i_in. absurd (omega arith) };
+  current_is = current_is;
+  ahead = λ i i_in. absurd (omega arith);
+  within = omega arith;
+}
 
-  front_stand : (i : ℕ) → i ≤ steps → stand arcs (take steps way) i ≡ stand arcs way i
-  front_stand zero i_in = refl
-  front_stand (suc i) i_in =
-      let one : suc i ≡ i + 1 = omega arith in
-      ap (stand arcs (take steps way)) one ∙ stand-more arcs (take steps way) i ∙ ap (far arcs) (get_or-take steps way i 0 (omega arith)) ∙ sym (stand-more arcs way i) ∙ ap (stand arcs way) (sym one)
-
-  pub front_whole : stand arcs way steps ≡ 0 → IsWhole arcs (take steps way)
-  front_whole source = record {
-    is_way = record {
-      ends = λ i i_in. let f = front_at i i_in in omega (arith, f.1, d.is_way.ends i f.0);
-      joined = λ i i_in. let f = front_at i i_in in ap (near arcs) f.1 ∙ d.is_way.joined i f.0 ∙ sym (front_stand i (omega (arith, f.0)));
+-- one more way is brought, and the steps before the first without room are kept
+pub block_goes_on : (arcs : List Arc) (start old flow : List ℕ) (entries : List Entry) (current way : List ℕ) (steps kept : ℕ) → value_of arcs start < value_of arcs old → IsFlow arcs flow → value_of arcs old < value_of arcs flow
+    → IsDescent arcs old entries way steps → IsCurrent arcs current → IsAhead arcs current way steps → steps ≤ length way → kept ≤ steps → HasRoom arcs flow (take steps way) kept 1 → Blocking arcs start flow entries current way kept
+block_goes_on arcs start old flow entries current way steps kept more is rises d current_is ahead within fewer room = record {
+  flow_is = is;
+  more = omega arith;
+  descent = record {
+    each = λ i i_in. let s = d.each i (omega arith) in record {
+      end_in = s.end_in;
+      here = s.here;
+      room = subst (λ e. 0 < residual_in arcs flow e) (get_or-take steps way i 0 (omega arith)) (room i i_in);
+      falls = s.falls;
     };
-    source = ap (stand arcs (take steps way)) front_long ∙ front_stand steps (omega arith) ∙ source;
-    once = λ i j i_in j_in same.
-        let f = front_at i i_in in
-        let g = front_at j j_in in
-        falling_once arcs entries way steps d.is_way d.falling i j f.0 g.0 (ap (λ k. k / 2) (sym f.1) ∙ same ∙ ap (λ k. k / 2) g.1);
-  }
-
-  pub front_room : HasRoom arcs flow (take steps way) (length (take steps way)) 1
-  front_room = record { room = λ i i_in. let f = front_at i i_in in subst (λ e. 1 ≤ residual_in arcs flow e) (sym f.1) (d.room.room i f.0) }
-
--- so many of them have room
-pub front_kept : (arcs : List Arc) (flow way : List ℕ) (steps few : ℕ) → few ≤ steps → HasRoom arcs flow (take steps way) few 1 → HasRoom arcs flow way few 1
-front_kept arcs flow way steps few fewer room = record { room = λ i i_in. subst (λ e. 1 ≤ residual_in arcs flow e) (get_or-take steps way i 0 (omega arith)) (room.room i i_in) }
+  };
+  current_is = current_is;
+  ahead = λ i i_in. ahead i (omega arith);
+  within = omega arith;
+}

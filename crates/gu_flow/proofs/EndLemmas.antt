@@ -50,35 +50,3 @@ near_in arcs e nodes joins e_in = elim (cases_Bool (is_tail e)) [
   | inl tail ↦ rw tail (joins (e / 2) no_arc (omega arith)).0
   | inr head ↦ rw head (joins (e / 2) no_arc (omega arith)).1
 ]
-
--- the tail end of an arc, and its head end
-module _ (arcs : List Arc) (flow : List ℕ) (k : ℕ) where
-  even : is_tail (2 * k) ≡ true
-  even = eq-eqb ((2 * k) % 2) 0 (omega arith)
-
-  odd : is_tail (2 * k + 1) ≡ false
-  odd = ne_eqb ((2 * k + 1) % 2) 0 (omega arith)
-
-  half_even : 2 * k / 2 ≡ k
-  half_even = omega arith
-
-  half_odd : (2 * k + 1) / 2 ≡ k
-  half_odd = omega arith
-
-  pub tail-near : near arcs (2 * k) ≡ (arc_at arcs k).from
-  tail-near = rw (even, half_even)
-
-  pub tail-far : far arcs (2 * k) ≡ (arc_at arcs k).to
-  tail-far = rw (even, half_even)
-
-  pub tail-residual_out : residual_out arcs flow (2 * k) ≡ (arc_at arcs k).capacity - get_or flow k 0
-  tail-residual_out = rw (even, half_even)
-
-  pub head-near : near arcs (2 * k + 1) ≡ (arc_at arcs k).to
-  head-near = rw (odd, half_odd)
-
-  pub head-far : far arcs (2 * k + 1) ≡ (arc_at arcs k).from
-  head-far = rw (odd, half_odd)
-
-  pub head-residual_out : residual_out arcs flow (2 * k + 1) ≡ get_or flow k 0
-  head-residual_out = rw (odd, half_odd)

@@ -6,7 +6,6 @@ pub mod PushLemmas
 pub mod PreflowLemmas
 pub mod Augmenting
 pub mod Descents
-pub mod Blocking
 pub mod SumLemmas
 pub mod Walks
 pub mod Loads
@@ -16,5 +15,5 @@ pub mod RoomPlaces
 pub mod ArcLists
 pub mod ShareLemmas
 pub mod CutMembers
-pub mod WayLayers
+pub mod OfferWays
 pub mod Certifying

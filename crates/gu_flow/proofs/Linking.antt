@@ -1,88 +1,56 @@
--- One more end is linked.
-use Rattle.std.proofs.Common.{◌≡◌, ◌≢◌, ℕ, ◌+◌, ◌-◌, ◌<◌, List, length, sym, ◌∙◌, ap, arith, inl, inr, get_or, get_or-set_other, get_or-set_same}
+-- The ends at a node, linked from the last to the first.
+use Rattle.std.proofs.Common.{◌≡◌, ◌≢◌, ℕ, zero, suc, ◌+◌, ◌-◌, ◌*◌, ◌<◌, ◌≤◌, ◌==◌, List, length, sym, ◌∙◌, ap, arith, inl, inr, refl, get_or, get_or-set_other, get_or-set_same, add-one}
 use Rattle.std.proofs.Math.ListN.{set, length-set}
-use Rattle.std.proofs.lemmas.Bool.{cases_eq, cases_lt}
+use Rattle.std.proofs.lemmas.Bool.{cases_eq, cases_lt, cond_both, eqb-true, eqb-false, eq-eqb, ne_eqb}
 use Rattle.std.proofs.lemmas.List.{get_or_past}
-use Rattle.std.specs.Prelude.{All}
 use Rattle.gu_flow.specs.declared.network.Arc.{Arc}
-use Rattle.gu_flow.specs.Ends.{near, IsIndex}
+use Rattle.gu_flow.specs.Ends.{near, last_before, IsCurrent, IsIndex}
 
--- nothing is linked yet
-pub links_none : (arcs : List Arc) (first next : List ℕ) → All (λ ends. ends ≡ 0) first → IsIndex arcs first next 0
-links_none arcs first next none =
-    let zero : (n : ℕ) → get_or first n 0 ≡ 0 = λ n. elim (cases_lt n (length first)) [ inl n_in ↦ none n 0 n_in | inr past ↦ get_or_past first n 0 past ] in
-    record {
-      within = λ n. omega (arith, zero n);
-      at = λ n some. absurd (omega (arith, zero n));
-      none_after = λ n e n_in from below. absurd (omega arith);
-      chain = record {
-        before = λ e below. absurd (omega arith);
-        at = λ e below. absurd (omega arith);
-        none_between = λ e d below. absurd (omega arith);
-      };
-    }
+module _ (arcs : List Arc) where
+  pub last_is_before : (e n : ℕ) → last_before arcs e n ≤ e
+  unfolding last_before
+  last_is_before zero n = omega arith
+  last_is_before (suc e) n = cond_both (near arcs e == n) (suc e) (last_before arcs e n) (λ x. x ≤ suc e) (λ _. omega arith) (λ _. omega (arith, last_is_before e n))
 
-module _ (arcs : List Arc) (first next : List ℕ) (count : ℕ) (index : IsIndex arcs first next count) (more : count < length next) (n_in : near arcs count < length first) where
-  node : ℕ
-  node = near arcs count
+  pub last_is_at : (e n : ℕ) → 0 < last_before arcs e n → near arcs (last_before arcs e n - 1) ≡ n
+  unfolding last_before
+  last_is_at zero n = λ some. absurd (omega arith)
+  last_is_at (suc e) n =
+      cond_both (near arcs e == n) (suc e) (last_before arcs e n) (λ x. 0 < x → near arcs (x - 1) ≡ n) (λ here some. ap (near arcs) (omega arith) ∙ eqb-true (near arcs e) n here) (λ _. last_is_at e n)
 
-  first' : List ℕ
-  first' = set first node (count + 1)
+  -- the ends behind it are at other nodes
+  pub none_behind : (e n d : ℕ) → last_before arcs e n ≤ d → d < e → near arcs d ≢ n
+  unfolding last_before
+  none_behind zero n d = λ from below. absurd (omega arith)
+  none_behind (suc e) n d =
+      cond_both (near arcs e == n) (suc e) (last_before arcs e n) (λ x. x ≤ d → d < suc e → near arcs d ≢ n) (λ _ from below. absurd (omega arith)) (λ other from below at. elim (cases_eq d e) [
+        | inl last ↦ eqb-false (near arcs e) n other (ap (near arcs) (sym last) ∙ at)
+        | inr before ↦ none_behind e n d from (omega arith) at
+      ])
 
-  next' : List ℕ
-  next' = set next count (get_or first node 0)
-
-  first_here : get_or first' node 0 ≡ count + 1
-  unfolding first' node
-  first_here = get_or-set_same first node (count + 1) 0 n_in
-
-  first_there : (n : ℕ) → n ≢ node → get_or first' n 0 ≡ get_or first n 0
-  unfolding first' node
-  first_there n other = get_or-set_other first node n (count + 1) 0 other
-
-  next_here : get_or next' count 0 ≡ get_or first node 0
-  unfolding next'
-  next_here = get_or-set_same next count (get_or first node 0) 0 more
-
-  next_there : (e : ℕ) → e ≢ count → get_or next' e 0 ≡ get_or next e 0
-  unfolding next'
-  next_there e other = get_or-set_other next count e (get_or first node 0) 0 other
-
-  -- the new end's next is what was the first
-  pub link_one : IsIndex arcs (set first (near arcs count) (count + 1)) (set next count (get_or first (near arcs count) 0)) (count + 1)
-  unfolding first' next' node
-  link_one = record {
-    within = λ n. elim (cases_eq n node) [
-      | inl same ↦ omega (arith, ap (λ k. get_or first' k 0) same, first_here)
-      | inr other ↦ omega (arith, first_there n other, index.within n)
-    ];
-    at = λ n some. elim (cases_eq n node) [
-      | inl same ↦ ap (near arcs) (let is : get_or first' n 0 ≡ count + 1 = ap (λ k. get_or first' k 0) same ∙ first_here in omega arith) ∙ sym same
-      | inr other ↦ ap (λ k. near arcs (k - 1)) (first_there n other) ∙ index.at n (omega (arith, first_there n other))
-    ];
-    none_after = λ n e n_in from below at. elim (cases_eq n node) [
-      | inl same ↦ absurd (omega (arith, ap (λ k. get_or first' k 0) same, first_here))
-      | inr other ↦ elim (cases_eq e count) [
-        | inl last ↦ other (sym at ∙ ap (near arcs) last)
-        | inr before ↦ index.none_after n e (omega (arith, length-set first node (count + 1))) (omega (arith, first_there n other)) (omega arith) at
-      ]
-    ];
-    chain = record {
-      before = λ e below. elim (cases_eq e count) [
-        | inl last ↦ omega (arith, ap (λ k. get_or next' k 0) last, next_here, index.within node)
-        | inr before ↦ omega (arith, next_there e before, index.chain.before e (omega arith))
+-- one more end is linked
+pub link_one : (arcs : List Arc) (first next : List ℕ) (count : ℕ) → IsIndex arcs first next count → count < length next → near arcs count < length first
+    → IsIndex arcs (set first (near arcs count) (count + 1)) (set next count (get_or first (near arcs count) 0)) (count + 1)
+unfolding last_before
+link_one arcs first next count index more node_in =
+    let node = near arcs count in
+    rw add-one (record {
+      last = λ n n_in. elim (cases_eq n node) [
+        | inl same ↦ rw (same, eq-eqb node node refl) (get_or-set_same first node (suc count) 0 node_in)
+        | inr other ↦ rw (ne_eqb node n (λ e. other (sym e))) (get_or-set_other first node n (suc count) 0 other ∙ index.last n (omega (arith, length-set first node (suc count))))
       ];
-      at = λ e below some. elim (cases_eq e count) [
-        | inl last ↦
-            let is : get_or next' e 0 ≡ get_or first node 0 = ap (λ k. get_or next' k 0) last ∙ next_here in
-            ap (λ k. near arcs (k - 1)) is ∙ index.at node (omega arith) ∙ ap (near arcs) (sym last)
-        | inr before ↦ ap (λ k. near arcs (k - 1)) (next_there e before) ∙ index.chain.at e (omega arith) (omega (arith, next_there e before))
+      before = λ e e_in. elim (cases_eq e count) [
+        | inl last ↦ rw last (get_or-set_same next count (get_or first node 0) 0 more ∙ index.last node node_in)
+        | inr earlier ↦ get_or-set_other next count e (get_or first node 0) 0 earlier ∙ index.before e (omega arith)
       ];
-      none_between = λ e d below from under at. elim (cases_eq e count) [
-        | inl last ↦
-            let is : get_or next' e 0 ≡ get_or first node 0 = ap (λ k. get_or next' k 0) last ∙ next_here in
-            index.none_after node d n_in (omega arith) (omega arith) (at ∙ ap (near arcs) last)
-        | inr before ↦ index.chain.none_between e d (omega arith) (omega (arith, next_there e before)) under at
-      ];
-    };
-  }
+    })
+
+-- at each node a search begins at the last end
+pub begins_last : (arcs : List Arc) (first next : List ℕ) → IsIndex arcs first next (2 * length arcs) → IsCurrent arcs first
+begins_last arcs first next index = record {
+  ends = λ n. elim (cases_lt n (length first)) [ inl n_in ↦ omega (arith, index.last n n_in, last_is_before arcs (2 * length arcs) n) | inr past ↦ omega (arith, get_or_past first n 0 past) ];
+  here = λ n some. elim (cases_lt n (length first)) [
+    | inl n_in ↦ rw (index.last n n_in) (last_is_at arcs (2 * length arcs) n (omega (arith, index.last n n_in)))
+    | inr past ↦ absurd (omega (arith, get_or_past first n 0 past))
+  ];
+}

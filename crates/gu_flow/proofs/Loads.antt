@@ -8,19 +8,12 @@ use Rattle.gu_flow.specs.Flows.{sum_over}
 use Rattle.gu_flow.proofs.SumLemmas.{sum_places_by, sum_one_place, same_test, at_test}
 use Rattle.gu_flow.proofs.Walks.{Walking, load, loads_kept}
 
--- a place whose arc alone ends at its node, where the arcs that begin there are of earlier layers
-pub record IsLeft (arcs : List Arc) (s t : ℕ) (layer : ℕ → ℕ) (k : ℕ) : Type 0 where
-  pub not_s : (arc_at arcs k).to ≢ s
-  pub not_t : (arc_at arcs k).to ≢ t
-  pub alone : (j : ℕ) → j < length arcs → (arc_at arcs j).to ≡ (arc_at arcs k).to → j ≡ k
-  pub earlier : (j : ℕ) → j < length arcs → (arc_at arcs j).from ≡ (arc_at arcs k).to → layer j < layer k
-
--- a place whose arc alone begins at its node, where the arcs that end there are of earlier layers
-pub record IsRight (arcs : List Arc) (s t : ℕ) (layer : ℕ → ℕ) (k : ℕ) : Type 0 where
-  pub not_s : (arc_at arcs k).from ≢ s
-  pub not_t : (arc_at arcs k).from ≢ t
-  pub alone : (j : ℕ) → j < length arcs → (arc_at arcs j).from ≡ (arc_at arcs k).from → j ≡ k
-  pub earlier : (j : ℕ) → j < length arcs → (arc_at arcs j).to ≡ (arc_at arcs k).from → layer j < layer k
+-- a place whose arc alone comes here to its node, where the arcs that come there from the other side are of earlier layers
+pub record IsAlone (arcs : List Arc) (here there : Arc → ℕ) (s t : ℕ) (layer : ℕ → ℕ) (k : ℕ) : Type 0 where
+  pub not_s : here (arc_at arcs k) ≢ s
+  pub not_t : here (arc_at arcs k) ≢ t
+  pub alone : (j : ℕ) → j < length arcs → here (arc_at arcs j) ≡ here (arc_at arcs k) → j ≡ k
+  pub earlier : (j : ℕ) → j < length arcs → there (arc_at arcs j) ≡ here (arc_at arcs k) → layer j < layer k
 
 -- the terms of one place alone
 over_alone : (arcs : List Arc) (end : Arc → ℕ) (k : ℕ) (h : ℕ → ℕ) → k < length arcs → ((j : ℕ) → j < length arcs → end (arc_at arcs j) ≡ end (arc_at arcs k) → j ≡ k) → sum_over arcs (λ a. end a == end (arc_at arcs k)) h ≡ h k
@@ -40,28 +33,26 @@ over_same arcs end n f g same =
 
 module _ {X : Type 0} (arcs : List Arc) (flow : ℕ → ℕ) (walkers : List X) (way : X → List ℕ) (lots : X → ℕ) (s t : ℕ) (layer : ℕ → ℕ) (each : AllByRecursion (Walking arcs way s t) walkers)
     (kept : (n : ℕ) → n ≢ s → n ≢ t → sum_over arcs (λ a. a.to == n) flow ≡ sum_over arcs (λ a. a.from == n) flow) where
+  abbrev IsKept : (ℕ → ℕ) → ℕ → Type 0
+  IsKept f n = sum_over arcs (λ a. a.to == n) f ≡ sum_over arcs (λ a. a.from == n) f
+
   abbrev loads : ℕ → ℕ
   loads = load arcs walkers way lots s t each
 
-  left_agrees : (k : ℕ) → k < length arcs → IsLeft arcs s t layer k → ((j : ℕ) → j < length arcs → (arc_at arcs j).from ≡ (arc_at arcs k).to → flow j ≡ loads j) → flow k ≡ loads k
-  left_agrees k k_in left same =
-      sym (over_alone arcs (λ a. a.to) k flow k_in left.alone)
-      ∙ kept (arc_at arcs k).to left.not_s left.not_t
-      ∙ over_same arcs (λ a. a.from) (arc_at arcs k).to flow loads same
-      ∙ sym (loads_kept arcs walkers way lots s t each (arc_at arcs k).to left.not_s left.not_t)
-      ∙ over_alone arcs (λ a. a.to) k loads k_in left.alone
-
-  right_agrees : (k : ℕ) → k < length arcs → IsRight arcs s t layer k → ((j : ℕ) → j < length arcs → (arc_at arcs j).to ≡ (arc_at arcs k).from → flow j ≡ loads j) → flow k ≡ loads k
-  right_agrees k k_in right same =
-      sym (over_alone arcs (λ a. a.from) k flow k_in right.alone)
-      ∙ sym (kept (arc_at arcs k).from right.not_s right.not_t)
-      ∙ over_same arcs (λ a. a.to) (arc_at arcs k).from flow loads same
-      ∙ loads_kept arcs walkers way lots s t each (arc_at arcs k).from right.not_s right.not_t
-      ∙ over_alone arcs (λ a. a.from) k loads k_in right.alone
+  -- what is kept at its node tells what flows there, where it is known of the other side
+  alone_agrees : (here there : Arc → ℕ) → ((f : ℕ → ℕ) (n : ℕ) → IsKept f n → sum_over arcs (λ a. here a == n) f ≡ sum_over arcs (λ a. there a == n) f) → (k : ℕ) → k < length arcs
+      → IsAlone arcs here there s t layer k → ((j : ℕ) → j < length arcs → there (arc_at arcs j) ≡ here (arc_at arcs k) → flow j ≡ loads j) → flow k ≡ loads k
+  alone_agrees here there balance k k_in it same =
+      let n = here (arc_at arcs k) in
+      sym (over_alone arcs here k flow k_in it.alone)
+      ∙ balance flow n (kept n it.not_s it.not_t)
+      ∙ over_same arcs there n flow loads same
+      ∙ sym (balance loads n (loads_kept arcs walkers way lots s t each n it.not_s it.not_t))
+      ∙ over_alone arcs here k loads k_in it.alone
 
   -- each place is in the middle, where flow and load agree, or on one side
   abbrev pub Sided : ℕ → Type 0
-  Sided k = (flow k ≡ loads k) ⊎ (IsLeft arcs s t layer k ⊎ IsRight arcs s t layer k)
+  Sided k = (flow k ≡ loads k) ⊎ (IsAlone arcs (λ a. a.to) (λ a. a.from) s t layer k ⊎ IsAlone arcs (λ a. a.from) (λ a. a.to) s t layer k)
 
   -- so they agree at each layer
   pub agree : ((k : ℕ) → k < length arcs → Sided k) → (n k : ℕ) → k < length arcs → layer k < n → flow k ≡ loads k
@@ -69,7 +60,7 @@ module _ {X : Type 0} (arcs : List Arc) (flow : ℕ → ℕ) (walkers : List X) 
   agree sided (suc n) k k_in below = elim (sided k k_in) [
     | inl same ↦ same
     | inr side ↦ elim side [
-      | inl left ↦ left_agrees k k_in left (λ j j_in at. agree sided n j j_in (omega (arith, left.earlier j j_in at)))
-      | inr right ↦ right_agrees k k_in right (λ j j_in at. agree sided n j j_in (omega (arith, right.earlier j j_in at)))
+      | inl left ↦ alone_agrees (λ a. a.to) (λ a. a.from) (λ f n is. is) k k_in left (λ j j_in at. agree sided n j j_in (omega (arith, left.earlier j j_in at)))
+      | inr right ↦ alone_agrees (λ a. a.from) (λ a. a.to) (λ f n is. sym is) k k_in right (λ j j_in at. agree sided n j j_in (omega (arith, right.earlier j j_in at)))
     ]
   ]

@@ -1,10 +1,10 @@
 -- Lots are pushed over an end of an arc, and given back.
-use Rattle.std.proofs.Common.{◌≡◌, ◌≢◌, ℕ, ◌+◌, ◌-◌, ◌^◌, ◌<◌, ◌≤◌, ◌==◌, cond, List, length, refl, arith, sym, ◌∙◌, subst, inl, inr, get_or}
+use Rattle.std.proofs.Common.{◌≡◌, ◌≢◌, ℕ, ◌+◌, ◌-◌, ◌^◌, ◌<◌, ◌≤◌, ◌==◌, cond, List, length, refl, arith, ◌∙◌, subst, inl, inr, get_or}
 use Rattle.std.proofs.lemmas.Bool.{cases_eq, eqb-true, eq-eqb, ne_eqb, cond-true}
 use Rattle.gu_terms.proofs.Lists.{sum_by-zeros}
 use Rattle.gu_flow.specs.declared.network.Arc.{Arc}
 use Rattle.gu_flow.specs.Ends.{arc_at, near, far, capacities}
-use Rattle.gu_flow.specs.Flows.{places, sum_over, inflow, value_of, IsFlow, Pushes}
+use Rattle.gu_flow.specs.Flows.{places, sum_over, inflow, IsFlow, Pushes}
 use Rattle.gu_flow.specs.Preflows.{IsPreflow, AreSettled}
 use Rattle.gu_flow.proofs.PushLemmas.{inflow-le}
 use Rattle.gu_flow.proofs.SumLemmas.{sum_places_by, at_test, cond_same}
@@ -19,10 +19,6 @@ covered excess from n lots h = elim (cases_eq from n) [
 module _ (arcs : List Arc) (flow new excess : List ℕ) (end lots : ℕ) (old : IsPreflow arcs flow excess) (has : lots ≤ get_or excess (near arcs end) 0) (c : Pushes arcs flow new end lots) where
   none_from_sink : cond (near arcs end == 1) lots 0 ≡ 0
   none_from_sink = omega (arith, covered excess (near arcs end) 1 lots has, old.sink)
-
-  -- no less comes to the sink
-  pub pushed_value : value_of arcs flow ≤ value_of arcs new
-  pushed_value = omega (arith, c.nodes 1, none_from_sink, old.taken)
 
   -- what a node has too much still fits a number of 64 bits
   pub pushed_fits : capacities arcs < 2 ^ 64 → far arcs end ≢ 0 → far arcs end ≢ 1 → get_or excess (far arcs end) 0 - cond (near arcs end == far arcs end) lots 0 + lots < 2 ^ 64
@@ -62,10 +58,3 @@ settled_flow arcs flow excess preflow settled = record {
       omega (arith, nothing, preflow.kept n not_source not_sink);
   taken = preflow.taken;
 }
-
--- one more place is settled
-pub settled_more : (arcs : List Arc) (flow excess : List ℕ) (k : ℕ) → AreSettled arcs flow excess k → (1 < (arc_at arcs k).to → 0 < get_or flow k 0 → get_or excess (arc_at arcs k).to 0 ≡ 0) → AreSettled arcs flow excess (k + 1)
-settled_more arcs flow excess k before here j j_in to flows = elim (cases_eq j k) [
-  | inl same ↦ subst (λ i. 1 < (arc_at arcs i).to → 0 < get_or flow i 0 → get_or excess (arc_at arcs i).to 0 ≡ 0) (sym same) here to flows
-  | inr other ↦ before j (omega arith) to flows
-]

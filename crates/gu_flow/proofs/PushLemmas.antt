@@ -1,15 +1,15 @@
 -- Nothing is a flow, and lots are carried over an end of an arc.
-use Rattle.std.proofs.Common.{◌≡◌, ◌≢◌, ℕ, ◌+◌, ◌-◌, ◌*◌, ◌/◌, ◌<◌, ◌≤◌, ◌==◌, Bool, true, false, cond, List, length, sym, ap, subst, arith, inl, inr, get_or, get_or-set_other, get_or-set_same, ◌∙◌}
+use Rattle.std.proofs.Common.{◌≡◌, ◌≢◌, ℕ, ◌+◌, ◌-◌, ◌*◌, ◌/◌, ◌<◌, ◌≤◌, ◌==◌, Bool, true, false, cond, List, length, sym, ap, arith, inl, inr, get_or, get_or-set_other, get_or-set_same, ◌∙◌}
 use Rattle.std.proofs.Math.ListN.{set, length-set}
-use Rattle.std.proofs.lemmas.Bool.{cases_eq, cases_lt}
+use Rattle.std.proofs.lemmas.Bool.{both_ways, cases_lt}
 use Rattle.std.proofs.lemmas.List.Sums.{sum_by-set}
 use Rattle.std.proofs.lemmas.List.{get_or_past}
 use Rattle.std.specs.Prelude.{All}
-use Rattle.gu_terms.proofs.Lists.{sum_by-zeros}
+use Rattle.gu_terms.proofs.Lists.{part-le, sum_by-zeros}
 use Rattle.gu_flow.specs.declared.network.Arc.{Arc}
-use Rattle.gu_flow.specs.Ends.{arc_at, is_tail, capacities, residual_in, residual_out}
+use Rattle.gu_flow.specs.Ends.{no_arc, arc_at, is_tail, capacities, residual_in, residual_out}
 use Rattle.gu_flow.specs.Flows.{places, sum_over, inflow, outflow, value_of, IsWithin, IsFlow, Pushes}
-use Rattle.gu_flow.proofs.SumLemmas.{sum_by_place, sum_places_by, cond_same, sum_places_set, sum_places_le}
+use Rattle.gu_flow.proofs.SumLemmas.{sum_by_place, sum_places_by, cond_same, sum_places_set, sum_places_le, at_set}
 
 -- nothing is a flow
 module _ (arcs : List Arc) (flow : List ℕ) (none : All (λ f. f ≡ 0) flow) where
@@ -40,20 +40,12 @@ over_set arcs t flow k x k_in in_flow =
           (λ j other. ap (λ y. cond (t (arc_at arcs j)) y 0) (get_or-set_other flow k j x 0 other)),
     )
 
-along : (b c : Bool) (f lots x i i' o o' : ℕ) → x ≡ f + lots → i' + cond c f 0 ≡ i + cond c x 0 → o' + cond b f 0 ≡ o + cond b x 0 → i' + o + cond b lots 0 ≡ i + o' + cond c lots 0
-along true true f lots x i i' o o' is p q = omega arith
-along true false f lots x i i' o o' is p q = omega arith
-along false true f lots x i i' o o' is p q = omega arith
-along false false f lots x i i' o o' is p q = omega arith
-
-against : (b c : Bool) (f lots x i i' o o' : ℕ) → x + lots ≡ f → i' + cond b f 0 ≡ i + cond b x 0 → o' + cond c f 0 ≡ o + cond c x 0 → i' + o + cond b lots 0 ≡ i + o' + cond c lots 0
-against true true f lots x i i' o o' is p q = omega arith
-against true false f lots x i i' o o' is p q = omega arith
-against false true f lots x i i' o o' is p q = omega arith
-against false false f lots x i i' o o' is p q = omega arith
-
-true_is_not_false : {b : Bool} → b ≡ true → b ≡ false → ⊥
-true_is_not_false tail head = cc
+-- lots more at one place come from one node, and to another
+moved : (b c : Bool) (f lots x i i' o o' : ℕ) → x ≡ f + lots → i' + cond c f 0 ≡ i + cond c x 0 → o' + cond b f 0 ≡ o + cond b x 0 → i' + o + cond b lots 0 ≡ i + o' + cond c lots 0
+moved true true f lots x i i' o o' is p q = omega arith
+moved true false f lots x i i' o o' is p q = omega arith
+moved false true f lots x i i' o o' is p q = omega arith
+moved false false f lots x i i' o o' is p q = omega arith
 
 module _ (arcs : List Arc) (flow : List ℕ) (end lots x : ℕ) (w : IsWithin arcs flow) (end_in : end < 2 * length arcs) where
   abbrev place : ℕ
@@ -65,10 +57,7 @@ module _ (arcs : List Arc) (flow : List ℕ) (end lots x : ℕ) (w : IsWithin ar
   small : x ≤ (arc_at arcs place).capacity → IsWithin arcs (set flow place x)
   small less = record {
     all = omega (arith, length-set flow place x, w.all);
-    each = λ k. elim (cases_eq k place) [
-      | inl same ↦ subst (λ j. get_or (set flow place x) j 0 ≤ (arc_at arcs j).capacity) (sym same) (omega (arith, get_or-set_same flow place x 0 (omega (arith, place_in, w.all)), less))
-      | inr other ↦ omega (arith, get_or-set_other flow place k x 0 other, w.each k)
-    ];
+    each = at_set (λ k y. y ≤ (arc_at arcs k).capacity) flow place x 0 (omega (arith, place_in, w.all)) less (λ k other. w.each k);
   }
 
   elsewhere : (d : ℕ) → d / 2 ≢ place → residual_in arcs (set flow place x) d ≡ residual_in arcs flow d
@@ -86,9 +75,9 @@ module _ (arcs : List Arc) (flow : List ℕ) (end lots x : ℕ) (w : IsWithin ar
       let some = rw tail at room in
       record {
         within = small (omega (arith, some, w.each place));
-        nodes = λ n. rw tail (along ((arc_at arcs place).from == n) ((arc_at arcs place).to == n) (get_or flow place 0) lots x _ _ _ _ is (ins n) (outs n));
+        nodes = λ n. rw tail (moved ((arc_at arcs place).from == n) ((arc_at arcs place).to == n) (get_or flow place 0) lots x _ _ _ _ is (ins n) (outs n));
         others = elsewhere;
-        less = λ head. absurd (true_is_not_false tail head);
+        less = λ head. absurd (both_ways (is_tail end) head tail);
       }
 
   pub pushes_against : is_tail end ≡ false → lots ≤ residual_out arcs flow end → x ≡ get_or flow place 0 - lots → Pushes arcs flow (set flow place x) end lots
@@ -96,7 +85,7 @@ module _ (arcs : List Arc) (flow : List ℕ) (end lots x : ℕ) (w : IsWithin ar
       let some = rw head at room in
       record {
         within = small (omega (arith, some, w.each place));
-        nodes = λ n. rw head (against ((arc_at arcs place).to == n) ((arc_at arcs place).from == n) (get_or flow place 0) lots x _ _ _ _ (omega arith) (ins n) (outs n));
+        nodes = λ n. rw head (sym (moved ((arc_at arcs place).from == n) ((arc_at arcs place).to == n) x lots (get_or flow place 0) _ _ _ _ (omega arith) (sym (ins n)) (sym (outs n))));
         others = elsewhere;
         less = λ _. omega (arith, sum_by-set (λ (y : ℕ). y) flow place x 0 (omega (arith, place_in, w.all)), some);
       }
@@ -105,11 +94,7 @@ module _ (arcs : List Arc) (flow : List ℕ) (end lots x : ℕ) (w : IsWithin ar
 pub inflow-le : (arcs : List Arc) (flow : List ℕ) (n : ℕ) → IsWithin arcs flow → inflow arcs flow n ≤ capacities arcs
 unfolding sum_over
 inflow-le arcs flow n w =
-    omega (arith, sum_places_le (λ k. cond ((arc_at arcs k).to == n) (get_or flow k 0) 0) (λ k. (arc_at arcs k).capacity) (length arcs) (λ k. part ((arc_at arcs k).to == n) (get_or flow k 0) (arc_at arcs k).capacity (w.each k)), sum_by_place (λ (a : Arc). a.capacity) arcs (record { from = 0; to = 0; capacity = 0 }))
-  where
-    part : (b : Bool) (f most : ℕ) → f ≤ most → cond b f 0 ≤ most
-    part true f most h = h
-    part false f most h = omega arith
+    omega (arith, sum_places_le (λ k. cond ((arc_at arcs k).to == n) (get_or flow k 0) 0) (λ k. (arc_at arcs k).capacity) (length arcs) (λ k. omega (arith, part-le ((arc_at arcs k).to == n) (get_or flow k 0), w.each k)), sum_by_place (λ (a : Arc). a.capacity) arcs no_arc)
 
 -- so what is left to be brought falls
 pub left_less : (arcs : List Arc) (old new : List ℕ) → IsWithin arcs new → value_of arcs old < value_of arcs new → capacities arcs - value_of arcs new < capacities arcs - value_of arcs old

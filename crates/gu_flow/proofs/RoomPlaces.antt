@@ -1,5 +1,5 @@
 -- The places of keys among the rooms of a view, and the ways that go by them.
-use Rattle.std.proofs.Common.{◌≡◌, ℕ, ◌+◌, min, ◌<◌, ◌≤◌, ◌==◌, Bool, true, false, cond, List, [], ◌∷◌, suc, length, map, get_or, refl, sym, ◌∙◌, ap, subst, arith, inl, inr, add-zero, zero-add}
+use Rattle.std.proofs.Common.{◌≡◌, ℕ, ◌+◌, min, ◌<◌, ◌≤◌, ◌==◌, Bool, true, cond, List, [], ◌∷◌, suc, length, map, get_or, refl, sym, ◌∙◌, ap, subst, arith, inl, inr, add-zero, zero-add}
 use Rattle.std.specs.Prelude.{slice_get, sum_by, IfSome}
 use Rattle.std.specs.List.{AllByRecursion, list_any}
 use Rattle.std.proofs.lemmas.Bool.{cases_Bool, cases_eq, eqb-true, eq-eqb}
@@ -8,6 +8,7 @@ use Rattle.std.proofs.lemmas.List.Folds.{list_any_at}
 use Rattle.std.proofs.lemmas.List.Sums.{sum_by-le}
 use Rattle.std.proofs.lemmas.Option.{slice_get_cases, slice_get-get_or}
 use Rattle.gu_terms.proofs.KeyLemmas.{key_eq-same, key_eq-refl, key_eq-from}
+use Rattle.gu_terms.proofs.Lists.{part-le, position_or_len-within}
 use Rattle.gu_terms.specs.LimitKeys.{key_eq, has_key}
 use Rattle.gu_terms.specs.declared.agreement.AgreementId.{AgreementId}
 use Rattle.gu_terms.specs.declared.limit_key.LimitKey.{LimitKey}
@@ -23,7 +24,7 @@ use Rattle.gu_view.specs.declared.view.Offer.{Offer}
 use Rattle.gu_view.specs.declared.view.Room.{Room}
 use Rattle.gu_flow.proofs.SumLemmas.{same_test}
 use Rattle.gu_flow.specs.Shares.{agreement_place}
-use Rattle.gu_flow.specs.Networks.{no_room, room_at, no_offer, offer_at, way_of, GoesBy, lots_with, capacity_of}
+use Rattle.gu_flow.specs.Networks.{no_room, room_at, no_offer, offer_at, way_of, GoesBy, IsOfferOf, lots_with, capacity_of}
 
 -- the lots at the places under a key are those of the offers with it
 pub lots_under_places : (offers : List Offer) (k : LimitKey) (places : List ℕ) → places ≡ places_under offers k → sum_by (λ p. (offer_at offers p).lots) places ≡ lots_with offers k
@@ -32,14 +33,10 @@ lots_under_places offers k places are =
     ∙ sum_by-places (λ (o : Offer). has_key o.path k) (λ (o : Offer). o.lots) (λ p. (offer_at offers p).lots) 0 offers
     (λ i d inside. ap (λ p. (offer_at offers p).lots) (zero-add i) ∙ ap (λ (o : Offer). o.lots) (get_or_default offers i no_offer d inside))
 
-part-le : (b : Bool) (n most : ℕ) → n ≤ most → cond b n 0 ≤ most
-part-le true n most h = h
-part-le false n most h = omega arith
-
 -- they fit a number of 64 bits
 pub lots_fit : (view : GroupView) → IsView view → (k : LimitKey) → lots_with view.offers k ≤ 4096000000
 lots_fit view sound k =
-    let all = sum_by-le (λ (o : Offer). cond (has_key o.path k) o.lots 0) 1000000 view.offers (λ i d inside. part-le (has_key (get_or view.offers i d).path k) (get_or view.offers i d).lots 1000000 (sound.lots i d inside).most) in
+    let all = sum_by-le (λ (o : Offer). cond (has_key o.path k) o.lots 0) 1000000 view.offers (λ i d inside. omega (arith, part-le (has_key (get_or view.offers i d).path k) (get_or view.offers i d).lots, (sound.lots i d inside).most)) in
     omega (arith, all, sound.few)
 
 -- the first place at which a list passes a test
@@ -79,15 +76,15 @@ room_named view sound place inside =
     sym (has_key-keys_of view.offers k) ∙ ap (λ keys. has_key keys k) (sym sound.rooms) ∙ sym (has_room-keys view.rooms k) ∙ here
 
 -- a room's key has its own place
-pub place_of_room : (view : GroupView) → IsView view → (place : ℕ) → place < length view.rooms → place_of view.rooms (room_at view.rooms place).key < length view.rooms → place_of view.rooms (room_at view.rooms place).key ≡ place
-place_of_room view sound place inside within =
+pub place_of_room : (view : GroupView) → IsView view → (place : ℕ) → place < length view.rooms → place_of view.rooms (room_at view.rooms place).key ≡ place
+place_of_room view sound place inside =
     let k = (room_at view.rooms place).key in
-    let found : (room_at view.rooms (place_of view.rooms k)).key ≡ k = key_at_place view.rooms k no_room within in
+    let within : place_of view.rooms k < length view.rooms = position_or_len-within (λ (r : Room). key_eq r.key k) view.rooms (list_any_at (λ r. key_eq r.key k) view.rooms place no_room inside (key_eq-refl k)) in
     elim (cases_eq (place_of view.rooms k) place) [
       | inl same ↦ same
       | inr other ↦
           let differs = apart view sound (place_of view.rooms k) place no_room within inside other in
-          let same = key_eq-from (room_at view.rooms (place_of view.rooms k)).key k found in
+          let same = key_eq-from (room_at view.rooms (place_of view.rooms k)).key k (key_at_place view.rooms k no_room within) in
           cc
     ]
 
@@ -95,19 +92,17 @@ place_of_room view sound place inside within =
 pub at_place : (view : GroupView) → IsView view → (place : ℕ) (k : LimitKey) → place < length view.rooms → place_of view.rooms k < length view.rooms → (place_of view.rooms k == place) ≡ key_eq k (room_at view.rooms place).key
 at_place view sound place k inside within = same_test (place_of view.rooms k == place) (key_eq k (room_at view.rooms place).key)
     (λ here. key_eq-from k (room_at view.rooms place).key (sym (key_at_place view.rooms k no_room within) ∙ ap (λ p. (room_at view.rooms p).key) (eqb-true (place_of view.rooms k) place here)))
-    (λ same.
-    let is : k ≡ (room_at view.rooms place).key = key_eq-same k (room_at view.rooms place).key same in
-    eq-eqb (place_of view.rooms k) place (ap (place_of view.rooms) is ∙ place_of_room view sound place inside (subst (λ j. place_of view.rooms j < length view.rooms) is within)))
+    (λ same. eq-eqb (place_of view.rooms k) place (ap (place_of view.rooms) (key_eq-same k (room_at view.rooms place).key same) ∙ place_of_room view sound place inside))
+
+-- each key of an offer's path has a room
+pub roomed : (view : GroupView) → IsView view → (o : Offer) → IsOfferOf view o → AllByRecursion (λ k. place_of view.rooms k < length view.rooms) o.path
+roomed view sound o h = path_inside view sound h.place o h.within (h.is ∙ get_or_default view.offers h.place no_offer o h.within)
 
 -- so a way goes by a place where the path has the key of its room
 pub goes_by_key : (view : GroupView) → IsView view → (place : ℕ) → place < length view.rooms → (path : List LimitKey) → AllByRecursion (λ k. place_of view.rooms k < length view.rooms) path
     → list_any (λ p. p == place) (map (place_of view.rooms) path) ≡ has_key path (room_at view.rooms place).key
 goes_by_key view sound place inside [] roomed = refl
 goes_by_key view sound place inside (k ∷ path) roomed = rw (at_place view sound place k inside roomed.0, goes_by_key view sound place inside path roomed.1) refl
-
--- the offer at a place is what is read there, whatever would stand beyond the end
-pub own_offer : (offers : List Offer) (i : ℕ) → i < length offers → offer_at offers i ≡ get_or offers i (offer_at offers i)
-own_offer offers i inside = get_or_default offers i no_offer (offer_at offers i) inside
 
 -- the first of the offers with a room's key
 pub record IsFirstOffer (view : GroupView) (place number : ℕ) : Type 0 where
@@ -128,7 +123,7 @@ first_offer view sound place members inside are = elim (slice_get_cases view.roo
         record {
           within = omega (arith, number, f.within);
           goes_by = subst (λ n. GoesBy (way_of view.rooms (offer_at view.offers n)) place) (sym number)
-              (goes_by_key view sound place inside o.path (path_inside view sound f.place o f.within (own_offer view.offers f.place f.within)) ∙ ap (has_key o.path) key ∙ f.passes);
+              (goes_by_key view sound place inside o.path (roomed view sound o (record { place = f.place; within = f.within; is = refl })) ∙ ap (has_key o.path) key ∙ f.passes);
         },
       )
   | inr past ↦ absurd (omega (arith, past.0))

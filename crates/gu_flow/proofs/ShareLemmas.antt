@@ -1,5 +1,5 @@
 -- Shares of the offers of an agreement: oldest first, and together what flows.
-use Rattle.std.proofs.Common.{◌≡◌, ℕ, ◌+◌, ◌-◌, ◌<◌, ◌≤◌, ◌==◌, min, true, cond, List, [], ◌∷◌, ◌++◌, zero, suc, length, take, set, get_or, refl, sym, ◌∙◌, ap, subst, arith, inl, inr, length-append, get_or-set_same, get_or-set_other, length-set, add-one, Some}
+use Rattle.std.proofs.Common.{◌≡◌, ℕ, ◌+◌, ◌-◌, ◌<◌, ◌≤◌, ◌==◌, min, true, cond, List, [], ◌∷◌, ◌++◌, zero, suc, length, take, set, get_or, refl, sym, ◌∙◌, ap, subst, arith, inl, inr, length-append, length-set, add-one, Some}
 use Rattle.std.specs.Prelude.{All, unwrap_or, sum_by, IsTrue}
 use Rattle.std.specs.List.{find}
 use Rattle.std.specs.Option.{option_map}
@@ -20,7 +20,7 @@ use Rattle.gu_view.specs.declared.view.Offer.{Offer}
 use Rattle.gu_flow.specs.Flows.{places}
 use Rattle.gu_flow.specs.Networks.{no_offer, offer_at}
 use Rattle.gu_flow.specs.Shares.{agreement_place, agreement_lots, share_of, no_take, take_at, AreSharesBefore, AreShares}
-use Rattle.gu_flow.proofs.SumLemmas.{sum_by_place, sum_places_by}
+use Rattle.gu_flow.proofs.SumLemmas.{sum_by_place, sum_places_by, at_set}
 
 -- offers before a place have smaller numbers
 module _ (view : GroupView) (flow : List ℕ) where
@@ -35,13 +35,6 @@ module _ (view : GroupView) (flow : List ℕ) where
     pub shares : AreSharesBefore view flow takes i
     pub size : length rests ≡ length view.rooms
     pub left : (p : ℕ) → get_or rests p 0 ≡ get_or flow p 0 - agreement_lots view.rooms (take i view.offers) p
-
-  pub none_shared : length flow ≡ length view.rooms → IsSharing [] flow 0
-  none_shared size = record {
-    shares = record { all = refl; each = λ i inside. absurd (omega arith) };
-    size = size;
-    left = λ p. omega arith;
-  }
 
   -- one more offer takes its share
   pub one_more_share : (takes : List Take) (rests : List ℕ) (i place lots : ℕ) → i < length view.offers → IsSharing takes rests i → place ≡ agreement_place view.rooms (offer_at view.offers i) → place < length rests
@@ -65,21 +58,12 @@ module _ (view : GroupView) (flow : List ℕ) where
           ];
         };
         size = length-set rests place (get_or rests place 0 - lots) ∙ h.size;
-        left = λ p.
-            let so_far : agreement_lots view.rooms (take (i + 1) view.offers) p ≡ agreement_lots view.rooms (take i view.offers) p + cond (agreement_place view.rooms o == p) o.lots 0 =
-            sum_by_more (λ (o : Offer). cond (agreement_place view.rooms o == p) o.lots 0) view.offers i no_offer inside in
-            elim (cases_eq p place) [
-              | inl same ↦
-                  let hit : cond (agreement_place view.rooms o == p) o.lots 0 ≡ o.lots = cond-true (agreement_place view.rooms o == p) o.lots 0 (eq-eqb (agreement_place view.rooms o) p (sym (same ∙ at))) in
-                  let here : get_or (set rests place (get_or rests place 0 - lots)) p 0 ≡ get_or rests p 0 - lots =
-                  ap (λ q. get_or (set rests place (get_or rests place 0 - lots)) q 0) same ∙ get_or-set_same rests place (get_or rests place 0 - lots) 0 within ∙ ap (λ q. get_or rests q 0 - lots) (sym same) in
-                  let lots_is : lots ≡ min o.lots (get_or rests p 0) = is ∙ ap (λ q. min o.lots (get_or rests q 0)) (sym same) in
-                  omega (arith, here, h.left p, so_far, hit, lots_is)
-              | inr other ↦
-                  let miss : cond (agreement_place view.rooms o == p) o.lots 0 ≡ 0 = cond-false (agreement_place view.rooms o == p) o.lots 0 (ne_eqb (agreement_place view.rooms o) p (λ e. other (sym e ∙ sym at))) in
-                  let here : get_or (set rests place (get_or rests place 0 - lots)) p 0 ≡ get_or rests p 0 = get_or-set_other rests place p (get_or rests place 0 - lots) 0 other in
-                  omega (arith, here, h.left p, so_far, miss)
-            ];
+        left =
+            let so_far : (p : ℕ) → agreement_lots view.rooms (take (i + 1) view.offers) p ≡ agreement_lots view.rooms (take i view.offers) p + cond (agreement_place view.rooms o == p) o.lots 0 =
+            λ p. sum_by_more (λ (o : Offer). cond (agreement_place view.rooms o == p) o.lots 0) view.offers i no_offer inside in
+            at_set (λ p n. n ≡ get_or flow p 0 - agreement_lots view.rooms (take (i + 1) view.offers) p) rests place (get_or rests place 0 - lots) 0 within
+            (omega (arith, h.left place, so_far place, cond-true (agreement_place view.rooms o == place) o.lots 0 (eq-eqb (agreement_place view.rooms o) place (sym at))))
+            (λ p other. omega (arith, h.left p, so_far p, cond-false (agreement_place view.rooms o == p) o.lots 0 (ne_eqb (agreement_place view.rooms o) p (λ e. other (sym e ∙ sym at)))));
       }
 
 -- the take of an offer is found by its number

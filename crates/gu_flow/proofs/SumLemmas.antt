@@ -1,10 +1,10 @@
 -- Sums over lists, and over the places of a list.
-use Rattle.std.proofs.Common.{◌≡◌, ◌≢◌, ℕ, ◌+◌, ◌<◌, ◌≤◌, ◌==◌, Bool, true, false, cond, List, [], ◌∷◌, zero, suc, length, map, refl, sym, ◌∙◌, ap, arith, get_or}
+use Rattle.std.proofs.Common.{◌≡◌, ◌≢◌, ℕ, ◌+◌, ◌<◌, ◌≤◌, ◌==◌, Bool, true, false, cond, List, [], ◌∷◌, zero, suc, length, map, refl, sym, ◌∙◌, ap, arith, subst, inl, inr, set, get_or, get_or-set_same, get_or-set_other}
 use Rattle.std.specs.List.{sum_by, AllByRecursion}
 use Rattle.std.proofs.lemmas.List.Sums.{sum_by-cons}
 use Rattle.gu_terms.proofs.Lists.{sum_by-agree, sum_by-zeros}
 use Rattle.gu_flow.specs.Flows.{places}
-use Rattle.std.proofs.lemmas.Bool.{ne_eqb, eq-eqb, eqb-true, cond-false, cond-true}
+use Rattle.std.proofs.lemmas.Bool.{cases_eq, ne_eqb, eq-eqb, eqb-true, cond-false, cond-true}
 
 module _ {X : Type 0} where
   -- the same terms, each by a fact of its element
@@ -91,3 +91,10 @@ sum_one_place h (suc n) (suc k) k_in =
     let turn : sum_by (λ j. cond (suc k == suc j) (h (suc j)) 0) (places n) ≡ sum_by (λ j. cond (k == j) (h (suc j)) 0) (places n) = sum_by-agree (λ j. cond (suc k == suc j) (h (suc j)) 0) (λ j. cond (k == j) (h (suc j)) 0) (places n) (λ j. ap (λ b. cond b (h (suc j)) 0) (test-suc k j)) in
     let none : cond (suc k == 0) (h 0) 0 ≡ 0 = cond-false (suc k == 0) (h 0) 0 (ne_eqb (suc k) 0 (λ e. absurd (omega arith))) in
     omega (arith, sum_places (λ j. cond (suc k == j) (h j) 0) n)
+
+-- what holds of each element of a list, where one is another
+pub at_set : {X : Type 0} (P : ℕ → X → Type 0) (xs : List X) (i : ℕ) (x d : X) → i < length xs → P i x → ((k : ℕ) → k ≢ i → P k (get_or xs k d)) → (k : ℕ) → P k (get_or (set xs i x) k d)
+at_set P xs i x d i_in here others k = elim (cases_eq k i) [
+  | inl same ↦ subst (λ j. P j (get_or (set xs i x) j d)) (sym same) (subst (P i) (sym (get_or-set_same xs i x d i_in)) here)
+  | inr other ↦ subst (P k) (sym (get_or-set_other xs i k x d other)) (others k other)
+]

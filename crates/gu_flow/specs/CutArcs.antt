@@ -1,7 +1,8 @@
 -- Machinery: the cut, as the keys and offers between what the last search reached and what it didn't.
 use Rattle.std.specs.Prelude.{◌≡◌, ℕ, ◌<◌, ◌==◌, ◌&&◌, not, nat_lt, Bool, List, All, IsTrue, length}
-use Rattle.gu_terms.specs.Cuts.{CutLists, has_number}
-use Rattle.gu_terms.specs.LimitKeys.{has_key}
+use Rattle.std.specs.List.{list_any}
+use Rattle.gu_terms.specs.Cuts.{CutLists}
+use Rattle.gu_terms.specs.LimitKeys.{key_eq}
 use Rattle.gu_terms.specs.declared.limit_key.LimitKey.{LimitKey}
 use Rattle.gu_view.specs.Check.{has_offer, has_room}
 use Rattle.gu_view.specs.View.{GroupView}
@@ -24,18 +25,21 @@ abbrev pub cuts_offers : (ℕ → Bool) → List Arc → List Room → ℕ → B
 cuts_offers reached arcs rooms place =
     leads_out reached (arc_at arcs place) && not ((arc_at arcs place).capacity == (room_at rooms place).lots)
 
--- of the rooms before a place, these keys are those that are cut
-pub record AreKeysCut (view : GroupView) (reached : ℕ → Bool) (arcs : List Arc) (keys : List LimitKey) (before : ℕ) : Type 0 where
-  pub exact : (k : ℕ) → k < length view.rooms
-      → has_key keys (room_at view.rooms k).key ≡ (nat_lt k before && cuts_key reached arcs view.rooms k)
-  pub known : All (λ k. IsTrue (has_room view.rooms k)) keys
+-- of so many names, these members are those that are cut and stand before a place, and each of them is known
+pub record AreCut {X : Type 0} (eq : X → X → Bool) (is_known : X → Bool) (name : ℕ → X)
+    (cuts : ℕ → Bool) (names : ℕ) (members : List X) (before : ℕ) : Type 0 where
+  pub exact : (k : ℕ) → k < names → list_any (λ x. eq x (name k)) members ≡ (nat_lt k before && cuts k)
+  pub known : All (λ x. IsTrue (is_known x)) members
 
--- of the offers before a place, these numbers are of those that are cut
-pub record AreOffersCut (view : GroupView) (reached : ℕ → Bool) (arcs : List Arc) (numbers : List ℕ) (before : ℕ) : Type 0 where
-  pub exact : (i : ℕ) → i < length view.offers
-      → has_number numbers (offer_at view.offers i).number
-      ≡ (nat_lt i before && cuts_offers reached arcs view.rooms (agreement_place view.rooms (offer_at view.offers i)))
-  pub known : All (λ n. IsTrue (has_offer view.offers n)) numbers
+-- so with the keys of the rooms, and with the numbers of the offers
+abbrev pub AreKeysCut : GroupView → (ℕ → Bool) → List Arc → List LimitKey → ℕ → Type 0
+AreKeysCut view reached arcs =
+    AreCut key_eq (has_room view.rooms) (λ k. (room_at view.rooms k).key) (cuts_key reached arcs view.rooms) (length view.rooms)
+
+abbrev pub AreOffersCut : GroupView → (ℕ → Bool) → List Arc → List ℕ → ℕ → Type 0
+AreOffersCut view reached arcs =
+    AreCut (λ m n. m == n) (has_offer view.offers) (λ i. (offer_at view.offers i).number)
+    (λ i. cuts_offers reached arcs view.rooms (agreement_place view.rooms (offer_at view.offers i))) (length view.offers)
 
 -- the cut has all keys and all offers that are cut
 pub record IsCutBy (view : GroupView) (reached : ℕ → Bool) (arcs : List Arc) (cut : CutLists) : Type 0 where

@@ -1,5 +1,5 @@
 -- Machinery: networks, and the two ends of each arc: 2k stands for the tail of the arc at place k, and 2k + 1 for its head.
-use Rattle.std.specs.Prelude.{◌≡◌, ◌≢◌, ℕ, ◌+◌, ◌-◌, ◌*◌, ◌/◌, ◌%◌, ◌^◌, ◌<◌, ◌≤◌, ◌==◌, Bool, if◌then◌else◌, List, All, length, slice_index, slice_index_or, sum_by}
+use Rattle.std.specs.Prelude.{◌≡◌, ℕ, zero, suc, ◌+◌, ◌-◌, ◌*◌, ◌/◌, ◌%◌, ◌^◌, ◌<◌, ◌≤◌, ◌==◌, Bool, if◌then◌else◌, List, All, length, slice_index, slice_index_or, sum_by}
 use Rattle.gu_flow.specs.declared.network.Arc.{Arc}
 
 -- the arc at a place
@@ -36,18 +36,20 @@ residual_out arcs flow e = if is_tail e then (arc_at arcs (e / 2)).capacity - sl
 abbrev pub JoinsNodes : List Arc → ℕ → Type 0
 JoinsNodes arcs nodes = All (λ a. (a.from < nodes) × (a.to < nodes)) arcs
 
--- the ends below `count` at each node, from the last to the first: `next` is one more than the end before at the same node, or 0
-pub record IsChain (arcs : List Arc) (next : List ℕ) (count : ℕ) : Type 0 where
-  pub before : (e : ℕ) → e < count → slice_index next e ≤ e
-  pub at : (e : ℕ) → e < count → 0 < slice_index next e → near arcs (slice_index next e - 1) ≡ near arcs e
-  pub none_between : (e d : ℕ) → e < count → slice_index next e ≤ d → d < e → near arcs d ≢ near arcs e
+-- one more than the last end before this one that is at a node, or 0
+unfoldable pub last_before : List Arc → ℕ → ℕ → ℕ
+last_before arcs zero n = 0
+last_before arcs (suc e) n = if near arcs e == n then suc e else last_before arcs e n
 
--- and `first` is one more than the last end at a node, or 0
+-- the ends before `count` are linked at each node: `first` leads to the last of them, and `next` from each to the one before it
 pub record IsIndex (arcs : List Arc) (first next : List ℕ) (count : ℕ) : Type 0 where
-  pub chain : IsChain arcs next count
-  pub within : (n : ℕ) → slice_index first n ≤ count
-  pub at : (n : ℕ) → 0 < slice_index first n → near arcs (slice_index first n - 1) ≡ n
-  pub none_after : (n e : ℕ) → n < length first → slice_index first n ≤ e → e < count → near arcs e ≢ n
+  pub last : (n : ℕ) → n < length first → slice_index first n ≡ last_before arcs count n
+  pub before : (e : ℕ) → e < count → slice_index next e ≡ last_before arcs e (near arcs e)
+
+-- at each node a search for ways goes on at an end of that node
+pub record IsCurrent (arcs : List Arc) (current : List ℕ) : Type 0 where
+  pub ends : (n : ℕ) → slice_index current n ≤ 2 * length arcs
+  pub here : (n : ℕ) → 0 < slice_index current n → near arcs (slice_index current n - 1) ≡ n
 
 -- what all arcs can carry
 abbrev pub capacities : List Arc → ℕ

@@ -1,7 +1,7 @@
 -- Machinery: flows: what flows through the arc at each place of a network, from node 0, the source, to node 1, the sink.
-use Rattle.std.specs.Prelude.{◌≡◌, ◌≢◌, ℕ, zero, suc, ◌-◌, ◌+◌, ◌/◌, ◌<◌, ◌≤◌, ◌==◌, if◌then◌else◌, Bool, true, false, List, [], ◌∷◌, length, map, slice_index, sum, sum_by}
+use Rattle.std.specs.Prelude.{◌≡◌, ◌≢◌, ℕ, zero, suc, ◌-◌, ◌+◌, ◌*◌, ◌/◌, ◌<◌, ◌≤◌, ◌==◌, if◌then◌else◌, Bool, true, false, List, [], ◌∷◌, length, map, slice_index, sum, sum_by}
 use Rattle.gu_flow.specs.declared.network.Arc.{Arc}
-use Rattle.gu_flow.specs.Ends.{arc_at, is_tail, near, far, residual_in}
+use Rattle.gu_flow.specs.Ends.{arc_at, is_tail, near, far, residual_in, residual_out}
 
 -- the places of a list with so many elements
 unfoldable pub places : ℕ → List ℕ
@@ -43,7 +43,7 @@ pub record Pushes (arcs : List Arc) (old new : List ℕ) (end lots : ℕ) : Type
   pub others : (d : ℕ) → d / 2 ≢ end / 2 → residual_in arcs new d ≡ residual_in arcs old d
   pub less : is_tail end ≡ false → sum new + lots ≡ sum old
 
--- no more can be brought from the nodes that were reached to the others: each arc out to these is full, and each arc back is empty
+-- no more can be brought from the nodes that were reached to the others
 pub record IsClosed (arcs : List Arc) (flow : List ℕ) (reached : ℕ → Bool) : Type 0 where
-  pub full : (k : ℕ) → k < length arcs → reached (arc_at arcs k).from ≡ true → reached (arc_at arcs k).to ≡ false → slice_index flow k ≡ (arc_at arcs k).capacity
-  pub empty : (k : ℕ) → k < length arcs → reached (arc_at arcs k).from ≡ false → reached (arc_at arcs k).to ≡ true → slice_index flow k ≡ 0
+  pub each : (e : ℕ) → e < 2 * length arcs → reached (near arcs e) ≡ true → reached (far arcs e) ≡ false
+      → residual_out arcs flow e ≡ 0

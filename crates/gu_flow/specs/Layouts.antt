@@ -1,29 +1,25 @@
 -- Machinery: the network of ways through places: executing firm, agreement, then one account or carrying firm after another.
-use Rattle.std.specs.Prelude.{ℕ, ◌+◌, ◌==◌, if◌then◌else◌, List, [], ◌∷◌}
+use Rattle.std.specs.Prelude.{ℕ, ◌+◌, ◌==◌, if◌then◌else◌, List, Option, None, Some, slice_get}
+use Rattle.gu_terms.specs.declared.limit_key.LimitKey.{LimitKey}
+use Rattle.gu_terms.specs.declared.limit_key.LimitKey.TheVariants.{Exec, Agr, Acct, Carry, Guar}
+
+-- how many steps of a way come before that of a key
+abbrev pub step_of : LimitKey → ℕ
+step_of (Exec firm) = 0
+step_of (Agr agreement) = 1
+step_of (Acct account) = 2
+step_of (Carry firm) = 3
+step_of (Guar firm) = 4
 
 -- each place has a node; 0 is the source, and 1 the sink
 abbrev pub node_of : ℕ → ℕ
 node_of place = place + 2
 
--- the node of the first of these places, or the sink
-abbrev pub first_node : List ℕ → ℕ
-first_node [] = 1
-first_node (place ∷ places) = node_of place
+abbrev pub node_or_sink : Option ℕ → ℕ
+node_or_sink None = 1
+node_or_sink (Some place) = node_of place
 
--- the node of the place that comes after one, or the sink
-abbrev pub next_node : List ℕ → ℕ → ℕ
-next_node [] place = 1
-next_node (p ∷ places) place = if p == place then first_node places else next_node places place
-
--- where the arc of a place begins: the first at the source, the second at the first's node, each other at its own
-abbrev pub tail_on : List ℕ → ℕ → ℕ
-tail_on [] place = 0
-tail_on (first ∷ []) place = 0
-tail_on (first ∷ second ∷ others) place = if first == place then 0 else (if second == place then node_of first else node_of place)
-
--- and where it ends: the first at its own node, each other at the node of the place after it
-abbrev pub head_on : List ℕ → ℕ → ℕ
-head_on [] place = 1
-head_on (first ∷ []) place = node_of first
-head_on (first ∷ second ∷ others) place =
-    if first == place then node_of first else (if second == place then first_node others else next_node others place)
+-- where a way stands after so many steps: at the source, at the node of its first place, then at that of each place
+-- but the second, and behind the last at the sink
+abbrev pub node_at : List ℕ → ℕ → ℕ
+node_at way steps = if steps == 0 then 0 else node_or_sink (slice_get way (if steps == 1 then 0 else steps))

@@ -18,18 +18,18 @@ level_at entries n = (entry_at entries n).level
 abbrev pub is_reached : List Entry → ℕ → Bool
 is_reached entries n = nat_lt 0 (level_at entries n)
 
--- how a node was entered: over an arc with room, from a node one level before
-pub record IsEntered (arcs : List Arc) (flow : List ℕ) (entries : List Entry) (n : ℕ) : Type 0 where
-  pub end_in : (entry_at entries n).via < 2 * length arcs
-  pub here : near arcs (entry_at entries n).via ≡ n
-  pub before : level_at entries (far arcs (entry_at entries n).via) + 1 ≡ (entry_at entries n).level
-  pub reached : 0 < level_at entries (far arcs (entry_at entries n).via)
-  pub room : 0 < residual_in arcs flow (entry_at entries n).via
+-- lots can be brought over an end to its node, of this level, from a node one level before
+pub record IsStep (arcs : List Arc) (flow : List ℕ) (entries : List Entry) (node level end : ℕ) : Type 0 where
+  pub end_in : end < 2 * length arcs
+  pub here : near arcs end ≡ node
+  pub room : 0 < residual_in arcs flow end
+  pub falls : level_at entries (far arcs end) + 1 ≡ level
 
--- each node that was reached is the source, or was entered from another
+-- each node that was reached is the source, or was entered by a step from another that was reached
 pub record IsTree (arcs : List Arc) (flow : List ℕ) (entries : List Entry) : Type 0 where
   pub begun : level_at entries 0 ≡ 1
-  pub entered : (n : ℕ) → n ≢ 0 → 0 < level_at entries n → IsEntered arcs flow entries n
+  pub entered : (n : ℕ) → n ≢ 0 → 0 < level_at entries n → IsStep arcs flow entries n (level_at entries n) (entry_at entries n).via
+  pub above : (n : ℕ) → n ≢ 0 → 0 < level_at entries n → 1 < level_at entries n
   pub levels : (n : ℕ) → level_at entries n ≤ length entries
 
 -- how many nodes were reached

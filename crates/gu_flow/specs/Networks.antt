@@ -1,5 +1,5 @@
 -- Machinery: the network of a view: for the room of each key an arc, which lies on the ways of the offers with that key.
-use Rattle.std.specs.Prelude.{◌≡◌, ℕ, ◌<◌, ◌==◌, min, true, if◌then◌else◌, List, [], length, map, slice_index_or, sum_by}
+use Rattle.std.specs.Prelude.{◌≡◌, ℕ, ◌+◌, ◌<◌, ◌==◌, min, true, if◌then◌else◌, List, [], length, map, slice_index_or, sum_by}
 use Rattle.std.specs.List.{list_any}
 use Rattle.gu_terms.specs.LimitKeys.{has_key}
 use Rattle.gu_terms.specs.declared.limit_key.LimitKey.{LimitKey}
@@ -8,7 +8,7 @@ use Rattle.gu_view.specs.View.{GroupView, place_of}
 use Rattle.gu_view.specs.declared.view.Offer.{Offer}
 use Rattle.gu_view.specs.declared.view.Room.{Room}
 use Rattle.gu_flow.specs.Ends.{arc_at}
-use Rattle.gu_flow.specs.Layouts.{tail_on, head_on}
+use Rattle.gu_flow.specs.Layouts.{step_of, node_at}
 use Rattle.gu_flow.specs.declared.network.Arc.{Arc}
 
 -- the room at a place
@@ -46,15 +46,15 @@ capacity_of offers lots _ = lots
 pub record IsOfferOf (view : GroupView) (o : Offer) : Type 0 where
   pub place : ℕ
   pub within : place < length view.offers
-  pub is : o ≡ slice_index_or view.offers place o
+  pub is : o ≡ offer_at view.offers place
 
 -- the arc of the room at a place, as the way of an offer that goes by it lays it out
 pub record IsArcOf (view : GroupView) (place : ℕ) (a : Arc) : Type 0 where
   pub offer : Offer
   pub known : IsOfferOf view offer
   pub goes_by : GoesBy (way_of view.rooms offer) place
-  pub from : a.from ≡ tail_on (way_of view.rooms offer) place
-  pub to : a.to ≡ head_on (way_of view.rooms offer) place
+  pub from : a.from ≡ node_at (way_of view.rooms offer) (step_of (room_at view.rooms place).key)
+  pub to : a.to ≡ node_at (way_of view.rooms offer) (step_of (room_at view.rooms place).key + 1)
   pub capacity : a.capacity ≡ capacity_of view.offers (room_at view.rooms place).lots (room_at view.rooms place).key
 
 -- an arc for each room

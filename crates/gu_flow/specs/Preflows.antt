@@ -1,5 +1,5 @@
 -- Machinery: preflows, by what each node has too much.
-use Rattle.std.specs.Prelude.{◌≡◌, ◌≢◌, ℕ, ◌+◌, ◌<◌, ◌≤◌, List, slice_index}
+use Rattle.std.specs.Prelude.{◌≡◌, ◌≢◌, ℕ, ◌+◌, ◌*◌, ◌<◌, ◌≤◌, List, length, slice_index}
 use Rattle.gu_flow.specs.declared.network.Arc.{Arc}
 use Rattle.gu_flow.specs.Ends.{arc_at}
 use Rattle.gu_flow.specs.Flows.{inflow, outflow, IsWithin}
@@ -10,6 +10,12 @@ pub record IsPreflow (arcs : List Arc) (flow excess : List ℕ) : Type 0 where
   pub kept : (n : ℕ) → n ≢ 0 → n ≢ 1 → inflow arcs flow n ≡ outflow arcs flow n + slice_index excess n
   pub taken : outflow arcs flow 1 ≤ inflow arcs flow 1
   pub sink : slice_index excess 1 ≡ 0
+
+-- a preflow while lots are pushed down: each list has a place for each of so many nodes, and each node an end to go on at
+pub record IsSurge (arcs : List Arc) (nodes : ℕ) (flow excess heights current : List ℕ) (ring : ℕ) : Type 0 where
+  pub preflow : IsPreflow arcs flow excess
+  pub lists : (length excess ≡ nodes) × (length heights ≡ nodes) × (length current ≡ nodes) × (ring ≡ nodes)
+  pub ends : (n : ℕ) → slice_index current n ≤ 2 * length arcs
 
 -- the arcs before a place bring nothing to a node that has too much
 abbrev pub AreSettled : List Arc → List ℕ → List ℕ → ℕ → Type 0

@@ -1,9 +1,9 @@
 -- Machinery: ways from the sink back towards the source, a list of ends of arcs.
-use Rattle.std.specs.Prelude.{◌≡◌, ℕ, ◌+◌, ◌-◌, ◌*◌, ◌/◌, ◌<◌, ◌≤◌, ◌==◌, if◌then◌else◌, List, length, slice_index}
+use Rattle.std.specs.Prelude.{◌≡◌, ℕ, ◌-◌, ◌*◌, ◌/◌, ◌<◌, ◌≤◌, ◌==◌, if◌then◌else◌, List, length, slice_index}
 use Rattle.gu_flow.specs.declared.network.Arc.{Arc}
 use Rattle.gu_flow.specs.declared.levels.Entry.{Entry}
 use Rattle.gu_flow.specs.Ends.{near, far, residual_in}
-use Rattle.gu_flow.specs.Levels.{level_at}
+use Rattle.gu_flow.specs.Levels.{level_at, IsStep}
 
 -- the node at which a way from the sink stands after so many steps
 abbrev pub stand : List Arc → List ℕ → ℕ → ℕ
@@ -13,10 +13,6 @@ stand arcs way steps = if steps == 0 then 1 else far arcs (slice_index way (step
 pub record IsWay (arcs : List Arc) (way : List ℕ) (steps : ℕ) : Type 0 where
   pub ends : (i : ℕ) → i < steps → slice_index way i < 2 * length arcs
   pub joined : (i : ℕ) → i < steps → near arcs (slice_index way i) ≡ stand arcs way i
-
--- to a node one level before
-pub record IsFalling (arcs : List Arc) (entries : List Entry) (way : List ℕ) (steps : ℕ) : Type 0 where
-  pub falls : (i : ℕ) → i < steps → level_at entries (far arcs (slice_index way i)) + 1 ≡ level_at entries (near arcs (slice_index way i))
 
 -- no arc is taken twice
 abbrev pub TakesEachOnce : List ℕ → ℕ → Type 0
@@ -29,8 +25,8 @@ pub record IsWhole (arcs : List Arc) (way : List ℕ) : Type 0 where
   pub once : TakesEachOnce way (length way)
 
 -- each step has room for so many lots
-pub record HasRoom (arcs : List Arc) (flow way : List ℕ) (steps lots : ℕ) : Type 0 where
-  pub room : (i : ℕ) → i < steps → lots ≤ residual_in arcs flow (slice_index way i)
+abbrev pub HasRoom : List Arc → List ℕ → List ℕ → ℕ → ℕ → Type 0
+HasRoom arcs flow way steps lots = (i : ℕ) → i < steps → lots ≤ residual_in arcs flow (slice_index way i)
 
 -- some step has room for exactly so many lots
 pub record IsNarrow (arcs : List Arc) (flow way : List ℕ) (steps lots : ℕ) : Type 0 where
@@ -38,25 +34,15 @@ pub record IsNarrow (arcs : List Arc) (flow way : List ℕ) (steps lots : ℕ) :
   pub within : step < steps
   pub room : residual_in arcs flow (slice_index way step) ≡ lots
 
--- at each node a search for ways goes on at an end of that node
-pub record IsCurrent (arcs : List Arc) (current : List ℕ) : Type 0 where
-  pub ends : (n : ℕ) → slice_index current n ≤ 2 * length arcs
-  pub here : (n : ℕ) → 0 < slice_index current n → near arcs (slice_index current n - 1) ≡ n
-
--- and hasn't passed the end that the way takes
+-- a search for ways hasn't passed the end that the way takes at a node
 abbrev pub IsAhead : List Arc → List ℕ → List ℕ → ℕ → Type 0
 IsAhead arcs current way steps = (i : ℕ) → i < steps → slice_index way i < slice_index current (near arcs (slice_index way i))
 
 -- an end at which a way can go on: it leads a level down, and the search for ways has just come to it
 pub record IsDown (arcs : List Arc) (flow : List ℕ) (entries : List Entry) (current : List ℕ) (node end : ℕ) : Type 0 where
-  pub end_in : end < 2 * length arcs
-  pub here : near arcs end ≡ node
+  pub step : IsStep arcs flow entries node (level_at entries node) end
   pub ahead : end < slice_index current node
-  pub room : 0 < residual_in arcs flow end
-  pub falls : level_at entries (far arcs end) + 1 ≡ level_at entries node
 
 -- a way on which each step has room and leads a level down
 pub record IsDescent (arcs : List Arc) (flow : List ℕ) (entries : List Entry) (way : List ℕ) (steps : ℕ) : Type 0 where
-  pub is_way : IsWay arcs way steps
-  pub falling : IsFalling arcs entries way steps
-  pub room : HasRoom arcs flow way steps 1
+  pub each : (i : ℕ) → i < steps → IsStep arcs flow entries (stand arcs way i) (level_at entries (stand arcs way i)) (slice_index way i)

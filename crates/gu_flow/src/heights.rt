@@ -1,8 +1,8 @@
 //! Lots pushed down from node to node: a node is as high as it is far from the sink.
 
-ghost use Rattle.std.specs.Prelude.{◌≡◌, ℕ, ◌*◌, ◌^◌, ◌<◌, ◌≤◌, OnErr, OnOk, length, slice_index, vec_len};
+ghost use Rattle.std.specs.Prelude.{◌≡◌, ℕ, ◌*◌, ◌^◌, ◌<◌, ◌≤◌, All, OnErr, OnOk, length, slice_index, vec_len};
 ghost use Rattle.gu_flow.specs.Flows.{IsFlow, IsWithin, value_of};
-ghost use Rattle.gu_flow.specs.Preflows.{IsPreflow};
+ghost use Rattle.gu_flow.specs.Preflows.{IsPreflow, IsSurge};
 
 use crate::network::{Network, SINK, SOURCE};
 use crate::preflow::{give_back, push_excess};
@@ -88,15 +88,12 @@ fn push_down(
     waiting: &mut Waiting,
     node: u32,
 )
-    requires preflow { IsPreflow net.now.arcs.items flow.old excess.old }
-    requires nodes { (length excess.old ≡ length net.now.first.items) × (length heights.now ≡ length net.now.first.items)
-        × (length current.old ≡ length net.now.first.items) × (vec_len waiting.old.ring ≡ length net.now.first.items) }
+    requires surge { IsSurge net.now.arcs.items (length net.now.first.items) flow.old excess.old heights.now current.old
+        (vec_len waiting.old.ring) }
     requires node { node < length excess.old }
-    requires current { (n : ℕ) → slice_index current.old n ≤ 2 * length net.now.arcs.items }
-    ensures preflow { IsPreflow net.now.arcs.items flow.new excess.new }
+    ensures surge { IsSurge net.now.arcs.items (length net.now.first.items) flow.new excess.new heights.now current.new
+        (vec_len waiting.new.ring) }
     ensures value { value_of net.now.arcs.items flow.old ≤ value_of net.now.arcs.items flow.new }
-    ensures ring { vec_len waiting.new.ring ≡ vec_len waiting.old.ring }
-    ensures current { (n : ℕ) → slice_index current.new n ≤ 2 * length net.now.arcs.items }
 {
     let height = heights[node as usize];
     'ends: while current[node as usize] > 0 {
@@ -148,15 +145,12 @@ fn discharge(
     waiting: &mut Waiting,
     node: u32,
 ) -> usize
-    requires preflow { IsPreflow net.now.arcs.items flow.old excess.old }
-    requires nodes { (length excess.old ≡ length net.now.first.items) × (length heights.old ≡ length net.now.first.items)
-        × (length current.old ≡ length net.now.first.items) × (vec_len waiting.old.ring ≡ length net.now.first.items) }
+    requires surge { IsSurge net.now.arcs.items (length net.now.first.items) flow.old excess.old heights.old current.old
+        (vec_len waiting.old.ring) }
     requires node { node < length excess.old }
-    requires current { (n : ℕ) → slice_index current.old n ≤ 2 * length net.now.arcs.items }
-    ensures preflow { IsPreflow net.now.arcs.items flow.new excess.new }
+    ensures surge { IsSurge net.now.arcs.items (length net.now.first.items) flow.new excess.new heights.new current.new
+        (vec_len waiting.new.ring) }
     ensures value { value_of net.now.arcs.items flow.old ≤ value_of net.now.arcs.items flow.new }
-    ensures ring { vec_len waiting.new.ring ≡ vec_len waiting.old.ring }
-    ensures current { (n : ℕ) → slice_index current.new n ≤ 2 * length net.now.arcs.items }
 {
     push_down(net, flow, excess, heights, current, waiting, node);
     if excess[node as usize] == 0 {
@@ -170,14 +164,12 @@ fn discharge(
     cost
 }
 
-/// Leaves no node with too much but the source, which has as much as it can give.
+/// Gives the source as much as it can give, where no node has too much.
 fn begin(excess: &mut [u64])
-    requires { 0 < length excess.old }
+    requires some { 0 < length excess.old }
+    requires none { All (λ lots. lots ≡ 0) excess.old }
     ensures { (n : ℕ) → 0 < n → slice_index excess.new n ≡ 0 }
 {
-    for lots in excess.iter_mut() {
-        *lots = 0;
-    }
     excess[SOURCE as usize] = u64::MAX;
 }
 
@@ -208,14 +200,12 @@ fn take_turns(
     queue: &mut [u32],
     waiting: &mut Waiting,
 )
-    requires preflow { IsPreflow net.now.arcs.items flow.old excess.old }
-    requires nodes { (length excess.old ≡ length net.now.first.items) × (length heights.old ≡ length net.now.first.items)
-        × (length current.old ≡ length net.now.first.items) × (vec_len waiting.old.ring ≡ length net.now.first.items)
-        × (0 < length queue.old) }
-    requires current { (n : ℕ) → slice_index current.old n ≤ 2 * length net.now.arcs.items }
-    ensures preflow { IsPreflow net.now.arcs.items flow.new excess.new }
+    requires surge { IsSurge net.now.arcs.items (length net.now.first.items) flow.old excess.old heights.old current.old
+        (vec_len waiting.old.ring) }
+    requires room { 0 < length queue.old }
+    ensures surge { IsSurge net.now.arcs.items (length net.now.first.items) flow.new excess.new heights.new current.new
+        (vec_len waiting.new.ring) }
     ensures value { value_of net.now.arcs.items flow.old ≤ value_of net.now.arcs.items flow.new }
-    ensures ring { vec_len waiting.new.ring ≡ vec_len waiting.old.ring }
 {
     let mut cost = 0_usize;
     'turns: for _ in 0..MOST_TURNS {

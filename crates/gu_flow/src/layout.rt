@@ -3,7 +3,7 @@
 ghost use Rattle.std.specs.Prelude.{◌≡◌, ◌+◌, ◌<◌, ◌^◌, All, IfOk, length, sum_by};
 ghost use Rattle.gu_view.specs.View.{IsView};
 ghost use Rattle.gu_flow.specs.Ends.{capacities, JoinsNodes};
-ghost use Rattle.gu_flow.specs.Layouts.{node_of, first_node, next_node, tail_on, head_on};
+ghost use Rattle.gu_flow.specs.Layouts.{step_of, node_at};
 ghost use Rattle.gu_flow.specs.Networks.{capacity_of, IsArcOf, AreArcs, room_at, offer_at};
 
 use crate::network::{Arc, SINK, SOURCE};
@@ -11,61 +11,32 @@ use gu_terms::LimitKey;
 use gu_view::{Offer, View};
 use std::alloc::{AllocError, Global};
 
-fn node_of(place: u32) -> u32
-    requires { place < 2 ^ 31 }
-    ensures { result ≡ node_of place }
+/// How many steps of a way come before that of a key.
+fn step_of(key: LimitKey) -> usize
+    ensures { result ≡ step_of key }
 {
-    place + 2
-}
-
-/// The node of the first of these places, or the sink.
-fn first_node(way: &[u32]) -> u32
-    requires { All (λ p. p < 2 ^ 31) way.now }
-    ensures { result ≡ first_node way.now }
-{
-    match way {
-        [first, ..] => node_of(*first),
-        [] => SINK,
+    match key {
+        LimitKey::Exec(_) => 0,
+        LimitKey::Agr(_) => 1,
+        LimitKey::Acct(_) => 2,
+        LimitKey::Carry(_) => 3,
+        LimitKey::Guar(_) => 4,
     }
 }
 
-/// The node of the place that comes after one, or the sink.
-fn next_node(way: &[u32], place: u32) -> u32
+/// Where a way stands after so many steps: at the source, at the node of its first place, then at that of each place
+/// but the second, and behind the last at the sink.
+fn node_at(way: &[u32], steps: usize) -> u32
     requires { All (λ p. p < 2 ^ 31) way.now }
-    ensures { result ≡ next_node way.now place }
+    ensures { result ≡ node_at way.now steps }
 {
-    match way {
-        [first, others @ ..] if *first == place => first_node(others),
-        [_, others @ ..] => next_node(others, place),
-        [] => SINK,
+    if steps == 0 {
+        return SOURCE;
     }
-}
-
-/// Where the arc of a place begins: the first at the source, the second at the first's node, each other at its own.
-fn tail_on(way: &[u32], place: u32) -> u32
-    requires places { All (λ p. p < 2 ^ 31) way.now }
-    requires place { place < 2 ^ 31 }
-    ensures { result ≡ tail_on way.now place }
-{
-    match way {
-        [] | [_] => SOURCE,
-        [first, ..] if *first == place => SOURCE,
-        [first, second, ..] if *second == place => node_of(*first),
-        _ => node_of(place),
-    }
-}
-
-/// And where it ends: the first at its own node, each other at the node of the place after it.
-fn head_on(way: &[u32], place: u32) -> u32
-    requires { All (λ p. p < 2 ^ 31) way.now }
-    ensures { result ≡ head_on way.now place }
-{
-    match way {
-        [] => SINK,
-        [first] => node_of(*first),
-        [first, ..] if *first == place => node_of(*first),
-        [_, second, others @ ..] if *second == place => first_node(others),
-        [_, _, others @ ..] => next_node(others, place),
+    let place = if steps == 1 { 0 } else { steps };
+    match way.get(place) {
+        Some(place) => *place + 2,
+        None => SINK,
     }
 }
 
@@ -106,9 +77,11 @@ fn arc_of(view: &View, place: usize) -> Arc
     let capacity = capacity_of(view, place);
     let offer = view.members(place)[0] as usize;
     let way = view.places(offer);
+    let room = view.rooms()[place];
+    let steps = step_of(room.key);
     Arc {
-        from: tail_on(way, place as u32),
-        to: head_on(way, place as u32),
+        from: node_at(way, steps),
+        to: node_at(way, steps + 1),
         capacity,
     }
 }

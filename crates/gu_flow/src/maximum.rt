@@ -15,6 +15,7 @@ use std::alloc::{AllocError, Global};
 const SEARCHES: usize = 2;
 
 /// Makes the flow greatest, over lists that are there; a surge takes lists of its own.
+#[tactic(auto, using(crate::proofs::PushLemmas::left_less))]
 fn fill(
     alloc: Global,
     net: &Network,

@@ -1,7 +1,7 @@
 //! Networks of arcs, and the ends at each node: end 2k is the tail of the arc at place k, and end 2k + 1 its head.
 
 ghost use Rattle.std.specs.Prelude.{◌≡◌, ◌*◌, ◌/◌, ◌^◌, ◌<◌, ◌≤◌, All, IfOk, length, slice_index};
-ghost use Rattle.gu_flow.specs.Ends.{arc_at, near, far, other_end, capacities, IsIndex, IsNetwork, JoinsNodes};
+ghost use Rattle.gu_flow.specs.Ends.{arc_at, near, far, other_end, last_before, capacities, IsCurrent, IsIndex, IsNetwork, JoinsNodes};
 
 use std::alloc::{AllocError, Global};
 
@@ -62,6 +62,7 @@ fn link(arcs: &[Arc], first: &mut [u32], next: &mut [u32])
     }
 }
 
+#[tactic(auto, using(crate::proofs::Linking::last_is_before))]
 impl Network {
     /// The network of these arcs between so many nodes.
     pub(crate) fn new(alloc: Global, arcs: Vec<Arc>, nodes: usize) -> Result<Network, AllocError>
@@ -120,7 +121,7 @@ impl Network {
     /// One more than a node's last end, or 0.
     pub(crate) fn ends(&self, node: u32) -> u32
         requires { node < length self.now.first.items }
-        ensures is { result ≡ slice_index self.now.first.items node }
+        ensures is { result ≡ last_before self.now.arcs.items (2 * length self.now.arcs.items) node }
         ensures within { result ≤ 2 * length self.now.arcs.items }
     {
         self.first[node as usize]
@@ -129,7 +130,7 @@ impl Network {
     /// One more than the end before one at the same node, or 0.
     pub(crate) fn ends_before(&self, end: u32) -> u32
         requires { end < 2 * length self.now.arcs.items }
-        ensures is { result ≡ slice_index self.now.next.items end }
+        ensures is { result ≡ last_before self.now.arcs.items end (near self.now.arcs.items end) }
         ensures less { result ≤ end }
     {
         self.next[end as usize]
@@ -137,7 +138,8 @@ impl Network {
 
     /// The last end of each node.
     pub(crate) fn last_ends(&self) -> &[u32]
-        ensures { result.now ≡ self.now.first.items }
+        ensures nodes { length result.now ≡ length self.now.first.items }
+        ensures current { IsCurrent self.now.arcs.items result.now }
     {
         &self.first
     }

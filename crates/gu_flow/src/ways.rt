@@ -1,10 +1,10 @@
 //! Ways from the sink back to the source, each step a level down.
 
 ghost use Rattle.std.specs.Prelude.{◌≡◌, ◌≢◌, ℕ, ◌+◌, ◌*◌, ◌<◌, ◌≤◌, IfSome, true, length, slice_index, sum};
-ghost use Rattle.gu_flow.specs.Ends.{far, residual_in};
+ghost use Rattle.gu_flow.specs.Ends.{far, residual_in, IsCurrent};
 ghost use Rattle.gu_flow.specs.Flows.{IsFlow, IsWithin, value_of};
 ghost use Rattle.gu_flow.specs.Levels.{level_at, IsTree};
-ghost use Rattle.gu_flow.specs.Ways.{stand, IsWay, HasRoom, IsCurrent, IsAhead, IsDown, IsDescent};
+ghost use Rattle.gu_flow.specs.Ways.{stand, IsWay, HasRoom, IsAhead, IsDown, IsDescent};
 
 use crate::augment::augment;
 use crate::levels::Entry;
@@ -158,6 +158,7 @@ pub(crate) fn extend(
 /// Brings lots along ways that fall a level at each step, until the search for one ends or no more steps are left,
 /// of those that there were and that ways paid for; at least along the way on which the sink was reached.
 /// Returns how many steps are left.
+#[tactic(auto, using(crate::proofs::PushLemmas::left_less))]
 pub(crate) fn block(
     net: &Network,
     flow: &mut [u64],

@@ -2,7 +2,7 @@ use Rattle.std.proofs.Common.{◌≡◌, ap, sym, ◌∙◌}
 use Rattle.gu_view.specs.declared.view.Room.{Room}
 use Rattle.gu_flow.specs.Levels.{is_reached}
 use Rattle.gu_flow.specs.Networks.{room_at}
-use Rattle.gu_flow.proofs.CutMembers.{key_cut, key_not_cut}
+use Rattle.gu_flow.proofs.CutMembers.{key_cut, none_cut}
 use Rattle.gu_flow.proofs.RoomPlaces.{own_room}
 use Rattle.gu_flow.proofs.cutting.add_keys.Goals as goal
 use Rattle.gu_flow.proofs.cutting.add_keys.Goals.{then-cuts_key+in_ok-add_key, else-cuts_key}
@@ -24,7 +24,7 @@ loop-place-preserved c =
         offers = rw w.cut-is (w.in_ok-add_key.ensures.offers ∙ h.offers);
       }
       | else-cuts_key w ↦ record {
-        keys = rw w.cut-is (key_not_cut view sound reached arcs c.loop-place.cut.keys i h.keys (sym c.cuts_key.ensures ∙ w.if-cuts_key.false));
+        keys = rw w.cut-is (none_cut h.keys (sym c.cuts_key.ensures ∙ w.if-cuts_key.false));
         offers = rw w.cut-is h.offers;
       }
     ]

@@ -4,7 +4,7 @@ use Rattle.gu_view.specs.declared.view.Offer.{Offer}
 use Rattle.gu_flow.specs.CutArcs.{cuts_offers}
 use Rattle.gu_flow.specs.Levels.{is_reached}
 use Rattle.gu_flow.specs.Networks.{no_offer, offer_at}
-use Rattle.gu_flow.proofs.CutMembers.{offer_cut, offer_not_cut}
+use Rattle.gu_flow.proofs.CutMembers.{offer_cut, none_cut}
 use Rattle.gu_flow.proofs.RoomPlaces.{agreement_read}
 use Rattle.gu_flow.proofs.cutting.add_offers.Goals as goal
 use Rattle.gu_flow.proofs.cutting.add_offers.Goals.{then-cuts_offers+in_ok-add_offer, else-cuts_offers}
@@ -27,7 +27,7 @@ loop-number-preserved c =
         keys = rw w.cut-is (w.in_ok-add_offer.ensures.keys ∙ h.keys);
       }
       | else-cuts_offers w ↦ record {
-        offers = rw w.cut-is (offer_not_cut view sound reached arcs c.loop-number.cut.offers i h.offers (sym told ∙ w.if-cuts_offers.false));
+        offers = rw w.cut-is (none_cut h.offers (sym told ∙ w.if-cuts_offers.false));
         keys = rw w.cut-is h.keys;
       }
     ]

@@ -1,12 +1,10 @@
-use Rattle.std.proofs.Common.{◌≡◌, ℕ, ◌*◌, ◌≤◌, length, slice_index, vec_len}
+use Rattle.std.proofs.Common.{◌≤◌, length, vec_len}
 use Rattle.gu_flow.specs.Flows.{value_of}
-use Rattle.gu_flow.specs.Preflows.{IsPreflow}
+use Rattle.gu_flow.specs.Preflows.{IsSurge}
 use Rattle.gu_flow.proofs.heights.take_turns.Given as goal
 
 abbrev pub invariant-turns : goal.invariant-turns
 invariant-turns l = record {
-  preflow : IsPreflow l.net.arcs.items l.flow l.excess;
+  surge : IsSurge l.net.arcs.items (length l.net.first.items) l.flow l.excess l.heights l.current (vec_len l.waiting.ring);
   value : value_of l.net.arcs.items l.initial.flow ≤ value_of l.net.arcs.items l.flow;
-  ring : vec_len l.waiting.ring ≡ vec_len l.initial.waiting.ring;
-  current : (n : ℕ) → slice_index l.current n ≤ 2 * length l.net.arcs.items;
 }

@@ -11,4 +11,4 @@ nodes-preserved c =
     search_goes_on c.args.net.now.arcs.items c.args.flow.now c.nodes.entries c.spread-count.new.entries c.nodes.queue c.spread-count.new.queue c.nodes.done c.nodes.count c.spread-count.result c.nodes.invariant c.nodes-test.true e.tree e.queue e.goes_on e.grows e.spent
 
 pub returns-clause-closed : goal.returns-clause-closed
-returns-clause-closed c = λ _. search_done c.args.net.now.arcs.items c.args.flow.now c.nodes.entries c.nodes.queue c.nodes.done c.nodes.count c.nodes.invariant c.nodes-test.false c.requires.within
+returns-clause-closed c = λ _. search_done c.args.net.now.arcs.items c.args.flow.now c.nodes.entries c.nodes.queue c.nodes.done c.nodes.count c.nodes.invariant c.nodes-test.false

@@ -1,8 +1,12 @@
 use Rattle.std.proofs.Common.{◌<◌, arith, length, subst, sym}
-use Rattle.gu_flow.specs.Ends.{near, JoinsNodes}
+use Rattle.gu_flow.specs.Ends.{near, last_before, JoinsNodes}
 use Rattle.gu_flow.proofs.EndLemmas.{near_in}
 use Rattle.gu_flow.proofs.Linking.{link_one}
 use Rattle.gu_flow.proofs.network.link.Goals as goal
+
+pub loop-end-init : goal.loop-end-init
+unfolding last_before
+loop-end-init c = record { last = λ n n_in. c.requires.none n 0 n_in; before = λ e e_in. absurd (omega arith) }
 
 pub loop-end-preserved : goal.loop-end-preserved
 loop-end-preserved c =

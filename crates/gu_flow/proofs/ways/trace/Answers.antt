@@ -1,10 +1,14 @@
-use Rattle.std.proofs.Common.{arith}
+use Rattle.std.proofs.Common.{◌≤◌, arith, length}
+use Rattle.gu_flow.specs.Levels.{level_at}
 use Rattle.gu_flow.proofs.Descents.{trace_within, traces}
 use Rattle.gu_flow.proofs.ways.trace.Goals as goal
 
 pub bounds-way-steps : goal.bounds-way-steps
-bounds-way-steps c = trace_within c.args.net.now.arcs.items c.args.flow.now c.args.entries.now c.loop-node.way c.loop-node.steps c.loop-node.node c.requires.tree (omega arith) c.loop-node.invariant c.loop-node-test.true
+bounds-way-steps c =
+    let top : level_at c.args.entries.now 1 ≤ length c.loop-node.way = omega (arith, c.requires.tree.levels 1) in
+    trace_within c.args.net.now.arcs.items c.args.flow.now c.args.entries.now c.loop-node.way c.loop-node.steps c.loop-node.node c.requires.tree top c.loop-node.invariant c.loop-node-test.true
 
 pub loop-node-preserved : goal.loop-node-preserved
 loop-node-preserved c =
-    rw c.far-node.ensures.is (traces c.args.net.now.arcs.items c.args.flow.now c.args.entries.now c.loop-node.way c.loop-node.steps c.loop-node.node c.requires.tree (omega arith) c.loop-node.invariant c.loop-node-test.true)
+    let top : level_at c.args.entries.now 1 ≤ length c.loop-node.way = omega (arith, c.requires.tree.levels 1) in
+    rw c.far-node.ensures.is (traces c.args.net.now.arcs.items c.args.flow.now c.args.entries.now c.loop-node.way c.loop-node.steps c.loop-node.node c.requires.tree top c.loop-node.invariant c.loop-node-test.true)
