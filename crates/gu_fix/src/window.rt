@@ -50,7 +50,9 @@ fn drop_front(items: &mut Vec<u8>, count: usize)
     requires { count ≤ vec_len items.old }
     ensures { items.new.items ≡ drop count items.old.items }
 {
-    items.drain(..count);
+    let left = items.len() - count;
+    items.copy_within(count.., 0);
+    items.truncate(left);
 }
 
 /// Gives back the bytes before a place, with their sums, and returns the sum before it.
