@@ -76,13 +76,13 @@ impl Fields {
         }
     }
 
-    /// No fields yet, with room for those of a message of so many bytes, eight bytes to a field.
+    /// No fields yet, with room for those of a message of so many bytes, sixteen bytes to a field.
     pub fn with_room(alloc: Global, bytes: usize) -> Result<Self, AllocError>
         ensures { IfOk result (λ fields. fields ≡ []) }
     {
         Ok(Fields {
             bytes: Vec::with_capacity(alloc, bytes)?,
-            spans: Vec::with_capacity(alloc, bytes / 8)?,
+            spans: Vec::with_capacity(alloc, bytes / 16)?,
         })
     }
 
