@@ -80,11 +80,46 @@ fn has_soh_in_value(fields: &Fields) -> bool
     false
 }
 
+/// The digits of a number that has two.
+fn two_digits(number: u32) -> [u8; 2]
+    requires { (10 ≤ number) × (number < 100) }
+    ensures { result ≡ decimal number }
+{
+    [b'0' + (number / 10) as u8, b'0' + (number % 10) as u8]
+}
+
+/// The digits of a number that has three.
+fn three_digits(number: u32) -> [u8; 3]
+    requires { (100 ≤ number) × (number < 1000) }
+    ensures { result ≡ decimal number }
+{
+    [
+        b'0' + (number / 100) as u8,
+        b'0' + (number / 10 % 10) as u8,
+        b'0' + (number % 10) as u8,
+    ]
+}
+
+/// Appends the digits of a tag, of which most have two or three.
+fn push_tag(out: &mut Vec<u8>, tag: u32) -> Result<(), AllocError>
+    ensures { OnOk result (out.new.items ≡ out.old.items ++ decimal tag) }
+{
+    if 10 <= tag {
+        if tag < 100 {
+            return out.extend_from_slice(&two_digits(tag));
+        }
+        if tag < 1000 {
+            return out.extend_from_slice(&three_digits(tag));
+        }
+    }
+    let mut digits = Buffer::new();
+    out.extend_from_slice(digits.format(tag).as_bytes())
+}
+
 fn push_field(out: &mut Vec<u8>, field: Field) -> Result<(), AllocError>
     ensures { OnOk result (out.new.items ≡ out.old.items ++ field_text (tag_value field.entry.tag field.entry.value.now)) }
 {
-    let mut digits = Buffer::new();
-    out.extend_from_slice(digits.format(field.tag).as_bytes())?;
+    push_tag(out, field.tag)?;
     out.push(b'=')?;
     out.extend_from_slice(field.value)?;
     out.push(SOH)?;
