@@ -1,6 +1,6 @@
 //! Where the tags of a table stand first among fields.
 
-ghost use Rattle.std.specs.Prelude.{◌≡◌, ◌≤◌, length, false, List, MatchOption, MatchResult, None, Some, ⊤};
+ghost use Rattle.std.specs.Prelude.{◌≡◌, ◌≤◌, length, false, IfSome, List, MatchOption, MatchResult, None, Some, ⊤};
 ghost use Rattle.gu_fix.specs.TagValue.{TagValue};
 ghost use Rattle.gu_msgs.specs.Rows.{is_listed};
 ghost use Rattle.gu_msgs.specs.Shape.{missing, repeated};
@@ -27,16 +27,26 @@ fn place_of(rows: &[Row], tag: u32) -> Option<usize>
     None
 }
 
-/// The same. Tags mostly come in the order of a table, so one place is tried before all.
+/// The place of the row with a tag, from a place on.
+fn place_from(rows: &[Row], from: usize, tag: u32) -> Option<usize>
+    ensures { IfSome result (λ place. IsRowOf rows.now tag place) }
+{
+    for place in from..rows.len() {
+        if rows[place].tag() == tag {
+            return Some(place);
+        }
+    }
+    None
+}
+
+/// The place of the row with a tag. Tags mostly come in the order of a table, so it is looked for from a place on first.
 fn row_of(rows: &[Row], next: usize, tag: u32) -> Option<usize>
     ensures { MatchOption result (is_listed rows.now tag ≡ false) (λ place. IsRowOf rows.now tag place) }
 {
-    if next < rows.len() {
-        if rows[next].tag() == tag {
-            return Some(next);
-        }
+    match place_from(rows, next, tag) {
+        Some(place) => Some(place),
+        None => place_of(rows, tag),
     }
-    place_of(rows, tag)
 }
 
 /// Notes the number of the first field with a tag, unless one was noted before.
