@@ -1,8 +1,9 @@
 -- Values in a buffer that grows.
-use Rattle.std.proofs.Common.{◌≡◌, ℕ, List, [], ◌∷◌, ◌++◌, length, take, drop, refl, sym, ap, ◌∙◌, arith}
-use Rattle.std.proofs.lemmas.List.{take-append-le, drop-append-le, length-drop, drop_at, take_all, map-append}
+use Rattle.std.proofs.Common.{◌≡◌, ◌≤◌, ◌-◌, ◌+◌, ℕ, List, [], ◌∷◌, ◌++◌, length, take, drop, refl, sym, ap, ◌∙◌, append_assoc, arith}
+use Rattle.std.proofs.lemmas.List.{take-append-drop, take-append-le, drop-append-le, drop-drop, length-append, length-drop, drop_at, take_at, take_all, map-append}
 use Rattle.gu_fix.specs.TagValue.{TagValue, tag_value}
-use Rattle.gu_fix.specs.Spans.{IsWithin, field_in, AreWithin, fields_in}
+use Rattle.gu_fix.specs.WholeMessage.{soh}
+use Rattle.gu_fix.specs.Spans.{IsWithin, LiesBefore, field_in, AreWithin, fields_in}
 use Rattle.gu_fix.specs.declared.field.Span.{Span}
 
 -- what is appended changes no value
@@ -33,3 +34,42 @@ fields_in-push bytes value spans span within start len =
     map-append (field_in (bytes ++ value)) spans (span ∷ [])
     ∙ ap (λ (t : List TagValue). t ++ field_in (bytes ++ value) span ∷ []) (fields_in-append bytes value spans within)
     ∙ ap (λ (f : TagValue). fields_in bytes spans ++ f ∷ []) (field_in-end bytes value span start len)
+
+-- ---- values in the buffer that is read
+
+-- of bytes that end in a value, its SOH and others, this is where the value lies
+pub value_lies : (bytes rest front value after : List ℕ) (tag : ℕ) (span : Span) → length rest ≤ length bytes → rest ≡ drop (length bytes - length rest) bytes
+    → rest ≡ (front ++ value) ++ soh ∷ after → LiesBefore span bytes tag (length value) (length after)
+    → IsWithin bytes span × (field_in bytes span ≡ tag_value tag value)
+value_lies bytes rest front value after tag span short left parts lies =
+    let seen = take (length bytes - length rest) bytes in
+    let before = seen ++ front in
+    let all : bytes ≡ before ++ (value ++ soh ∷ after) =
+    sym (take-append-drop (length bytes - length rest) bytes)
+    ∙ ap (λ (t : List ℕ). seen ++ t) (sym left ∙ parts ∙ append_assoc front value (soh ∷ after))
+    ∙ sym (append_assoc seen front (value ++ soh ∷ after)) in
+    let size = ap length all in
+    let place : length before ≡ span.start = omega (arith, size, length-append before (value ++ soh ∷ after), length-append value (soh ∷ after), lies.ends) in
+    let there : drop span.start bytes ≡ value ++ soh ∷ after = ap (drop span.start) all ∙ drop_at before (value ++ soh ∷ after) span.start place in
+    let cut : take span.len (drop span.start bytes) ≡ value = ap (take span.len) there ∙ take_at value (soh ∷ after) span.len (sym lies.sized) in (
+      omega (arith, lies.ends, lies.sized),
+      ap (λ k. tag_value k (take span.len (drop span.start bytes))) lies.tagged ∙ ap (tag_value tag) cut,
+    )
+
+-- one more span within the buffer
+pub within-push : (bytes : List ℕ) (spans : List Span) (span : Span) → AreWithin bytes spans → IsWithin bytes span → AreWithin bytes (spans ++ span ∷ [])
+within-push bytes [] span within here = (here, tt)
+within-push bytes (s ∷ ss) span within here = (within.0, within-push bytes ss span within.1 here)
+
+-- and its field
+pub fields_in-one_more : (bytes : List ℕ) (spans : List Span) (span : Span) (field : TagValue) → field_in bytes span ≡ field → fields_in bytes (spans ++ span ∷ []) ≡ fields_in bytes spans ++ field ∷ []
+fields_in-one_more bytes spans span field is =
+    map-append (field_in bytes) spans (span ∷ []) ∙ ap (λ (f : TagValue). fields_in bytes spans ++ f ∷ []) is
+
+-- what is left stays a rest of the bytes
+pub left_on : (bytes rest : List ℕ) (n : ℕ) → length rest ≤ length bytes → rest ≡ drop (length bytes - length rest) bytes → n ≤ length rest
+    → drop n rest ≡ drop (length bytes - length (drop n rest)) bytes
+left_on bytes rest n short left within =
+    let k = length bytes - length rest in
+    let place : k + n ≡ length bytes - length (drop n rest) = omega (arith, length-drop n rest) in
+    ap (drop n) left ∙ drop-drop n k bytes ∙ ap (λ i. drop i bytes) place

@@ -1,6 +1,8 @@
 -- Machinery: where values lie in one buffer. No other crate names this file.
-use Rattle.std.specs.Prelude.{ℕ, ◌+◌, ◌≤◌, List, length, take, drop, map}
+use Rattle.std.specs.Prelude.{◌≡◌, ℕ, ◌+◌, ◌<◌, ◌≤◌, List, length, slice_index, take, drop, map}
 use Rattle.std.specs.List.{AllByRecursion}
+use Rattle.std.specs.Str.Parse.{AllDigits, digits_value}
+use Rattle.gu_fix.specs.Fields.{equals}
 use Rattle.gu_fix.specs.TagValue.{TagValue, tag_value}
 use Rattle.gu_fix.specs.declared.field.Span.{Span}
 
@@ -19,3 +21,21 @@ AreWithin bytes spans = AllByRecursion (IsWithin bytes) spans
 -- the fields whose values lie there, in order
 abbrev pub fields_in : List ℕ → List Span → List TagValue
 fields_in bytes spans = map (field_in bytes) spans
+
+-- a byte stands at this place
+pub record StandsAt (byte place : ℕ) (bytes : List ℕ) : Type 0 where
+  pub within : place < length bytes
+  pub there : slice_index bytes place ≡ byte
+
+-- digits stand in front of the first `=`, nine at most: their number, and its place
+pub record HasNumber (part : List ℕ) (number place : ℕ) : Type 0 where
+  pub behind : StandsAt equals place part
+  pub most : place ≤ 9
+  pub all : AllDigits 10 (take place part)
+  pub value : digits_value 10 (take place part) ≡ number
+
+-- where a value of this length lies, when so many of the bytes are left behind its SOH
+pub record LiesBefore (span : Span) (bytes : List ℕ) (tag len left : ℕ) : Type 0 where
+  pub tagged : span.tag ≡ tag
+  pub sized : span.len ≡ len
+  pub ends : span.start + len + 1 + left ≡ length bytes

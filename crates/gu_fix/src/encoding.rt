@@ -1,6 +1,7 @@
 //! Messages from fields.
 ghost use Rattle.std.specs.Prelude.{◌≡◌, ◌==◌, ◌≤◌, ◌<◌, ◌+◌, ◌++◌, ◌↔◌, List, ℕ, [], ◌∷◌, length, Some, None, IfOk, OnOk, IsErrOf, MatchOption, MatchResult, IsTrue, not, ◌&&◌};
 ghost use Rattle.std.specs.List.{list_any, list_all};
+ghost use Rattle.std.specs.Fmt.{decimal};
 ghost use Rattle.gu_fix.specs.WholeMessage.{soh, front_of, trailer_after, IsWhole};
 ghost use Rattle.gu_fix.specs.TagValue.{TagValue, tag_value};
 ghost use Rattle.gu_fix.specs.Encoding.{field_text, fields_text, message_of, fault_of, is_body_tag, begins_with_type, is_empty, has_soh};
@@ -60,7 +61,12 @@ fn has_empty_value(fields: &Fields) -> bool
 fn contains_soh(value: &[u8]) -> bool
     ensures { result ≡ has_soh value.now }
 {
-    value.contains(&SOH)
+    for byte in value {
+        if *byte == SOH {
+            return true;
+        }
+    }
+    false
 }
 
 fn has_soh_in_value(fields: &Fields) -> bool
@@ -74,11 +80,46 @@ fn has_soh_in_value(fields: &Fields) -> bool
     false
 }
 
+/// The digits of a number that has two.
+fn two_digits(number: u32) -> [u8; 2]
+    requires { (10 ≤ number) × (number < 100) }
+    ensures { result ≡ decimal number }
+{
+    [b'0' + (number / 10) as u8, b'0' + (number % 10) as u8]
+}
+
+/// The digits of a number that has three.
+fn three_digits(number: u32) -> [u8; 3]
+    requires { (100 ≤ number) × (number < 1000) }
+    ensures { result ≡ decimal number }
+{
+    [
+        b'0' + (number / 100) as u8,
+        b'0' + (number / 10 % 10) as u8,
+        b'0' + (number % 10) as u8,
+    ]
+}
+
+/// Appends the digits of a tag, of which most have two or three.
+fn push_tag(out: &mut Vec<u8>, tag: u32) -> Result<(), AllocError>
+    ensures { OnOk result (out.new.items ≡ out.old.items ++ decimal tag) }
+{
+    if 10 <= tag {
+        if tag < 100 {
+            return out.extend_from_slice(&two_digits(tag));
+        }
+        if tag < 1000 {
+            return out.extend_from_slice(&three_digits(tag));
+        }
+    }
+    let mut digits = Buffer::new();
+    out.extend_from_slice(digits.format(tag).as_bytes())
+}
+
 fn push_field(out: &mut Vec<u8>, field: Field) -> Result<(), AllocError>
     ensures { OnOk result (out.new.items ≡ out.old.items ++ field_text (tag_value field.entry.tag field.entry.value.now)) }
 {
-    let mut digits = Buffer::new();
-    out.extend_from_slice(digits.format(field.tag).as_bytes())?;
+    push_tag(out, field.tag)?;
     out.push(b'=')?;
     out.extend_from_slice(field.value)?;
     out.push(SOH)?;
@@ -94,6 +135,24 @@ fn push_fields(out: &mut Vec<u8>, fields: &Fields) -> Result<(), AllocError>
     Ok(())
 }
 
+/// How many digits a number has.
+fn digits_of(number: u32) -> usize
+    ensures digits { result ≡ length (decimal number) }
+    ensures most { result ≤ 10 }
+{
+    if number < 10 {
+        return 1;
+    }
+    if number < 100 {
+        return 2;
+    }
+    if number < 1000 {
+        return 3;
+    }
+    let mut digits = Buffer::new();
+    digits.format(number).len()
+}
+
 /// The length of the fields' text, unless it is above a message's.
 fn body_length(fields: &Fields) -> Option<usize>
     ensures { MatchOption result (65536 < length (fields_text fields.now))
@@ -101,8 +160,7 @@ fn body_length(fields: &Fields) -> Option<usize>
 {
     let mut total = 0;
     for field in fields {
-        let mut digits = Buffer::new();
-        total += digits.format(field.tag).len() + field.value.len() + 2;
+        total += digits_of(field.tag) + field.value.len() + 2;
         if total > LONGEST {
             return None;
         }

@@ -1,6 +1,7 @@
 //! Fields in order: tags with their values, which lie in one buffer.
 ghost use Rattle.std.specs.Prelude.{◌≡◌, ◌+◌, ◌≤◌, ◌<◌, List, ℕ, [], ◌∷◌, ◌++◌, length, take, drop, slice_get, Some, IfOk, OnOk, OnErr, IsTrue, ◌↔◌};
 ghost use Rattle.std.specs.Iterator.{YieldsFirstBy, item_count};
+ghost use Rattle.gu_fix.specs.Spans.{AreWithin, fields_in};
 ghost use Rattle.gu_fix.specs.TagValue.{TagValue, tag_value};
 
 use std::alloc::{AllocError, Global};
@@ -22,6 +23,15 @@ pub struct Span {
 }
 
 impl Span {
+    /// A tag whose value lies there.
+    pub(crate) fn new(tag: u32, start: usize, len: usize) -> Self
+        ensures tag { result.tag ≡ tag }
+        ensures start { result.start ≡ start }
+        ensures len { result.len ≡ len }
+    {
+        Span { tag, start, len }
+    }
+
     /// The field whose value lies there.
     fn field_in(self, bytes: &[u8]) -> Field<'_>
         requires { self.start + self.len ≤ length bytes.now }
@@ -66,14 +76,22 @@ impl Fields {
         }
     }
 
-    /// No fields yet, with room for those of a message of so many bytes, eight bytes to a field.
+    /// No fields yet, with room for those of a message of so many bytes, sixteen bytes to a field.
     pub fn with_room(alloc: Global, bytes: usize) -> Result<Self, AllocError>
         ensures { IfOk result (λ fields. fields ≡ []) }
     {
         Ok(Fields {
             bytes: Vec::with_capacity(alloc, bytes)?,
-            spans: Vec::with_capacity(alloc, bytes / 8)?,
+            spans: Vec::with_capacity(alloc, bytes / 16)?,
         })
+    }
+
+    /// The fields whose values lie there in a buffer.
+    pub(crate) fn lying_in(bytes: Vec<u8>, spans: Vec<Span>) -> Self
+        requires { AreWithin bytes.items spans.items }
+        ensures { result ≡ fields_in bytes.items spans.items }
+    {
+        Fields { bytes, spans }
     }
 
     /// How many fields there are.

@@ -1,34 +1,51 @@
 //! A message into its fields.
-ghost use Rattle.std.specs.Prelude.{◌≡◌, ◌<◌, ◌≤◌, ℕ, MatchOption, MatchResult, IfOk, is_some, if◌then◌else◌, Some};
+ghost use Rattle.std.specs.Prelude.{◌≡◌, ◌+◌, ◌≤◌, MatchOption, MatchResult, IfOk, is_some, if◌then◌else◌, length, take, Some};
 ghost use Rattle.gu_fix.specs.WholeMessage.{IsWhole};
 ghost use Rattle.gu_fix.specs.TagValue.{tag_value};
-ghost use Rattle.gu_fix.specs.Fields.{IsTag, IsField, IsFault, HasFields};
+ghost use Rattle.gu_fix.specs.Fields.{IsTag, IsField, IsFault, HasFields, HasNoTag, equals};
+ghost use Rattle.gu_fix.specs.Spans.{AreWithin, HasNumber, LiesBefore, StandsAt, fields_in};
 
 use crate::error::{FieldFault, SessionRejectReason};
-use crate::field::{Field, Fields};
+use crate::field::{Field, Fields, Span};
 use crate::frame::Frame;
 use crate::place::SOH;
 use memchr::memchr;
 use std::alloc::{AllocError, Global};
 
-/// The number of a tag's text.
-fn tag_of(text: &[u8]) -> Option<u32>
-    ensures { MatchOption result ((tag : ℕ) → IsTag text.now tag → ⊥) (λ tag. IsTag text.now tag) }
+/// The number in front of a part's first `=`, of at most nine digits, and where that stands.
+fn number_in_front(part: &[u8]) -> Option<(u32, usize)>
+    ensures { MatchOption result (HasNoTag part.now) (λ r. HasNumber part.now r.0 r.1) }
 {
-    if text.is_empty() || text.len() > 9 {
-        return None;
-    }
-    if text[0] == b'0' {
-        return None;
-    }
-    let mut tag: u32 = 0;
-    for digit in text {
-        if !digit.is_ascii_digit() {
+    let mut number: u32 = 0;
+    for (count, byte) in part.iter().enumerate() {
+        if *byte == b'=' {
+            return Some((number, count));
+        }
+        if count == 9 {
             return None;
         }
-        tag = 10 * tag + u32::from(*digit - b'0');
+        if !byte.is_ascii_digit() {
+            return None;
+        }
+        number = 10 * number + u32::from(*byte - b'0');
     }
-    Some(tag)
+    None
+}
+
+/// The tag in front of a part's first `=`, and where that stands.
+fn tag_in_front(part: &[u8]) -> Option<(u32, usize)>
+    ensures { MatchOption result (HasNoTag part.now) (λ r. IsTag (take r.1 part.now) r.0 × StandsAt equals r.1 part.now) }
+{
+    let Some((number, end)) = number_in_front(part) else {
+        return None;
+    };
+    if end == 0 {
+        return None;
+    }
+    if part[0] == b'0' {
+        return None;
+    }
+    Some((number, end))
 }
 
 /// A part in which no tag can be read.
@@ -41,10 +58,7 @@ const WITHOUT_TAG: FieldFault = FieldFault {
 fn read_part(part: &[u8]) -> Result<Field<'_>, FieldFault>
     ensures { MatchResult result (λ f. IsField (tag_value f.tag f.value.now) part.now) (λ f. IsFault f part.now) }
 {
-    let Some(end) = memchr(b'=', part) else {
-        return Err(WITHOUT_TAG);
-    };
-    let Some(tag) = tag_of(&part[..end]) else {
+    let Some((tag, end)) = tag_in_front(part) else {
         return Err(WITHOUT_TAG);
     };
     let value = &part[end + 1..];
@@ -67,19 +81,30 @@ fn first_of(fault: Option<FieldFault>, found: FieldFault) -> Option<FieldFault>
     }
 }
 
-/// The fields of a message's bytes, and the first part that is none.
-fn fields_of(alloc: Global, bytes: &[u8]) -> Result<(Fields, Option<FieldFault>), AllocError>
-    requires { IsWhole bytes.now }
-    ensures { IfOk result (λ r. HasFields bytes.now r.0 r.1) }
+/// Where a field's value lies among the bytes, where so many of them follow its SOH.
+fn span_of(bytes: &[u8], field: Field<'_>, left: usize) -> Span
+    requires { length field.value.now + 1 + left ≤ length bytes.now }
+    ensures { LiesBefore result bytes.now field.entry.tag (length field.entry.value.now) left }
 {
-    let mut fields = Fields::with_room(alloc, bytes.len())?;
+    let len = field.value.len();
+    Span::new(field.tag, bytes.len() - left - 1 - len, len)
+}
+
+/// Where the values of a message's fields lie, and the first part that is none.
+fn spans_of(alloc: Global, bytes: &[u8]) -> Result<(Vec<Span>, Option<FieldFault>), AllocError>
+    requires { IsWhole bytes.now }
+    ensures within { IfOk result (λ r. AreWithin bytes.now r.0.items) }
+    ensures fields { IfOk result (λ r. HasFields bytes.now (fields_in bytes.now r.0.items) r.1) }
+{
+    // Eight bytes to a field.
+    let mut spans = Vec::with_capacity(alloc, bytes.len() / 8)?;
     let mut fault = None;
     let mut rest = bytes;
     'parts: while let Some(end) = memchr(SOH, rest) {
         let after = &rest[end + 1..];
         match read_part(&rest[..end]) {
             Ok(field) => {
-                fields.push(field.tag, field.value)?;
+                spans.push(span_of(bytes, field, after.len()))?;
                 rest = after;
             }
             Err(found) => {
@@ -89,7 +114,17 @@ fn fields_of(alloc: Global, bytes: &[u8]) -> Result<(Fields, Option<FieldFault>)
             }
         }
     }
-    Ok((fields, fault))
+    Ok((spans, fault))
+}
+
+/// The fields of a message's bytes, and the first part that is none.
+fn fields_of(alloc: Global, bytes: &[u8]) -> Result<(Fields, Option<FieldFault>), AllocError>
+    requires { IsWhole bytes.now }
+    ensures { IfOk result (λ r. HasFields bytes.now r.0 r.1) }
+{
+    let (spans, fault) = spans_of(alloc, bytes)?;
+    let copy = Vec::from_slice(alloc, bytes)?;
+    Ok((Fields::lying_in(copy, spans), fault))
 }
 
 /// The well-formed fields of a message in order, and the first malformed one.

@@ -25,16 +25,27 @@ impl Model for Window {
     ghost invariant = { λ w. IsWindow w.base w.bytes.items w.sums.items w.start };
 }
 
+/// Puts the sum behind each byte in its place.
+fn sum_up(base: u8, bytes: &mut [u8])
+    ensures { bytes.new ≡ running_sums base bytes.old }
+{
+    let mut total = base;
+    for place in 0..bytes.len() {
+        total = total.wrapping_add(bytes[place]);
+        bytes[place] = total;
+    }
+}
+
 /// Appends the sum behind each byte.
 fn push_sums(sums: &mut Vec<u8>, base: u8, bytes: &[u8])
     requires { vec_len sums.old + length bytes.now ≤ vec_capacity sums.old }
     ensures { sums.new.items ≡ sums.old.items ++ running_sums base bytes.now }
 {
-    let mut total = base;
-    for byte in bytes {
-        total = total.wrapping_add(*byte);
-        sums.push_reserved(total);
-    }
+    let start = sums.len();
+    let Ok(()) = sums.extend_from_slice(bytes) else {
+        unreachable!();
+    };
+    sum_up(base, &mut sums[start..]);
 }
 
 /// The sum before a place.
@@ -50,7 +61,9 @@ fn drop_front(items: &mut Vec<u8>, count: usize)
     requires { count ≤ vec_len items.old }
     ensures { items.new.items ≡ drop count items.old.items }
 {
-    items.drain(..count);
+    let left = items.len() - count;
+    items.copy_within(count.., 0);
+    items.truncate(left);
 }
 
 /// Gives back the bytes before a place, with their sums, and returns the sum before it.

@@ -1,10 +1,11 @@
 -- The first value at fault of lists one after another.
-use Rattle.std.proofs.Common.{◌≡◌, ◌++◌, ◌+◌, ◌<◌, ℕ, List, [], ◌∷◌, Option, Some, None, MatchOption, refl, append_assoc, add-one, length, drop, get_or}
+use Rattle.std.proofs.Common.{◌≡◌, ◌++◌, ◌+◌, ◌<◌, ℕ, List, [], ◌∷◌, Option, Some, None, MatchOption, refl, append_assoc, add-one, length, drop}
 use Rattle.std.specs.List.{flat_map}
 use Rattle.std.proofs.Math.Seq.{drop-cons}
 use Rattle.gu_fix.specs.TagValue.{TagValue}
 use Rattle.gu_msgs.specs.Items.{AreSound, IsFirstAtFault, IsItemAtFault, IsSoundItem, Item, item_of, items_of}
 use Rattle.gu_msgs.specs.Rows.{tag_of}
+use Rattle.gu_msgs.specs.Standings.{row_at}
 use Rattle.gu_msgs.specs.declared.row.Kind.TheVariants.{Text}
 use Rattle.gu_msgs.specs.declared.row.Row.{Row}
 use Rattle.gu_msgs.specs.declared.row.Row.TheVariants.{Required}
@@ -49,11 +50,7 @@ fault_in_front x xs fault tag_is at_fault = record { before = []; item = x; behi
 
 -- ---- tables, walked from the front
 
--- the row at a place
-abbrev pub row_at : List Row → ℕ → Row
-row_at rows i = get_or rows i (Required 0 Text)
-
-drop_row : (rows : List Row) (i : ℕ) → i < length rows → drop i rows ≡ row_at rows i ∷ drop (i + 1) rows
+pub drop_row : (rows : List Row) (i : ℕ) → i < length rows → drop i rows ≡ row_at rows i ∷ drop (i + 1) rows
 drop_row rows i within = rw add-one (drop-cons rows i (Required 0 Text) within)
 
 -- a row whose values are sound, and those behind it

@@ -4,6 +4,8 @@ mod GroupLemmas
 mod ShapeLemmas
 mod SecondStandings
 mod ItemLemmas
+mod StandingLemmas
+mod TableLemmas
 mod HeldLemmas
 mod TextLemmas
 mod AllocLemmas

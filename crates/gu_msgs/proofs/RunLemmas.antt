@@ -1,7 +1,8 @@
 -- Fields that stand one after another, taken from the front.
-use Rattle.std.proofs.Common.{◌≡◌, ◌<◌, ◌+◌, ◌-◌, ℕ, zero, suc, List, [], ◌∷◌, Some, drop, slice_get, refl, arith, add-one}
+use Rattle.std.proofs.Common.{◌≡◌, ◌<◌, ◌+◌, ◌-◌, ℕ, zero, suc, List, [], ◌∷◌, Some, length, take, drop, slice_get, refl, ap, ◌∙◌, arith, add-one}
+use Rattle.std.proofs.lemmas.List.{length-drop, length-take}
 use Rattle.gu_fix.specs.TagValue.{TagValue}
-use Rattle.gu_msgs.specs.Runs.{fields_between}
+use Rattle.gu_msgs.specs.Runs.{IsBetween, fields_between}
 
 -- the field at a place is the first of those from there on
 drop_at : (xs : List TagValue) (i : ℕ) (x : TagValue) → slice_get xs i ≡ Some x → drop i xs ≡ x ∷ drop (suc i) xs
@@ -15,3 +16,28 @@ pub first_between : (fields : List TagValue) (from to : ℕ) (field : TagValue) 
 first_between fields from to field before at =
     let more : to - from ≡ suc (to - (from + 1)) = omega arith in
     rw (more, drop_at fields from field at, add-one) refl
+
+-- the fields in front keep their places
+taken_field : (xs : List TagValue) (n i : ℕ) → i < n → slice_get (take n xs) i ≡ slice_get xs i
+taken_field [] zero i within = refl
+taken_field [] (suc n) i within = refl
+taken_field (x ∷ xs) zero i within = absurd (omega (arith, within))
+taken_field (x ∷ xs) (suc n) zero within = refl
+taken_field (x ∷ xs) (suc n) (suc i) within = taken_field xs n i (omega (arith, within))
+
+-- those behind others come earlier by as many
+dropped_field : (xs : List TagValue) (n i : ℕ) → slice_get (drop n xs) i ≡ slice_get xs (n + i)
+dropped_field [] zero i = refl
+dropped_field [] (suc n) i = refl
+dropped_field (x ∷ xs) zero i = let same : i ≡ zero + i = omega arith in ap (slice_get (x ∷ xs)) same
+dropped_field (x ∷ xs) (suc n) i = let same : suc (n + i) ≡ suc n + i = omega arith in dropped_field xs n i ∙ ap (slice_get (x ∷ xs)) same
+
+-- how many there are
+pub length_between : (fields : List TagValue) (from to : ℕ) → IsBetween fields from to → from + length (fields_between fields from to) ≡ to
+length_between fields from to are =
+    omega (arith, are.ordered, are.within, length-take (to - from) (drop from fields), length-drop from fields)
+
+-- the field at a place among them
+pub field_between : (fields : List TagValue) (from to i : ℕ) → i < length (fields_between fields from to) → slice_get (fields_between fields from to) i ≡ slice_get fields (from + i)
+field_between fields from to i within =
+    taken_field (drop from fields) (to - from) i (omega (arith, within, length-take (to - from) (drop from fields))) ∙ dropped_field fields from i

@@ -7,7 +7,7 @@ use Rattle.gu_msgs.specs.Shape.{StandsAgain, StandsAgainFirst, is_second, repeat
 use Rattle.gu_msgs.specs.declared.row.Row.{Row}
 
 -- the field behind others
-field_behind : (before : List TagValue) (f : TagValue) (fs : List TagValue) → slice_get (before ++ f ∷ fs) (length before) ≡ Some f
+pub field_behind : (before : List TagValue) (f : TagValue) (fs : List TagValue) → slice_get (before ++ f ∷ fs) (length before) ≡ Some f
 field_behind [] f fs = refl
 field_behind (x ∷ before) f fs = field_behind before f fs
 

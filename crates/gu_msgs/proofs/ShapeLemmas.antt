@@ -19,7 +19,7 @@ missing-append (row ∷ rows) others fields =
 -- ---- fields that are walked from the front
 
 -- one field further on, it is the last of those that were walked
-taken_on : (fields ahead rest : List TagValue) (field : TagValue) (seen : ℕ) → take seen fields ++ ahead ≡ fields → seen + length ahead ≡ length fields
+pub taken_on : (fields ahead rest : List TagValue) (field : TagValue) (seen : ℕ) → take seen fields ++ ahead ≡ fields → seen + length ahead ≡ length fields
     → ahead ≡ field ∷ rest → take (seen + 1) fields ≡ take seen fields ++ field ∷ []
 taken_on fields ahead rest field seen walked counted next =
     let before = take seen fields in

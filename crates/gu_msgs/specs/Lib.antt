@@ -10,6 +10,7 @@ pub mod TestReqIds
 pub mod Kinds
 pub mod Groups
 pub mod Shape
+pub mod Standings
 pub mod Items
 pub mod Agreement
 pub mod Faults

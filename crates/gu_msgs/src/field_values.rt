@@ -41,8 +41,14 @@ pub fn behind<'a>(fields: &Run<'a>, tag: u32) -> Run<'a>
 pub fn only_value<'a>(fields: &Run<'a>, tag: u32) -> Option<&'a [u8]>
     ensures { MatchOption result (only_value tag fields.now ≡ None) (λ value. only_value tag fields.now ≡ Some value.now) }
 {
-    if stands(&behind(fields, tag), tag) {
-        return None;
+    let mut rest = fields.copy();
+    while let Some(field) = rest.next() {
+        if field.tag == tag {
+            if stands(&rest, tag) {
+                return None;
+            }
+            return Some(field.value);
+        }
     }
-    first_value(fields, tag)
+    None
 }

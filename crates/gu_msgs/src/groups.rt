@@ -8,13 +8,13 @@ ghost use Rattle.gu_msgs.specs.Tables.{outer_rows};
 use crate::field_values::behind;
 use crate::msg_type::MsgType;
 use crate::run::Run;
-use crate::tables::{body_rows, header_rows, is_listed};
+use crate::tables::{is_listed, outer_rows};
 
 /// Whether a tag is read at the outer level of a message of this type.
 pub fn is_outer(msg_type: MsgType, tag: u32) -> bool
     ensures { result ≡ is_listed (outer_rows msg_type) tag }
 {
-    is_listed(header_rows(), tag) || is_listed(body_rows(msg_type), tag)
+    is_listed(outer_rows(msg_type), tag)
 }
 
 /// How many fields there are from the first that is read at the outer level on.

@@ -31,6 +31,7 @@ mod session_fields;
 mod session_messages;
 mod shape;
 mod standard_header;
+mod standings;
 mod tables;
 mod tags;
 mod test_req_id;

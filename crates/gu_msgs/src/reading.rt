@@ -20,7 +20,8 @@ use crate::run::Run;
 use crate::session_messages::{
     read_logon, read_resend_request, read_sequence_reset, read_test_request,
 };
-use crate::shape::{fault_at, repeated, shape_fault};
+use crate::shape::{fault_at, sound_shape};
+use crate::standings::standings;
 use crate::tables::header_rows;
 use crate::trade_capture_report::read_trade_capture_report;
 use crate::type_code::TypeCode;
@@ -53,10 +54,11 @@ fn read_typed(alloc: Global, fields: &Run<'_>, msg_type: MsgType) -> Result<Inbo
     requires { first_value MSG_TYPE fields.now ≡ Some (code_of msg_type) }
     ensures { MatchResult result (Says fields.now) (IsTypedRefusal msg_type fields.now) }
 {
-    if let Some(fault) = shape_fault(fields, msg_type) {
-        return Err(MsgFault::Rejected(fault));
-    }
-    if let Some(fault) = value_fault(fields, msg_type) {
+    let numbers = match sound_shape(fields, msg_type) {
+        Ok(numbers) => numbers,
+        Err(fault) => return Err(MsgFault::Rejected(fault)),
+    };
+    if let Some(fault) = value_fault(fields, msg_type, &numbers) {
         return Err(MsgFault::Rejected(fault));
     }
     read_well_made(alloc, fields, msg_type)
@@ -66,9 +68,9 @@ fn read_typed(alloc: Global, fields: &Run<'_>, msg_type: MsgType) -> Result<Inbo
 fn untyped_fault(fields: &Run<'_>) -> Fault
     ensures { result ≡ untyped_fault fields.now }
 {
-    match repeated(fields, &[], header_rows()) {
-        Some(tag) => fault_at(SessionRejectReason::TagAppearsMoreThanOnce, tag),
-        None => fault_at(SessionRejectReason::RequiredTagMissing, MSG_TYPE),
+    match standings(fields, header_rows()) {
+        Ok(_) => fault_at(SessionRejectReason::RequiredTagMissing, MSG_TYPE),
+        Err(tag) => fault_at(SessionRejectReason::TagAppearsMoreThanOnce, tag),
     }
 }
 

@@ -1,6 +1,7 @@
 //! Fields that stand one after another in a message.
 
-ghost use Rattle.std.specs.Prelude.{◌≡◌, ◌<◌, ◌≤◌, ◌^◌, length, take};
+ghost use Rattle.std.specs.Prelude.{◌≡◌, ◌<◌, ◌≤◌, ◌^◌, length, slice_get, Some, take};
+ghost use Rattle.gu_fix.specs.TagValue.{tag_value};
 
 use gu_fix::{Field, Fields};
 use std::marker::Model;
@@ -54,6 +55,15 @@ impl<'a> Run<'a> {
         ensures { result ≡ length self.now }
     {
         self.to - self.from
+    }
+
+    /// The one at a place, counted from 0.
+    pub fn get(&self, index: usize) -> Field<'a>
+        requires { index < length self.now }
+        ensures { slice_get self.now index ≡ Some (tag_value result.tag result.value.now) }
+    {
+        let left = self.len() - index;
+        self.fields.get(self.to - left)
     }
 
     /// The first so many of them.

@@ -1,67 +1,24 @@
 //! The shape of a message: tags that stand twice, tags that are missing, and groups.
 
-ghost use Rattle.std.specs.Prelude.{◌≡◌, ◌++◌, ◌<◌, ◌^◌, [], ◌∷◌, ◌==◌, length, Some, IsTrue};
+ghost use Rattle.std.specs.Prelude.{◌≡◌, ◌<◌, ◌^◌, ◌==◌, length, IfOk, IsTrue, MatchResult, None, Some};
 ghost use Rattle.std.specs.Option.{option_or, option_map};
 ghost use Rattle.std.specs.Str.Parse.{digits_value};
 ghost use Rattle.gu_msgs.specs.Groups.{entries_begun, entries_by};
 ghost use Rattle.gu_msgs.specs.Shape.{count_fault, counted_fault, entries_fault, fault_at, group_fault, groups_fault, missing, repeated, shape_fault, tags_fault};
-ghost use Rattle.gu_msgs.specs.Rows.{is_listed};
-ghost use Rattle.gu_msgs.specs.Tables.{body_rows};
+ghost use Rattle.gu_msgs.specs.Standings.{AreStandings, IsTable};
+ghost use Rattle.gu_msgs.specs.Tables.{body_rows, outer_rows};
 ghost use Rattle.gu_msgs.specs.Values.{is_numeral};
 
 use crate::fault::Fault;
-use crate::field_values::{first_value, stands};
+use crate::field_values::first_value;
 use crate::groups::{group_of, has_entries, next_entry};
 use crate::msg_type::MsgType;
 use crate::reject_reason::SessionRejectReason;
 use crate::row::Row;
 use crate::run::Run;
-use crate::tables::{body_rows, entry_rows, header_rows, is_listed};
+use crate::standings::{Standings, missing, standings};
+use crate::tables::{body_rows, entry_rows, outer_rows};
 use crate::whole_number::{is_numeral, number_of};
-
-/// Whether a tag is one of the header or of these rows.
-fn is_read(header: &[Row], rows: &[Row], tag: u32) -> bool
-    ensures { result ≡ is_listed (header.now ++ rows.now) tag }
-{
-    is_listed(header, tag) || is_listed(rows, tag)
-}
-
-/// The leftmost second standing of a tag of these rows. Fields are looked at again for each tag that is read, and so at most
-/// once for each row and once more.
-pub fn repeated(fields: &Run<'_>, header: &[Row], rows: &[Row]) -> Option<u32>
-    ensures { result ≡ repeated (header.now ++ rows.now) fields.now }
-{
-    let mut seen = 0;
-    for field in fields {
-        if is_read(header, rows, field.tag) && stands(&fields.first(seen), field.tag) {
-            return Some(field.tag);
-        }
-        seen += 1;
-    }
-    None
-}
-
-/// The first tag of these rows that must stand and doesn't.
-fn missing_of(fields: &Run<'_>, rows: &[Row]) -> Option<u32>
-    ensures { result ≡ missing rows.now fields.now }
-{
-    for row in rows {
-        if row.is_required() && !stands(fields, row.tag()) {
-            return Some(row.tag());
-        }
-    }
-    None
-}
-
-/// The first tag of the header or of these rows that must stand and doesn't.
-fn missing(fields: &Run<'_>, header: &[Row], rows: &[Row]) -> Option<u32>
-    ensures { result ≡ missing (header.now ++ rows.now) fields.now }
-{
-    match missing_of(fields, header) {
-        Some(tag) => Some(tag),
-        None => missing_of(fields, rows),
-    }
-}
 
 /// A fault of this tag.
 pub fn fault_at(reason: SessionRejectReason, tag: u32) -> Fault
@@ -70,16 +27,30 @@ pub fn fault_at(reason: SessionRejectReason, tag: u32) -> Fault
     Fault { tag, reason }
 }
 
-/// The first fault of these rows: a tag that stands twice, or else one that is missing.
-fn tags_fault(fields: &Run<'_>, header: &[Row], rows: &[Row]) -> Option<Fault>
-    ensures { result ≡ tags_fault (header.now ++ rows.now) fields.now }
+/// Where the tags of these rows stand first, or their first fault: a tag that stands twice, or else one that is missing.
+fn sound_tags(fields: &Run<'_>, rows: &[Row]) -> Result<Standings, Fault>
+    requires { IsTable rows.now }
+    ensures fault { MatchResult result (λ numbers. tags_fault rows.now fields.now ≡ None) (λ fault. tags_fault rows.now fields.now ≡ Some fault) }
+    ensures first { IfOk result (λ numbers. AreStandings rows.now fields.now numbers) }
 {
-    if let Some(tag) = repeated(fields, header, rows) {
-        return Some(fault_at(SessionRejectReason::TagAppearsMoreThanOnce, tag));
+    let numbers = match standings(fields, rows) {
+        Ok(numbers) => numbers,
+        Err(tag) => return Err(fault_at(SessionRejectReason::TagAppearsMoreThanOnce, tag)),
+    };
+    match missing(rows, &numbers) {
+        Some(tag) => Err(fault_at(SessionRejectReason::RequiredTagMissing, tag)),
+        None => Ok(numbers),
     }
-    match missing(fields, header, rows) {
-        Some(tag) => Some(fault_at(SessionRejectReason::RequiredTagMissing, tag)),
-        None => None,
+}
+
+/// The first fault of these rows.
+fn tags_fault(fields: &Run<'_>, rows: &[Row]) -> Option<Fault>
+    requires { IsTable rows.now }
+    ensures { result ≡ tags_fault rows.now fields.now }
+{
+    match sound_tags(fields, rows) {
+        Ok(_) => None,
+        Err(fault) => Some(fault),
     }
 }
 
@@ -112,11 +83,12 @@ fn count_fault(counter: u32, text: &[u8], group: &Run<'_>, first: u32) -> Option
 
 /// The first fault of a group's entries, each in full before the next one.
 fn entries_fault(group: &Run<'_>, first: u32, rows: &[Row]) -> Option<Fault>
+    requires { IsTable rows.now }
     ensures { result ≡ entries_fault rows.now (entries_by first group.now) }
 {
     let mut rest = group.copy();
     while let Some(entry) = next_entry(&mut rest, first) {
-        if let Some(fault) = tags_fault(&entry, &[], rows) {
+        if let Some(fault) = tags_fault(&entry, rows) {
             return Some(fault);
         }
     }
@@ -125,7 +97,8 @@ fn entries_fault(group: &Run<'_>, first: u32, rows: &[Row]) -> Option<Fault>
 
 /// The first fault of a group: its counter's, or else its entries'.
 fn counted_fault(counter: u32, text: &[u8], group: &Run<'_>, rows: &[Row]) -> Option<Fault>
-    requires { length group.now < 2 ^ 64 }
+    requires short { length group.now < 2 ^ 64 }
+    requires table { IsTable rows.now }
     ensures { result ≡ counted_fault rows.now counter (Some text.now) (entries_begun rows.now group.now) }
 {
     let row = rows.first()?;
@@ -161,12 +134,16 @@ fn groups_fault(fields: &Run<'_>, msg_type: MsgType) -> Option<Fault>
     None
 }
 
-/// The first fault of a message's shape.
-pub fn shape_fault(fields: &Run<'_>, msg_type: MsgType) -> Option<Fault>
-    ensures { result ≡ shape_fault msg_type fields.now }
+/// Where the outer tags of a message stand first, or the first fault of its shape.
+pub fn sound_shape(fields: &Run<'_>, msg_type: MsgType) -> Result<Standings, Fault>
+    ensures fault { MatchResult result (λ numbers. shape_fault msg_type fields.now ≡ None) (λ fault. shape_fault msg_type fields.now ≡ Some fault) }
+    ensures first { IfOk result (λ numbers. AreStandings (outer_rows msg_type) fields.now numbers) }
 {
-    match tags_fault(fields, header_rows(), body_rows(msg_type)) {
-        Some(fault) => Some(fault),
-        None => groups_fault(fields, msg_type),
+    match sound_tags(fields, outer_rows(msg_type)) {
+        Ok(numbers) => match groups_fault(fields, msg_type) {
+            Some(fault) => Err(fault),
+            None => Ok(numbers),
+        },
+        Err(fault) => Err(fault),
     }
 }

@@ -2,7 +2,7 @@
 
 ghost use Rattle.std.specs.Prelude.{◌≡◌};
 ghost use Rattle.gu_msgs.specs.Rows.{is_listed};
-ghost use Rattle.gu_msgs.specs.Tables.{body_rows, entry_rows, header_rows};
+ghost use Rattle.gu_msgs.specs.Tables.{body_rows, entry_rows, header_rows, outer_rows};
 
 use crate::msg_type::MsgType;
 use crate::row::Kind::{Date, Id, Lots, Name, Number, Price, Status, TestReqId, Text, YesOrNo};
@@ -21,41 +21,52 @@ use gu_fix::{BEGIN_STRING, BODY_LENGTH, CHECK_SUM, MSG_TYPE};
 /// The greatest whole number of a message.
 pub const GREATEST: u64 = 1_000_000_000;
 
-const HEADER: [Row; 10] = [
-    Required(BEGIN_STRING, Text),
-    Required(BODY_LENGTH, Text),
-    Required(MSG_TYPE, Text),
-    Required(SENDER_COMP_ID, Text),
-    Required(TARGET_COMP_ID, Text),
-    Required(MSG_SEQ_NUM, Number(0, GREATEST)),
-    Required(SENDING_TIME, Text),
-    Optional(POSS_DUP_FLAG, YesOrNo),
-    Optional(ORIG_SENDING_TIME, Text),
-    Required(CHECK_SUM, Text),
-];
+/// A table: the rows of the header and CheckSum, and behind them a type's own.
+macro_rules! table {
+    ($($row:expr),* $(,)?) => {
+        [
+            Required(BEGIN_STRING, Text),
+            Required(BODY_LENGTH, Text),
+            Required(MSG_TYPE, Text),
+            Required(SENDER_COMP_ID, Text),
+            Required(TARGET_COMP_ID, Text),
+            Required(MSG_SEQ_NUM, Number(0, GREATEST)),
+            Required(SENDING_TIME, Text),
+            Optional(POSS_DUP_FLAG, YesOrNo),
+            Optional(ORIG_SENDING_TIME, Text),
+            Required(CHECK_SUM, Text),
+            $($row),*
+        ]
+    };
+}
 
-const HEARTBEAT: [Row; 1] = [Optional(TEST_REQ_ID, Text)];
+/// How many rows the header has.
+const HEADER_ROWS: usize = 10;
 
-const TEST_REQUEST: [Row; 1] = [Required(TEST_REQ_ID, TestReqId)];
+const HEADER: [Row; HEADER_ROWS] = table![];
 
-const RESEND_REQUEST: [Row; 2] = [
+const HEARTBEAT: [Row; 11] = table![Optional(TEST_REQ_ID, Text)];
+
+const TEST_REQUEST: [Row; 11] = table![Required(TEST_REQ_ID, TestReqId)];
+
+const RESEND_REQUEST: [Row; 12] = table![
     Required(BEGIN_SEQ_NO, Number(1, GREATEST)),
     Required(END_SEQ_NO, Number(0, GREATEST)),
 ];
 
-const SEQUENCE_RESET: [Row; 2] = [
+const SEQUENCE_RESET: [Row; 12] = table![
     Optional(GAP_FILL_FLAG, YesOrNo),
     Required(NEW_SEQ_NO, Number(1, GREATEST)),
 ];
 
-const LOGON: [Row; 4] = [
+const LOGON: [Row; 14] = table![
     Required(ENCRYPT_METHOD, Number(0, 0)),
     Required(HEART_BT_INT, Number(0, 3600)),
     Required(DEFAULT_APPL_VER_ID, Number(9, 9)),
     Optional(RESET_SEQ_NUM_FLAG, YesOrNo),
 ];
 
-const TRADE_CAPTURE_REPORT: [Row; 9] = [
+const TRADE_CAPTURE_REPORT: [Row; 19] = table![
     Required(TRADE_REPORT_ID, Id),
     Optional(TRADE_REPORT_TRANS_TYPE, Number(0, 0)),
     Optional(TRADE_REPORT_TYPE, Number(0, 0)),
@@ -67,7 +78,7 @@ const TRADE_CAPTURE_REPORT: [Row; 9] = [
     Required(NO_SIDES, Number(1, 1)),
 ];
 
-const ALLOCATION_INSTRUCTION: [Row; 5] = [
+const ALLOCATION_INSTRUCTION: [Row; 15] = table![
     Required(ALLOC_ID, Id),
     Optional(ALLOC_TRANS_TYPE, Number(0, 0)),
     Required(QUANTITY, Lots),
@@ -75,12 +86,12 @@ const ALLOCATION_INSTRUCTION: [Row; 5] = [
     Required(NO_ALLOCS, Number(1, 16)),
 ];
 
-const ALLOCATION_REPORT_ACK: [Row; 2] = [
+const ALLOCATION_REPORT_ACK: [Row; 12] = table![
     Required(ALLOC_REPORT_ID, Number(1, 16_000_000)),
     Required(ALLOC_STATUS, Status),
 ];
 
-const REQUEST_FOR_POSITIONS: [Row; 3] = [
+const REQUEST_FOR_POSITIONS: [Row; 13] = table![
     Required(POS_REQ_ID, Id),
     Required(POS_REQ_TYPE, Number(0, 0)),
     Required(ACCOUNT, Name),
@@ -100,10 +111,10 @@ pub fn header_rows() -> &'static [Row]
     &HEADER
 }
 
-/// The tags of a type's own.
-#[tactic(auto, unfolding(crate::specs::Tables::body_rows))]
-pub fn body_rows(msg_type: MsgType) -> &'static [Row]
-    ensures { result.now ≡ body_rows msg_type }
+/// The tags of the header, and then those of a type's own.
+#[tactic(auto, unfolding(crate::specs::Tables::header_rows, crate::specs::Tables::body_rows))]
+pub fn outer_rows(msg_type: MsgType) -> &'static [Row]
+    ensures { result.now ≡ outer_rows msg_type }
 {
     match msg_type {
         MsgType::Heartbeat => &HEARTBEAT,
@@ -115,8 +126,16 @@ pub fn body_rows(msg_type: MsgType) -> &'static [Row]
         MsgType::AllocationInstruction => &ALLOCATION_INSTRUCTION,
         MsgType::AllocationReportAck => &ALLOCATION_REPORT_ACK,
         MsgType::RequestForPositions => &REQUEST_FOR_POSITIONS,
-        MsgType::Reject | MsgType::Logout => &[],
+        MsgType::Reject | MsgType::Logout => &HEADER,
     }
+}
+
+/// The tags of a type's own.
+#[tactic(auto, unfolding(crate::specs::Tables::header_rows))]
+pub fn body_rows(msg_type: MsgType) -> &'static [Row]
+    ensures { result.now ≡ body_rows msg_type }
+{
+    &outer_rows(msg_type)[HEADER_ROWS..]
 }
 
 /// The tags of an entry of the group with this counter, none where the tag counts nothing.
@@ -136,5 +155,10 @@ pub fn entry_rows(counter: u32) -> &'static [Row]
 pub fn is_listed(rows: &[Row], tag: u32) -> bool
     ensures { result ≡ is_listed rows.now tag }
 {
-    rows.iter().any(|row| row.tag() == tag)
+    for row in rows {
+        if row.tag() == tag {
+            return true;
+        }
+    }
+    false
 }

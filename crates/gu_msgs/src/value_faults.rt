@@ -4,8 +4,10 @@ ghost use Rattle.std.specs.Prelude.{◌≡◌, ◌++◌, List, MatchOption};
 ghost use Rattle.std.specs.List.{flat_map};
 ghost use Rattle.gu_msgs.specs.Groups.{entries_by, entries_of};
 ghost use Rattle.gu_msgs.specs.Items.{AreSound, IsFirstAtFault, IsItemAtFault, IsSoundItem, item_of, items_of, message_items, row_items};
-ghost use Rattle.gu_msgs.specs.Rows.{tag_of};
-ghost use Rattle.gu_msgs.specs.Tables.{entry_rows};
+ghost use Rattle.gu_msgs.specs.Kinds.{IsAtFault, IsSound};
+ghost use Rattle.gu_msgs.specs.Rows.{kind_of, tag_of};
+ghost use Rattle.gu_msgs.specs.Standings.{AreStandings, IsStanding};
+ghost use Rattle.gu_msgs.specs.Tables.{entry_rows, outer_rows};
 
 use crate::fault::Fault;
 use crate::field_values::first_value;
@@ -15,18 +17,38 @@ use crate::msg_type::MsgType;
 use crate::row::Row;
 use crate::run::Run;
 use crate::shape::fault_at;
-use crate::tables::{body_rows, entry_rows, header_rows};
+use crate::standings::{Standings, value_numbered};
+use crate::tables::{entry_rows, outer_rows};
+
+/// What is wrong with the text of a row's tag.
+fn item_fault(row: Row, text: &[u8]) -> Option<Fault>
+    ensures { MatchOption result (IsSound (kind_of row) text.now) (λ fault. (fault.tag ≡ tag_of row) × IsAtFault (kind_of row) text.now fault.reason) }
+{
+    match text_fault(row.kind(), text) {
+        Some(reason) => Some(fault_at(reason, row.tag())),
+        None => None,
+    }
+}
 
 /// What is wrong with the value of a row's tag, where it stands.
 fn row_fault(fields: &Run<'_>, row: Row) -> Option<Fault>
     ensures { MatchOption result (IsSoundItem (item_of fields.now row))
         (λ fault. (fault.tag ≡ tag_of row) × IsItemAtFault (item_of fields.now row) fault.reason) }
 {
-    let Some(text) = first_value(fields, row.tag()) else {
-        return None;
-    };
-    match text_fault(row.kind(), text) {
-        Some(reason) => Some(fault_at(reason, row.tag())),
+    match first_value(fields, row.tag()) {
+        Some(text) => item_fault(row, text),
+        None => None,
+    }
+}
+
+/// The same, where the number of the first field with the tag is known.
+fn standing_fault(fields: &Run<'_>, row: Row, number: usize) -> Option<Fault>
+    requires { IsStanding fields.now (tag_of row) number }
+    ensures { MatchOption result (IsSoundItem (item_of fields.now row))
+        (λ fault. (fault.tag ≡ tag_of row) × IsItemAtFault (item_of fields.now row) fault.reason) }
+{
+    match value_numbered(fields, number) {
+        Some(text) => item_fault(row, text),
         None => None,
     }
 }
@@ -70,34 +92,25 @@ fn group_fault(fields: &Run<'_>, msg_type: MsgType, counter: u32) -> Option<Faul
 }
 
 /// The first that isn't allowed of a row's value and those of the group that it counts.
-fn outer_fault(fields: &Run<'_>, msg_type: MsgType, row: Row) -> Option<Fault>
+fn outer_fault(fields: &Run<'_>, msg_type: MsgType, row: Row, number: usize) -> Option<Fault>
+    requires { IsStanding fields.now (tag_of row) number }
     ensures { let items = row_items msg_type fields.now row in MatchOption result (AreSound items) (λ fault. IsFirstAtFault items fault) }
 {
-    match row_fault(fields, row) {
+    match standing_fault(fields, row, number) {
         Some(fault) => Some(fault),
         None => group_fault(fields, msg_type, row.tag()),
     }
 }
 
-/// The first of the values of these rows, with their groups, that isn't allowed.
-fn table_fault(fields: &Run<'_>, msg_type: MsgType, rows: &[Row]) -> Option<Fault>
-    ensures { let items = flat_map (row_items msg_type fields.now) rows.now in
-        MatchOption result (AreSound items) (λ fault. IsFirstAtFault items fault) }
+/// The first value of a message that isn't allowed, where its outer tags stand first so.
+pub fn value_fault(fields: &Run<'_>, msg_type: MsgType, numbers: &Standings) -> Option<Fault>
+    requires { AreStandings (outer_rows msg_type) fields.now numbers.now }
+    ensures { let items = message_items msg_type fields.now in MatchOption result (AreSound items) (λ fault. IsFirstAtFault items fault) }
 {
-    for row in rows {
-        if let Some(fault) = outer_fault(fields, msg_type, *row) {
+    for (place, row) in outer_rows(msg_type).iter().enumerate() {
+        if let Some(fault) = outer_fault(fields, msg_type, *row, numbers[place]) {
             return Some(fault);
         }
     }
     None
-}
-
-/// The first value of a message that isn't allowed.
-pub fn value_fault(fields: &Run<'_>, msg_type: MsgType) -> Option<Fault>
-    ensures { let items = message_items msg_type fields.now in MatchOption result (AreSound items) (λ fault. IsFirstAtFault items fault) }
-{
-    match table_fault(fields, msg_type, header_rows()) {
-        Some(fault) => Some(fault),
-        None => table_fault(fields, msg_type, body_rows(msg_type)),
-    }
 }

@@ -1,7 +1,6 @@
-use Rattle.std.proofs.Common.{sym, ◌∙◌}
 use Rattle.gu_msgs.proofs.HeldLemmas.{well_made}
 use Rattle.gu_msgs.proofs.reading.read_typed.Goals as goal
 
 pub read_well_made-requires : goal.read_well_made-requires
 read_well_made-requires c =
-    well_made c.args.msg_type c.args.fields.now c.requires (sym c.shape_fault.ensures ∙ c.in_default.is) c.in_default-value_fault.ensures
+    well_made c.args.msg_type c.args.fields.now c.requires c.in-Ok.ensures.fault c.in_default.ensures

@@ -1,21 +1,27 @@
+use Rattle.std.proofs.Common.{◌+◌, Some, List, length, drop, subst, sym, ap, arith}
 use Rattle.std.specs.List.{flat_map}
 use Rattle.gu_msgs.specs.Items.{row_items}
-use Rattle.gu_msgs.specs.Tables.{body_rows, header_rows}
-use Rattle.std.proofs.lemmas.Grind.{flat_map-append}
-use Rattle.gu_msgs.proofs.ItemLemmas.{behind_sound, fault_before}
+use Rattle.gu_msgs.specs.declared.row.Row.{Row}
+use Rattle.gu_msgs.proofs.ItemLemmas.{HasFirst, at_row, past_row}
+use Rattle.gu_msgs.proofs.TableLemmas.{outer_table}
 use Rattle.gu_msgs.proofs.value_faults.value_fault.Goals as goal
+
+pub bounds-numbers-place : goal.bounds-numbers-place
+bounds-numbers-place c = omega (arith, c.loop-place-test.true, ap length c.outer_rows-row-items.ensures, (outer_table c.args.msg_type).few)
 
 pub returns-in-Some : goal.returns-in-Some
 returns-in-Some c =
     let values = row_items c.args.msg_type c.args.fields.now in
-    let body = flat_map values (body_rows c.args.msg_type) in
-    let first = rw c.header_rows.ensures at c.in-Some.ensures in
-    rw (flat_map-append values header_rows (body_rows c.args.msg_type)) (fault_before (flat_map values header_rows) body c.in-Some.fault first)
+    let place = c.loop-place.place in
+    let fault = c.in-Some.fault in
+    let first = at_row values c.outer_rows-row-items.result.now place fault c.loop-place-test.true c.in-Some.ensures in
+    c.loop-place.invariant (Some fault) (subst (λ (rows : List Row). HasFirst (flat_map values (drop place rows)) (Some fault)) c.outer_rows-row-items.ensures first)
 
-pub returns-in-None : goal.returns-in-None
-returns-in-None c =
-    let values = row_items c.args.msg_type c.args.fields.now in
-    let body = flat_map values (body_rows c.args.msg_type) in
-    let first = rw c.header_rows.ensures at c.in-None.ensures in
-    let others = rw c.body_rows.ensures at c.table_fault-in-None.ensures in
-    rw (flat_map-append values header_rows (body_rows c.args.msg_type)) (behind_sound (flat_map values header_rows) body first c.table_fault-in-None.result others)
+pub loop-place-preserved : goal.loop-place-preserved
+loop-place-preserved c = λ found h.
+    (let values = row_items c.args.msg_type c.args.fields.now in
+    let place = c.loop-place.place in
+    let table = c.outer_rows-row-items.ensures in
+    let behind = subst (λ (rows : List Row). HasFirst (flat_map values (drop (place + 1) rows)) found) (sym table) h in
+    let first = past_row values c.outer_rows-row-items.result.now place c.loop-place-test.true c.in_default.ensures found behind in
+    c.loop-place.invariant found (subst (λ (rows : List Row). HasFirst (flat_map values (drop place rows)) found) table first))

@@ -1,0 +1,7 @@
+use Rattle.std.proofs.Common.{subst, sym}
+use Rattle.gu_msgs.specs.Standings.{IsTable}
+use Rattle.gu_msgs.proofs.TableLemmas.{header_table}
+use Rattle.gu_msgs.proofs.reading.untyped_fault.Goals as goal
+
+pub standings-requires : goal.standings-requires
+standings-requires c = subst IsTable (sym c.header_rows.ensures) header_table

@@ -1,0 +1,8 @@
+use Rattle.std.proofs.Common.{◌≡◌, List, drop}
+use Rattle.gu_fix.specs.TagValue.{TagValue}
+use Rattle.gu_msgs.specs.Shape.{missing}
+use Rattle.gu_msgs.specs.Standings.{AreStandings}
+use Rattle.gu_msgs.proofs.standings.missing.Given as goal
+
+abbrev pub invariant-loop-place : goal.invariant-loop-place
+invariant-loop-place l = (fields : List TagValue) → AreStandings l.rows fields l.numbers → missing l.rows fields ≡ missing (drop l.place l.rows) fields
