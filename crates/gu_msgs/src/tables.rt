@@ -155,10 +155,5 @@ pub fn entry_rows(counter: u32) -> &'static [Row]
 pub fn is_listed(rows: &[Row], tag: u32) -> bool
     ensures { result ≡ is_listed rows.now tag }
 {
-    for row in rows {
-        if row.tag() == tag {
-            return true;
-        }
-    }
-    false
+    rows.iter().any(|row| row.tag() == tag)
 }
