@@ -13,6 +13,8 @@ mod error;
 #[cfg(test)]
 mod error_tests;
 #[cfg(test)]
+mod fix_stream_tests;
+#[cfg(test)]
 mod fix_tests;
 mod fixing;
 mod house;
