@@ -23,6 +23,6 @@ loop-place-preserved c =
     record {
       behind = omega (arith, c.loop-place.invariant.behind);
       told =
-        subst (IsToldSoFar c.args.self.now c.tell_entry.new.self)
-        (told_at register first history place entry c.requires.0 c.loop-place.invariant.behind c.in_ok-entry.ensures) told;
+          subst (IsToldSoFar c.args.self.now c.tell_entry.new.self)
+          (told_at register first history place entry c.requires.0 c.loop-place.invariant.behind c.in_ok-entry.ensures) told;
     }
