@@ -1,5 +1,7 @@
 -- Reports that are found by their places, and one more report.
-use Rattle.std.proofs.Common.{◌≡◌, ◌∙◌, sym, refl, ap, subst, ℕ, suc, ◌-◌, ◌<◌, Bool, true, false, filter, List, [], ◌∷◌, ◌++◌, map, length, take, get_or, Some, None, arith}
+use Rattle.std.proofs.Common.{◌≡◌, ◌∙◌, sym, refl, ap, subst, ℕ, suc, ◌-◌, ◌<◌, Bool, true, false, filter, List, [], ◌∷◌, ◌++◌, map, length, take, get_or, Some, None, inl, inr, eq-eqb, arith}
+use Rattle.std.specs.Prelude.{◌==◌, if◌then◌else◌}
+use Rattle.std.proofs.lemmas.Bool.{cases_Bool, eqb-true}
 use Rattle.std.proofs.lemmas.List.{map-append, take_all}
 use Rattle.std.proofs.lemmas.Option.{slice_get_read}
 use Rattle.std.proofs.lemmas.Slice.Eq.{bytes_eq-Decides}
@@ -11,11 +13,12 @@ use Rattle.gu_terms.specs.declared.report.Report.{Report}
 use Rattle.gu_terms.specs.declared.seed.Seed.{Seed}
 use Rattle.gu_trades.specs.declared.trades.Trades.TheInside.{Inside}
 use Rattle.gu_trades.specs.Kept.{IsKept, id_number, is_by_at, is_with_at, match_number}
-use Rattle.gu_trades.specs.Matching.{conflicts}
+use Rattle.gu_trades.specs.Matching.{conflicts, matching_of}
+use Rattle.gu_trades.specs.declared.matching.Matching.TheVariants.{Opened, Matched}
 use Rattle.gu_trades.specs.Numbered.{last_before}
 use Rattle.gu_trades.specs.Reports.{has_report, is_by, report_by, with_match}
 use Rattle.gu_trades.specs.Rules.{IsSound, are_sides, same_report}
-use Rattle.gu_trades.proofs.LastPlaces.{at, at-is, find-none, find-some, front-none, front-some, two_sides}
+use Rattle.gu_trades.proofs.LastPlaces.{at, at-is, at-some, find-none, find-some, front-none, front-some, two_sides}
 use Rattle.gu_trades.proofs.OneMore.{sound-empty, sound-push}
 use Rattle.gu_trades.proofs.Rows.{last_before-le, last_before-passes}
 
@@ -68,6 +71,10 @@ module _ (reports : List Report) (firm : FirmId) (id : Id) (last : ℕ) (sound :
 
 -- ---- by match id
 
+matched-behind : (others : List Report) (r : Report) → matching_of (others ++ r ∷ []) ≡ Matched
+matched-behind [] r = refl
+matched-behind (other ∷ others) r = refl
+
 module _ (reports : List Report) (match_id : Id) (last : ℕ) (is : last ≡ last_before (is_with_at reports match_id) (length reports)) where
   pub with-none : last ≡ 0 → with_match match_id reports ≡ []
   with-none none = ap (filter (λ (r : Report). same_id r.match_id match_id)) (sym (take_all (length reports) reports (omega arith)))
@@ -87,6 +94,21 @@ module _ (reports : List Report) (match_id : Id) (last : ℕ) (is : last ≡ las
       ap (filter (λ (r : Report). same_id r.match_id match_id)) (sym (take_all (length reports) reports (omega arith)))
       ∙ front-some (λ (r : Report). same_id r.match_id match_id) reports (length reports) (last - 1) r (omega arith) (sym is ∙ one)
       (slice_get_read reports (length reports) (last - 1) r refl (with-within some) read)
+
+  -- what one more does
+  pub matching-is : (if last == 0 then Opened else Matched) ≡ matching_of (with_match match_id reports)
+  matching-is =
+      elim (cases_Bool (last == 0)) [
+        | inl none ↦ rw none (sym (ap matching_of (with-none (eqb-true last 0 none))))
+        | inr some ↦
+            let there : last ≡ 0 → ⊥ = λ zeroth. let never : true ≡ false = sym (eq-eqb last 0 zeroth) ∙ some in cc in
+            let own = at-some (λ (r : Report). same_id r.match_id match_id) reports (last - 1) (with-passes there) in
+            let one : last ≡ suc (last - 1) = omega arith in
+            let whole : with_match match_id reports ≡ with_match match_id (take (last - 1) reports) ++ own.0 ∷ [] =
+            ap (filter (λ (r : Report). same_id r.match_id match_id)) (sym (take_all (length reports) reports (omega arith)))
+            ∙ front-some (λ (r : Report). same_id r.match_id match_id) reports (length reports) (last - 1) own.0 (omega arith) (sym is ∙ one) own.1 in
+            rw some (sym (ap matching_of whole ∙ matched-behind (with_match match_id (take (last - 1) reports)) own.0))
+      ]
 
   pub first-within : (last ≡ 0 → ⊥) → (first : ℕ) → first ≡ last_before (is_with_at reports match_id) (last - 1) → (first ≡ 0 → ⊥) → first - 1 < length reports
   first-within some first is_first there = omega (arith, with-within some, is_first, last_before-le (is_with_at reports match_id) (last - 1))

@@ -2,9 +2,8 @@
 
 ghost use Rattle.std.specs.Prelude.{◌≡◌};
 ghost use Rattle.gu_trades.specs.Sides.{reports_in};
-ghost use Rattle.gu_trades.specs.Matching.{conflicts, is_other_side, is_trade, is_waiting, matching_of};
+ghost use Rattle.gu_trades.specs.Matching.{conflicts, is_other_side, is_trade, is_waiting};
 
-use crate::matching::Matching;
 use gu_terms::Report;
 
 /// The reports with one match id, in the order in which they came.
@@ -53,15 +52,5 @@ impl Sides {
         ensures { result ≡ is_waiting (reports_in self.now) }
     {
         matches!(self, Sides::One(_))
-    }
-
-    /// What one more report does.
-    pub(crate) fn matching(&self) -> Matching
-        ensures { result ≡ matching_of (reports_in self.now) }
-    {
-        match self {
-            Sides::Neither => Matching::Opened,
-            Sides::One(_) | Sides::Both(..) => Matching::Matched,
-        }
     }
 }

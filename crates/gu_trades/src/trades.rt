@@ -97,21 +97,23 @@ fn is_with(report: &Report, match_id: &Id) -> bool
     report.match_id == *match_id
 }
 
-/// The place of the last report with this match id, or of the last one below a place that has it, counted from 1; 0 where
-/// there is none.
+/// The place of the last report with this match id, whose number this is, or of the last one below a place that has it, counted
+/// from 1; 0 where there is none.
 fn last_with(
     reports: &[Report],
     places: &Places,
     seed: &Seed,
     match_id: &Id,
+    number: u32,
     below: Option<usize>,
 ) -> u32
     requires numbers { places.now.numbers ≡ map (λ (r : ReportOf). match_number seed.now r.match_id) reports.now }
+    requires number { number ≡ match_number seed.now match_id.now }
     requires with { ForSome below (λ place. is_with_at reports.now match_id.now place ≡ true) }
     ensures { result ≡ last_before (is_with_at reports.now match_id.now) (unwrap_or below (length reports.now)) }
 {
     let mut at = match below {
-        None => places.last(match_number(seed, match_id)),
+        None => places.last(number),
         Some(place) => places.before(place),
     };
     while at > 0 {
@@ -124,18 +126,19 @@ fn last_with(
     0
 }
 
-/// Puts a report behind the others, and its place under its firm and id and under its match id. The growths come first, so that a
-/// refusal leaves all as it was.
+/// Puts a report behind the others, and its place under the number of its firm and id and under that of its match id. The growths come
+/// first, so that a refusal leaves all as it was.
 fn add(
     reports: &mut Vec<Report>,
     by_id: &mut Places,
     by_match: &mut Places,
-    seed: &Seed,
+    id_number: u32,
+    match_number: u32,
     report: &Report,
 ) -> Result<(), AllocError>
     ensures added { OnOk result (reports.new.items ≡ reports.old.items ++ report.now ∷ []) }
-    ensures named { OnOk result (by_id.new.numbers ≡ by_id.old.numbers ++ id_number seed.now report.now.firm report.now.id ∷ []) }
-    ensures matched { OnOk result (by_match.new.numbers ≡ by_match.old.numbers ++ match_number seed.now report.now.match_id ∷ []) }
+    ensures named { OnOk result (by_id.new.numbers ≡ by_id.old.numbers ++ id_number ∷ []) }
+    ensures matched { OnOk result (by_match.new.numbers ≡ by_match.old.numbers ++ match_number ∷ []) }
     ensures err { OnErr result ((reports.new.items ≡ reports.old.items)
         × (by_id.new.numbers ≡ by_id.old.numbers) × (by_match.new.numbers ≡ by_match.old.numbers)) }
 {
@@ -143,8 +146,8 @@ fn add(
     by_id.reserve()?;
     by_match.reserve()?;
     let _ = reports.push(*report);
-    by_id.push(id_number(seed, &report.firm, &report.id));
-    by_match.push(match_number(seed, &report.match_id));
+    by_id.push(id_number);
+    by_match.push(match_number);
     Ok(())
 }
 
@@ -188,7 +191,15 @@ impl Trades {
     pub fn trade(&self, match_id: Id) -> Sides
         ensures { reports_in result ≡ with_match match_id self.now }
     {
-        let last = last_with(&self.reports, &self.by_match, &self.seed, &match_id, None);
+        let number = match_number(&self.seed, &match_id);
+        let last = last_with(
+            &self.reports,
+            &self.by_match,
+            &self.seed,
+            &match_id,
+            number,
+            None,
+        );
         if last == 0 {
             return Sides::Neither;
         }
@@ -198,6 +209,7 @@ impl Trades {
             &self.by_match,
             &self.seed,
             &match_id,
+            number,
             Some(place),
         );
         if first == 0 {
@@ -250,14 +262,24 @@ impl Trades {
             side,
             account,
         };
-        let sides = self.trade(match_id);
+        let id_number = id_number(&self.seed, &firm, &id);
+        let match_number = match_number(&self.seed, &match_id);
+        let last = last_with(
+            &self.reports,
+            &self.by_match,
+            &self.seed,
+            &match_id,
+            match_number,
+            None,
+        );
         add(
             &mut self.reports,
             &mut self.by_id,
             &mut self.by_match,
-            &self.seed,
+            id_number,
+            match_number,
             &report,
         )?;
-        Ok(sides.matching())
+        Ok(Matching::behind(last))
     }
 }

@@ -38,7 +38,7 @@ loop-at-init c =
     elim c.match-below.branch [
       | in-None w ↦
           let is =
-          w.at-is ∙ w.last-at.ensures ∙ ap (λ n. last_before (has_number numbers n) (length numbers)) w.match_number.ensures
+          w.at-is ∙ w.last-at.ensures ∙ ap (λ n. last_before (has_number numbers n) (length numbers)) c.requires.number
           ∙ ap (last_before (has_number numbers (match_number c.args.seed.now c.args.match_id.now))) all in
           let begun = walked c.args.seed.now c.args.match_id.now c.args.reports.now numbers c.requires.numbers (length c.args.reports.now) c.match-below.at is in
           (ap (λ below. last_before (is_with_at c.args.reports.now c.args.match_id.now) (unwrap_or below (length c.args.reports.now))) w.in-None.is ∙ begun.0, begun.1, begun.2)
