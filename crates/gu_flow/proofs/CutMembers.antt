@@ -2,8 +2,9 @@
 use Rattle.std.proofs.Common.{◌≡◌, ◌≢◌, ℕ, ◌+◌, ◌<◌, ◌==◌, ◌||◌, ◌&&◌, not, nat_lt, Bool, true, false, cond, List, [], ◌∷◌, ◌++◌, length, refl, sym, ◌∙◌, ap, arith, inl, inr}
 use Rattle.std.specs.Prelude.{All}
 use Rattle.std.specs.List.{list_any}
-use Rattle.std.proofs.Math.Bool.{or-false, and-true}
+use Rattle.std.proofs.Math.Bool.{or-false, and-true, and-false, and-not_self}
 use Rattle.std.proofs.lemmas.Bool.{cases_Bool, cases_eq, cases_lt, cases_order, eq-eqb, ne_eqb, eqb-true, lt-ltb, le-ltb, not-false, and_right}
+use Rattle.std.proofs.lemmas.List.{get_or_past}
 use Rattle.std.proofs.lemmas.List.Elements.{All-push}
 use Rattle.std.proofs.lemmas.List.Folds.{list_any-append, list_any_at}
 use Rattle.gu_terms.proofs.KeyLemmas.{key_eq-same, key_eq-refl}
@@ -12,7 +13,9 @@ use Rattle.gu_terms.specs.LimitKeys.{key_eq, has_key}
 use Rattle.gu_terms.specs.declared.limit_key.LimitKey.{LimitKey}
 use Rattle.gu_view.proofs.RoomLemmas.{apart}
 use Rattle.gu_view.specs.View.{GroupView, IsView}
-use Rattle.gu_flow.specs.CutArcs.{cuts_key, cuts_offers, AreCut, AreKeysCut, AreOffersCut}
+use Rattle.gu_view.specs.declared.view.Room.{Room}
+use Rattle.gu_flow.specs.CutArcs.{leads_out, cuts_key, cuts_offers, AreCut, AreKeysCut, AreNoOffersCut, AreOffersCut}
+use Rattle.gu_flow.specs.Ends.{no_arc}
 use Rattle.gu_flow.specs.Networks.{no_offer, offer_at, no_room, room_at}
 use Rattle.gu_flow.specs.Shares.{agreement_place}
 use Rattle.gu_flow.specs.declared.network.Arc.{Arc}
@@ -96,3 +99,27 @@ module _ (view : GroupView) (sound : IsView view) (reached : ℕ → Bool) (arcs
       → added ≡ not (has_number numbers (offer_at view.offers i).number) → new ≡ cond added (numbers ++ (offer_at view.offers i).number ∷ []) numbers → AreOffersCut view reached arcs new (i + 1)
   offer_cut numbers new i added inside h cut =
       one_cut h eqb-true (λ k. own_number i k inside) (list_any_at (λ o. o.number == (offer_at view.offers i).number) view.offers i no_offer inside (eq-eqb (offer_at view.offers i).number (offer_at view.offers i).number refl)) cut new added
+
+-- where no offers were cut and none are at the next place, none are
+pub none_more : (reached : ℕ → Bool) (arcs : List Arc) (rooms : List Room) (i : ℕ) (more cut : Bool) → (more ≡ false → AreNoOffersCut reached arcs rooms i) → cut ≡ cuts_offers reached arcs rooms i
+    → (more || cut) ≡ false → AreNoOffersCut reached arcs rooms (i + 1)
+none_more reached arcs rooms i false cut before is none k k_in = elim (cases_lt k i) [
+  | inl earlier ↦ before refl k earlier
+  | inr later ↦ let last : k ≡ i = omega arith in ap (cuts_offers reached arcs rooms) last ∙ sym is ∙ none
+]
+none_more reached arcs rooms i true cut before is none k k_in = cc
+
+-- and where none are cut in all, none are members
+pub none_at_all : (view : GroupView) (reached : ℕ → Bool) (arcs : List Arc) → length arcs ≡ length view.rooms → AreNoOffersCut reached arcs view.rooms (length view.rooms) → AreOffersCut view reached arcs [] (length view.offers)
+none_at_all view reached arcs all none = record {
+  exact = λ k k_in.
+      let place = agreement_place view.rooms (offer_at view.offers k) in
+      let uncut : cuts_offers reached arcs view.rooms place ≡ false = elim (cases_lt place (length view.rooms)) [
+        | inl inside ↦ none place inside
+        | inr past ↦
+            ap (λ (a : Arc). leads_out reached a && not (a.capacity == (room_at view.rooms place).lots)) (get_or_past arcs place no_arc (omega (arith, all)))
+            ∙ ap (λ b. b && not (0 == (room_at view.rooms place).lots)) (and-not_self (reached 0))
+      ] in
+      sym (ap (λ b. nat_lt k (length view.offers) && b) uncut ∙ and-false (nat_lt k (length view.offers)));
+  known = λ k d k_in. absurd (omega arith);
+}

@@ -1,5 +1,5 @@
 -- Machinery: the cut, as the keys and offers between what the last search reached and what it didn't.
-use Rattle.std.specs.Prelude.{◌≡◌, ℕ, ◌<◌, ◌==◌, ◌&&◌, not, nat_lt, Bool, List, All, IsTrue, length}
+use Rattle.std.specs.Prelude.{◌≡◌, ℕ, ◌<◌, ◌==◌, ◌&&◌, not, nat_lt, Bool, false, List, All, IsTrue, length}
 use Rattle.std.specs.List.{list_any}
 use Rattle.gu_terms.specs.Cuts.{CutLists}
 use Rattle.gu_terms.specs.LimitKeys.{key_eq}
@@ -24,6 +24,10 @@ cuts_key reached arcs rooms place = leads_out reached (arc_at arcs place) && ((a
 abbrev pub cuts_offers : (ℕ → Bool) → List Arc → List Room → ℕ → Bool
 cuts_offers reached arcs rooms place =
     leads_out reached (arc_at arcs place) && not ((arc_at arcs place).capacity == (room_at rooms place).lots)
+
+-- of the agreements whose rooms stand before a place, no offers are cut
+abbrev pub AreNoOffersCut : (ℕ → Bool) → List Arc → List Room → ℕ → Type 0
+AreNoOffersCut reached arcs rooms before = (k : ℕ) → k < before → cuts_offers reached arcs rooms k ≡ false
 
 -- of so many names, these members are those that are cut and stand before a place, and each of them is known
 pub record AreCut {X : Type 0} (eq : X → X → Bool) (is_known : X → Bool) (name : ℕ → X)

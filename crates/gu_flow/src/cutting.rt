@@ -1,7 +1,7 @@
 //! The cut between what the last search reached and what it didn't.
 
-ghost use Rattle.std.specs.Prelude.{◌≡◌, ◌<◌, [], IfOk, OnOk, length};
-ghost use Rattle.gu_flow.specs.CutArcs.{leads_out, cuts_key, cuts_offers, AreKeysCut, AreOffersCut, IsCutBy};
+ghost use Rattle.std.specs.Prelude.{◌≡◌, ◌<◌, [], false, IfOk, OnOk, length};
+ghost use Rattle.gu_flow.specs.CutArcs.{leads_out, cuts_key, cuts_offers, AreKeysCut, AreNoOffersCut, AreOffersCut, IsCutBy};
 ghost use Rattle.gu_flow.specs.Levels.{is_reached};
 
 use crate::levels::Entry;
@@ -44,19 +44,22 @@ fn cuts_offers(view: &View, arcs: &[Arc], entries: &[Entry], place: usize) -> bo
     leads_out(entries, &arcs[place]) && arcs[place].capacity != view.rooms()[place].lots
 }
 
-/// Adds the keys that are cut.
-fn add_keys(cut: &mut Cut, view: &View, arcs: &[Arc], entries: &[Entry]) -> Result<(), AllocError>
+/// Adds the keys that are cut, and returns whether offers are, too.
+fn add_keys(cut: &mut Cut, view: &View, arcs: &[Arc], entries: &[Entry]) -> Result<bool, AllocError>
     requires arcs { length arcs.now ≡ length view.now.rooms }
     requires none { cut.old.keys ≡ [] }
     ensures keys { OnOk result (AreKeysCut view.now (is_reached entries.now) arcs.now cut.new.keys (length view.now.rooms)) }
     ensures offers { cut.new.offers ≡ cut.old.offers }
+    ensures more { IfOk result (λ more. more ≡ false → AreNoOffersCut (is_reached entries.now) arcs.now view.now.rooms (length view.now.rooms)) }
 {
+    let mut more = false;
     for (place, room) in view.rooms().iter().enumerate() {
         if cuts_key(view, arcs, entries, place) {
             cut.add_key(room.key)?;
         }
+        more |= cuts_offers(view, arcs, entries, place);
     }
-    Ok(())
+    Ok(more)
 }
 
 /// Adds the offers that are cut.
@@ -85,7 +88,8 @@ pub(crate) fn cut_by(
     ensures { IfOk result (λ cut. IsCutBy view.now (is_reached entries.now) arcs.now cut) }
 {
     let mut cut = Cut::new(alloc);
-    add_keys(&mut cut, view, arcs, entries)?;
-    add_offers(&mut cut, view, arcs, entries)?;
+    if add_keys(&mut cut, view, arcs, entries)? {
+        add_offers(&mut cut, view, arcs, entries)?;
+    }
     Ok(cut)
 }

@@ -1,5 +1,5 @@
-use Rattle.std.proofs.Common.{◌≡◌}
-use Rattle.gu_flow.specs.CutArcs.{AreKeysCut}
+use Rattle.std.proofs.Common.{◌≡◌, false}
+use Rattle.gu_flow.specs.CutArcs.{AreKeysCut, AreNoOffersCut}
 use Rattle.gu_flow.specs.Levels.{is_reached}
 use Rattle.gu_flow.proofs.cutting.add_keys.Given as goal
 
@@ -7,4 +7,5 @@ abbrev pub invariant-loop-place : goal.invariant-loop-place
 invariant-loop-place l = record {
   keys : AreKeysCut l.view (is_reached l.entries) l.arcs l.cut.keys l.place;
   offers : l.cut.offers ≡ l.fn.cut.offers;
+  none : l.more ≡ false → AreNoOffersCut (is_reached l.entries) l.arcs l.view.rooms l.place;
 }
