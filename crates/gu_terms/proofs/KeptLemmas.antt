@@ -1,5 +1,5 @@
 -- Entries as a history keeps them: what comes behind their ids, or is taken off there, leaves them as they are.
-use Rattle.std.proofs.Common.{◌≡◌, ◌≢◌, ℕ, zero, suc, ◌+◌, ◌-◌, ◌<◌, ◌≤◌, ◌^◌, List, [], ◌∷◌, ◌++◌, All, length, map, min, take, drop, Some, arith, refl, sym, ap, inl, inr, subst, ◌∙◌, get_or, take-append-drop}
+use Rattle.std.proofs.Common.{◌≡◌, ℕ, suc, ◌+◌, ◌-◌, ◌<◌, ◌≤◌, ◌^◌, List, [], ◌∷◌, ◌++◌, All, length, map, min, take, drop, Some, arith, refl, sym, ap, inl, inr, subst, ◌∙◌, get_or, take-append-drop}
 use Rattle.std.specs.List.{AllPairs, slice_get}
 use Rattle.std.specs.Option.{option_map}
 use Rattle.std.proofs.lemmas.Bool.{cases_eq}
@@ -9,9 +9,7 @@ use Rattle.std.proofs.lemmas.List.Elements.{All-push, All-take}
 use Rattle.std.proofs.lemmas.List.Quantifiers.{all_pairs_push}
 use Rattle.std.proofs.Math.Seq.{drop-append_seam, drop-append-add, take-append_seam}
 use Rattle.gu_terms.specs.KeptEntries.{AreIdsOf, AreKept, IsWithin, end_of, end_of_last, entry_by, entry_of, first_id, second_id, text_at}
-use Rattle.gu_terms.specs.declared.entry.Entry.{Entry}
 use Rattle.gu_terms.specs.declared.kept.Body.{Body}
-use Rattle.gu_terms.specs.declared.kept.Ids.{Ids}
 use Rattle.gu_terms.specs.declared.kept.Kept.{Kept}
 
 -- bytes within the texts stay, whatever comes behind

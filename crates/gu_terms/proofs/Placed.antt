@@ -1,5 +1,5 @@
 -- A take in its place among the others.
-use Rattle.std.proofs.Common.{◌≡◌, ℕ, zero, suc, ◌<◌, ◌≤◌, List, [], ◌∷◌, ◌++◌, Bool, true, false, nat_lt, All, filter, length, arith, refl, sym, ap, subst, ◌∙◌, get_or, inl, inr, eqb, IsTrue, ◌↔◌}
+use Rattle.std.proofs.Common.{◌≡◌, ℕ, zero, suc, ◌-◌, ◌<◌, ◌≤◌, List, [], ◌∷◌, ◌++◌, Bool, true, false, nat_lt, All, filter, length, arith, refl, sym, ap, subst, ◌∙◌, get_or, inl, inr, eqb, IsTrue, ◌↔◌}
 use Rattle.std.specs.List.{insert, AllWithin}
 use Rattle.std.specs.List.Sorted.{IsPartitionedBy, IsPartitionPoint}
 use Rattle.std.proofs.lemmas.List.Kept.{AllPairs-cons}
@@ -15,6 +15,15 @@ earlier_first takes offer h i j d le within earlier = lt-ltb _ _ (below (ltb-tru
   where
     below : (get_or takes j d).offer < offer → (get_or takes i d).offer < offer
     below before = elim (eq-or-lt_of_le le) [ inl e ↦ rw e before | inr lt ↦ omega (arith, h i j d lt within) ]
+
+-- where the last take is earlier, each is
+pub IsPlace-last : (takes : List Take) (offer : ℕ) (last : Take) → IsAscending takes → 1 ≤ length takes → last ≡ get_or takes (length takes - 1) last → nat_lt last.offer offer ≡ true → IsPlace takes (length takes) offer
+IsPlace-last takes offer last h some is earlier = record {
+  within = omega arith;
+  before = λ k d low high. ltb-true _ _ (earlier_first takes offer h k (length takes - 1) d (omega arith) (omega arith)
+      (ap (λ (t : Take). nat_lt t.offer offer) (get_or_default takes (length takes - 1) d last (omega arith) ∙ sym is) ∙ earlier));
+  after = λ k d low high. absurd (omega arith);
+}
 
 -- what a search for the first take that isn't earlier finds
 pub IsPlace-partition : (takes : List Take) (offer place : ℕ) → place ≤ length takes

@@ -1,5 +1,5 @@
 -- Names and ids that are found the same are one.
-use Rattle.std.proofs.Common.{◌≡◌, Bool, true, refl}
+use Rattle.std.proofs.Common.{◌≡◌, true}
 use Rattle.std.proofs.lemmas.Cmp.{nat_list_eq_equiv}
 use Rattle.std.proofs.lemmas.Slice.Eq.{bytes_eq-Decides}
 use Rattle.gu_terms.specs.Same.{same_account, same_firm, same_group, same_id, same_symbol}

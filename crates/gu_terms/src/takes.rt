@@ -45,7 +45,10 @@ fn place_of(takes: &[Take], offer: OfferNo) -> usize
     requires { IsAscending takes.now }
     ensures { IsPlace takes.now result offer }
 {
-    takes.partition_point(move |take| is_earlier(take, offer))
+    match takes {
+        [.., last] if is_earlier(last, offer) => takes.len(),
+        _ => takes.partition_point(move |take| is_earlier(take, offer)),
+    }
 }
 
 /// Whether the take at a place is of this offer.

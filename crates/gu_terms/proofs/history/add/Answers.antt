@@ -1,4 +1,4 @@
-use Rattle.std.proofs.Common.{rules, ◌≡◌, ◌++◌, arith}
+use Rattle.std.proofs.Common.{rules}
 use Rattle.gu_terms.proofs.KeptLemmas.{kept_more}
 use Rattle.gu_terms.proofs.history.add.Goals as goal
 
