@@ -15,7 +15,7 @@ use Rattle.gu_view.proofs.RoomLemmas.{apart}
 use Rattle.gu_view.specs.View.{GroupView, IsView}
 use Rattle.gu_view.specs.declared.view.Room.{Room}
 use Rattle.gu_flow.specs.CutArcs.{leads_out, cuts_key, cuts_offers, AreCut, AreKeysCut, AreNoOffersCut, AreOffersCut}
-use Rattle.gu_flow.specs.Ends.{no_arc}
+use Rattle.gu_flow.specs.Ends.{no_arc, arc_at}
 use Rattle.gu_flow.specs.Networks.{no_offer, offer_at, no_room, room_at}
 use Rattle.gu_flow.specs.Shares.{agreement_place}
 use Rattle.gu_flow.specs.declared.network.Arc.{Arc}
@@ -108,6 +108,15 @@ none_more reached arcs rooms i false cut before is none k k_in = elim (cases_lt 
   | inr later ↦ let last : k ≡ i = omega arith in ap (cuts_offers reached arcs rooms) last ∙ sym is ∙ none
 ]
 none_more reached arcs rooms i true cut before is none k k_in = cc
+
+-- nor are they where the key there is cut
+one_way : (out whole : Bool) → (out && whole) ≡ true → (out && not whole) ≡ false
+one_way true true cut = refl
+one_way true false cut = cc
+one_way false whole cut = refl
+
+pub none_by_key : (reached : ℕ → Bool) (arcs : List Arc) (rooms : List Room) (i : ℕ) → cuts_key reached arcs rooms i ≡ true → cuts_offers reached arcs rooms i ≡ false
+none_by_key reached arcs rooms i = one_way (leads_out reached (arc_at arcs i)) ((arc_at arcs i).capacity == (room_at rooms i).lots)
 
 -- and where none are cut in all, none are members
 pub none_at_all : (view : GroupView) (reached : ℕ → Bool) (arcs : List Arc) → length arcs ≡ length view.rooms → AreNoOffersCut reached arcs view.rooms (length view.rooms) → AreOffersCut view reached arcs [] (length view.offers)

@@ -56,8 +56,9 @@ fn add_keys(cut: &mut Cut, view: &View, arcs: &[Arc], entries: &[Entry]) -> Resu
     for (place, room) in view.rooms().iter().enumerate() {
         if cuts_key(view, arcs, entries, place) {
             cut.add_key(room.key)?;
+        } else {
+            more |= cuts_offers(view, arcs, entries, place);
         }
-        more |= cuts_offers(view, arcs, entries, place);
     }
     Ok(more)
 }

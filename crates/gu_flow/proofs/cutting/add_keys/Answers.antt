@@ -1,8 +1,9 @@
-use Rattle.std.proofs.Common.{◌≡◌, ap, sym, ◌∙◌}
+use Rattle.std.proofs.Common.{◌≡◌, false, ap, sym, ◌∙◌}
+use Rattle.std.proofs.Math.Bool.{or-false}
 use Rattle.gu_view.specs.declared.view.Room.{Room}
 use Rattle.gu_flow.specs.Levels.{is_reached}
 use Rattle.gu_flow.specs.Networks.{room_at}
-use Rattle.gu_flow.proofs.CutMembers.{key_cut, none_cut, none_more}
+use Rattle.gu_flow.proofs.CutMembers.{key_cut, none_cut, none_by_key, none_more}
 use Rattle.gu_flow.proofs.RoomPlaces.{own_room}
 use Rattle.gu_flow.proofs.cutting.add_keys.Goals as goal
 use Rattle.gu_flow.proofs.cutting.add_keys.Goals.{then-cuts_key+in_ok-add_key, else-cuts_key}
@@ -18,16 +19,15 @@ loop-place-preserved c =
     let h = c.loop-place.invariant in
     let inside = rw rooms at c.loop-place-test.true in
     let key : c.room-item.result.key ≡ (room_at view.rooms i).key = ap (λ (r : Room). r.key) (own_room view.rooms i c.room-item.result inside (rw rooms at c.room-item.is)) in
-    let none = none_more reached arcs view.rooms i c.loop-place.more c.cuts_offers-more.result h.none c.cuts_offers-more.ensures in
     elim c.if-cuts_key.branch [
       | then-cuts_key+in_ok-add_key w ↦ record {
         keys = rw w.cut-is (key_cut view sound reached arcs c.loop-place.cut.keys w.add_key.new.self.keys i w.in_ok-add_key.field-0 inside h.keys (sym c.cuts_key.ensures ∙ w.if-cuts_key.true) (rw key at w.in_ok-add_key.ensures.added) (rw key at w.in_ok-add_key.ensures.keys));
         offers = rw w.cut-is (w.in_ok-add_key.ensures.offers ∙ h.offers);
-        none = none;
+        none = rw w.more-is (λ none. none_more reached arcs view.rooms i c.loop-place.more false h.none (sym (none_by_key reached arcs view.rooms i (sym c.cuts_key.ensures ∙ w.if-cuts_key.true))) (or-false c.loop-place.more ∙ none));
       }
       | else-cuts_key w ↦ record {
         keys = rw w.cut-is (none_cut h.keys (sym c.cuts_key.ensures ∙ w.if-cuts_key.false));
         offers = rw w.cut-is h.offers;
-        none = none;
+        none = rw w.more-is (none_more reached arcs view.rooms i c.loop-place.more w.cuts_offers-more.result h.none w.cuts_offers-more.ensures);
       }
     ]
