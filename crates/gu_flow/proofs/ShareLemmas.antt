@@ -22,14 +22,7 @@ use Rattle.gu_flow.specs.Networks.{no_offer, offer_at}
 use Rattle.gu_flow.specs.Shares.{agreement_place, agreement_lots, share_of, no_take, take_at, AreSharesBefore, AreShares}
 use Rattle.gu_flow.proofs.SumLemmas.{sum_by_place, sum_places_by, at_set}
 
--- offers before a place have smaller numbers
 module _ (view : GroupView) (flow : List ℕ) where
-  pub shares_before : IsView view → (takes : List Take) (i : ℕ) → i < length view.offers → AreSharesBefore view flow takes i → All (λ t. t.offer < (offer_at view.offers i).number) takes
-  shares_before sound takes i inside shares k d k_in =
-      let before : k < i = omega (arith, shares.all) in
-      let is : (get_or takes k d).offer ≡ (offer_at view.offers k).number = ap (λ (t : Take). t.offer) (get_or_default takes k d no_take k_in ∙ shares.each k before) in
-      omega (arith, sound.ascending k i no_offer before inside)
-
   -- what each agreement's arc still has for its later offers
   pub record IsSharing (takes : List Take) (rests : List ℕ) (i : ℕ) : Type 0 where
     pub shares : AreSharesBefore view flow takes i

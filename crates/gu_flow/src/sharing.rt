@@ -3,7 +3,7 @@
 ghost use Rattle.std.specs.Prelude.{◌≡◌, IfOk, length};
 ghost use Rattle.gu_flow.specs.Shares.{AreShares};
 
-use gu_terms::Takes;
+use gu_terms::{Take, Takes};
 use gu_view::View;
 use std::alloc::{AllocError, Global};
 
@@ -13,12 +13,15 @@ pub(crate) fn share_out(alloc: Global, view: &View, flow: Vec<u64>) -> Result<Ta
     ensures { IfOk result (λ takes. AreShares view.now flow.items takes) }
 {
     let mut rests = flow;
-    let mut takes = Takes::new(alloc);
+    let mut takes = Vec::with_capacity(alloc, view.offers().len())?;
     for (number, offer) in view.offers().iter().enumerate() {
         let place = view.agreement_place(number);
         let lots = offer.lots.min(rests[place]);
         rests[place] -= lots;
-        takes.add(offer.number, lots)?;
+        takes.push(Take {
+            offer: offer.number,
+            lots,
+        })?;
     }
-    Ok(takes)
+    Ok(Takes::of(takes))
 }

@@ -70,6 +70,14 @@ impl Takes {
         }
     }
 
+    /// The takes of a list whose offers ascend.
+    pub fn of(list: Vec<Take>) -> Self
+        requires { IsAscending list.items }
+        ensures { result ≡ list.items }
+    {
+        Takes { list }
+    }
+
     /// The takes, offers ascending.
     pub fn as_slice(&self) -> &[Take]
         ensures takes { result.now ≡ self.now }

@@ -1,10 +1,10 @@
-use Rattle.std.proofs.Common.{◌≡◌, ◌<◌, ◌∙◌, ap, arith, length, min, get_or}
+use Rattle.std.proofs.Common.{◌≡◌, ◌<◌, ◌∙◌, ap, arith, subst, length, min, get_or}
 use Rattle.std.proofs.lemmas.List.{get_or_default}
 use Rattle.gu_view.specs.declared.view.Offer.{Offer}
 use Rattle.gu_flow.specs.Networks.{no_offer, offer_at}
-use Rattle.gu_terms.proofs.LastTake.{added_last}
+use Rattle.gu_flow.specs.Shares.{AreSharesBefore}
 use Rattle.gu_flow.proofs.RoomPlaces.{agreement_read}
-use Rattle.gu_flow.proofs.ShareLemmas.{shares_before, one_more_share}
+use Rattle.gu_flow.proofs.ShareLemmas.{shares_ascend, one_more_share}
 use Rattle.gu_flow.proofs.sharing.share_out.Goals as goal
 
 pub loop-number-preserved : goal.loop-number-preserved
@@ -24,6 +24,11 @@ loop-number-preserved c =
     let read : c.index.result.now ≡ get_or rests place 0 = c.index.ensures ∙ get_or_default rests place c.index.result.now 0 within in
     let written : c.index_mut.result.now ≡ get_or rests place 0 = c.index_mut.ensures.value ∙ get_or_default rests place c.index_mut.result.now 0 within in
     let lots_are : lots ≡ min (offer_at view.offers i).lots (get_or rests place 0) = c.min-lots.ensures ∙ ap (min o.lots) read ∙ ap (λ (o : Offer). min o.lots (get_or rests place 0)) is in
-    let taken = added_last c.loop-number.takes c.add.new.self (record { offer = o.number; lots = lots }) c.in_ok-add.field-0
-    (rw number (shares_before view c.args.flow.items c.offers-offer-items.ensures.sound c.loop-number.takes i inside h.shares)) c.in_ok-add.ensures.added c.in_ok-add.ensures.takes in
-    rw (taken, number, written) (one_more_share view c.args.flow.items c.loop-number.takes rests i place lots inside h (agreement_read view i place inside c.agreement_place-place.ensures.place) within lots_are)
+    rw (c.in_ok-push.ensures.items, number, written) (one_more_share view c.args.flow.items c.loop-number.takes.items rests i place lots inside h (agreement_read view i place inside c.agreement_place-place.ensures.place) within lots_are)
+
+pub of-requires : goal.of-requires
+of-requires c =
+    let view = c.args.view.now in
+    let offers = c.offers-offer-items.ensures.offers in
+    let end : c.loop-number.number ≡ length view.offers = omega (arith, rw offers at c.loop-number-test.false, rw offers at c.loop-number.auto.number-end) in
+    shares_ascend view c.offers.ensures.sound c.args.flow.items c.loop-number.takes.items (subst (AreSharesBefore view c.args.flow.items c.loop-number.takes.items) end c.loop-number.invariant.shares)
