@@ -1,3 +1,4 @@
+mod FirstBytes
 mod FormLemmas
 mod JoinedWords
 pub mod LineFeedLaws

@@ -5,6 +5,8 @@ ghost use Rattle.std.specs.List.{position};
 ghost use Rattle.std.specs.Str.Lines.{lines, strip_carriage_return};
 ghost use Rattle.gu_text.specs.Lines.{is_silent};
 
+use memchr::memchr;
+
 /// The bytes that a line has at most.
 pub(crate) const LONGEST_LINE: usize = 1_024;
 
@@ -22,7 +24,7 @@ pub fn without_return(line: &[u8]) -> &[u8]
 pub(crate) fn end_of_line(text: &[u8]) -> Option<usize>
     ensures { result ≡ position (λ b. b == 10) text.now }
 {
-    text.iter().position(|byte| *byte == b'\n')
+    memchr(b'\n', text)
 }
 
 /// The first line of a text, and the text behind it.
