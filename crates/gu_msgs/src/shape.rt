@@ -1,23 +1,22 @@
 //! The shape of a message: tags that stand twice, tags that are missing, and groups.
 
-ghost use Rattle.std.specs.Prelude.{◌≡◌, ◌<◌, ◌^◌, ◌==◌, length, IfOk, IsTrue, MatchResult, None, Some};
+ghost use Rattle.std.specs.Prelude.{◌≡◌, ◌<◌, ◌^◌, ◌==◌, length, IfOk, IfSome, IsTrue, MatchResult, None, Some};
 ghost use Rattle.std.specs.Option.{option_or, option_map};
 ghost use Rattle.std.specs.Str.Parse.{digits_value};
 ghost use Rattle.gu_msgs.specs.Groups.{entries_begun, entries_by};
 ghost use Rattle.gu_msgs.specs.Shape.{count_fault, counted_fault, entries_fault, fault_at, group_fault, groups_fault, missing, repeated, shape_fault, tags_fault};
-ghost use Rattle.gu_msgs.specs.Standings.{AreStandings, IsTable};
+ghost use Rattle.gu_msgs.specs.Standings.{AreStandings, IsStanding, IsTable};
 ghost use Rattle.gu_msgs.specs.Tables.{body_rows, outer_rows};
 ghost use Rattle.gu_msgs.specs.Values.{is_numeral};
 
 use crate::fault::Fault;
-use crate::field_values::first_value;
-use crate::groups::{group_of, has_entries, next_entry};
+use crate::groups::{group_behind, has_entries, next_entry};
 use crate::msg_type::MsgType;
 use crate::reject_reason::SessionRejectReason;
 use crate::row::Row;
 use crate::run::Run;
-use crate::standings::{Standings, missing, standings};
-use crate::tables::{body_rows, entry_rows, outer_rows};
+use crate::standings::{Standings, missing, standings, value_numbered};
+use crate::tables::{HEADER_ROWS, entry_rows, outer_rows};
 use crate::whole_number::{is_numeral, number_of};
 
 /// A fault of this tag.
@@ -27,13 +26,15 @@ pub fn fault_at(reason: SessionRejectReason, tag: u32) -> Fault
     Fault { tag, reason }
 }
 
-/// Where the tags of these rows stand first, or their first fault: a tag that stands twice, or else one that is missing.
-fn sound_tags(fields: &Run<'_>, rows: &[Row]) -> Result<Standings, Fault>
-    requires { IsTable rows.now }
+/// Where the tags of these rows stand first, or their first fault: a tag that stands twice, or else one that is missing. The rows
+/// are those of the outer level of messages of a type where one is named.
+fn sound_table(fields: &Run<'_>, rows: &[Row], outer: Option<MsgType>) -> Result<Standings, Fault>
+    requires table { IsTable rows.now }
+    requires outer { IfSome outer (λ msg_type. rows.now ≡ outer_rows msg_type) }
     ensures fault { MatchResult result (λ numbers. tags_fault rows.now fields.now ≡ None) (λ fault. tags_fault rows.now fields.now ≡ Some fault) }
     ensures first { IfOk result (λ numbers. AreStandings rows.now fields.now numbers) }
 {
-    let numbers = match standings(fields, rows) {
+    let numbers = match standings(fields, rows, outer) {
         Ok(numbers) => numbers,
         Err(tag) => return Err(fault_at(SessionRejectReason::TagAppearsMoreThanOnce, tag)),
     };
@@ -41,6 +42,14 @@ fn sound_tags(fields: &Run<'_>, rows: &[Row]) -> Result<Standings, Fault>
         Some(tag) => Err(fault_at(SessionRejectReason::RequiredTagMissing, tag)),
         None => Ok(numbers),
     }
+}
+
+/// The same of the rows of an entry.
+fn sound_tags(fields: &Run<'_>, rows: &[Row]) -> Result<Standings, Fault>
+    requires { IsTable rows.now }
+    ensures fault { MatchResult result (λ numbers. tags_fault rows.now fields.now ≡ None) (λ fault. tags_fault rows.now fields.now ≡ Some fault) }
+{
+    sound_table(fields, rows, None)
 }
 
 /// The first fault of these rows.
@@ -108,26 +117,30 @@ fn counted_fault(counter: u32, text: &[u8], group: &Run<'_>, rows: &[Row]) -> Op
     }
 }
 
-/// The first fault of the group with this counter.
-fn group_fault(fields: &Run<'_>, msg_type: MsgType, counter: u32) -> Option<Fault>
+/// The first fault of the group with this counter, which stands first at the field with this number.
+fn group_fault(fields: &Run<'_>, msg_type: MsgType, counter: u32, number: usize) -> Option<Fault>
+    requires { IsStanding fields.now counter number }
     ensures { result ≡ group_fault msg_type fields.now counter }
 {
     let rows = entry_rows(counter);
     if rows.is_empty() {
         return None;
     }
-    match first_value(fields, counter) {
-        Some(text) => counted_fault(counter, text, &group_of(fields, msg_type, counter), rows),
+    match value_numbered(fields, number) {
+        Some(text) => counted_fault(counter, text, &group_behind(fields, msg_type, number), rows),
         None => None,
     }
 }
 
-/// The first fault of a message's groups, in order.
-fn groups_fault(fields: &Run<'_>, msg_type: MsgType) -> Option<Fault>
+/// The first fault of a message's groups, in order, where its outer tags stand first so.
+fn groups_fault(fields: &Run<'_>, msg_type: MsgType, numbers: &Standings) -> Option<Fault>
+    requires { AreStandings (outer_rows msg_type) fields.now numbers.now }
     ensures { result ≡ groups_fault msg_type fields.now (body_rows msg_type) }
 {
-    for row in body_rows(msg_type) {
-        if let Some(fault) = group_fault(fields, msg_type, row.tag()) {
+    let rows = outer_rows(msg_type);
+    for place in HEADER_ROWS..rows.len() {
+        let counter = rows[place].tag();
+        if let Some(fault) = group_fault(fields, msg_type, counter, numbers[place]) {
             return Some(fault);
         }
     }
@@ -139,8 +152,8 @@ pub fn sound_shape(fields: &Run<'_>, msg_type: MsgType) -> Result<Standings, Fau
     ensures fault { MatchResult result (λ numbers. shape_fault msg_type fields.now ≡ None) (λ fault. shape_fault msg_type fields.now ≡ Some fault) }
     ensures first { IfOk result (λ numbers. AreStandings (outer_rows msg_type) fields.now numbers) }
 {
-    match sound_tags(fields, outer_rows(msg_type)) {
-        Ok(numbers) => match groups_fault(fields, msg_type) {
+    match sound_table(fields, outer_rows(msg_type), Some(msg_type)) {
+        Ok(numbers) => match groups_fault(fields, msg_type, &numbers) {
             Some(fault) => Err(fault),
             None => Ok(numbers),
         },
