@@ -14,7 +14,7 @@ use crate::field_values::first_value;
 use crate::groups::{group_behind, next_entry};
 use crate::kinds::text_fault;
 use crate::msg_type::MsgType;
-use crate::row::Row;
+use crate::row::{Kind, Row};
 use crate::run::Run;
 use crate::shape::fault_at;
 use crate::standings::{Standings, value_numbered};
@@ -24,7 +24,11 @@ use crate::tables::{entry_rows, outer_rows};
 fn item_fault(row: Row, text: &[u8]) -> Option<Fault>
     ensures { MatchOption result (IsSound (kind_of row) text.now) (λ fault. (fault.tag ≡ tag_of row) × IsAtFault (kind_of row) text.now fault.reason) }
 {
-    match text_fault(row.kind(), text) {
+    let kind = row.kind();
+    if let Kind::Text = kind {
+        return None;
+    }
+    match text_fault(kind, text) {
         Some(reason) => Some(fault_at(reason, row.tag())),
         None => None,
     }
