@@ -22,8 +22,8 @@ use crate::run::Run;
 use crate::session_messages::{
     read_logon, read_resend_request, read_sequence_reset, read_test_request,
 };
-use crate::shape::{fault_at, sound_shape};
-use crate::standings::{Standings, standings};
+use crate::shape::{fault_at, shape_fault};
+use crate::standings::{NONE_STANDS, Standings, standings};
 use crate::tables::header_rows;
 use crate::trade_capture_report::read_trade_capture_report;
 use crate::type_code::TypeCode;
@@ -62,10 +62,10 @@ fn read_typed(alloc: Global, fields: &Run<'_>, msg_type: MsgType) -> Result<Inbo
     requires { first_value MSG_TYPE fields.now ≡ Some (code_of msg_type) }
     ensures { MatchResult result (Says fields.now) (IsTypedRefusal msg_type fields.now) }
 {
-    let numbers = match sound_shape(fields, msg_type) {
-        Ok(numbers) => numbers,
-        Err(fault) => return Err(MsgFault::Rejected(fault)),
-    };
+    let mut numbers = NONE_STANDS;
+    if let Some(fault) = shape_fault(fields, msg_type, &mut numbers) {
+        return Err(MsgFault::Rejected(fault));
+    }
     if let Some(fault) = value_fault(fields, msg_type, &numbers) {
         return Err(MsgFault::Rejected(fault));
     }
@@ -76,9 +76,10 @@ fn read_typed(alloc: Global, fields: &Run<'_>, msg_type: MsgType) -> Result<Inbo
 fn untyped_fault(fields: &Run<'_>) -> Fault
     ensures { result ≡ untyped_fault fields.now }
 {
-    match standings(fields, header_rows(), None) {
-        Ok(_) => fault_at(SessionRejectReason::RequiredTagMissing, MSG_TYPE),
-        Err(tag) => fault_at(SessionRejectReason::TagAppearsMoreThanOnce, tag),
+    let mut numbers = NONE_STANDS;
+    match standings(fields, header_rows(), None, &mut numbers) {
+        Some(tag) => fault_at(SessionRejectReason::TagAppearsMoreThanOnce, tag),
+        None => fault_at(SessionRejectReason::RequiredTagMissing, MSG_TYPE),
     }
 }
 

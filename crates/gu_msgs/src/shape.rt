@@ -1,6 +1,6 @@
 //! The shape of a message: tags that stand twice, tags that are missing, and groups.
 
-ghost use Rattle.std.specs.Prelude.{◌≡◌, ◌<◌, ◌^◌, ◌==◌, length, IfOk, IfSome, IsTrue, MatchResult, None, Some};
+ghost use Rattle.std.specs.Prelude.{◌≡◌, ◌<◌, ◌^◌, ◌==◌, length, IfSome, IsTrue, MatchOption, None, Some, ⊤};
 ghost use Rattle.std.specs.Option.{option_or, option_map};
 ghost use Rattle.std.specs.Str.Parse.{digits_value};
 ghost use Rattle.gu_msgs.specs.Groups.{entries_begun, entries_by};
@@ -15,7 +15,7 @@ use crate::msg_type::MsgType;
 use crate::reject_reason::SessionRejectReason;
 use crate::row::Row;
 use crate::run::Run;
-use crate::standings::{Standings, missing, standings, value_numbered};
+use crate::standings::{NONE_STANDS, Standings, missing, standings, value_numbered};
 use crate::tables::{HEADER_ROWS, entry_rows, outer_rows};
 use crate::whole_number::{is_numeral, number_of};
 
@@ -26,41 +26,35 @@ pub fn fault_at(reason: SessionRejectReason, tag: u32) -> Fault
     Fault { tag, reason }
 }
 
-/// Where the tags of these rows stand first, or their first fault: a tag that stands twice, or else one that is missing. The rows
-/// are those of the outer level of messages of a type where one is named.
-fn sound_table(fields: &Run<'_>, rows: &[Row], outer: Option<MsgType>) -> Result<Standings, Fault>
+/// Finds where the tags of these rows stand first, or their first fault: a tag that stands twice, or else one that is missing. The
+/// rows are those of the outer level of messages of a type where one is named.
+fn table_fault(
+    fields: &Run<'_>,
+    rows: &[Row],
+    outer: Option<MsgType>,
+    numbers: &mut Standings,
+) -> Option<Fault>
     requires table { IsTable rows.now }
     requires outer { IfSome outer (λ msg_type. rows.now ≡ outer_rows msg_type) }
-    ensures fault { MatchResult result (λ numbers. tags_fault rows.now fields.now ≡ None) (λ fault. tags_fault rows.now fields.now ≡ Some fault) }
-    ensures first { IfOk result (λ numbers. AreStandings rows.now fields.now numbers) }
+    ensures fault { MatchOption result (tags_fault rows.now fields.now ≡ None) (λ fault. tags_fault rows.now fields.now ≡ Some fault) }
+    ensures first { MatchOption result (AreStandings rows.now fields.now numbers.new) (λ fault. ⊤) }
 {
-    let numbers = match standings(fields, rows, outer) {
-        Ok(numbers) => numbers,
-        Err(tag) => return Err(fault_at(SessionRejectReason::TagAppearsMoreThanOnce, tag)),
-    };
-    match missing(rows, &numbers) {
-        Some(tag) => Err(fault_at(SessionRejectReason::RequiredTagMissing, tag)),
-        None => Ok(numbers),
+    if let Some(tag) = standings(fields, rows, outer, numbers) {
+        return Some(fault_at(SessionRejectReason::TagAppearsMoreThanOnce, tag));
+    }
+    match missing(rows, numbers) {
+        Some(tag) => Some(fault_at(SessionRejectReason::RequiredTagMissing, tag)),
+        None => None,
     }
 }
 
-/// The same of the rows of an entry.
-fn sound_tags(fields: &Run<'_>, rows: &[Row]) -> Result<Standings, Fault>
-    requires { IsTable rows.now }
-    ensures fault { MatchResult result (λ numbers. tags_fault rows.now fields.now ≡ None) (λ fault. tags_fault rows.now fields.now ≡ Some fault) }
-{
-    sound_table(fields, rows, None)
-}
-
-/// The first fault of these rows.
+/// The first fault of the rows of an entry.
 fn tags_fault(fields: &Run<'_>, rows: &[Row]) -> Option<Fault>
     requires { IsTable rows.now }
     ensures { result ≡ tags_fault rows.now fields.now }
 {
-    match sound_tags(fields, rows) {
-        Ok(_) => None,
-        Err(fault) => Some(fault),
-    }
+    let mut numbers = NONE_STANDS;
+    table_fault(fields, rows, None, &mut numbers)
 }
 
 /// Whether a counter's number is that of the group's entries.
@@ -147,16 +141,13 @@ fn groups_fault(fields: &Run<'_>, msg_type: MsgType, numbers: &Standings) -> Opt
     None
 }
 
-/// Where the outer tags of a message stand first, or the first fault of its shape.
-pub fn sound_shape(fields: &Run<'_>, msg_type: MsgType) -> Result<Standings, Fault>
-    ensures fault { MatchResult result (λ numbers. shape_fault msg_type fields.now ≡ None) (λ fault. shape_fault msg_type fields.now ≡ Some fault) }
-    ensures first { IfOk result (λ numbers. AreStandings (outer_rows msg_type) fields.now numbers) }
+/// Finds where the outer tags of a message stand first, or the first fault of its shape.
+pub fn shape_fault(fields: &Run<'_>, msg_type: MsgType, numbers: &mut Standings) -> Option<Fault>
+    ensures fault { MatchOption result (shape_fault msg_type fields.now ≡ None) (λ fault. shape_fault msg_type fields.now ≡ Some fault) }
+    ensures first { MatchOption result (AreStandings (outer_rows msg_type) fields.now numbers.new) (λ fault. ⊤) }
 {
-    match sound_table(fields, outer_rows(msg_type), Some(msg_type)) {
-        Ok(numbers) => match groups_fault(fields, msg_type, &numbers) {
-            Some(fault) => Err(fault),
-            None => Ok(numbers),
-        },
-        Err(fault) => Err(fault),
+    match table_fault(fields, outer_rows(msg_type), Some(msg_type), numbers) {
+        Some(fault) => Some(fault),
+        None => groups_fault(fields, msg_type, numbers),
     }
 }

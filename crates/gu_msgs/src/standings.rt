@@ -1,6 +1,6 @@
 //! Where the tags of a table stand first among fields.
 
-ghost use Rattle.std.specs.Prelude.{◌≡◌, ◌≤◌, length, false, IfSome, List, MatchOption, MatchResult, None, Some, ⊤};
+ghost use Rattle.std.specs.Prelude.{◌≡◌, ◌≤◌, length, false, IfSome, List, MatchOption, None, Some, ⊤};
 ghost use Rattle.gu_fix.specs.TagValue.{TagValue};
 ghost use Rattle.gu_msgs.specs.Rows.{is_listed};
 ghost use Rattle.gu_msgs.specs.Shape.{missing, repeated};
@@ -19,6 +19,9 @@ const MOST_ROWS: usize = 20;
 
 /// For each row of a table the number of the first field with its tag, from 1, or 0 where the tag doesn't stand.
 pub type Standings = [usize; MOST_ROWS];
+
+/// The standings where no tag stands.
+pub const NONE_STANDS: Standings = [0; MOST_ROWS];
 
 /// Notes the number of the first field with a tag, unless one was noted before.
 fn note(
@@ -44,24 +47,29 @@ fn note(
     true
 }
 
-/// Where the tags of these rows stand first, unless one stands twice: then the leftmost second standing. The rows are those of
+/// Finds where the tags of these rows stand first, unless one stands twice: then the leftmost second standing. The rows are those of
 /// the outer level of messages of a type where one is named.
-pub fn standings(fields: &Run<'_>, rows: &[Row], outer: Option<MsgType>) -> Result<Standings, u32>
+pub fn standings(
+    fields: &Run<'_>,
+    rows: &[Row],
+    outer: Option<MsgType>,
+    numbers: &mut Standings,
+) -> Option<u32>
     requires table { IsTable rows.now }
     requires outer { IfSome outer (λ msg_type. rows.now ≡ outer_rows msg_type) }
-    ensures once { MatchResult result (λ numbers. repeated rows.now fields.now ≡ None) (λ tag. repeated rows.now fields.now ≡ Some tag) }
-    ensures first { MatchResult result (λ numbers. AreStandings rows.now fields.now numbers) (λ tag. ⊤) }
+    ensures once { MatchOption result (repeated rows.now fields.now ≡ None) (λ tag. repeated rows.now fields.now ≡ Some tag) }
+    ensures first { MatchOption result (AreStandings rows.now fields.now numbers.new) (λ tag. ⊤) }
 {
-    let mut numbers = [0; MOST_ROWS];
+    *numbers = NONE_STANDS;
     let mut next = 0;
     let mut seen = 0;
     for field in fields {
         seen += 1;
-        if !note(rows, outer, &mut next, &mut numbers, field.tag, seen) {
-            return Err(field.tag);
+        if !note(rows, outer, &mut next, numbers, field.tag, seen) {
+            return Some(field.tag);
         }
     }
-    Ok(numbers)
+    None
 }
 
 /// The first tag of these rows that must stand and doesn't.
