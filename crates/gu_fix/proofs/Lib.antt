@@ -15,3 +15,4 @@ mod SumLemmas
 mod Parts
 mod PartsRead
 mod SpanLemmas
+mod Ends

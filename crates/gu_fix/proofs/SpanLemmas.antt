@@ -1,6 +1,8 @@
 -- Values in a buffer that grows.
-use Rattle.std.proofs.Common.{◌≡◌, ◌≤◌, ◌-◌, ◌+◌, ℕ, List, [], ◌∷◌, ◌++◌, length, take, drop, refl, sym, ap, ◌∙◌, append_assoc, arith}
+use Rattle.std.proofs.Common.{◌==◌, ◌||◌, Bool, true, false, zero, suc, ◌≡◌, ◌≤◌, ◌-◌, ◌+◌, ℕ, List, [], ◌∷◌, ◌++◌, length, take, drop, refl, sym, ap, ◌∙◌, append_assoc, arith}
 use Rattle.std.proofs.lemmas.List.{take-append-drop, take-append-le, drop-append-le, drop-drop, length-append, length-drop, drop_at, take_at, take_all, map-append}
+use Rattle.std.specs.List.{list_any}
+use Rattle.gu_fix.specs.Encoding.{has_soh}
 use Rattle.gu_fix.specs.TagValue.{TagValue, tag_value}
 use Rattle.gu_fix.specs.WholeMessage.{soh}
 use Rattle.gu_fix.specs.Spans.{IsWithin, LiesBefore, field_in, AreWithin, fields_in}
@@ -34,6 +36,33 @@ fields_in-push bytes value spans span within start len =
     map-append (field_in (bytes ++ value)) spans (span ∷ [])
     ∙ ap (λ (t : List TagValue). t ++ field_in (bytes ++ value) span ∷ []) (fields_in-append bytes value spans within)
     ∙ ap (λ (f : TagValue). fields_in bytes spans ++ f ∷ []) (field_in-end bytes value span start len)
+
+-- ---- bytes that no value has
+
+neither : (a b : Bool) → (a || b) ≡ false → (a ≡ false) × (b ≡ false)
+neither true b none = cc
+neither false b none = (refl, none)
+
+-- what isn't among bytes isn't among some of them
+dropped_without : (test : ℕ → Bool) (n : ℕ) (bytes : List ℕ) → list_any test bytes ≡ false → list_any test (drop n bytes) ≡ false
+dropped_without test zero bytes none = none
+dropped_without test (suc n) [] none = none
+dropped_without test (suc n) (b ∷ bytes) none = dropped_without test n bytes (neither (test b) (list_any test bytes) none).1
+
+taken_without : (test : ℕ → Bool) (n : ℕ) (bytes : List ℕ) → list_any test bytes ≡ false → list_any test (take n bytes) ≡ false
+taken_without test zero bytes none = refl
+taken_without test (suc n) [] none = none
+taken_without test (suc n) (b ∷ bytes) none =
+    let parts = neither (test b) (list_any test bytes) none in
+    rw (parts.0, taken_without test n bytes parts.1) refl
+
+-- nor in any value that lies among them
+pub values_without : (bytes : List ℕ) (spans : List Span) → has_soh bytes ≡ false → list_any (λ f. has_soh f.value) (fields_in bytes spans) ≡ false
+values_without bytes [] none = refl
+values_without bytes (span ∷ spans) none =
+    let test : ℕ → Bool = λ b. b == soh in
+    let first = taken_without test span.len (drop span.start bytes) (dropped_without test span.start bytes none) in
+    rw (first, values_without bytes spans none) refl
 
 -- ---- values in the buffer that is read
 

@@ -20,18 +20,6 @@ pub running-append : (base : ℕ) (xs ys : List ℕ) → running_sums base (xs +
 running-append base [] ys = refl
 running-append base (x ∷ xs) ys = ap (λ (t : List ℕ). (base + x) % 256 ∷ t) (running-append ((base + x) % 256) xs ys)
 
--- the running sums from a place on
-pub running-drop : (base n : ℕ) (bs : List ℕ) → drop n (running_sums base bs) ≡ running_sums (sum_after base (take n bs)) (drop n bs)
-running-drop base zero bs = refl
-running-drop base (suc n) [] = refl
-running-drop base (suc n) (b ∷ bs) = running-drop ((base + b) % 256) n bs
-
--- the running sums up to a place
-pub running-take : (base n : ℕ) (bs : List ℕ) → take n (running_sums base bs) ≡ running_sums base (take n bs)
-running-take base zero bs = refl
-running-take base (suc n) [] = refl
-running-take base (suc n) (b ∷ bs) = ap (λ (t : List ℕ). (base + b) % 256 ∷ t) (running-take ((base + b) % 256) n bs)
-
 -- the running sum at a place
 pub running-at : (base i : ℕ) (bs : List ℕ) → i < length bs → get_or (running_sums base bs) i 0 ≡ sum_after base (take (suc i) bs)
 running-at base i [] l = absurd (omega arith)

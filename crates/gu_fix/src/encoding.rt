@@ -72,6 +72,10 @@ fn contains_soh(value: &[u8]) -> bool
 fn has_soh_in_value(fields: &Fields) -> bool
     ensures { result ≡ list_any (λ f. has_soh f.value) fields.now }
 {
+    // The values lie in one buffer, which mostly has none.
+    if !fields.lie_with_soh() {
+        return false;
+    }
     for field in fields {
         if contains_soh(field.value) {
             return true;

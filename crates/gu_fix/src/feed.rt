@@ -44,7 +44,7 @@ impl Feed {
     {
         let had = self.kept.bytes().len();
         self.kept.push(piece)?;
-        match scan(self.alloc, &self.kept) {
+        match scan(self.alloc, &mut self.kept) {
             Ok((given, taken)) => {
                 self.kept.consume(taken);
                 Ok(given)

@@ -1,9 +1,12 @@
 //! Fields in order: tags with their values, which lie in one buffer.
-ghost use Rattle.std.specs.Prelude.{◌≡◌, ◌+◌, ◌≤◌, ◌<◌, List, ℕ, [], ◌∷◌, ◌++◌, length, take, drop, slice_get, Some, IfOk, OnOk, OnErr, IsTrue, ◌↔◌};
+ghost use Rattle.std.specs.Prelude.{◌≡◌, false, ◌+◌, ◌≤◌, ◌<◌, List, ℕ, [], ◌∷◌, ◌++◌, length, take, drop, slice_get, Some, IfOk, OnOk, OnErr, IsTrue, ◌↔◌};
 ghost use Rattle.std.specs.Iterator.{YieldsFirstBy, item_count};
+ghost use Rattle.std.specs.List.{list_any};
+ghost use Rattle.gu_fix.specs.Encoding.{has_soh};
 ghost use Rattle.gu_fix.specs.Spans.{AreWithin, fields_in};
 ghost use Rattle.gu_fix.specs.TagValue.{TagValue, tag_value};
 
+use crate::place::SOH;
 use std::alloc::{AllocError, Global};
 use std::marker::Model;
 
@@ -92,6 +95,13 @@ impl Fields {
         ensures { result ≡ fields_in bytes.items spans.items }
     {
         Fields { bytes, spans }
+    }
+
+    /// Whether SOH is in the buffer in which the values lie.
+    pub(crate) fn lie_with_soh(&self) -> bool
+        ensures { result ≡ false → list_any (λ f. has_soh f.value) self.now ≡ false }
+    {
+        self.bytes.contains(&SOH)
     }
 
     /// How many fields there are.

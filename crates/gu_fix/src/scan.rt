@@ -24,11 +24,12 @@ fn next_start(bytes: &[u8]) -> usize
 }
 
 /// The frames of the window, and how many bytes lie before the place that stays open.
-pub fn scan(alloc: Global, window: &Window) -> Result<(Vec<Frame>, usize), AllocError>
-    ensures within { IfOk result (λ r. r.1 ≤ length window.now) }
-    ensures given { IfOk result (λ r. AreFrames window.now r.0.items) }
-    ensures stays_open { IfOk result (λ r. IsOpen (drop r.1 window.now)) }
-    ensures leads_on { IfOk result (λ r. LeadsOn window.now r.0.items (drop r.1 window.now)) }
+pub fn scan(alloc: Global, window: &mut Window) -> Result<(Vec<Frame>, usize), AllocError>
+    ensures within { IfOk result (λ r. r.1 ≤ length window.old) }
+    ensures given { IfOk result (λ r. AreFrames window.old r.0.items) }
+    ensures stays_open { IfOk result (λ r. IsOpen (drop r.1 window.old)) }
+    ensures leads_on { IfOk result (λ r. LeadsOn window.old r.0.items (drop r.1 window.old)) }
+    ensures same { window.new ≡ window.old }
 {
     let mut frames = Vec::new(alloc);
     let mut at = 0;
@@ -40,7 +41,10 @@ pub fn scan(alloc: Global, window: &Window) -> Result<(Vec<Frame>, usize), Alloc
                 at += len;
             }
             Place::Open => return Ok((frames, at)),
-            Place::Garbled => at += next_start(rest),
+            Place::Garbled => {
+                at += next_start(rest);
+                window.keep_sums()?;
+            }
         }
     }
 }

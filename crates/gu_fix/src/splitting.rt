@@ -9,7 +9,7 @@ use crate::error::{FieldFault, SessionRejectReason};
 use crate::field::{Field, Fields, Span};
 use crate::frame::Frame;
 use crate::place::SOH;
-use memchr::memchr;
+use memchr::memchr_iter;
 use std::alloc::{AllocError, Global};
 
 /// The number in front of a part's first `=`, of at most nine digits, and where that stands.
@@ -99,17 +99,16 @@ fn spans_of(alloc: Global, bytes: &[u8]) -> Result<(Vec<Span>, Option<FieldFault
     // Eight bytes to a field.
     let mut spans = Vec::with_capacity(alloc, bytes.len() / 8)?;
     let mut fault = None;
-    let mut rest = bytes;
-    'parts: while let Some(end) = memchr(SOH, rest) {
-        let after = &rest[end + 1..];
-        match read_part(&rest[..end]) {
+    let mut start = 0;
+    'parts: for end in memchr_iter(SOH, bytes) {
+        match read_part(&bytes[start..end]) {
             Ok(field) => {
-                spans.push(span_of(bytes, field, after.len()))?;
-                rest = after;
+                spans.push(span_of(bytes, field, bytes.len() - end - 1))?;
+                start = end + 1;
             }
             Err(found) => {
                 fault = first_of(fault, found);
-                rest = after;
+                start = end + 1;
                 continue;
             }
         }

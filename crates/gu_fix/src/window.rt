@@ -1,18 +1,21 @@
-//! The bytes that are looked at, with sums for the checksum of any stretch.
+//! The bytes that are looked at, and the checksum of any stretch of them.
 ghost use Rattle.std.specs.Prelude.{◌≡◌, ◌+◌, ◌-◌, ◌%◌, ◌≤◌, List, ℕ, [], ◌++◌, length, take, drop, sum, vec_len, vec_capacity, OnOk, OnErr};
 ghost use Rattle.gu_fix.specs.Sums.{IsWindow, running_sums, sum_after};
 
+use crate::place::checksum;
 use std::alloc::{AllocError, Global};
 use std::marker::Model;
 
 /// A stretch of a stream. To a contract it is its bytes; no more bytes are kept that are done with.
+///
+/// Where messages follow one another each checksum is summed up by itself. Where bytes are garbled the same bytes may be summed up
+/// again and again, so running sums are kept there.
 #[derive(Drop)]
 pub struct Window {
     bytes: Vec<u8>,
-    /// The sum up to and with each byte, modulo 256.
+    /// Where sums are kept, the sum up to and with each byte, modulo 256.
     sums: Vec<u8>,
-    /// The sum before the first byte.
-    base: u8,
+    keeps_sums: bool,
     /// The bytes before this place are done with.
     start: usize,
 }
@@ -22,7 +25,7 @@ impl Model for Window {
 
     ghost view = { λ w. drop w.start w.bytes.items };
 
-    ghost invariant = { λ w. IsWindow w.base w.bytes.items w.sums.items w.start };
+    ghost invariant = { λ w. IsWindow w.bytes.items w.sums.items w.keeps_sums w.start };
 }
 
 /// Puts the sum behind each byte in its place.
@@ -49,11 +52,21 @@ fn push_sums(sums: &mut Vec<u8>, base: u8, bytes: &[u8])
 }
 
 /// The sum before a place.
-fn sum_before(base: u8, sums: &[u8], place: usize) -> u8
+fn sum_before(sums: &[u8], place: usize) -> u8
     requires { place ≤ length sums.now }
-    ensures { (bytes : List ℕ) → sums.now ≡ running_sums base bytes → result ≡ sum_after base (take place bytes) }
+    ensures { (bytes : List ℕ) → sums.now ≡ running_sums 0 bytes → result ≡ sum_after 0 (take place bytes) }
 {
-    if place == 0 { base } else { sums[place - 1] }
+    if place == 0 { 0 } else { sums[place - 1] }
+}
+
+/// The sums of bytes.
+fn sums_of(sums: &mut Vec<u8>, bytes: &[u8]) -> Result<(), AllocError>
+    ensures { OnOk result (sums.new.items ≡ running_sums 0 bytes.now) }
+{
+    sums.clear();
+    sums.reserve(bytes.len())?;
+    push_sums(sums, 0, bytes);
+    Ok(())
 }
 
 /// Takes items away from the front.
@@ -66,20 +79,6 @@ fn drop_front(items: &mut Vec<u8>, count: usize)
     items.truncate(left);
 }
 
-/// Gives back the bytes before a place, with their sums, and returns the sum before it.
-fn give_back(base: u8, bytes: &mut Vec<u8>, sums: &mut Vec<u8>, place: usize) -> u8
-    requires place { place ≤ vec_len bytes.old }
-    requires summed { sums.old.items ≡ running_sums base bytes.old.items }
-    ensures bytes { bytes.new.items ≡ drop place bytes.old.items }
-    ensures paired { length sums.new.items ≡ length bytes.new.items }
-    ensures summed { sums.new.items ≡ running_sums result bytes.new.items }
-{
-    let before = sum_before(base, sums, place);
-    drop_front(bytes, place);
-    drop_front(sums, place);
-    before
-}
-
 impl Window {
     /// A window with no bytes.
     pub fn new(alloc: Global) -> Self
@@ -88,7 +87,7 @@ impl Window {
         Window {
             bytes: Vec::new(alloc),
             sums: Vec::new(alloc),
-            base: 0,
+            keeps_sums: false,
             start: 0,
         }
     }
@@ -106,9 +105,23 @@ impl Window {
         ensures { result ≡ sum (take len (drop place self.now)) % 256 }
     {
         let from = self.start + place;
-        let before = sum_before(self.base, &self.sums, from);
-        let behind = sum_before(self.base, &self.sums, from + len);
+        if !self.keeps_sums {
+            return checksum(&self.bytes[from..from + len]);
+        }
+        let before = sum_before(&self.sums, from);
+        let behind = sum_before(&self.sums, from + len);
         behind.wrapping_sub(before)
+    }
+
+    /// Keeps sums from now on, as long as bytes are only appended.
+    pub fn keep_sums(&mut self) -> Result<(), AllocError>
+        ensures { self.new ≡ self.old }
+    {
+        if !self.keeps_sums {
+            sums_of(&mut self.sums, &self.bytes)?;
+            self.keeps_sums = true;
+        }
+        Ok(())
     }
 
     /// Appends a piece.
@@ -116,8 +129,11 @@ impl Window {
         ensures ok { OnOk result (self.new ≡ self.old ++ piece.now) }
         ensures err { OnErr result (self.new ≡ self.old) }
     {
+        if !self.keeps_sums {
+            return self.bytes.extend_from_slice(piece);
+        }
         self.sums.reserve(piece.len())?;
-        let total = sum_before(self.base, &self.sums, self.sums.len());
+        let total = sum_before(&self.sums, self.sums.len());
         self.bytes.extend_from_slice(piece)?;
         push_sums(&mut self.sums, total, piece);
         Ok(())
@@ -128,10 +144,10 @@ impl Window {
         requires { len ≤ length self.old }
         ensures { self.new ≡ take len self.old }
     {
-        self.base = give_back(self.base, &mut self.bytes, &mut self.sums, self.start);
+        drop_front(&mut self.bytes, self.start);
         self.start = 0;
         self.bytes.truncate(len);
-        self.sums.truncate(len);
+        self.keeps_sums = false;
     }
 
     /// Takes bytes away from the front.
@@ -140,10 +156,11 @@ impl Window {
         ensures { self.new ≡ drop len self.old }
     {
         self.start += len;
-        // Half of the bytes at most are moved, so that each byte that is done with pays for one.
+        // Half of the bytes at most are moved, and their sums made anew, so that each byte that is done with pays for one.
         if self.start >= self.bytes.len() - self.start {
-            self.base = give_back(self.base, &mut self.bytes, &mut self.sums, self.start);
+            drop_front(&mut self.bytes, self.start);
             self.start = 0;
+            self.keeps_sums = false;
         }
     }
 }

@@ -1,6 +1,6 @@
 -- Fields that stand one after another, taken from the front.
-use Rattle.std.proofs.Common.{◌≡◌, ◌<◌, ◌+◌, ◌-◌, ℕ, zero, suc, List, [], ◌∷◌, Some, length, take, drop, slice_get, refl, ap, ◌∙◌, arith, add-one}
-use Rattle.std.proofs.lemmas.List.{length-drop, length-take}
+use Rattle.std.proofs.Common.{◌≡◌, ◌<◌, ◌≤◌, ◌+◌, ◌-◌, ℕ, zero, suc, sym, List, [], ◌∷◌, Some, length, take, drop, slice_get, refl, ap, ◌∙◌, arith, add-one}
+use Rattle.std.proofs.lemmas.List.{drop-drop, drop-take, length-drop, length-take}
 use Rattle.gu_fix.specs.TagValue.{TagValue}
 use Rattle.gu_msgs.specs.Runs.{IsBetween, fields_between}
 
@@ -41,3 +41,11 @@ length_between fields from to are =
 pub field_between : (fields : List TagValue) (from to i : ℕ) → i < length (fields_between fields from to) → slice_get (fields_between fields from to) i ≡ slice_get fields (from + i)
 field_between fields from to i within =
     taken_field (drop from fields) (to - from) i (omega (arith, within, length-take (to - from) (drop from fields))) ∙ dropped_field fields from i
+
+-- those behind the first so many
+pub dropped_between : (fields : List TagValue) (from to count : ℕ) → IsBetween fields from to → count ≤ length (fields_between fields from to)
+    → fields_between fields (from + count) to ≡ drop count (fields_between fields from to)
+dropped_between fields from to count are few =
+    let rest = to - (from + count) in
+    let more : to - from ≡ count + rest = omega (arith, length_between fields from to are, few) in
+    ap (take rest) (sym (drop-drop count from fields)) ∙ sym (drop-take count rest (drop from fields)) ∙ ap (λ n. drop count (take n (drop from fields))) (sym more)

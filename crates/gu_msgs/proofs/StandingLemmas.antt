@@ -1,14 +1,15 @@
 -- Numbers of the fields in which tags stand first, as fields are walked.
 use Rattle.std.proofs.Common.{◌≡◌, ◌≢◌, ◌<◌, ◌≤◌, ◌+◌, ◌++◌, ◌&&◌, ◌==◌, not, ℕ, zero, suc, Bool, true, false, cond, List, [], ◌∷◌, Option, Some, None, is_some, length, set, take, drop, slice_get, slice_index, refl, ap, sym, subst, ◌∙◌, arith, add-one, inl, inr, eq-eqb}
 use Rattle.std.proofs.lemmas.Bool.{cases_eq, ne_eqb}
-use Rattle.std.proofs.lemmas.List.{get_or-set_same, get_or-set_other, length-append, length-take-le}
+use Rattle.std.proofs.lemmas.List.{get_or-set_same, get_or-set_other, length-append, length-take-le, drop-append-le}
+use Rattle.std.proofs.Math.ListN.{drop_of_length-le}
 use Rattle.std.proofs.lemmas.List.Folds.{list_any_at}
 use Rattle.std.specs.Option.{option_map, option_or}
 use Rattle.gu_fix.specs.TagValue.{TagValue}
 use Rattle.gu_msgs.specs.Rows.{is_listed, is_required, tag_of}
 use Rattle.gu_msgs.specs.Shape.{is_second, missing, repeated, repeated_behind}
-use Rattle.gu_msgs.specs.Standings.{AreDistinct, AreStandings, IsRowOf, IsStanding, Notes, row_at, value_numbered}
-use Rattle.gu_msgs.specs.Values.{first_value, stands}
+use Rattle.gu_msgs.specs.Standings.{AreDistinct, AreStandings, IsRowOf, IsStanding, Notes, fields_behind, row_at, value_numbered}
+use Rattle.gu_msgs.specs.Values.{behind, first_value, stands}
 use Rattle.gu_msgs.specs.declared.row.Kind.TheVariants.{Text}
 use Rattle.gu_msgs.specs.declared.row.Row.{Row}
 use Rattle.gu_msgs.specs.declared.row.Row.TheVariants.{Required}
@@ -61,6 +62,36 @@ stands_numbered fields tag number is some = ap is_some is.first ∙ some_numbere
 pub absent_numbered : (fields : List TagValue) (tag number : ℕ) → IsStanding fields tag number → number ≡ 0 → stands tag fields ≡ false
 absent_numbered fields tag number is none = ap is_some (is.first ∙ ap (value_numbered fields) none)
 
+-- what follows a tag that stands is followed by the field
+behind-push : (tag : ℕ) (fields : List TagValue) (f : TagValue) → stands tag fields ≡ true → behind tag (fields ++ f ∷ []) ≡ behind tag fields ++ f ∷ []
+behind-push tag [] f there = cc
+behind-push tag (x ∷ fields) f there =
+    let P : Bool → Type 0 = λ b. is_some (cond b (Some x.value) (first_value tag fields)) ≡ true → cond b (fields ++ f ∷ []) (behind tag (fields ++ f ∷ [])) ≡ cond b fields (behind tag fields) ++ f ∷ [] in
+    let at : (b : Bool) → P b = λ b. elim b as P [ true ↦ (λ h. refl) | false ↦ (λ h. behind-push tag fields f h) ] in
+    at (x.tag == tag) there
+
+-- nothing follows one that doesn't, nor does the field
+behind_new : (tag : ℕ) (fields : List TagValue) (f : TagValue) → stands tag fields ≡ false → behind tag (fields ++ f ∷ []) ≡ []
+behind_new tag [] f none =
+    let P : Bool → Type 0 = λ b. cond {A = List TagValue} b [] [] ≡ [] in
+    let at : (b : Bool) → P b = λ b. elim b as P [ true ↦ refl | false ↦ refl ] in
+    at (f.tag == tag)
+behind_new tag (x ∷ fields) f none =
+    let P : Bool → Type 0 = λ b. is_some (cond b (Some x.value) (first_value tag fields)) ≡ false → cond b (fields ++ f ∷ []) (behind tag (fields ++ f ∷ [])) ≡ [] in
+    let at : (b : Bool) → P b = λ b. elim b as P [ true ↦ (λ h. cc) | false ↦ (λ h. behind_new tag fields f h) ] in
+    at (x.tag == tag) none
+
+-- what follows a field that was there
+behind_kept : (fields : List TagValue) (f : TagValue) (tag number : ℕ) → IsStanding fields tag number → behind tag (fields ++ f ∷ []) ≡ fields_behind (fields ++ f ∷ []) number
+behind_kept fields f tag zero is = behind_new tag fields f (absent_numbered fields tag zero is refl)
+behind_kept fields f tag (suc place) is =
+    behind-push tag fields f (stands_numbered fields tag (suc place) is (λ e. absurd (omega (arith, e)))) ∙ ap (λ (t : List TagValue). t ++ f ∷ []) is.behind
+    ∙ sym (drop-append-le (suc place) fields (f ∷ []) is.within)
+
+-- nothing follows the last
+behind_last : (fields : List TagValue) (f : TagValue) → fields_behind (fields ++ f ∷ []) (length fields + 1) ≡ []
+behind_last fields f = rw add-one (drop_of_length-le (fields ++ f ∷ []) {i = suc (length fields)} (omega (arith, length-append fields (f ∷ []))))
+
 either_some : (a b : Option (List ℕ)) → is_some a ≡ true → option_or a b ≡ a
 either_some (Some x) b some = refl
 either_some None b some = cc
@@ -71,6 +102,7 @@ standing_kept fields f tag number is some = record {
   within = omega (arith, is.within, length-append fields (f ∷ []));
   first = first_value-push tag fields f ∙ either_some (first_value tag fields) (cond (f.tag == tag) (Some f.value) None) (stands_numbered fields tag number is some)
       ∙ is.first ∙ sym (numbered_kept fields f number is.within);
+  behind = behind_kept fields f tag number is;
 }
 
 either_none : (a : Option (List ℕ)) → option_or a None ≡ a
@@ -83,6 +115,7 @@ standing_other fields f tag number is other = record {
   within = omega (arith, is.within, length-append fields (f ∷ []));
   first = first_value-push tag fields f ∙ ap (λ b. option_or (first_value tag fields) (cond b (Some f.value) None)) other ∙ either_none (first_value tag fields)
       ∙ is.first ∙ sym (numbered_kept fields f number is.within);
+  behind = behind_kept fields f tag number is;
 }
 
 -- a tag without one gets the field's
@@ -91,6 +124,7 @@ standing_new fields f tag number is none same = record {
   within = omega (arith, length-append fields (f ∷ []));
   first = first_value-push tag fields f ∙ ap (λ o. option_or o (cond (f.tag == tag) (Some f.value) None)) (is.first ∙ ap (value_numbered fields) none)
       ∙ ap (λ b. cond b (Some f.value) None) (eq-eqb f.tag tag same) ∙ sym (numbered_last fields f);
+  behind = behind_new tag fields f (absent_numbered fields tag number is none) ∙ sym (behind_last fields f);
 }
 
 -- ---- a table

@@ -1,9 +1,9 @@
 -- Machinery: where the tags of a table stand first among fields. No other crate names this file.
-use Rattle.std.specs.Prelude.{◌≡◌, ◌≢◌, ◌<◌, ◌≤◌, ◌⊎◌, ℕ, zero, suc, Bool, true, false, List, Option, None, length, slice_get, slice_index, slice_index_or, slice_set}
+use Rattle.std.specs.Prelude.{◌≡◌, ◌≢◌, ◌<◌, ◌≤◌, ◌⊎◌, ℕ, zero, suc, Bool, true, false, List, [], Option, None, length, drop, slice_get, slice_index, slice_index_or, slice_set}
 use Rattle.std.specs.Option.{option_map}
 use Rattle.gu_fix.specs.TagValue.{TagValue}
 use Rattle.gu_msgs.specs.Rows.{is_listed, tag_of}
-use Rattle.gu_msgs.specs.Values.{first_value}
+use Rattle.gu_msgs.specs.Values.{behind, first_value}
 use Rattle.gu_msgs.specs.declared.row.Row.{Row}
 use Rattle.gu_msgs.specs.declared.row.Row.TheVariants.{Required}
 use Rattle.gu_msgs.specs.declared.row.Kind.TheVariants.{Text}
@@ -13,10 +13,16 @@ abbrev pub value_numbered : List TagValue → ℕ → Option (List ℕ)
 value_numbered fields zero = None
 value_numbered fields (suc place) = option_map (λ f. f.value) (slice_get fields place)
 
+-- what follows the field with this number, nothing for 0
+abbrev pub fields_behind : List TagValue → ℕ → List TagValue
+fields_behind fields zero = []
+fields_behind fields (suc place) = drop (suc place) fields
+
 -- the number of the first field with a tag, 0 where the tag doesn't stand
 pub record IsStanding (fields : List TagValue) (tag number : ℕ) : Type 0 where
   pub within : number ≤ length fields
   pub first : first_value tag fields ≡ value_numbered fields number
+  pub behind : behind tag fields ≡ fields_behind fields number
 
 -- the row at a place
 abbrev pub row_at : List Row → ℕ → Row

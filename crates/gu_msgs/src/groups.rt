@@ -1,20 +1,22 @@
 //! Groups: a counter, and entries behind it.
 
-ghost use Rattle.std.specs.Prelude.{◌≡◌, ◌∷◌, ◌==◌, ◌+◌, ◌<◌, ◌^◌, [], length, MatchOption};
+ghost use Rattle.std.specs.Prelude.{◌≡◌, ◌∷◌, ◌==◌, ◌+◌, ◌<◌, ◌≤◌, ◌^◌, ℕ, [], length, MatchOption};
 ghost use Rattle.gu_msgs.specs.Groups.{entries_by, group_of, up_to};
 ghost use Rattle.gu_msgs.specs.Rows.{is_listed};
+ghost use Rattle.gu_msgs.specs.Standings.{IsStanding};
 ghost use Rattle.gu_msgs.specs.Tables.{outer_rows};
 
 use crate::field_values::behind;
 use crate::msg_type::MsgType;
+use crate::places::outer_place;
 use crate::run::Run;
-use crate::tables::{is_listed, outer_rows};
+use crate::standings::fields_behind;
 
 /// Whether a tag is read at the outer level of a message of this type.
 pub fn is_outer(msg_type: MsgType, tag: u32) -> bool
     ensures { result ≡ is_listed (outer_rows msg_type) tag }
 {
-    is_listed(outer_rows(msg_type), tag)
+    outer_place(msg_type, tag).is_some()
 }
 
 /// How many fields there are from the first that is read at the outer level on.
@@ -59,6 +61,15 @@ pub fn group_of<'a>(fields: &Run<'a>, msg_type: MsgType, counter: u32) -> Run<'a
     ensures short { length result < 2 ^ 64 }
 {
     up_to_outer(&behind(fields, counter), msg_type)
+}
+
+/// The group behind the field with this number, which is the first standing of its counter.
+pub fn group_behind<'a>(fields: &Run<'a>, msg_type: MsgType, number: usize) -> Run<'a>
+    requires { number ≤ length fields.now }
+    ensures fields { (counter : ℕ) → IsStanding fields.now counter number → result ≡ group_of msg_type counter fields.now }
+    ensures short { length result < 2 ^ 64 }
+{
+    up_to_outer(&fields_behind(fields, number), msg_type)
 }
 
 /// Takes the next entry of a group, which begins with this tag.

@@ -6,6 +6,8 @@ ghost use Rattle.gu_msgs.specs.Faults.{IsRefusal, untyped_fault};
 ghost use Rattle.gu_msgs.specs.Held.{IsDisagreed, IsTypedRefusal, IsWellMade};
 ghost use Rattle.gu_msgs.specs.Messages.{Says};
 ghost use Rattle.gu_msgs.specs.MsgTypes.{code_of};
+ghost use Rattle.gu_msgs.specs.Standings.{AreStandings};
+ghost use Rattle.gu_msgs.specs.Tables.{outer_rows};
 ghost use Rattle.gu_msgs.specs.Values.{first_value};
 
 use crate::allocation_instruction::read_allocation_instruction;
@@ -20,8 +22,8 @@ use crate::run::Run;
 use crate::session_messages::{
     read_logon, read_resend_request, read_sequence_reset, read_test_request,
 };
-use crate::shape::{fault_at, sound_shape};
-use crate::standings::standings;
+use crate::shape::{fault_at, shape_fault};
+use crate::standings::{NONE_STANDS, Standings, standings};
 use crate::tables::header_rows;
 use crate::trade_capture_report::read_trade_capture_report;
 use crate::type_code::TypeCode;
@@ -30,8 +32,14 @@ use gu_fix::{Fields, MSG_TYPE};
 use std::alloc::Global;
 
 /// A message of this type whose shape and values are sound, unless some don't agree.
-fn read_well_made(alloc: Global, fields: &Run<'_>, msg_type: MsgType) -> Result<Inbound, MsgFault>
-    requires { IsWellMade msg_type fields.now }
+fn read_well_made(
+    alloc: Global,
+    fields: &Run<'_>,
+    msg_type: MsgType,
+    numbers: &Standings,
+) -> Result<Inbound, MsgFault>
+    requires made { IsWellMade msg_type fields.now }
+    requires standings { AreStandings (outer_rows msg_type) fields.now numbers.now }
     ensures { MatchResult result (Says fields.now) (IsDisagreed msg_type fields.now) }
 {
     match msg_type {
@@ -42,7 +50,7 @@ fn read_well_made(alloc: Global, fields: &Run<'_>, msg_type: MsgType) -> Result<
         MsgType::SequenceReset => read_sequence_reset(fields),
         MsgType::Logout => Ok(Inbound::Logout),
         MsgType::Logon => read_logon(fields),
-        MsgType::TradeCaptureReport => read_trade_capture_report(fields),
+        MsgType::TradeCaptureReport => read_trade_capture_report(fields, numbers),
         MsgType::AllocationInstruction => read_allocation_instruction(alloc, fields),
         MsgType::AllocationReportAck => read_allocation_report_ack(fields),
         MsgType::RequestForPositions => read_request_for_positions(fields),
@@ -54,23 +62,24 @@ fn read_typed(alloc: Global, fields: &Run<'_>, msg_type: MsgType) -> Result<Inbo
     requires { first_value MSG_TYPE fields.now ≡ Some (code_of msg_type) }
     ensures { MatchResult result (Says fields.now) (IsTypedRefusal msg_type fields.now) }
 {
-    let numbers = match sound_shape(fields, msg_type) {
-        Ok(numbers) => numbers,
-        Err(fault) => return Err(MsgFault::Rejected(fault)),
-    };
+    let mut numbers = NONE_STANDS;
+    if let Some(fault) = shape_fault(fields, msg_type, &mut numbers) {
+        return Err(MsgFault::Rejected(fault));
+    }
     if let Some(fault) = value_fault(fields, msg_type, &numbers) {
         return Err(MsgFault::Rejected(fault));
     }
-    read_well_made(alloc, fields, msg_type)
+    read_well_made(alloc, fields, msg_type, &numbers)
 }
 
 /// The fault of fields without a type.
 fn untyped_fault(fields: &Run<'_>) -> Fault
     ensures { result ≡ untyped_fault fields.now }
 {
-    match standings(fields, header_rows()) {
-        Ok(_) => fault_at(SessionRejectReason::RequiredTagMissing, MSG_TYPE),
-        Err(tag) => fault_at(SessionRejectReason::TagAppearsMoreThanOnce, tag),
+    let mut numbers = NONE_STANDS;
+    match standings(fields, header_rows(), None, &mut numbers) {
+        Some(tag) => fault_at(SessionRejectReason::TagAppearsMoreThanOnce, tag),
+        None => fault_at(SessionRejectReason::RequiredTagMissing, MSG_TYPE),
     }
 }
 

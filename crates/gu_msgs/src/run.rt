@@ -1,6 +1,6 @@
 //! Fields that stand one after another in a message.
 
-ghost use Rattle.std.specs.Prelude.{◌≡◌, ◌<◌, ◌≤◌, ◌^◌, length, slice_get, Some, take};
+ghost use Rattle.std.specs.Prelude.{◌≡◌, ◌<◌, ◌≤◌, ◌^◌, length, slice_get, Some, take, drop};
 ghost use Rattle.gu_fix.specs.TagValue.{tag_value};
 
 use gu_fix::{Field, Fields};
@@ -76,6 +76,18 @@ impl<'a> Run<'a> {
             fields: self.fields,
             from: self.from,
             to: self.from + count,
+        }
+    }
+
+    /// Those behind the first so many.
+    pub fn from(&self, count: usize) -> Run<'a>
+        requires { count ≤ length self.now }
+        ensures { result ≡ drop count self.now }
+    {
+        Run {
+            fields: self.fields,
+            from: self.from + count,
+            to: self.to,
         }
     }
 }

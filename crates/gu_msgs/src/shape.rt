@@ -1,23 +1,22 @@
 //! The shape of a message: tags that stand twice, tags that are missing, and groups.
 
-ghost use Rattle.std.specs.Prelude.{◌≡◌, ◌<◌, ◌^◌, ◌==◌, length, IfOk, IsTrue, MatchResult, None, Some};
+ghost use Rattle.std.specs.Prelude.{◌≡◌, ◌<◌, ◌^◌, ◌==◌, length, IfSome, IsTrue, MatchOption, None, Some, ⊤};
 ghost use Rattle.std.specs.Option.{option_or, option_map};
 ghost use Rattle.std.specs.Str.Parse.{digits_value};
 ghost use Rattle.gu_msgs.specs.Groups.{entries_begun, entries_by};
 ghost use Rattle.gu_msgs.specs.Shape.{count_fault, counted_fault, entries_fault, fault_at, group_fault, groups_fault, missing, repeated, shape_fault, tags_fault};
-ghost use Rattle.gu_msgs.specs.Standings.{AreStandings, IsTable};
+ghost use Rattle.gu_msgs.specs.Standings.{AreStandings, IsStanding, IsTable};
 ghost use Rattle.gu_msgs.specs.Tables.{body_rows, outer_rows};
 ghost use Rattle.gu_msgs.specs.Values.{is_numeral};
 
 use crate::fault::Fault;
-use crate::field_values::first_value;
-use crate::groups::{group_of, has_entries, next_entry};
+use crate::groups::{group_behind, has_entries, next_entry};
 use crate::msg_type::MsgType;
 use crate::reject_reason::SessionRejectReason;
 use crate::row::Row;
 use crate::run::Run;
-use crate::standings::{Standings, missing, standings};
-use crate::tables::{body_rows, entry_rows, outer_rows};
+use crate::standings::{NONE_STANDS, Standings, missing, standings, value_numbered};
+use crate::tables::{HEADER_ROWS, entry_rows, outer_rows};
 use crate::whole_number::{is_numeral, number_of};
 
 /// A fault of this tag.
@@ -27,31 +26,35 @@ pub fn fault_at(reason: SessionRejectReason, tag: u32) -> Fault
     Fault { tag, reason }
 }
 
-/// Where the tags of these rows stand first, or their first fault: a tag that stands twice, or else one that is missing.
-fn sound_tags(fields: &Run<'_>, rows: &[Row]) -> Result<Standings, Fault>
-    requires { IsTable rows.now }
-    ensures fault { MatchResult result (λ numbers. tags_fault rows.now fields.now ≡ None) (λ fault. tags_fault rows.now fields.now ≡ Some fault) }
-    ensures first { IfOk result (λ numbers. AreStandings rows.now fields.now numbers) }
+/// Finds where the tags of these rows stand first, or their first fault: a tag that stands twice, or else one that is missing. The
+/// rows are those of the outer level of messages of a type where one is named.
+fn table_fault(
+    fields: &Run<'_>,
+    rows: &[Row],
+    outer: Option<MsgType>,
+    numbers: &mut Standings,
+) -> Option<Fault>
+    requires table { IsTable rows.now }
+    requires outer { IfSome outer (λ msg_type. rows.now ≡ outer_rows msg_type) }
+    ensures fault { MatchOption result (tags_fault rows.now fields.now ≡ None) (λ fault. tags_fault rows.now fields.now ≡ Some fault) }
+    ensures first { MatchOption result (AreStandings rows.now fields.now numbers.new) (λ fault. ⊤) }
 {
-    let numbers = match standings(fields, rows) {
-        Ok(numbers) => numbers,
-        Err(tag) => return Err(fault_at(SessionRejectReason::TagAppearsMoreThanOnce, tag)),
-    };
-    match missing(rows, &numbers) {
-        Some(tag) => Err(fault_at(SessionRejectReason::RequiredTagMissing, tag)),
-        None => Ok(numbers),
+    if let Some(tag) = standings(fields, rows, outer, numbers) {
+        return Some(fault_at(SessionRejectReason::TagAppearsMoreThanOnce, tag));
+    }
+    match missing(rows, numbers) {
+        Some(tag) => Some(fault_at(SessionRejectReason::RequiredTagMissing, tag)),
+        None => None,
     }
 }
 
-/// The first fault of these rows.
+/// The first fault of the rows of an entry.
 fn tags_fault(fields: &Run<'_>, rows: &[Row]) -> Option<Fault>
     requires { IsTable rows.now }
     ensures { result ≡ tags_fault rows.now fields.now }
 {
-    match sound_tags(fields, rows) {
-        Ok(_) => None,
-        Err(fault) => Some(fault),
-    }
+    let mut numbers = NONE_STANDS;
+    table_fault(fields, rows, None, &mut numbers)
 }
 
 /// Whether a counter's number is that of the group's entries.
@@ -108,42 +111,43 @@ fn counted_fault(counter: u32, text: &[u8], group: &Run<'_>, rows: &[Row]) -> Op
     }
 }
 
-/// The first fault of the group with this counter.
-fn group_fault(fields: &Run<'_>, msg_type: MsgType, counter: u32) -> Option<Fault>
+/// The first fault of the group with this counter, which stands first at the field with this number.
+fn group_fault(fields: &Run<'_>, msg_type: MsgType, counter: u32, number: usize) -> Option<Fault>
+    requires { IsStanding fields.now counter number }
     ensures { result ≡ group_fault msg_type fields.now counter }
 {
     let rows = entry_rows(counter);
     if rows.is_empty() {
         return None;
     }
-    match first_value(fields, counter) {
-        Some(text) => counted_fault(counter, text, &group_of(fields, msg_type, counter), rows),
+    match value_numbered(fields, number) {
+        Some(text) => counted_fault(counter, text, &group_behind(fields, msg_type, number), rows),
         None => None,
     }
 }
 
-/// The first fault of a message's groups, in order.
-fn groups_fault(fields: &Run<'_>, msg_type: MsgType) -> Option<Fault>
+/// The first fault of a message's groups, in order, where its outer tags stand first so.
+fn groups_fault(fields: &Run<'_>, msg_type: MsgType, numbers: &Standings) -> Option<Fault>
+    requires { AreStandings (outer_rows msg_type) fields.now numbers.now }
     ensures { result ≡ groups_fault msg_type fields.now (body_rows msg_type) }
 {
-    for row in body_rows(msg_type) {
-        if let Some(fault) = group_fault(fields, msg_type, row.tag()) {
+    let rows = outer_rows(msg_type);
+    for place in HEADER_ROWS..rows.len() {
+        let counter = rows[place].tag();
+        if let Some(fault) = group_fault(fields, msg_type, counter, numbers[place]) {
             return Some(fault);
         }
     }
     None
 }
 
-/// Where the outer tags of a message stand first, or the first fault of its shape.
-pub fn sound_shape(fields: &Run<'_>, msg_type: MsgType) -> Result<Standings, Fault>
-    ensures fault { MatchResult result (λ numbers. shape_fault msg_type fields.now ≡ None) (λ fault. shape_fault msg_type fields.now ≡ Some fault) }
-    ensures first { IfOk result (λ numbers. AreStandings (outer_rows msg_type) fields.now numbers) }
+/// Finds where the outer tags of a message stand first, or the first fault of its shape.
+pub fn shape_fault(fields: &Run<'_>, msg_type: MsgType, numbers: &mut Standings) -> Option<Fault>
+    ensures fault { MatchOption result (shape_fault msg_type fields.now ≡ None) (λ fault. shape_fault msg_type fields.now ≡ Some fault) }
+    ensures first { MatchOption result (AreStandings (outer_rows msg_type) fields.now numbers.new) (λ fault. ⊤) }
 {
-    match sound_tags(fields, outer_rows(msg_type)) {
-        Ok(numbers) => match groups_fault(fields, msg_type) {
-            Some(fault) => Err(fault),
-            None => Ok(numbers),
-        },
-        Err(fault) => Err(fault),
+    match table_fault(fields, outer_rows(msg_type), Some(msg_type), numbers) {
+        Some(fault) => Some(fault),
+        None => groups_fault(fields, msg_type, numbers),
     }
 }

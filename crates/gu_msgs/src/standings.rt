@@ -1,11 +1,16 @@
 //! Where the tags of a table stand first among fields.
 
-ghost use Rattle.std.specs.Prelude.{◌≡◌, ◌≤◌, length, false, IfSome, List, MatchOption, MatchResult, None, Some, ⊤};
+ghost use Rattle.std.specs.Prelude.{◌≡◌, ◌≤◌, length, false, IfSome, List, MatchOption, None, Some, ⊤};
 ghost use Rattle.gu_fix.specs.TagValue.{TagValue};
 ghost use Rattle.gu_msgs.specs.Rows.{is_listed};
 ghost use Rattle.gu_msgs.specs.Shape.{missing, repeated};
-ghost use Rattle.gu_msgs.specs.Standings.{AreStandings, IsRowOf, IsTable, Notes, value_numbered};
+ghost use Rattle.gu_msgs.specs.Standings.{AreStandings, IsTable, Notes, fields_behind, value_numbered};
+ghost use Rattle.gu_msgs.specs.Tables.{outer_rows};
+ghost use Rattle.gu_msgs.specs.Values.{first_value};
 
+use crate::field_values::first_value;
+use crate::msg_type::MsgType;
+use crate::places::{outer_place, row_of};
 use crate::row::Row;
 use crate::run::Run;
 
@@ -15,46 +20,23 @@ const MOST_ROWS: usize = 20;
 /// For each row of a table the number of the first field with its tag, from 1, or 0 where the tag doesn't stand.
 pub type Standings = [usize; MOST_ROWS];
 
-/// The place of the row with a tag.
-fn place_of(rows: &[Row], tag: u32) -> Option<usize>
-    ensures { MatchOption result (is_listed rows.now tag ≡ false) (λ place. IsRowOf rows.now tag place) }
-{
-    for (place, row) in rows.iter().enumerate() {
-        if row.tag() == tag {
-            return Some(place);
-        }
-    }
-    None
-}
-
-/// The place of the row with a tag, from a place on.
-fn place_from(rows: &[Row], from: usize, tag: u32) -> Option<usize>
-    ensures { IfSome result (λ place. IsRowOf rows.now tag place) }
-{
-    for place in from..rows.len() {
-        if rows[place].tag() == tag {
-            return Some(place);
-        }
-    }
-    None
-}
-
-/// The place of the row with a tag. Tags mostly come in the order of a table, so it is looked for from a place on first.
-fn row_of(rows: &[Row], next: usize, tag: u32) -> Option<usize>
-    ensures { MatchOption result (is_listed rows.now tag ≡ false) (λ place. IsRowOf rows.now tag place) }
-{
-    match place_from(rows, next, tag) {
-        Some(place) => Some(place),
-        None => place_of(rows, tag),
-    }
-}
+/// The standings where no tag stands.
+pub const NONE_STANDS: Standings = [0; MOST_ROWS];
 
 /// Notes the number of the first field with a tag, unless one was noted before.
-fn note(rows: &[Row], next: &mut usize, numbers: &mut Standings, tag: u32, number: usize) -> bool
-    requires { length rows.now ≤ 20 }
+fn note(
+    rows: &[Row],
+    outer: Option<MsgType>,
+    next: &mut usize,
+    numbers: &mut Standings,
+    tag: u32,
+    number: usize,
+) -> bool
+    requires few { length rows.now ≤ 20 }
+    requires outer { IfSome outer (λ msg_type. rows.now ≡ outer_rows msg_type) }
     ensures { Notes result rows.now tag number numbers.old numbers.new }
 {
-    let Some(place) = row_of(rows, *next, tag) else {
+    let Some(place) = row_of(rows, outer, *next, tag) else {
         return true;
     };
     if numbers[place] != 0 {
@@ -65,22 +47,29 @@ fn note(rows: &[Row], next: &mut usize, numbers: &mut Standings, tag: u32, numbe
     true
 }
 
-/// Where the tags of these rows stand first, unless one stands twice: then the leftmost second standing.
-pub fn standings(fields: &Run<'_>, rows: &[Row]) -> Result<Standings, u32>
-    requires { IsTable rows.now }
-    ensures once { MatchResult result (λ numbers. repeated rows.now fields.now ≡ None) (λ tag. repeated rows.now fields.now ≡ Some tag) }
-    ensures first { MatchResult result (λ numbers. AreStandings rows.now fields.now numbers) (λ tag. ⊤) }
+/// Finds where the tags of these rows stand first, unless one stands twice: then the leftmost second standing. The rows are those of
+/// the outer level of messages of a type where one is named.
+pub fn standings(
+    fields: &Run<'_>,
+    rows: &[Row],
+    outer: Option<MsgType>,
+    numbers: &mut Standings,
+) -> Option<u32>
+    requires table { IsTable rows.now }
+    requires outer { IfSome outer (λ msg_type. rows.now ≡ outer_rows msg_type) }
+    ensures once { MatchOption result (repeated rows.now fields.now ≡ None) (λ tag. repeated rows.now fields.now ≡ Some tag) }
+    ensures first { MatchOption result (AreStandings rows.now fields.now numbers.new) (λ tag. ⊤) }
 {
-    let mut numbers = [0; MOST_ROWS];
+    *numbers = NONE_STANDS;
     let mut next = 0;
     let mut seen = 0;
     for field in fields {
         seen += 1;
-        if !note(rows, &mut next, &mut numbers, field.tag, seen) {
-            return Err(field.tag);
+        if !note(rows, outer, &mut next, numbers, field.tag, seen) {
+            return Some(field.tag);
         }
     }
-    Ok(numbers)
+    None
 }
 
 /// The first tag of these rows that must stand and doesn't.
@@ -94,6 +83,33 @@ pub fn missing(rows: &[Row], numbers: &Standings) -> Option<u32>
         }
     }
     None
+}
+
+/// What follows the field with this number.
+pub fn fields_behind<'a>(fields: &Run<'a>, number: usize) -> Run<'a>
+    requires { number ≤ length fields.now }
+    ensures { result ≡ fields_behind fields.now number }
+{
+    if number == 0 {
+        return fields.first(0);
+    }
+    fields.from(number)
+}
+
+/// The value of a tag of the outer level.
+pub fn outer_value<'a>(
+    fields: &Run<'a>,
+    msg_type: MsgType,
+    numbers: &Standings,
+    tag: u32,
+) -> Option<&'a [u8]>
+    requires { AreStandings (outer_rows msg_type) fields.now numbers.now }
+    ensures { MatchOption result (first_value tag fields.now ≡ None) (λ value. first_value tag fields.now ≡ Some value.now) }
+{
+    match outer_place(msg_type, tag) {
+        Some(place) => value_numbered(fields, numbers[place]),
+        None => first_value(fields, tag),
+    }
 }
 
 /// The value of the field with this number.

@@ -41,7 +41,7 @@ macro_rules! table {
 }
 
 /// How many rows the header has.
-const HEADER_ROWS: usize = 10;
+pub const HEADER_ROWS: usize = 10;
 
 const HEADER: [Row; HEADER_ROWS] = table![];
 

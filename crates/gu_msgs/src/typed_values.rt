@@ -1,12 +1,12 @@
 //! Values of fields that are known to be sound, by their types.
 
 ghost use Rattle.std.specs.Prelude.{◌≡◌, Some, None, IfOk, IsTrue, ⊤};
-ghost use Rattle.gu_terms.specs.NumberText.{MeansLots, MeansPrice};
+ghost use Rattle.gu_terms.specs.NumberText.{MeansLots};
 ghost use Rattle.gu_msgs.specs.Agreement.{number_at};
 ghost use Rattle.gu_msgs.specs.AllocStatuses.{status_number};
 ghost use Rattle.gu_msgs.specs.Kinds.{IsNumberWithin, IsSound};
-ghost use Rattle.gu_msgs.specs.Messages.{GivesDay, IsFlag, side_number};
-ghost use Rattle.gu_msgs.specs.Values.{Holds, MayHold, first_value, stands};
+ghost use Rattle.gu_msgs.specs.Messages.{IsFlag, side_number};
+ghost use Rattle.gu_msgs.specs.Values.{Holds, first_value, stands};
 ghost use Rattle.gu_msgs.specs.declared.row.Kind.TheVariants as kind;
 
 use crate::alloc_status::AllocStatus;
@@ -14,7 +14,7 @@ use crate::field_values::first_value;
 use crate::run::Run;
 use crate::test_req_id::TestReqId;
 use crate::whole_number::number_of;
-use gu_terms::{AccountId, Day, Id, Lots, OfferNo, Price, Side, Symbol, read_lots, read_price};
+use gu_terms::{AccountId, Id, Lots, OfferNo, Side, read_lots};
 use std::alloc::{AllocError, Global};
 
 /// The text of a tag that stands.
@@ -50,17 +50,6 @@ pub fn id_at(fields: &Run<'_>, tag: u32) -> Id
     id
 }
 
-/// The instrument that a tag holds.
-pub fn symbol_at(fields: &Run<'_>, tag: u32) -> Symbol
-    requires { Holds tag (IsSound kind.Name) fields.now }
-    ensures { first_value tag fields.now ≡ Some result.name }
-{
-    let Some(symbol) = Symbol::new(text_at(fields, tag)) else {
-        unreachable!();
-    };
-    symbol
-}
-
 /// The account that a tag holds.
 pub fn account_at(fields: &Run<'_>, tag: u32) -> AccountId
     requires { Holds tag (IsSound kind.Name) fields.now }
@@ -81,31 +70,6 @@ pub fn lots_at(fields: &Run<'_>, tag: u32) -> Lots
         unreachable!();
     };
     lots
-}
-
-/// The price that a tag holds.
-pub fn price_at(fields: &Run<'_>, tag: u32) -> Price
-    requires { Holds tag (IsSound kind.Price) fields.now }
-    ensures { Holds tag (λ text. MeansPrice text result) fields.now }
-{
-    let Ok(price) = read_price(text_at(fields, tag)) else {
-        unreachable!();
-    };
-    price
-}
-
-/// The day that a tag holds, where it stands.
-pub fn day_at(fields: &Run<'_>, tag: u32) -> Option<Day>
-    requires { MayHold tag (IsSound kind.Date) fields.now }
-    ensures { GivesDay tag fields.now result }
-{
-    let Some(text) = first_value(fields, tag) else {
-        return None;
-    };
-    let Ok(day) = Day::read(text) else {
-        unreachable!();
-    };
-    Some(day)
 }
 
 /// Whether a flag says yes.

@@ -11,10 +11,10 @@ ghost use Rattle.gu_msgs.specs.Tables.{entry_rows, outer_rows};
 
 use crate::fault::Fault;
 use crate::field_values::first_value;
-use crate::groups::{group_of, next_entry};
+use crate::groups::{group_behind, next_entry};
 use crate::kinds::text_fault;
 use crate::msg_type::MsgType;
-use crate::row::Row;
+use crate::row::{Kind, Row};
 use crate::run::Run;
 use crate::shape::fault_at;
 use crate::standings::{Standings, value_numbered};
@@ -24,7 +24,11 @@ use crate::tables::{entry_rows, outer_rows};
 fn item_fault(row: Row, text: &[u8]) -> Option<Fault>
     ensures { MatchOption result (IsSound (kind_of row) text.now) (λ fault. (fault.tag ≡ tag_of row) × IsAtFault (kind_of row) text.now fault.reason) }
 {
-    match text_fault(row.kind(), text) {
+    let kind = row.kind();
+    if let Kind::Text = kind {
+        return None;
+    }
+    match text_fault(kind, text) {
         Some(reason) => Some(fault_at(reason, row.tag())),
         None => None,
     }
@@ -79,14 +83,16 @@ fn entries_fault(group: &Run<'_>, first: u32, rows: &[Row]) -> Option<Fault>
     None
 }
 
-/// The first of the values of the group that a tag counts that isn't allowed. A tag that counts nothing costs no walk.
-fn group_fault(fields: &Run<'_>, msg_type: MsgType, counter: u32) -> Option<Fault>
+/// The first of the values of the group that a tag counts that isn't allowed, where the tag stands first at the field with this
+/// number. A tag that counts nothing costs no walk.
+fn group_fault(fields: &Run<'_>, msg_type: MsgType, counter: u32, number: usize) -> Option<Fault>
+    requires { IsStanding fields.now counter number }
     ensures { let items = flat_map (items_of (entry_rows counter)) (entries_of msg_type counter fields.now) in
         MatchOption result (AreSound items) (λ fault. IsFirstAtFault items fault) }
 {
     let rows = entry_rows(counter);
     match rows.first() {
-        Some(row) => entries_fault(&group_of(fields, msg_type, counter), row.tag(), rows),
+        Some(row) => entries_fault(&group_behind(fields, msg_type, number), row.tag(), rows),
         None => None,
     }
 }
@@ -98,7 +104,7 @@ fn outer_fault(fields: &Run<'_>, msg_type: MsgType, row: Row, number: usize) -> 
 {
     match standing_fault(fields, row, number) {
         Some(fault) => Some(fault),
-        None => group_fault(fields, msg_type, row.tag()),
+        None => group_fault(fields, msg_type, row.tag(), number),
     }
 }
 

@@ -1,4 +1,4 @@
-use Rattle.std.proofs.Common.{◌≤◌, ◌-◌, length, drop}
+use Rattle.std.proofs.Common.{◌≡◌, ◌≤◌, ◌-◌, length, drop}
 use Rattle.gu_fix.specs.Stream.{LeadsOn}
 use Rattle.gu_fix.proofs.scan.scan.Given as goal
 
@@ -6,6 +6,7 @@ abbrev pub invariant-places : goal.invariant-places
 invariant-places l = record {
   within : l.at ≤ length l.window;
   leads_on : LeadsOn l.window l.frames.items (drop l.at l.window);
+  same : l.window ≡ l.fn.window;
 }
 
 abbrev pub decreases-places : goal.decreases-places

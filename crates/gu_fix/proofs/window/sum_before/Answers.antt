@@ -7,5 +7,5 @@ pub returns-else-place-eq0 : goal.returns-else-place-eq0
 returns-else-place-eq0 c bytes e =
     let place = c.args.place in
     let last : suc (place - 1) ≡ place = omega (arith, c.if-place-eq0.false) in
-    let count : length c.args.sums.now ≡ length bytes = ap length e ∙ length-running c.args.base bytes in
-    ap (λ (t : List ℕ). get_or t (place - 1) 0) e ∙ running-at c.args.base (place - 1) bytes (omega (arith, c.if-place-eq0.false)) ∙ ap (λ n. sum_after c.args.base (take n bytes)) last
+    let count : length c.args.sums.now ≡ length bytes = ap length e ∙ length-running 0 bytes in
+    ap (λ (t : List ℕ). get_or t (place - 1) 0) e ∙ running-at 0 (place - 1) bytes (omega (arith, c.if-place-eq0.false)) ∙ ap (λ n. sum_after 0 (take n bytes)) last

@@ -14,6 +14,6 @@ loop-field-preserved c =
     let field = tag_value c.in-Some.field.tag c.in-Some.field.value.now in
     record {
       noted = noted_on c.args.rows.now c.args.fields.now c.loop-field.field-iterator c.next.new.self field c.loop-field.seen c.loop-field.numbers c.note.new.numbers
-          c.requires.distinct (omega (arith, c.loop-field.invariant.long, c.requires.few)) c.loop-field.invariant.noted c.in-Some.ensures.steps c.if-not-note.ensures;
+          c.requires.table.distinct (omega (arith, c.loop-field.invariant.long, c.requires.table.few)) c.loop-field.invariant.noted c.in-Some.ensures.steps c.if-not-note.ensures;
       long = c.note.array_long;
     }

@@ -1,35 +1,39 @@
 use Rattle.std.proofs.Common.{◌≡◌, ◌∙◌, length, ap, sym, arith}
 use Rattle.gu_msgs.specs.Groups.{entries_by, entries_of}
-use Rattle.gu_msgs.specs.Tables.{body_rows, entry_rows}
+use Rattle.gu_msgs.specs.Tables.{body_rows, entry_rows, header_rows}
 use Rattle.gu_msgs.specs.declared.msg_type.MsgType.TheVariants.{TradeCaptureReport}
 use Rattle.gu_msgs.specs.declared.tags.TheConstants.{NO_SIDES, SIDE}
 use Rattle.gu_msgs.proofs.HeldLemmas.{number_held, one_left}
 use Rattle.gu_msgs.proofs.trade_capture_report.side_entry.Goals as goal
 
+pub group_behind-group-requires : goal.group_behind-group-requires
+unfolding header_rows body_rows
+group_behind-group-requires c = (c.requires.standings 18 (omega arith)).within
+
 pub unreachable-requires : goal.unreachable-requires
-unfolding body_rows entry_rows
+unfolding header_rows body_rows entry_rows
 unreachable-requires c =
     let fields = c.args.fields.now in
-    let side = c.requires.groups.1.1.1.1.1.1.1.1.0 in
-    let number = number_held NO_SIDES 1 1 fields c.requires.held.1.1.1.1.1.1.1.1.0 in
+    let side = c.requires.made.groups.1.1.1.1.1.1.1.1.0 in
+    let number = number_held NO_SIDES 1 1 fields c.requires.made.held.1.1.1.1.1.1.1.1.0 in
     let counted = side.counted (λ e. cc) in
-    let none = ap length (ap (entries_by SIDE) (sym c.group_of-group.ensures.fields) ∙ c.in_default.ensures) in
+    let none = ap length (ap (entries_by SIDE) (sym (c.group_behind-group.ensures.fields NO_SIDES (c.requires.standings 18 (omega arith)))) ∙ c.in_default.ensures) in
     omega (arith, counted, number.0, none)
 
 pub returns-clause-one : goal.returns-clause-one
-unfolding body_rows entry_rows
+unfolding header_rows body_rows entry_rows
 returns-clause-one c =
     let fields = c.args.fields.now in
-    let side = c.requires.groups.1.1.1.1.1.1.1.1.0 in
-    let number = number_held NO_SIDES 1 1 fields c.requires.held.1.1.1.1.1.1.1.1.0 in
+    let side = c.requires.made.groups.1.1.1.1.1.1.1.1.0 in
+    let number = number_held NO_SIDES 1 1 fields c.requires.made.held.1.1.1.1.1.1.1.1.0 in
     let counted = side.counted (λ e. cc) in
     let one : length (entries_of TradeCaptureReport NO_SIDES fields) ≡ 1 = omega (arith, counted, number.0, number.1) in
     one_left (entries_of TradeCaptureReport NO_SIDES fields) c.in-Some.entry (entries_by SIDE c.next_entry.new.rest) one
-    (ap (entries_by SIDE) (sym c.group_of-group.ensures.fields) ∙ c.in-Some.ensures)
+    (ap (entries_by SIDE) (sym (c.group_behind-group.ensures.fields NO_SIDES (c.requires.standings 18 (omega arith)))) ∙ c.in-Some.ensures)
 
 pub returns-clause-held : goal.returns-clause-held
-unfolding body_rows entry_rows
+unfolding header_rows body_rows entry_rows
 returns-clause-held c =
-    let side = c.requires.groups.1.1.1.1.1.1.1.1.0 in
-    let first = ap (entries_by SIDE) (sym c.group_of-group.ensures.fields) ∙ c.in-Some.ensures in
+    let side = c.requires.made.groups.1.1.1.1.1.1.1.1.0 in
+    let first = ap (entries_by SIDE) (sym (c.group_behind-group.ensures.fields NO_SIDES (c.requires.standings 18 (omega arith)))) ∙ c.in-Some.ensures in
     (rw first at side.each).0

@@ -1,6 +1,6 @@
 use Rattle.std.proofs.Common.{◌≡◌, false, take}
 use Rattle.gu_msgs.specs.Rows.{is_listed}
-use Rattle.gu_msgs.proofs.standings.place_of.Given as goal
+use Rattle.gu_msgs.proofs.places.place_of.Given as goal
 
 abbrev pub invariant-loop-place : goal.invariant-loop-place
 invariant-loop-place l = is_listed (take l.place l.rows) l.tag ≡ false

@@ -1,0 +1,103 @@
+//! The places of tags in tables.
+
+ghost use Rattle.std.specs.Prelude.{◌≡◌, false, IfSome, MatchOption};
+ghost use Rattle.gu_msgs.specs.Rows.{is_listed};
+ghost use Rattle.gu_msgs.specs.Standings.{IsRowOf};
+ghost use Rattle.gu_msgs.specs.Tables.{outer_rows};
+ghost use Rattle.gu_msgs.specs.declared.msg_type.MsgType.TheVariants as kind;
+
+use crate::msg_type::MsgType;
+use crate::row::Row;
+use crate::tables::outer_rows;
+use crate::tags::{
+    LAST_PX, LAST_QTY, MSG_SEQ_NUM, NO_SIDES, ORIG_SENDING_TIME, POSS_DUP_FLAG, SENDER_COMP_ID,
+    SENDING_TIME, SYMBOL, TARGET_COMP_ID, TRADE_DATE, TRADE_REPORT_ID, TRADE_REPORT_TRANS_TYPE,
+    TRADE_REPORT_TYPE, TRD_MATCH_ID,
+};
+use gu_fix::{BEGIN_STRING, BODY_LENGTH, CHECK_SUM, MSG_TYPE};
+
+/// The place of the row with a tag.
+fn place_of(rows: &[Row], tag: u32) -> Option<usize>
+    ensures { MatchOption result (is_listed rows.now tag ≡ false) (λ place. IsRowOf rows.now tag place) }
+{
+    for (place, row) in rows.iter().enumerate() {
+        if row.tag() == tag {
+            return Some(place);
+        }
+    }
+    None
+}
+
+/// The place of the row with a tag, from a place on.
+fn place_from(rows: &[Row], from: usize, tag: u32) -> Option<usize>
+    ensures { IfSome result (λ place. IsRowOf rows.now tag place) }
+{
+    for place in from..rows.len() {
+        if rows[place].tag() == tag {
+            return Some(place);
+        }
+    }
+    None
+}
+
+/// The place of a tag in the table of reports, of which there are more than of all other messages.
+#[tactic(auto, unfolding(crate::specs::Tables::header_rows, crate::specs::Tables::body_rows))]
+fn report_place(tag: u32) -> Option<usize>
+    ensures { MatchOption result (is_listed (outer_rows kind.TradeCaptureReport) tag ≡ false)
+        (λ place. IsRowOf (outer_rows kind.TradeCaptureReport) tag place) }
+{
+    match tag {
+        BEGIN_STRING => Some(0),
+        BODY_LENGTH => Some(1),
+        MSG_TYPE => Some(2),
+        SENDER_COMP_ID => Some(3),
+        TARGET_COMP_ID => Some(4),
+        MSG_SEQ_NUM => Some(5),
+        SENDING_TIME => Some(6),
+        POSS_DUP_FLAG => Some(7),
+        ORIG_SENDING_TIME => Some(8),
+        CHECK_SUM => Some(9),
+        TRADE_REPORT_ID => Some(10),
+        TRADE_REPORT_TRANS_TYPE => Some(11),
+        TRADE_REPORT_TYPE => Some(12),
+        TRD_MATCH_ID => Some(13),
+        SYMBOL => Some(14),
+        LAST_QTY => Some(15),
+        LAST_PX => Some(16),
+        TRADE_DATE => Some(17),
+        NO_SIDES => Some(18),
+        _ => None,
+    }
+}
+
+/// The place of a tag among those that are read at the outer level of a message of this type.
+pub fn outer_place(msg_type: MsgType, tag: u32) -> Option<usize>
+    ensures { MatchOption result (is_listed (outer_rows msg_type) tag ≡ false) (λ place. IsRowOf (outer_rows msg_type) tag place) }
+{
+    match msg_type {
+        MsgType::TradeCaptureReport => report_place(tag),
+        _ => place_of(outer_rows(msg_type), tag),
+    }
+}
+
+/// The place of a tag among rows, which are those of the outer level of messages of a type where one is named.
+fn place_among(rows: &[Row], outer: Option<MsgType>, tag: u32) -> Option<usize>
+    requires { IfSome outer (λ msg_type. rows.now ≡ outer_rows msg_type) }
+    ensures { MatchOption result (is_listed rows.now tag ≡ false) (λ place. IsRowOf rows.now tag place) }
+{
+    match outer {
+        Some(msg_type) => outer_place(msg_type, tag),
+        None => place_of(rows, tag),
+    }
+}
+
+/// The same. Tags mostly come in the order of a table, so it is looked for from a place on first.
+pub fn row_of(rows: &[Row], outer: Option<MsgType>, next: usize, tag: u32) -> Option<usize>
+    requires { IfSome outer (λ msg_type. rows.now ≡ outer_rows msg_type) }
+    ensures { MatchOption result (is_listed rows.now tag ≡ false) (λ place. IsRowOf rows.now tag place) }
+{
+    match place_from(rows, next, tag) {
+        Some(place) => Some(place),
+        None => place_among(rows, outer, tag),
+    }
+}
