@@ -103,35 +103,46 @@ impl Book {
         }
     }
 
-    /// Adds a command with its answer, and makes its receipt.
-    fn append(&mut self, command: Command, reply: &Reply) -> Result<Receipt, AllocError>
+    /// Adds a command with its answer.
+    fn append(&mut self, command: &Command, reply: &Reply) -> Result<(), AllocError>
         requires room { length self.old.history < 1000000 }
-        requires answered { reply.now ≡ answer self.old.reference self.old.history command }
-        ensures entered { IfOk result (λ r. self.new.history ≡ self.old.history ++ r.entry ∷ []) }
-        ensures number { IfOk result (λ r. r.number ≡ length self.old.history + 1) }
-        ensures entry { IfOk result (λ r. r.entry ≡ Entry.Asked command reply.now) }
-        ensures stands { IfOk result (λ r. StandsLast self.old.reference r.number r.entry) }
+        requires answered { reply.now ≡ answer self.old.reference self.old.history command.now }
+        ensures entered { OnOk result (self.new.history ≡ self.old.history ++ Entry.Asked command.now reply.now ∷ []) }
+        ensures stands { OnOk result (StandsLast self.old.reference (length self.old.history + 1) (Entry.Asked command.now reply.now)) }
         ensures reference { self.new.reference ≡ self.old.reference }
         ensures refused { OnErr result (self.new.history ≡ self.old.history) }
     {
         let count = self.history.len();
-        let touched = touched_in(&self.totals, &command, reply);
+        let touched = touched_in(&self.totals, command, reply);
         know(&mut self.versions, &touched)?;
-        self.history.push_asked(&command, *reply)?;
+        self.history.push_asked(command, *reply)?;
         if accepts(reply) {
-            if let Err(refused) = take_in(&mut self.totals, &self.reference, &command) {
+            if let Err(refused) = take_in(&mut self.totals, &self.reference, command) {
                 self.history.truncate(count);
                 return Err(refused);
             }
         }
         touch(&mut self.versions, &touched);
-        Ok(Receipt {
-            number: count as u64 + 1,
-            entry: Entry::Asked {
-                command,
-                reply: *reply,
-            },
-        })
+        Ok(())
+    }
+
+    /// Enters a command with its answer, a refusal too, and tells the answer alone.
+    pub fn ask(&mut self, command: &Command) -> Result<Reply, EnterError>
+        ensures entered { IfOk result (λ reply. self.new.history ≡ self.old.history ++ Entry.Asked command.now reply ∷ []) }
+        ensures reply { IfOk result (λ reply. reply ≡ answer self.old.reference self.old.history command.now) }
+        ensures stands { IfOk result (λ reply. StandsLast self.old.reference (length self.old.history + 1) (Entry.Asked command.now reply)) }
+
+        // Nothing is entered in a full book, or where a growth is refused.
+        ensures full { IsErrOf result EnterError.Full ↔ (1000000 ≤ length self.old.history) }
+        ensures reference { self.new.reference ≡ self.old.reference }
+        ensures refused { OnErr result (self.new.history ≡ self.old.history) }
+    {
+        if self.history.len() >= MOST_ENTRIES {
+            return Err(EnterError::Full);
+        }
+        let reply = answer_of(&self.reference, &self.totals, command);
+        self.append(command, &reply)?;
+        Ok(reply)
     }
 
     /// Enters a command with its answer, a refusal too.
@@ -146,11 +157,11 @@ impl Book {
         ensures reference { self.new.reference ≡ self.old.reference }
         ensures refused { OnErr result (self.new.history ≡ self.old.history) }
     {
-        if self.history.len() >= MOST_ENTRIES {
-            return Err(EnterError::Full);
-        }
-        let reply = answer_of(&self.reference, &self.totals, &command);
-        Ok(self.append(command, &reply)?)
+        let reply = self.ask(&command)?;
+        Ok(Receipt {
+            number: self.history.len() as u64,
+            entry: Entry::Asked { command, reply },
+        })
     }
 
     /// What an account holds of an instrument: the lots long, and the lots short.

@@ -1,5 +1,5 @@
 -- Outcomes as a world keeps them: what is kept gives them back, however many entries come behind.
-use Rattle.std.proofs.Common.{◌≡◌, ℕ, zero, suc, ◌+◌, ◌≤◌, arith, All, Bool, true, false, List, [], ◌∷◌, ◌++◌, length, map, Option, Some, None, refl, sym, ap, subst, ◌∙◌, get_or, append-nil, if◌then◌else◌}
+use Rattle.std.proofs.Common.{◌≡◌, ℕ, zero, suc, ◌+◌, ◌≤◌, arith, Bool, true, false, List, [], ◌∷◌, ◌++◌, length, map, Option, Some, None, refl, sym, ap, subst, ◌∙◌, get_or, if◌then◌else◌}
 use Rattle.std.specs.Prelude.{slice_get}
 use Rattle.std.specs.Option.{option_map_or}
 use Rattle.std.proofs.lemmas.List.{length-append, map-append}
@@ -8,7 +8,6 @@ use Rattle.gu_terms.specs.Histories.{entry_at}
 use Rattle.gu_terms.specs.declared.entry.Entry.{Entry}
 use Rattle.gu_terms.specs.declared.entry.Entry.TheVariants.{Swept as SweptEntry}
 use Rattle.gu_terms.specs.declared.entry.SweepEntry.{SweepEntry}
-use Rattle.gu_terms.specs.declared.receipt.Receipt.{Receipt}
 use Rattle.gu_ref.specs.Reference.{is_group}
 use Rattle.gu_world.specs.Looks.{Grows}
 use Rattle.gu_world.specs.Outcomes.{AreNumbered, IsNumbered, kept_of, outcome_in}

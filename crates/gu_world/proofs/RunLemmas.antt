@@ -89,7 +89,7 @@ kept-beginning reference book slots outcomes new none nothing =
     })))
 
 -- what is written over the last of a list
-last-set : {X : Type 0} (xs : List X) (x y : X) → slice_set (xs ++ x ∷ []) (length xs) y ≡ xs ++ y ∷ []
+pub last-set : {X : Type 0} (xs : List X) (x y : X) → slice_set (xs ++ x ∷ []) (length xs) y ≡ xs ++ y ∷ []
 last-set [] x y = refl
 last-set (first ∷ xs) x y = ap (λ more. first ∷ more) (last-set xs x y)
 

@@ -16,6 +16,7 @@ use Rattle.gu_book.specs.Kept.{Kept}
 use Rattle.gu_book.specs.Sweeps.{MaySweep}
 use Rattle.gu_book.specs.Versions.{touching, version_of}
 use Rattle.gu_book.specs.Views.{group_view}
+use Rattle.gu_world.specs.declared.answered.Answered.{Answered}
 use Rattle.gu_world.specs.declared.outcome.Outcome.{Outcome}
 use Rattle.gu_world.specs.declared.outcome.Outcome.TheVariants.{Asked, Full, Seen, NoGroup, Proposed, Swept, Stale, Nothing}
 use Rattle.gu_world.specs.declared.step.Step.{Step}
@@ -71,6 +72,11 @@ first_touch_above history group n = find (nat_lt n) (touching history group)
 -- an entry behind those that a worker saw touches its group
 abbrev pub is_overtaken : State → Look → Bool
 is_overtaken state look = is_some (first_touch_above state.book.history look.group look.seen)
+
+-- what came of a command, by what is told of it: the receipt of its entry, and where nothing is told, that the book was full
+abbrev pub outcome_of : Command → Option Answered → Outcome
+outcome_of command None = Full
+outcome_of command (Some answered) = Asked (record { number = answered.number; entry = AskedEntry command answered.reply })
 
 -- a command is entered with its answer; in a full book nothing is
 abbrev pub entered : State → Command → Outcome × State

@@ -1,6 +1,7 @@
 //! Every order of steps: commands are entered while workers look, propose and commit.
 #![tactic(auto)]
 
+mod answered;
 mod blame;
 mod committing;
 mod held;
@@ -16,6 +17,7 @@ mod touching;
 mod worker;
 mod world;
 
+pub use answered::Answered;
 pub use blame::culprit;
 pub use laws::{
     a_committed_sweep_was_not_overtaken, a_look_stays_true, a_stale_commit_has_a_culprit,

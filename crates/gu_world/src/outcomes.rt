@@ -2,8 +2,11 @@
 
 ghost use Rattle.std.specs.Prelude.{◌≡◌, ◌-◌, ◌≤◌, length, map, slice_get, IfOk, Some};
 ghost use Rattle.gu_terms.specs.Histories.{entry_at};
+ghost use Rattle.gu_terms.specs.declared.command.Command.{Command as CommandOf};
 ghost use Rattle.gu_world.specs.Outcomes.{kept_of, outcome_in, AreNumbered, IsNumbered};
+ghost use Rattle.gu_world.specs.Steps.{outcome_of};
 
+use crate::answered::Answered;
 use crate::outcome::Outcome;
 use gu_terms::{History, Receipt};
 use std::alloc::AllocError;
@@ -41,6 +44,16 @@ impl KeptOutcome {
             },
             Outcome::Foreign => KeptOutcome::Foreign,
             Outcome::Nothing => KeptOutcome::Nothing,
+        }
+    }
+
+    /// What is kept of the outcome of a command of which this is told.
+    pub(crate) fn of_answer(answered: &Option<Answered>) -> Self
+        ensures { (command : CommandOf) → result ≡ kept_of (outcome_of command answered.now) }
+    {
+        match answered {
+            Some(answered) => KeptOutcome::Asked(answered.number),
+            None => KeptOutcome::Full,
         }
     }
 

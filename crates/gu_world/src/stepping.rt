@@ -2,8 +2,9 @@
 
 ghost use Rattle.std.specs.Prelude.{◌≡◌, List, Option, IfOk, OnErr};
 ghost use Rattle.gu_world.specs.Looks.{AreTrue, Grows, looks_in, state_in};
-ghost use Rattle.gu_world.specs.Steps.{Look, entered, looked};
+ghost use Rattle.gu_world.specs.Steps.{Look, entered, looked, outcome_of};
 
+use crate::answered::Answered;
 use crate::held::{Held, Work};
 use crate::looks::Looks;
 use crate::outcome::Outcome;
@@ -22,6 +23,23 @@ pub fn enter(book: &mut Book, command: Command) -> Result<Outcome, AllocError>
     match book.enter(command) {
         Ok(receipt) => Ok(Outcome::Asked(receipt)),
         Err(EnterError::Full) => Ok(Outcome::Full),
+        Err(EnterError::Memory) => Err(AllocError),
+    }
+}
+
+/// Enters a command, and tells its answer; nothing where the book is full.
+pub fn ask(book: &mut Book, command: &Command) -> Result<Option<Answered>, AllocError>
+    ensures asked { IfOk result (λ answered. (looks : List (Option Look))
+        → (outcome_of command.now answered, record { book = book.new; looks = looks }) ≡ entered (record { book = book.old; looks = looks }) command.now) }
+    ensures grows { Grows book.old book.new }
+    ensures refused { OnErr result (book.new ≡ book.old) }
+{
+    match book.ask(command) {
+        Ok(reply) => {
+            let number = book.history().len() as u64;
+            Ok(Some(Answered { number, reply }))
+        }
+        Err(EnterError::Full) => Ok(None),
         Err(EnterError::Memory) => Err(AllocError),
     }
 }

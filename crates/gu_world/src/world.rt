@@ -5,19 +5,21 @@ ghost use Rattle.std.specs.Option.{option_copied, option_map};
 ghost use Rattle.gu_book.specs.Views.{group_view};
 ghost use Rattle.gu_world.specs.Looks.{AreTrue, state_in};
 ghost use Rattle.gu_world.specs.Runs.{GoesOn, IsReached, beginning};
-ghost use Rattle.gu_world.specs.Steps.{LeadsTo, Look, is_overtaken, look_of, view_seen};
+ghost use Rattle.gu_world.specs.Steps.{LeadsTo, Look, is_overtaken, look_of, outcome_of, view_seen};
+ghost use Rattle.gu_world.specs.declared.step.Step.TheVariants.{Enter};
 
+use crate::answered::Answered;
 use crate::committing::commit_for;
 use crate::looks::Looks;
 use crate::outcome::Outcome;
 use crate::outcomes::{KeptOutcome, Outcomes};
 use crate::proposing::propose_for;
 use crate::step::Step;
-use crate::stepping::{enter, see};
+use crate::stepping::{ask, enter, see};
 use crate::worker::Worker;
 use gu_book::Book;
 use gu_ref::Reference;
-use gu_terms::Group;
+use gu_terms::{Command, Group};
 use gu_view::View;
 use std::alloc::{AllocError, Global};
 use std::marker::Model;
@@ -110,6 +112,18 @@ impl World {
                 Err(refused)
             }
         }
+    }
+
+    /// Enters a command, adds its outcome, and tells the command's answer; nothing where the book is full.
+    pub fn enter(&mut self, command: &Command) -> Result<Option<Answered>, AllocError>
+        ensures taken { IfOk result (λ answered. (goes : GoesOn self.old (Enter command.now) self.new)
+            × (goes.outcome ≡ outcome_of command.now answered)) }
+        ensures refused { OnErr result (self.new ≡ self.old) }
+    {
+        self.outcomes.reserve(1)?;
+        let answered = ask(&mut self.book, command)?;
+        let _ = self.outcomes.push(KeptOutcome::of_answer(&answered));
+        Ok(answered)
     }
 
     /// Takes one step, and adds its outcome.

@@ -21,18 +21,18 @@ use Rattle.gu_book.proofs.book.Book.append.Goals.{then-accepts+in_default, else-
 pub take_in-requires : goal.take_in-requires
 take_in-requires c =
     let old = c.self.inside in
-    let is : c.args.reply.now ≡ answer old.reference old.history c.args.command = c.requires.answered ∙ ap (λ (k : Kept). answer k.reference k.history c.args.command) (sym c.self.view_is) in
+    let is : c.args.reply.now ≡ answer old.reference old.history c.args.command.now = c.requires.answered ∙ ap (λ (k : Kept). answer k.reference k.history c.args.command.now) (sym c.self.view_is) in
     record {
       history = old.history;
       kept = c.self.invariant.kept;
-      accepted = is-accepted old.reference old.history c.args.command c.args.reply.now (rw (sym c.self.view_is) at c.requires.room) is (sym c.accepts.ensures ∙ c.if-accepts.true);
+      accepted = is-accepted old.reference old.history c.args.command.now c.args.reply.now (rw (sym c.self.view_is) at c.requires.room) is (sym c.accepts.ensures ∙ c.if-accepts.true);
     }
 
 pub invariant_of-self-in-Err : goal.invariant_of-self-in-Err
 invariant_of-self-in-Err c =
     let old = c.self.inside in
     let pushed = c.in_ok-push_asked.ensures.added in
-    let back = truncated old.history (Asked c.args.command c.args.reply.now) c.len-count.result c.push_asked.new.self c.truncate.new.self c.len-count.ensures pushed c.truncate.ensures in
+    let back = truncated old.history (Asked c.args.command.now c.args.reply.now) c.len-count.result c.push_asked.new.self c.truncate.new.self c.len-count.ensures pushed c.truncate.ensures in
     subst (λ (history : List Entry). IsKeptLegal old.reference history c.take_in.new.totals c.know.new.versions) (sym back)
     (legal-refused old.reference old.history old.totals c.take_in.new.totals old.versions c.know.new.versions c.self.invariant c.in-Err.ensures.refused c.take_in.ensures.known
     (versions-same old.history old.versions c.know.new.versions c.self.invariant.counted c.know.ensures.days c.know.ensures.same))
@@ -51,7 +51,7 @@ touch-requires-clause-fits c group =
 pub invariant_of-self-2 : goal.invariant_of-self-2
 invariant_of-self-2 c =
     let old = c.self.inside in
-    let command = c.args.command in
+    let command = c.args.command.now in
     let reply = c.args.reply.now in
     let entry = Asked command reply in
     let room = rw (sym c.self.view_is) at c.requires.room in
@@ -84,7 +84,6 @@ invariant_of-self-2 c =
 pub returns-clause-stands : goal.returns-clause-stands
 returns-clause-stands c =
     let old = c.self.inside in
-    let is : c.args.reply.now ≡ answer old.reference old.history c.args.command = c.requires.answered ∙ ap (λ (k : Kept). answer k.reference k.history c.args.command) (sym c.self.view_is) in
-    rw c.len-count.ensures
-    (subst (λ (k : Kept). StandsLast k.reference (length old.history + 1) (Asked c.args.command c.args.reply.now)) c.self.view_is
-    (stands_last old.reference old.history (Asked c.args.command c.args.reply.now) c.self.invariant.legal (rw (sym c.self.view_is) at c.requires.room) is))
+    let is : c.args.reply.now ≡ answer old.reference old.history c.args.command.now = c.requires.answered ∙ ap (λ (k : Kept). answer k.reference k.history c.args.command.now) (sym c.self.view_is) in
+    subst (λ (k : Kept). StandsLast k.reference (length k.history + 1) (Asked c.args.command.now c.args.reply.now)) c.self.view_is
+    (stands_last old.reference old.history (Asked c.args.command.now c.args.reply.now) c.self.invariant.legal (rw (sym c.self.view_is) at c.requires.room) is)
