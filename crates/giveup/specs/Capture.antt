@@ -5,8 +5,7 @@ use Rattle.gu_terms.specs.declared.command.Command.{Command}
 use Rattle.gu_terms.specs.declared.command.Command.TheVariants.{OpenDay}
 use Rattle.gu_terms.specs.declared.day.Day.{Day}
 use Rattle.gu_terms.specs.declared.firm.FirmId.{FirmId}
-use Rattle.gu_terms.specs.declared.entry.Entry.{Entry}
-use Rattle.gu_terms.specs.declared.entry.Entry.TheVariants.{Asked, Swept}
+use Rattle.gu_terms.specs.declared.entry.Entry.TheVariants.{Asked}
 use Rattle.gu_terms.specs.declared.reply.Done.TheVariants.{Opened}
 use Rattle.gu_terms.specs.declared.reply.Reply.TheVariants.{Accepted}
 use Rattle.gu_book.specs.Answer.{answer}
@@ -57,11 +56,6 @@ book_behind book command =
     if nat_lt (length book.history) 1000000
     then record { reference = book.reference; history = book.history ++ Asked command (answer book.reference book.history command) ∷ [] }
     else book
-
--- why the command of an entry was refused, if it was
-abbrev pub rejection_by : Entry → Option Rejection
-rejection_by (Asked command reply) = rejection_of reply
-rejection_by (Swept sweep) = None
 
 -- why a command isn't in the book, if it isn't: by the book's answer, or since the book is full
 abbrev pub rejection_in : Kept → Command → Option Rejection

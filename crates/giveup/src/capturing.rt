@@ -10,7 +10,7 @@ ghost use Rattle.gu_msgs.specs.Written.{IsWritten};
 ghost use Rattle.gu_msgs.specs.declared.inbound.Inbound.TheVariants as inbound;
 ghost use Rattle.gu_msgs.specs.declared.inbound.TradeCaptureReport.{TradeCaptureReport as ReportOf};
 ghost use Rattle.giveup.specs.Serving.{IsStreamFault};
-ghost use Rattle.giveup.specs.Capture.{Captured, CapturedFront, CapturedSoFar, IsTextOf, acknowledgement, message_to, number_behind, capture_behind, capture_at_start, rejection_by, rejection_in, book_behind};
+ghost use Rattle.giveup.specs.Capture.{Captured, CapturedFront, CapturedSoFar, IsTextOf, acknowledgement, message_to, number_behind, capture_behind, capture_at_start, rejection_in, book_behind};
 
 use crate::error::EngineError;
 use crate::position_lines::positions_text;
@@ -21,7 +21,7 @@ use gu_fix::{EncodeError, Fields, Frame, encode, fields};
 use gu_msgs::inbound::TradeCaptureReport;
 use gu_msgs::{MsgFault, Outbound, Rejection, answer_to, midnight_of, read, sender, write};
 use gu_ref::{CountedReads, Reference};
-use gu_terms::{Command, Day, Entry, FirmId, Moment};
+use gu_terms::{Command, Day, FirmId, Moment};
 use std::alloc::{AllocError, Global};
 use std::io::{Read, Write};
 use std::marker::Model;
@@ -61,16 +61,6 @@ fn append(alloc: Global, fields: &Fields, output: &mut Vec<u8>) -> Result<(), Al
     }
 }
 
-/// Why an entry's command was refused, if it was.
-fn rejection_by(entry: &Entry) -> Option<Rejection>
-    ensures { result ≡ rejection_by entry.now }
-{
-    match entry {
-        Entry::Asked { command: _, reply } => Rejection::of_reply(*reply),
-        Entry::Swept(_) => None,
-    }
-}
-
 /// What the engine has.
 #[derive(Drop)]
 pub struct Capturing {
@@ -95,12 +85,12 @@ impl Model for Capturing {
 
 impl Capturing {
     /// Enters a command, and says why it isn't in the book, if it isn't.
-    fn enter(&mut self, command: Command) -> Result<Option<Rejection>, AllocError>
-        ensures rejection { IfOk result (λ rejection. rejection ≡ rejection_in self.old.book command) }
-        ensures behind { OnOk result (self.new ≡ record self.old { book = book_behind self.old.book command }) }
+    fn enter(&mut self, command: &Command) -> Result<Option<Rejection>, AllocError>
+        ensures rejection { IfOk result (λ rejection. rejection ≡ rejection_in self.old.book command.now) }
+        ensures behind { OnOk result (self.new ≡ record self.old { book = book_behind self.old.book command.now }) }
     {
-        match self.book.enter(command) {
-            Ok(receipt) => Ok(rejection_by(&receipt.entry)),
+        match self.book.ask(command) {
+            Ok(reply) => Ok(Rejection::of_reply(reply)),
             Err(EnterError::Full) => Ok(Some(Rejection::Full)),
             Err(EnterError::Memory) => Err(AllocError),
         }
@@ -156,7 +146,7 @@ impl Capturing {
         ensures behind { OnOk result (self.new ≡ capture_behind self.old (side_of firm.now report.now)) }
     {
         let command = report.side_of(*firm);
-        match self.enter(command) {
+        match self.enter(&command) {
             Ok(rejection) => self.answer_report(firm, report, rejection, output),
             Err(refused) => Err(refused),
         }

@@ -1,8 +1,9 @@
-//! Engines at their largest: thousands of reports, and a sheet of as many offers as a view may have.
+//! Engines at their largest: thousands of reports, a sheet of as many offers as a view may have, and a script that fills a book.
 
 use crate::capturing::capture;
 use crate::checking::check;
 use crate::error::EngineError;
+use crate::replaying::replay;
 use crate::sample::{sample_day, sample_reference};
 use crate::status::Status;
 use crate::streams::wire;
@@ -16,6 +17,9 @@ const REPORTS: u32 = 3_000;
 
 /// Offers of the sheet.
 const OFFERS: u32 = 4_096;
+
+/// Entries of a full book.
+const ENTRIES: u32 = 1_000_000;
 
 /// Appends a report of its own trade: front, body and check sum.
 fn push_report(alloc: Global, stream: &mut Vec<u8>, number: u32) -> Result<(), AllocError> {
@@ -97,5 +101,40 @@ fn a_sheet_of_as_many_offers_as_there_may_be_is_checked(rt: HostRuntime) -> Resu
     // One offer more is bad at END, behind 1 + 4,097 + 4 + 4,097 + 1 lines.
     let (end, written) = checked(rt.alloc(), sheet(rt.alloc(), OFFERS + 1)?.as_str());
     assert!(rt; end == Err(EngineError::BadLine(8_201)) && written.is_empty());
+    Ok(())
+}
+
+/// So many openings of one day.
+fn openings(alloc: Global, count: u32) -> Result<Vec<u8>, AllocError> {
+    let mut script = Vec::new(alloc);
+    for _ in 0..count {
+        script.extend_from_slice(b"DAY 20260105\n")?;
+    }
+    Ok(script)
+}
+
+/// What answers them, and one more, where they fill a book: the first opens the day.
+fn refused_openings(alloc: Global, count: u32) -> Result<String, AllocError> {
+    let mut texts = String::from_str(alloc, "1 OK\n")?;
+    for number in 2..count.saturating_add(1) {
+        writeln!(texts, "{number} NO 2 WrongDay")?;
+    }
+    texts.push_str("FULL\n")?;
+    Ok(texts)
+}
+
+#[test]
+fn a_script_fills_a_book(rt: HostRuntime) -> Result<(), Fail> {
+    let alloc = rt.alloc();
+    let script = openings(alloc, ENTRIES + 1)?;
+    let mut written = Vec::new(alloc);
+    let end = replay(
+        alloc,
+        sample_reference(alloc)?,
+        &mut CountedReads::new(script.as_slice()),
+        &mut written,
+    );
+    let texts = refused_openings(alloc, ENTRIES)?;
+    assert!(rt; end == Ok(()) && written.as_slice() == texts.as_bytes());
     Ok(())
 }

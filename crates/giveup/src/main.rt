@@ -23,6 +23,9 @@ mod input;
 mod largest_tests;
 mod laws;
 mod position_lines;
+mod progress;
+#[cfg(test)]
+mod progress_tests;
 mod questions;
 #[cfg(test)]
 mod replay_stream_tests;
@@ -51,6 +54,7 @@ use crate::clock::SystemClock;
 use crate::connection::Connection;
 use crate::error::{EngineError, RunError};
 use crate::fixing::fix;
+use crate::progress::Told;
 use crate::replaying::{played, replay};
 use crate::sample::{sample_day, sample_reference};
 use crate::status::Status;
@@ -61,11 +65,18 @@ use gu_terms::FirmId;
 use std::alloc::Global;
 use std::fs::File;
 use std::io;
+use std::io::{IsTerminal, Write};
 use std::process::ExitCode;
 use std::rt::{Clock, Env, Files};
 
 fn main(rt: HostRuntime) -> ExitCode {
-    let status = match run(&rt) {
+    let stderr = rt.stderr();
+    let terminal = if stderr.is_terminal() {
+        Some(stderr)
+    } else {
+        None
+    };
+    let status = match run(&rt, terminal) {
         Ok(status) => status,
         Err(error) => {
             // Where this can't be written, the status alone tells of the fault.
@@ -76,25 +87,27 @@ fn main(rt: HostRuntime) -> ExitCode {
     ExitCode::from(status)
 }
 
-/// Does what the words of this run ask for.
-fn run<R: Input + Print + Eprint + Env + Files + Clock + Alloc<A = Global>>(
+/// Does what the words of this run ask for. A long run is told of at a terminal, where there is one.
+fn run<R: Input + Print + Eprint + Env + Files + Clock + Alloc<A = Global>, T: Write + Drop>(
     rt: &R,
+    terminal: Option<T>,
 ) -> Result<Status, RunError> {
     match given(rt) {
-        Ok(words) => perform(rt, words.as_slice()),
+        Ok(words) => perform(rt, words.as_slice(), terminal),
         Err(error) => Ok(answer(rt, &error)?),
     }
 }
 
 /// Does what these words ask for.
-fn perform<R: Input + Print + Eprint + Files + Clock + Alloc<A = Global>>(
+fn perform<R: Input + Print + Eprint + Files + Clock + Alloc<A = Global>, T: Write + Drop>(
     rt: &R,
     words: &[String],
+    terminal: Option<T>,
 ) -> Result<Status, RunError> {
     match read(rt.alloc(), words) {
         Ok(Task::Capture) => run_capture(rt),
         Ok(Task::Check) => run_check(rt),
-        Ok(Task::Replay { reference }) => run_replay(rt, reference),
+        Ok(Task::Replay { reference }) => run_replay(rt, reference, terminal),
         Ok(
             Task::Fix {
                 firm,
@@ -127,12 +140,13 @@ fn run_check<R: Input + Print + Alloc<A = Global>>(rt: &R) -> Result<Status, Run
 }
 
 /// The script on standard input, answered on standard output, on the reference of a file.
-fn run_replay<R: Input + Print + Files + Alloc<A = Global>>(
+fn run_replay<R: Input + Print + Files + Alloc<A = Global>, T: Write + Drop>(
     rt: &R,
     path: &str,
+    terminal: Option<T>,
 ) -> Result<Status, RunError> {
     let reference = reference_at(rt, path)?;
-    let mut reads = CountedReads::new(rt.reader());
+    let mut reads = CountedReads::new(Told::new(rt.reader(), terminal));
     let mut writer = io::writer(rt);
     replay(rt.alloc(), reference, &mut reads, &mut writer)?;
     Ok(Status::Done)

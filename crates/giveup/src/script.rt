@@ -9,7 +9,7 @@ ghost use Rattle.giveup.specs.ScriptPieces.{AnswersEnd, AnswersPiece};
 ghost use Rattle.giveup.specs.ScriptSteps.{TellsLine, TellsLines, TellsSaid};
 
 use crate::questions::{answer_interest, answer_limits, answer_position};
-use crate::stepping::{answer_step, answer_sweep};
+use crate::stepping::{answer_lent, answer_sweep};
 use gu_book::Book;
 use gu_ref::Reference;
 use gu_text::{Line, TextError, is_too_long, split_at_line_feed, without_return};
@@ -18,15 +18,15 @@ use std::alloc::{AllocError, Global};
 use std::marker::Model;
 
 /// Does what a line says, and appends its text.
-fn answer_line(world: &mut World, said: Line, output: &mut Vec<u8>) -> Result<(), AllocError>
-    ensures { OnOk result (TellsLine world.old.state said output.old.items world.new.state output.new.items) }
+fn answer_line(world: &mut World, said: &Line, output: &mut Vec<u8>) -> Result<(), AllocError>
+    ensures { OnOk result (TellsLine world.old.state said.now output.old.items world.new.state output.new.items) }
 {
     match said {
-        Line::Step(step) => answer_step(world, step, output),
-        Line::Sweep(group) => answer_sweep(world, group, output),
-        Line::Position(account, symbol) => answer_position(world.book(), account, symbol, output),
-        Line::Interest(symbol) => answer_interest(world.book(), symbol, output),
-        Line::Limits(group) => answer_limits(world.book(), group, output),
+        Line::Step(step) => answer_lent(world, step, output),
+        Line::Sweep(group) => answer_sweep(world, *group, output),
+        Line::Position(account, symbol) => answer_position(world.book(), *account, *symbol, output),
+        Line::Interest(symbol) => answer_interest(world.book(), *symbol, output),
+        Line::Limits(group) => answer_limits(world.book(), *group, output),
     }
 }
 
@@ -80,9 +80,9 @@ impl Script {
     }
 
     /// Does what the line says that the rest was, which is done with it.
-    fn answer(&mut self, said: Option<Line>, output: &mut Vec<u8>) -> Result<(), AllocError>
+    fn answer(&mut self, said: &Option<Line>, output: &mut Vec<u8>) -> Result<(), AllocError>
         requires { self.old.count + 1 < 2 ^ 64 }
-        ensures told { OnOk result (TellsSaid self.old.state said output.old.items self.new.state output.new.items) }
+        ensures told { OnOk result (TellsSaid self.old.state said.now output.old.items self.new.state output.new.items) }
         ensures counted { self.new.count ≡ self.old.count + 1 }
         ensures done { self.new.rest ≡ [] }
     {
@@ -107,7 +107,7 @@ impl Script {
     {
         self.rest.extend_from_slice(front)?;
         let said = Line::read(self.alloc, without_return(&self.rest), self.count + 1)?;
-        self.answer(said, output)?;
+        self.answer(&said, output)?;
         Ok(())
     }
 
@@ -149,7 +149,7 @@ impl Script {
             return Ok(());
         }
         let said = Line::read(self.alloc, &self.rest, self.count + 1)?;
-        self.answer(said, output)?;
+        self.answer(&said, output)?;
         Ok(())
     }
 

@@ -2,16 +2,17 @@
 
 ghost use Rattle.std.specs.Prelude.{◌≡◌, ◌++◌, IfOk, None, OnOk};
 ghost use Rattle.gu_world.specs.declared.outcome.Outcome.TheVariants.{NoGroup};
+ghost use Rattle.gu_world.specs.declared.step.Step.TheVariants.{Enter};
 ghost use Rattle.gu_text.specs.Outcomes.{outcome_text};
 ghost use Rattle.gu_text.specs.declared.script_line.Line.TheVariants as line;
 ghost use Rattle.giveup.specs.Replaying.{looked, sweeper};
 ghost use Rattle.giveup.specs.ScriptSteps.{Proposes, ShowsFor, ShowsLook, TellsLine, TellsStep};
 
-use gu_terms::Group;
-use gu_text::append_outcome;
+use gu_terms::{Command, Group};
 use gu_text::texts::{append_last_word, append_word};
+use gu_text::{append_outcome, append_reply};
 use gu_view::View;
-use gu_world::{Step, Worker, World};
+use gu_world::{Answered, Step, Worker, World};
 use std::alloc::AllocError;
 
 /// The group that a step looks at.
@@ -65,6 +66,35 @@ pub fn answer_step(world: &mut World, step: Step, output: &mut Vec<u8>) -> Resul
     let appended = append_outcome(output, before.as_ref(), looked, &outcome);
     drop(outcome);
     appended
+}
+
+/// Enters a command, and appends its reply.
+fn answer_command(
+    world: &mut World,
+    command: &Command,
+    output: &mut Vec<u8>,
+) -> Result<(), AllocError>
+    ensures { OnOk result (TellsStep world.old.state (Enter command.now) output.old.items world.new.state output.new.items) }
+{
+    let _steps = world.outcomes().len();
+    let told = world.enter(command)?;
+    match told {
+        Some(Answered { number, reply }) => append_reply(output, number, &reply),
+        None => append_last_word(output, b"FULL"),
+    }
+}
+
+/// Takes a step that is lent, and appends what came of it. Only a step without a command is copied.
+pub fn answer_lent(world: &mut World, step: &Step, output: &mut Vec<u8>) -> Result<(), AllocError>
+    ensures { OnOk result (TellsStep world.old.state step.now output.old.items world.new.state output.new.items) }
+{
+    match step {
+        Step::Enter(command) => answer_command(world, command, output),
+        _ => {
+            let step = step.copy()?;
+            answer_step(world, step, output)
+        }
+    }
 }
 
 /// Has the sweeper look at a group and propose for what it saw.

@@ -7,7 +7,7 @@ use Rattle.giveup.proofs.script.answer_line.Goals as goal
 
 pub returns-in-Step : goal.returns-in-Step
 returns-in-Step c =
-    on_ok_then c.answer_step.result
-    (λ told. subst (λ (said : Line). TellsLine c.args.world.now.state said c.args.output.now.items c.answer_step.new.world.state c.answer_step.new.output.items) (sym c.in-Step.is)
-    (line_of_step c.args.world.now.state c.answer_step.new.world.state c.in-Step.step c.args.output.now.items c.answer_step.new.output.items told))
-    c.answer_step.ensures
+    on_ok_then c.answer_lent.result
+    (λ told. subst (λ (said : Line). TellsLine c.args.world.now.state said c.args.output.now.items c.answer_lent.new.world.state c.answer_lent.new.output.items) (sym c.in-Step.is)
+    (line_of_step c.args.world.now.state c.answer_lent.new.world.state c.in-Step.step c.args.output.now.items c.answer_lent.new.output.items told))
+    c.answer_lent.ensures
