@@ -46,15 +46,15 @@ fn fill(
     Ok(())
 }
 
-/// A greatest flow, and which nodes a search from the source still reaches.
-pub(crate) fn maximize(alloc: Global, net: &Network) -> Result<(Vec<u64>, Vec<Entry>), AllocError>
-    ensures flow { IfOk result (λ found. IsFlow net.now.arcs.items found.0.items) }
-    ensures from_source { IfOk result (λ found. is_reached found.1.items 0 ≡ true) }
-    ensures not_to_sink { IfOk result (λ found. is_reached found.1.items 1 ≡ false) }
-    ensures closed { IfOk result (λ found. IsClosed net.now.arcs.items found.0.items (is_reached found.1.items)) }
+/// Makes the flow greatest, and tells which nodes a search from the source still reaches.
+fn raise(alloc: Global, net: &Network, flow: &mut [u64]) -> Result<Vec<Entry>, AllocError>
+    requires flow { IsFlow net.now.arcs.items flow.old }
+    ensures flow { OnOk result (IsFlow net.now.arcs.items flow.new) }
+    ensures from_source { IfOk result (λ entries. is_reached entries.items 0 ≡ true) }
+    ensures not_to_sink { IfOk result (λ entries. is_reached entries.items 1 ≡ false) }
+    ensures closed { IfOk result (λ entries. IsClosed net.now.arcs.items flow.new (is_reached entries.items)) }
 {
     let nodes = net.nodes();
-    let mut flow = vec![in alloc; 0; net.arcs().len()]?;
     let mut entries = vec![in alloc; Entry { via: 0, level: 0 }; nodes]?;
     let mut queue = vec![in alloc; 0; nodes]?;
     let mut current = vec![in alloc; 0; nodes]?;
@@ -62,11 +62,23 @@ pub(crate) fn maximize(alloc: Global, net: &Network) -> Result<(Vec<u64>, Vec<En
     fill(
         alloc,
         net,
-        &mut flow,
+        flow,
         &mut entries,
         &mut queue,
         &mut current,
         &mut way,
     )?;
+    Ok(entries)
+}
+
+/// A greatest flow, and which nodes a search from the source still reaches.
+pub(crate) fn maximize(alloc: Global, net: &Network) -> Result<(Vec<u64>, Vec<Entry>), AllocError>
+    ensures flow { IfOk result (λ found. IsFlow net.now.arcs.items found.0.items) }
+    ensures from_source { IfOk result (λ found. is_reached found.1.items 0 ≡ true) }
+    ensures not_to_sink { IfOk result (λ found. is_reached found.1.items 1 ≡ false) }
+    ensures closed { IfOk result (λ found. IsClosed net.now.arcs.items found.0.items (is_reached found.1.items)) }
+{
+    let mut flow = vec![in alloc; 0; net.arcs().len()]?;
+    let entries = raise(alloc, net, &mut flow)?;
     Ok((flow, entries))
 }

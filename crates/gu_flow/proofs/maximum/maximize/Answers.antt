@@ -4,8 +4,10 @@ use Rattle.std.proofs.lemmas.List.Elements.{All-replicate}
 use Rattle.gu_flow.proofs.PushLemmas.{empty_flow}
 use Rattle.gu_flow.proofs.maximum.maximize.Goals as goal
 
-pub fill-requires-clause-flow : goal.fill-requires-clause-flow
-fill-requires-clause-flow c =
+pub raise-requires : goal.raise-requires
+raise-requires c =
     let n = length c.arcs.result.now in
     let none = c.in_ok-flow.ensures.items_if_clones_equal (λ y same. same) in
-    rw (c.deref_mut.ensures.value, none) (empty_flow c.args.net.now.arcs.items (replicate n 0) (All-replicate (λ f. f ≡ 0) n 0 refl) (length-replicate n 0 ∙ ap length c.arcs.ensures))
+    record {
+      flow = rw (c.deref_mut.ensures.value, none) (empty_flow c.args.net.now.arcs.items (replicate n 0) (All-replicate (λ f. f ≡ 0) n 0 refl) (length-replicate n 0 ∙ ap length c.arcs.ensures));
+    }
