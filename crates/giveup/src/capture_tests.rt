@@ -32,6 +32,16 @@ fn ran(
         piece,
         reads,
     };
+    ran_from(alloc, source, most, writes)
+}
+
+/// How a run on a source ends, and what was written.
+fn ran_from(
+    alloc: Global,
+    source: Source<'_>,
+    most: usize,
+    writes: usize,
+) -> Result<(Result<(), EngineError>, Vec<u8>), Fail> {
     let mut sink = Sink {
         held: Vec::new(alloc),
         most,
@@ -76,6 +86,24 @@ fn a_stream_may_be_cut_anywhere(rt: HostRuntime) -> Result<(), Fail> {
         let run = ran(alloc, first, 277, 1_000, 4_096, 1_000)?;
         assert!(rt; is_ended(alloc, &run, Ok(()), 232)?, "{first}");
     }
+    Ok(())
+}
+
+#[test]
+fn reports_are_answered_after_thousands_of_reads(rt: HostRuntime) -> Result<(), Fail> {
+    let alloc = rt.alloc();
+    // Bytes that begin no message, one a read, and then the two reports.
+    let mut input = wire(alloc, "x")?;
+    input.resize(3_000, b'x')?;
+    input.extend_from_slice(&wire(alloc, INPUT)?)?;
+    let source = Source {
+        bytes: &input,
+        first: 1,
+        piece: 1,
+        reads: 4_000,
+    };
+    let run = ran_from(alloc, source, 4_096, 1_000)?;
+    assert!(rt; is_ended(alloc, &run, Ok(()), 232)?);
     Ok(())
 }
 
