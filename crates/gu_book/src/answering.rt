@@ -48,8 +48,8 @@ fn is_known_key(reference: &Reference, key: LimitKey) -> bool
 {
     match key {
         LimitKey::Exec(firm) | LimitKey::Carry(firm) => reference.firm(firm),
-        LimitKey::Agr(agreement) => reference.agreement(agreement).is_some(),
-        LimitKey::Acct(account) => reference.account(account).is_some(),
+        LimitKey::Agr(agreement) => reference.is_agreement(agreement),
+        LimitKey::Acct(account) => reference.is_account(account),
         LimitKey::Guar(firm) => reference.guards(firm),
     }
 }
@@ -130,9 +130,7 @@ pub fn given_up(
 fn has_unknown_account(reference: &Reference, lines: &[Line]) -> bool
     ensures { result ≡ has_unknown_account reference.now lines.now }
 {
-    lines
-        .iter()
-        .any(|line| reference.account(line.account).is_none())
+    lines.iter().any(|line| !reference.is_account(line.account))
 }
 
 /// Whether the firm has no agreement for the account of one of the lines.

@@ -1,6 +1,6 @@
 //! The agreements of a reference, in the order of their rows.
 
-ghost use Rattle.std.specs.Prelude.{◌≡◌, ◌++◌, ◌∷◌, [], None, if◌then◌else◌, OnOk, OnErr};
+ghost use Rattle.std.specs.Prelude.{◌≡◌, ◌++◌, ◌∷◌, [], None, if◌then◌else◌, is_some, OnOk, OnErr};
 ghost use Rattle.indexmap.specs.IndexMap.{insert_entry};
 ghost use Rattle.std.specs.Result.{is_ok};
 
@@ -109,6 +109,13 @@ impl Agreements {
         ensures { result ≡ agreement_in self.now id }
     {
         self.rows.get(&id).copied()
+    }
+
+    /// Whether there is an agreement of this name.
+    pub(crate) fn contains(&self, id: AgreementId) -> bool
+        ensures { result ≡ is_some (agreement_in self.now id) }
+    {
+        self.rows.contains_key(&id)
     }
 
     /// The agreement of this executing firm and this account.

@@ -1,6 +1,6 @@
 //! The reference data of a run, its look-ups, and its walks in the order of the file.
 
-ghost use Rattle.std.specs.Prelude.{◌≡◌, ◌≤◌, [], Some, Contains, if◌then◌else◌};
+ghost use Rattle.std.specs.Prelude.{◌≡◌, ◌≤◌, [], Some, Contains, is_some, if◌then◌else◌};
 ghost use Rattle.std.specs.Result.{is_ok};
 
 use crate::accounts::Account;
@@ -153,7 +153,7 @@ impl Reference {
     pub fn is_instrument(&self, symbol: Symbol) -> bool
         ensures { result ≡ is_instrument self.now symbol }
     {
-        self.instrument(symbol).is_some()
+        self.instruments.contains(symbol)
     }
 
     /// The instrument of this symbol, with its group.
@@ -168,6 +168,20 @@ impl Reference {
         ensures { result ≡ account_row self.now account }
     {
         self.accounts.get(account)
+    }
+
+    /// Whether there is such an account.
+    pub fn is_account(&self, account: AccountId) -> bool
+        ensures { result ≡ is_some (account_row self.now account) }
+    {
+        self.accounts.contains(account)
+    }
+
+    /// Whether there is such an agreement.
+    pub fn is_agreement(&self, id: AgreementId) -> bool
+        ensures { result ≡ is_some (agreement_row self.now id) }
+    {
+        self.agreements.contains(id)
     }
 
     /// The agreement of this name.

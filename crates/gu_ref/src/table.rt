@@ -1,6 +1,6 @@
 //! Rows that are found by their names, in the order of the file.
 
-ghost use Rattle.std.specs.Prelude.{◌≡◌, ◌++◌, ◌∷◌, [], None, if◌then◌else◌};
+ghost use Rattle.std.specs.Prelude.{◌≡◌, ◌++◌, ◌∷◌, [], None, if◌then◌else◌, is_some};
 ghost use Rattle.std.specs.List.{find};
 ghost use Rattle.std.specs.Result.{is_ok};
 
@@ -64,6 +64,13 @@ impl<R: Named> Table<R> {
         ensures { result ≡ find (λ row. R.Name.eq (R.name row) name) self.now }
     {
         self.rows.get(&name).copied()
+    }
+
+    /// Whether there is a row of this name.
+    pub(crate) fn contains(&self, name: R::Name) -> bool
+        ensures { result ≡ is_some (find (λ row. R.Name.eq (R.name row) name) self.now) }
+    {
+        self.rows.contains_key(&name)
     }
 
     /// Adds a row whose name is new.

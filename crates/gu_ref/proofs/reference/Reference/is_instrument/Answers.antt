@@ -1,7 +1,12 @@
-use Rattle.std.proofs.Common.{◌∙◌, ap, is_some}
+use Rattle.std.proofs.Common.{◌∙◌, ap}
 use Rattle.gu_terms.specs.Same.{same_symbol}
+use Rattle.gu_ref.specs.Reference.{is_instrument}
+use Rattle.gu_ref.specs.Tables.{Tables}
 use Rattle.gu_ref.proofs.Lookups.{is_some-find}
 use Rattle.gu_ref.proofs.reference.Reference.is_instrument.Goals as goal
 
 pub returns : goal.returns
-returns c = c.is_some.ensures ∙ ap is_some c.instrument.ensures ∙ is_some-find (λ i. same_symbol i.symbol c.args.symbol) c.args.self.now.instruments
+returns c =
+    c.contains.ensures
+    ∙ is_some-find (λ i. same_symbol i.symbol c.args.symbol) c.self.inside.instruments
+    ∙ ap (λ (tables : Tables). is_instrument tables c.args.symbol) c.self.view_is

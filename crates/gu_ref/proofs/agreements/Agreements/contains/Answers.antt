@@ -1,0 +1,12 @@
+use Rattle.std.proofs.Common.{◌∙◌, ap, is_some}
+use Rattle.gu_ref.specs.Listed.{agreement_in}
+use Rattle.gu_terms.specs.Same.{same_agreement}
+use Rattle.gu_ref.proofs.Lookups.{by_name, lookup-by_key}
+use Rattle.gu_ref.proofs.agreements.Agreements.contains.Goals as goal
+
+pub returns : goal.returns
+returns c =
+    c.contains_key.ensures
+    ∙ ap is_some
+    (lookup-by_key same_agreement (by_name (λ k. k.name)) (λ row. row.id) c.args.id c.self.inside.rows.entries c.self.invariant.named
+    ∙ ap (λ rows. agreement_in rows c.args.id) c.self.view_is)
