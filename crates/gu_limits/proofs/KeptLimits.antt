@@ -21,7 +21,7 @@ use Rattle.gu_limits.specs.contracts.table.GroupKeyPartialEq.TheImpl as group_ke
 use Rattle.gu_limits.specs.declared.table.GroupKey.{GroupKey}
 use Rattle.gu_limits.specs.declared.table.KeptLimit.{KeptLimit}
 use Rattle.gu_limits.specs.Changes.{limits_after_charge, limits_after_return, limits_after_setting, limits_of_new_day, lots_under}
-use Rattle.gu_limits.specs.Kept.{IsWithin, limit_on, unused, used_on, with_use}
+use Rattle.gu_limits.specs.Kept.{IsWithin, limit_on, set_to, unused, used_on, with_use}
 use Rattle.gu_limits.specs.Limits.{GroupLimit, has_limit, is_of, limit_for, limit_in, room_in, row_in, same_limit, same_place, used_in}
 use Rattle.gu_limits.proofs.LimitLemmas.{same_place-one, same_place-refl, same_place-sym}
 
@@ -265,6 +265,23 @@ module _ (day : ℕ) (on : GroupKey) (lots : ℕ) where
       ∙ map-append (limit_on day) es ((on, fresh) ∷ [])
       ∙ ap (λ used. map (limit_on day) es ++ (record { group = on.group; key = on.key; limit = lots; used = used }) ∷ []) (used_on-own day 0 lots)
       ∙ sym (ap (λ b. cond b (map (λ (l : GroupLimit). record l { limit = cond (is_of on.group on.key l) lots l.limit }) (map (limit_on day) es)) (map (limit_on day) es ++ (record { group = on.group; key = on.key; limit = lots; used = 0 }) ∷ [])) unknown)
+
+  -- whether it was or not
+  pub set-kept : (es new : List (GroupKey × KeptLimit)) → new ≡ insert_entry same es on (set_to day lots (lookup (same on) es)) → IsDistinct same (keys_of new)
+      → (map (limit_on day) new ≡ limits_after_setting (map (limit_on day) es) on.group on.key lots)
+  set-kept es new is apart = by (lookup (same on) es) refl
+    where
+      by : (o : Option KeptLimit) → lookup (same on) es ≡ o → map (limit_on day) new ≡ limits_after_setting (map (limit_on day) es) on.group on.key lots
+      by None e = set-absent es new e (is ∙ ap (λ o. insert_entry same es on (set_to day lots o)) e)
+      by (Some kept) e = set-present es new kept e (is ∙ ap (λ o. insert_entry same es on (set_to day lots o)) e) apart
+
+  -- it is within what a limit may be
+  pub set-within : (es : List (GroupKey × KeptLimit)) → All (λ e. IsWithin day e.1) es → lots ≤ 1000000000 → IsWithin day (set_to day lots (lookup (same on) es))
+  set-within es all most = by (lookup (same on) es) refl
+    where
+      by : (o : Option KeptLimit) → lookup (same on) es ≡ o → IsWithin day (set_to day lots o)
+      by None e = record { limit = most; used = omega arith; charged = omega arith }
+      by (Some kept) e = let own = All-found (IsWithin day) (same on) es kept all e in record { limit = most; used = own.used; charged = own.charged }
 
 -- what holds of all holds after an insert, if it holds of the new one
 pub All-inserted : (P : KeptLimit → Type 0) (es : List (GroupKey × KeptLimit)) (on : GroupKey) (w : KeptLimit) → All (λ e. P e.1) es → P w → All (λ e. P e.1) (insert_entry same es on w)

@@ -8,7 +8,7 @@ ghost use Rattle.gu_terms.specs.LimitKeys.{key_eq};
 ghost use Rattle.gu_terms.specs.declared.group.Group.{Group as GroupOf};
 ghost use Rattle.gu_terms.specs.declared.limit_key.LimitKey.{LimitKey as LimitKeyOf};
 ghost use Rattle.gu_limits.specs.Changes.{limits_after_charge, limits_after_return, limits_after_setting, limits_of_new_day, lots_under, SameLimits, SameUses};
-ghost use Rattle.gu_limits.specs.Kept.{unused, used_on, with_use};
+ghost use Rattle.gu_limits.specs.Kept.{set_to, unused, used_on, with_use};
 ghost use Rattle.gu_limits.specs.Limits.{has_limit, limit_in, room_in, row_in, same_limit, same_place, used_in};
 
 use crate::error::SetError;
@@ -135,22 +135,7 @@ impl LimitTable {
         if lots > MOST_LIMIT {
             return Err(SetError::TooHigh);
         }
-        let on = GroupKey {
-            group: *group,
-            key: *key,
-        };
-        let kept = match self.limits.get(&on) {
-            Some(before) => KeptLimit {
-                limit: lots,
-                ..*before
-            },
-            None => KeptLimit {
-                limit: lots,
-                used: 0,
-                day: self.day,
-            },
-        };
-        put(&mut self.limits, group, key, kept)?;
+        put(&mut self.limits, group, key, lots, self.day)?;
         Ok(())
     }
 
@@ -221,15 +206,17 @@ impl LimitTable {
     }
 }
 
-/// Puts a limit in its place, or last where it has none yet.
+/// Sets a limit in its place, or last where it has none yet.
 fn put(
     limits: &mut IndexMap<GroupKey, KeptLimit>,
     group: &Group,
     key: &LimitKey,
-    kept: KeptLimit,
+    lots: u64,
+    day: u64,
 ) -> Result<(), AllocError>
     ensures put { OnOk result (limits.new.entries
-        ≡ insert_entry ⟦<GroupKey as PartialEq>⟧.eq limits.old.entries (record { group = group.now; key = key.now }) kept) }
+        ≡ insert_entry ⟦<GroupKey as PartialEq>⟧.eq limits.old.entries (record { group = group.now; key = key.now })
+        (set_to day lots (get ⟦<GroupKey as PartialEq>⟧.eq limits.old (record { group = group.now; key = key.now })))) }
     ensures apart { OnOk result (IsUnique ⟦<GroupKey as PartialEq>⟧.eq limits.new) }
     ensures refused { OnErr result (limits.new.entries ≡ limits.old.entries) }
 {
@@ -237,7 +224,12 @@ fn put(
         group: *group,
         key: *key,
     };
-    limits.insert(on, kept)?;
+    let kept = limits.entry(on)?.or_insert(KeptLimit {
+        limit: lots,
+        used: 0,
+        day,
+    });
+    kept.limit = lots;
     Ok(())
 }
 
