@@ -1,9 +1,14 @@
 -- Versions as they are kept: what one entry adds to the counts.
-use Rattle.std.proofs.Common.{◌≡◌, ℕ, suc, zero, ◌+◌, ◌<◌, ◌≤◌, ◌^◌, Bool, true, false, cond, List, [], ◌∷◌, ◌++◌, length, Option, Some, None, unwrap_or, refl, sym, ap, ◌∙◌, arith, subst, length-append, if◌then◌else◌}
+use Rattle.std.proofs.Common.{◌≡◌, ℕ, suc, zero, ◌+◌, ◌<◌, ◌≤◌, ◌^◌, Bool, true, false, cond, List, [], ◌∷◌, ◌++◌, length, Option, Some, None, unwrap_or, inl, inr, refl, sym, ap, ◌∙◌, arith, subst, length-append, if◌then◌else◌}
 use Rattle.std.specs.Prelude.{slice_get}
-use Rattle.std.specs.Option.{option_map_or}
-use Rattle.indexmap.specs.IndexMap.{get, Updates}
-use Rattle.gu_terms.proofs.SameNames.{same_group-true}
+use Rattle.std.specs.Option.{option_map, option_map_or}
+use Rattle.std.proofs.lemmas.Bool.{cases_Bool}
+use Rattle.std.proofs.lemmas.Cmp.{nat_list_eq_equiv}
+use Rattle.std.specs.Cmp.{IsEquivalence}
+use Rattle.std.specs.Map.{lookup_key, values_of}
+use Rattle.indexmap.proofs.CallerLemmas.{updates-with_value_at}
+use Rattle.indexmap.specs.IndexMap.{get, get_key_by, IsUnique, Updates, values, with_value_at}
+use Rattle.gu_terms.proofs.SameNames.{same_group-own, same_group-true}
 use Rattle.gu_terms.specs.Same.{same_group}
 use Rattle.gu_terms.specs.declared.command.Command.{Command}
 use Rattle.gu_terms.specs.declared.command.Command.TheVariants.{OpenDay, SetLimit, ReportSide, GiveUp, Claim, Refuse, Reverse}
@@ -23,7 +28,7 @@ use Rattle.gu_terms.specs.declared.report.Report.{Report}
 use Rattle.gu_ref.specs.Tables.{Tables}
 use Rattle.gu_offers.specs.Rows.{Row}
 use Rattle.gu_book.specs.Answer.{answer, done_of, given_up, state_of, tests_of}
-use Rattle.gu_book.specs.Counted.{AreVersions, group_behind, group_named, is_touched, own_in, touched_by, touched_in, version_in}
+use Rattle.gu_book.specs.Counted.{AreVersions, IsCountAt, group_behind, group_named, is_touched, own_in, touched_by, touched_in, version_in}
 use Rattle.gu_book.specs.Offers.{offers_of, standing_from, standing_of}
 use Rattle.gu_book.specs.Versions.{is_of_group, touches}
 use Rattle.gu_book.specs.declared.versions.Touched.{Touched}
@@ -39,6 +44,54 @@ version_in-new old new group days updated none other = (λ i. days i + unwrap_or
   where
     by : (b : Bool) → same_group group other ≡ b → old.days + unwrap_or (cond b (Some 0) (get same_group old.own other)) 0 ≡ version_in old other
     by true e = ap (λ n. old.days + n) (sym (ap (λ o. unwrap_or o 0) none) ∙ (λ i. own_in old (same_group-true group other e i)))
+    by false e = refl
+
+-- a stored group that is found is the one that was looked for
+stored : (group : Group) (entries : List (Group × ℕ)) (k : Group) → Some k ≡ lookup_key (same_group group) entries → k ≡ group
+stored group [] k found = cc
+stored group (e ∷ entries) k found =
+    elim (cases_Bool (same_group group e.0)) [
+      | inl hit ↦ let own : Some k ≡ Some e.0 = rw hit at found in let one : k ≡ e.0 = cc in one ∙ sym (same_group-true group e.0 hit)
+      | inr miss ↦ stored group entries k (rw miss at found)
+    ]
+
+-- what stands at the place of an entry
+value-at : (entries : List (Group × ℕ)) (place : ℕ) (e : Group × ℕ) → slice_get entries place ≡ Some e → slice_get (values_of entries) place ≡ Some e.1
+value-at [] place e h = cc
+value-at (first ∷ entries) zero e h = ap (option_map (λ (e : Group × ℕ). e.1)) h
+value-at (first ∷ entries) (suc place) e h = value-at entries place e h
+
+-- so its count stands where it was found
+pub counted-at : (versions : Versions) (place : ℕ) (group k : Group) (n : ℕ) → slice_get versions.own.entries place ≡ Some (k, n)
+    → Some k ≡ get_key_by (same_group group) versions.own → Some n ≡ get same_group versions.own group → IsCountAt versions place group
+counted-at versions place group k n here key value = record {
+  count = n;
+  here = here ∙ (λ i. Some (stored group versions.own.entries k key i, n));
+  own = sym value;
+  written = value-at versions.own.entries place (k, n) here;
+}
+
+-- a count that is written at its place is one group's
+pub version_in-touched : (old : Versions) (place : ℕ) (group : Group) (n : ℕ) → IsCountAt old place group → Some n ≡ slice_get (values old.own) place → IsUnique same_group old.own
+    → (other : Group) → version_in (record old { own = with_value_at old.own place (n + 1) }) other ≡ (if same_group group other then version_in old other + 1 else version_in old other)
+version_in-touched old place group n at found unique other =
+    ap (λ o. old.days + unwrap_or o 0) ((updates-with_value_at old.own place (n + 1) same_group-laws unique group at.count at.here).0 other)
+    ∙ by (same_group group other) refl
+  where
+    same_group-laws : IsEquivalence same_group
+    same_group-laws = record {
+      refl = same_group-own;
+      symm = λ a b. nat_list_eq_equiv.symm a.name b.name;
+      congr = λ a b c. nat_list_eq_equiv.congr a.name b.name c.name;
+    }
+
+    same : at.count ≡ n
+    same = let one : Some n ≡ Some at.count = found ∙ at.written in cc
+
+    by : (b : Bool) → same_group group other ≡ b → old.days + unwrap_or (cond b (Some (n + 1)) (get same_group old.own other)) 0 ≡ (if b then version_in old other + 1 else version_in old other)
+    by true e =
+        let own : own_in old other ≡ at.count = ap (own_in old) (sym (same_group-true group other e)) ∙ ap (λ o. unwrap_or o 0) at.own in
+        omega (arith, own, same)
     by false e = refl
 
 -- ---- which groups an entry touches

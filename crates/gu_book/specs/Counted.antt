@@ -1,7 +1,7 @@
 -- Machinery: versions as they are kept: how many days were opened, and how many other entries touched each group.
-use Rattle.std.specs.Prelude.{◌≡◌, ℕ, ◌+◌, ◌≤◌, Bool, true, false, List, length, is_some, unwrap_or}
+use Rattle.std.specs.Prelude.{◌≡◌, ℕ, ◌+◌, ◌≤◌, Bool, true, false, List, length, slice_get, Some, unwrap_or}
 use Rattle.std.specs.Option.{option_map_or}
-use Rattle.indexmap.specs.IndexMap.{get}
+use Rattle.indexmap.specs.IndexMap.{get, values}
 use Rattle.gu_terms.specs.Same.{same_group}
 use Rattle.gu_terms.specs.declared.command.Command.{Command}
 use Rattle.gu_terms.specs.declared.command.Command.TheVariants.{OpenDay, SetLimit, ReportSide, GiveUp, Claim, Refuse, Reverse}
@@ -25,9 +25,12 @@ own_in versions group = unwrap_or (get same_group versions.own group) 0
 abbrev pub version_in : Versions → Group → ℕ
 version_in versions group = versions.days + own_in versions group
 
--- a group has its count
-abbrev pub has_count : Versions → Group → Bool
-has_count versions group = is_some (get same_group versions.own group)
+-- a group has its count, and it stands at this place
+pub record IsCountAt (versions : Versions) (place : ℕ) (group : Group) : Type 0 where
+  pub count : ℕ
+  pub here : slice_get versions.own.entries place ≡ Some (group, count)
+  pub own : get same_group versions.own group ≡ Some count
+  pub written : slice_get (values versions.own) place ≡ Some count
 
 -- the counts are the versions after a history
 pub record AreVersions (history : List Entry) (versions : Versions) : Type 0 where
@@ -40,11 +43,11 @@ is_touched Nothing group = false
 is_touched (Only at) group = same_group at group
 is_touched Every group = true
 
--- a group that is touched alone has its count
-abbrev pub HasCounts : Versions → Touched → Type 0
-HasCounts versions Nothing = Unit {0}
-HasCounts versions (Only group) = has_count versions group ≡ true
-HasCounts versions Every = Unit {0}
+-- a group that is touched alone has its count, at this place
+abbrev pub HasCounts : Versions → ℕ → Touched → Type 0
+HasCounts versions place Nothing = Unit {0}
+HasCounts versions place (Only group) = IsCountAt versions place group
+HasCounts versions place Every = Unit {0}
 
 -- the group of the offer of a number
 abbrev pub group_behind : List Row → ℕ → Touched

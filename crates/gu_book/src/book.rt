@@ -114,7 +114,7 @@ impl Book {
     {
         let count = self.history.len();
         let touched = touched_in(&self.totals, command, reply);
-        know(&mut self.versions, &touched)?;
+        let place = know(&mut self.versions, &touched)?;
         self.history.push_asked(command, *reply)?;
         if accepts(reply) {
             if let Err(refused) = take_in(&mut self.totals, &self.reference, command) {
@@ -122,7 +122,7 @@ impl Book {
                 return Err(refused);
             }
         }
-        touch(&mut self.versions, &touched);
+        touch(&mut self.versions, &touched, place);
         Ok(())
     }
 
@@ -283,7 +283,7 @@ impl Book {
     {
         let sweep = sweep_of(proposal)?;
         let touched = Touched::Only(sweep.group);
-        know(&mut self.versions, &touched)?;
+        let place = know(&mut self.versions, &touched)?;
         make_ways(&mut self.totals, proposal.takes().as_slice())?;
         self.history.push_swept(sweep)?;
         move_takes(
@@ -291,7 +291,7 @@ impl Book {
             &self.reference,
             proposal.takes().as_slice(),
         );
-        touch(&mut self.versions, &touched);
+        touch(&mut self.versions, &touched, place);
         Ok(())
     }
 

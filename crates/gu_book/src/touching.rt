@@ -1,6 +1,6 @@
 //! The groups that a command touches.
 
-ghost use Rattle.std.specs.Prelude.{◌≡◌, ◌+◌, ◌<◌, ◌≤◌, ◌^◌, OnOk, if◌then◌else◌};
+ghost use Rattle.std.specs.Prelude.{◌≡◌, ◌+◌, ◌<◌, ◌≤◌, ◌^◌, IfOk, if◌then◌else◌};
 ghost use Rattle.gu_terms.specs.declared.group.Group.{Group as GroupOf};
 ghost use Rattle.gu_book.specs.Counted.{HasCounts, group_behind, group_named, is_touched, touched_by, touched_in, version_in};
 
@@ -54,21 +54,21 @@ pub fn touched_in(totals: &Totals, command: &Command, reply: &Reply) -> Touched
     }
 }
 
-/// Sees to it that a group that is touched alone has its count. No version changes.
-pub fn know(versions: &mut Versions, touched: &Touched) -> Result<(), AllocError>
-    ensures known { OnOk result (HasCounts versions.new touched.now) }
+/// Sees to it that a group that is touched alone has its count, and answers its place. No version changes.
+pub fn know(versions: &mut Versions, touched: &Touched) -> Result<usize, AllocError>
+    ensures known { IfOk result (λ place. HasCounts versions.new place touched.now) }
     ensures days { versions.new.days ≡ versions.old.days }
     ensures same { (group : GroupOf) → version_in versions.new group ≡ version_in versions.old group }
 {
     match touched {
         Touched::Only(group) => versions.know(group),
-        Touched::Nothing | Touched::Every => Ok(()),
+        Touched::Nothing | Touched::Every => Ok(0),
     }
 }
 
-/// An entry touches these groups.
-pub fn touch(versions: &mut Versions, touched: &Touched)
-    requires known { HasCounts versions.old touched.now }
+/// An entry touches these groups; the count of one that is touched alone stands at this place.
+pub fn touch(versions: &mut Versions, touched: &Touched, place: usize)
+    requires known { HasCounts versions.old place touched.now }
     requires fits { (group : GroupOf) → version_in versions.old group + 1 < 2 ^ 64 }
     requires days { versions.old.days + 1 < 2 ^ 64 }
     ensures days { versions.new.days ≤ versions.old.days + 1 }
@@ -77,7 +77,7 @@ pub fn touch(versions: &mut Versions, touched: &Touched)
 {
     match touched {
         Touched::Nothing => {}
-        Touched::Only(group) => versions.touch(group),
+        Touched::Only(group) => versions.touch(group, place),
         Touched::Every => versions.touch_all(),
     }
 }

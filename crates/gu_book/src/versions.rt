@@ -1,6 +1,7 @@
 //! Versions of groups, as running counts.
 
-ghost use Rattle.std.specs.Prelude.{◌≡◌, ◌+◌, ◌<◌, ◌^◌, OnOk, true, if◌then◌else◌};
+ghost use Rattle.std.specs.Prelude.{◌≡◌, ◌+◌, ◌<◌, ◌^◌, is_some, IfOk, IfSome, if◌then◌else◌};
+ghost use Rattle.indexmap.specs.IndexMap.{get};
 ghost use Rattle.gu_terms.specs.declared.group.Group.{Group as GroupOf};
 ghost use Rattle.gu_terms.specs.Same.{same_group};
 
@@ -35,7 +36,7 @@ impl Drop for Versions {
 }
 
 impl Versions {
-    ghost use Rattle.gu_book.specs.Counted.{has_count, version_in};
+    ghost use Rattle.gu_book.specs.Counted.{IsCountAt, version_in};
 
     /// No entry touched a group.
     pub fn new(alloc: Global) -> Self
@@ -56,28 +57,40 @@ impl Versions {
         self.days + self.own.get(group).copied().unwrap_or(0)
     }
 
-    /// Sees to it that a group has its count. No version changes.
-    pub fn know(&mut self, group: &Group) -> Result<(), AllocError>
-        ensures known { OnOk result (has_count self.new group.now ≡ true) }
+    /// The place of a group's count, where it has one.
+    fn place_of(&self, group: &Group) -> Option<usize>
+        ensures at { IfSome result (λ place. IsCountAt self.now place group.now) }
+        ensures there { is_some result ≡ is_some (get ⟦<Group as PartialEq>⟧.eq self.now.own group.now) }
+    {
+        let (place, _, _) = self.own.get_full(group)?;
+        Some(place)
+    }
+
+    /// Sees to it that a group has its count, and answers its place. No version changes.
+    pub fn know(&mut self, group: &Group) -> Result<usize, AllocError>
+        ensures known { IfOk result (λ place. IsCountAt self.new place group.now) }
         ensures days { self.new.days ≡ self.old.days }
         ensures same { (other : GroupOf) → version_in self.new other ≡ version_in self.old other }
     {
-        if self.own.contains_key(group) {
-            return Ok(());
+        if let Some(place) = self.place_of(group) {
+            return Ok(place);
         }
         self.own.insert(*group, 0)?;
-        Ok(())
+        let Some(place) = self.place_of(group) else {
+            unreachable!();
+        };
+        Ok(place)
     }
 
-    /// An entry touches a group, which has its count.
-    pub fn touch(&mut self, group: &Group)
-        requires known { has_count self.old group.now ≡ true }
+    /// An entry touches a group, whose count stands at this place.
+    pub fn touch(&mut self, group: &Group, place: usize)
+        requires known { IsCountAt self.old place group.now }
         requires fits { version_in self.old group.now + 1 < 2 ^ 64 }
         ensures days { self.new.days ≡ self.old.days }
         ensures one { (other : GroupOf)
             → version_in self.new other ≡ (if same_group group.now other then version_in self.old other + 1 else version_in self.old other) }
     {
-        let Some(count) = self.own.get_mut(group) else {
+        let Some(count) = self.own.get_index_mut(place) else {
             unreachable!();
         };
         *count += 1;
