@@ -150,17 +150,7 @@ impl Totals {
     {
         let waiting = first_side(self.trades.trade(report.match_id));
         make_rows_of_trade(&mut self.positions, &waiting, report)?;
-        self.trades.report(
-            report.firm,
-            report.id,
-            report.match_id,
-            report.symbol,
-            report.lots,
-            report.price,
-            report.day,
-            report.side,
-            report.account,
-        )?;
+        self.trades.push(report)?;
         if let Some(waiting) = &waiting {
             hold(&mut self.positions, waiting);
             hold(&mut self.positions, report);

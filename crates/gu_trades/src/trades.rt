@@ -251,7 +251,8 @@ impl Trades {
         ensures matching { IfOk result (λ matching. matching ≡ matching_of (with_match match_id self.old)) }
         ensures refused { OnErr result (self.new ≡ self.old) }
     {
-        let report = Report {
+        let matching = self.matching(&match_id);
+        self.push(&Report {
             firm,
             id,
             match_id,
@@ -261,25 +262,43 @@ impl Trades {
             day,
             side,
             account,
-        };
-        let id_number = id_number(&self.seed, &firm, &id);
-        let match_number = match_number(&self.seed, &match_id);
+        })?;
+        Ok(matching)
+    }
+
+    /// What one more report with this match id does.
+    fn matching(&self, match_id: &Id) -> Matching
+        ensures { result ≡ matching_of (with_match match_id.now self.now) }
+    {
+        let number = match_number(&self.seed, match_id);
         let last = last_with(
             &self.reports,
             &self.by_match,
             &self.seed,
-            &match_id,
-            match_number,
+            match_id,
+            number,
             None,
         );
+        Matching::behind(last)
+    }
+
+    /// Takes in a report as `report` does, without an answer: for a caller that knows the reports with its match id.
+    pub fn push(&mut self, report: &Report) -> Result<(), AllocError>
+        requires new_id { has_report self.old report.now.firm report.now.id ≡ false }
+        requires fits { conflicts (with_match report.now.match_id self.old) report.now ≡ false }
+        ensures taken { OnOk result (self.new ≡ self.old ++ report.now ∷ []) }
+        ensures refused { OnErr result (self.new ≡ self.old) }
+    {
+        let id_number = id_number(&self.seed, &report.firm, &report.id);
+        let match_number = match_number(&self.seed, &report.match_id);
         add(
             &mut self.reports,
             &mut self.by_id,
             &mut self.by_match,
             id_number,
             match_number,
-            &report,
+            report,
         )?;
-        Ok(Matching::behind(last))
+        Ok(())
     }
 }

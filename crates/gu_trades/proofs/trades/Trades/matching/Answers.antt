@@ -1,0 +1,11 @@
+use Rattle.std.proofs.Common.{◌∙◌, ap}
+use Rattle.gu_trades.specs.Matching.{matching_of}
+use Rattle.gu_trades.specs.Reports.{with_match}
+use Rattle.gu_trades.proofs.ReportPlaces.{matching-is}
+use Rattle.gu_trades.proofs.trades.Trades.matching.Goals as goal
+
+pub returns : goal.returns
+returns c =
+    let last = rw c.deref.ensures.value at c.last_with-last.ensures in
+    c.behind.ensures ∙ matching-is c.self.inside.reports.items c.args.match_id.now c.last_with-last.result last
+    ∙ ap (λ reports. matching_of (with_match c.args.match_id.now reports)) c.self.view_is
