@@ -1,6 +1,6 @@
 //! What a line of a script says.
 
-ghost use Rattle.std.specs.Prelude.{◌≡◌, ◌∷◌, ℕ, false, IfOk, IsErrOf, IsTrue, MatchOption};
+ghost use Rattle.std.specs.Prelude.{◌≡◌, ◌≢◌, ◌∷◌, ℕ, false, IfOk, IsErrOf, IsTrue, MatchOption};
 ghost use Rattle.gu_text.specs.Lines.{is_silent};
 ghost use Rattle.gu_text.specs.ScriptForms.{Reads, ReadsWords};
 ghost use Rattle.gu_text.specs.Scripts.{IsBad, Says};
@@ -32,25 +32,36 @@ pub enum Line {
     Limits(Group),
 }
 
+/// What the words behind the word of a form say that takes no memory.
+fn plain_said(form: Form, words: &[u8]) -> Option<Line>
+    requires { form ≢ Form.GiveUp }
+    ensures { Reads form (words_of words.now) result }
+{
+    match form {
+        Form::GiveUp => unreachable!(),
+        Form::Day => day_said(words),
+        Form::Limit => limit_said(words),
+        Form::Report => report_said(words),
+        Form::Claim => claim_said(words),
+        Form::Refuse => refuse_said(words),
+        Form::Reverse => reverse_said(words),
+        Form::See => see_said(words),
+        Form::Propose => propose_said(words),
+        Form::Commit => commit_said(words),
+        Form::Sweep => sweep_said(words),
+        Form::Position => position_said(words),
+        Form::Interest => interest_said(words),
+        Form::Limits => limits_said(words),
+    }
+}
+
 /// What the words behind the word of a form say.
 fn form_said(alloc: Global, form: Form, words: &[u8]) -> Result<Option<Line>, AllocError>
     ensures { IfOk result (Reads form (words_of words.now)) }
 {
     match form {
-        Form::Day => Ok(day_said(words)),
-        Form::Limit => Ok(limit_said(words)),
-        Form::Report => Ok(report_said(words)),
         Form::GiveUp => give_up_said(alloc, words),
-        Form::Claim => Ok(claim_said(words)),
-        Form::Refuse => Ok(refuse_said(words)),
-        Form::Reverse => Ok(reverse_said(words)),
-        Form::See => Ok(see_said(words)),
-        Form::Propose => Ok(propose_said(words)),
-        Form::Commit => Ok(commit_said(words)),
-        Form::Sweep => Ok(sweep_said(words)),
-        Form::Position => Ok(position_said(words)),
-        Form::Interest => Ok(interest_said(words)),
-        Form::Limits => Ok(limits_said(words)),
+        _ => Ok(plain_said(form, words)),
     }
 }
 
@@ -87,9 +98,10 @@ impl Line {
         if is_silent(line) {
             return Ok(None);
         }
-        match spoken(alloc, line)? {
-            Some(said) => Ok(Some(said)),
-            None => Err(TextError::BadLine(number)),
+        let said = spoken(alloc, line)?;
+        if said.is_none() {
+            return Err(TextError::BadLine(number));
         }
+        Ok(said)
     }
 }

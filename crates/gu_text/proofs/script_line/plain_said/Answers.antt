@@ -1,4 +1,4 @@
-use Rattle.gu_text.proofs.script_line.form_said.Goals as goal
+use Rattle.gu_text.proofs.script_line.plain_said.Goals as goal
 
 pub returns-in-Day : goal.returns-in-Day
 returns-in-Day c = rw c.in-Day.is c.day_said.ensures
