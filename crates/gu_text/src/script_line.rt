@@ -55,22 +55,13 @@ fn plain_said(form: Form, words: &[u8]) -> Option<Line>
     }
 }
 
-/// What the words behind the word of a form say.
-fn form_said(alloc: Global, form: Form, words: &[u8]) -> Result<Option<Line>, AllocError>
-    ensures { IfOk result (Reads form (words_of words.now)) }
-{
-    match form {
-        Form::GiveUp => give_up_said(alloc, words),
-        _ => Ok(plain_said(form, words)),
-    }
-}
-
 /// What words say, the first of which stands apart.
 fn words_say(alloc: Global, kind: &[u8], words: &[u8]) -> Result<Option<Line>, AllocError>
     ensures { IfOk result (ReadsWords (kind.now ∷ words_of words.now)) }
 {
     match Form::begun(kind) {
-        Some(form) => form_said(alloc, form, words),
+        Some(Form::GiveUp) => give_up_said(alloc, words),
+        Some(form) => Ok(plain_said(form, words)),
         None => Ok(None),
     }
 }
