@@ -1,5 +1,5 @@
 //! Messages from fields.
-ghost use Rattle.std.specs.Prelude.{◌≡◌, ◌==◌, ◌≤◌, ◌<◌, ◌+◌, ◌++◌, ◌↔◌, List, ℕ, [], ◌∷◌, length, Some, None, IfOk, OnOk, IsErrOf, MatchOption, MatchResult, IsTrue, not, ◌&&◌};
+ghost use Rattle.std.specs.Prelude.{◌≡◌, ◌==◌, ◌≤◌, ◌<◌, ◌+◌, ◌++◌, ◌↔◌, List, ℕ, [], ◌∷◌, length, drop, sum, ◌%◌, Some, None, IfOk, OnOk, OnErr, IsErrOf, MatchOption, MatchResult, IsTrue, not, ◌&&◌};
 ghost use Rattle.std.specs.List.{list_any, list_all};
 ghost use Rattle.std.specs.Fmt.{decimal};
 ghost use Rattle.gu_fix.specs.WholeMessage.{soh, front_of, trailer_after, IsWhole};
@@ -106,7 +106,8 @@ fn three_digits(number: u32) -> [u8; 3]
 
 /// Appends the digits of a tag, of which most have two or three.
 fn push_tag(out: &mut Vec<u8>, tag: u32) -> Result<(), AllocError>
-    ensures { OnOk result (out.new.items ≡ out.old.items ++ decimal tag) }
+    ensures ok { OnOk result (out.new.items ≡ out.old.items ++ decimal tag) }
+    ensures err { OnErr result ((tail : List ℕ) × (out.new.items ≡ out.old.items ++ tail)) }
 {
     if 10 <= tag {
         if tag < 100 {
@@ -121,7 +122,8 @@ fn push_tag(out: &mut Vec<u8>, tag: u32) -> Result<(), AllocError>
 }
 
 fn push_field(out: &mut Vec<u8>, field: Field) -> Result<(), AllocError>
-    ensures { OnOk result (out.new.items ≡ out.old.items ++ field_text (tag_value field.entry.tag field.entry.value.now)) }
+    ensures ok { OnOk result (out.new.items ≡ out.old.items ++ field_text (tag_value field.entry.tag field.entry.value.now)) }
+    ensures err { OnErr result ((tail : List ℕ) × (out.new.items ≡ out.old.items ++ tail)) }
 {
     push_tag(out, field.tag)?;
     out.push(b'=')?;
@@ -131,7 +133,8 @@ fn push_field(out: &mut Vec<u8>, field: Field) -> Result<(), AllocError>
 }
 
 fn push_fields(out: &mut Vec<u8>, fields: &Fields) -> Result<(), AllocError>
-    ensures { OnOk result (out.new.items ≡ out.old.items ++ fields_text fields.now) }
+    ensures ok { OnOk result (out.new.items ≡ out.old.items ++ fields_text fields.now) }
+    ensures err { OnErr result ((tail : List ℕ) × (out.new.items ≡ out.old.items ++ tail)) }
 {
     for field in fields {
         push_field(out, field)?;
@@ -172,18 +175,43 @@ fn body_length(fields: &Fields) -> Option<usize>
     Some(total)
 }
 
+/// The sum of the bytes from a place on, modulo 256.
+fn checksum_from(bytes: &[u8], start: usize) -> u8
+    requires { start ≤ length bytes.now }
+    ensures { result ≡ sum (drop start bytes.now) % 256 }
+{
+    checksum(&bytes[start..])
+}
+
+/// Appends the message of these fields, whose text has this length with these digits.
+fn push_message(
+    out: &mut Vec<u8>,
+    len: usize,
+    digits: &[u8],
+    fields: &Fields,
+) -> Result<(), AllocError>
+    requires { FIXED_LENGTH + length digits.now + len ≤ LONGEST }
+    ensures ok { OnOk result (let front = front_of digits.now (fields_text fields.now) in out.new.items ≡ out.old.items ++ front ++ trailer_after front) }
+    ensures err { OnErr result ((tail : List ℕ) × (out.new.items ≡ out.old.items ++ tail)) }
+{
+    out.reserve(FIXED_LENGTH + digits.len() + len)?;
+    let start = out.len();
+    out.extend_from_slice(OPENING)?;
+    out.extend_from_slice(digits)?;
+    out.push(SOH)?;
+    push_fields(out, fields)?;
+    let sum = checksum_from(out, start);
+    out.extend_from_slice(&trailer(sum))?;
+    Ok(())
+}
+
 /// The message of these fields, whose text has this length with these digits.
 fn message(alloc: Global, len: usize, digits: &[u8], fields: &Fields) -> Result<Vec<u8>, AllocError>
     requires { FIXED_LENGTH + length digits.now + len ≤ LONGEST }
     ensures { IfOk result (λ v. let front = front_of digits.now (fields_text fields.now) in v.items ≡ front ++ trailer_after front) }
 {
-    let mut out = Vec::with_capacity(alloc, FIXED_LENGTH + digits.len() + len)?;
-    out.extend_from_slice(OPENING)?;
-    out.extend_from_slice(digits)?;
-    out.push(SOH)?;
-    push_fields(&mut out, fields)?;
-    let sum = checksum(&out);
-    out.extend_from_slice(&trailer(sum))?;
+    let mut out = Vec::new(alloc);
+    push_message(&mut out, len, digits, fields)?;
     Ok(out)
 }
 
@@ -231,5 +259,26 @@ pub fn encode(alloc: Global, fields: &Fields) -> Result<Vec<u8>, EncodeError>
     match message(alloc, len, digits.format(len).as_bytes(), fields) {
         Ok(out) => Ok(out),
         Err(_) => Err(EncodeError::Memory),
+    }
+}
+
+/// Appends the message of fields that have no fault, so that none is looked for.
+pub fn encode_onto(output: &mut Vec<u8>, fields: &Fields) -> Result<(), AllocError>
+    requires { fault_of fields.now ≡ None }
+    ensures message { OnOk result (output.new.items ≡ output.old.items ++ message_of fields.now) }
+    ensures whole { IsWhole (message_of fields.now) }
+    ensures refused { OnErr result (output.new.items ≡ output.old.items) }
+{
+    let Some(len) = body_length(fields) else {
+        unreachable!();
+    };
+    let mut digits = Buffer::new();
+    let start = output.len();
+    match push_message(output, len, digits.format(len).as_bytes(), fields) {
+        Ok(()) => Ok(()),
+        Err(refused) => {
+            output.truncate(start);
+            Err(refused)
+        }
     }
 }

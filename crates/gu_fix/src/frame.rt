@@ -36,4 +36,12 @@ impl Frame {
     {
         &self.bytes
     }
+
+    /// The message's bytes themselves.
+    pub(crate) fn into_bytes(self) -> Vec<u8>
+        ensures value { result.items ≡ self }
+        ensures whole { IsWhole self }
+    {
+        self.bytes
+    }
 }

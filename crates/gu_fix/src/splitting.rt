@@ -116,19 +116,25 @@ fn spans_of(alloc: Global, bytes: &[u8]) -> Result<(Vec<Span>, Option<FieldFault
     Ok((spans, fault))
 }
 
-/// The fields of a message's bytes, and the first part that is none.
-fn fields_of(alloc: Global, bytes: &[u8]) -> Result<(Fields, Option<FieldFault>), AllocError>
-    requires { IsWhole bytes.now }
-    ensures { IfOk result (λ r. HasFields bytes.now r.0 r.1) }
+/// The fields of a message, whose values lie in its own bytes, and the first part that is none.
+fn fields_of(alloc: Global, bytes: Vec<u8>) -> Result<(Fields, Option<FieldFault>), AllocError>
+    requires { IsWhole bytes.items }
+    ensures { IfOk result (λ r. HasFields bytes.items r.0 r.1) }
 {
-    let (spans, fault) = spans_of(alloc, bytes)?;
-    let copy = Vec::from_slice(alloc, bytes)?;
-    Ok((Fields::lying_in(copy, spans), fault))
+    let (spans, fault) = spans_of(alloc, &bytes)?;
+    Ok((Fields::lying_in(bytes, spans), fault))
 }
 
 /// The well-formed fields of a message in order, and the first malformed one.
 pub fn fields(alloc: Global, frame: &Frame) -> Result<(Fields, Option<FieldFault>), AllocError>
     ensures { IfOk result (λ r. HasFields frame.now r.0 r.1) }
 {
-    fields_of(alloc, frame.bytes())
+    fields_of(alloc, Vec::from_slice(alloc, frame.bytes())?)
+}
+
+/// The same of a message that isn't used any more: its bytes hold the fields.
+pub fn into_fields(alloc: Global, frame: Frame) -> Result<(Fields, Option<FieldFault>), AllocError>
+    ensures { IfOk result (λ r. HasFields frame r.0 r.1) }
+{
+    fields_of(alloc, frame.into_bytes())
 }

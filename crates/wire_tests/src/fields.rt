@@ -1,6 +1,6 @@
 //! What the fields of a message are.
 use crate::messages::{SHORTEST, frame_in, longest_value, most_fields, text_of, wire};
-use gu_fix::fields;
+use gu_fix::{FieldFault, Fields, fields, into_fields};
 use std::alloc::{AllocError, Global};
 
 /// A message, its fields, and the tag and the reason of the first that is malformed.
@@ -74,12 +74,26 @@ pub const ROWS: [Row; 13] = [
     ),
 ];
 
-/// Whether a message is split as its row says.
+/// Whether fields and a fault are what a row says.
+fn are_those_of(
+    alloc: Global,
+    row: &Row,
+    fields: &Fields,
+    fault: Option<FieldFault>,
+) -> Result<bool, AllocError> {
+    let found = fault.map(|fault| (fault.tag, fault.reason.number()));
+    Ok(found == row.2 && text_of(alloc, fields)?.as_str() == row.1)
+}
+
+/// Whether a message is split as its row says, also where its own bytes hold the fields.
 fn is_split(alloc: Global, row: &Row) -> Result<bool, AllocError> {
     let frame = frame_in(alloc, wire(alloc, row.0)?.as_bytes())?;
-    let (fields, fault) = fields(alloc, &frame)?;
-    let found = fault.map(|fault| (fault.tag, fault.reason.number()));
-    Ok(found == row.2 && text_of(alloc, &fields.copy(alloc)?)?.as_str() == row.1)
+    let (copied, fault) = fields(alloc, &frame)?;
+    let (held, same_fault) = into_fields(alloc, frame)?;
+    Ok(
+        are_those_of(alloc, row, &copied.copy(alloc)?, fault)?
+            && are_those_of(alloc, row, &held, same_fault)?,
+    )
 }
 
 /// The first message that isn't split as its row says.
