@@ -7,6 +7,7 @@ pub mod Values
 pub mod StandardHeader
 pub mod AllocStatuses
 pub mod TestReqIds
+pub mod Kept
 pub mod Kinds
 pub mod Groups
 pub mod Shape

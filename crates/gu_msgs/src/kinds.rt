@@ -1,6 +1,8 @@
 //! What is wrong with the text of a field.
 
-ghost use Rattle.std.specs.Prelude.{◌≡◌, ◌↔◌, IsTrue, MatchOption, if◌then◌else◌, Some, None};
+ghost use Rattle.std.specs.Prelude.{◌≡◌, ◌↔◌, IsTrue, MatchOption, MatchResult, if◌then◌else◌, Some, None};
+ghost use Rattle.gu_terms.specs.Days.{WritesDay};
+ghost use Rattle.gu_terms.specs.NumberText.{MeansLots, MeansPrice};
 ghost use Rattle.gu_msgs.specs.Kinds.{IsAtFault, IsSound, IsYesOrNo};
 ghost use Rattle.gu_msgs.specs.declared.row.Kind.TheVariants as kind;
 
@@ -9,7 +11,7 @@ use crate::reject_reason::SessionRejectReason;
 use crate::row::Kind;
 use crate::test_req_id::is_test_req_id;
 use crate::whole_number::{is_numeral, number_of};
-use gu_terms::{Day, FirmId, Id, NumberError, read_lots, read_price};
+use gu_terms::{Day, FirmId, Id, Lots, NumberError, Price, read_lots, read_price};
 
 /// Whether a text is `Y` or `N`.
 fn is_yes_or_no(text: &[u8]) -> bool
@@ -29,36 +31,36 @@ fn unless(is_sound: bool) -> Option<SessionRejectReason>
     }
 }
 
-/// What is wrong with the text of lots.
-fn lots_fault(text: &[u8]) -> Option<SessionRejectReason>
-    ensures { MatchOption result (IsSound kind.Lots text.now) (λ reason. IsAtFault kind.Lots text.now reason) }
+/// The lots of a text, or what is wrong with it.
+pub fn sound_lots(text: &[u8]) -> Result<Lots, SessionRejectReason>
+    ensures { MatchResult result (MeansLots text.now) (λ reason. IsAtFault kind.Lots text.now reason) }
 {
     match read_lots(text) {
-        Ok(_) => None,
-        Err(NumberError::BadNumber) => Some(SessionRejectReason::IncorrectDataFormat),
-        Err(NumberError::OutOfRange) => Some(SessionRejectReason::ValueIsIncorrect),
+        Ok(lots) => Ok(lots),
+        Err(NumberError::BadNumber) => Err(SessionRejectReason::IncorrectDataFormat),
+        Err(NumberError::OutOfRange) => Err(SessionRejectReason::ValueIsIncorrect),
     }
 }
 
-/// What is wrong with the text of a price.
-fn price_fault(text: &[u8]) -> Option<SessionRejectReason>
-    ensures { MatchOption result (IsSound kind.Price text.now) (λ reason. IsAtFault kind.Price text.now reason) }
+/// The price of a text, or what is wrong with it.
+pub fn sound_price(text: &[u8]) -> Result<Price, SessionRejectReason>
+    ensures { MatchResult result (MeansPrice text.now) (λ reason. IsAtFault kind.Price text.now reason) }
 {
     match read_price(text) {
-        Ok(_) => None,
-        Err(NumberError::BadNumber) => Some(SessionRejectReason::IncorrectDataFormat),
-        Err(NumberError::OutOfRange) => Some(SessionRejectReason::ValueIsIncorrect),
+        Ok(price) => Ok(price),
+        Err(NumberError::BadNumber) => Err(SessionRejectReason::IncorrectDataFormat),
+        Err(NumberError::OutOfRange) => Err(SessionRejectReason::ValueIsIncorrect),
     }
 }
 
-/// What is wrong with the text of a date.
-fn date_fault(text: &[u8]) -> Option<SessionRejectReason>
-    ensures { MatchOption result (IsSound kind.Date text.now) (λ reason. IsAtFault kind.Date text.now reason) }
+/// The day of a text, or what is wrong with it.
+pub fn sound_day(text: &[u8]) -> Result<Day, SessionRejectReason>
+    ensures { MatchResult result (λ d. WritesDay text.now d.year d.month d.day) (λ reason. IsAtFault kind.Date text.now reason) }
 {
     match Day::read(text) {
-        Ok(_) => None,
-        Err(NumberError::BadNumber) => Some(SessionRejectReason::IncorrectDataFormat),
-        Err(NumberError::OutOfRange) => Some(SessionRejectReason::ValueIsIncorrect),
+        Ok(day) => Ok(day),
+        Err(NumberError::BadNumber) => Err(SessionRejectReason::IncorrectDataFormat),
+        Err(NumberError::OutOfRange) => Err(SessionRejectReason::ValueIsIncorrect),
     }
 }
 
@@ -97,9 +99,9 @@ pub fn text_fault(kind: Kind, text: &[u8]) -> Option<SessionRejectReason>
     ensures { MatchOption result (IsSound kind text.now) (λ reason. IsAtFault kind text.now reason) }
 {
     match kind {
-        Kind::Lots => lots_fault(text),
-        Kind::Price => price_fault(text),
-        Kind::Date => date_fault(text),
+        Kind::Lots => sound_lots(text).err(),
+        Kind::Price => sound_price(text).err(),
+        Kind::Date => sound_day(text).err(),
         Kind::Number(least, most) => number_fault(text, least, most),
         Kind::Status => status_fault(text),
         Kind::Text => None,

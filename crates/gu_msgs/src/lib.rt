@@ -14,6 +14,7 @@ mod field_values;
 mod groups;
 mod header_reading;
 pub mod inbound;
+mod kept_values;
 mod kinds;
 mod laws;
 mod midnight;

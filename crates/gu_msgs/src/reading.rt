@@ -4,6 +4,7 @@ ghost use Rattle.std.specs.Prelude.{◌≡◌, Some, IfErr, IfOk, MatchResult};
 ghost use Rattle.gu_fix.specs.declared.tag.TheConstants.{MSG_TYPE};
 ghost use Rattle.gu_msgs.specs.Faults.{IsRefusal, untyped_fault};
 ghost use Rattle.gu_msgs.specs.Held.{IsDisagreed, IsTypedRefusal, IsWellMade};
+ghost use Rattle.gu_msgs.specs.Kept.{AreKept};
 ghost use Rattle.gu_msgs.specs.Messages.{Says};
 ghost use Rattle.gu_msgs.specs.MsgTypes.{code_of};
 ghost use Rattle.gu_msgs.specs.Standings.{AreStandings};
@@ -15,6 +16,7 @@ use crate::allocation_report_ack::read_allocation_report_ack;
 use crate::fault::{Fault, MsgFault};
 use crate::field_values::first_value;
 use crate::inbound::Inbound;
+use crate::kept_values::{KeptValues, NONE_KEPT};
 use crate::msg_type::MsgType;
 use crate::reject_reason::SessionRejectReason;
 use crate::request_for_positions::read_request_for_positions;
@@ -37,7 +39,9 @@ fn read_well_made(
     fields: &Run<'_>,
     msg_type: MsgType,
     numbers: &Standings,
+    kept: &KeptValues,
 ) -> Result<Inbound, MsgFault>
+    requires kept { AreKept fields.now kept.now }
     requires made { IsWellMade msg_type fields.now }
     requires standings { AreStandings (outer_rows msg_type) fields.now numbers.now }
     ensures { MatchResult result (Says fields.now) (IsDisagreed msg_type fields.now) }
@@ -50,7 +54,7 @@ fn read_well_made(
         MsgType::SequenceReset => read_sequence_reset(fields),
         MsgType::Logout => Ok(Inbound::Logout),
         MsgType::Logon => read_logon(fields),
-        MsgType::TradeCaptureReport => read_trade_capture_report(fields, numbers),
+        MsgType::TradeCaptureReport => read_trade_capture_report(fields, numbers, kept),
         MsgType::AllocationInstruction => read_allocation_instruction(alloc, fields),
         MsgType::AllocationReportAck => read_allocation_report_ack(fields),
         MsgType::RequestForPositions => read_request_for_positions(fields),
@@ -66,10 +70,11 @@ fn read_typed(alloc: Global, fields: &Run<'_>, msg_type: MsgType) -> Result<Inbo
     if let Some(fault) = shape_fault(fields, msg_type, &mut numbers) {
         return Err(MsgFault::Rejected(fault));
     }
-    if let Some(fault) = value_fault(fields, msg_type, &numbers) {
+    let mut kept = NONE_KEPT;
+    if let Some(fault) = value_fault(fields, msg_type, &numbers, &mut kept) {
         return Err(MsgFault::Rejected(fault));
     }
-    read_well_made(alloc, fields, msg_type, &numbers)
+    read_well_made(alloc, fields, msg_type, &numbers, &kept)
 }
 
 /// The fault of fields without a type.

@@ -2,6 +2,7 @@
 
 ghost use Rattle.std.specs.Prelude.{◌≡◌, Some, IsTrue};
 ghost use Rattle.gu_terms.specs.NumberText.{MeansLots, MeansPrice};
+ghost use Rattle.gu_msgs.specs.Kept.{AreKept};
 ghost use Rattle.gu_msgs.specs.Kinds.{IsSound};
 ghost use Rattle.gu_msgs.specs.Messages.{GivesDay};
 ghost use Rattle.gu_msgs.specs.Standings.{AreStandings};
@@ -10,6 +11,7 @@ ghost use Rattle.gu_msgs.specs.Values.{Holds, MayHold, first_value, stands};
 ghost use Rattle.gu_msgs.specs.declared.msg_type.MsgType.TheVariants as msg_type;
 ghost use Rattle.gu_msgs.specs.declared.row.Kind.TheVariants as kind;
 
+use crate::kept_values::KeptValues;
 use crate::msg_type::MsgType;
 use crate::run::Run;
 use crate::standings::{Standings, outer_value};
@@ -51,8 +53,8 @@ pub fn symbol_in(fields: &Run<'_>, numbers: &Standings, tag: u32) -> Symbol
     symbol
 }
 
-/// The lots that a tag holds.
-pub fn lots_in(fields: &Run<'_>, numbers: &Standings, tag: u32) -> Lots
+/// The lots in the text of a tag that stands.
+fn lots_read_in(fields: &Run<'_>, numbers: &Standings, tag: u32) -> Lots
     requires standings { AreStandings (outer_rows msg_type.TradeCaptureReport) fields.now numbers.now }
     requires held { Holds tag (IsSound kind.Lots) fields.now }
     ensures { Holds tag (λ text. MeansLots text result) fields.now }
@@ -63,12 +65,31 @@ pub fn lots_in(fields: &Run<'_>, numbers: &Standings, tag: u32) -> Lots
     lots
 }
 
+/// The lots that a tag holds.
+pub fn lots_in(fields: &Run<'_>, numbers: &Standings, kept: &KeptValues, tag: u32) -> Lots
+    requires standings { AreStandings (outer_rows msg_type.TradeCaptureReport) fields.now numbers.now }
+    requires held { Holds tag (IsSound kind.Lots) fields.now }
+    requires kept { AreKept fields.now kept.now }
+    ensures { Holds tag (λ text. MeansLots text result) fields.now }
+{
+    match kept.lots {
+        Some((of, lots)) if of == tag => lots,
+        _ => lots_read_in(fields, numbers, tag),
+    }
+}
+
 /// The price that a tag holds.
-pub fn price_in(fields: &Run<'_>, numbers: &Standings, tag: u32) -> Price
+pub fn price_in(fields: &Run<'_>, numbers: &Standings, kept: &KeptValues, tag: u32) -> Price
     requires standings { AreStandings (outer_rows msg_type.TradeCaptureReport) fields.now numbers.now }
     requires held { Holds tag (IsSound kind.Price) fields.now }
+    requires kept { AreKept fields.now kept.now }
     ensures { Holds tag (λ text. MeansPrice text result) fields.now }
 {
+    if let Some((of, price)) = kept.price {
+        if of == tag {
+            return price;
+        }
+    }
     let Ok(price) = read_price(text_in(fields, numbers, tag)) else {
         unreachable!();
     };
@@ -76,11 +97,17 @@ pub fn price_in(fields: &Run<'_>, numbers: &Standings, tag: u32) -> Price
 }
 
 /// The day that a tag holds, where it stands.
-pub fn day_in(fields: &Run<'_>, numbers: &Standings, tag: u32) -> Option<Day>
+pub fn day_in(fields: &Run<'_>, numbers: &Standings, kept: &KeptValues, tag: u32) -> Option<Day>
     requires standings { AreStandings (outer_rows msg_type.TradeCaptureReport) fields.now numbers.now }
     requires held { MayHold tag (IsSound kind.Date) fields.now }
+    requires kept { AreKept fields.now kept.now }
     ensures { GivesDay tag fields.now result }
 {
+    if let Some((of, day)) = kept.day {
+        if of == tag {
+            return Some(day);
+        }
+    }
     let Some(text) = outer_value(fields, MsgType::TradeCaptureReport, numbers, tag) else {
         return None;
     };

@@ -4,6 +4,7 @@ ghost use Rattle.std.specs.Prelude.{◌≡◌, ◌∷◌, [], List, MatchResult}
 ghost use Rattle.gu_fix.specs.TagValue.{TagValue};
 ghost use Rattle.gu_msgs.specs.Groups.{entries_of};
 ghost use Rattle.gu_msgs.specs.Held.{AreHeld, IsDisagreed, IsWellMade};
+ghost use Rattle.gu_msgs.specs.Kept.{AreKept};
 ghost use Rattle.gu_msgs.specs.Messages.{IsReport, Says};
 ghost use Rattle.gu_msgs.specs.Standings.{AreStandings};
 ghost use Rattle.gu_msgs.specs.Tables.{body_rows, entry_rows, outer_rows};
@@ -12,6 +13,7 @@ ghost use Rattle.gu_msgs.specs.declared.msg_type.MsgType.TheVariants as kind;
 use crate::fault::MsgFault;
 use crate::groups::{group_behind, next_entry};
 use crate::inbound::{Inbound, TradeCaptureReport};
+use crate::kept_values::KeptValues;
 use crate::msg_type::MsgType;
 use crate::run::Run;
 use crate::standing_values::{day_in, id_in, lots_in, price_in, symbol_in};
@@ -40,7 +42,13 @@ fn side_entry<'a>(fields: &Run<'a>, numbers: &Standings) -> Run<'a>
 
 /// What a report says, with the entry of its side.
 #[tactic(auto, unfolding(crate::specs::Tables::body_rows, crate::specs::Tables::entry_rows))]
-fn report(fields: &Run<'_>, numbers: &Standings, entry: &Run<'_>) -> TradeCaptureReport
+fn report(
+    fields: &Run<'_>,
+    numbers: &Standings,
+    kept: &KeptValues,
+    entry: &Run<'_>,
+) -> TradeCaptureReport
+    requires kept { AreKept fields.now kept.now }
     requires standings { AreStandings (outer_rows kind.TradeCaptureReport) fields.now numbers.now }
     requires held { AreHeld (body_rows kind.TradeCaptureReport) fields.now }
     requires one { entries_of kind.TradeCaptureReport NO_SIDES fields.now ≡ entry.now ∷ [] }
@@ -51,19 +59,24 @@ fn report(fields: &Run<'_>, numbers: &Standings, entry: &Run<'_>) -> TradeCaptur
         trade_report_id: id_in(fields, numbers, TRADE_REPORT_ID),
         trd_match_id: id_in(fields, numbers, TRD_MATCH_ID),
         symbol: symbol_in(fields, numbers, SYMBOL),
-        last_qty: lots_in(fields, numbers, LAST_QTY),
-        last_px: price_in(fields, numbers, LAST_PX),
-        trade_date: day_in(fields, numbers, TRADE_DATE),
+        last_qty: lots_in(fields, numbers, kept, LAST_QTY),
+        last_px: price_in(fields, numbers, kept, LAST_PX),
+        trade_date: day_in(fields, numbers, kept, TRADE_DATE),
         side: side_at(entry, SIDE),
         account: account_at(entry, ACCOUNT),
     }
 }
 
-pub fn read_trade_capture_report(fields: &Run<'_>, numbers: &Standings) -> Result<Inbound, MsgFault>
+pub fn read_trade_capture_report(
+    fields: &Run<'_>,
+    numbers: &Standings,
+    kept: &KeptValues,
+) -> Result<Inbound, MsgFault>
+    requires kept { AreKept fields.now kept.now }
     requires made { IsWellMade kind.TradeCaptureReport fields.now }
     requires standings { AreStandings (outer_rows kind.TradeCaptureReport) fields.now numbers.now }
     ensures { MatchResult result (Says fields.now) (IsDisagreed kind.TradeCaptureReport fields.now) }
 {
     let entry = side_entry(fields, numbers);
-    Ok(Inbound::TradeCaptureReport(report(fields, numbers, &entry)))
+    Ok(Inbound::TradeCaptureReport(report(fields, numbers, kept, &entry)))
 }

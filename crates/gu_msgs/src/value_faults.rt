@@ -1,19 +1,24 @@
 //! The first value of a message that isn't allowed.
 
-ghost use Rattle.std.specs.Prelude.{◌≡◌, ◌++◌, List, MatchOption};
+ghost use Rattle.std.specs.Prelude.{◌≡◌, ◌++◌, List, MatchOption, Some};
 ghost use Rattle.std.specs.List.{flat_map};
 ghost use Rattle.gu_msgs.specs.Groups.{entries_by, entries_of};
 ghost use Rattle.gu_msgs.specs.Items.{AreSound, IsFirstAtFault, IsItemAtFault, IsSoundItem, item_of, items_of, message_items, row_items};
+ghost use Rattle.gu_msgs.specs.Kept.{AreKept};
 ghost use Rattle.gu_msgs.specs.Kinds.{IsAtFault, IsSound};
 ghost use Rattle.gu_msgs.specs.Rows.{kind_of, tag_of};
 ghost use Rattle.gu_msgs.specs.Standings.{AreStandings, IsStanding};
 ghost use Rattle.gu_msgs.specs.Tables.{entry_rows, outer_rows};
+ghost use Rattle.gu_msgs.specs.Values.{first_value};
+ghost use Rattle.gu_fix.specs.TagValue.{TagValue};
 
 use crate::fault::Fault;
 use crate::field_values::first_value;
 use crate::groups::{group_behind, next_entry};
-use crate::kinds::text_fault;
+use crate::kept_values::{KeptValues, NONE_KEPT};
+use crate::kinds::{sound_day, sound_lots, sound_price, text_fault};
 use crate::msg_type::MsgType;
+use crate::reject_reason::SessionRejectReason;
 use crate::row::{Kind, Row};
 use crate::run::Run;
 use crate::shape::fault_at;
@@ -45,14 +50,41 @@ fn row_fault(fields: &Run<'_>, row: Row) -> Option<Fault>
     }
 }
 
-/// The same, where the number of the first field with the tag is known.
-fn standing_fault(fields: &Run<'_>, row: Row, number: usize) -> Option<Fault>
-    requires { IsStanding fields.now (tag_of row) number }
-    ensures { MatchOption result (IsSoundItem (item_of fields.now row))
-        (λ fault. (fault.tag ≡ tag_of row) × IsItemAtFault (item_of fields.now row) fault.reason) }
+/// What is wrong with the text of a row's tag. Lots, a price or a day are kept where nothing is.
+fn kept_fault(row: Row, text: &[u8], kept: &mut KeptValues) -> Option<SessionRejectReason>
+    ensures fault { MatchOption result (IsSound (kind_of row) text.now) (λ reason. IsAtFault (kind_of row) text.now reason) }
+    ensures kept { (fields : List TagValue) → first_value (tag_of row) fields ≡ Some text.now → AreKept fields kept.old → AreKept fields kept.new }
 {
-    match value_numbered(fields, number) {
-        Some(text) => item_fault(row, text),
+    match row.kind() {
+        Kind::Lots => match sound_lots(text) {
+            Ok(lots) => kept.lots = Some((row.tag(), lots)),
+            Err(reason) => return Some(reason),
+        },
+        Kind::Price => match sound_price(text) {
+            Ok(price) => kept.price = Some((row.tag(), price)),
+            Err(reason) => return Some(reason),
+        },
+        Kind::Date => match sound_day(text) {
+            Ok(day) => kept.day = Some((row.tag(), day)),
+            Err(reason) => return Some(reason),
+        },
+        Kind::Text => {}
+        kind => return text_fault(kind, text),
+    }
+    None
+}
+
+/// The same, where the number of the first field with the tag is known.
+fn standing_fault(fields: &Run<'_>, row: Row, number: usize, kept: &mut KeptValues) -> Option<Fault>
+    requires standing { IsStanding fields.now (tag_of row) number }
+    requires kept { AreKept fields.now kept.old }
+    ensures fault { MatchOption result (IsSoundItem (item_of fields.now row))
+        (λ fault. (fault.tag ≡ tag_of row) × IsItemAtFault (item_of fields.now row) fault.reason) }
+    ensures kept { AreKept fields.now kept.new }
+{
+    let text = value_numbered(fields, number)?;
+    match kept_fault(row, text, kept) {
+        Some(reason) => Some(fault_at(reason, row.tag())),
         None => None,
     }
 }
@@ -98,23 +130,38 @@ fn group_fault(fields: &Run<'_>, msg_type: MsgType, counter: u32, number: usize)
 }
 
 /// The first that isn't allowed of a row's value and those of the group that it counts.
-fn outer_fault(fields: &Run<'_>, msg_type: MsgType, row: Row, number: usize) -> Option<Fault>
-    requires { IsStanding fields.now (tag_of row) number }
-    ensures { let items = row_items msg_type fields.now row in MatchOption result (AreSound items) (λ fault. IsFirstAtFault items fault) }
+fn outer_fault(
+    fields: &Run<'_>,
+    msg_type: MsgType,
+    row: Row,
+    number: usize,
+    kept: &mut KeptValues,
+) -> Option<Fault>
+    requires standing { IsStanding fields.now (tag_of row) number }
+    requires kept { AreKept fields.now kept.old }
+    ensures kept { AreKept fields.now kept.new }
+    ensures fault { let items = row_items msg_type fields.now row in MatchOption result (AreSound items) (λ fault. IsFirstAtFault items fault) }
 {
-    match standing_fault(fields, row, number) {
+    match standing_fault(fields, row, number, kept) {
         Some(fault) => Some(fault),
         None => group_fault(fields, msg_type, row.tag(), number),
     }
 }
 
-/// The first value of a message that isn't allowed, where its outer tags stand first so.
-pub fn value_fault(fields: &Run<'_>, msg_type: MsgType, numbers: &Standings) -> Option<Fault>
-    requires { AreStandings (outer_rows msg_type) fields.now numbers.now }
-    ensures { let items = message_items msg_type fields.now in MatchOption result (AreSound items) (λ fault. IsFirstAtFault items fault) }
+/// The first value of a message that isn't allowed, where its outer tags stand first so. Values of the outer level are kept.
+pub fn value_fault(
+    fields: &Run<'_>,
+    msg_type: MsgType,
+    numbers: &Standings,
+    kept: &mut KeptValues,
+) -> Option<Fault>
+    requires standings { AreStandings (outer_rows msg_type) fields.now numbers.now }
+    ensures kept { AreKept fields.now kept.new }
+    ensures fault { let items = message_items msg_type fields.now in MatchOption result (AreSound items) (λ fault. IsFirstAtFault items fault) }
 {
+    *kept = NONE_KEPT;
     for (place, row) in outer_rows(msg_type).iter().enumerate() {
-        if let Some(fault) = outer_fault(fields, msg_type, *row, numbers[place]) {
+        if let Some(fault) = outer_fault(fields, msg_type, *row, numbers[place], kept) {
             return Some(fault);
         }
     }
