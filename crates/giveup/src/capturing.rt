@@ -17,9 +17,9 @@ use crate::position_lines::positions_text;
 use crate::sending::send;
 use crate::serving::{Answerer, serve};
 use gu_book::{Book, EnterError};
-use gu_fix::{EncodeError, Fields, Frame, encode, fields};
+use gu_fix::{Fields, Frame, encode_onto, into_fields};
 use gu_msgs::inbound::TradeCaptureReport;
-use gu_msgs::{MsgFault, Outbound, Rejection, answer_to, midnight_of, read, sender, write};
+use gu_msgs::{MsgFault, Outbound, Rejection, answer_to, midnight_of, read, sender, write_over};
 use gu_ref::{CountedReads, Reference};
 use gu_terms::{Command, Day, FirmId, Moment};
 use std::alloc::{AllocError, Global};
@@ -39,25 +39,6 @@ fn report_of(alloc: Global, fields: &Fields) -> Result<Option<TradeCaptureReport
         Ok(message) => Ok(message.report()),
         Err(MsgFault::Rejected(_)) => Ok(None),
         Err(MsgFault::Memory) => Err(AllocError),
-    }
-}
-
-/// Appends the message of these fields.
-fn append(alloc: Global, fields: &Fields, output: &mut Vec<u8>) -> Result<(), AllocError>
-    requires { fault_of fields.now ≡ None }
-    ensures message { OnOk result (output.new.items ≡ output.old.items ++ message_of fields.now) }
-    ensures whole { OnOk result (IsWhole (message_of fields.now)) }
-    ensures kept { OnErr result (output.new.items ≡ output.old.items) }
-{
-    match encode(alloc, fields) {
-        Ok(message) => output.extend_from_slice(&message),
-        Err(EncodeError::Memory) => Err(AllocError),
-        Err(
-            EncodeError::BadTag
-            | EncodeError::EmptyValue
-            | EncodeError::SohInValue
-            | EncodeError::TooLong,
-        ) => unreachable!(),
     }
 }
 
@@ -96,9 +77,10 @@ impl Capturing {
         }
     }
 
-    /// The fields of the message that says to a firm what became of its report.
+    /// The fields of the message that says to a firm what became of its report, in the room of the report's.
     fn ack_fields(
         &self,
+        room: Fields,
         firm: &FirmId,
         report: &TradeCaptureReport,
         rejection: Option<Rejection>,
@@ -113,12 +95,13 @@ impl Capturing {
             orig_sending_time: None,
             body: answer_to(report, rejection),
         };
-        write(self.alloc, &message)
+        write_over(self.alloc, room, &message)
     }
 
     /// Appends the message that says to a firm what became of its report.
     fn answer_report(
         &mut self,
+        room: Fields,
         firm: &FirmId,
         report: &TradeCaptureReport,
         rejection: Option<Rejection>,
@@ -128,8 +111,8 @@ impl Capturing {
             × (output.new.items ≡ output.old.items ++ text)) }
         ensures behind { OnOk result (self.new ≡ record self.old { next = number_behind self.old.next }) }
     {
-        let fields = self.ack_fields(firm, report, rejection)?;
-        append(self.alloc, &fields, output)?;
+        let fields = self.ack_fields(room, firm, report, rejection)?;
+        encode_onto(self.alloc, output, &fields)?;
         self.next = (self.next + 1).min(LAST_NUMBER);
         Ok(())
     }
@@ -137,6 +120,7 @@ impl Capturing {
     /// Enters a firm's report, and appends its acknowledgement.
     fn acknowledge(
         &mut self,
+        room: Fields,
         firm: &FirmId,
         report: &TradeCaptureReport,
         output: &mut Vec<u8>,
@@ -147,7 +131,7 @@ impl Capturing {
     {
         let command = report.side_of(*firm);
         match self.enter(&command) {
-            Ok(rejection) => self.answer_report(firm, report, rejection, output),
+            Ok(rejection) => self.answer_report(room, firm, report, rejection, output),
             Err(refused) => Err(refused),
         }
     }
@@ -172,7 +156,7 @@ impl Answerer for Capturing {
         _now: Moment,
         output: &mut Vec<u8>,
     ) -> Result<(), AllocError> {
-        let (fields, fault) = fields(self.alloc, &frame)?;
+        let (fields, fault) = into_fields(self.alloc, frame)?;
         if fault.is_some() {
             return Ok(());
         }
@@ -180,7 +164,7 @@ impl Answerer for Capturing {
             return Ok(());
         };
         match sender(&fields) {
-            Some(firm) => self.acknowledge(&firm, &report, output),
+            Some(firm) => self.acknowledge(fields, &firm, &report, output),
             None => Ok(()),
         }
     }

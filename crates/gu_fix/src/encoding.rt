@@ -13,6 +13,7 @@ use crate::place::{FIXED_LENGTH, LONGEST, OPENING, SOH, checksum, trailer};
 use crate::tag::{BEGIN_STRING, BODY_LENGTH, CHECK_SUM, MSG_TYPE};
 use itoa::Buffer;
 use std::alloc::{AllocError, Global};
+use std::mem;
 
 /// Whether a field of a body may have this tag.
 fn is_free_tag(tag: u32) -> bool
@@ -205,13 +206,29 @@ fn push_message(
     Ok(())
 }
 
+/// Bytes with the message of these fields behind them, whose text has this length with these digits. The bytes are held here while they
+/// grow, so that each part of a field is a few machine instructions.
+fn with_message(
+    mut out: Vec<u8>,
+    len: usize,
+    digits: &[u8],
+    fields: &Fields,
+) -> (Vec<u8>, Result<(), AllocError>)
+    requires { FIXED_LENGTH + length digits.now + len ≤ LONGEST }
+    ensures ok { OnOk result.1 (let front = front_of digits.now (fields_text fields.now) in result.0.items ≡ out.items ++ front ++ trailer_after front) }
+    ensures err { OnErr result.1 ((tail : List ℕ) × (result.0.items ≡ out.items ++ tail)) }
+{
+    let pushed = push_message(&mut out, len, digits, fields);
+    (out, pushed)
+}
+
 /// The message of these fields, whose text has this length with these digits.
 fn message(alloc: Global, len: usize, digits: &[u8], fields: &Fields) -> Result<Vec<u8>, AllocError>
     requires { FIXED_LENGTH + length digits.now + len ≤ LONGEST }
     ensures { IfOk result (λ v. let front = front_of digits.now (fields_text fields.now) in v.items ≡ front ++ trailer_after front) }
 {
-    let mut out = Vec::new(alloc);
-    push_message(&mut out, len, digits, fields)?;
+    let (out, pushed) = with_message(Vec::new(alloc), len, digits, fields);
+    pushed?;
     Ok(out)
 }
 
@@ -263,7 +280,7 @@ pub fn encode(alloc: Global, fields: &Fields) -> Result<Vec<u8>, EncodeError>
 }
 
 /// Appends the message of fields that have no fault, so that none is looked for.
-pub fn encode_onto(output: &mut Vec<u8>, fields: &Fields) -> Result<(), AllocError>
+pub fn encode_onto(alloc: Global, output: &mut Vec<u8>, fields: &Fields) -> Result<(), AllocError>
     requires { fault_of fields.now ≡ None }
     ensures message { OnOk result (output.new.items ≡ output.old.items ++ message_of fields.now) }
     ensures whole { IsWhole (message_of fields.now) }
@@ -274,11 +291,11 @@ pub fn encode_onto(output: &mut Vec<u8>, fields: &Fields) -> Result<(), AllocErr
     };
     let mut digits = Buffer::new();
     let start = output.len();
-    match push_message(output, len, digits.format(len).as_bytes(), fields) {
-        Ok(()) => Ok(()),
-        Err(refused) => {
-            output.truncate(start);
-            Err(refused)
-        }
+    let held = mem::replace(output, Vec::new(alloc));
+    let (mut held, pushed) = with_message(held, len, digits.format(len).as_bytes(), fields);
+    if pushed.is_err() {
+        held.truncate(start);
     }
+    *output = held;
+    pushed
 }

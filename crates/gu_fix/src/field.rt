@@ -89,6 +89,15 @@ impl Fields {
         })
     }
 
+    /// No fields, with the room that these had.
+    pub fn cleared(mut self) -> Self
+        ensures { result ≡ [] }
+    {
+        self.bytes.clear();
+        self.spans.clear();
+        self
+    }
+
     /// The fields whose values lie there in a buffer.
     pub(crate) fn lying_in(bytes: Vec<u8>, spans: Vec<Span>) -> Self
         requires { AreWithin bytes.items spans.items }

@@ -50,6 +50,16 @@ impl Draft {
         Ok(Draft { alloc, fields })
     }
 
+    /// No fields yet, with the room of these.
+    pub fn over(alloc: Global, fields: Fields) -> Draft
+        ensures { result ≡ [] }
+    {
+        Draft {
+            alloc,
+            fields: fields.cleared(),
+        }
+    }
+
     /// The allocator of its texts.
     pub fn alloc(&self) -> Global {
         self.alloc

@@ -68,4 +68,4 @@ pub use tags::{NEW_SEQ_NO, SENDER_COMP_ID, TARGET_COMP_ID};
 pub use test_req_id::TestReqId;
 pub use type_code::TypeCode;
 pub use whole_number::{is_numeral, number_of};
-pub use writing::write;
+pub use writing::{write, write_over};

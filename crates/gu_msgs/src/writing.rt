@@ -105,12 +105,12 @@ fn push_marks(draft: &mut Draft, first: Option<Moment>) -> Result<(), AllocError
     Ok(())
 }
 
-/// The fields of a message, in order, each with a value that can be encoded.
-fn fields_of(alloc: Global, message: &Outbound) -> Result<Fields, AllocError>
+/// Appends the fields of a message to none, in order, each with a value that can be encoded.
+fn fields_of(mut draft: Draft, message: &Outbound) -> Result<Fields, AllocError>
+    requires { draft ≡ [] }
     ensures written { IfOk result (λ fields. IsWritten message.now fields) }
     ensures plain { IfOk result ArePlain }
 {
-    let mut draft = Draft::new(alloc)?;
     draft.push(MSG_TYPE, message.body.code().as_bytes())?;
     draft.push(SENDER_COMP_ID, HOUSE)?;
     draft.push_name(TARGET_COMP_ID, message.firm.get())?;
@@ -121,6 +121,17 @@ fn fields_of(alloc: Global, message: &Outbound) -> Result<Fields, AllocError>
     Ok(draft.into_fields())
 }
 
+/// The fields of a message in the room of a draft without fields.
+fn written_in(draft: Draft, message: &Outbound) -> Result<Fields, AllocError>
+    requires { draft ≡ [] }
+    ensures written { IfOk result (λ fields. IsWritten message.now fields) }
+    ensures encodable { IfOk result (λ fields. fault_of fields ≡ None) }
+    ensures whole { IfOk result (λ fields. IsWhole (message_of fields)) }
+    ensures read_back { IfOk result (λ fields. HasFields (message_of fields) (fields_of_message fields) None) }
+{
+    fields_of(draft, message)
+}
+
 /// The fields of a message. They can be encoded as a whole message, of 65,536 bytes at most, and are read back.
 pub fn write(alloc: Global, message: &Outbound) -> Result<Fields, AllocError>
     ensures written { IfOk result (λ fields. IsWritten message.now fields) }
@@ -128,5 +139,16 @@ pub fn write(alloc: Global, message: &Outbound) -> Result<Fields, AllocError>
     ensures whole { IfOk result (λ fields. IsWhole (message_of fields)) }
     ensures read_back { IfOk result (λ fields. HasFields (message_of fields) (fields_of_message fields) None) }
 {
-    fields_of(alloc, message)
+    let draft = Draft::new(alloc)?;
+    written_in(draft, message)
+}
+
+/// The same, in the room of fields that aren't used any more.
+pub fn write_over(alloc: Global, fields: Fields, message: &Outbound) -> Result<Fields, AllocError>
+    ensures written { IfOk result (λ fields. IsWritten message.now fields) }
+    ensures encodable { IfOk result (λ fields. fault_of fields ≡ None) }
+    ensures whole { IfOk result (λ fields. IsWhole (message_of fields)) }
+    ensures read_back { IfOk result (λ fields. HasFields (message_of fields) (fields_of_message fields) None) }
+{
+    written_in(Draft::over(alloc, fields), message)
 }

@@ -55,7 +55,7 @@ fn fields_are_written_or_their_first_fault_is_named(rt: HostRuntime) {
 fn messages_behind(alloc: Global, front: &[u8], texts: [&str; 2]) -> Result<Vec<u8>, AllocError> {
     let mut output = Vec::from_slice(alloc, front)?;
     for text in texts {
-        encode_onto(&mut output, &fields_of(alloc, text)?)?;
+        encode_onto(alloc, &mut output, &fields_of(alloc, text)?)?;
     }
     Ok(output)
 }

@@ -1,4 +1,4 @@
-use Rattle.std.proofs.Common.{◌≡◌, ◌++◌, List, ℕ, ap, ◌∙◌, arith, length}
+use Rattle.std.proofs.Common.{◌≡◌, ap, ◌∙◌, arith, length}
 use Rattle.std.specs.Fmt.{decimal}
 use Rattle.gu_fix.specs.Encoding.{fields_text}
 use Rattle.gu_fix.proofs.Encodings.{length-message}
@@ -10,14 +10,11 @@ unreachable-requires c =
     let fields = c.args.fields.now in
     omega (arith, c.in_default.ensures, length-message fields, (message_is_whole fields c.requires).most)
 
-pub push_message-requires : goal.push_message-requires
-push_message-requires c =
+pub with_message-held-requires : goal.with_message-held-requires
+with_message-held-requires c =
     let fields = c.args.fields.now in
     let digits : length c.as_bytes.result.now ≡ length (decimal (length (fields_text fields))) = ap length (c.as_bytes.ensures.value ∙ c.format.ensures.text ∙ ap decimal c.in-Some.ensures.0) in
     omega (arith, c.in-Some.ensures.0, digits, length-message fields, (message_is_whole fields c.requires).most)
 
-pub returns-in-Ok-clause-whole : goal.returns-in-Ok-clause-whole
-returns-in-Ok-clause-whole c = message_is_whole c.args.fields.now c.requires
-
-pub returns-in-Err-clause-whole : goal.returns-in-Err-clause-whole
-returns-in-Err-clause-whole c = message_is_whole c.args.fields.now c.requires
+pub returns-clause-whole : goal.returns-clause-whole
+returns-clause-whole c = message_is_whole c.args.fields.now c.requires

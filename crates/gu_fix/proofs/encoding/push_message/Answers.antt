@@ -1,4 +1,4 @@
-use Rattle.std.proofs.Common.{◌≡◌, ◌++◌, ◌∷◌, [], ◌%◌, List, ℕ, sym, ap, ◌∙◌, append_assoc, drop, length, arith}
+use Rattle.std.proofs.Common.{◌≡◌, ◌++◌, ◌∷◌, [], ◌%◌, List, ℕ, ap, ◌∙◌, append_assoc, drop, length, arith}
 use Rattle.std.specs.Prelude.{sum}
 use Rattle.std.proofs.lemmas.List.{drop_at}
 use Rattle.gu_fix.specs.WholeMessage.{opening, soh, front_of, trailer_of, trailer_after}

@@ -5,7 +5,7 @@ use Rattle.gu_fix.specs.TagValue.{TagValue}
 use Rattle.gu_fix.specs.WholeMessage.{IsWhole}
 use Rattle.gu_fix.proofs.ReadBack.{message_is_whole, read_back}
 use Rattle.gu_msgs.proofs.Encodables.{of_written}
-use Rattle.gu_msgs.proofs.writing.write.Goals as goal
+use Rattle.gu_msgs.proofs.writing.written_in.Goals as goal
 
 pub returns-clause-encodable : goal.returns-clause-encodable
 returns-clause-encodable c =
