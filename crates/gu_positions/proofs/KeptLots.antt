@@ -1,9 +1,9 @@
 -- The rows as they are kept: looked up by account and instrument, written, and beside them the open interests.
-use Rattle.std.proofs.Common.{◌≡◌, ◌∙◌, sym, refl, ap, subst, ℕ, ◌+◌, ◌-◌, ◌<◌, ◌≤◌, ◌^◌, Bool, true, false, cond, ◌||◌, List, [], ◌∷◌, map, Option, Some, is_some, unwrap_or, arith, if◌then◌else◌}
+use Rattle.std.proofs.Common.{◌≡◌, ◌∙◌, sym, refl, ap, subst, ℕ, ◌+◌, ◌-◌, ◌<◌, ◌≤◌, ◌^◌, Bool, true, false, cond, ◌||◌, List, [], ◌∷◌, map, Option, None, Some, is_some, unwrap_or, arith, if◌then◌else◌}
 use Rattle.std.specs.List.{IsDistinct, find}
-use Rattle.std.specs.Map.{lookup, set_value}
+use Rattle.std.specs.Map.{KeepsOthers, lookup, set_value}
 use Rattle.std.specs.Option.{option_map_or}
-use Rattle.indexmap.specs.IndexMap.{get, Updates}
+use Rattle.indexmap.specs.IndexMap.{IndexMap, get, Updates}
 use Rattle.gu_terms.specs.declared.account.AccountId.{AccountId}
 use Rattle.gu_terms.specs.declared.side.Side.{Side}
 use Rattle.gu_terms.specs.declared.side.Side.TheVariants.{Buy, Sell}
@@ -151,6 +151,22 @@ module _ (kept : Inside) (is_kept : IsKept kept) (account : AccountId) (symbol :
         interest s true e sums = ap (λ n. n - (h.long - h.short) + (w.long - w.short)) (is_kept.interests symbol) ∙ interest-own
             ∙ (λ i. open_interest_in (changed account symbol g keeps (rows_of kept)) (same_symbol-true symbol s e i))
         interest s false e sums = is_kept.interests s ∙ omega (arith, sums)
+
+-- an open interest that stays need not be written
+pub settled : {S : Type 0} (interests : IndexMap Symbol ℕ S) (symbol : Symbol) (before after : ℕ) → is_some (get same_symbol interests symbol) ≡ true
+    → before ≤ unwrap_or (get same_symbol interests symbol) 0 → before ≡ after
+    → Updates same_symbol interests interests symbol (Some (unwrap_or (get same_symbol interests symbol) 0 - before + after))
+unfolding KeepsOthers
+settled interests symbol before after known within still =
+    (λ s. by s (same_symbol symbol s) refl, own (get same_symbol interests symbol) known within, λ s apart. refl, λ other test apart. refl)
+  where
+    own : (o : Option ℕ) → is_some o ≡ true → before ≤ unwrap_or o 0 → o ≡ Some (unwrap_or o 0 - before + after)
+    own None h w = cc
+    own (Some n) h w = let one : n ≡ n - before + after = omega (arith, w, still) in λ i. Some (one i)
+
+    by : (s : Symbol) (b : Bool) → same_symbol symbol s ≡ b → get same_symbol interests s ≡ cond b (Some (unwrap_or (get same_symbol interests symbol) 0 - before + after)) (get same_symbol interests s)
+    by s true e = (λ i. get same_symbol interests (sym (same_symbol-true symbol s e) i)) ∙ own (get same_symbol interests symbol) known within
+    by s false e = refl
 
 -- nothing is kept in empty tables
 pub kept-empty : (kept : Inside) → kept.rows.entries ≡ [] → kept.interests.entries ≡ [] → IsKept kept

@@ -101,7 +101,8 @@ fn take_from(
     (before.excess(), after.excess())
 }
 
-/// Brings the open interest of an instrument up to date, of which one account held so much in excess before, and so much after.
+/// Brings the open interest of an instrument up to date, of which one account held so much in excess before, and so much after. One that
+/// stays isn't looked for.
 fn settle(interests: &mut IndexMap<Symbol, u64>, symbol: &Symbol, before: u64, after: u64)
     requires known { is_some (get ⟦<Symbol as PartialEq>⟧.eq interests.old symbol.now) ≡ true }
     requires within { before ≤ unwrap_or (get ⟦<Symbol as PartialEq>⟧.eq interests.old symbol.now) 0 }
@@ -109,6 +110,9 @@ fn settle(interests: &mut IndexMap<Symbol, u64>, symbol: &Symbol, before: u64, a
     ensures { Updates ⟦<Symbol as PartialEq>⟧.eq interests.old interests.new symbol.now
         (Some (unwrap_or (get ⟦<Symbol as PartialEq>⟧.eq interests.old symbol.now) 0 - before + after)) }
 {
+    if before == after {
+        return;
+    }
     let Some(interest) = interests.get_mut(symbol) else {
         unreachable!();
     };
