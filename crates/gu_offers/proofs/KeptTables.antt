@@ -1,5 +1,6 @@
 -- The tables beside the offers: lots of reports, and numbers of groups.
-use Rattle.std.proofs.Common.{◌≡◌, ◌∙◌, sym, refl, ap, ℕ, Bool, true, false, cond, ◌&&◌, List, [], Option, Some, None, is_some, unwrap_or, Result, Ok, Err, OnErr, if◌then◌else◌}
+use Rattle.std.proofs.Common.{◌≡◌, ◌∙◌, sym, refl, ap, ℕ, Bool, true, false, cond, ◌&&◌, List, [], Option, Some, None, is_some, unwrap_or, Result, Ok, Err, OnOk, OnErr, if◌then◌else◌}
+use Rattle.std.specs.Map.{lookup}
 use Rattle.std.specs.Option.{option_map_or}
 use Rattle.indexmap.specs.IndexMap.{IndexMap, get, Updates}
 use Rattle.gu_terms.proofs.SameNames.{same_firm-true, same_group-true, same_id-true}
@@ -35,17 +36,18 @@ module _ (old new : Counts) (firm : FirmId) (id : Id) where
           is ∙ ap f (ap (λ o. unwrap_or o 0) was ∙ (λ i. lots_under old (same_firm-true firm other p.0 i) (same_id-true id another p.1 i)))
       by false e = refl
 
-  -- a report that is new has no lots, as before
-  pub lots_under-new : Updates same_key old.lots new.lots (report_key firm id) (Some 0) → get same_key old.lots (report_key firm id) ≡ None
+  -- a report whose lots are kept, where it has some, changes none
+  pub lots_under-kept : {T E : Type 0} (r : Result T E) → OnOk r (Updates same_key old.lots new.lots (report_key firm id) (Some (lots_under old firm id))) → OnErr r (new.lots.entries ≡ old.lots.entries)
       → (other : FirmId) (another : Id) → lots_under new other another ≡ lots_under old other another
-  lots_under-new updated none other another =
+  lots_under-kept (Ok x) updated none other another =
       ap (λ o. unwrap_or o 0) (updated.0 (report_key other another)) ∙ by (same_firm firm other && same_id id another) refl
     where
-      by : (b : Bool) → (same_firm firm other && same_id id another) ≡ b → unwrap_or (cond b (Some 0) (get same_key old.lots (report_key other another))) 0 ≡ lots_under old other another
+      by : (b : Bool) → (same_firm firm other && same_id id another) ≡ b → unwrap_or (cond b (Some (lots_under old firm id)) (get same_key old.lots (report_key other another))) 0 ≡ lots_under old other another
       by true e =
           let p = both (same_firm firm other) (same_id id another) e in
-          sym (ap (λ o. unwrap_or o 0) none) ∙ (λ i. lots_under old (same_firm-true firm other p.0 i) (same_id-true id another p.1 i))
+          λ i. lots_under old (same_firm-true firm other p.0 i) (same_id-true id another p.1 i)
       by false e = refl
+  lots_under-kept (Err e) updated same other another = ap (λ es. unwrap_or (lookup (same_key (report_key other another)) es) 0) same
 
 module _ {V S : Type 0} (list : V → List ℕ) (old new : IndexMap Group V S) (group : Group) where
   -- a group that is new has no numbers, as before

@@ -1,7 +1,7 @@
 //! The lots of reports that offers hold.
 
-ghost use Rattle.std.specs.Prelude.{◌≡◌, ◌+◌, ◌-◌, ◌<◌, ◌≤◌, ◌^◌, ◌&&◌, OnOk, true, is_some, if◌then◌else◌};
-ghost use Rattle.indexmap.specs.IndexMap.{get};
+ghost use Rattle.std.specs.Prelude.{◌≡◌, ◌+◌, ◌-◌, ◌<◌, ◌≤◌, ◌^◌, ◌&&◌, OnOk, OnErr, Some, true, is_some, unwrap_or, if◌then◌else◌};
+ghost use Rattle.indexmap.specs.IndexMap.{get, Updates};
 ghost use Rattle.gu_terms.specs.declared.firm.FirmId.{FirmId as Firm};
 ghost use Rattle.gu_terms.specs.declared.id.Id.{Id as IdOf};
 ghost use Rattle.gu_terms.specs.Same.{same_firm, same_id};
@@ -27,6 +27,15 @@ impl Drop for Counts {
         let Counts { lots } = self;
         drop(lots);
     }
+}
+
+/// Sees to it that a report has its lots: those it has, or none.
+fn keep(lots: &mut IndexMap<ReportKey, u64, Seed>, key: ReportKey) -> Result<(), AllocError>
+    ensures kept { OnOk result (Updates ⟦<ReportKey as PartialEq>⟧.eq lots.old lots.new key (Some (unwrap_or (get ⟦<ReportKey as PartialEq>⟧.eq lots.old key) 0))) }
+    ensures refused { OnErr result (lots.new.entries ≡ lots.old.entries) }
+{
+    lots.entry(key)?.or_insert(0);
+    Ok(())
 }
 
 impl Counts {
@@ -57,11 +66,7 @@ impl Counts {
             firm: *firm,
             id: *id,
         };
-        if self.lots.contains_key(&key) {
-            return Ok(());
-        }
-        self.lots.insert(key, 0)?;
-        Ok(())
+        keep(&mut self.lots, key)
     }
 
     /// More lots of a report are held.
