@@ -8,8 +8,8 @@ returns-then-is_some c = ([], sym (append-nil c.args.output.now.items), inr (pas
 pub returns-in_default : goal.returns-in_default
 returns-in_default c = ([], sym (append-nil c.args.output.now.items), inr (passes_unsaid c.args.self.now c.args.frame _ _ c.in_ok-fields.ensures (unsaid _ c.in_ok-report.field-0 c.in_ok-report.ensures c.in_default.is)))
 
-pub returns : goal.returns
-returns c = ([], sym (append-nil c.args.output.now.items), inr (passes_unsent c.args.self.now c.args.frame _ _ c.in_ok-fields.ensures c.in-None.ensures))
+pub returns-in-None : goal.returns-in-None
+returns-in-None c = ([], sym (append-nil c.args.output.now.items), inr (passes_unsent c.args.self.now c.args.frame _ _ c.in_ok-fields.ensures c.in-None.ensures))
 
 pub returns-in-Some-sender : goal.returns-in-Some-sender
 returns-in-Some-sender c =
