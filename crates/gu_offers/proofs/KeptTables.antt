@@ -1,5 +1,5 @@
 -- The tables beside the offers: lots of reports, and numbers of groups.
-use Rattle.std.proofs.Common.{◌≡◌, ◌∙◌, sym, refl, ap, ℕ, Bool, true, false, cond, ◌&&◌, List, [], Option, Some, None, is_some, unwrap_or, Result, Ok, Err, OnOk, OnErr, if◌then◌else◌}
+use Rattle.std.proofs.Common.{◌≡◌, ◌∙◌, refl, ap, ℕ, Bool, true, false, cond, ◌&&◌, List, [], ◌++◌, Option, Some, None, is_some, unwrap_or, Result, Ok, Err, OnOk, OnErr, if◌then◌else◌}
 use Rattle.std.specs.Map.{lookup}
 use Rattle.std.specs.Option.{option_map_or}
 use Rattle.indexmap.specs.IndexMap.{IndexMap, get, Updates}
@@ -50,13 +50,15 @@ module _ (old new : Counts) (firm : FirmId) (id : Id) where
   lots_under-kept (Err e) updated same other another = ap (λ es. unwrap_or (lookup (same_key (report_key other another)) es) 0) same
 
 module _ {V S : Type 0} (list : V → List ℕ) (old new : IndexMap Group V S) (group : Group) where
-  -- a group that is new has no numbers, as before
-  pub listed-new : (v : V) → Updates same_group old new group (Some v) → list v ≡ [] → get same_group old group ≡ None
-      → (other : Group) → option_map_or list (get same_group new other) [] ≡ option_map_or list (get same_group old other) []
-  listed-new v updated empty none other = ap (λ o. option_map_or list o []) (updated.0 other) ∙ by (same_group group other) refl
+  -- a group that is new has these numbers alone
+  pub listed-new : (v : V) (numbers : List ℕ) → Updates same_group old new group (Some v) → list v ≡ numbers → None ≡ get same_group old group
+      → (other : Group) → option_map_or list (get same_group new other) []
+      ≡ (if same_group group other then option_map_or list (get same_group old other) [] ++ numbers else option_map_or list (get same_group old other) [])
+  listed-new v numbers updated is none other = ap (λ o. option_map_or list o []) (updated.0 other) ∙ by (same_group group other) refl
     where
-      by : (b : Bool) → same_group group other ≡ b → option_map_or list (cond b (Some v) (get same_group old other)) [] ≡ option_map_or list (get same_group old other) []
-      by true e = empty ∙ sym (ap (λ o. option_map_or list o []) none) ∙ (λ i. option_map_or list (get same_group old (same_group-true group other e i)) [])
+      by : (b : Bool) → same_group group other ≡ b → option_map_or list (cond b (Some v) (get same_group old other)) []
+          ≡ (if b then option_map_or list (get same_group old other) [] ++ numbers else option_map_or list (get same_group old other) [])
+      by true e = is ∙ ap (λ o. option_map_or list o [] ++ numbers) none ∙ (λ i. option_map_or list (get same_group old (same_group-true group other e i)) [] ++ numbers)
       by false e = refl
 
   -- a list that is written as it was leaves all

@@ -47,8 +47,6 @@ fn take_from(numbers: &mut Vec<u64>, number: u64)
 }
 
 impl Groups {
-    ghost use Rattle.std.specs.Prelude.{true, Some, is_some};
-    ghost use Rattle.indexmap.specs.IndexMap.{get};
     ghost use Rattle.gu_offers.specs.Groups.{numbers_in};
 
     /// No numbers.
@@ -71,19 +69,7 @@ impl Groups {
         }
     }
 
-    /// Sees to it that a group has its list: an empty one, where it is new.
-    fn know(&mut self, group: &Group) -> Result<(), AllocError>
-        ensures known { OnOk result (is_some (get ⟦<Group as PartialEq>⟧.eq self.new.numbers group.now) ≡ true) }
-        ensures same { (other : GroupOf) → numbers_in self.new other ≡ numbers_in self.old other }
-    {
-        if self.numbers.contains_key(group) {
-            return Ok(());
-        }
-        self.numbers.insert(*group, Vec::new(self.alloc))?;
-        Ok(())
-    }
-
-    /// Appends as many numbers to a group's, from the first on, or none.
+    /// Appends as many numbers to a group's, from the first on, or none. A group that is new has its list put in once it is written.
     pub(crate) fn append(
         &mut self,
         group: &Group,
@@ -95,11 +81,13 @@ impl Groups {
             → numbers_in self.new other ≡ (if same_group group.now other then numbers_in self.old other ++ range_with_len first count else numbers_in self.old other)) }
         ensures refused { OnErr result ((other : GroupOf) → numbers_in self.new other ≡ numbers_in self.old other) }
     {
-        self.know(group)?;
-        let Some(numbers) = self.numbers.get_mut(group) else {
-            unreachable!();
-        };
-        append_to(numbers, first, count)
+        if let Some(numbers) = self.numbers.get_mut(group) {
+            return append_to(numbers, first, count);
+        }
+        let mut numbers = Vec::new(self.alloc);
+        append_to(&mut numbers, first, count)?;
+        self.numbers.insert(*group, numbers)?;
+        Ok(())
     }
 
     /// Takes a number out of a group's, where it is among them.
