@@ -96,14 +96,14 @@ fn spans_of(alloc: Global, bytes: &[u8]) -> Result<(Vec<Span>, Option<FieldFault
     ensures within { IfOk result (λ r. AreWithin bytes.now r.0.items) }
     ensures fields { IfOk result (λ r. HasFields bytes.now (fields_in bytes.now r.0.items) r.1) }
 {
-    // Eight bytes to a field.
-    let mut spans = Vec::with_capacity(alloc, bytes.len() / 8)?;
+    // A field takes four bytes at least, so that the list never grows.
+    let mut spans = Vec::with_capacity(alloc, bytes.len() / 4)?;
     let mut fault = None;
     let mut start = 0;
     'parts: for end in memchr_iter(SOH, bytes) {
         match read_part(&bytes[start..end]) {
             Ok(field) => {
-                spans.push(span_of(bytes, field, bytes.len() - end - 1))?;
+                spans.push_reserved(span_of(bytes, field, bytes.len() - end - 1));
                 start = end + 1;
             }
             Err(found) => {

@@ -1,8 +1,8 @@
-use Rattle.std.proofs.Common.{◌≡◌, ◌≤◌, ◌-◌, ◌+◌, ◌++◌, ◌∷◌, [], None, ℕ, List, length, take, drop, get_or, ap, sym, subst, ◌∙◌, append_assoc, arith}
+use Rattle.std.proofs.Common.{◌≡◌, ◌≤◌, ◌<◌, ◌-◌, ◌+◌, ◌++◌, ◌∷◌, [], None, ℕ, List, length, take, drop, get_or, ap, sym, subst, ◌∙◌, append_assoc, arith}
 use Rattle.std.proofs.lemmas.Bool.{eq-eqb, eqb-true}
 use Rattle.std.proofs.lemmas.List.{drop-drop, length-append, length-drop, length-take}
 use Rattle.gu_fix.specs.WholeMessage.{soh}
-use Rattle.gu_fix.specs.Fields.{equals}
+use Rattle.gu_fix.specs.Fields.{IsField, equals}
 use Rattle.gu_fix.specs.Spans.{AreWithin, fields_in}
 use Rattle.gu_fix.specs.TagValue.{TagValue, tag_value}
 use Rattle.gu_fix.specs.declared.field.Span.{Span}
@@ -20,6 +20,8 @@ parts-init c =
       within = subst (AreWithin c.args.bytes.now) (sym none) tt;
       ends = whole_ends c.args.bytes.now c.requires;
       short = omega arith;
+      few = omega (arith, c.in_ok-spans.ensures.len);
+      room = omega (arith, c.in_ok-spans.ensures.capacity);
       ahead = c.into_iter-end-iterator.ensures.into_iter_gives ∙ c.memchr_iter-end-items.ensures.value;
     }
 
@@ -41,6 +43,19 @@ pub overflow_sub-bytes-in-Ok : goal.overflow_sub-bytes-in-Ok
 overflow_sub-bytes-in-Ok c =
     let found = next_end c.args.bytes.now c.parts.start c.in-Some.end c.next.new.self c.parts.invariant.short (sym c.parts.invariant.ahead ∙ c.in-Some.ensures.steps) in
     omega (arith, found.high)
+
+-- a field and its SOH take four bytes at least
+field_is_long : (bytes : List ℕ) (start end tag : ℕ) (value : List ℕ) → start ≤ end → end < length bytes → IsField (tag_value tag value) (take (end - start) (drop start bytes)) → start + 3 ≤ end
+field_is_long bytes start end tag value low high field =
+    let part = field.has_tag in
+    omega (arith, part.is_tag.some, field.some, ap length part.parts, length-append part.text (equals ∷ value), length-take (end - start) (drop start bytes), length-drop start bytes)
+
+pub push_reserved-requires : goal.push_reserved-requires
+push_reserved-requires c =
+    let bytes = c.args.bytes.now in
+    let inv = c.parts.invariant in
+    let found = next_end bytes c.parts.start c.in-Some.end c.next.new.self inv.short (sym inv.ahead ∙ c.in-Some.ensures.steps) in
+    omega (arith, inv.few, inv.room, found.low, found.high, field_is_long bytes c.parts.start c.in-Some.end c.in-Ok.field.tag c.in-Ok.field.value.now found.low found.high c.in-Ok.ensures)
 
 pub span_of-requires : goal.span_of-requires
 span_of-requires c =
@@ -76,14 +91,16 @@ parts-preserved c =
     let place : start ≡ length bytes - length rest = omega (arith, inv.short, length-drop start bytes) in
     let there = value_lies bytes rest front value after c.in-Ok.field.tag span short (ap (λ k. drop k bytes) place) whole
     (record { tagged = lies.tagged; sized = lies.sized; ends = omega (arith, lies.ends, left) }) in
-    let more : c.push.new.self.items ≡ spans ++ span ∷ [] = c.in_ok-push-in-Ok.ensures.items in
-    let fields : fields_in bytes c.push.new.self.items ≡ fields_in bytes spans ++ field ∷ [] = ap (fields_in bytes) more ∙ fields_in-one_more bytes spans span field there.1 in
+    let more : c.push_reserved.new.self.items ≡ spans ++ span ∷ [] = c.push_reserved.ensures.items in
+    let fields : fields_in bytes c.push_reserved.new.self.items ≡ fields_in bytes spans ++ field ∷ [] = ap (fields_in bytes) more ∙ fields_in-one_more bytes spans span field there.1 in
     let read = field_read bytes rest (take end rest) after (fields_in bytes spans) c.parts.fault field inv.reads_on parts (front_without rest end found.before) c.in-Ok.ensures in
     record {
-      reads_on = subst (λ (t : List ℕ). ReadsOn bytes t (fields_in bytes c.push.new.self.items) c.parts.fault) next (subst (λ (t : List TagValue). ReadsOn bytes after t c.parts.fault) (sym fields) read);
+      reads_on = subst (λ (t : List ℕ). ReadsOn bytes t (fields_in bytes c.push_reserved.new.self.items) c.parts.fault) next (subst (λ (t : List TagValue). ReadsOn bytes after t c.parts.fault) (sym fields) read);
       within = subst (AreWithin bytes) (sym more) (within-push bytes spans span inv.within there.0);
       ends = subst EndsWithSoh next (ends-drop rest (end + 1) inv.ends);
       short = omega (arith, found.high);
+      few = omega (arith, inv.few, found.low, c.push_reserved.ensures.len, field_is_long bytes start c.in-Some.end c.in-Ok.field.tag value found.low found.high c.in-Ok.ensures);
+      room = omega (arith, inv.room, c.push_reserved.ensures.capacity);
       ahead = found.others;
     }
 
@@ -105,6 +122,8 @@ parts-preserved-in-Err c =
       within = inv.within;
       ends = subst EndsWithSoh next (ends-drop rest (end + 1) inv.ends);
       short = omega (arith, found.high);
+      few = omega (arith, inv.few, found.low);
+      room = inv.room;
       ahead = found.others;
     }
 

@@ -1,4 +1,5 @@
-use Rattle.std.proofs.Common.{◌≡◌, ◌≤◌, drop, length}
+use Rattle.std.proofs.Common.{◌≡◌, ◌≤◌, ◌<◌, ◌+◌, ◌*◌, drop, length}
+use Rattle.std.specs.Vec.{vec_len, vec_capacity}
 use Rattle.memchr.specs.Find.{is_byte, places_between}
 use Rattle.gu_fix.specs.Spans.{AreWithin, fields_in}
 use Rattle.gu_fix.specs.WholeMessage.{soh}
@@ -11,5 +12,7 @@ invariant-parts l = record {
   within : AreWithin l.bytes l.spans.items;
   ends : EndsWithSoh (drop l.start l.bytes);
   short : l.start ≤ length l.bytes;
+  few : 4 * vec_len l.spans ≤ l.start;
+  room : length l.bytes < 4 * vec_capacity l.spans + 4;
   ahead : l.end-iterator ≡ places_between (is_byte soh) l.bytes l.start (length l.bytes);
 }
