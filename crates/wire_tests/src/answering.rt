@@ -25,95 +25,104 @@ fn wrong_answer_to(
     }
 }
 
-/// The first answer to a command that isn't its row's.
-fn wrong_command(alloc: Global, w: &Values) -> Result<Option<&'static str>, AllocError> {
+/// A question, the number of its message, why it was refused, and the type and text of its answer.
+type Row = (Question, u64, Option<Rejection>, &'static str, &'static str);
+
+/// What answers the questions that were done.
+fn done_rows(w: &Values) -> [Row; 6] {
+    let id = w.id;
+    let offer = w.offer;
     let report = Question::Report {
-        id: w.id,
+        id,
         match_id: w.match_id,
     };
-    let give_up = Question::GiveUp { id: w.id };
-    let claim = Question::Claim { offer: w.offer };
-    let refusal = Question::Refusal { offer: w.offer };
-    let reversal = Question::Reversal { offer: w.offer };
-    let closed = Some(Rejection::Refused(Refusal::OfferClosed));
-    let reached = Refusal::LimitReached(LimitKey::Acct(w.account));
-    let reversed = Some(Rejection::Refused(Refusal::NothingToReverse));
-    let lots = Some(Rejection::Refused(Refusal::TooManyLots));
-    let texts = [
-        wrong_answer_to(
-            alloc,
-            w,
-            report.answer(2, None),
-            "AR",
-            "571=R1|880=M1|939=0|",
-        )?,
-        wrong_answer_to(
-            alloc,
-            w,
-            report.answer(2, Some(Rejection::Full)),
-            "AR",
-            "571=R1|880=M1|939=1|751=99|58=Full|",
-        )?,
-        wrong_answer_to(alloc, w, give_up.answer(2, None), "P", "70=R1|87=0|")?,
-        wrong_answer_to(
-            alloc,
-            w,
-            give_up.answer(2, lots),
-            "P",
-            "70=R1|87=1|88=99|58=TooManyLots|",
-        )?,
-        wrong_answer_to(alloc, w, claim.answer(2, None), "", "a claim that was done")?,
-        wrong_answer_to(
-            alloc,
-            w,
-            claim.answer(2, closed),
-            "j",
-            "45=2|379=1|372=AT|380=0|58=OfferClosed|",
-        )?,
-        wrong_answer_to(
-            alloc,
-            w,
-            claim.answer(1_000_000_000, Some(Rejection::Refused(reached))),
-            "j",
-            "45=1000000000|379=1|372=AT|380=0|58=LimitReached ACCT A1|",
-        )?,
-        wrong_answer_to(
-            alloc,
-            w,
-            refusal.answer(2, None),
-            "",
-            "a refusal that was done",
-        )?,
-        wrong_answer_to(
-            alloc,
-            w,
-            refusal.answer(2, Some(Rejection::Memory)),
-            "j",
-            "45=2|379=1|372=AT|380=0|58=Memory|",
-        )?,
-        wrong_answer_to(
-            alloc,
-            w,
-            reversal.answer(2, None),
-            "",
-            "a reversal that was done",
-        )?,
-        wrong_answer_to(
-            alloc,
-            w,
-            reversal.answer(2, reversed),
-            "j",
-            "45=2|379=1|372=AT|380=0|58=NothingToReverse|",
-        )?,
-        wrong_answer_to(
-            alloc,
-            w,
-            Question::Positions(question(w)).answer(2, closed),
+    let claim = Question::Claim { offer };
+    let refusal = Question::Refusal { offer };
+    let reversal = Question::Reversal { offer };
+    [
+        (report, 2, None, "AR", "571=R1|880=M1|939=0|"),
+        (Question::GiveUp { id }, 2, None, "P", "70=R1|87=0|"),
+        (claim, 2, None, "", "a claim that was done"),
+        (refusal, 2, None, "", "a refusal that was done"),
+        (reversal, 2, None, "", "a reversal that was done"),
+        (
+            Question::Positions(question(w)),
+            2,
+            Some(Rejection::Refused(Refusal::OfferClosed)),
             "",
             "a question",
-        )?,
-    ];
-    Ok(first_of(&texts))
+        ),
+    ]
+}
+
+/// What answers the questions that were refused.
+fn refused_rows(w: &Values) -> [Row; 6] {
+    let id = w.id;
+    let offer = w.offer;
+    let report = Question::Report {
+        id,
+        match_id: w.match_id,
+    };
+    let reached = Refusal::LimitReached(LimitKey::Acct(w.account));
+    [
+        (
+            report,
+            2,
+            Some(Rejection::Full),
+            "AR",
+            "571=R1|880=M1|939=1|751=99|58=Full|",
+        ),
+        (
+            Question::GiveUp { id },
+            2,
+            Some(Rejection::Refused(Refusal::TooManyLots)),
+            "P",
+            "70=R1|87=1|88=99|58=TooManyLots|",
+        ),
+        (
+            Question::Claim { offer },
+            2,
+            Some(Rejection::Refused(Refusal::OfferClosed)),
+            "j",
+            "45=2|379=1|372=AT|380=0|58=OfferClosed|",
+        ),
+        (
+            Question::Claim { offer },
+            1_000_000_000,
+            Some(Rejection::Refused(reached)),
+            "j",
+            "45=1000000000|379=1|372=AT|380=0|58=LimitReached ACCT A1|",
+        ),
+        (
+            Question::Refusal { offer },
+            2,
+            Some(Rejection::Memory),
+            "j",
+            "45=2|379=1|372=AT|380=0|58=Memory|",
+        ),
+        (
+            Question::Reversal { offer },
+            2,
+            Some(Rejection::Refused(Refusal::NothingToReverse)),
+            "j",
+            "45=2|379=1|372=AT|380=0|58=NothingToReverse|",
+        ),
+    ]
+}
+
+/// The first answer to a command that isn't its row's.
+fn wrong_command(
+    alloc: Global,
+    w: &Values,
+    rows: &[Row],
+) -> Result<Option<&'static str>, AllocError> {
+    for (question, number, rejection, msg_type, text) in rows {
+        let answer = question.answer(*number, *rejection);
+        if let Some(text) = wrong_answer_to(alloc, w, answer, msg_type, *text)? {
+            return Ok(Some(text));
+        }
+    }
+    Ok(None)
 }
 
 /// The question for the positions of the account.
@@ -226,65 +235,52 @@ fn offered(w: &Values, event: OfferEvent) -> Notice {
     })
 }
 
-/// What a notice is to be sent as, where it isn't.
-fn wrong_notice_of(
-    alloc: Global,
-    w: &Values,
-    notice: &Notice,
-    msg_type: &str,
-    text: &'static str,
-) -> Result<Option<&'static str>, AllocError> {
-    wrong(alloc, at_nine(w, notice_body(notice)), msg_type, text)
+/// Notices, with the type and text of what they are sent as.
+fn notice_rows(w: &Values) -> [(Notice, &'static str, &'static str); 6] {
+    let refused = OfferEvent::Refused(AllocReject::AccountLevel);
+    [
+        (
+            matched(w, Side::Buy),
+            "AE",
+            "571=7-B|572=R1|573=0|880=M1|55=XF6|32=10|31=101.5|75=20260105|552=1|54=1|1=A1|",
+        ),
+        (
+            matched(w, Side::Sell),
+            "AE",
+            "571=7-S|572=R1|573=0|880=M1|55=XF6|32=10|31=101.5|75=20260105|552=1|54=2|1=A1|",
+        ),
+        (
+            offered(w, OfferEvent::Offered),
+            "AS",
+            "755=1|71=0|794=8|87=6|55=XF6|54=2|53=10|6=101.5|75=20260105|78=1|79=A1|80=10|",
+        ),
+        (
+            offered(w, OfferEvent::Claimed),
+            "AS",
+            "755=1|71=0|794=9|87=0|55=XF6|54=2|53=10|6=101.5|75=20260105|78=1|79=A1|80=10|",
+        ),
+        (
+            offered(w, refused),
+            "AS",
+            "755=1|71=0|794=10|87=2|55=XF6|54=2|53=10|6=101.5|75=20260105|78=1|79=A1|80=10|",
+        ),
+        (
+            offered(w, OfferEvent::Reversed),
+            "AS",
+            "755=1|71=0|794=9|87=7|55=XF6|54=2|53=10|6=101.5|75=20260105|78=1|79=A1|80=10|",
+        ),
+    ]
 }
 
 /// The first notice that isn't its row's.
 fn wrong_notice(alloc: Global, w: &Values) -> Result<Option<&'static str>, AllocError> {
-    let refused = OfferEvent::Refused(AllocReject::AccountLevel);
-    let texts = [
-        wrong_notice_of(
-            alloc,
-            w,
-            &matched(w, Side::Buy),
-            "AE",
-            "571=7-B|572=R1|573=0|880=M1|55=XF6|32=10|31=101.5|75=20260105|552=1|54=1|1=A1|",
-        )?,
-        wrong_notice_of(
-            alloc,
-            w,
-            &matched(w, Side::Sell),
-            "AE",
-            "571=7-S|572=R1|573=0|880=M1|55=XF6|32=10|31=101.5|75=20260105|552=1|54=2|1=A1|",
-        )?,
-        wrong_notice_of(
-            alloc,
-            w,
-            &offered(w, OfferEvent::Offered),
-            "AS",
-            "755=1|71=0|794=8|87=6|55=XF6|54=2|53=10|6=101.5|75=20260105|78=1|79=A1|80=10|",
-        )?,
-        wrong_notice_of(
-            alloc,
-            w,
-            &offered(w, OfferEvent::Claimed),
-            "AS",
-            "755=1|71=0|794=9|87=0|55=XF6|54=2|53=10|6=101.5|75=20260105|78=1|79=A1|80=10|",
-        )?,
-        wrong_notice_of(
-            alloc,
-            w,
-            &offered(w, refused),
-            "AS",
-            "755=1|71=0|794=10|87=2|55=XF6|54=2|53=10|6=101.5|75=20260105|78=1|79=A1|80=10|",
-        )?,
-        wrong_notice_of(
-            alloc,
-            w,
-            &offered(w, OfferEvent::Reversed),
-            "AS",
-            "755=1|71=0|794=9|87=7|55=XF6|54=2|53=10|6=101.5|75=20260105|78=1|79=A1|80=10|",
-        )?,
-    ];
-    Ok(first_of(&texts))
+    for (notice, msg_type, text) in &notice_rows(w) {
+        let message = at_nine(w, notice_body(notice));
+        if let Some(text) = wrong(alloc, message, msg_type, *text)? {
+            return Ok(Some(text));
+        }
+    }
+    Ok(None)
 }
 
 /// The first answer or notice that is wrong.
@@ -293,7 +289,8 @@ pub fn wrong_table(alloc: Global) -> Result<Option<&'static str>, AllocError> {
         return Ok(Some("no sample"));
     };
     let texts = [
-        wrong_command(alloc, &w)?,
+        wrong_command(alloc, &w, &done_rows(&w))?,
+        wrong_command(alloc, &w, &refused_rows(&w))?,
         wrong_question(alloc, &w)?,
         wrong_notice(alloc, &w)?,
     ];

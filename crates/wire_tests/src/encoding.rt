@@ -1,6 +1,6 @@
 //! What fields are written as.
 use crate::messages::{HEARTBEAT, SHORTEST, fields_of, frame_in, longest_value, most_fields, wire};
-use gu_fix::{EncodeError, Fields, encode, encode_onto, fields};
+use gu_fix::{EncodeError, Fields, encode, fields};
 use std::alloc::{AllocError, Global};
 
 /// A text of fields, and the message or the fault.
@@ -49,29 +49,6 @@ pub fn wrong_row(alloc: Global, rows: &[Row]) -> Result<Option<&'static str>, Al
 #[test]
 fn fields_are_written_or_their_first_fault_is_named(rt: HostRuntime) {
     assert_eq!(rt; wrong_row(rt.alloc(), &ROWS), Ok(None));
-}
-
-/// Two messages one behind the other, written onto what is there already.
-fn messages_behind(alloc: Global, front: &[u8], texts: [&str; 2]) -> Result<Vec<u8>, AllocError> {
-    let mut output = Vec::from_slice(alloc, front)?;
-    for text in texts {
-        encode_onto(alloc, &mut output, &fields_of(alloc, text)?)?;
-    }
-    Ok(output)
-}
-
-/// Whether SHORTEST and HEARTBEAT are written behind a byte.
-fn are_written_behind(alloc: Global) -> Result<bool, AllocError> {
-    let output = messages_behind(alloc, b"x", [ROWS[0].0, ROWS[1].0])?;
-    let mut expected = Vec::from_slice(alloc, b"x")?;
-    expected.extend_from_slice(wire(alloc, SHORTEST)?.as_bytes())?;
-    expected.extend_from_slice(wire(alloc, HEARTBEAT)?.as_bytes())?;
-    Ok(output.as_slice() == expected.as_slice())
-}
-
-#[test]
-fn messages_are_written_onto_what_is_there(rt: HostRuntime) {
-    assert_eq!(rt; are_written_behind(rt.alloc()), Ok(true));
 }
 
 /// The fields of a message, but for those that the encoding itself writes.

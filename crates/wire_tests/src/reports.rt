@@ -1,7 +1,7 @@
 //! Firms' reports in each of their forms, and their acknowledgements. `|` ends a field.
 use crate::messages::{FIRST, SECOND, fields_of, frame_in, wire};
 use crate::reading::{answer, text_in};
-use gu_fix::{Fields, encode, fields};
+use gu_fix::{Fields, encode, encode_onto, fields};
 use gu_msgs::outbound::{Body, TradeCaptureReportAck};
 use gu_msgs::{Outbound, Rejection, midnight_of, sender, write};
 use gu_terms::{Day, FirmId, Id, Refusal};
@@ -193,7 +193,7 @@ fn ack(firm: &str, number: u64, id: &str, rejection: Option<Rejection>) -> Optio
     })
 }
 
-/// Whether a message is this one on the wire.
+/// Whether a message is this one on the wire, by itself and behind what is there.
 fn is_on_the_wire(
     alloc: Global,
     message: Option<Outbound>,
@@ -203,10 +203,14 @@ fn is_on_the_wire(
         return Ok(false);
     };
     let fields = write(alloc, &message)?;
-    match encode(alloc, &fields) {
-        Ok(bytes) => Ok(bytes.as_slice() == wire(alloc, expected)?.as_bytes()),
-        Err(_) => Err(AllocError),
-    }
+    let expected = wire(alloc, expected)?;
+    let mut output = Vec::from_slice(alloc, b"x")?;
+    encode_onto(alloc, &mut output, &fields)?;
+    let Ok(bytes) = encode(alloc, &fields) else {
+        return Err(AllocError);
+    };
+    let is_behind = output.split_first() == Some((&b'x', expected.as_bytes()));
+    Ok(is_behind && bytes.as_slice() == expected.as_bytes())
 }
 
 /// The first answer that isn't written so.

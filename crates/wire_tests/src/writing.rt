@@ -1,12 +1,12 @@
 //! What messages are written as.
-use crate::messages::{first_of, text_of};
+use crate::messages::{fields_of, first_of, text_of};
 use gu_msgs::outbound::{
     AllocationInstructionAck, AllocationReport, Body, BusinessMessageReject, PositionReport,
     Reject, RequestForPositionsAck, TradeCaptureReport, TradeCaptureReportAck,
 };
 use gu_msgs::{
     BusinessRejectReason, LogoutReason, Outbound, PosReqResult, Rejection, SessionRejectReason,
-    TestReqId, TypeCode, write,
+    TestReqId, TypeCode, write, write_over,
 };
 use gu_terms::{
     AccountId, AgreementId, AllocReject, Day, FirmId, Id, LimitKey, Lots, Moment, OfferEvent,
@@ -157,28 +157,24 @@ pub fn wrong(
 
 /// The first message of the session that isn't written as its row says.
 fn wrong_session(alloc: Global, w: &Values) -> Result<Option<&'static str>, AllocError> {
-    let texts = [
-        wrong(alloc, logon(w, 30, false), "A", "98=0|108=30|1137=9|")?,
-        wrong(alloc, logon(w, 0, true), "A", "98=0|108=0|1137=9|141=Y|")?,
-        wrong(alloc, at_nine(w, Body::Heartbeat(None)), "0", "")?,
-        wrong(alloc, heartbeat(alloc, w, "a =b")?, "0", "112=a =b|")?,
-        wrong(alloc, at_nine(w, Body::TestRequest), "1", "112=TEST|")?,
-        wrong(alloc, at_nine(w, Body::ResendRequest(2)), "2", "7=2|16=0|")?,
-        wrong(
-            alloc,
-            at_nine(w, Body::SequenceReset(106)),
-            "4",
-            "123=Y|36=106|",
-        )?,
-        wrong(alloc, at_nine(w, Body::Logout(None)), "5", "")?,
-        wrong(
-            alloc,
-            at_nine(w, Body::Logout(Some(LogoutReason::SeqTooLow))),
-            "5",
-            "58=SeqTooLow|",
-        )?,
+    let too_low = Some(LogoutReason::SeqTooLow);
+    let rows = [
+        (logon(w, 30, false), "A", "98=0|108=30|1137=9|"),
+        (logon(w, 0, true), "A", "98=0|108=0|1137=9|141=Y|"),
+        (at_nine(w, Body::Heartbeat(None)), "0", ""),
+        (heartbeat(alloc, w, "a =b")?, "0", "112=a =b|"),
+        (at_nine(w, Body::TestRequest), "1", "112=TEST|"),
+        (at_nine(w, Body::ResendRequest(2)), "2", "7=2|16=0|"),
+        (at_nine(w, Body::SequenceReset(106)), "4", "123=Y|36=106|"),
+        (at_nine(w, Body::Logout(None)), "5", ""),
+        (at_nine(w, Body::Logout(too_low)), "5", "58=SeqTooLow|"),
     ];
-    Ok(first_of(&texts))
+    for (message, msg_type, text) in rows {
+        if let Some(text) = wrong(alloc, message, msg_type, text)? {
+            return Ok(Some(text));
+        }
+    }
+    Ok(None)
 }
 
 /// A Logon.
@@ -269,44 +265,43 @@ fn limit_reached(w: &Values, key: LimitKey) -> Outbound {
     at_refused(w, Rejection::Refused(Refusal::LimitReached(key)))
 }
 
+/// Keys, and the texts of a BusinessMessageReject for a claim that they leave no room.
+fn keys(w: &Values, agreement: AgreementId) -> [(LimitKey, &'static str); 5] {
+    [
+        (
+            LimitKey::Exec(w.firm),
+            "45=4|379=1|372=AT|380=0|58=LimitReached EXEC E1|",
+        ),
+        (
+            LimitKey::Agr(agreement),
+            "45=4|379=1|372=AT|380=0|58=LimitReached AGR P1|",
+        ),
+        (
+            LimitKey::Acct(w.account),
+            "45=4|379=1|372=AT|380=0|58=LimitReached ACCT A1|",
+        ),
+        (
+            LimitKey::Carry(w.firm),
+            "45=4|379=1|372=AT|380=0|58=LimitReached CARRY E1|",
+        ),
+        (
+            LimitKey::Guar(w.firm),
+            "45=4|379=1|372=AT|380=0|58=LimitReached GUAR E1|",
+        ),
+    ]
+}
+
 /// The first limit that isn't named so.
 fn wrong_limit(alloc: Global, w: &Values) -> Result<Option<&'static str>, AllocError> {
     let Some(agreement) = AgreementId::new(b"P1") else {
         return Ok(Some("no agreement"));
     };
-    let texts = [
-        wrong(
-            alloc,
-            limit_reached(w, LimitKey::Exec(w.firm)),
-            "j",
-            "45=4|379=1|372=AT|380=0|58=LimitReached EXEC E1|",
-        )?,
-        wrong(
-            alloc,
-            limit_reached(w, LimitKey::Agr(agreement)),
-            "j",
-            "45=4|379=1|372=AT|380=0|58=LimitReached AGR P1|",
-        )?,
-        wrong(
-            alloc,
-            limit_reached(w, LimitKey::Acct(w.account)),
-            "j",
-            "45=4|379=1|372=AT|380=0|58=LimitReached ACCT A1|",
-        )?,
-        wrong(
-            alloc,
-            limit_reached(w, LimitKey::Carry(w.firm)),
-            "j",
-            "45=4|379=1|372=AT|380=0|58=LimitReached CARRY E1|",
-        )?,
-        wrong(
-            alloc,
-            limit_reached(w, LimitKey::Guar(w.firm)),
-            "j",
-            "45=4|379=1|372=AT|380=0|58=LimitReached GUAR E1|",
-        )?,
-    ];
-    Ok(first_of(&texts))
+    for (key, text) in &keys(w, agreement) {
+        if let Some(text) = wrong(alloc, limit_reached(w, *key), "j", *text)? {
+            return Ok(Some(text));
+        }
+    }
+    Ok(None)
 }
 
 /// The first rejection that isn't written as it is to be: the type is named where it has the form of one.
@@ -318,144 +313,160 @@ fn wrong_rejection(alloc: Global, w: &Values) -> Result<Option<&'static str>, Al
         return Ok(Some("no code"));
     };
     let unread = BusinessRejectReason::UnsupportedMessageType(code);
-    let texts = [
-        wrong(
-            alloc,
+    let rows = [
+        (
             reject(w, 880, b"AE", missing),
             "3",
             "45=2|371=880|372=AE|373=1|",
-        )?,
-        wrong(
-            alloc,
-            reject(w, 35, b"A!", no_type),
-            "3",
-            "45=2|371=35|373=11|",
-        )?,
-        wrong(alloc, reject(w, 0, b"D", no_tag), "3", "45=2|372=D|373=0|")?,
-        wrong(alloc, business_reject(w, unread), "j", "45=4|372=D|380=3|")?,
-        wrong(
-            alloc,
+        ),
+        (reject(w, 35, b"A!", no_type), "3", "45=2|371=35|373=11|"),
+        (reject(w, 0, b"D", no_tag), "3", "45=2|372=D|373=0|"),
+        (business_reject(w, unread), "j", "45=4|372=D|380=3|"),
+        (
             at_refused(w, Rejection::Memory),
             "j",
             "45=4|379=1|372=AT|380=0|58=Memory|",
-        )?,
-        wrong(
-            alloc,
+        ),
+        (
             at_refused(w, Rejection::Full),
             "j",
             "45=4|379=1|372=AT|380=0|58=Full|",
-        )?,
-        wrong_refusal(alloc, w)?,
-        wrong_limit(alloc, w)?,
+        ),
     ];
-    Ok(first_of(&texts))
+    for (message, msg_type, text) in rows {
+        if let Some(text) = wrong(alloc, message, msg_type, text)? {
+            return Ok(Some(text));
+        }
+    }
+    Ok(None)
 }
 
-/// The first answer that isn't written as its row says.
-fn wrong_answer(alloc: Global, w: &Values) -> Result<Option<&'static str>, AllocError> {
-    let unknown = Some(Rejection::Refused(Refusal::UnknownAccount));
-    let texts = [
-        wrong(alloc, report_ack(w, None), "AR", "571=R1|880=M1|939=0|")?,
-        wrong(
-            alloc,
-            report_ack(w, unknown),
-            "AR",
-            "571=R1|880=M1|939=1|751=1|58=UnknownAccount|",
-        )?,
-        wrong(
-            alloc,
-            report_ack(w, Some(Rejection::Full)),
-            "AR",
-            "571=R1|880=M1|939=1|751=99|58=Full|",
-        )?,
-        wrong(alloc, give_up_ack(w, None), "P", "70=R1|87=0|")?,
-        wrong(
-            alloc,
-            give_up_ack(w, Some(Rejection::Memory)),
-            "P",
-            "70=R1|87=1|88=99|58=Memory|",
-        )?,
-        wrong(
-            alloc,
-            question_ack(w, PosReqResult::ValidRequest(1)),
-            "AO",
-            "721=R1-0|710=R1|728=0|729=0|727=1|1=A1|",
-        )?,
-        wrong(
-            alloc,
-            question_ack(w, PosReqResult::NoPositionsFound),
-            "AO",
-            "721=R1-0|710=R1|728=2|729=0|727=0|1=A1|",
-        )?,
-        wrong(
-            alloc,
-            question_ack(w, PosReqResult::NotAuthorized),
-            "AO",
-            "721=R1-0|710=R1|728=3|729=2|727=0|1=A1|",
-        )?,
-    ];
-    Ok(first_of(&texts))
+/// Why a report was refused, and the text of its answer.
+const REPORT_ACKS: [(Option<Rejection>, &str); 3] = [
+    (None, "571=R1|880=M1|939=0|"),
+    (
+        Some(Rejection::Refused(Refusal::UnknownAccount)),
+        "571=R1|880=M1|939=1|751=1|58=UnknownAccount|",
+    ),
+    (Some(Rejection::Full), "571=R1|880=M1|939=1|751=99|58=Full|"),
+];
+
+/// The first answer to a report that isn't written as its row says.
+fn wrong_report_ack(alloc: Global, w: &Values) -> Result<Option<&'static str>, AllocError> {
+    for (rejection, text) in &REPORT_ACKS {
+        if let Some(text) = wrong(alloc, report_ack(w, *rejection), "AR", *text)? {
+            return Ok(Some(text));
+        }
+    }
+    Ok(None)
 }
 
-/// The first notice that isn't written as its row says.
-fn wrong_notice(alloc: Global, w: &Values) -> Result<Option<&'static str>, AllocError> {
-    let texts = [
-        wrong(
-            alloc,
-            side_notice(w, Side::Buy, w.price),
-            "AE",
-            "571=7-B|572=R1|573=0|880=M1|55=XF6|32=10|31=101.5|75=20260105|552=1|54=1|1=A1|",
-        )?,
-        wrong(
-            alloc,
-            side_notice(w, Side::Sell, w.price),
-            "AE",
-            "571=7-S|572=R1|573=0|880=M1|55=XF6|32=10|31=101.5|75=20260105|552=1|54=2|1=A1|",
-        )?,
-        wrong(
-            alloc,
-            offer_notice(w, OfferEvent::Offered),
-            "AS",
-            "755=1|71=0|794=8|87=6|55=XF6|54=1|53=10|6=101.5|75=20260105|78=1|79=A1|80=10|",
-        )?,
-        wrong(
-            alloc,
-            offer_notice(w, OfferEvent::Claimed),
-            "AS",
-            "755=1|71=0|794=9|87=0|55=XF6|54=1|53=10|6=101.5|75=20260105|78=1|79=A1|80=10|",
-        )?,
-        wrong(
-            alloc,
-            offer_notice(w, OfferEvent::Refused(AllocReject::BlockLevel)),
-            "AS",
-            "755=1|71=0|794=10|87=1|55=XF6|54=1|53=10|6=101.5|75=20260105|78=1|79=A1|80=10|",
-        )?,
-        wrong(
-            alloc,
-            offer_notice(w, OfferEvent::Refused(AllocReject::AccountLevel)),
-            "AS",
-            "755=1|71=0|794=10|87=2|55=XF6|54=1|53=10|6=101.5|75=20260105|78=1|79=A1|80=10|",
-        )?,
-        wrong(
-            alloc,
-            offer_notice(w, OfferEvent::Refused(AllocReject::Intermediary)),
-            "AS",
-            "755=1|71=0|794=10|87=5|55=XF6|54=1|53=10|6=101.5|75=20260105|78=1|79=A1|80=10|",
-        )?,
-        wrong(
-            alloc,
-            offer_notice(w, OfferEvent::Reversed),
-            "AS",
-            "755=1|71=0|794=9|87=7|55=XF6|54=1|53=10|6=101.5|75=20260105|78=1|79=A1|80=10|",
-        )?,
-        wrong(
-            alloc,
-            position(w),
-            "AP",
-            "721=R1-2|710=R1|728=0|715=20260105|1=A1|55=XF6|702=1|703=TQ|704=10|705=0|",
-        )?,
-    ];
-    Ok(first_of(&texts))
+/// Why a give-up was refused, and the text of its answer.
+const GIVE_UP_ACKS: [(Option<Rejection>, &str); 2] = [
+    (None, "70=R1|87=0|"),
+    (Some(Rejection::Memory), "70=R1|87=1|88=99|58=Memory|"),
+];
+
+/// The first answer to a give-up that isn't written as its row says.
+fn wrong_give_up_ack(alloc: Global, w: &Values) -> Result<Option<&'static str>, AllocError> {
+    for (rejection, text) in &GIVE_UP_ACKS {
+        if let Some(text) = wrong(alloc, give_up_ack(w, *rejection), "P", *text)? {
+            return Ok(Some(text));
+        }
+    }
+    Ok(None)
+}
+
+/// What a question for positions comes to, and the text of its answer.
+const QUESTION_ACKS: [(PosReqResult, &str); 3] = [
+    (
+        PosReqResult::ValidRequest(1),
+        "721=R1-0|710=R1|728=0|729=0|727=1|1=A1|",
+    ),
+    (
+        PosReqResult::NoPositionsFound,
+        "721=R1-0|710=R1|728=2|729=0|727=0|1=A1|",
+    ),
+    (
+        PosReqResult::NotAuthorized,
+        "721=R1-0|710=R1|728=3|729=2|727=0|1=A1|",
+    ),
+];
+
+/// The first answer to a question for positions that isn't written as its row says.
+fn wrong_question_ack(alloc: Global, w: &Values) -> Result<Option<&'static str>, AllocError> {
+    for (outcome, text) in &QUESTION_ACKS {
+        if let Some(text) = wrong(alloc, question_ack(w, *outcome), "AO", *text)? {
+            return Ok(Some(text));
+        }
+    }
+    Ok(None)
+}
+
+/// The sides of a trade, and the texts of their notices.
+const SIDES: [(Side, &str); 2] = [
+    (
+        Side::Buy,
+        "571=7-B|572=R1|573=0|880=M1|55=XF6|32=10|31=101.5|75=20260105|552=1|54=1|1=A1|",
+    ),
+    (
+        Side::Sell,
+        "571=7-S|572=R1|573=0|880=M1|55=XF6|32=10|31=101.5|75=20260105|552=1|54=2|1=A1|",
+    ),
+];
+
+/// The first notice of a side that isn't written as its row says.
+fn wrong_side(alloc: Global, w: &Values) -> Result<Option<&'static str>, AllocError> {
+    for (side, text) in &SIDES {
+        if let Some(text) = wrong(alloc, side_notice(w, *side, w.price), "AE", *text)? {
+            return Ok(Some(text));
+        }
+    }
+    Ok(None)
+}
+
+/// The events of an offer, and the texts of their notices.
+const EVENTS: [(OfferEvent, &str); 6] = [
+    (
+        OfferEvent::Offered,
+        "755=1|71=0|794=8|87=6|55=XF6|54=1|53=10|6=101.5|75=20260105|78=1|79=A1|80=10|",
+    ),
+    (
+        OfferEvent::Claimed,
+        "755=1|71=0|794=9|87=0|55=XF6|54=1|53=10|6=101.5|75=20260105|78=1|79=A1|80=10|",
+    ),
+    (
+        OfferEvent::Refused(AllocReject::BlockLevel),
+        "755=1|71=0|794=10|87=1|55=XF6|54=1|53=10|6=101.5|75=20260105|78=1|79=A1|80=10|",
+    ),
+    (
+        OfferEvent::Refused(AllocReject::AccountLevel),
+        "755=1|71=0|794=10|87=2|55=XF6|54=1|53=10|6=101.5|75=20260105|78=1|79=A1|80=10|",
+    ),
+    (
+        OfferEvent::Refused(AllocReject::Intermediary),
+        "755=1|71=0|794=10|87=5|55=XF6|54=1|53=10|6=101.5|75=20260105|78=1|79=A1|80=10|",
+    ),
+    (
+        OfferEvent::Reversed,
+        "755=1|71=0|794=9|87=7|55=XF6|54=1|53=10|6=101.5|75=20260105|78=1|79=A1|80=10|",
+    ),
+];
+
+/// The first notice of an event that isn't written as its row says.
+fn wrong_event(alloc: Global, w: &Values) -> Result<Option<&'static str>, AllocError> {
+    for (event, text) in &EVENTS {
+        if let Some(text) = wrong(alloc, offer_notice(w, *event), "AS", *text)? {
+            return Ok(Some(text));
+        }
+    }
+    Ok(None)
+}
+
+/// What a position is to be written as, where it isn't.
+fn wrong_position(alloc: Global, w: &Values) -> Result<Option<&'static str>, AllocError> {
+    let text = "721=R1-2|710=R1|728=0|715=20260105|1=A1|55=XF6|702=1|703=TQ|704=10|705=0|";
+    wrong(alloc, position(w), "AP", text)
 }
 
 /// A price in millionths, and its text.
@@ -487,8 +498,14 @@ pub fn wrong_table(alloc: Global) -> Result<Option<&'static str>, AllocError> {
     let texts = [
         wrong_session(alloc, &w)?,
         wrong_rejection(alloc, &w)?,
-        wrong_answer(alloc, &w)?,
-        wrong_notice(alloc, &w)?,
+        wrong_refusal(alloc, &w)?,
+        wrong_limit(alloc, &w)?,
+        wrong_report_ack(alloc, &w)?,
+        wrong_give_up_ack(alloc, &w)?,
+        wrong_question_ack(alloc, &w)?,
+        wrong_side(alloc, &w)?,
+        wrong_event(alloc, &w)?,
+        wrong_position(alloc, &w)?,
         wrong_price(alloc, &w)?,
     ];
     Ok(first_of(&texts))
@@ -510,6 +527,26 @@ fn is_marked(alloc: Global) -> Option<bool> {
 fn each_message_is_written_as_the_standard_has_it(rt: HostRuntime) {
     assert_eq!(rt; wrong_table(rt.alloc()), Ok(None));
     assert_eq!(rt; is_marked(rt.alloc()), Some(true));
+}
+
+/// Whether a position is written over these fields as it is anywhere.
+fn is_written_over(alloc: Global, w: &Values, room: &str) -> Result<bool, AllocError> {
+    let message = position(w);
+    let fields = write_over(alloc, fields_of(alloc, room)?, &message)?;
+    Ok(text_of(alloc, &fields)?.as_str() == written(alloc, &message)?.as_str())
+}
+
+/// The same of no fields, and of more than it has.
+fn are_written_over(alloc: Global) -> Option<(bool, bool)> {
+    let w = sample()?;
+    let none = is_written_over(alloc, &w, "").ok()?;
+    let more = "58=a longer text than any other|".repeat(alloc, 30).ok()?;
+    Some((none, is_written_over(alloc, &w, &more).ok()?))
+}
+
+#[test]
+fn a_message_is_written_in_the_room_of_fields(rt: HostRuntime) {
+    assert_eq!(rt; are_written_over(rt.alloc()), Some((true, true)));
 }
 
 /// How many bytes the text of a Heartbeat has that answers an id of so many bytes.
