@@ -74,7 +74,7 @@ fn kept_fault(row: Row, text: &[u8], kept: &mut KeptValues) -> Option<SessionRej
     None
 }
 
-/// The same, where the number of the first field with the tag is known.
+/// The fault of a row's value, where the number of the first field with the tag is known. Lots, a price or a day are kept.
 fn standing_fault(fields: &Run<'_>, row: Row, number: usize, kept: &mut KeptValues) -> Option<Fault>
     requires standing { IsStanding fields.now (tag_of row) number }
     requires kept { AreKept fields.now kept.old }
