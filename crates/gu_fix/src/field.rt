@@ -146,6 +146,7 @@ impl Fields {
     }
 
     /// Appends a field with a copy of the value.
+    #[inline(always)]
     pub fn push(&mut self, tag: u32, value: &[u8]) -> Result<(), AllocError>
         ensures ok { OnOk result (self.new ≡ self.old ++ tag_value tag value.now ∷ []) }
         ensures err { OnErr result (self.new ≡ self.old) }

@@ -66,6 +66,7 @@ impl Draft {
     }
 
     /// Appends a value that can be encoded.
+    #[inline(always)]
     pub fn push(&mut self, tag: u32, value: &[u8]) -> Result<(), AllocError>
         requires { IsTrue (is_plain value.now) }
         ensures { OnOk result (self.new ≡ self.old ++ tag_value tag value.now ∷ []) }

@@ -13,6 +13,7 @@ use crate::run::Run;
 use crate::standings::fields_behind;
 
 /// Whether a tag is read at the outer level of a message of this type.
+#[inline(always)]
 pub fn is_outer(msg_type: MsgType, tag: u32) -> bool
     ensures { result ≡ is_listed (outer_rows msg_type) tag }
 {
@@ -20,6 +21,7 @@ pub fn is_outer(msg_type: MsgType, tag: u32) -> bool
 }
 
 /// How many fields there are from the first that is read at the outer level on.
+#[inline(always)]
 fn left_from_outer(fields: &Run<'_>, msg_type: MsgType) -> usize
     ensures { result + length (up_to (is_listed (outer_rows msg_type)) fields.now) ≡ length fields.now }
 {
@@ -48,6 +50,7 @@ fn left_from_tag(fields: &Run<'_>, tag: u32) -> usize
 }
 
 /// The fields up to the first that is read at the outer level.
+#[inline(always)]
 fn up_to_outer<'a>(fields: &Run<'a>, msg_type: MsgType) -> Run<'a>
     ensures fields { result ≡ up_to (is_listed (outer_rows msg_type)) fields.now }
     ensures short { length result < 2 ^ 64 }
@@ -64,6 +67,7 @@ pub fn group_of<'a>(fields: &Run<'a>, msg_type: MsgType, counter: u32) -> Run<'a
 }
 
 /// The group behind the field with this number, which is the first standing of its counter.
+#[inline(always)]
 pub fn group_behind<'a>(fields: &Run<'a>, msg_type: MsgType, number: usize) -> Run<'a>
     requires { number ≤ length fields.now }
     ensures fields { (counter : ℕ) → IsStanding fields.now counter number → result ≡ group_of msg_type counter fields.now }

@@ -95,6 +95,7 @@ fn status_fault(text: &[u8]) -> Option<SessionRejectReason>
 }
 
 /// What is wrong with a text where a value of this kind is wanted.
+#[inline(always)]
 pub fn text_fault(kind: Kind, text: &[u8]) -> Option<SessionRejectReason>
     ensures { MatchOption result (IsSound kind text.now) (λ reason. IsAtFault kind text.now reason) }
 {

@@ -29,6 +29,7 @@ fn place_of(rows: &[Row], tag: u32) -> Option<usize>
 }
 
 /// The place of the row with a tag, from a place on.
+#[inline(always)]
 fn place_from(rows: &[Row], from: usize, tag: u32) -> Option<usize>
     ensures { IfSome result (λ place. IsRowOf rows.now tag place) }
 {
@@ -42,6 +43,7 @@ fn place_from(rows: &[Row], from: usize, tag: u32) -> Option<usize>
 
 /// The place of a tag in the table of reports, of which there are more than of all other messages.
 #[tactic(auto, unfolding(crate::specs::Tables::header_rows, crate::specs::Tables::body_rows))]
+#[inline(always)]
 fn report_place(tag: u32) -> Option<usize>
     ensures { MatchOption result (is_listed (outer_rows kind.TradeCaptureReport) tag ≡ false)
         (λ place. IsRowOf (outer_rows kind.TradeCaptureReport) tag place) }
@@ -71,6 +73,7 @@ fn report_place(tag: u32) -> Option<usize>
 }
 
 /// The place of a tag among those that are read at the outer level of a message of this type.
+#[inline(always)]
 pub fn outer_place(msg_type: MsgType, tag: u32) -> Option<usize>
     ensures { MatchOption result (is_listed (outer_rows msg_type) tag ≡ false) (λ place. IsRowOf (outer_rows msg_type) tag place) }
 {
@@ -81,6 +84,7 @@ pub fn outer_place(msg_type: MsgType, tag: u32) -> Option<usize>
 }
 
 /// The place of a tag among rows, which are those of the outer level of messages of a type where one is named.
+#[inline(always)]
 fn place_among(rows: &[Row], outer: Option<MsgType>, tag: u32) -> Option<usize>
     requires { IfSome outer (λ msg_type. rows.now ≡ outer_rows msg_type) }
     ensures { MatchOption result (is_listed rows.now tag ≡ false) (λ place. IsRowOf rows.now tag place) }
@@ -92,6 +96,7 @@ fn place_among(rows: &[Row], outer: Option<MsgType>, tag: u32) -> Option<usize>
 }
 
 /// The same. Tags mostly come in the order of a table, so it is looked for from a place on first.
+#[inline(always)]
 pub fn row_of(rows: &[Row], outer: Option<MsgType>, next: usize, tag: u32) -> Option<usize>
     requires { IfSome outer (λ msg_type. rows.now ≡ outer_rows msg_type) }
     ensures { MatchOption result (is_listed rows.now tag ≡ false) (λ place. IsRowOf rows.now tag place) }

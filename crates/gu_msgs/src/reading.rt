@@ -34,6 +34,7 @@ use gu_fix::{Fields, MSG_TYPE};
 use std::alloc::Global;
 
 /// A message of this type whose shape and values are sound, unless some don't agree.
+#[inline(always)]
 fn read_well_made(
     alloc: Global,
     fields: &Run<'_>,
@@ -62,7 +63,8 @@ fn read_well_made(
 }
 
 /// A message of this type.
-fn read_typed(alloc: Global, fields: &Run<'_>, msg_type: MsgType) -> Result<Inbound, MsgFault>
+#[inline(always)]
+fn read_of(alloc: Global, fields: &Run<'_>, msg_type: MsgType) -> Result<Inbound, MsgFault>
     requires { first_value MSG_TYPE fields.now ≡ Some (code_of msg_type) }
     ensures { MatchResult result (Says fields.now) (IsTypedRefusal msg_type fields.now) }
 {
@@ -75,6 +77,17 @@ fn read_typed(alloc: Global, fields: &Run<'_>, msg_type: MsgType) -> Result<Inbo
         return Err(MsgFault::Rejected(fault));
     }
     read_well_made(alloc, fields, msg_type, &numbers, &kept)
+}
+
+/// The same. Reports, of which there are more than of all other messages, are read by a copy of the code that has their table alone.
+fn read_typed(alloc: Global, fields: &Run<'_>, msg_type: MsgType) -> Result<Inbound, MsgFault>
+    requires { first_value MSG_TYPE fields.now ≡ Some (code_of msg_type) }
+    ensures { MatchResult result (Says fields.now) (IsTypedRefusal msg_type fields.now) }
+{
+    match msg_type {
+        MsgType::TradeCaptureReport => read_of(alloc, fields, MsgType::TradeCaptureReport),
+        _ => read_of(alloc, fields, msg_type),
+    }
 }
 
 /// The fault of fields without a type.

@@ -28,6 +28,7 @@ pub fn fault_at(reason: SessionRejectReason, tag: u32) -> Fault
 
 /// Finds where the tags of these rows stand first, or their first fault: a tag that stands twice, or else one that is missing. The
 /// rows are those of the outer level of messages of a type where one is named.
+#[inline(always)]
 fn table_fault(
     fields: &Run<'_>,
     rows: &[Row],
@@ -99,6 +100,7 @@ fn entries_fault(group: &Run<'_>, first: u32, rows: &[Row]) -> Option<Fault>
 }
 
 /// The first fault of a group: its counter's, or else its entries'.
+#[inline(never)]
 fn counted_fault(counter: u32, text: &[u8], group: &Run<'_>, rows: &[Row]) -> Option<Fault>
     requires short { length group.now < 2 ^ 64 }
     requires table { IsTable rows.now }
@@ -112,6 +114,7 @@ fn counted_fault(counter: u32, text: &[u8], group: &Run<'_>, rows: &[Row]) -> Op
 }
 
 /// The first fault of the group with this counter, which stands first at the field with this number.
+#[inline(always)]
 fn group_fault(fields: &Run<'_>, msg_type: MsgType, counter: u32, number: usize) -> Option<Fault>
     requires { IsStanding fields.now counter number }
     ensures { result ≡ group_fault msg_type fields.now counter }
@@ -127,6 +130,7 @@ fn group_fault(fields: &Run<'_>, msg_type: MsgType, counter: u32, number: usize)
 }
 
 /// The first fault of a message's groups, in order, where its outer tags stand first so.
+#[inline(always)]
 fn groups_fault(fields: &Run<'_>, msg_type: MsgType, numbers: &Standings) -> Option<Fault>
     requires { AreStandings (outer_rows msg_type) fields.now numbers.now }
     ensures { result ≡ groups_fault msg_type fields.now (body_rows msg_type) }
@@ -142,6 +146,7 @@ fn groups_fault(fields: &Run<'_>, msg_type: MsgType, numbers: &Standings) -> Opt
 }
 
 /// Finds where the outer tags of a message stand first, or the first fault of its shape.
+#[inline(always)]
 pub fn shape_fault(fields: &Run<'_>, msg_type: MsgType, numbers: &mut Standings) -> Option<Fault>
     ensures fault { MatchOption result (shape_fault msg_type fields.now ≡ None) (λ fault. shape_fault msg_type fields.now ≡ Some fault) }
     ensures first { MatchOption result (AreStandings (outer_rows msg_type) fields.now numbers.new) (λ fault. ⊤) }

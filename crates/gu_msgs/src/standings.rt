@@ -24,6 +24,7 @@ pub type Standings = [usize; MOST_ROWS];
 pub const NONE_STANDS: Standings = [0; MOST_ROWS];
 
 /// Notes the number of the first field with a tag, unless one was noted before.
+#[inline(always)]
 fn note(
     rows: &[Row],
     outer: Option<MsgType>,
@@ -49,6 +50,7 @@ fn note(
 
 /// Finds where the tags of these rows stand first, unless one stands twice: then the leftmost second standing. The rows are those of
 /// the outer level of messages of a type where one is named.
+#[inline(always)]
 pub fn standings(
     fields: &Run<'_>,
     rows: &[Row],
@@ -73,6 +75,7 @@ pub fn standings(
 }
 
 /// The first tag of these rows that must stand and doesn't.
+#[inline(always)]
 pub fn missing(rows: &[Row], numbers: &Standings) -> Option<u32>
     requires { length rows.now ≤ 20 }
     ensures { (fields : List TagValue) → AreStandings rows.now fields numbers.now → result ≡ missing rows.now fields }

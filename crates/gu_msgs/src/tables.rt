@@ -113,6 +113,7 @@ pub fn header_rows() -> &'static [Row]
 
 /// The tags of the header, and then those of a type's own.
 #[tactic(auto, unfolding(crate::specs::Tables::header_rows, crate::specs::Tables::body_rows))]
+#[inline(always)]
 pub fn outer_rows(msg_type: MsgType) -> &'static [Row]
     ensures { result.now ≡ outer_rows msg_type }
 {
@@ -140,6 +141,7 @@ pub fn body_rows(msg_type: MsgType) -> &'static [Row]
 
 /// The tags of an entry of the group with this counter, none where the tag counts nothing.
 #[tactic(auto, unfolding(crate::specs::Tables::entry_rows))]
+#[inline(always)]
 pub fn entry_rows(counter: u32) -> &'static [Row]
     ensures { result.now ≡ entry_rows counter }
 {

@@ -42,6 +42,7 @@ fn side_entry<'a>(fields: &Run<'a>, numbers: &Standings) -> Run<'a>
 
 /// What a report says, with the entry of its side.
 #[tactic(auto, unfolding(crate::specs::Tables::body_rows, crate::specs::Tables::entry_rows))]
+#[inline(always)]
 fn report(
     fields: &Run<'_>,
     numbers: &Standings,
@@ -67,6 +68,7 @@ fn report(
     }
 }
 
+#[inline(always)]
 pub fn read_trade_capture_report(
     fields: &Run<'_>,
     numbers: &Standings,

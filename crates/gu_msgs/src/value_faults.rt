@@ -51,6 +51,7 @@ fn row_fault(fields: &Run<'_>, row: Row) -> Option<Fault>
 }
 
 /// What is wrong with the text of a row's tag. Lots, a price or a day are kept where nothing is.
+#[inline(always)]
 fn kept_fault(row: Row, text: &[u8], kept: &mut KeptValues) -> Option<SessionRejectReason>
     ensures fault { MatchOption result (IsSound (kind_of row) text.now) (λ reason. IsAtFault (kind_of row) text.now reason) }
     ensures kept { (fields : List TagValue) → first_value (tag_of row) fields ≡ Some text.now → AreKept fields kept.old → AreKept fields kept.new }
@@ -75,6 +76,7 @@ fn kept_fault(row: Row, text: &[u8], kept: &mut KeptValues) -> Option<SessionRej
 }
 
 /// The fault of a row's value, where the number of the first field with the tag is known. Lots, a price or a day are kept.
+#[inline(always)]
 fn standing_fault(fields: &Run<'_>, row: Row, number: usize, kept: &mut KeptValues) -> Option<Fault>
     requires standing { IsStanding fields.now (tag_of row) number }
     requires kept { AreKept fields.now kept.old }
@@ -102,6 +104,7 @@ fn rows_fault(fields: &Run<'_>, rows: &[Row]) -> Option<Fault>
 }
 
 /// The first of the values of entries that isn't allowed.
+#[inline(never)]
 fn entries_fault(group: &Run<'_>, first: u32, rows: &[Row]) -> Option<Fault>
     ensures { let items = flat_map (items_of rows.now) (entries_by first group.now) in
         MatchOption result (AreSound items) (λ fault. IsFirstAtFault items fault) }
@@ -117,6 +120,7 @@ fn entries_fault(group: &Run<'_>, first: u32, rows: &[Row]) -> Option<Fault>
 
 /// The first of the values of the group that a tag counts that isn't allowed, where the tag stands first at the field with this
 /// number. A tag that counts nothing costs no walk.
+#[inline(always)]
 fn group_fault(fields: &Run<'_>, msg_type: MsgType, counter: u32, number: usize) -> Option<Fault>
     requires { IsStanding fields.now counter number }
     ensures { let items = flat_map (items_of (entry_rows counter)) (entries_of msg_type counter fields.now) in
@@ -130,6 +134,7 @@ fn group_fault(fields: &Run<'_>, msg_type: MsgType, counter: u32, number: usize)
 }
 
 /// The first that isn't allowed of a row's value and those of the group that it counts.
+#[inline(always)]
 fn outer_fault(
     fields: &Run<'_>,
     msg_type: MsgType,
@@ -149,6 +154,7 @@ fn outer_fault(
 }
 
 /// The first value of a message that isn't allowed, where its outer tags stand first so. Values of the outer level are kept.
+#[inline(always)]
 pub fn value_fault(
     fields: &Run<'_>,
     msg_type: MsgType,

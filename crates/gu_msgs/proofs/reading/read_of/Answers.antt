@@ -1,5 +1,5 @@
 use Rattle.gu_msgs.proofs.HeldLemmas.{well_made}
-use Rattle.gu_msgs.proofs.reading.read_typed.Goals as goal
+use Rattle.gu_msgs.proofs.reading.read_of.Goals as goal
 
 pub read_well_made-requires-clause-made : goal.read_well_made-requires-clause-made
 read_well_made-requires-clause-made c =
