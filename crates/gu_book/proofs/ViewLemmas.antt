@@ -1,14 +1,15 @@
 -- The open offers of a group make a view.
-use Rattle.std.proofs.Common.{◌≡◌, ◌≢◌, ℕ, suc, ◌+◌, ◌-◌, ◌<◌, ◌≤◌, ◌==◌, ◌||◌, ◌&&◌, not, Bool, true, false, cond, nat_le, nat_lt, List, [], ◌∷◌, Option, Some, None, length, map, slice_get, unwrap_or, refl, sym, ap, ◌∙◌, subst, arith, inl, inr}
-use Rattle.std.specs.List.{AllByRecursion, cons_option, filter_map, flat_map, list_any}
+use Rattle.std.proofs.Common.{◌≡◌, ℕ, suc, ◌+◌, ◌-◌, ◌<◌, ◌≤◌, ◌==◌, ◌||◌, ◌&&◌, not, Bool, true, false, cond, nat_le, nat_lt, List, [], ◌∷◌, Option, Some, None, length, map, slice_get, refl, sym, ap, ◌∙◌, subst, arith, inl, inr}
+use Rattle.std.specs.Prelude.{All}
+use Rattle.std.specs.List.{AllByRecursion, cons_option, filter_map}
 use Rattle.std.specs.Cmp.Lexicographic.{pointwise}
 use Rattle.std.specs.Option.{option_and_then, option_map, option_map_or}
 use Rattle.std.proofs.lemmas.Bool.{and_left, and_right, cases_Bool, le-ltb, ltb-true, or_from}
 use Rattle.std.proofs.lemmas.Bool.Decides.{nat_tests}
 use Rattle.std.proofs.lemmas.List.Elements.{All-from_recursion}
-use Rattle.gu_terms.proofs.KeyLemmas.{key_eq-refl, key_eq-same}
-use Rattle.gu_terms.proofs.Lists.{AllPairs-from_Later, Later, along, list_any-map, none_any, none_found}
-use Rattle.gu_terms.specs.LimitKeys.{has_key, key_eq}
+use Rattle.gu_terms.proofs.KeyLemmas.{key_eq-refl}
+use Rattle.gu_terms.proofs.Lists.{along, none_any, none_found}
+use Rattle.gu_terms.specs.LimitKeys.{key_eq}
 use Rattle.gu_terms.specs.Numbers.{IsLots}
 use Rattle.gu_terms.specs.Same.{same_group}
 use Rattle.gu_terms.specs.declared.agreement.AgreementId.{AgreementId}
@@ -24,14 +25,10 @@ use Rattle.gu_offers.specs.Rows.{IsSound, Row, is_open_in, left_in, left_of, num
 use Rattle.gu_ref.specs.Reference.{agreement_between}
 use Rattle.gu_ref.specs.Rules.{IsSound as IsSoundReference}
 use Rattle.gu_ref.specs.Tables.{Tables}
-use Rattle.gu_view.specs.Making.{AreRooms, MakesView, Refuses, has_other_path, in_order, is_bad, is_own, lots_given, path_differs, same_agreement}
-use Rattle.gu_view.specs.View.{keys_of}
-use Rattle.gu_view.specs.declared.error.ViewError.{ViewError}
-use Rattle.gu_view.specs.declared.error.ViewError.TheVariants.{BadOffer, BadRooms, Memory, PathDiffers}
+use Rattle.gu_view.specs.Making.{bad_offer, has_other_path, is_bad, is_own, path_differs, same_agreement}
 use Rattle.gu_view.specs.declared.view.Offer.{Offer}
 use Rattle.gu_view.specs.declared.view.Room.{Room}
 use Rattle.gu_view.proofs.MakingLemmas.{agreement_eq-same, bad_behind, bad_of_few, path_eq-refl}
-use Rattle.gu_view.proofs.RoomLemmas.{apart-firsts, on_own_path}
 use Rattle.gu_book.specs.Beside.{IsShown}
 use Rattle.gu_book.specs.Limits.{path_behind}
 use Rattle.gu_book.specs.Shown.{offers_in, rooms_in, shown_at}
@@ -192,7 +189,7 @@ one-path reference a b mine theirs =
       | inr apart ↦ and_left (same_agreement a b) (not (pointwise key_eq a.path b.path)) apart
     ]
 
-none_differs : (reference : Tables) (offers : List Offer) → AllByRecursion (HasPath reference) offers → path_differs offers ≡ None
+pub none_differs : (reference : Tables) (offers : List Offer) → AllByRecursion (HasPath reference) offers → path_differs offers ≡ None
 none_differs reference offers have =
     ap (option_map (λ (o : Offer). o.number))
     (none_found (λ (o : Offer). not (is_own o) || has_other_path offers o) offers
@@ -210,69 +207,24 @@ module _ (limits : List GroupLimit) (group : Group) where
   abbrev pub room : LimitKey → Room
   room key = record { key = key; lots = room_in limits group key }
 
-  later_rooms : (keys : List LimitKey) → Later (λ a b. key_eq a b ≡ false) keys → Later (λ (a b : Room). a.key ≢ b.key) (map room keys)
-  later_rooms [] h = tt
-  later_rooms (k ∷ keys) h = (each keys h.0, later_rooms keys h.1)
-    where
-      each : (js : List LimitKey) → AllByRecursion (λ j. key_eq k j ≡ false) js → AllByRecursion (λ (r : Room). k ≢ r.key) (map room js)
-      each [] h = tt
-      each (j ∷ js) h = ((λ same. let own : key_eq k j ≡ true = ap (key_eq k) (sym same) ∙ key_eq-refl k in absurd (never (sym own ∙ h.0))), each js h.1)
-        where
-          never : true ≡ false → ⊥
-          never e = cc
-
-  mapped : (P : Room → Type 0) (keys : List LimitKey) → AllByRecursion (λ k. P (room k)) keys → AllByRecursion P (map room keys)
-  mapped P [] h = tt
-  mapped P (k ∷ keys) h = (h.0, mapped P keys h.1)
-
-  within : ((key : LimitKey) → room_in limits group key ≤ 1000000000) → (keys : List LimitKey) → AllByRecursion (λ (k : LimitKey). room_in limits group k ≤ 1000000000) keys
+  -- the rooms of keys are within what a limit may be
+  within : ((key : LimitKey) → room_in limits group key ≤ 1000000000) → (keys : List LimitKey) → AllByRecursion (λ (r : Room). r.lots ≤ 1000000000) (map room keys)
   within most [] = tt
   within most (k ∷ keys) = (most k, within most keys)
 
-  -- rooms of the offers' keys are exactly theirs
-  pub are_rooms : (offers : List Offer) → ((key : LimitKey) → room_in limits group key ≤ 1000000000) → AreRooms (keys_of offers) (rooms_in limits group (keys_of offers))
-  are_rooms offers most =
-      let keys = keys_of offers in
-      record {
-        needed = All-from_recursion (λ (r : Room). has_key keys r.key ≡ true) (map room keys) (mapped (λ r. has_key keys r.key ≡ true) keys (on_own_path keys));
-        whole = All-from_recursion (λ (k : LimitKey). list_any (λ (r : Room). key_eq r.key k) (map room keys) ≡ true) keys
-            (along (λ (k : LimitKey). has_key keys k ≡ true) (λ (k : LimitKey). list_any (λ (r : Room). key_eq r.key k) (map room keys) ≡ true) keys
-            (λ k on_path. list_any-map room (λ (r : Room). key_eq r.key k) keys ∙ on_path) (on_own_path keys));
-        once = AllPairs-from_Later (λ (a b : Room). a.key ≢ b.key) (map room keys) (later_rooms keys (apart-firsts (flat_map (λ (o : Offer). o.path) offers)));
-        limits = All-from_recursion (λ (r : Room). r.lots ≤ 1000000000) (map room keys) (mapped (λ r. r.lots ≤ 1000000000) keys (within most keys));
-      }
+  pub rooms_in-limits : ((key : LimitKey) → room_in limits group key ≤ 1000000000) → (keys : List LimitKey) → All (λ (r : Room). r.lots ≤ 1000000000) (rooms_in limits group keys)
+  rooms_in-limits most keys = All-from_recursion (λ (r : Room). r.lots ≤ 1000000000) (map room keys) (within most keys)
 
-  -- the lots that they give a key
-  given_to : (keys : List LimitKey) (k : LimitKey) → has_key keys k ≡ true → lots_given (map room keys) k ≡ Some (room_in limits group k)
-  given_to [] k h = cc
-  given_to (j ∷ keys) k h =
-      elim (cases_Bool (key_eq j k)) [
-        | inl hit ↦ rw hit (ap (λ (i : LimitKey). Some (room_in limits group i)) (key_eq-same j k hit))
-        | inr miss ↦ rw miss (given_to keys k (rw miss at h))
-      ]
+  -- and keep the order of the keys
+  pub rooms_in-keys : (keys : List LimitKey) → map (λ (r : Room). r.key) (rooms_in limits group keys) ≡ keys
+  rooms_in-keys [] = refl
+  rooms_in-keys (k ∷ keys) = ap (λ (l : List LimitKey). k ∷ l) (rooms_in-keys keys)
 
-  -- so that they are in the order of the keys
-  ordered : (all keys : List LimitKey) → AllByRecursion (λ k. has_key all k ≡ true) keys → in_order keys (map room all) ≡ map room keys
-  ordered all [] h = refl
-  ordered all (k ∷ keys) h =
-      let here = given_to all k h.0 in
-      let rest = ordered all keys h.1 in
-      λ i. (let it : Room = record { key = k; lots = unwrap_or (here i) 0 } in it) ∷ rest i
-
-  pub rooms-ordered : (offers : List Offer) → in_order (keys_of offers) (rooms_in limits group (keys_of offers)) ≡ rooms_in limits group (keys_of offers)
-  rooms-ordered offers = ordered (keys_of offers) (keys_of offers) (on_own_path (keys_of offers))
-
--- the open offers of a group and the rooms of their keys make a view
-pub makes_view : (reference : Tables) → IsSoundReference reference → (rows : List Row) (limits : List GroupLimit) (group : Group) → AllByRecursion IsSound rows → IsShown reference rows
-    → ((key : LimitKey) → room_in limits group key ≤ 1000000000)
-    → (offers : List Offer) → offers ≡ filter_map (shown_at reference rows) (open_numbers rows group) → MakesView offers (rooms_in limits group (keys_of offers))
-makes_view reference sound rows limits group each shown most offers are =
-    subst (λ (os : List Offer). MakesView os (rooms_in limits group (keys_of os))) (sym are)
-    (record {
-      numbers = sym (bad_of_few (filter_map (shown_at reference rows) (open_numbers rows group)) few) ∙ ap (option_map (λ (p : ℕ × Offer). p.1.number)) good;
-      paths = none_differs reference (filter_map (shown_at reference rows) (open_numbers rows group)) (have_paths reference sound rows (open_numbers rows group));
-      exact = are_rooms limits group (filter_map (shown_at reference rows) (open_numbers rows group)) most;
-    })
+-- of the open offers of a group none is bad
+pub none_bad_offer : (reference : Tables) → IsSoundReference reference → (rows : List Row) (group : Group) → AllByRecursion IsSound rows → IsShown reference rows
+    → bad_offer (filter_map (shown_at reference rows) (open_numbers rows group)) ≡ None
+none_bad_offer reference sound rows group each shown =
+    sym (bad_of_few (filter_map (shown_at reference rows) (open_numbers rows group)) few) ∙ ap (option_map (λ (p : ℕ × Offer). p.1.number)) good
   where
     few : length (filter_map (shown_at reference rows) (open_numbers rows group)) ≤ 4096
     few = omega (arith, few-given (shown_at reference rows) (open_numbers rows group), shown.few group)
@@ -282,10 +234,3 @@ makes_view reference sound rows limits group each shown most offers are =
         none_bad reference sound rows 0 (open_numbers rows group)
         (all-imply (λ m. (1 ≤ m) × (m < 1 + length rows)) (λ m. 0 < m) (λ m h. omega arith) (open_numbers rows group) (numbers-within group 1 rows))
         (numbers-ascend group 1 rows) (lots_left rows group each)
-
--- and where they do, a growth alone is refused
-pub only_memory : (offers : List Offer) (rooms : List Room) → MakesView offers rooms → (error : ViewError) → Refuses offers rooms error → error ≡ Memory
-only_memory offers rooms makes (BadOffer number) why = let never : Some number ≡ None = sym why ∙ makes.numbers in cc
-only_memory offers rooms makes (PathDiffers number) why = let never : Some number ≡ None = sym why.1 ∙ makes.paths in cc
-only_memory offers rooms makes BadRooms why = absurd (why.2 makes.exact)
-only_memory offers rooms makes Memory why = refl

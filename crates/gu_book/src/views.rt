@@ -14,7 +14,7 @@ use crate::versions::Versions;
 use gu_limits::{LimitTable, path};
 use gu_ref::Reference;
 use gu_terms::{AgreementId, Group, LimitKey, OfferNo};
-use gu_view::{Offer, Room, View, ViewError, first_mentions};
+use gu_view::{KeyedOffers, Offer, Room, View};
 use std::alloc::{AllocError, Global};
 
 /// So many lots of the offer of a number, given up by an agreement, as a view shows them.
@@ -108,16 +108,6 @@ fn rooms_of(
     Ok(rooms)
 }
 
-/// A growth that was refused. What is kept makes a view, so nothing else is.
-fn refused_growth(error: ViewError) -> AllocError
-    requires { error ≡ ViewError.Memory }
-{
-    match error {
-        ViewError::Memory => AllocError,
-        ViewError::BadOffer(_) | ViewError::PathDiffers(_) | ViewError::BadRooms => unreachable!(),
-    }
-}
-
 /// The view of a group. It walks the group's open offers alone.
 pub fn view_of(
     alloc: Global,
@@ -136,10 +126,7 @@ pub fn view_of(
     totals.limits.rules();
     let numbers = totals.offers.open_numbers(*group);
     let offers = offers_of(alloc, reference, totals, numbers)?;
-    let keys = first_mentions(alloc, &offers, offers.len())?;
-    let rooms = rooms_of(alloc, &totals.limits, group, keys.as_slice())?;
-    match View::new(alloc, *group, versions.of(group), offers, rooms) {
-        Ok(view) => Ok(view),
-        Err(error) => Err(refused_growth(error)),
-    }
+    let offers = KeyedOffers::new(alloc, offers, numbers.len())?;
+    let rooms = rooms_of(alloc, &totals.limits, group, offers.keys())?;
+    View::of(alloc, *group, versions.of(group), offers, rooms)
 }

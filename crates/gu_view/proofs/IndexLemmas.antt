@@ -1,21 +1,23 @@
 -- The parts that a view keeps beside its offers and rooms.
-use Rattle.std.proofs.Common.{◌≡◌, ◌≢◌, ℕ, ◌<◌, ◌≤◌, List, [], ◌∷◌, length, map, get_or, refl, sym, ap, ◌∙◌, arith}
+use Rattle.std.proofs.Common.{◌≡◌, ◌≢◌, ℕ, ◌<◌, ◌≤◌, List, [], ◌∷◌, length, map, get_or, refl, sym, ap, subst, ◌∙◌, arith, false}
 use Rattle.std.specs.Prelude.{All, AllPairs}
+use Rattle.std.specs.List.{flat_map}
 use Rattle.std.proofs.lemmas.Bool.{both_ways}
 use Rattle.std.proofs.lemmas.List.{length-map}
+use Rattle.std.proofs.lemmas.List.Folds.{list_any_at}
 use Rattle.std.proofs.lemmas.Option.{slice_get-get_or}
-use Rattle.gu_terms.specs.LimitKeys.{key_eq}
+use Rattle.gu_terms.specs.LimitKeys.{has_key, key_eq}
 use Rattle.gu_terms.specs.declared.group.Group.{Group}
 use Rattle.gu_terms.specs.declared.limit_key.LimitKey.{LimitKey}
-use Rattle.gu_terms.proofs.KeyLemmas.{key_eq-from}
-use Rattle.gu_view.specs.Making.{MakesView, in_order}
-use Rattle.gu_view.specs.Keeping.{IsIndexed}
+use Rattle.gu_terms.proofs.KeyLemmas.{key_eq-from, key_eq-refl}
+use Rattle.gu_view.specs.Making.{MakesView, in_order, view_of}
+use Rattle.gu_view.specs.Keeping.{IsIndexed, IsKeyed}
 use Rattle.gu_view.specs.View.{GroupView, IsView, keys_of, place_among, place_of, places_under}
 use Rattle.gu_view.specs.declared.view.Offer.{Offer}
 use Rattle.gu_view.specs.declared.view.Room.{Room}
-use Rattle.gu_terms.proofs.Lists.{position_or_len-map}
-use Rattle.gu_view.proofs.MakingLemmas.{in_order-keys, view_made}
-use Rattle.gu_view.proofs.RoomLemmas.{apart, places_are_within}
+use Rattle.gu_terms.proofs.Lists.{Later, list_any-map, position_or_len-map}
+use Rattle.gu_view.proofs.MakingLemmas.{even_paths, good_offers, in_order-own}
+use Rattle.gu_view.proofs.RoomLemmas.{apart, apart-firsts, places_are_within}
 
 -- a key's place among the rooms is that among their keys
 place-keys : (rooms : List Room) (k : LimitKey) → place_among (map (λ (r : Room). r.key) rooms) k ≡ place_of rooms k
@@ -34,31 +36,62 @@ pub distinct : (view : GroupView) → IsView view → AllPairs (λ a b. a.key �
 distinct view sound i j d before within same =
     both_ways (key_eq (get_or view.rooms i d).key (get_or view.rooms j d).key) (apart view sound i j d (omega arith) within (λ e. absurd (omega arith))) (key_eq-from (get_or view.rooms i d).key (get_or view.rooms j d).key same)
 
-module _ (group : Group) (version : ℕ) (offers : List Offer) (rooms made : List Room) (keys : List LimitKey) (makes : MakesView offers rooms) (keys-are : keys ≡ keys_of offers) (few : length keys ≤ 20480) (ordered : made ≡ in_order keys rooms) where
+module _ (group : Group) (version : ℕ) (offers : List Offer) (rooms : List Room) (keys : List LimitKey) (places : List (List ℕ)) (keyed : IsKeyed offers keys places) (room-keys : map (λ (r : Room). r.key) rooms ≡ keys_of offers) (limits : All (λ r. r.lots ≤ 1000000000) rooms) where
   abbrev pub shown : GroupView
-  shown = record { group = group; version = version; offers = offers; rooms = made }
+  shown = record { group = group; version = version; offers = offers; rooms = rooms }
 
-  made-is : made ≡ in_order (keys_of offers) rooms
-  made-is = ordered ∙ ap (λ l. in_order l rooms) keys-are
+  pub as_many : length rooms ≡ length keys
+  as_many = sym (length-map rooms (λ (r : Room). r.key)) ∙ ap length (room-keys ∙ sym keyed.keys_are)
 
   -- what is made is a view
   pub sound : IsView shown
-  sound = rw made-is (view_made group version offers rooms makes (omega (arith, ap length keys-are)))
+  sound =
+      let good = good_offers offers keyed.numbers in
+      let paths = even_paths offers good.ascending keyed.paths in
+      record {
+        few = good.few;
+        ascending = good.ascending;
+        lots = good.lots;
+        own = paths.own;
+        one_path = paths.one_path;
+        rooms = room-keys;
+        few_rooms = omega (arith, as_many, keyed.few);
+        limits = limits;
+      }
 
-  room-keys : map (λ (r : Room). r.key) made ≡ keys
-  room-keys = ap (map (λ (r : Room). r.key)) ordered ∙ in_order-keys keys rooms
+  -- of rooms in order
+  ordered : in_order (keys_of offers) rooms ≡ rooms
+  ordered =
+      ap (λ l. in_order l rooms) (sym room-keys)
+      ∙ in_order-own rooms (subst (Later (λ a b. key_eq a b ≡ false)) (sym room-keys) (apart-firsts (flat_map (λ (o : Offer). o.path) offers)))
 
-  pub as_many : length made ≡ length keys
-  as_many = sym (length-map made (λ (r : Room). r.key)) ∙ ap length room-keys
+  pub shown-is : shown ≡ view_of group version offers rooms
+  shown-is = λ i. record { group = group; version = version; offers = offers; rooms = sym ordered i }
 
-  module _ (places : List (List ℕ)) (are : places ≡ map (λ (o : Offer). map (place_among keys) o.path) offers) where
-    pub places_are : places ≡ map (λ (o : Offer). map (place_of made) o.path) offers
-    places_are = are ∙ ap (λ l. map (λ (o : Offer). map (place_among l) o.path) offers) (sym room-keys) ∙ paths-keys made offers
+  -- exactly those of the keys
+  pub makes : MakesView offers rooms
+  makes = record {
+    numbers = keyed.numbers;
+    paths = keyed.paths;
+    exact = record {
+      needed = λ i d inside.
+          let k = (get_or rooms i d).key in
+          ap (λ l. has_key l k) (sym room-keys) ∙ list_any-map (λ (r : Room). r.key) (λ j. key_eq j k) rooms ∙ list_any_at (λ (r : Room). key_eq r.key k) rooms i d inside (key_eq-refl k);
+      whole = λ i d inside.
+          let k = get_or (keys_of offers) i d in
+          sym (list_any-map (λ (r : Room). r.key) (λ j. key_eq j k) rooms) ∙ ap (λ l. has_key l k) room-keys ∙ list_any_at (λ j. key_eq j k) (keys_of offers) i d inside (key_eq-refl k);
+      once = distinct shown sound;
+      limits = limits;
+    };
+  }
 
-    pub all_within : All (All (λ place. place < length made)) places
-    all_within i d inside =
-        places_are_within shown sound places i (get_or places i d) (omega (arith, ap length are, length-map offers (λ (o : Offer). map (place_among keys) o.path))) places_are (slice_get-get_or places i d inside)
+  pub places_are : places ≡ map (λ (o : Offer). map (place_of rooms) o.path) offers
+  places_are = keyed.places_are ∙ ap (λ l. map (λ (o : Offer). map (place_among l) o.path) offers) (keyed.keys_are ∙ sym room-keys) ∙ paths-keys rooms offers
 
-    -- the parts beside it are those of a view
-    pub indexed : (members : List (List ℕ)) → members ≡ map (λ (r : Room). places_under offers r.key) made → IsIndexed shown keys places members
-    indexed members listed = record { sound = sound; keys_are = sym room-keys; places_are = places_are; members_are = listed }
+  pub all_within : All (All (λ place. place < length rooms)) places
+  all_within i d inside =
+      places_are_within shown sound places i (get_or places i d) (omega (arith, ap length places_are, length-map offers (λ (o : Offer). map (place_of rooms) o.path))) places_are (slice_get-get_or places i d inside)
+
+  -- the parts beside it are those of a view
+  pub indexed : (members : List (List ℕ)) → members ≡ map (λ (r : Room). places_under offers r.key) rooms → IsIndexed shown keys places members
+  indexed members listed = record { sound = sound; keys_are = keyed.keys_are ∙ sym room-keys; places_are = places_are; members_are = listed }

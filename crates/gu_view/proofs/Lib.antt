@@ -6,6 +6,7 @@ pub mod ListsInOne
 pub mod MakingLemmas
 pub mod MarkLemmas
 pub mod MemberLemmas
+pub mod Mentions
 pub mod NestingLemmas
 pub mod PassingPlaces
 pub mod RoomLemmas

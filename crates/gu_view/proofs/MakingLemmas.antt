@@ -1,37 +1,33 @@
 -- What a view is made of.
-use Rattle.std.proofs.Common.{◌≡◌, ◌≢◌, ℕ, suc, ◌+◌, ◌<◌, ◌≤◌, ◌||◌, ◌&&◌, not, Bool, true, false, cond, List, [], ◌∷◌, ◌++◌, Option, Some, None, length, map, take, drop, get_or, refl, sym, ap, ◌∙◌, subst, arith, inl, inr, append-nil, length-append}
-use Rattle.std.specs.Prelude.{All, AllPairs, find, filter, Any, nat_lt}
+use Rattle.std.proofs.Common.{◌≡◌, ◌≢◌, ℕ, suc, ◌+◌, ◌<◌, ◌≤◌, ◌||◌, ◌&&◌, not, Bool, true, false, cond, List, [], ◌∷◌, ◌++◌, Option, Some, None, length, map, take, drop, get_or, refl, sym, ap, ◌∙◌, subst, arith, inl, inr}
+use Rattle.std.specs.Prelude.{All, AllPairs, find, Any, nat_lt}
 use Rattle.std.specs.List.{AllByRecursion, list_any, zip}
 use Rattle.std.specs.Option.{option_map}
 use Rattle.std.specs.Cmp.Lexicographic.{pointwise}
 use Rattle.std.proofs.lemmas.Bool.{cases_Bool, or_right, or_from, and_from, and_left, and_right}
 use Rattle.std.proofs.lemmas.List.{take_more, drop_more, get_or_default, get_or-take, length-take}
-use Rattle.std.proofs.lemmas.List.Elements.{All-more, All-from_recursion, recursion_from_All, filter-append}
+use Rattle.std.proofs.lemmas.List.Elements.{All-more, All-from_recursion, recursion_from_All}
 use Rattle.std.proofs.lemmas.List.Folds.{list_any_more, list_any_kept, list_any_at, Any-from_list_any}
 use Rattle.std.proofs.lemmas.Slice.Eq.{bytes_eq-Decides, slice_eq-Decides}
 use Rattle.gu_terms.specs.LimitKeys.{key_eq, has_key}
 use Rattle.gu_terms.specs.declared.agreement.AgreementId.{AgreementId}
 use Rattle.gu_terms.specs.declared.limit_key.LimitKey.{LimitKey}
 use Rattle.gu_terms.specs.declared.limit_key.LimitKey.TheVariants.{Agr}
-use Rattle.gu_terms.proofs.KeyLemmas.{key_eq-same, key_eq-refl, key_eq-sym, key_eq-from}
+use Rattle.gu_terms.proofs.KeyLemmas.{key_eq-same, key_eq-refl, key_eq-from}
 use Rattle.std.proofs.lemmas.List.{take_all}
 use Rattle.std.proofs.lemmas.Option.{slice_get_past}
 use Rattle.gu_view.specs.Making.{bad_offer, numbered, is_bad, is_own, has_other_path, same_agreement, path_differs}
 use Rattle.gu_terms.specs.Numbers.{IsLots}
-use Rattle.gu_terms.specs.declared.group.Group.{Group}
 use Rattle.std.proofs.Common.{zero, ◌==◌, nat_le}
 use Rattle.std.specs.Option.{option_map_or}
 use Rattle.std.specs.Prelude.{slice_get}
 use Rattle.std.proofs.lemmas.Bool.{or_parts, leb-false, ltb-false, not-false}
 use Rattle.std.proofs.lemmas.List.{length-map}
 use Rattle.std.proofs.lemmas.Option.{slice_get_cases}
-use Rattle.gu_view.specs.Making.{MakesView, view_of}
-use Rattle.gu_view.specs.View.{IsView, firsts}
 use Rattle.gu_view.specs.declared.view.Offer.{Offer}
 use Rattle.gu_view.specs.declared.view.Room.{Room}
-use Rattle.std.proofs.Common.{Ok, Err, Result, append_assoc}
-use Rattle.std.specs.Prelude.{IfOk, MatchOption, position}
-use Rattle.std.specs.List.{position_or_len}
+use Rattle.std.proofs.Common.{Ok, Err, Result}
+use Rattle.std.specs.Prelude.{IfOk, MatchOption}
 use Rattle.std.specs.Option.{is_some, option_or, unwrap_or}
 use Rattle.std.specs.Map.{lookup}
 use Rattle.std.proofs.lemmas.Bool.{both_ways}
@@ -41,9 +37,7 @@ use Rattle.std.proofs.lemmas.List.Quantifiers.{all_pairs_push}
 use Rattle.gu_view.specs.Check.{has_room}
 use Rattle.gu_view.specs.Keeping.{IsGiven}
 use Rattle.gu_view.specs.Making.{AreRooms, in_order, lots_given}
-use Rattle.gu_view.specs.View.{keys_of, place_among}
-use Rattle.gu_terms.proofs.Lists.{Later, AllPairs-from_Later, Later-from_AllPairs, along, any_none, find_more, find_none, list_any-agree, none_any, none_found, position_or_len-agree}
-use Rattle.gu_view.proofs.RoomLemmas.{has_key-others, has_key-keys_of, on_own_path}
+use Rattle.gu_terms.proofs.Lists.{Later, AllPairs-from_Later, Later-from_AllPairs, along, any_none, find_more, find_none, none_any, none_found}
 use Rattle.gu_view.proofs.TakesLemmas.{older_is_before}
 
 -- the first bad offer of those that come behind a number
@@ -56,25 +50,6 @@ bad_here before offers i o inside is bad = ap (bad_behind before) (drop_more off
 
 pub bad_later : (before : ℕ) (offers : List Offer) (i : ℕ) (o : Offer) → i < length offers → o ≡ get_or offers i o → is_bad before o ≡ false → bad_behind before (drop i offers) ≡ bad_behind o.number (drop (i + 1) offers)
 bad_later before offers i o inside is good = ap (bad_behind before) (drop_more offers i o inside ∙ ap (λ x. x ∷ drop (i + 1) offers) (sym is)) ∙ rw good refl
-
--- one key more is mentioned
-pub firsts_more : (keys : List LimitKey) (k : LimitKey) → firsts (keys ++ k ∷ []) ≡ cond (has_key (firsts keys) k) (firsts keys) (firsts keys ++ k ∷ [])
-firsts_more [] k = refl
-firsts_more (x ∷ keys) k = go (firsts_more keys k) (has_key (firsts keys) k) refl
-  where
-    go : firsts (keys ++ k ∷ []) ≡ cond (has_key (firsts keys) k) (firsts keys) (firsts keys ++ k ∷ []) → (b : Bool) → has_key (firsts keys) k ≡ b → x ∷ filter (λ j. not (key_eq x j)) (firsts (keys ++ k ∷ [])) ≡ cond (key_eq x k || has_key (filter (λ j. not (key_eq x j)) (firsts keys)) k) (firsts (x ∷ keys)) (firsts (x ∷ keys) ++ k ∷ [])
-    go more true there =
-        let before : firsts (keys ++ k ∷ []) ≡ firsts keys = more ∙ rw there refl in
-        elim (cases_Bool (key_eq x k)) [
-          | inl same ↦ rw (before, same) refl
-          | inr other ↦ rw (before, other, has_key-others x k (firsts keys) other, there) refl
-        ]
-    go more false missing =
-        let before : firsts (keys ++ k ∷ []) ≡ firsts keys ++ k ∷ [] = more ∙ rw missing refl in
-        elim (cases_Bool (key_eq x k)) [
-          | inl same ↦ rw (before, filter-append (λ j. not (key_eq x j)) (firsts keys) (k ∷ []), same) (ap (λ l. x ∷ l) (append-nil (filter (λ j. not (key_eq x j)) (firsts keys))))
-          | inr other ↦ rw (before, filter-append (λ j. not (key_eq x j)) (firsts keys) (k ∷ []), other, has_key-others x k (firsts keys) other, missing) refl
-        ]
 
 -- the test of agreements
 abbrev pub agreement_eq : AgreementId → AgreementId → Bool
@@ -279,31 +254,6 @@ rooms_made items keys rooms lots (Err e) given h = tt
 rooms_made items keys rooms lots (Ok None) given h = h
 rooms_made items keys rooms lots (Ok (Some v)) given h = (record { needed = given.needed; whole = h.0; once = given.once; limits = given.limits }, h.1)
 
--- one more key of a path is mentioned
-pub mention_more : (eq : LimitKey → LimitKey → Bool) → ((a b : LimitKey) → eq a b ≡ key_eq a b) → (mentioned path keys : List LimitKey) (i : ℕ) (k : LimitKey) → i < length path → k ≡ get_or path i k → keys ≡ firsts (mentioned ++ take i path)
-    → cond (list_any (eq k) keys) keys (keys ++ k ∷ []) ≡ firsts (mentioned ++ take (i + 1) path)
-mention_more eq same mentioned path keys i k inside is are =
-    let test : list_any (eq k) keys ≡ has_key (firsts (mentioned ++ take i path)) k =
-    list_any-agree (eq k) (λ j. key_eq j k) keys (λ j. same k j ∙ key_eq-sym k j) ∙ ap (λ l. has_key l k) are in
-    let longer : mentioned ++ take (i + 1) path ≡ (mentioned ++ take i path) ++ k ∷ [] =
-    ap (λ l. mentioned ++ l) (take_more path i k inside ∙ ap (λ x. take i path ++ x ∷ []) (sym is)) ∙ sym (append_assoc mentioned (take i path) (k ∷ [])) in
-    rw (test, longer, are) (sym (firsts_more (mentioned ++ take i path) k))
-
--- the place at which a key is found is its place among the keys
-pub place_found_among : (eq : LimitKey → LimitKey → Bool) → ((a b : LimitKey) → eq a b ≡ key_eq a b) → (keys : List LimitKey) (k : LimitKey) (place : ℕ) → position (eq k) keys ≡ Some place → place ≡ place_among keys k
-place_found_among eq same keys k place at =
-    some_place (nat_lt (position_or_len (eq k) keys) (length keys)) at ∙ position_or_len-agree (eq k) (λ j. key_eq j k) keys (λ j. same k j ∙ key_eq-sym k j)
-  where
-    some_place : (b : Bool) → cond b (Some (position_or_len (eq k) keys)) None ≡ Some place → place ≡ position_or_len (eq k) keys
-    some_place true h = cc
-    some_place false h = cc
-
--- a key of a path is among all of the keys
-pub known_among : (offers : List Offer) (i : ℕ) (o : Offer) → i < length offers → o ≡ get_or offers i o → All (λ k. has_key (keys_of offers) k ≡ true) o.path
-known_among offers i o inside is =
-    All-from_recursion (λ k. has_key (keys_of offers) k ≡ true) o.path (along (λ k. has_key o.path k ≡ true) (λ k. has_key (keys_of offers) k ≡ true) o.path
-    (λ k on_path. has_key-keys_of offers k ∙ list_any_at (λ (o : Offer). has_key o.path k) offers i o inside (ap (λ (o : Offer). has_key o.path k) (sym is) ∙ on_path)) (on_own_path o.path))
-
 -- a look-up by tests that agree
 pub lookup-agree : {K V : Type 0} (p q : K → Bool) (entries : List (K × V)) → ((k : K) → p k ≡ q k) → lookup p entries ≡ lookup q entries
 lookup-agree p q [] same = refl
@@ -315,12 +265,6 @@ seen_none offers paths none = record { even = refl; kept = λ k d within. absurd
   where
     none_some : {p : List LimitKey} → ◌≡◌ {A = Option (List LimitKey)} None (Some p) → ⊥
     none_some h = cc
-
--- one more place of a path
-pub places_more : (keys path : List LimitKey) (made : List ℕ) (i : ℕ) (k : LimitKey) (place : ℕ) → i < length path → k ≡ get_or path i k → made ≡ map (place_among keys) (take i path) → place ≡ place_among keys k
-    → made ++ place ∷ [] ≡ map (place_among keys) (take (i + 1) path)
-places_more keys path made i k place inside is are at =
-    ap (λ l. l ++ place ∷ []) are ∙ ap (λ n. map (place_among keys) (take i path) ++ n ∷ []) (at ∙ ap (place_among keys) is) ∙ sym (map_more (place_among keys) path i k inside)
 
 -- of few offers the first bad one is the first of all
 pub bad_of_few : (offers : List Offer) → length offers ≤ 4096 → option_map (λ (p : ℕ × Offer). p.1.number) (find (λ (p : ℕ × Offer). is_bad p.0 p.1) (numbered offers)) ≡ bad_offer offers
@@ -346,14 +290,6 @@ pointwise-agree p q [] [] same = refl
 pointwise-agree p q [] (k ∷ b) same = refl
 pointwise-agree p q (j ∷ a) [] same = refl
 pointwise-agree p q (j ∷ a) (k ∷ b) same = rw (same j k, pointwise-agree p q a b same) refl
-
--- at most one key more
-pub mention_length : (test : LimitKey → Bool) (keys : List LimitKey) (k : LimitKey) → length (cond (list_any test keys) keys (keys ++ k ∷ [])) ≤ length keys + 1
-mention_length test keys k = go (list_any test keys)
-  where
-    go : (b : Bool) → length (cond b keys (keys ++ k ∷ [])) ≤ length keys + 1
-    go true = omega arith
-    go false = omega (arith, length-append keys (k ∷ []))
 
 -- offers of which none is bad
 pub record AreGood (before : ℕ) (offers : List Offer) : Type 0 where
@@ -461,7 +397,7 @@ in_order-keys (k ∷ keys) rooms = ap (λ l. k ∷ l) (in_order-keys keys rooms)
 pub length-in_order : (keys : List LimitKey) (rooms : List Room) → length (in_order keys rooms) ≡ length keys
 length-in_order keys rooms = length-map keys (λ k. let r : Room = record { key = k; lots = unwrap_or (lots_given rooms k) 0 } in r)
 
-in_order-limits : (keys : List LimitKey) (rooms : List Room) → All (λ r. r.lots ≤ 1000000000) rooms → AllByRecursion (λ (r : Room). r.lots ≤ 1000000000) (in_order keys rooms)
+pub in_order-limits : (keys : List LimitKey) (rooms : List Room) → All (λ r. r.lots ≤ 1000000000) rooms → AllByRecursion (λ (r : Room). r.lots ≤ 1000000000) (in_order keys rooms)
 in_order-limits [] rooms limits = tt
 in_order-limits (k ∷ keys) rooms limits = (given rooms (recursion_from_All (λ (r : Room). r.lots ≤ 1000000000) rooms limits), in_order-limits keys rooms limits)
   where
@@ -469,18 +405,27 @@ in_order-limits (k ∷ keys) rooms limits = (given rooms (recursion_from_All (λ
     given [] h = omega arith
     given (r ∷ rooms) h = elim (cases_Bool (key_eq r.key k)) [ inl hit ↦ rw hit h.0 | inr miss ↦ rw miss (given rooms h.1) ]
 
--- what is made is a view
-pub view_made : (group : Group) (version : ℕ) (offers : List Offer) (rooms : List Room) → MakesView offers rooms → length (keys_of offers) ≤ 20480 → IsView (view_of group version offers rooms)
-view_made group version offers rooms makes few =
-    let good = good_offers offers makes.numbers in
-    let paths = even_paths offers good.ascending makes.paths in
-    record {
-      few = good.few;
-      ascending = good.ascending;
-      lots = good.lots;
-      own = paths.own;
-      one_path = paths.one_path;
-      rooms = in_order-keys (keys_of offers) rooms;
-      few_rooms = omega (arith, few, length-in_order (keys_of offers) rooms);
-      limits = All-from_recursion (λ (r : Room). r.lots ≤ 1000000000) (in_order (keys_of offers) rooms) (in_order-limits (keys_of offers) rooms makes.exact.limits);
-    }
+-- the lots that rooms of different keys give are their own
+own_lots : (rooms : List Room) → Later (λ a b. key_eq a b ≡ false) (map (λ (r : Room). r.key) rooms) → AllByRecursion (λ (r : Room). lots_given rooms r.key ≡ Some r.lots) rooms
+own_lots [] apart = tt
+own_lots (r ∷ rooms) apart = (rw (key_eq-refl r.key) refl, behind rooms apart.0 (own_lots rooms apart.1))
+  where
+    behind : (others : List Room) → AllByRecursion (λ k. key_eq r.key k ≡ false) (map (λ (r : Room). r.key) others) → AllByRecursion (λ (x : Room). lots_given rooms x.key ≡ Some x.lots) others
+        → AllByRecursion (λ (x : Room). lots_given (r ∷ rooms) x.key ≡ Some x.lots) others
+    behind [] other own = tt
+    behind (x ∷ others) other own = (rw other.0 own.0, behind others other.1 own.1)
+
+-- so they are in order as they stand
+pub in_order-own : (rooms : List Room) → Later (λ a b. key_eq a b ≡ false) (map (λ (r : Room). r.key) rooms) → in_order (map (λ (r : Room). r.key) rooms) rooms ≡ rooms
+in_order-own rooms apart = each rooms (own_lots rooms apart)
+  where
+    each : (some : List Room) → AllByRecursion (λ (r : Room). lots_given rooms r.key ≡ Some r.lots) some → in_order (map (λ (r : Room). r.key) some) rooms ≡ some
+    each [] own = refl
+    each (r ∷ some) own =
+        let rest = each some own.1 in
+        λ i. (let it : Room = record { key = r.key; lots = unwrap_or (own.0 i) 0 } in it) ∷ rest i
+
+pub in_order-in_order : (keys : List LimitKey) (rooms : List Room) → Later (λ a b. key_eq a b ≡ false) keys → in_order keys (in_order keys rooms) ≡ in_order keys rooms
+in_order-in_order keys rooms apart =
+    let own = in_order-keys keys rooms in
+    ap (λ l. in_order l (in_order keys rooms)) (sym own) ∙ in_order-own (in_order keys rooms) (subst (Later (λ a b. key_eq a b ≡ false)) (sym own) apart)

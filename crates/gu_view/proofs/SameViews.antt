@@ -5,7 +5,6 @@ use Rattle.std.specs.Cmp.Lexicographic.{pointwise}
 use Rattle.std.specs.Str.{bytes_eq}
 use Rattle.std.proofs.lemmas.Bool.Decides.{Decides-and, Decides-eqb}
 use Rattle.std.proofs.lemmas.Slice.Eq.{bytes_eq-Decides, slice_eq-Decides}
-use Rattle.gu_terms.specs.declared.limit_key.LimitKey.{LimitKey}
 use Rattle.gu_terms.proofs.KeyLemmas.{eq, eq-Decides}
 use Rattle.gu_view.specs.contracts.view.OfferPartialEq.TheImpl as offer
 use Rattle.gu_view.specs.contracts.view.RoomPartialEq.TheImpl as room

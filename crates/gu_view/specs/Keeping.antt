@@ -1,11 +1,12 @@
 -- Machinery: what a view keeps beside what it shows, and what is known while it is made.
-use Rattle.std.specs.Prelude.{◌≡◌, ◌≢◌, ℕ, ◌+◌, ◌<◌, ◌≤◌, List, [], ◌∷◌, ◌==◌, Option, All, AllPairs, IsTrue, length, map, slice_index, slice_range}
+use Rattle.std.specs.Prelude.{◌≡◌, ◌≢◌, ℕ, ◌+◌, ◌<◌, ◌≤◌, List, [], ◌∷◌, ◌==◌, Option, None, All, AllPairs, IsTrue, length, map, slice_index, slice_range}
 use Rattle.std.specs.List.{list_any}
 use Rattle.gu_terms.specs.LimitKeys.{has_key}
 use Rattle.gu_terms.specs.declared.limit_key.LimitKey.{LimitKey}
-use Rattle.gu_view.specs.Making.{lots_given}
+use Rattle.gu_view.specs.Making.{bad_offer, lots_given, path_differs}
 use Rattle.gu_view.specs.Places.{places_where}
-use Rattle.gu_view.specs.View.{GroupView, IsView, place_of, places_under}
+use Rattle.gu_view.specs.View.{GroupView, IsView, keys_of, place_among, place_of, places_under}
+use Rattle.gu_view.specs.declared.view.Offer.{Offer}
 use Rattle.gu_view.specs.declared.view.Room.{Room}
 
 -- the lists that end at these places of one list, the first from this place on
@@ -17,6 +18,14 @@ lists_from joined from (end ∷ ends) = slice_range joined from end ∷ lists_fr
 abbrev pub AreEnds : ℕ → ℕ → List ℕ → Type 0
 AreEnds whole from [] = from ≡ whole
 AreEnds whole from (end ∷ ends) = (from ≤ end) × AreEnds whole end ends
+
+-- offers of which none is bad and no path differs, beside their keys, and the places of each path's keys
+pub record IsKeyed (offers : List Offer) (keys : List LimitKey) (places : List (List ℕ)) : Type 0 where
+  pub numbers : bad_offer offers ≡ None
+  pub paths : path_differs offers ≡ None
+  pub keys_are : keys ≡ keys_of offers
+  pub few : length keys ≤ 20480
+  pub places_are : places ≡ map (λ o. map (place_among keys) o.path) offers
 
 -- a view beside its keys, the places of each offer's keys, and of each room's offers
 pub record IsIndexed (view : GroupView) (keys : List LimitKey) (places members : List (List ℕ)) : Type 0 where

@@ -3,6 +3,7 @@
 
 mod checker;
 mod error;
+mod keyed_offers;
 mod laws;
 mod making;
 mod members;
@@ -13,6 +14,6 @@ mod view;
 
 pub use checker::check;
 pub use error::{CutFault, Unknown, ViewError};
+pub use keyed_offers::KeyedOffers;
 pub use laws::cut_bounds_takes;
-pub use making::first_mentions;
 pub use view::{Offer, Room, View};

@@ -1,24 +1,18 @@
 //! What a view is made of: offers in order, paths, rooms by first mention.
 
-ghost use Rattle.std.specs.Prelude.{◌≡◌, ◌+◌, ◌*◌, ◌<◌, ◌≤◌, ◌++◌, List, All, AllPairs, IfOk, IsTrue, MatchOption, find, length, map, slice_get, take};
+ghost use Rattle.std.specs.Prelude.{◌≡◌, ◌<◌, List, All, AllPairs, IfOk, IsTrue, MatchOption, find, slice_get};
 ghost use Rattle.std.specs.Option.{option_map};
-ghost use Rattle.std.specs.List.{flat_map};
 ghost use Rattle.indexmap.specs.IndexMap.{get};
 ghost use Rattle.gu_terms.specs.LimitKeys.{has_key, key_eq};
 ghost use Rattle.gu_view.specs.Check.{has_room};
 ghost use Rattle.gu_terms.specs.declared.limit_key.LimitKey.{LimitKey};
 ghost use Rattle.gu_view.specs.Keeping.{IsGiven};
 ghost use Rattle.gu_view.specs.Making.{is_bad, is_own, numbered, bad_offer, path_differs, lots_given, AreRooms, in_order};
-ghost use Rattle.gu_view.specs.View.{keys_of, firsts, place_among};
 
-use crate::place_lists::PlaceLists;
 use crate::view::{Offer, Room};
 use gu_terms::{AgreementId, LimitKey, MOST_LIMIT, MOST_LOTS, MOST_OPEN_OFFERS, OfferNo, Path};
 use indexmap::{IndexMap, IndexSet};
 use std::alloc::{AllocError, Global};
-
-/// The keys that a path has at most.
-const MOST_KEYS: usize = 5;
 
 /// Whether an offer's number isn't above the one before it, or its lots are out of range.
 fn is_bad(before: u64, offer: &Offer) -> bool
@@ -97,69 +91,6 @@ pub fn path_differs(
         }
     }
     Ok(None)
-}
-
-/// Mentions the keys of a path.
-fn mention(keys: &mut IndexSet<LimitKey>, path: &[LimitKey]) -> Result<(), AllocError>
-    ensures first { IfOk result (λ _. (mentioned : List LimitKey)
-        → keys.old.keys ≡ firsts mentioned
-        → keys.new.keys ≡ firsts (mentioned ++ path.now)) }
-    ensures few { IfOk result (λ _. length keys.new.keys ≤ length keys.old.keys + length path.now) }
-{
-    for key in path {
-        keys.insert_full(*key)?;
-    }
-    Ok(())
-}
-
-/// The keys of the paths, in order of first mention. So many are expected.
-pub fn first_mentions(
-    alloc: Global,
-    offers: &[Offer],
-    expected: usize,
-) -> Result<IndexSet<LimitKey>, AllocError>
-    ensures keys { IfOk result (λ keys. keys.keys ≡ keys_of offers.now) }
-    ensures few { IfOk result (λ keys. length keys.keys ≤ 5 * length offers.now) }
-{
-    let mut keys = IndexSet::with_capacity(alloc, expected)?;
-    for offer in offers {
-        mention(&mut keys, offer.path.keys())?;
-    }
-    Ok(keys)
-}
-
-/// The places of a path's keys among the keys, and 0 behind them.
-fn places_among(keys: &IndexSet<LimitKey>, path: &[LimitKey]) -> [u32; MOST_KEYS]
-    requires few { length keys.now.keys ≤ 20480 }
-    requires short { length path.now ≤ 5 }
-    requires known { All (λ k. IsTrue (has_key keys.now.keys k)) path.now }
-    ensures { take (length path.now) result ≡ map (place_among keys.now.keys) path.now }
-{
-    let mut places = [0; MOST_KEYS];
-    for (at, key) in path.iter().enumerate() {
-        let place = keys.get_index_of(key).unwrap();
-        places[at] = place as u32;
-    }
-    places
-}
-
-/// For each offer the places of its path's keys.
-pub fn all_places(
-    alloc: Global,
-    keys: &IndexSet<LimitKey>,
-    offers: &[Offer],
-) -> Result<PlaceLists, AllocError>
-    requires few { length keys.now.keys ≤ 20480 }
-    requires known { keys.now.keys ≡ keys_of offers.now }
-    ensures { IfOk result (λ places. places ≡ map (λ o. map (place_among keys.now.keys) o.path) offers.now) }
-{
-    let most = offers.len().saturating_mul(MOST_KEYS);
-    let mut places = PlaceLists::with_room(alloc, offers.len(), most)?;
-    for offer in offers {
-        let path = offer.path.keys();
-        places.push(&places_among(keys, path)[..path.len()])?;
-    }
-    Ok(places)
 }
 
 /// The lots that are given for each key, where each room is needed, within its limit and given once.

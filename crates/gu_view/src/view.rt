@@ -1,17 +1,18 @@
 //! Views of groups.
 
-ghost use Rattle.std.specs.Prelude.{◌≡◌, ℕ, ◌<◌, ◌↔◌, IfErr, IfOk, IfSome, IsTrue, OnOk, length, map, All, position, slice_get};
+ghost use Rattle.std.specs.Prelude.{◌≡◌, ℕ, ◌<◌, ◌≤◌, ◌↔◌, IfErr, IfOk, IfSome, IsTrue, OnOk, length, map, All, position, slice_get};
 ghost use Rattle.gu_terms.specs.LimitKeys.{key_eq};
 ghost use Rattle.gu_terms.specs.declared.limit_key.LimitKey.TheVariants.{Agr};
 ghost use Rattle.gu_view.specs.Making.{bad_offer, view_of, MakesView, Refuses};
-ghost use Rattle.gu_view.specs.View.{IsView, IsNested, place_of, places_under};
+ghost use Rattle.gu_view.specs.View.{IsView, IsNested, keys_of, place_of, places_under};
 
 use crate::error::ViewError;
-use crate::making::{all_places, bad_offer, first_mentions, path_differs, rooms_in_order};
+use crate::keyed_offers::KeyedOffers;
+use crate::making::{bad_offer, path_differs, rooms_in_order};
 use crate::members::all_members;
 use crate::nesting::{are_whole, keys_agree};
 use crate::place_lists::PlaceLists;
-use gu_terms::{AgreementId, Group, LimitKey, OfferNo, Path};
+use gu_terms::{AgreementId, Group, LimitKey, MOST_LIMIT, OfferNo, Path};
 use indexmap::IndexSet;
 use std::alloc::{AllocError, Global};
 use std::marker::Model;
@@ -104,11 +105,28 @@ impl View {
         if let Some(number) = path_differs(alloc, &offers, rooms.len().min(offers.len()))? {
             return Err(ViewError::PathDiffers(number));
         }
-        let keys = first_mentions(alloc, &offers, rooms.len().min(MOST_ROOMS))?;
-        let Some(rooms) = rooms_in_order(alloc, &keys, &rooms)? else {
-            return Err(ViewError::BadRooms);
-        };
-        let places = all_places(alloc, &keys, &offers)?;
+        let offers = KeyedOffers::new(alloc, offers, rooms.len().min(MOST_ROOMS))?;
+        match rooms_in_order(alloc, offers.key_set(), &rooms)? {
+            Some(rooms) => Ok(View::of(alloc, group, version, offers, rooms)?),
+            None => Err(ViewError::BadRooms),
+        }
+    }
+
+    /// The view of offers with the rooms of their keys, in the keys' order.
+    pub fn of(
+        alloc: Global,
+        group: Group,
+        version: u64,
+        offers: KeyedOffers,
+        rooms: Vec<Room>,
+    ) -> Result<View, AllocError>
+        requires keys { map (λ r. r.key) rooms.items ≡ keys_of offers }
+        requires limits { All (λ r. r.lots ≤ MOST_LIMIT) rooms.items }
+        ensures made { IfOk result (λ view. view ≡ view_of group version offers rooms.items) }
+        ensures rooms { IfOk result (λ view. view.rooms ≡ rooms.items) }
+        ensures accepted { OnOk result (MakesView offers rooms.items) }
+    {
+        let (offers, keys, places) = offers.into_parts();
         let members = all_members(alloc, &places, offers.len(), rooms.len())?;
         Ok(View {
             group,

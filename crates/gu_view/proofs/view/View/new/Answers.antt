@@ -1,8 +1,13 @@
-use Rattle.std.proofs.Common.{arith, ◌≡◌, ◌≤◌, ◌∙◌, sym, ap, length, None}
-use Rattle.gu_view.specs.Making.{MakesView, bad_offer, path_differs}
+use Rattle.std.proofs.Common.{◌≡◌, ◌≤◌, ◌∙◌, None, ap, map, subst, sym}
+use Rattle.std.specs.Prelude.{All}
+use Rattle.std.specs.List.{flat_map}
+use Rattle.std.proofs.lemmas.List.Elements.{All-from_recursion}
+use Rattle.gu_view.specs.Making.{bad_offer, in_order}
 use Rattle.gu_view.specs.View.{keys_of}
-use Rattle.gu_view.proofs.MakingLemmas.{good_offers, length-in_order}
-use Rattle.gu_view.proofs.IndexLemmas.{all_within, distinct, indexed, places_are, sound}
+use Rattle.gu_view.specs.declared.view.Offer.{Offer}
+use Rattle.gu_view.specs.declared.view.Room.{Room}
+use Rattle.gu_view.proofs.MakingLemmas.{good_offers, in_order-in_order, in_order-keys, in_order-limits}
+use Rattle.gu_view.proofs.RoomLemmas.{apart-firsts}
 use Rattle.gu_view.proofs.view.View.new.Goals as goal
 
 pub path_differs-requires : goal.path_differs-requires
@@ -10,46 +15,26 @@ path_differs-requires c =
     let none : bad_offer c.args.offers.items ≡ None = rw c.deref.ensures.value at (sym c.bad_offer.ensures ∙ c.in_default.is) in
     rw c.deref-2.ensures.value ((good_offers c.args.offers.items none).ascending)
 
-pub all_places-requires-clause-few : goal.all_places-requires-clause-few
-all_places-requires-clause-few c =
-    let none : bad_offer c.args.offers.items ≡ None = rw c.deref.ensures.value at (sym c.bad_offer.ensures ∙ c.in_default.is) in
-    omega (arith, (good_offers c.args.offers.items none).few, c.in_ok-keys.ensures.few, ap length c.deref-3.ensures.value)
+pub of-requires-clause-keys : goal.of-requires-clause-keys
+of-requires-clause-keys c =
+    let rooms = rw (c.in-Some-3.is, c.deref-3.ensures.value) at c.in_ok-rooms.ensures in
+    ap (map (λ (r : Room). r.key)) rooms.1 ∙ in_order-keys c.key_set.result.now.keys c.args.rooms.items ∙ c.key_set.ensures
 
-pub all_members-requires-clause-few : goal.all_members-requires-clause-few
-all_members-requires-clause-few c =
-    let offers = c.args.offers.items in
-    let none : bad_offer offers ≡ None = rw c.deref.ensures.value at (sym c.bad_offer.ensures ∙ c.in_default.is) in
-    let good = good_offers offers none in
-    let few : length c.in_ok-keys.keys.keys ≤ 20480 = omega (arith, good.few, c.in_ok-keys.ensures.few, ap length c.deref-3.ensures.value) in
-    let rooms = rw (c.in-Some-3.is, c.deref-4.ensures.value) at c.in_ok-rooms.ensures in
-    let many : length c.in-Some-3.rooms.items ≡ length c.in_ok-keys.keys.keys = ap length rooms.1 ∙ length-in_order c.in_ok-keys.keys.keys c.args.rooms.items in
-    (omega (arith, good.few, c.len-4.ensures, c.args.offers.ok.0), omega (arith, few, many, c.len-5.ensures, c.in-Some-3.rooms.ok.0))
+pub of-requires-clause-limits : goal.of-requires-clause-limits
+of-requires-clause-limits c =
+    let keys = c.key_set.result.now.keys in
+    let rooms = rw (c.in-Some-3.is, c.deref-3.ensures.value) at c.in_ok-rooms.ensures in
+    subst (All (λ (r : Room). r.lots ≤ 1000000000)) (sym rooms.1)
+    (All-from_recursion (λ (r : Room). r.lots ≤ 1000000000) (in_order keys c.args.rooms.items) (in_order-limits keys c.args.rooms.items rooms.0.limits))
 
-pub all_members-requires-clause-within : goal.all_members-requires-clause-within
-all_members-requires-clause-within c =
+pub returns-in-Some-3-clause-made : goal.returns-in-Some-3-clause-made
+returns-in-Some-3-clause-made c =
     let offers = c.args.offers.items in
-    let none : bad_offer offers ≡ None = rw c.deref.ensures.value at (sym c.bad_offer.ensures ∙ c.in_default.is) in
-    let even : path_differs offers ≡ None = rw c.deref-2.ensures.value at (sym c.in_ok-number.ensures ∙ c.in_default-2.is) in
-    let keys : c.in_ok-keys.keys.keys ≡ keys_of offers = rw c.deref-3.ensures.value at c.in_ok-keys.ensures.keys in
-    let few : length c.in_ok-keys.keys.keys ≤ 20480 = omega (arith, (good_offers offers none).few, c.in_ok-keys.ensures.few, ap length c.deref-3.ensures.value) in
-    let rooms = rw (c.in-Some-3.is, c.deref-4.ensures.value) at c.in_ok-rooms.ensures in
-    let makes : MakesView offers c.args.rooms.items = record { numbers = none; paths = even; exact = rw keys at rooms.0 } in
-    rw (c.len-5.ensures, c.in-Some-3.rooms.ok.0)
-    (all_within c.args.group c.args.version offers c.args.rooms.items c.in-Some-3.rooms.items c.in_ok-keys.keys.keys makes keys few rooms.1 c.in_ok-places.places (rw c.deref-5.ensures.value at c.in_ok-places.ensures))
-
-pub invariant_of-result : goal.invariant_of-result
-invariant_of-result c =
-    let offers = c.args.offers.items in
-    let made = c.in-Some-3.rooms.items in
-    let none : bad_offer offers ≡ None = rw c.deref.ensures.value at (sym c.bad_offer.ensures ∙ c.in_default.is) in
-    let even : path_differs offers ≡ None = rw c.deref-2.ensures.value at (sym c.in_ok-number.ensures ∙ c.in_default-2.is) in
-    let keys : c.in_ok-keys.keys.keys ≡ keys_of offers = rw c.deref-3.ensures.value at c.in_ok-keys.ensures.keys in
-    let few : length c.in_ok-keys.keys.keys ≤ 20480 = omega (arith, (good_offers offers none).few, c.in_ok-keys.ensures.few, ap length c.deref-3.ensures.value) in
-    let rooms = rw (c.in-Some-3.is, c.deref-4.ensures.value) at c.in_ok-rooms.ensures in
-    let makes : MakesView offers c.args.rooms.items = record { numbers = none; paths = even; exact = rw keys at rooms.0 } in
-    let places = rw c.deref-5.ensures.value at c.in_ok-places.ensures in
-    let whole = sound c.args.group c.args.version offers c.args.rooms.items made c.in_ok-keys.keys.keys makes keys few rooms.1 in
-    let listed =
-    c.in_ok-members.ensures made offers (sym c.in-Some-3.rooms.ok.0 ∙ sym c.len-5.ensures) (distinct _ whole)
-    (places_are c.args.group c.args.version offers c.args.rooms.items made c.in_ok-keys.keys.keys makes keys few rooms.1 c.in_ok-places.places places) in
-    indexed c.args.group c.args.version offers c.args.rooms.items made c.in_ok-keys.keys.keys makes keys few rooms.1 c.in_ok-places.places places c.in_ok-members.members listed
+    let given = c.args.rooms.items in
+    let same = c.in_ok-offers.ensures in
+    let rooms = rw (c.in-Some-3.is, c.deref-3.ensures.value) at c.in_ok-rooms.ensures in
+    let made : c.in-Some-3.rooms.items ≡ in_order (keys_of offers) given = rooms.1 ∙ ap (λ l. in_order l given) (c.key_set.ensures ∙ ap keys_of same) in
+    let once = in_order-in_order (keys_of offers) given (apart-firsts (flat_map (λ (o : Offer). o.path) offers)) in
+    c.in_ok-of-in-Some-3.ensures.made
+    ∙ (λ i. record { group = c.args.group; version = c.args.version; offers = same i; rooms = in_order (keys_of (same i)) (made i) })
+    ∙ (λ i. record { group = c.args.group; version = c.args.version; offers = offers; rooms = once i })

@@ -1,0 +1,144 @@
+-- Keys as they are mentioned: their order, and their places.
+use Rattle.std.proofs.Common.{◌≡◌, ℕ, ◌+◌, ◌<◌, ◌≤◌, ◌||◌, not, Bool, true, false, cond, List, [], ◌∷◌, ◌++◌, length, map, take, get_or, refl, sym, ap, ◌∙◌, arith, inl, inr, append-nil, append_assoc, length-append}
+use Rattle.std.specs.Prelude.{filter}
+use Rattle.std.specs.List.{AllByRecursion, flat_map, list_any, position_or_len}
+use Rattle.std.proofs.lemmas.Bool.{cases_Bool, or_left, or_right}
+use Rattle.std.proofs.lemmas.List.{flat_map_more, map_more, take_more}
+use Rattle.std.proofs.lemmas.List.Elements.{recursion_from_All, filter-append}
+use Rattle.std.proofs.lemmas.List.Folds.{list_any_at, list_any-append}
+use Rattle.gu_terms.proofs.KeyLemmas.{eq, eq_is, key_eq-refl, key_eq-sym}
+use Rattle.gu_terms.proofs.Lists.{along, list_any-agree, position_or_len-agree}
+use Rattle.gu_terms.specs.LimitKeys.{key_eq, has_key}
+use Rattle.gu_terms.specs.declared.limit_key.LimitKey.{LimitKey}
+use Rattle.gu_view.specs.View.{firsts, keys_of, place_among}
+use Rattle.gu_view.specs.declared.view.Offer.{Offer}
+use Rattle.gu_view.proofs.RoomLemmas.{has_key-others, has_key-keys_of, on_own_path}
+
+-- one key more is mentioned
+firsts_more : (keys : List LimitKey) (k : LimitKey) → firsts (keys ++ k ∷ []) ≡ cond (has_key (firsts keys) k) (firsts keys) (firsts keys ++ k ∷ [])
+firsts_more [] k = refl
+firsts_more (x ∷ keys) k = go (firsts_more keys k) (has_key (firsts keys) k) refl
+  where
+    go : firsts (keys ++ k ∷ []) ≡ cond (has_key (firsts keys) k) (firsts keys) (firsts keys ++ k ∷ []) → (b : Bool) → has_key (firsts keys) k ≡ b → x ∷ filter (λ j. not (key_eq x j)) (firsts (keys ++ k ∷ [])) ≡ cond (key_eq x k || has_key (filter (λ j. not (key_eq x j)) (firsts keys)) k) (firsts (x ∷ keys)) (firsts (x ∷ keys) ++ k ∷ [])
+    go more true there =
+        let before : firsts (keys ++ k ∷ []) ≡ firsts keys = more ∙ rw there refl in
+        elim (cases_Bool (key_eq x k)) [
+          | inl same ↦ rw (before, same) refl
+          | inr other ↦ rw (before, other, has_key-others x k (firsts keys) other, there) refl
+        ]
+    go more false missing =
+        let before : firsts (keys ++ k ∷ []) ≡ firsts keys ++ k ∷ [] = more ∙ rw missing refl in
+        elim (cases_Bool (key_eq x k)) [
+          | inl same ↦ rw (before, filter-append (λ j. not (key_eq x j)) (firsts keys) (k ∷ []), same) (ap (λ l. x ∷ l) (append-nil (filter (λ j. not (key_eq x j)) (firsts keys))))
+          | inr other ↦ rw (before, filter-append (λ j. not (key_eq x j)) (firsts keys) (k ∷ []), other, has_key-others x k (firsts keys) other, missing) refl
+        ]
+
+-- keys with one more, where it isn't one of them
+abbrev pub with_key : List LimitKey → LimitKey → List LimitKey
+with_key keys k = cond (list_any (eq k) keys) keys (keys ++ k ∷ [])
+
+-- the key is among them then
+pub has_key-with_key : (keys : List LimitKey) (k : LimitKey) → has_key (with_key keys k) k ≡ true
+has_key-with_key keys k =
+    elim (cases_Bool (list_any (eq k) keys)) [
+      | inl hit ↦ rw hit (list_any-agree (λ j. key_eq j k) (eq k) keys (λ j. key_eq-sym j k ∙ sym (eq_is k j)) ∙ hit)
+      | inr miss ↦ rw miss (list_any-append (λ j. key_eq j k) keys (k ∷ []) ∙ or_right (has_key keys k) (key_eq k k || false) (or_left (key_eq k k) false (key_eq-refl k)))
+    ]
+
+-- and so are those that were
+pub has_key-stay : (keys : List LimitKey) (k j : LimitKey) → has_key keys j ≡ true → has_key (with_key keys k) j ≡ true
+has_key-stay keys k j there =
+    elim (cases_Bool (list_any (eq k) keys)) [
+      | inl hit ↦ rw hit there
+      | inr miss ↦ rw miss (list_any-append (λ j'. key_eq j' j) keys (k ∷ []) ∙ or_left (has_key keys j) (key_eq k j || false) there)
+    ]
+
+-- it stands where it is looked for
+position_or_len-own : (test : LimitKey → Bool) (keys : List LimitKey) (k : LimitKey) → test k ≡ true → position_or_len test (keys ++ k ∷ []) ≡ position_or_len test keys
+position_or_len-own test [] k hit = rw hit refl
+position_or_len-own test (j ∷ keys) k hit = ap (λ n. cond (not (test j)) (1 + n) 0) (position_or_len-own test keys k hit)
+
+pub place_among-with_key : (keys : List LimitKey) (k : LimitKey) → place_among (with_key keys k) k ≡ place_among keys k
+place_among-with_key keys k =
+    elim (cases_Bool (list_any (eq k) keys)) [
+      | inl hit ↦ rw hit refl
+      | inr miss ↦ rw miss (position_or_len-own (λ j. key_eq j k) keys k (key_eq-refl k))
+    ]
+
+-- and the others stand where they stood
+position_or_len-stay : (test : LimitKey → Bool) (keys more : List LimitKey) → list_any test keys ≡ true → position_or_len test (keys ++ more) ≡ position_or_len test keys
+position_or_len-stay test [] more there = cc
+position_or_len-stay test (j ∷ keys) more there =
+    elim (cases_Bool (test j)) [
+      | inl hit ↦ rw hit refl
+      | inr miss ↦ rw miss (ap (λ n. 1 + n) (position_or_len-stay test keys more (rw miss at there)))
+    ]
+
+pub place_among-stay : (keys : List LimitKey) (k j : LimitKey) → has_key keys j ≡ true → place_among (with_key keys k) j ≡ place_among keys j
+place_among-stay keys k j there =
+    elim (cases_Bool (list_any (eq k) keys)) [
+      | inl hit ↦ rw hit refl
+      | inr miss ↦ rw miss (position_or_len-stay (λ i. key_eq i j) keys (k ∷ []) there)
+    ]
+
+-- the place at which a key is put is its place among the keys
+pub place_put : (keys : List LimitKey) (k : LimitKey) → position_or_len (eq k) keys ≡ place_among (with_key keys k) k
+place_put keys k =
+    position_or_len-agree (eq k) (λ j. key_eq j k) keys (λ j. eq_is k j ∙ key_eq-sym k j) ∙ sym (place_among-with_key keys k)
+
+-- keys that stand where they stood have the places that they had
+pub places-stay : (old new keys : List LimitKey) → ((k : LimitKey) → has_key old k ≡ true → place_among new k ≡ place_among old k) → AllByRecursion (λ k. has_key old k ≡ true) keys
+    → map (place_among old) keys ≡ map (place_among new) keys
+places-stay old new [] stay known = refl
+places-stay old new (k ∷ keys) stay known = rw (stay k known.0, places-stay old new keys stay known.1) refl
+
+pub all_places-stay : (old new : List LimitKey) (offers : List Offer) → ((k : LimitKey) → has_key old k ≡ true → place_among new k ≡ place_among old k)
+    → AllByRecursion (λ (o : Offer). AllByRecursion (λ k. has_key old k ≡ true) o.path) offers
+    → map (λ (o : Offer). map (place_among old) o.path) offers ≡ map (λ (o : Offer). map (place_among new) o.path) offers
+all_places-stay old new [] stay known = refl
+all_places-stay old new (o ∷ offers) stay known = rw (places-stay old new o.path stay known.0, all_places-stay old new offers stay known.1) refl
+
+-- one more key of a path is mentioned
+pub mention_more : (mentioned path keys : List LimitKey) (i : ℕ) (k : LimitKey) → i < length path → k ≡ get_or path i k → keys ≡ firsts (mentioned ++ take i path)
+    → with_key keys k ≡ firsts (mentioned ++ take (i + 1) path)
+mention_more mentioned path keys i k inside is are =
+    let test : list_any (eq k) keys ≡ has_key (firsts (mentioned ++ take i path)) k =
+    list_any-agree (eq k) (λ j. key_eq j k) keys (λ j. eq_is k j ∙ key_eq-sym k j) ∙ ap (λ l. has_key l k) are in
+    let longer : mentioned ++ take (i + 1) path ≡ (mentioned ++ take i path) ++ k ∷ [] =
+    ap (λ l. mentioned ++ l) (take_more path i k inside ∙ ap (λ x. take i path ++ x ∷ []) (sym is)) ∙ sym (append_assoc mentioned (take i path) (k ∷ [])) in
+    rw (test, longer, are) (sym (firsts_more (mentioned ++ take i path) k))
+
+-- one more place of a path
+pub places_more : (keys path : List LimitKey) (made : List ℕ) (i : ℕ) (k : LimitKey) (place : ℕ) → i < length path → k ≡ get_or path i k → made ≡ map (place_among keys) (take i path) → place ≡ place_among keys k
+    → made ++ place ∷ [] ≡ map (place_among keys) (take (i + 1) path)
+places_more keys path made i k place inside is are at =
+    ap (λ l. l ++ place ∷ []) are ∙ ap (λ n. map (place_among keys) (take i path) ++ n ∷ []) (at ∙ ap (place_among keys) is) ∙ sym (map_more (place_among keys) path i k inside)
+
+-- at most one key more
+pub length-with_key : (keys : List LimitKey) (k : LimitKey) → length (with_key keys k) ≤ length keys + 1
+length-with_key keys k = go (list_any (eq k) keys)
+  where
+    go : (b : Bool) → length (cond b keys (keys ++ k ∷ [])) ≤ length keys + 1
+    go true = omega arith
+    go false = omega (arith, length-append keys (k ∷ []))
+
+-- the keys of each path are among all of the keys
+pub all_known : (offers : List Offer) → AllByRecursion (λ (o : Offer). AllByRecursion (λ k. has_key (keys_of offers) k ≡ true) o.path) offers
+all_known offers =
+    recursion_from_All (λ (o : Offer). AllByRecursion (λ k. has_key (keys_of offers) k ≡ true) o.path) offers (λ i d inside.
+    let o = get_or offers i d in
+    along (λ k. has_key o.path k ≡ true) (λ k. has_key (keys_of offers) k ≡ true) o.path
+    (λ k on_path. has_key-keys_of offers k ∙ list_any_at (λ (o : Offer). has_key o.path k) offers i d inside on_path) (on_own_path o.path))
+
+-- one more offer
+pub keys_of-more : (offers : List Offer) (i : ℕ) (o : Offer) → i < length offers → o ≡ get_or offers i o → firsts (flat_map (λ (o : Offer). o.path) (take i offers) ++ o.path) ≡ keys_of (take (i + 1) offers)
+keys_of-more offers i o inside is =
+    ap firsts (flat_map_more (λ (o : Offer). o.path) [] (take i offers) o)
+    ∙ ap keys_of (ap (λ (x : Offer). take i offers ++ x ∷ []) is ∙ sym (take_more offers i o inside))
+
+pub all_places-more : (keys : List LimitKey) (offers : List Offer) (made : List (List ℕ)) (i : ℕ) (o : Offer) (list : List ℕ) → i < length offers → o ≡ get_or offers i o
+    → made ≡ map (λ (o : Offer). map (place_among keys) o.path) (take i offers) → list ≡ map (place_among keys) o.path
+    → made ++ list ∷ [] ≡ map (λ (o : Offer). map (place_among keys) o.path) (take (i + 1) offers)
+all_places-more keys offers made i o list inside is are at =
+    let places : Offer → List ℕ = λ o. map (place_among keys) o.path in
+    ap (λ l. l ++ list ∷ []) are ∙ ap (λ l. map places (take i offers) ++ l ∷ []) (at ∙ ap places is) ∙ sym (map_more places offers i o inside)

@@ -1,0 +1,126 @@
+//! Offers with the keys of their paths, in order of first mention.
+
+ghost use Rattle.std.specs.Prelude.{◌≡◌, ◌+◌, ◌*◌, ◌≤◌, ◌^◌, ◌++◌, None, List, IfOk, IsTrue, length, map, take};
+ghost use Rattle.gu_terms.specs.LimitKeys.{has_key};
+ghost use Rattle.gu_terms.specs.declared.limit_key.LimitKey.{LimitKey};
+ghost use Rattle.gu_view.specs.Keeping.{IsKeyed};
+ghost use Rattle.gu_view.specs.Making.{bad_offer, path_differs};
+ghost use Rattle.gu_view.specs.View.{firsts, keys_of, place_among};
+
+use crate::place_lists::PlaceLists;
+use crate::view::Offer;
+use gu_terms::LimitKey;
+use indexmap::IndexSet;
+use std::alloc::{AllocError, Global};
+use std::marker::Model;
+
+/// The keys that a path has at most.
+const MOST_KEYS: usize = 5;
+
+/// Offers of which a view may be made, with the keys of their paths in order of first mention. To a contract it is the list of
+/// these offers.
+#[derive(Drop)]
+pub struct KeyedOffers {
+    offers: Vec<Offer>,
+    keys: IndexSet<LimitKey>,
+    /// For each offer the places of its path's keys among the keys.
+    places: PlaceLists,
+}
+
+impl Model for KeyedOffers {
+    ghost use Rattle.std.specs.Prelude.{List};
+    ghost use Rattle.gu_view.specs.Keeping.{IsKeyed};
+    ghost use Rattle.gu_view.specs.declared.view.Offer.{Offer};
+
+    ghost Value = { List Offer };
+
+    ghost view = { λ k. k.offers.items };
+
+    ghost invariant = { λ k. IsKeyed k.offers.items k.keys.keys k.places };
+}
+
+/// Mentions the keys of a path. The answer is their places, and 0 behind them.
+fn mention(keys: &mut IndexSet<LimitKey>, path: &[LimitKey]) -> Result<[u32; MOST_KEYS], AllocError>
+    requires room { length keys.old.keys + length path.now ≤ 2 ^ 32 }
+    requires short { length path.now ≤ 5 }
+    ensures first { IfOk result (λ _. (mentioned : List LimitKey)
+        → keys.old.keys ≡ firsts mentioned
+        → keys.new.keys ≡ firsts (mentioned ++ path.now)) }
+    ensures few { IfOk result (λ _. length keys.new.keys ≤ length keys.old.keys + length path.now) }
+    ensures stay { IfOk result (λ _. (k : LimitKey)
+        → IsTrue (has_key keys.old.keys k)
+        → place_among keys.new.keys k ≡ place_among keys.old.keys k) }
+    ensures places { IfOk result (λ places. take (length path.now) places ≡ map (place_among keys.new.keys) path.now) }
+{
+    let mut places = [0; MOST_KEYS];
+    for (at, key) in path.iter().enumerate() {
+        let (place, _) = keys.insert_full(*key)?;
+        places[at] = place as u32;
+    }
+    Ok(places)
+}
+
+/// The keys of the offers' paths, in order of first mention, and for each offer the places of its path's keys. So many keys are
+/// expected.
+fn keyed(
+    alloc: Global,
+    offers: &[Offer],
+    expected: usize,
+) -> Result<(IndexSet<LimitKey>, PlaceLists), AllocError>
+    requires { length offers.now ≤ 4096 }
+    ensures keys { IfOk result (λ made. made.0.keys ≡ keys_of offers.now) }
+    ensures few { IfOk result (λ made. length made.0.keys ≤ 5 * length offers.now) }
+    ensures places { IfOk result (λ made. made.1 ≡ map (λ o. map (place_among made.0.keys) o.path) offers.now) }
+{
+    let mut keys = IndexSet::with_capacity(alloc, expected)?;
+    let mut places = PlaceLists::with_room(alloc, offers.len(), offers.len() * MOST_KEYS)?;
+    for offer in offers {
+        let path = offer.path.keys();
+        let list = mention(&mut keys, path)?;
+        places.push(&list[..path.len()])?;
+    }
+    Ok((keys, places))
+}
+
+impl KeyedOffers {
+    /// These offers with their keys, of which so many are expected.
+    pub fn new(alloc: Global, offers: Vec<Offer>, expected: usize) -> Result<Self, AllocError>
+        requires numbers { bad_offer offers.items ≡ None }
+        requires paths { path_differs offers.items ≡ None }
+        ensures { IfOk result (λ made. made ≡ offers.items) }
+    {
+        let (keys, places) = keyed(alloc, &offers, expected)?;
+        Ok(KeyedOffers {
+            offers,
+            keys,
+            places,
+        })
+    }
+
+    /// The keys of their paths, in order of first mention.
+    pub fn keys(&self) -> &[LimitKey]
+        ensures { result.now ≡ keys_of self.now }
+    {
+        self.keys.as_slice()
+    }
+
+    /// The same, to look one up.
+    pub(crate) fn key_set(&self) -> &IndexSet<LimitKey>
+        ensures { result.now.keys ≡ keys_of self.now }
+    {
+        &self.keys
+    }
+
+    /// The offers, their keys, and the places of each path's keys.
+    pub(crate) fn into_parts(self) -> (Vec<Offer>, IndexSet<LimitKey>, PlaceLists)
+        ensures offers { result.0.items ≡ self }
+        ensures keyed { IsKeyed self result.1.keys result.2 }
+    {
+        let KeyedOffers {
+            offers,
+            keys,
+            places,
+        } = self;
+        (offers, keys, places)
+    }
+}
