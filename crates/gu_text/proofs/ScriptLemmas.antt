@@ -1,14 +1,16 @@
 -- A line of a script is read.
-use Rattle.std.proofs.Common.{◌≡◌, ◌∷◌, [], ◌∙◌, ◌<◌, ◌≤◌, ℕ, true, false, List, Option, None, Some, length, MatchOption, Result, Ok, Err, IfOk, refl, sym, ap, subst, arith}
+use Rattle.std.proofs.Common.{◌≡◌, ◌∷◌, [], ◌∙◌, ◌<◌, ◌≤◌, ℕ, true, false, List, Option, None, Some, length, MatchOption, IsTrue, IsErrOf, IfOk, Result, Ok, Err, refl, sym, ap, subst, arith}
 use Rattle.std.specs.List.{AllByRecursion}
 use Rattle.std.specs.Str.{bytes_eq}
 use Rattle.std.proofs.lemmas.Slice.Eq.{bytes_eq-Decides}
 use Rattle.gu_terms.specs.declared.command.Command.TheVariants.{OpenDay, SetLimit, ReportSide, GiveUp, Claim, Refuse, Reverse}
 use Rattle.gu_world.specs.declared.step.Step.TheVariants.{Enter, See, Propose, Commit}
 use Rattle.gu_text.specs.Lines.{is_silent, longest_line}
-use Rattle.gu_text.specs.ScriptForms.{Reads, ReadsWords, WriteNone, form_begun, form_of, form_word, forms}
+use Rattle.gu_text.specs.ScriptForms.{IsBegun, IsTold, Reads, ReadsWords, WriteNone, form_begun, form_of, form_word, forms}
 use Rattle.gu_text.specs.Scripts.{IsBad, Says, Writes}
 use Rattle.gu_text.specs.Words.{is_ragged, words_of}
+use Rattle.gu_text.specs.declared.error.TextError.{TextError}
+use Rattle.gu_text.specs.declared.error.TextError.TheVariants.{BadLine}
 use Rattle.gu_text.specs.declared.script_forms.Form.{Form}
 use Rattle.gu_text.specs.declared.script_forms.Form.TheVariants as form
 use Rattle.gu_text.specs.declared.script_line.Line.{Line}
@@ -83,6 +85,15 @@ all_forms kind = (tt, (tt, (tt, (tt, (tt, (tt, (tt, (tt, (tt, (tt, (tt, (tt, (tt
 form_word_is : (kind : List ℕ) (f : Form) → form_begun kind ≡ Some f → form_word f ≡ kind
 form_word_is kind f h = (bytes_eq-Decides (form_word f) kind).0 (found (λ g. bytes_eq (form_word g) kind) (λ g. Unit {0}) forms f (all_forms kind) h).0
 
+-- a line is begun by the form of its first word
+pub is_begun : (text kind : List ℕ) (f : Form) (words : List (List ℕ)) → is_silent text ≡ false → length text ≤ longest_line → is_ragged text ≡ false → words_of text ≡ kind ∷ words → form_begun kind ≡ Some f → IsBegun text f words
+is_begun text kind f words speaks short even words_are is = record {
+  speaks = speaks;
+  short = short;
+  even = even;
+  words_are = words_are ∙ ap (λ (k : List ℕ). k ∷ words) (sym (form_word_is kind f is));
+}
+
 -- what is read of the words of a form is what the words write
 pub begun : (kind : List ℕ) (words : List (List ℕ)) (f : Form) (read : Option Line) → form_begun kind ≡ Some f → Reads f words read → ReadsWords (kind ∷ words) read
 begun kind words f (Some said) is reads = subst (λ (k : List ℕ). Writes (k ∷ words) said) (form_word_is kind f is) reads
@@ -90,11 +101,6 @@ begun kind words f None is reads = λ said h.
     let same : f ≡ form_of said = let e = sym is ∙ form_written kind words said h in cc in
     let none : WriteNone (form_of said) (form_word f ∷ words) = subst (λ g. WriteNone g (form_word f ∷ words)) same reads in
     none_written (kind ∷ words) said (subst (λ (k : List ℕ). WriteNone (form_of said) (k ∷ words)) (form_word_is kind f is) none) h
-
--- and so where reading may want memory
-pub begun_result : {E : Type 0} (kind : List ℕ) (words : List (List ℕ)) (f : Form) (result : Result (Option Line) E) → form_begun kind ≡ Some f → IfOk result (Reads f words) → IfOk result (ReadsWords (kind ∷ words))
-begun_result kind words f (Ok read) is reads = begun kind words f read is reads
-begun_result kind words f (Err e) is reads = tt
 
 -- no words write nothing
 pub wordless : (said : Line) → ¬ Writes [] said
@@ -111,3 +117,19 @@ ragged_bad text speaks ragged = record { speaks = speaks; nothing = λ said says
 pub words_said : (text : List ℕ) (read : Option Line) → is_silent text ≡ false → length text ≤ longest_line → is_ragged text ≡ false → ReadsWords (words_of text) read → MatchOption read (IsBad text) (Says text)
 words_said text (Some said) speaks short even reads = record { speaks = speaks; short = short; even = even; writes = reads }
 words_said text None speaks short even reads = record { speaks = speaks; nothing = λ said says. reads said says.writes }
+
+-- and so a line that begins with the word of a form says what is read of the words behind it
+pub begun_said : (text : List ℕ) (f : Form) (words : List (List ℕ)) (read : Option Line) → IsBegun text f words → Reads f words read → MatchOption read (IsBad text) (Says text)
+begun_said text f words read is reads =
+    words_said text read is.speaks is.short is.even
+    (subst (λ (ws : List (List ℕ)). ReadsWords ws read) (sym is.words_are) (begun (form_word f) words f read (form_begun-word f) reads))
+
+-- a line of which something is told says it
+pub told_says : (text : List ℕ) (number : ℕ) (result : Result (Option Line) TextError) → IsTold text number result → IfOk result (λ said. MatchOption said (IsTrue (is_silent text)) (Says text))
+told_says text number (Ok (Some said)) told = told
+told_says text number (Ok None) told = absurd told
+told_says text number (Err error) told = tt
+
+-- a line that is told to be bad is
+pub told_bad : (text : List ℕ) (number : ℕ) (result : Result (Option Line) TextError) → IsTold text number result → (n : ℕ) → IsErrOf result (BadLine n) → (n ≡ number) × IsBad text
+told_bad text number result told n bad = subst (IsTold text number) bad told

@@ -1,5 +1,5 @@
 -- Machinery: the forms of a script's lines, while one is read. (No other crate names this file.)
-use Rattle.std.specs.Prelude.{◌≡◌, ℕ, ℤ, List, [], ◌∷◌, codes, IsTrue, MatchOption, Option, Some, None, nat_le, if◌then◌else◌}
+use Rattle.std.specs.Prelude.{◌≡◌, ◌≤◌, ℕ, ℤ, false, List, [], ◌∷◌, codes, length, IsTrue, MatchOption, Option, Some, None, Result, Ok, Err, nat_le, if◌then◌else◌}
 use Rattle.std.specs.List.{find}
 use Rattle.std.specs.Option.{option_and_then}
 use Rattle.std.specs.Str.{bytes_eq}
@@ -19,8 +19,12 @@ use Rattle.gu_terms.specs.declared.lines.Line.{Line as GiveUpLine}
 use Rattle.gu_terms.specs.declared.side.Side.{Side}
 use Rattle.gu_terms.specs.declared.symbol.Symbol.{Symbol}
 use Rattle.gu_world.specs.declared.step.Step.TheVariants.{Enter, See, Propose, Commit}
-use Rattle.gu_text.specs.Scripts.{WriteLines, Writes}
+use Rattle.gu_text.specs.Lines.{is_silent, longest_line}
+use Rattle.gu_text.specs.Scripts.{IsBad, Says, WriteLines, Writes}
 use Rattle.gu_text.specs.SheetLines.{number_of}
+use Rattle.gu_text.specs.Words.{is_ragged, words_of}
+use Rattle.gu_text.specs.declared.error.TextError.{TextError}
+use Rattle.gu_text.specs.declared.error.TextError.TheVariants.{Memory, BadLine}
 use Rattle.gu_text.specs.declared.script_forms.Form.{Form}
 use Rattle.gu_text.specs.declared.script_forms.Form.TheVariants as form
 use Rattle.gu_text.specs.declared.script_line.Line.{Line}
@@ -129,3 +133,16 @@ pub record WritesLine (words : List (List ℕ)) (first : GiveUpLine) (behind : L
 -- words begin with no line of a give-up
 abbrev pub WritesNoLine : List (List ℕ) → Type 0
 WritesNoLine words = (first : GiveUpLine) (others : List GiveUpLine) → ¬ WriteLines words (first ∷ others)
+
+-- a line isn't silent, has at most 1,024 bytes and no blank at its ends, and its words are the word of a form and these behind it
+pub record IsBegun (text : List ℕ) (form : Form) (words : List (List ℕ)) : Type 0 where
+  pub speaks : is_silent text ≡ false
+  pub short : length text ≤ longest_line
+  pub even : is_ragged text ≡ false
+  pub words_are : words_of text ≡ form_word form ∷ words
+
+-- what is told of the line with this number, which isn't silent: what it says, or that it is bad, or that memory ran out
+abbrev pub IsTold : List ℕ → ℕ → Result (Option Line) TextError → Type 0
+IsTold text number (Ok said) = MatchOption said ⊥ (Says text)
+IsTold text number (Err (BadLine n)) = (n ≡ number) × IsBad text
+IsTold text number (Err Memory) = Unit {0}

@@ -1,6 +1,7 @@
 //! The forms of a script's lines.
 
 ghost use Rattle.std.specs.Prelude.{◌≡◌, ◌<◌, ◌∷◌, codes, length, IfOk, IfSome, MatchOption};
+ghost use Rattle.std.specs.Str.{bytes_eq};
 ghost use Rattle.gu_text.specs.ScriptForms.{form_begun, form_word, IsGiver, Reads, ReadsLines, WriteNone, WritesLine, WritesNoLine};
 ghost use Rattle.gu_text.specs.Words.{words_of};
 
@@ -56,29 +57,48 @@ impl Form {
         }
     }
 
+    /// Whether a word is the one in front.
+    fn is_begun_by(self, word: &[u8]) -> bool
+        ensures { result ≡ bytes_eq (form_word self) word.now }
+    {
+        self.word().as_bytes() == word
+    }
+
     /// The form with this word in front.
     pub(crate) fn begun(word: &[u8]) -> Option<Form>
         ensures { result ≡ form_begun word.now }
     {
-        [
-            Form::Day,
-            Form::Limit,
-            Form::Report,
-            Form::GiveUp,
-            Form::Claim,
-            Form::Refuse,
-            Form::Reverse,
-            Form::See,
-            Form::Propose,
-            Form::Commit,
-            Form::Sweep,
-            Form::Position,
-            Form::Interest,
-            Form::Limits,
-        ]
-        .iter()
-        .copied()
-        .find(|form| form.word().as_bytes() == word)
+        if Form::Day.is_begun_by(word) {
+            Some(Form::Day)
+        } else if Form::Limit.is_begun_by(word) {
+            Some(Form::Limit)
+        } else if Form::Report.is_begun_by(word) {
+            Some(Form::Report)
+        } else if Form::GiveUp.is_begun_by(word) {
+            Some(Form::GiveUp)
+        } else if Form::Claim.is_begun_by(word) {
+            Some(Form::Claim)
+        } else if Form::Refuse.is_begun_by(word) {
+            Some(Form::Refuse)
+        } else if Form::Reverse.is_begun_by(word) {
+            Some(Form::Reverse)
+        } else if Form::See.is_begun_by(word) {
+            Some(Form::See)
+        } else if Form::Propose.is_begun_by(word) {
+            Some(Form::Propose)
+        } else if Form::Commit.is_begun_by(word) {
+            Some(Form::Commit)
+        } else if Form::Sweep.is_begun_by(word) {
+            Some(Form::Sweep)
+        } else if Form::Position.is_begun_by(word) {
+            Some(Form::Position)
+        } else if Form::Interest.is_begun_by(word) {
+            Some(Form::Interest)
+        } else if Form::Limits.is_begun_by(word) {
+            Some(Form::Limits)
+        } else {
+            None
+        }
     }
 }
 

@@ -1,8 +1,8 @@
 //! What a line of a script says.
 
-ghost use Rattle.std.specs.Prelude.{◌≡◌, ◌≢◌, ◌∷◌, ℕ, false, IfOk, IsErrOf, IsTrue, MatchOption};
+ghost use Rattle.std.specs.Prelude.{◌≡◌, ◌≢◌, ℕ, List, false, IfOk, IsErrOf, IsTrue, MatchOption};
 ghost use Rattle.gu_text.specs.Lines.{is_silent};
-ghost use Rattle.gu_text.specs.ScriptForms.{Reads, ReadsWords};
+ghost use Rattle.gu_text.specs.ScriptForms.{IsBegun, IsTold, Reads};
 ghost use Rattle.gu_text.specs.Scripts.{IsBad, Says};
 ghost use Rattle.gu_text.specs.Words.{words_of};
 
@@ -15,7 +15,7 @@ use crate::script_forms::{
 use crate::words::{first_word, is_ragged};
 use gu_terms::{AccountId, Group, Symbol};
 use gu_world::Step;
-use std::alloc::{AllocError, Global};
+use std::alloc::Global;
 
 /// What a line of a script says.
 #[derive(Debug, Drop)]
@@ -55,29 +55,35 @@ fn plain_said(form: Form, words: &[u8]) -> Option<Line>
     }
 }
 
-/// What words say, the first of which stands apart.
-fn words_say(alloc: Global, kind: &[u8], words: &[u8]) -> Result<Option<Line>, AllocError>
-    ensures { IfOk result (ReadsWords (kind.now ∷ words_of words.now)) }
+#[tactic(auto, using(crate::proofs::ScriptLemmas::is_begun))]
+/// The form of a line that isn't silent, and the words behind the word of the form.
+fn begun(line: &[u8]) -> Option<(Form, &[u8])>
+    requires { is_silent line.now ≡ false }
+    ensures { MatchOption result (IsBad line.now) (λ begun. IsBegun line.now begun.0 (words_of begun.1.now)) }
 {
-    match Form::begun(kind) {
-        Some(Form::GiveUp) => give_up_said(alloc, words),
-        Some(form) => Ok(plain_said(form, words)),
-        None => Ok(None),
+    if line.len() > LONGEST_LINE || is_ragged(line) {
+        return None;
+    }
+    let (kind, words) = first_word(line)?;
+    let form = Form::begun(kind)?;
+    Some((form, words))
+}
+
+/// What is told of the line with this number, which says this, or is bad.
+fn told(said: Option<Line>, number: u64) -> Result<Option<Line>, TextError>
+    ensures { (text : List ℕ) → MatchOption said (IsBad text) (Says text) → IsTold text number result }
+{
+    match said {
+        Some(said) => Ok(Some(said)),
+        None => Err(TextError::BadLine(number)),
     }
 }
 
-/// What a line says that isn't silent.
-fn spoken(alloc: Global, line: &[u8]) -> Result<Option<Line>, AllocError>
-    requires { is_silent line.now ≡ false }
-    ensures { IfOk result (λ said. MatchOption said (IsBad line.now) (Says line.now)) }
+/// What is told of a give-up in the line with this number.
+fn give_up_told(alloc: Global, words: &[u8], number: u64) -> Result<Option<Line>, TextError>
+    ensures { (text : List ℕ) → IsBegun text Form.GiveUp (words_of words.now) → IsTold text number result }
 {
-    if line.len() > LONGEST_LINE || is_ragged(line) {
-        return Ok(None);
-    }
-    match first_word(line) {
-        Some((kind, words)) => words_say(alloc, kind, words),
-        None => Ok(None),
-    }
+    told(give_up_said(alloc, words)?, number)
 }
 
 impl Line {
@@ -89,10 +95,12 @@ impl Line {
         if is_silent(line) {
             return Ok(None);
         }
-        let said = spoken(alloc, line)?;
-        if said.is_none() {
+        let Some((form, words)) = begun(line) else {
             return Err(TextError::BadLine(number));
+        };
+        if let Form::GiveUp = form {
+            return give_up_told(alloc, words, number);
         }
-        Ok(said)
+        told(plain_said(form, words), number)
     }
 }
