@@ -1,5 +1,5 @@
 -- Machinery: how reports are kept: in order, and their places by firm and id and by match id.
-use Rattle.std.specs.Prelude.{◌≡◌, ℕ, ◌∷◌, [], Bool, false, List, map, slice_get}
+use Rattle.std.specs.Prelude.{◌≡◌, ℕ, ◌-◌, ◌∷◌, [], Bool, false, List, length, map, slice_get}
 use Rattle.std.specs.Option.{option_map_or}
 use Rattle.gu_terms.specs.Same.{same_id}
 use Rattle.gu_terms.specs.declared.firm.FirmId.{FirmId}
@@ -7,7 +7,7 @@ use Rattle.gu_terms.specs.declared.id.Id.{Id}
 use Rattle.gu_terms.specs.declared.report.Report.{Report}
 use Rattle.gu_terms.specs.declared.seed.Seed.{Seed}
 use Rattle.gu_trades.specs.declared.trades.Trades.TheInside.{Inside}
-use Rattle.gu_trades.specs.Numbered.{number_of}
+use Rattle.gu_trades.specs.Numbered.{last_before, number_of}
 use Rattle.gu_trades.specs.Reports.{is_by}
 use Rattle.gu_trades.specs.Rules.{IsSound}
 
@@ -27,8 +27,13 @@ is_by_at reports firm id place = option_map_or (is_by firm id) (slice_get report
 abbrev pub is_with_at : List Report → Id → ℕ → Bool
 is_with_at reports match_id place = option_map_or (λ (r : Report). same_id r.match_id match_id) (slice_get reports place) false
 
+-- these are the places of the last two reports with this match id, counted from 1, the later one first; 0 where there is none
+pub record ArePlaced (reports : List Report) (match_id : Id) (last first : ℕ) : Type 0 where
+  pub last_is : last ≡ last_before (is_with_at reports match_id) (length reports)
+  pub first_is : first ≡ last_before (is_with_at reports match_id) (last - 1)
+
 -- each report has its numbers, at its place, and the rules hold
 pub record IsKept (kept : Inside) : Type 0 where
-  pub named : kept.by_id.numbers ≡ map (λ (r : Report). id_number kept.seed r.firm r.id) kept.reports.items
-  pub matched : kept.by_match.numbers ≡ map (λ (r : Report). match_number kept.seed r.match_id) kept.reports.items
-  pub sound : IsSound kept.reports.items
+  pub named : kept.by_id.numbers ≡ map (λ (r : Report). id_number kept.seed r.firm r.id) kept.reports
+  pub matched : kept.by_match.numbers ≡ map (λ (r : Report). match_number kept.seed r.match_id) kept.reports
+  pub sound : IsSound kept.reports

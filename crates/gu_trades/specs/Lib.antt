@@ -1,3 +1,4 @@
+pub mod Counterparts
 pub mod Kept
 pub mod Matching
 pub mod Numbered
@@ -5,3 +6,4 @@ pub mod Places
 pub mod Reports
 pub mod Rules
 pub mod Sides
+pub mod Terms

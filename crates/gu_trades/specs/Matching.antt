@@ -5,16 +5,22 @@ use Rattle.gu_terms.specs.declared.report.Report.{Report}
 use Rattle.gu_terms.specs.Same.{same_symbol, same_day, same_side}
 use Rattle.gu_trades.specs.declared.matching.Matching.{Matching}
 use Rattle.gu_trades.specs.declared.matching.Matching.TheVariants.{Opened, Matched}
+use Rattle.gu_trades.specs.declared.terms.Terms.{Terms}
 use Rattle.gu_trades.specs.Reports.{with_match}
+use Rattle.gu_trades.specs.Terms.{terms_of}
 
--- a report is the other side of another: same instrument, lots, price and day, opposite side
-abbrev pub is_other_side : Report → Report → Bool
-is_other_side first second =
+-- terms are those of two sides of one trade: same instrument, lots, price and day, opposite side
+abbrev pub have_other_sides : Terms → Terms → Bool
+have_other_sides first second =
     same_symbol first.symbol second.symbol
     && first.lots == second.lots
     && int_eq first.price second.price
     && same_day first.day second.day
     && not (same_side first.side second.side)
+
+-- a report is the other side of another, by their terms
+abbrev pub is_other_side : Report → Report → Bool
+is_other_side first second = have_other_sides (terms_of first) (terms_of second)
 
 -- the reports with a match id don't go with a new one: they are two, or one that isn't its other side
 abbrev pub conflicts : List Report → Report → Bool

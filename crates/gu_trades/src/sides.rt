@@ -2,8 +2,9 @@
 
 ghost use Rattle.std.specs.Prelude.{◌≡◌};
 ghost use Rattle.gu_trades.specs.Sides.{reports_in};
-ghost use Rattle.gu_trades.specs.Matching.{conflicts, is_other_side, is_trade, is_waiting};
+ghost use Rattle.gu_trades.specs.Matching.{conflicts, is_trade, is_waiting};
 
+use crate::terms::Terms;
 use gu_terms::Report;
 
 /// The reports with one match id, in the order in which they came.
@@ -17,17 +18,6 @@ pub enum Sides {
     Both(Report, Report),
 }
 
-/// Whether two reports are the two sides of one trade.
-fn is_other_side(first: &Report, second: &Report) -> bool
-    ensures { result ≡ is_other_side first.now second.now }
-{
-    first.symbol == second.symbol
-        && first.lots == second.lots
-        && first.price == second.price
-        && first.day == second.day
-        && first.side != second.side
-}
-
 impl Sides {
     /// Whether a new report with this match id can't be taken in: there are two, or one that isn't its other side.
     pub fn conflicts_with(&self, report: &Report) -> bool
@@ -35,7 +25,7 @@ impl Sides {
     {
         match self {
             Sides::Neither => false,
-            Sides::One(first) => !is_other_side(first, report),
+            Sides::One(first) => !Terms::of(first).have_other_sides(&Terms::of(report)),
             Sides::Both(..) => true,
         }
     }

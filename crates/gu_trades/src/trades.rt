@@ -1,26 +1,31 @@
 //! The reports of the house, in the order in which they were taken in.
 
-ghost use Rattle.std.specs.Prelude.{◌≡◌, ◌++◌, ◌∷◌, [], false, Some, Contains, is_some, OnOk, OnErr, IfOk, ◌-◌, ◌<◌, ◌≤◌, length, map, slice_index, true, unwrap_or};
-ghost use Rattle.std.specs.Option.{ForSome};
+ghost use Rattle.std.specs.Prelude.{◌≡◌, ◌++◌, ◌∷◌, [], false, Some, Contains, is_some, OnOk, OnErr, IfOk, ◌-◌, ◌<◌, ◌≤◌, length, map, slice_get, true, unwrap_or};
+ghost use Rattle.std.specs.Option.{ForSome, option_map};
 ghost use Rattle.gu_terms.specs.declared.report.Report.{Report as ReportOf};
-ghost use Rattle.gu_trades.specs.Kept.{id_number, is_by_at, is_with_at, match_number};
-ghost use Rattle.gu_trades.specs.Matching.{conflicts, matching_of};
+ghost use Rattle.gu_trades.specs.Counterparts.{counterpart_of, standing_in};
+ghost use Rattle.gu_trades.specs.Kept.{ArePlaced, id_number, is_by_at, is_with_at, match_number};
+ghost use Rattle.gu_trades.specs.Matching.{conflicts, is_of_trade, matching_of};
 ghost use Rattle.gu_trades.specs.Numbered.{last_before};
-ghost use Rattle.gu_terms.specs.Same.{same_id};
-ghost use Rattle.gu_trades.specs.Reports.{has_report, is_by, report_by, report_of, with_match};
-ghost use Rattle.gu_trades.specs.Rules.{IsSound};
+ghost use Rattle.gu_trades.specs.Reports.{has_report, report_by, report_of, with_match};
+ghost use Rattle.gu_trades.specs.Rules.{IsSound, are_sides};
 ghost use Rattle.gu_trades.specs.Sides.{reports_in};
+ghost use Rattle.gu_trades.specs.Terms.{report_with, terms_of};
 
+use crate::counterpart::Counterpart;
 use crate::matching::Matching;
 use crate::places::{Places, number_of};
+use crate::reports::Reports;
 use crate::sides::Sides;
+use crate::standing::Standing;
+use crate::terms::Terms;
 use gu_terms::{AccountId, Day, FirmId, Id, Lots, Price, Report, Seed, Side, Symbol};
 use std::alloc::{AllocError, Global};
 use std::marker::Model;
 
 /// The reports that were taken in, each id of a firm once, and each match id once or as a trade. To a contract it is the list of them.
 pub struct Trades {
-    reports: Vec<Report>,
+    reports: Reports,
     by_id: Places,
     by_match: Places,
     seed: Seed,
@@ -48,7 +53,7 @@ impl Model for Trades {
 
     ghost use Rattle.gu_trades.specs.Kept.{IsKept};
 
-    ghost view = { λ t. t.reports.items };
+    ghost view = { λ t. t.reports };
 
     ghost invariant = { IsKept };
 }
@@ -57,32 +62,25 @@ impl Model for Trades {
 fn id_number(seed: &Seed, firm: &FirmId, id: &Id) -> u32
     ensures { result ≡ id_number seed.now firm.now id.now }
 {
-    number_of(seed, (*firm, *id))
+    number_of(seed, (firm, id))
 }
 
 /// The number that is kept of a match id.
 fn match_number(seed: &Seed, match_id: &Id) -> u32
     ensures { result ≡ match_number seed.now match_id.now }
 {
-    number_of(seed, *match_id)
-}
-
-/// Whether a report is the firm's with this id.
-fn is_by(report: &Report, firm: &FirmId, id: &Id) -> bool
-    ensures { result ≡ is_by firm.now id.now report.now }
-{
-    report.firm == *firm && report.id == *id
+    number_of(seed, match_id)
 }
 
 /// The place of the firm's last report with this id, counted from 1; 0 where there is none.
-fn last_by(reports: &[Report], places: &Places, seed: &Seed, firm: &FirmId, id: &Id) -> u32
+fn last_by(reports: &Reports, places: &Places, seed: &Seed, firm: &FirmId, id: &Id) -> u32
     requires { places.now.numbers ≡ map (λ (r : ReportOf). id_number seed.now r.firm r.id) reports.now }
     ensures { result ≡ last_before (is_by_at reports.now firm.now id.now) (length reports.now) }
 {
     let mut at = places.last(id_number(seed, firm, id));
     while at > 0 {
         let place = at as usize - 1;
-        if is_by(&reports[place], firm, id) {
+        if reports.is_by(place, firm, id) {
             return at;
         }
         at = places.before(place);
@@ -90,17 +88,10 @@ fn last_by(reports: &[Report], places: &Places, seed: &Seed, firm: &FirmId, id: 
     0
 }
 
-/// Whether a report has this match id.
-fn is_with(report: &Report, match_id: &Id) -> bool
-    ensures { result ≡ same_id report.now.match_id match_id.now }
-{
-    report.match_id == *match_id
-}
-
 /// The place of the last report with this match id, whose number this is, or of the last one below a place that has it, counted
 /// from 1; 0 where there is none.
 fn last_with(
-    reports: &[Report],
+    reports: &Reports,
     places: &Places,
     seed: &Seed,
     match_id: &Id,
@@ -118,7 +109,7 @@ fn last_with(
     };
     while at > 0 {
         let place = at as usize - 1;
-        if is_with(&reports[place], match_id) {
+        if reports.is_with(place, match_id) {
             return at;
         }
         at = places.before(place);
@@ -129,25 +120,26 @@ fn last_with(
 /// Puts a report behind the others, and its place under the number of its firm and id and under that of its match id. The growths come
 /// first, so that a refusal leaves all as it was.
 fn add(
-    reports: &mut Vec<Report>,
+    reports: &mut Reports,
     by_id: &mut Places,
     by_match: &mut Places,
-    id_number: u32,
-    match_number: u32,
-    report: &Report,
+    seed: &Seed,
+    firm: &FirmId,
+    id: &Id,
+    match_id: &Id,
+    terms: &Terms,
 ) -> Result<(), AllocError>
-    ensures added { OnOk result (reports.new.items ≡ reports.old.items ++ report.now ∷ []) }
-    ensures named { OnOk result (by_id.new.numbers ≡ by_id.old.numbers ++ id_number ∷ []) }
-    ensures matched { OnOk result (by_match.new.numbers ≡ by_match.old.numbers ++ match_number ∷ []) }
-    ensures err { OnErr result ((reports.new.items ≡ reports.old.items)
+    ensures added { OnOk result (reports.new ≡ reports.old ++ report_with firm.now id.now match_id.now terms.now ∷ []) }
+    ensures named { OnOk result (by_id.new.numbers ≡ by_id.old.numbers ++ id_number seed.now firm.now id.now ∷ []) }
+    ensures matched { OnOk result (by_match.new.numbers ≡ by_match.old.numbers ++ match_number seed.now match_id.now ∷ []) }
+    ensures err { OnErr result ((reports.new ≡ reports.old)
         × (by_id.new.numbers ≡ by_id.old.numbers) × (by_match.new.numbers ≡ by_match.old.numbers)) }
 {
-    reports.reserve(1)?;
     by_id.reserve()?;
     by_match.reserve()?;
-    let _ = reports.push(*report);
-    by_id.push(id_number);
-    by_match.push(match_number);
+    reports.push(firm, id, match_id, terms)?;
+    by_id.push(id_number(seed, firm, id));
+    by_match.push(match_number(seed, match_id));
     Ok(())
 }
 
@@ -164,7 +156,7 @@ impl Trades {
         ensures { result ≡ [] }
     {
         Trades {
-            reports: Vec::new(alloc),
+            reports: Reports::new(alloc),
             by_id: Places::new(alloc),
             by_match: Places::new(alloc),
             seed,
@@ -180,43 +172,65 @@ impl Trades {
         let _ = &self.reports;
     }
 
-    /// All reports, in the order in which they were taken in.
-    pub fn as_slice(&self) -> &[Report]
-        ensures { result.now ≡ self.now }
+    /// The places of the last two reports with this match id, counted from 1, the later one first; 0 where there is none.
+    fn last_two(&self, match_id: &Id) -> (u32, u32)
+        ensures placed { ArePlaced self.now match_id.now result.0 result.1 }
+        ensures sound { are_sides (with_match match_id.now self.now) ≡ true }
     {
-        self.reports.as_slice()
+        let number = match_number(&self.seed, match_id);
+        let last = last_with(
+            &self.reports,
+            &self.by_match,
+            &self.seed,
+            match_id,
+            number,
+            None,
+        );
+        if last == 0 {
+            return (0, 0);
+        }
+        let first = last_with(
+            &self.reports,
+            &self.by_match,
+            &self.seed,
+            match_id,
+            number,
+            Some(last as usize - 1),
+        );
+        (last, first)
     }
 
     /// The reports with this match id, two at most, in the order in which they came.
     pub fn trade(&self, match_id: Id) -> Sides
         ensures { reports_in result ≡ with_match match_id self.now }
     {
-        let number = match_number(&self.seed, &match_id);
-        let last = last_with(
-            &self.reports,
-            &self.by_match,
-            &self.seed,
-            &match_id,
-            number,
-            None,
-        );
+        let (last, first) = self.last_two(&match_id);
         if last == 0 {
             return Sides::Neither;
         }
-        let place = last as usize - 1;
-        let first = last_with(
-            &self.reports,
-            &self.by_match,
-            &self.seed,
-            &match_id,
-            number,
-            Some(place),
-        );
+        let later = self.reports.report(last as usize - 1);
         if first == 0 {
-            Sides::One(self.reports[place])
+            return Sides::One(later);
+        }
+        Sides::Both(self.reports.report(first as usize - 1), later)
+    }
+
+    /// What a new report with this match id and these terms meets.
+    pub fn counterpart(&self, match_id: &Id, terms: &Terms) -> Counterpart
+        ensures { result ≡ counterpart_of (with_match match_id.now self.now) terms.now }
+    {
+        let (last, first) = self.last_two(match_id);
+        if last == 0 {
+            return Counterpart::Nobody;
+        }
+        if first != 0 {
+            return Counterpart::Conflicting;
+        }
+        let waiting = self.reports.terms(last as usize - 1);
+        if waiting.have_other_sides(terms) {
+            Counterpart::Waiting(waiting)
         } else {
-            let earlier = self.reports[first as usize - 1];
-            Sides::Both(earlier, self.reports[place])
+            Counterpart::Conflicting
         }
     }
 
@@ -229,7 +243,40 @@ impl Trades {
         if at == 0 {
             return None;
         }
-        Some(self.reports[at as usize - 1])
+        Some(self.reports.report(at as usize - 1))
+    }
+
+    /// Whether the firm has a report with this id.
+    pub fn has(&self, firm: &FirmId, id: &Id) -> bool
+        ensures { result ≡ has_report self.now firm.now id.now }
+    {
+        last_by(&self.reports, &self.by_id, &self.seed, firm, id) != 0
+    }
+
+    /// The terms of the firm's report with this id.
+    pub fn terms(&self, firm: &FirmId, id: &Id) -> Option<Terms>
+        ensures { result ≡ option_map terms_of (report_by self.now firm.now id.now) }
+    {
+        let at = last_by(&self.reports, &self.by_id, &self.seed, firm, id);
+        if at == 0 {
+            return None;
+        }
+        Some(self.reports.terms(at as usize - 1))
+    }
+
+    /// The firm's report with this id, as it stands.
+    pub fn standing(&self, firm: &FirmId, id: &Id) -> Option<Standing>
+        ensures { result ≡ option_map (standing_in self.now) (report_by self.now firm.now id.now) }
+    {
+        let at = last_by(&self.reports, &self.by_id, &self.seed, firm, id);
+        if at == 0 {
+            return None;
+        }
+        let place = at as usize - 1;
+        Some(Standing {
+            terms: self.reports.terms(place),
+            is_of_trade: self.is_of_trade(place),
+        })
     }
 
     /// Takes in a report whose id is new, and whose match id has no report or its other side alone.
@@ -266,6 +313,15 @@ impl Trades {
         Ok(matching)
     }
 
+    /// Whether the report at a place is a side of a trade.
+    fn is_of_trade(&self, place: usize) -> bool
+        requires { place < length self.now }
+        ensures { option_map (is_of_trade self.now) (slice_get self.now place) ≡ Some result }
+    {
+        let (_, first) = self.last_two(&self.reports.match_id(place));
+        first != 0
+    }
+
     /// What one more report with this match id does.
     fn matching(&self, match_id: &Id) -> Matching
         ensures { result ≡ matching_of (with_match match_id.now self.now) }
@@ -289,15 +345,32 @@ impl Trades {
         ensures taken { OnOk result (self.new ≡ self.old ++ report.now ∷ []) }
         ensures refused { OnErr result (self.new ≡ self.old) }
     {
-        let id_number = id_number(&self.seed, &report.firm, &report.id);
-        let match_number = match_number(&self.seed, &report.match_id);
+        let terms = Terms::of(report);
+        self.push_terms(&report.firm, &report.id, &report.match_id, &terms)
+    }
+
+    /// Takes in the report of a firm, with its ids and these terms, as `push` does.
+    pub fn push_terms(
+        &mut self,
+        firm: &FirmId,
+        id: &Id,
+        match_id: &Id,
+        terms: &Terms,
+    ) -> Result<(), AllocError>
+        requires new_id { has_report self.old firm.now id.now ≡ false }
+        requires fits { conflicts (with_match match_id.now self.old) (report_with firm.now id.now match_id.now terms.now) ≡ false }
+        ensures taken { OnOk result (self.new ≡ self.old ++ report_with firm.now id.now match_id.now terms.now ∷ []) }
+        ensures refused { OnErr result (self.new ≡ self.old) }
+    {
         add(
             &mut self.reports,
             &mut self.by_id,
             &mut self.by_match,
-            id_number,
-            match_number,
-            report,
+            &self.seed,
+            firm,
+            id,
+            match_id,
+            terms,
         )?;
         Ok(())
     }

@@ -6,6 +6,5 @@ use Rattle.gu_trades.proofs.trades.Trades.matching.Goals as goal
 
 pub returns : goal.returns
 returns c =
-    let last = rw c.deref.ensures.value at c.last_with-last.ensures in
-    c.behind.ensures ∙ matching-is c.self.inside.reports.items c.args.match_id.now c.last_with-last.result last
+    c.behind.ensures ∙ matching-is c.self.inside.reports c.args.match_id.now c.last_with-last.result c.last_with-last.ensures
     ∙ ap (λ reports. matching_of (with_match c.args.match_id.now reports)) c.self.view_is

@@ -1,27 +1,23 @@
 use Rattle.std.proofs.Common.{◌∙◌, sym, ap, is_some}
 use Rattle.gu_ref.proofs.Lookups.{is_some-find}
 use Rattle.gu_trades.specs.Reports.{is_by, report_by}
-use Rattle.gu_trades.proofs.ReportPlaces.{by-none, by-some, by-within}
+use Rattle.gu_trades.proofs.ReportPlaces.{by-found, by-none, by-within}
 use Rattle.gu_trades.proofs.trades.Trades.side_of.Goals as goal
 
 pub returns-then-at-eq0-clause-found : goal.returns-then-at-eq0-clause-found
 returns-then-at-eq0-clause-found c =
-    let last = rw c.deref.ensures.value at c.last_by-at.ensures in
-    sym (by-none c.self.inside.reports.items c.args.firm c.args.id c.last_by-at.result c.self.invariant.sound last c.if-at-eq0.true)
+    sym (by-none c.self.inside.reports c.args.firm c.args.id c.last_by-at.result c.self.invariant.sound c.last_by-at.ensures c.if-at-eq0.true)
     ∙ ap (λ reports. report_by reports c.args.firm c.args.id) c.self.view_is
 
 pub returns-then-at-eq0-clause-known : goal.returns-then-at-eq0-clause-known
 returns-then-at-eq0-clause-known c = ap is_some (returns-then-at-eq0-clause-found c) ∙ is_some-find (is_by c.args.firm c.args.id) c.args.self.now
 
-pub index-requires : goal.index-requires
-index-requires c =
-    let last = rw c.deref.ensures.value at c.last_by-at.ensures in
-    rw c.self.inside.reports.ok.0 (by-within c.self.inside.reports.items c.args.firm c.args.id c.last_by-at.result c.self.invariant.sound last c.if-at-eq0.false)
+pub report-requires : goal.report-requires
+report-requires c = by-within c.self.inside.reports c.args.firm c.args.id c.last_by-at.result c.self.invariant.sound c.last_by-at.ensures c.if-at-eq0.false
 
 pub returns-clause-found : goal.returns-clause-found
 returns-clause-found c =
-    let last = rw c.deref.ensures.value at c.last_by-at.ensures in
-    sym (by-some c.self.inside.reports.items c.args.firm c.args.id c.last_by-at.result c.self.invariant.sound last c.if-at-eq0.false c.index.result.now c.index.ensures)
+    sym c.report.ensures ∙ sym (by-found c.self.inside.reports c.args.firm c.args.id c.last_by-at.result c.self.invariant.sound c.last_by-at.ensures c.if-at-eq0.false)
     ∙ ap (λ reports. report_by reports c.args.firm c.args.id) c.self.view_is
 
 pub returns-clause-known : goal.returns-clause-known

@@ -1,0 +1,11 @@
+//! A report as it stands.
+
+use crate::terms::Terms;
+
+/// A report that was taken in, as it stands among the others.
+#[derive(Clone, Copy, Debug, PartialEq, Eq)]
+pub struct Standing {
+    pub terms: Terms,
+    /// Whether its match id has two reports, which are a trade.
+    pub is_of_trade: bool,
+}
