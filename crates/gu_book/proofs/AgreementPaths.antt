@@ -91,23 +91,3 @@ goes_through reference id path at = by (agreement_row reference id) refl at
             → option_map {U = List LimitKey} (λ c. path_through a.executing id a.account c.firm (guarantor_of reference c.firm)) carried ≡ Some path → GoesThrough reference id path
         of None e h = cc
         of (Some c) e h = let same : path_through a.executing id a.account c.firm (guarantor_of reference c.firm) ≡ path = cc in record { executing = a.executing; account = a.account; carried = c; there = e; is = sym same }
-
-shown_made : (reference : Tables) (rows : List Row) (number : ℕ) (row : Row) (id : AgreementId) (path : List LimitKey) → row_at rows number ≡ Some row
-    → agreement_between reference row.offer.firm row.offer.account ≡ Some id → path_of reference id ≡ Some path
-    → option_map {U = Offer} (λ path. record { number = number; lots = left_in rows number; agreement = id; path = path }) (path_of reference id) ≡ shown_at reference rows number
-shown_made reference rows number row id path at own is = rw (at, own, is) refl
-
--- an offer, as a view shows it, with the path of its agreement
-pub shown_at-is : (reference : Tables) → IsSound reference → (rows : List Row) (number : ℕ) (offer : GivenUp) (id : AgreementId) → option_map (λ (r : Row). r.offer) (row_at rows number) ≡ Some offer
-    → agreement_between reference offer.firm offer.account ≡ Some id
-    → option_map {U = Offer} (λ path. record { number = number; lots = left_in rows number; agreement = id; path = path }) (path_of reference id) ≡ shown_at reference rows number
-shown_at-is reference sound rows number offer id stands between = by (row_at rows number) refl stands
-  where
-    by : (found : Option Row) → row_at rows number ≡ found → option_map (λ (r : Row). r.offer) found ≡ Some offer
-        → option_map {U = Offer} (λ path. record { number = number; lots = left_in rows number; agreement = id; path = path }) (path_of reference id) ≡ shown_at reference rows number
-    by None e h = cc
-    by (Some row) e h =
-        let same : row.offer ≡ offer = cc in
-        let own : agreement_between reference row.offer.firm row.offer.account ≡ Some id = (λ i. agreement_between reference (same i).firm (same i).account) ∙ between in
-        let path = path-there reference sound offer.firm offer.account id between in
-        shown_made reference rows number row id path.0 e own path.1

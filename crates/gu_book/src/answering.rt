@@ -14,7 +14,7 @@ ghost use Rattle.gu_offers.specs.Rows.{left_in, today_in};
 ghost use Rattle.gu_book.specs.Limits.{path_behind};
 
 use crate::totals::Totals;
-use gu_limits::{LimitTable, path};
+use gu_limits::{LimitTable, path_between};
 use gu_ref::Reference;
 use gu_terms::{
     AllocReject, Command, Day, Done, FirmId, Group, Id, LimitKey, Line, Lines, Lots, MOST_LIMIT,
@@ -231,7 +231,8 @@ pub fn path_of_offer(reference: &Reference, offer: &Offer) -> Option<Path>
     ensures keys { unwrap_or result [] ≡ path_behind reference.now offer.now }
     ensures once { IfSome result (IsDistinct key_eq) }
 {
-    path(reference, reference.between(offer.firm, offer.account)?)
+    let (_, path) = path_between(reference, offer.firm, offer.account)?;
+    Some(path)
 }
 
 /// The first key of a path under which there is less room than these lots.

@@ -11,29 +11,11 @@ ghost use Rattle.gu_book.specs.Shown.{offers_in, rooms_in, shown_at, view_in};
 
 use crate::totals::Totals;
 use crate::versions::Versions;
-use gu_limits::{LimitTable, path};
+use gu_limits::{LimitTable, path_between};
 use gu_ref::Reference;
 use gu_terms::{AgreementId, Group, LimitKey, OfferNo};
 use gu_view::{KeyedOffers, Offer, Room, View};
 use std::alloc::{AllocError, Global};
-
-/// So many lots of the offer of a number, given up by an agreement, as a view shows them.
-fn shown_by(
-    reference: &Reference,
-    number: &OfferNo,
-    lots: u64,
-    agreement: &AgreementId,
-) -> Option<Offer>
-    ensures { result ≡ option_map (λ path. record { number = number.now; lots = lots; agreement = agreement.now; path = path }) (path_of reference.now agreement.now) }
-{
-    let path = path(reference, *agreement)?;
-    Some(Offer {
-        number: *number,
-        lots,
-        agreement: *agreement,
-        path,
-    })
-}
 
 /// The offer of a number, as a view shows it: what is left of it, its agreement and its path. It takes no memory.
 pub fn shown_offer(reference: &Reference, totals: &Totals, number: u64) -> Option<Offer>
@@ -44,8 +26,14 @@ pub fn shown_offer(reference: &Reference, totals: &Totals, number: u64) -> Optio
     reference.rules();
     let number = OfferNo::new(number)?;
     let offer = totals.offers.get(number)?;
-    let agreement = reference.between(offer.firm, offer.account)?;
-    shown_by(reference, &number, totals.offers.left(number), &agreement)
+    let (agreement, path) = path_between(reference, offer.firm, offer.account)?;
+    let lots = totals.offers.left(number);
+    Some(Offer {
+        number,
+        lots,
+        agreement,
+        path,
+    })
 }
 
 /// Appends an offer, if there is one.

@@ -1,6 +1,7 @@
 -- The account of each agreement is there.
-use Rattle.std.proofs.Common.{◌≡◌, ◌∙◌, sym, refl, ap, Bool, true, false, cond, ◌&&◌, is_some, List, [], ◌∷◌, Some}
+use Rattle.std.proofs.Common.{◌≡◌, ◌∙◌, sym, refl, ap, Bool, true, false, cond, ◌&&◌, is_some, List, [], ◌∷◌, Option, None, Some}
 use Rattle.std.specs.List.{find, list_all}
+use Rattle.std.specs.Option.{option_map}
 use Rattle.std.proofs.lemmas.List.Sums.{list_all-from_AllPass}
 use Rattle.gu_terms.specs.declared.agreement.AgreementId.{AgreementId}
 use Rattle.gu_ref.specs.declared.agreements.Agreement.{Agreement}
@@ -32,3 +33,8 @@ account_is_there reference sound id agreement found =
     let known : Agreement → Bool = λ a. is_firm reference a.executing && is_some (account_row reference a.account) in
     right_passes (is_firm reference agreement.executing) (is_some (account_row reference agreement.account))
     (found_passes known (λ a. same_agreement a.id id) reference.agreements agreement (list_all-from_AllPass known reference.agreements sound.parties) found)
+
+-- and what is made of a row that is there is there
+pub is_some-option_map : {X Y : Type 0} (f : X → Y) (row : Option X) → is_some row ≡ true → is_some (option_map f row) ≡ true
+is_some-option_map f None there = cc
+is_some-option_map f (Some x) there = refl

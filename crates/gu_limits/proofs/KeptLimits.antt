@@ -16,13 +16,12 @@ use Rattle.gu_terms.specs.LimitKeys.{key_eq}
 use Rattle.gu_terms.specs.Same.{same_group}
 use Rattle.gu_terms.specs.declared.group.Group.{Group}
 use Rattle.gu_terms.specs.declared.limit_key.LimitKey.{LimitKey}
-use Rattle.gu_terms.specs.declared.limit_row.LimitRow.{LimitRow}
 use Rattle.gu_limits.specs.contracts.table.GroupKeyPartialEq.TheImpl as group_key
 use Rattle.gu_limits.specs.declared.table.GroupKey.{GroupKey}
 use Rattle.gu_limits.specs.declared.table.KeptLimit.{KeptLimit}
 use Rattle.gu_limits.specs.Changes.{limits_after_charge, limits_after_return, limits_after_setting, limits_of_new_day, lots_under}
 use Rattle.gu_limits.specs.Kept.{IsWithin, limit_on, set_to, unused, used_on, with_use}
-use Rattle.gu_limits.specs.Limits.{GroupLimit, has_limit, is_of, limit_for, limit_in, room_in, row_in, same_limit, same_place, used_in}
+use Rattle.gu_limits.specs.Limits.{GroupLimit, has_limit, is_of, limit_and_use, limit_for, limit_in, room_in, same_limit, same_place, used_in}
 use Rattle.gu_limits.proofs.LimitLemmas.{same_place-one, same_place-refl, same_place-sym}
 
 -- ---- the `==` of groups and keys, by which the map finds limits
@@ -83,17 +82,12 @@ module _ (day : ℕ) (on : GroupKey) where
         ap (λ o. option_map_or (λ (l : GroupLimit). l.used) o 0) (limit_for-kept es)
         ∙ elim (lookup (same on) es) as (λ o. option_map_or (λ (l : GroupLimit). l.used) (option_map (λ kept. limit_on day (on, kept)) o) 0 ≡ option_map_or (used_on day) o 0) [ None ↦ refl | Some kept ↦ refl ]
 
-    -- its row
-    pub row-kept : row_in (map (limit_on day) es) on.group on.key
-        ≡ option_map (λ kept. record { key = on.key; limit = kept.limit; used = used_on day kept; room = kept.limit - used_on day kept }) (lookup (same on) es)
-    row-kept =
-        let row : Option GroupLimit → Option LimitRow = λ o.
-        let limit = option_map_or (λ (l : GroupLimit). l.limit) o 0 in
-        let used = option_map_or (λ (l : GroupLimit). l.used) o 0 in
-        cond (is_some o) (Some (record { key = on.key; limit = limit; used = used; room = limit - used })) None in
-        ap row (limit_for-kept es)
+    -- both of them
+    pub limit_and_use-kept : limit_and_use (map (limit_on day) es) on.group on.key ≡ option_map (λ kept. (kept.limit, used_on day kept)) (lookup (same on) es)
+    limit_and_use-kept =
+        ap (option_map (λ (l : GroupLimit). (l.limit, l.used))) (limit_for-kept es)
         ∙ elim (lookup (same on) es) as
-        (λ o. row (option_map (λ kept. limit_on day (on, kept)) o) ≡ option_map (λ kept. record { key = on.key; limit = kept.limit; used = used_on day kept; room = kept.limit - used_on day kept }) o)
+        (λ o. option_map (λ (l : GroupLimit). (l.limit, l.used)) (option_map (λ kept. limit_on day (on, kept)) o) ≡ option_map {U = ℕ × ℕ} (λ kept. (kept.limit, used_on day kept)) o)
         [ None ↦ refl | Some kept ↦ refl ]
 
 none-apart : IsDistinct same_limit []

@@ -3,3 +3,4 @@ mod CarriedAccounts
 pub mod KeptLimits
 pub mod LimitLemmas
 pub mod PathKeys
+pub mod RowsBetween

@@ -6,5 +6,5 @@ mod paths;
 mod table;
 
 pub use error::SetError;
-pub use paths::path;
+pub use paths::{path, path_between};
 pub use table::LimitTable;

@@ -1,17 +1,36 @@
 //! The path of an agreement.
 
-ghost use Rattle.std.specs.Prelude.{◌≡◌, ◌↔◌, IfSome, IsNone, None};
+ghost use Rattle.std.specs.Prelude.{◌≡◌, ◌↔◌, IfSome, IsNone, None, Some};
 ghost use Rattle.std.specs.List.{IsDistinct};
+ghost use Rattle.std.specs.Option.{option_map};
 ghost use Rattle.gu_terms.specs.LimitKeys.{key_eq};
-ghost use Rattle.gu_ref.specs.Reference.{agreement_row};
+ghost use Rattle.gu_terms.specs.Paths.{path_through};
+ghost use Rattle.gu_ref.specs.Reference.{account_row, agreement_between, agreement_row, guarantor_of};
 ghost use Rattle.gu_limits.specs.Paths.{path_of};
 
 use gu_ref::Reference;
-use gu_terms::{AgreementId, Path};
+use gu_terms::{AccountId, AgreementId, FirmId, Path};
+
+/// The path through an executing firm, its agreement and the agreement's account.
+#[tactic(auto, using(crate::proofs::PathKeys::kinds_differ))]
+fn through(
+    reference: &Reference,
+    executing: &FirmId,
+    agreement: &AgreementId,
+    account: &AccountId,
+) -> Option<Path>
+    ensures keys { result ≡ option_map
+        (λ carried. path_through executing.now agreement.now account.now carried.firm (guarantor_of reference.now carried.firm))
+        (account_row reference.now account.now) }
+    ensures once { IfSome result (IsDistinct key_eq) }
+{
+    let carrying = reference.account(*account)?.firm;
+    let guarantor = reference.guarantor(carrying);
+    Some(Path::new(*executing, *agreement, *account, carrying, guarantor))
+}
 
 /// The keys that an agreement's offers come under, in order: executing firm, agreement, account, the firm that carries the
 /// account, and that firm's guarantor, where it has one. A guarantor's own guarantor isn't followed, and no key stands twice.
-#[tactic(auto, using(crate::proofs::PathKeys::kinds_differ))]
 pub fn path(reference: &Reference, agreement: AgreementId) -> Option<Path>
     ensures keys { result ≡ path_of reference.now agreement }
     ensures once { IfSome result (IsDistinct key_eq) }
@@ -19,8 +38,21 @@ pub fn path(reference: &Reference, agreement: AgreementId) -> Option<Path>
 {
     reference.rules();
     let parties = reference.agreement(agreement)?;
-    let account = parties.account;
-    let carrying = reference.account(account)?.firm;
-    let guarantor = reference.guarantor(carrying);
-    Some(Path::new(parties.executing, agreement, account, carrying, guarantor))
+    through(reference, &parties.executing, &agreement, &parties.account)
+}
+
+/// The agreement by which an executing firm gives trades up to an account, with its path.
+pub fn path_between(
+    reference: &Reference,
+    executing: FirmId,
+    account: AccountId,
+) -> Option<(AgreementId, Path)>
+    ensures agreement { option_map (λ p. p.0) result ≡ agreement_between reference.now executing account }
+    ensures keys { IfSome result (λ p. path_of reference.now p.0 ≡ Some p.1) }
+    ensures once { IfSome result (λ p. IsDistinct key_eq p.1) }
+{
+    reference.rules();
+    let agreement = reference.between(executing, account)?;
+    let path = through(reference, &executing, &agreement, &account)?;
+    Some((agreement, path))
 }

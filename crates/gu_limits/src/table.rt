@@ -9,7 +9,7 @@ ghost use Rattle.gu_terms.specs.declared.group.Group.{Group as GroupOf};
 ghost use Rattle.gu_terms.specs.declared.limit_key.LimitKey.{LimitKey as LimitKeyOf};
 ghost use Rattle.gu_limits.specs.Changes.{limits_after_charge, limits_after_return, limits_after_setting, limits_of_new_day, lots_under, SameLimits, SameUses};
 ghost use Rattle.gu_limits.specs.Kept.{set_to, unused, used_on, with_use};
-ghost use Rattle.gu_limits.specs.Limits.{has_limit, limit_in, room_in, row_in, same_limit, same_place, used_in};
+ghost use Rattle.gu_limits.specs.Limits.{has_limit, limit_and_use, limit_in, room_in, row_in, same_limit, same_place, used_in};
 
 use crate::error::SetError;
 use gu_terms::{Group, LimitKey, LimitRow, MOST_LIMIT, Path};
@@ -90,17 +90,23 @@ impl LimitTable {
         let _ = self.limits.len();
     }
 
-    /// A limit as it stands, where one was set.
-    pub fn row(&self, group: &Group, key: &LimitKey) -> Option<LimitRow>
-        ensures { result ≡ row_in self.now group.now key.now }
+    /// The lots that were set and those that are used of a limit, where one was set.
+    fn limit_and_use(&self, group: &Group, key: &LimitKey) -> Option<(u64, u64)>
+        ensures { result ≡ limit_and_use self.now group.now key.now }
     {
         let on = GroupKey {
             group: *group,
             key: *key,
         };
         let kept = self.limits.get(&on)?;
-        let limit = kept.limit;
-        let used = kept.used_on(self.day);
+        Some((kept.limit, kept.used_on(self.day)))
+    }
+
+    /// A limit as it stands, where one was set.
+    pub fn row(&self, group: &Group, key: &LimitKey) -> Option<LimitRow>
+        ensures { result ≡ row_in self.now group.now key.now }
+    {
+        let (limit, used) = self.limit_and_use(group, key)?;
         Some(LimitRow {
             key: *key,
             limit,
@@ -113,8 +119,8 @@ impl LimitTable {
     pub fn room(&self, group: &Group, key: &LimitKey) -> u64
         ensures { result ≡ room_in self.now group.now key.now }
     {
-        match self.row(group, key) {
-            Some(row) => row.room,
+        match self.limit_and_use(group, key) {
+            Some((limit, used)) => limit.saturating_sub(used),
             None => 0,
         }
     }

@@ -424,8 +424,3 @@ in_order-own rooms apart = each rooms (own_lots rooms apart)
     each (r ∷ some) own =
         let rest = each some own.1 in
         λ i. (let it : Room = record { key = r.key; lots = unwrap_or (own.0 i) 0 } in it) ∷ rest i
-
-pub in_order-in_order : (keys : List LimitKey) (rooms : List Room) → Later (λ a b. key_eq a b ≡ false) keys → in_order keys (in_order keys rooms) ≡ in_order keys rooms
-in_order-in_order keys rooms apart =
-    let own = in_order-keys keys rooms in
-    ap (λ l. in_order l (in_order keys rooms)) (sym own) ∙ in_order-own (in_order keys rooms) (subst (Later (λ a b. key_eq a b ≡ false)) (sym own) apart)

@@ -1,6 +1,6 @@
 //! Offers with the keys of their paths, in order of first mention.
 
-ghost use Rattle.std.specs.Prelude.{◌≡◌, ◌+◌, ◌*◌, ◌≤◌, ◌^◌, ◌++◌, None, List, IfOk, IsTrue, length, map, take};
+ghost use Rattle.std.specs.Prelude.{◌≡◌, ◌+◌, ◌*◌, ◌≤◌, ◌^◌, ◌++◌, ◌∷◌, [], None, List, IfOk, IsTrue, OnOk, length, map};
 ghost use Rattle.gu_terms.specs.LimitKeys.{has_key};
 ghost use Rattle.gu_terms.specs.declared.limit_key.LimitKey.{LimitKey};
 ghost use Rattle.gu_view.specs.Keeping.{IsKeyed};
@@ -39,25 +39,29 @@ impl Model for KeyedOffers {
     ghost invariant = { λ k. IsKeyed k.offers.items k.keys.keys k.places };
 }
 
-/// Mentions the keys of a path. The answer is their places, and 0 behind them.
-fn mention(keys: &mut IndexSet<LimitKey>, path: &[LimitKey]) -> Result<[u32; MOST_KEYS], AllocError>
+/// Mentions the keys of a path, and adds the list of their places.
+fn mention(
+    keys: &mut IndexSet<LimitKey>,
+    places: &mut PlaceLists,
+    path: &[LimitKey],
+) -> Result<(), AllocError>
     requires room { length keys.old.keys + length path.now ≤ 2 ^ 32 }
     requires short { length path.now ≤ 5 }
-    ensures first { IfOk result (λ _. (mentioned : List LimitKey)
+    ensures first { OnOk result ((mentioned : List LimitKey)
         → keys.old.keys ≡ firsts mentioned
         → keys.new.keys ≡ firsts (mentioned ++ path.now)) }
-    ensures few { IfOk result (λ _. length keys.new.keys ≤ length keys.old.keys + length path.now) }
-    ensures stay { IfOk result (λ _. (k : LimitKey)
+    ensures few { OnOk result (length keys.new.keys ≤ length keys.old.keys + length path.now) }
+    ensures stay { OnOk result ((k : LimitKey)
         → IsTrue (has_key keys.old.keys k)
         → place_among keys.new.keys k ≡ place_among keys.old.keys k) }
-    ensures places { IfOk result (λ places. take (length path.now) places ≡ map (place_among keys.new.keys) path.now) }
+    ensures places { OnOk result (places.new ≡ places.old ++ map (place_among keys.new.keys) path.now ∷ []) }
 {
-    let mut places = [0; MOST_KEYS];
+    let mut list = [0; MOST_KEYS];
     for (at, key) in path.iter().enumerate() {
         let (place, _) = keys.insert_full(*key)?;
-        places[at] = place as u32;
+        list[at] = place as u32;
     }
-    Ok(places)
+    places.push(&list[..path.len()])
 }
 
 /// The keys of the offers' paths, in order of first mention, and for each offer the places of its path's keys. So many keys are
@@ -76,8 +80,7 @@ fn keyed(
     let mut places = PlaceLists::with_room(alloc, offers.len(), offers.len() * MOST_KEYS)?;
     for offer in offers {
         let path = offer.path.keys();
-        let list = mention(&mut keys, path)?;
-        places.push(&list[..path.len()])?;
+        mention(&mut keys, &mut places, path)?;
     }
     Ok((keys, places))
 }

@@ -1,9 +1,9 @@
 //! Views of groups.
 
-ghost use Rattle.std.specs.Prelude.{◌≡◌, ℕ, ◌<◌, ◌≤◌, ◌↔◌, IfErr, IfOk, IfSome, IsTrue, OnOk, length, map, All, position, slice_get};
+ghost use Rattle.std.specs.Prelude.{◌≡◌, ℕ, ◌<◌, ◌≤◌, ◌↔◌, IfErr, IfOk, IfSome, IsTrue, MatchOption, OnOk, length, map, All, position, slice_get};
 ghost use Rattle.gu_terms.specs.LimitKeys.{key_eq};
 ghost use Rattle.gu_terms.specs.declared.limit_key.LimitKey.TheVariants.{Agr};
-ghost use Rattle.gu_view.specs.Making.{bad_offer, view_of, MakesView, Refuses};
+ghost use Rattle.gu_view.specs.Making.{bad_offer, view_of, AreRooms, MakesView, Refuses};
 ghost use Rattle.gu_view.specs.View.{IsView, IsNested, keys_of, place_of, places_under};
 
 use crate::error::ViewError;
@@ -106,9 +106,24 @@ impl View {
             return Err(ViewError::PathDiffers(number));
         }
         let offers = KeyedOffers::new(alloc, offers, rooms.len().min(MOST_ROOMS))?;
-        match rooms_in_order(alloc, offers.key_set(), &rooms)? {
-            Some(rooms) => Ok(View::of(alloc, group, version, offers, rooms)?),
-            None => Err(ViewError::BadRooms),
+        View::with_rooms(alloc, group, version, offers, &rooms)?.ok_or(ViewError::BadRooms)
+    }
+
+    /// The view of offers with these rooms, which come in any order, where they are exactly those of the keys.
+    fn with_rooms(
+        alloc: Global,
+        group: Group,
+        version: u64,
+        offers: KeyedOffers,
+        rooms: &[Room],
+    ) -> Result<Option<View>, AllocError>
+        ensures { IfOk result (λ made.
+            MatchOption made (¬ AreRooms (keys_of offers) rooms.now)
+            (λ view. (view ≡ view_of group version offers rooms.now) × MakesView offers rooms.now)) }
+    {
+        match rooms_in_order(alloc, offers.key_set(), rooms)? {
+            Some(rooms) => Ok(Some(View::of(alloc, group, version, offers, rooms)?)),
+            None => Ok(None),
         }
     }
 

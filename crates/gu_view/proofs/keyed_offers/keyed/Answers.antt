@@ -16,15 +16,15 @@ loop-offer-preserved c =
     let old = c.loop-offer.keys.keys in
     let new = c.mention.new.keys.keys in
     let h = c.loop-offer.invariant in
+    let e = c.in_ok-mention.ensures in
     let path = c.keys-path.ensures.keys in
     let known : AllByRecursion (λ (o : Offer). AllByRecursion (λ k. has_key old k ≡ true) o.path) seen =
     subst (λ (keys : List LimitKey). AllByRecursion (λ (o : Offer). AllByRecursion (λ k. has_key keys k ≡ true) o.path) seen) (sym h.keys) (all_known seen) in
     record {
-      keys = c.in_ok-list.ensures.first (flat_map (λ (o : Offer). o.path) seen) h.keys
+      keys = e.first (flat_map (λ (o : Offer). o.path) seen) h.keys
           ∙ ap (λ (l : List LimitKey). firsts (flat_map (λ (o : Offer). o.path) seen ++ l)) path
           ∙ keys_of-more offers i o c.loop-offer-test.true c.offer-item.is;
-      few = omega (arith, c.in_ok-list.ensures.few, c.keys-path.ensures.few, h.few);
-      places = c.in_ok-push.ensures.ok
-          ∙ all_places-more new offers c.loop-offer.places i o _ c.loop-offer-test.true c.offer-item.is (h.places ∙ all_places-stay old new seen c.in_ok-list.ensures.stay known)
-          (c.in_ok-list.ensures.places ∙ ap (map (place_among new)) path);
+      few = omega (arith, e.few, c.keys-path.ensures.few, h.few);
+      places = e.places
+          ∙ all_places-more new offers c.loop-offer.places i o _ c.loop-offer-test.true c.offer-item.is (h.places ∙ all_places-stay old new seen e.stay known) (ap (map (place_among new)) path);
     }

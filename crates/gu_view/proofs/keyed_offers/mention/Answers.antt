@@ -22,12 +22,12 @@ loop-at-preserved c =
     let stay : (j : LimitKey) → has_key old j ≡ true → place_among new j ≡ place_among old j = λ j there. ap (λ l. place_among l j) is ∙ place_among-stay old k j there in
     let put : place ≡ place_among new k = c.in_ok-place.ensures.index ∙ place_put old k ∙ ap (λ l. place_among l k) (sym is) in
     record {
-      long = length-set c.loop-at.places i place ∙ h.long;
+      long = length-set c.loop-at.list i place ∙ h.long;
       first = λ mentioned before. is ∙ mention_more mentioned path old i k c.loop-at-test.true c.index-path-at.is (h.first mentioned before);
       few = omega (arith, ap length is, length-with_key old k, h.few);
       stay = λ j before. (known j (h.stay j before).0, stay j (h.stay j before).0 ∙ (h.stay j before).1);
       known = All-more (λ k. has_key new k ≡ true) path i k c.loop-at-test.true (λ p d inside. known _ (h.known p d inside)) (subst (λ k. has_key new k ≡ true) c.index-path-at.is (ap (λ l. has_key l k) is ∙ has_key-with_key old k));
-      so_far = take_more_set c.loop-at.places i place (omega (arith, h.long, c.requires.short, c.loop-at-test.true))
-          ∙ places_more new path (take i c.loop-at.places) i k place c.loop-at-test.true c.index-path-at.is
+      so_far = take_more_set c.loop-at.list i place (omega (arith, h.long, c.requires.short, c.loop-at-test.true))
+          ∙ places_more new path (take i c.loop-at.list) i k place c.loop-at-test.true c.index-path-at.is
           (h.so_far ∙ places-stay old new (take i path) stay (recursion_from_All (λ k. has_key old k ≡ true) (take i path) h.known)) put;
     }

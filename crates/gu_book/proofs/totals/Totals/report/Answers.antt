@@ -1,7 +1,7 @@
-use Rattle.std.proofs.Common.{◌≡◌, ◌∙◌, arith, sym, subst, List, false}
+use Rattle.std.proofs.Common.{◌≡◌, ◌≤◌, ◌∙◌, arith, sym, subst, List, false, true}
 use Rattle.gu_terms.specs.declared.report.Report.{Report}
 use Rattle.gu_terms.specs.declared.side.Side.TheVariants.{Buy, Sell}
-use Rattle.gu_trades.specs.Matching.{conflicts}
+use Rattle.gu_trades.specs.Matching.{conflicts, is_other_side}
 use Rattle.gu_book.proofs.Even.{as-many, even-traded, goes-with}
 use Rattle.gu_book.proofs.totals.Totals.report.Goals as goal
 

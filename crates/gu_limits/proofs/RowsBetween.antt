@@ -1,0 +1,63 @@
+-- The agreement between a firm and an account is the one that its name finds.
+use Rattle.std.proofs.Common.{◌≡◌, ◌∙◌, sym, refl, ap, subst, Bool, true, false, cond, List, [], ◌∷◌, Option, None, Some}
+use Rattle.std.specs.List.{AllByRecursion, IsDistinct, find}
+use Rattle.std.specs.Option.{option_map}
+use Rattle.std.proofs.lemmas.Cmp.{nat_list_eq_equiv}
+use Rattle.gu_terms.proofs.SameNames.{same_account-true, same_firm-true}
+use Rattle.gu_terms.proofs.SameValues.{both}
+use Rattle.gu_terms.specs.Same.{same_account, same_agreement, same_firm}
+use Rattle.gu_terms.specs.declared.account.AccountId.{AccountId}
+use Rattle.gu_terms.specs.declared.agreement.AgreementId.{AgreementId}
+use Rattle.gu_terms.specs.declared.firm.FirmId.{FirmId}
+use Rattle.gu_ref.specs.Listed.{agreement_for, is_between}
+use Rattle.gu_ref.specs.Reference.{agreement_between, agreement_row}
+use Rattle.gu_ref.specs.Rules.{IsSound}
+use Rattle.gu_ref.specs.Tables.{Tables}
+use Rattle.gu_ref.specs.declared.agreements.Agreement.{Agreement}
+
+-- what is found passes the test by which it was found
+found_passes : {X : Type 0} (wanted : X → Bool) (rows : List X) (row : X) → find wanted rows ≡ Some row → wanted row ≡ true
+found_passes wanted [] row found = cc
+found_passes wanted (first ∷ rows) row found = by (wanted first) refl (found_passes wanted rows row) found
+  where
+    by : (is : Bool) → wanted first ≡ is → (find wanted rows ≡ Some row → wanted row ≡ true) → cond is (Some first) (find wanted rows) ≡ Some row → wanted row ≡ true
+    by true e later h = let same : first ≡ row = cc in ap wanted (sym same) ∙ e
+    by false e later h = later h
+
+-- and is what all rows are
+found_is : {X : Type 0} (P : X → Type 0) (wanted : X → Bool) (rows : List X) (row : X) → AllByRecursion P rows → find wanted rows ≡ Some row → P row
+found_is P wanted [] row all found = cc
+found_is P wanted (first ∷ rows) row all found = by (wanted first) (found_is P wanted rows row all.1) found
+  where
+    by : (is : Bool) → (find wanted rows ≡ Some row → P row) → cond is (Some first) (find wanted rows) ≡ Some row → P row
+    by true later h = let same : first ≡ row = cc in subst P same all.0
+    by false later h = later h
+
+-- where no two rows have one name, a row that is found is found by its name too
+found_by_name : {X : Type 0} (same : X → X → Bool) → ((x : X) → same x x ≡ true) → (wanted : X → Bool) (rows : List X) (row : X) → IsDistinct same rows → find wanted rows ≡ Some row
+    → find (λ x. same x row) rows ≡ Some row
+unfolding IsDistinct
+found_by_name same own wanted [] row apart found = cc
+found_by_name {X} same own wanted (first ∷ rows) row apart found =
+    by (wanted first) (λ h. rw (found_is (λ x. same first x ≡ false) wanted rows row apart.0 h) (found_by_name same own wanted rows row apart.1 h)) found
+  where
+    by : (is : Bool) → (find wanted rows ≡ Some row → find (λ x. same x row) (first ∷ rows) ≡ Some row) → cond is (Some first) (find wanted rows) ≡ Some row
+        → find (λ x. same x row) (first ∷ rows) ≡ Some row
+    by true later h = let one : first ≡ row = cc in rw (one, own row) refl
+    by false later h = later h
+
+-- the row of the agreement between a firm and an account
+pub row_between : (reference : Tables) → IsSound reference → (executing : FirmId) (account : AccountId) (id : AgreementId) → agreement_between reference executing account ≡ Some id
+    → agreement_row reference id ≡ Some (record { id = id; executing = executing; account = account })
+row_between reference sound executing account id between = by (agreement_for reference.agreements executing account) refl between
+  where
+    by : (found : Option Agreement) → agreement_for reference.agreements executing account ≡ found → option_map (λ (a : Agreement). a.id) found ≡ Some id
+        → agreement_row reference id ≡ Some (record { id = id; executing = executing; account = account })
+    by None e h = cc
+    by (Some a) e h =
+        let name : a.id ≡ id = cc in
+        let parties = both (same_firm a.executing executing) (same_account a.account account) (found_passes (is_between executing account) reference.agreements a e) in
+        let own = found_by_name (λ (x y : Agreement). same_agreement x.id y.id) (λ x. nat_list_eq_equiv.refl x.id.name) (is_between executing account) reference.agreements a sound.once.agreements e in
+        let firm = same_firm-true a.executing executing parties.0 in
+        let its = same_account-true a.account account parties.1 in
+        ap (agreement_row reference) (sym name) ∙ own ∙ (λ i. Some (let it : Agreement = record { id = name i; executing = firm i; account = its i } in it))
