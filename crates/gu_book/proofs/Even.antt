@@ -1,5 +1,5 @@
 -- As many lots are held long as short once both sides of a trade are.
-use Rattle.std.proofs.Common.{◌≡◌, ℕ, ◌+◌, Bool, ◌==◌, not, true, false, List, [], ◌∷◌, Option, None, Some, IfSome, subst, refl, arith}
+use Rattle.std.proofs.Common.{◌≡◌, ℕ, ◌+◌, Bool, ◌==◌, not, true, false, List, refl, arith}
 use Rattle.std.specs.Ordering.{int_eq}
 use Rattle.std.proofs.lemmas.Bool.Decides.{Decides-eqb}
 use Rattle.gu_terms.specs.Same.{same_day, same_side, same_symbol}
@@ -11,7 +11,7 @@ use Rattle.gu_terms.proofs.SameNames.{same_symbol-true}
 use Rattle.gu_terms.proofs.SameValues.{both}
 use Rattle.gu_positions.specs.Changes.{lots_at_side}
 use Rattle.gu_positions.specs.Rows.{Row, lots_on}
-use Rattle.gu_trades.specs.Matching.{conflicts, is_other_side}
+use Rattle.gu_trades.specs.Matching.{is_other_side}
 use Rattle.gu_book.specs.Effects.{IsEven}
 
 -- lots of both sides of one instrument count as many on either
@@ -35,19 +35,7 @@ other-side first second is =
     off true h = cc
     off false h = refl
 
--- what goes with the one report that waits is its other side
-pub goes-with : (sides : List Report) (found : Option Report) (waiting report : Report) → found ≡ Some waiting → IfSome found (λ w. sides ≡ w ∷ []) → conflicts sides report ≡ false
-    → is_other_side waiting report ≡ true
-goes-with sides None waiting report is alone fits = cc
-goes-with sides (Some w) waiting report is alone fits =
-    let same : w ≡ waiting = cc in
-    on (is_other_side waiting report) (subst (λ (r : Report). conflicts (r ∷ []) report ≡ false) same (subst (λ (rs : List Report). conflicts rs report ≡ false) alone fits))
-  where
-    on : (b : Bool) → not b ≡ false → b ≡ true
-    on true h = refl
-    on false h = cc
-
--- so it has as many lots
+-- and it has as many lots
 pub as-many : (waiting report : Report) → is_other_side waiting report ≡ true → waiting.lots ≡ report.lots
 as-many waiting report is = (other-side waiting report is).1.0
 

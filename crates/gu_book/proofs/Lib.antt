@@ -8,6 +8,7 @@ pub mod ChangedPositions
 pub mod ChangedSums
 pub mod Committing
 pub mod CountedLemmas
+pub mod Counterparts
 pub mod Covered
 pub mod CurrentLemmas
 pub mod CurrentViews

@@ -1,5 +1,5 @@
 -- What is kept beside a history takes openings, limits, reports and give-ups in.
-use Rattle.std.proofs.Common.{◌≡◌, ℕ, suc, ◌+◌, ◌-◌, ◌≤◌, ◌++◌, Bool, true, false, not, nat_lt, List, [], ◌∷◌, length, map, slice_get, Option, Some, None, refl, sym, ap, ◌∙◌, arith, subst}
+use Rattle.std.proofs.Common.{◌≡◌, ℕ, suc, ◌+◌, ◌-◌, ◌≤◌, ◌++◌, Bool, true, false, not, nat_lt, List, [], ◌∷◌, length, map, slice_get, Option, Some, None, is_none, unwrap_or, refl, sym, ap, ◌∙◌, arith, subst}
 use Rattle.std.specs.Option.{option_and_then, option_map, option_map_or}
 use Rattle.std.proofs.lemmas.Bool.{ltb-false}
 use Rattle.gu_terms.proofs.SameNames.{same_firm-true, same_id-true}
@@ -17,9 +17,10 @@ use Rattle.gu_terms.specs.declared.lines.Line.{Line}
 use Rattle.gu_terms.specs.declared.lots.Lots.{Lots}
 use Rattle.gu_terms.specs.declared.price.Price.{Price}
 use Rattle.gu_terms.specs.declared.refusal.Refusal.{Refusal}
-use Rattle.gu_terms.specs.declared.refusal.Refusal.TheVariants.{DuplicateId, MatchConflict, NotMatched, TooManyLots}
+use Rattle.gu_terms.specs.declared.refusal.Refusal.TheVariants.{DuplicateId, MatchConflict, NotMatched, TooManyLots, UnknownTrade}
 use Rattle.gu_terms.specs.declared.reply.Done.{Done}
 use Rattle.gu_terms.specs.declared.reply.Done.TheVariants.{Offered, Opened}
+use Rattle.gu_terms.specs.declared.reply.Reply.{Reply}
 use Rattle.gu_terms.specs.declared.reply.Reply.TheVariants.{Accepted}
 use Rattle.gu_terms.specs.declared.report.Report.{Report}
 use Rattle.gu_terms.specs.declared.side.Side.{Side}
@@ -27,18 +28,20 @@ use Rattle.gu_terms.specs.declared.symbol.Symbol.{Symbol}
 use Rattle.gu_terms.proofs.SameValues.{both}
 use Rattle.gu_ref.specs.Tables.{Tables}
 use Rattle.gu_positions.proofs.Changed.{find-passes}
-use Rattle.gu_trades.specs.Matching.{conflicts, is_of_trade}
+use Rattle.gu_trades.specs.Counterparts.{standing_in}
+use Rattle.gu_trades.specs.Matching.{conflicts, is_of_trade, is_waiting}
+use Rattle.gu_trades.specs.declared.standing.Standing.{Standing}
 use Rattle.gu_trades.specs.Reports.{has_report, is_by, report_by, report_of, with_match}
 use Rattle.gu_offers.specs.Changes.{next_day, with_lines}
 use Rattle.gu_offers.specs.Rows.{counted_under}
-use Rattle.gu_book.specs.Accepted.{IsAccepted, MayTakeIn, TakesIn}
-use Rattle.gu_book.specs.Answer.{State, done_of, given_up, group_of, lines_tests, report_tests, state_of, tests_of}
-use Rattle.gu_book.specs.Beside.{IsKept, state_in}
+use Rattle.gu_book.specs.Accepted.{IsAccepted, MayTakeIn, TakesIn, group_answered, is_matched}
+use Rattle.gu_book.specs.Answer.{State, answer_in, done_of, given_up, group_of, lines_tests, report_tests, state_of, tests_of}
+use Rattle.gu_book.specs.Beside.{IsKept, group_named_by, standing_given_up, state_in}
 use Rattle.gu_book.specs.Effects.{HoldsMore, SetsLimit, UsesNothing, made_a_trade}
 use Rattle.gu_book.specs.Offers.{standing_of}
 use Rattle.gu_book.specs.Reports.{Fits, open_day, report_on, reports_of}
 use Rattle.gu_book.specs.declared.totals.Totals.{Totals}
-use Rattle.gu_book.proofs.Accepting.{few_offers, state_is}
+use Rattle.gu_book.proofs.Accepting.{answer_is, few_offers, state_is}
 use Rattle.gu_book.proofs.KeptDays.{giving_up, kept-given_up, kept-opened, kept-set}
 use Rattle.gu_book.proofs.KeptReports.{kept-reported}
 use Rattle.gu_book.proofs.Passing.{none_stands}
@@ -103,6 +106,14 @@ module _
       kept-reported reference history entry old new made kept (ap (λ (d : Option Day). report_on d entry) opened) refl refl
       (record { takes = λ n. refl; gives = λ n. refl; closed = λ n. refl }) (λ f i. refl) (λ g k. refl) (fits-in history opened accepted) today give_ups trades offers limits holds
 
+  -- and the answer says whether it makes a trade
+  pub matched-answered : (totals : Totals) (reply : Reply) → MayTakeIn reference totals (ReportSide firm id match_id symbol lots price given side account)
+      → reply ≡ answer_in reference (state_in totals) (ReportSide firm id match_id symbol lots price given side account) → is_matched reply ≡ is_waiting (with_match match_id totals.trades)
+  matched-answered totals reply may is =
+      let command = ReportSide firm id match_id symbol lots price given side account in
+      ap is_matched (is ∙ answer_is reference may.history totals command may.kept.beside ∙ may.accepted.accepted)
+      ∙ ap (λ (rs : List Report). is_waiting (with_match match_id rs)) (sym may.kept.beside.reports)
+
 -- ---- give-ups
 
 -- the report that is given up is the firm's with this id
@@ -125,6 +136,78 @@ names-are reports firm own report found =
 pub not_not : (b : Bool) → not b ≡ false → b ≡ true
 not_not true e = refl
 not_not false e = cc
+
+-- the report of a known group
+pub group-given : (reference : Tables) (totals : Totals) (firm : FirmId) (own : Id) (group : Group) → option_map (λ (g : Report × Group). g.1) (given_up reference (state_in totals) firm own) ≡ Some group
+    → (report : Report) × (given_up reference (state_in totals) firm own ≡ Some (report, group))
+group-given reference totals firm own group is = by (given_up reference (state_in totals) firm own) is
+  where
+    by : (found : Option (Report × Group)) → option_map (λ (g : Report × Group). g.1) found ≡ Some group → (report : Report) × (found ≡ Some (report, group))
+    by None e = cc
+    by (Some g) e = (g.0, ap (λ (at : Option Group). Some (g.0, unwrap_or at group)) e)
+
+-- what is found, and what is named by how it stands
+module _ {X S G : Type 0} (stand : X → S) (named : S → Option G) where
+  paired : (found : Option X) (s : S) (g : G) → ◌≡◌ {A = Option (S × G)} (Some (s, g)) (option_and_then {U = S × G} (λ s. option_map {U = S × G} (λ g. (s, g)) (named s)) (option_map stand found))
+      → (x : X) × (found ≡ Some x) × (stand x ≡ s) × (named s ≡ Some g)
+  paired None s g is = cc
+  paired (Some x) s g is = by (named (stand x)) refl is
+    where
+      by : (at : Option G) → named (stand x) ≡ at → ◌≡◌ {A = Option (S × G)} (Some (s, g)) (option_map {U = S × G} (λ g. (stand x, g)) at) → (y : X) × (Some x ≡ Some y) × (stand y ≡ s) × (named s ≡ Some g)
+      by None e h = cc
+      by (Some other) e h =
+          let both : ◌≡◌ {A = S × G} (stand x, other) (s, g) = ap (λ (o : Option (S × G)). unwrap_or o (s, g)) (sym h) in
+          let own : stand x ≡ s = ap (λ (p : S × G). p.0) both in
+          (x, refl, own, ap named (sym own) ∙ e ∙ ap (λ (p : S × G). Some p.1) both)
+
+  unpaired : (found : Option X) → ◌≡◌ {A = Option (S × G)} None (option_and_then {U = S × G} (λ s. option_map {U = S × G} (λ g. (s, g)) (named s)) (option_map stand found))
+      → option_and_then {U = X × G} (λ x. option_map {U = X × G} (λ g. (x, g)) (named (stand x))) found ≡ None
+  unpaired None is = refl
+  unpaired (Some x) is = by (named (stand x)) is
+    where
+      by : (at : Option G) → ◌≡◌ {A = Option (S × G)} None (option_map {U = S × G} (λ g. (stand x, g)) at) → option_map {U = X × G} (λ g. (x, g)) at ≡ None
+      by None h = refl
+      by (Some g) h = cc
+
+-- what stands so is a report of the firm with that id
+pub standing-given : (reference : Tables) (totals : Totals) (firm : FirmId) (own : Id) (standing : Standing) (group : Group) → Some (standing, group) ≡ standing_given_up reference totals firm own
+    → (report : Report) × (given_up reference (state_in totals) firm own ≡ Some (report, group)) × (standing_in totals.trades report ≡ standing) × (report.firm ≡ firm) × (report.id ≡ own)
+standing-given reference totals firm own standing group is =
+    let p = paired (standing_in totals.trades) (λ (s : Standing). group_named_by reference s.terms) (report_by totals.trades firm own) standing group is in
+    let names = names-are totals.trades firm own p.0 p.1 in (
+      p.0,
+      ap (λ (o : Option Report). option_and_then {U = Report × Group} (λ r. option_map {U = Report × Group} (λ g. (r, g)) (group_of reference r)) o) p.1
+          ∙ ap (λ (o : Option Group). option_map {U = Report × Group} (λ g. (p.0, g)) o) (ap (λ (s : Standing). group_named_by reference s.terms) p.2 ∙ p.3),
+      p.2,
+      names.0,
+      names.1,
+    )
+
+-- and where none stands, none is given up
+pub standing-none : (reference : Tables) (totals : Totals) (firm : FirmId) (own : Id) → None ≡ standing_given_up reference totals firm own → given_up reference (state_in totals) firm own ≡ None
+standing-none reference totals firm own is = unpaired (standing_in totals.trades) (λ (s : Standing). group_named_by reference s.terms) (report_by totals.trades firm own) is
+
+-- an accepted give-up is answered by that group
+pub given-answered : (reference : Tables) (totals : Totals) (firm : FirmId) (id own : Id) (lines : List Line) (reply : Reply) → MayTakeIn reference totals (GiveUp firm id own lines)
+    → reply ≡ answer_in reference (state_in totals) (GiveUp firm id own lines)
+    → (group : Group) × (group_answered reply ≡ Some group) × (option_map (λ (g : Report × Group). g.1) (given_up reference (state_in totals) firm own) ≡ Some group)
+given-answered reference totals firm id own lines reply may is =
+    let history = may.history in
+    let state = state_of reference history in
+    let command = GiveUp firm id own lines in
+    let done = done_of reference state command in
+    by (given_up reference state firm own) (none_stands (tests_of reference state command) done done may.accepted.accepted 3 (is_none (given_up reference state firm own)) UnknownTrade refl)
+    (ap (λ (s : State). given_up reference s firm own) (state_is reference history totals may.kept.beside))
+    (is ∙ answer_is reference history totals command may.kept.beside ∙ may.accepted.accepted)
+  where
+    first : ℕ
+    first = length (standing_of may.history) + 1
+
+    by : (found : Option (Report × Group)) → is_none found ≡ false → given_up reference (state_in totals) firm own ≡ found
+        → reply ≡ Accepted (option_map_or (λ (g : Report × Group). Offered g.1 first (length lines)) found Opened)
+        → (group : Group) × (group_answered reply ≡ Some group) × (option_map (λ (g : Report × Group). g.1) (given_up reference (state_in totals) firm own) ≡ Some group)
+    by None e at h = cc
+    by (Some g) e at h = (g.1, ap group_answered h, ap (λ (o : Option (Report × Group)). option_map (λ (g : Report × Group). g.1) o) at)
 
 -- there are numbers for the lines
 pub give_up-numbers : (reference : Tables) (totals : Totals) (firm : FirmId) (id own : Id) (lines : List Line) → length lines ≤ 16 → MayTakeIn reference totals (GiveUp firm id own lines)

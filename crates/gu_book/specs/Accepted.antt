@@ -1,10 +1,12 @@
 -- Machinery: an accepted command, as what is kept beside a history takes it in.
-use Rattle.std.specs.Prelude.{◌≡◌, ℕ, ◌<◌, ◌++◌, Bool, true, false, List, [], ◌∷◌, length}
+use Rattle.std.specs.Prelude.{◌≡◌, ℕ, ◌<◌, ◌++◌, Bool, true, false, List, [], ◌∷◌, length, Option, Some, None}
 use Rattle.gu_terms.specs.declared.command.Command.{Command}
 use Rattle.gu_terms.specs.declared.command.Command.TheVariants.{Claim, Reverse}
 use Rattle.gu_terms.specs.declared.entry.Entry.{Entry}
 use Rattle.gu_terms.specs.declared.entry.Entry.TheVariants.{Asked}
 use Rattle.gu_terms.specs.declared.firm.FirmId.{FirmId}
+use Rattle.gu_terms.specs.declared.group.Group.{Group}
+use Rattle.gu_terms.specs.declared.reply.Done.TheVariants.{Offered, Reported}
 use Rattle.gu_terms.specs.declared.reply.Reply.TheVariants.{Accepted, Denied}
 use Rattle.gu_terms.specs.declared.reply.Reply.{Reply}
 use Rattle.gu_ref.specs.Tables.{Tables}
@@ -16,6 +18,16 @@ use Rattle.gu_book.specs.declared.totals.Totals.{Totals}
 abbrev pub accepts : Reply → Bool
 accepts (Accepted done) = true
 accepts (Denied why) = false
+
+-- a reply says that a report makes a trade
+abbrev pub is_matched : Reply → Bool
+is_matched (Accepted (Reported matched)) = matched
+is_matched _ = false
+
+-- the group that the answer to a give-up names
+abbrev pub group_answered : Reply → Option Group
+group_answered (Accepted (Offered group first count)) = Some group
+group_answered _ = None
 
 -- a command is accepted after a history that isn't full
 pub record IsAccepted (reference : Tables) (history : List Entry) (command : Command) : Type 0 where

@@ -26,7 +26,9 @@ use Rattle.gu_terms.specs.declared.entry.Entry.{Entry}
 use Rattle.gu_ref.specs.Reference.{is_firm, is_group, is_instrument, instrument_row, account_row, agreement_between, agreement_row, is_guarantor}
 use Rattle.gu_ref.specs.Tables.{Tables}
 use Rattle.gu_ref.specs.declared.instruments.Instrument.{Instrument}
-use Rattle.gu_trades.specs.Matching.{conflicts, is_of_trade, is_waiting}
+use Rattle.gu_trades.specs.Counterparts.{standing_in}
+use Rattle.gu_trades.specs.Matching.{conflicts, is_waiting}
+use Rattle.gu_trades.specs.declared.standing.Standing.{Standing}
 use Rattle.gu_trades.specs.Reports.{has_report, report_by, report_of, with_match}
 use Rattle.gu_offers.specs.Rows.{Row, counted_under, left_in, open_count, row_at, today_in}
 use Rattle.gu_book.specs.Limits.{path_behind, room_of}
@@ -117,10 +119,6 @@ state_of reference history =
 abbrev pub group_of : Tables → Report → Option Group
 group_of reference report = option_map (λ (i : Instrument). i.group) (instrument_row reference report.symbol)
 
--- the lots of a report that may still be given up
-abbrev pub free_lots : List Row → Report → ℕ
-free_lots offers report = report.lots - counted_under offers report.firm report.id
-
 -- the account of one of the lines isn't in the reference
 abbrev pub has_unknown_account : Tables → List Line → Bool
 has_unknown_account reference lines = list_any (λ (l : Line). is_none (account_row reference l.account)) lines
@@ -129,14 +127,22 @@ has_unknown_account reference lines = list_any (λ (l : Line). is_none (account_
 abbrev pub lacks_agreement : Tables → FirmId → List Line → Bool
 lacks_agreement reference firm lines = list_any (λ (l : Line). is_none (agreement_between reference firm l.account)) lines
 
+-- the lots of a firm's report with this id, of so many, that may still be given up
+abbrev pub free_lots : List Row → FirmId → Id → ℕ → ℕ
+free_lots offers firm id lots = lots - counted_under offers firm id
+
+-- the tests of a give-up of a firm's report with this id, which stands so, in this group
+abbrev pub tests_of_lines : Tables → List Row → FirmId → Id → Standing → Group → List Line → List (Bool × Refusal)
+tests_of_lines reference offers firm id standing group lines =
+    (not standing.is_of_trade, NotMatched)
+    ∷ (lacks_agreement reference firm lines, NoAgreement)
+    ∷ (nat_lt (free_lots offers firm id standing.terms.lots) (lots_in_all lines), TooManyLots)
+    ∷ (nat_lt 4096 (open_count offers group + length lines), TooManyOffers)
+    ∷ []
+
 -- the tests of a give-up of this report, in this group
 abbrev pub lines_tests : Tables → State → Report → Group → List Line → List (Bool × Refusal)
-lines_tests reference state report group lines =
-    (not (is_of_trade state.reports report), NotMatched)
-    ∷ (lacks_agreement reference report.firm lines, NoAgreement)
-    ∷ (nat_lt (free_lots state.offers report) (lots_in_all lines), TooManyLots)
-    ∷ (nat_lt 4096 (open_count state.offers group + length lines), TooManyOffers)
-    ∷ []
+lines_tests reference state report group lines = tests_of_lines reference state.offers report.firm report.id (standing_in state.reports report) group lines
 
 -- the tests of a give-up; the report is the firm's own, and its group is that of its instrument
 abbrev pub give_up_tests : Tables → State → FirmId → Id → List Line → Option (Report × Group) → List (Bool × Refusal)

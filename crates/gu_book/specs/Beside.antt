@@ -1,7 +1,7 @@
 -- Machinery: what a book keeps beside its history, so that an answer reads none of it.
-use Rattle.std.specs.Prelude.{◌≡◌, ℕ, ◌*◌, ◌≤◌, ◌&&◌, Bool, true, zero, suc, nat_lt, List, length, Option, Some, None, is_some}
+use Rattle.std.specs.Prelude.{◌≡◌, ℕ, ◌*◌, ◌≤◌, ◌&&◌, Bool, true, false, zero, suc, nat_lt, List, length, Option, Some, None, is_some}
 use Rattle.std.specs.List.{AllByRecursion, find, list_any}
-use Rattle.std.specs.Option.{option_map_or}
+use Rattle.std.specs.Option.{option_and_then, option_map, option_map_or}
 use Rattle.gu_terms.specs.Same.{same_firm, same_id}
 use Rattle.gu_terms.specs.declared.account.AccountId.{AccountId}
 use Rattle.gu_terms.specs.declared.entry.Entry.{Entry}
@@ -13,8 +13,19 @@ use Rattle.gu_terms.specs.declared.report.Report.{Report}
 use Rattle.gu_terms.specs.declared.side.Side.{Side}
 use Rattle.gu_terms.specs.declared.side.Side.TheVariants.{Buy, Sell}
 use Rattle.gu_terms.specs.declared.symbol.Symbol.{Symbol}
-use Rattle.gu_ref.specs.Reference.{account_row, agreement_between}
+use Rattle.gu_terms.specs.declared.refusal.Refusal.TheVariants.{MatchConflict}
+use Rattle.gu_terms.specs.declared.reply.Done.TheVariants.{Reported}
+use Rattle.gu_terms.specs.declared.reply.Reply.{Reply}
+use Rattle.gu_terms.specs.declared.reply.Reply.TheVariants.{Accepted, Denied}
+use Rattle.gu_ref.specs.Reference.{account_row, agreement_between, instrument_row}
 use Rattle.gu_ref.specs.Tables.{Tables}
+use Rattle.gu_ref.specs.declared.instruments.Instrument.{Instrument}
+use Rattle.gu_trades.specs.Counterparts.{standing_in}
+use Rattle.gu_trades.specs.Reports.{report_by}
+use Rattle.gu_trades.specs.declared.counterpart.Counterpart.{Counterpart}
+use Rattle.gu_trades.specs.declared.counterpart.Counterpart.TheVariants.{Nobody, Waiting, Conflicting}
+use Rattle.gu_trades.specs.declared.standing.Standing.{Standing}
+use Rattle.gu_trades.specs.declared.terms.Terms.{Terms}
 use Rattle.gu_offers.specs.Rows.{Row, open_count, row_at}
 use Rattle.gu_limits.specs.Limits.{has_limit, limit_in, room_in, used_in}
 use Rattle.gu_positions.specs.Rows.{has_row, lots_in, lots_on}
@@ -44,6 +55,28 @@ state_in totals =
       has_give_up = is_kept_give_up totals.give_ups.keys;
       room = room_in totals.limits;
     }
+
+-- the answer to a report that passes all tests but the last, by what it meets
+abbrev pub answer_to_match : Counterpart → Reply
+answer_to_match Nobody = Accepted (Reported false)
+answer_to_match (Waiting terms) = Accepted (Reported true)
+answer_to_match Conflicting = Denied MatchConflict
+
+-- what a counterpart is to a report that makes a trade with it
+abbrev pub waiting_of : Counterpart → Option Terms
+waiting_of Nobody = None
+waiting_of (Waiting terms) = Some terms
+waiting_of Conflicting = None
+
+-- the product group of the instrument that terms name
+abbrev pub group_named_by : Tables → Terms → Option Group
+group_named_by reference terms = option_map (λ (i : Instrument). i.group) (instrument_row reference terms.symbol)
+
+-- the firm's report with this id as it stands, and the product group of its instrument
+abbrev pub standing_given_up : Tables → Totals → FirmId → Id → Option (Standing × Group)
+standing_given_up reference totals firm id =
+    option_and_then (λ (s : Standing). option_map (λ group. (s, group)) (group_named_by reference s.terms))
+    (option_map (standing_in totals.trades) (report_by totals.trades firm id))
 
 -- some lots, or none
 abbrev pub some_lots : ℕ → Option ℕ

@@ -7,9 +7,10 @@ ghost use Rattle.std.specs.Option.{option_map};
 ghost use Rattle.gu_limits.specs.Limits.{room_in};
 ghost use Rattle.gu_trades.specs.Matching.{is_waiting};
 ghost use Rattle.gu_trades.specs.Reports.{with_match};
-ghost use Rattle.gu_book.specs.Answer.{answer_in, claim_tests, first_standing, give_up_tests, given_up, has_unknown_account, is_known_key, is_later, is_other_day};
-ghost use Rattle.gu_book.specs.Answer.{lacks_agreement, limit_tests, lines_tests, offer_tests, opening_tests, refusal_in, refuse_tests, report_tests, reverse_tests, room_tests};
-ghost use Rattle.gu_book.specs.Beside.{short_key, some_lots, state_in};
+ghost use Rattle.gu_trades.specs.Terms.{report_with};
+ghost use Rattle.gu_book.specs.Answer.{answer_in, claim_tests, first_standing, give_up_tests, has_unknown_account, is_known_key, is_later, is_other_day};
+ghost use Rattle.gu_book.specs.Answer.{lacks_agreement, limit_tests, offer_tests, opening_tests, refusal_in, refuse_tests, report_tests, reverse_tests, room_tests, tests_of_lines};
+ghost use Rattle.gu_book.specs.Beside.{answer_to_match, group_named_by, short_key, some_lots, standing_given_up, state_in};
 ghost use Rattle.gu_offers.specs.Rows.{left_in, today_in};
 ghost use Rattle.gu_book.specs.Limits.{path_behind};
 
@@ -18,9 +19,9 @@ use gu_limits::{LimitTable, path_between};
 use gu_ref::Reference;
 use gu_terms::{
     AllocReject, Command, Day, Done, FirmId, Group, Id, LimitKey, Line, Lines, Lots, MOST_LIMIT,
-    MOST_OPEN_OFFERS, Offer, OfferNo, Path, Refusal, Reply, Report,
+    MOST_OPEN_OFFERS, Offer, OfferNo, Path, Refusal, Reply,
 };
-use gu_trades::Trades;
+use gu_trades::{Counterpart, Standing, Terms, Trades};
 
 /// Whether a day comes after the open one.
 fn is_later(today: Option<Day>, day: Day) -> bool
@@ -54,38 +55,46 @@ fn is_known_key(reference: &Reference, key: LimitKey) -> bool
     }
 }
 
-/// The answer to a report, whose day is the open one.
+/// The answer to a report that is the first of its firm with its id, by what it meets under its match id.
+fn answer_to_match(counterpart: &Counterpart) -> Reply
+    ensures { result ≡ answer_to_match counterpart.now }
+{
+    match counterpart {
+        Counterpart::Nobody => Reply::Accepted(Done::Reported { matched: false }),
+        Counterpart::Waiting(_) => Reply::Accepted(Done::Reported { matched: true }),
+        Counterpart::Conflicting => Reply::Denied(Refusal::MatchConflict),
+    }
+}
+
+/// The answer to a report of these terms, whose day is the open one.
 fn answer_to_report(
     reference: &Reference,
     trades: &Trades,
-    report: &Report,
+    firm: &FirmId,
+    id: &Id,
+    match_id: &Id,
+    terms: &Terms,
     day: Option<Day>,
 ) -> Reply
-    ensures { result ≡ first_standing (report_tests reference.now trades.now report.now day)
-        (Done.Reported (is_waiting (with_match report.now.match_id trades.now))) }
+    ensures { result ≡ first_standing (report_tests reference.now trades.now (report_with firm.now id.now match_id.now terms.now) day)
+        (Done.Reported (is_waiting (with_match match_id.now trades.now))) }
 {
-    if is_other_day(report.day, day) {
+    if is_other_day(terms.day, day) {
         return Reply::Denied(Refusal::WrongDay);
     }
-    if !reference.is_instrument(report.symbol) {
+    if !reference.is_instrument(terms.symbol) {
         return Reply::Denied(Refusal::UnknownInstrument);
     }
-    let Some(row) = reference.account(report.account) else {
+    let Some(row) = reference.account(terms.account) else {
         return Reply::Denied(Refusal::UnknownAccount);
     };
-    if row.firm != report.firm {
+    if row.firm != *firm {
         return Reply::Denied(Refusal::NotYours);
     }
-    if trades.side_of(report.firm, report.id).is_some() {
+    if trades.has(firm, id) {
         return Reply::Denied(Refusal::DuplicateId);
     }
-    let sides = trades.trade(report.match_id);
-    if sides.conflicts_with(report) {
-        return Reply::Denied(Refusal::MatchConflict);
-    }
-    Reply::Accepted(Done::Reported {
-        matched: sides.is_waiting(),
-    })
+    answer_to_match(&trades.counterpart(match_id, terms))
 }
 
 /// The answer to a limit.
@@ -112,18 +121,26 @@ fn answer_to_opening(today: Option<Day>, day: Day) -> Reply
     }
 }
 
-/// The firm's report with this id, and the product group of its instrument.
-pub fn given_up(
+/// The product group of an instrument, as terms name it.
+fn group_of(reference: &Reference, terms: &Terms) -> Option<Group>
+    ensures { result ≡ group_named_by reference.now terms.now }
+{
+    let instrument = reference.instrument(terms.symbol)?;
+    Some(instrument.group)
+}
+
+/// The firm's report with this id, as it stands, and the product group of its instrument.
+fn given_up(
     reference: &Reference,
     totals: &Totals,
     firm: &FirmId,
     report: &Id,
-) -> Option<(Report, Group)>
-    ensures { result ≡ given_up reference.now (state_in totals.now) firm.now report.now }
+) -> Option<(Standing, Group)>
+    ensures { result ≡ standing_given_up reference.now totals.now firm.now report.now }
 {
-    let report = totals.trades.side_of(*firm, *report)?;
-    let instrument = reference.instrument(report.symbol)?;
-    Some((report, instrument.group))
+    let standing = totals.trades.standing(firm, report)?;
+    let group = group_of(reference, &standing.terms)?;
+    Some((standing, group))
 }
 
 /// Whether the account of one of the lines isn't in the reference.
@@ -142,24 +159,26 @@ fn lacks_agreement(reference: &Reference, firm: FirmId, lines: &[Line]) -> bool
         .any(|line| reference.between(firm, line.account).is_none())
 }
 
-/// Why lines of a report can't be given up in its group, if they can't.
+/// Why lines of a firm's report can't be given up in its group, if they can't.
 fn refusal_of_lines(
     reference: &Reference,
     totals: &Totals,
-    report: &Report,
+    firm: &FirmId,
+    report: &Id,
+    standing: &Standing,
     group: &Group,
     lines: &Lines,
 ) -> Option<Refusal>
-    ensures { result ≡ refusal_in (lines_tests reference.now (state_in totals.now) report.now group.now lines.now) }
+    ensures { result ≡ refusal_in (tests_of_lines reference.now totals.now.offers firm.now report.now standing.now group.now lines.now) }
 {
-    if !totals.trades.trade(report.match_id).is_trade() {
+    if !standing.is_of_trade {
         return Some(Refusal::NotMatched);
     }
-    if lacks_agreement(reference, report.firm, lines.as_slice()) {
+    if lacks_agreement(reference, *firm, lines.as_slice()) {
         return Some(Refusal::NoAgreement);
     }
-    let counted = totals.offers.counted(report.firm, report.id);
-    if report.lots.get().saturating_sub(counted) < lines.lots() {
+    let counted = totals.offers.counted(*firm, *report);
+    if standing.terms.lots.get().saturating_sub(counted) < lines.lots() {
         return Some(Refusal::TooManyLots);
     }
     if MOST_OPEN_OFFERS - lines.as_slice().len() < totals.offers.open_count(*group) {
@@ -189,10 +208,12 @@ fn answer_to_give_up(
     if totals.has_give_up(firm, id) {
         return Reply::Denied(Refusal::DuplicateId);
     }
-    let Some((report, group)) = given_up(reference, totals, firm, report) else {
+    let Some((standing, group)) = given_up(reference, totals, firm, report) else {
         return Reply::Denied(Refusal::UnknownTrade);
     };
-    if let Some(refusal) = refusal_of_lines(reference, totals, &report, &group, lines) {
+    if let Some(refusal) = refusal_of_lines(
+        reference, totals, firm, report, &standing, &group, lines,
+    ) {
         return Reply::Denied(refusal);
     }
     let Some(first) = OfferNo::new(totals.offers.count() as u64 + 1) else {
@@ -349,18 +370,15 @@ pub fn answer_of(reference: &Reference, totals: &Totals, command: &Command) -> R
             let Some(today) = totals.today else {
                 return Reply::Denied(Refusal::NoDay);
             };
-            let report = Report {
-                firm: *firm,
-                id: *id,
-                match_id: *match_id,
+            let terms = Terms {
                 symbol: *symbol,
+                account: *account,
+                side: *side,
+                day: today,
                 lots: *lots,
                 price: *price,
-                day: today,
-                side: *side,
-                account: *account,
             };
-            answer_to_report(reference, &totals.trades, &report, *day)
+            answer_to_report(reference, &totals.trades, firm, id, match_id, &terms, *day)
         }
         Command::GiveUp {
             firm,

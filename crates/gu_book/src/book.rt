@@ -117,7 +117,7 @@ impl Book {
         let place = know(&mut self.versions, &touched)?;
         self.history.push_asked(command, *reply)?;
         if accepts(reply) {
-            if let Err(refused) = take_in(&mut self.totals, &self.reference, command) {
+            if let Err(refused) = take_in(&mut self.totals, &self.reference, command, reply) {
                 self.history.truncate(count);
                 return Err(refused);
             }

@@ -1,38 +1,39 @@
 //! Accepted commands, as they are taken in.
 
-ghost use Rattle.std.specs.Prelude.{OnErr, OnOk};
+ghost use Rattle.std.specs.Prelude.{◌≡◌, OnErr, OnOk, Some};
+ghost use Rattle.std.specs.Option.{option_map};
 ghost use Rattle.gu_terms.specs.declared.alloc_reject.AllocReject.{AllocReject as AllocRejectOf};
 ghost use Rattle.gu_terms.specs.declared.firm.FirmId.{FirmId as FirmIdOf};
-ghost use Rattle.gu_book.specs.Beside.{IsAccounted};
+ghost use Rattle.gu_book.specs.Answer.{answer_in, given_up};
+ghost use Rattle.gu_book.specs.Beside.{IsAccounted, state_in};
 ghost use Rattle.gu_book.specs.Effects.{SameAnswers};
-ghost use Rattle.gu_book.specs.Accepted.{MayClaim, MayReverse, MayTakeIn, TakesIn};
+ghost use Rattle.gu_book.specs.Accepted.{MayClaim, MayReverse, MayTakeIn, TakesIn, group_answered, is_matched};
 
-use crate::answering::given_up;
 use crate::totals::Totals;
 use gu_ref::Reference;
-use gu_terms::{Command, FirmId, Id, Lines, OfferNo, Report};
+use gu_terms::{Command, Done, FirmId, Group, Id, Lines, OfferNo, Reply};
+use gu_trades::Terms;
 use std::alloc::AllocError;
 
-/// A give-up is taken in.
+/// A give-up is taken in, whose report's group is this one.
 fn take_in_give_up(
     totals: &mut Totals,
     reference: &Reference,
     firm: &FirmId,
     id: &Id,
     report: &Id,
+    group: &Group,
     lines: &Lines,
 ) -> Result<(), AllocError>
-    requires { MayTakeIn reference.now totals.old (Command.GiveUp firm.now id.now report.now lines.now) }
+    requires may { MayTakeIn reference.now totals.old (Command.GiveUp firm.now id.now report.now lines.now) }
+    requires group { option_map (λ g. g.1) (given_up reference.now (state_in totals.old) firm.now report.now) ≡ Some group.now }
     ensures taken { OnOk result (TakesIn reference.now totals.old totals.new (Command.GiveUp firm.now id.now report.now lines.now)) }
     ensures refused { OnErr result (SameAnswers totals.old totals.new) }
     ensures known { IsAccounted reference.now totals.old → IsAccounted reference.now totals.new }
 {
-    let Some((_, group)) = given_up(reference, totals, firm, report) else {
-        unreachable!();
-    };
     // The lines tell how many they are.
     let _ = lines.as_slice();
-    totals.give_up(firm, id, report, &group, lines)
+    totals.give_up(firm, id, report, group, lines)
 }
 
 /// A claim is taken in.
@@ -77,13 +78,32 @@ fn take_in_reversal(
     totals.reverse(reference, number, &offer, &report, lots)
 }
 
-/// An accepted command is taken in.
+/// Whether a report is answered by a trade.
+fn is_matched(reply: &Reply) -> bool
+    ensures { result ≡ is_matched reply.now }
+{
+    matches!(reply, Reply::Accepted(Done::Reported { matched: true }))
+}
+
+/// The group that the answer to a give-up names.
+fn group_answered(reply: &Reply) -> Option<Group>
+    ensures { result ≡ group_answered reply.now }
+{
+    match *reply {
+        Reply::Accepted(Done::Offered { group, .. }) => Some(group),
+        _ => None,
+    }
+}
+
+/// An accepted command is taken in, with its answer.
 pub fn take_in(
     totals: &mut Totals,
     reference: &Reference,
     command: &Command,
+    reply: &Reply,
 ) -> Result<(), AllocError>
-    requires { MayTakeIn reference.now totals.old command.now }
+    requires may { MayTakeIn reference.now totals.old command.now }
+    requires answered { reply.now ≡ answer_in reference.now (state_in totals.old) command.now }
     ensures taken { OnOk result (TakesIn reference.now totals.old totals.new command.now) }
     ensures refused { OnErr result (SameAnswers totals.old totals.new) }
     ensures known { IsAccounted reference.now totals.old → IsAccounted reference.now totals.new }
@@ -108,24 +128,27 @@ pub fn take_in(
             let Some(day) = totals.today else {
                 unreachable!();
             };
-            totals.report(&Report {
-                firm: *firm,
-                id: *id,
-                match_id: *match_id,
+            let terms = Terms {
                 symbol: *symbol,
+                account: *account,
+                side: *side,
+                day,
                 lots: *lots,
                 price: *price,
-                day,
-                side: *side,
-                account: *account,
-            })
+            };
+            totals.report(firm, id, match_id, &terms, is_matched(reply))
         }
         Command::GiveUp {
             firm,
             id,
             report,
             lines,
-        } => take_in_give_up(totals, reference, firm, id, report, lines),
+        } => {
+            let Some(group) = group_answered(reply) else {
+                unreachable!();
+            };
+            take_in_give_up(totals, reference, firm, id, report, &group, lines)
+        }
         Command::Claim { firm: _, offer } => take_in_claim(totals, reference, *offer),
         Command::Refuse {
             firm: _,

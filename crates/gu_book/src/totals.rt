@@ -1,6 +1,6 @@
 //! What a book keeps beside its history, so that no answer reads it.
 
-ghost use Rattle.std.specs.Prelude.{◌≡◌, ◌<◌, ◌≤◌, ◌+◌, ◌^◌, ◌++◌, ◌∷◌, ◌↔◌, [], true, false, All, Some, None, IfSome, IsSome, OnOk, OnErr, length, map};
+ghost use Rattle.std.specs.Prelude.{◌≡◌, ◌<◌, ◌≤◌, ◌+◌, ◌^◌, ◌++◌, ◌∷◌, [], true, false, All, Some, None, IfSome, OnOk, OnErr, length, map};
 ghost use Rattle.std.specs.Option.{option_to_list};
 ghost use Rattle.gu_limits.specs.Limits.{room_in, used_in};
 ghost use Rattle.gu_offers.specs.Changes.{changed, closed, next_day, reversed, taken, with_lines};
@@ -10,10 +10,11 @@ ghost use Rattle.gu_positions.specs.Rows.{has_row, lots_in, lots_on};
 ghost use Rattle.gu_terms.specs.declared.account.AccountId.{AccountId as AccountOf};
 ghost use Rattle.gu_terms.specs.declared.side.Side.{Side as SideOf};
 ghost use Rattle.gu_terms.specs.declared.symbol.Symbol.{Symbol as SymbolOf};
+ghost use Rattle.gu_trades.specs.Counterparts.{counterpart_of};
 ghost use Rattle.gu_trades.specs.Matching.{conflicts, is_waiting};
-ghost use Rattle.gu_trades.specs.Sides.{reports_in};
 ghost use Rattle.gu_trades.specs.Reports.{has_report, report_by, with_match};
-ghost use Rattle.gu_book.specs.Beside.{is_kept_give_up};
+ghost use Rattle.gu_trades.specs.Terms.{report_with};
+ghost use Rattle.gu_book.specs.Beside.{is_kept_give_up, waiting_of};
 ghost use Rattle.gu_book.specs.Effects.{HoldsMore, HoldsMoved, IsEven, KeepsMade, OnlyRowsOf, SameAnswers, SameEntries, SetsLimit, UsesLess, UsesMore, UsesNothing, made_a_trade};
 ghost use Rattle.gu_book.specs.Limits.{path_behind};
 ghost use Rattle.gu_book.specs.Moving.{given_by};
@@ -27,7 +28,7 @@ use gu_ref::Reference;
 use gu_terms::{
     AccountId, Day, FirmId, Group, Id, LimitKey, Lines, Offer, OfferNo, Report, Seed, Symbol,
 };
-use gu_trades::{Sides, Trades};
+use gu_trades::{Counterpart, Terms, Trades};
 use indexmap::IndexSet;
 use std::alloc::{AllocError, Global};
 
@@ -132,28 +133,36 @@ impl Totals {
         }
     }
 
-    /// A report is taken in. Once it makes a trade with one that waits, the lots of both are held.
-    pub fn report(&mut self, report: &Report) -> Result<(), AllocError>
-        requires fits { Fits self.old.trades report.now }
+    /// A firm's report is taken in. Once it makes a trade with one that waits, the lots of both are held.
+    pub fn report(
+        &mut self,
+        firm: &FirmId,
+        id: &Id,
+        match_id: &Id,
+        terms: &Terms,
+        matched: bool,
+    ) -> Result<(), AllocError>
+        requires fits { Fits self.old.trades (report_with firm.now id.now match_id.now terms.now) }
+        requires matched { matched ≡ is_waiting (with_match match_id.now self.old.trades) }
         requires room { (side : SideOf) (symbol : SymbolOf) → lots_on self.old.positions side symbol + 2000000 < 2 ^ 64 }
         ensures today { self.new.today ≡ self.old.today }
         ensures give_ups { self.new.give_ups.keys ≡ self.old.give_ups.keys }
-        ensures trades { OnOk result (self.new.trades ≡ self.old.trades ++ report.now ∷ []) }
+        ensures trades { OnOk result (self.new.trades ≡ self.old.trades ++ report_with firm.now id.now match_id.now terms.now ∷ []) }
         ensures offers { self.new.offers ≡ self.old.offers }
         ensures limits { self.new.limits ≡ self.old.limits }
-        ensures positions { OnOk result
-            (HoldsMore self.old.positions self.new.positions (made_a_trade (with_match report.now.match_id self.old.trades) report.now)) }
+        ensures positions { OnOk result (HoldsMore self.old.positions self.new.positions
+            (made_a_trade (with_match match_id.now self.old.trades) (report_with firm.now id.now match_id.now terms.now))) }
         ensures even { IsEven self.old.positions → IsEven self.new.positions }
         ensures rows { OnlyRowsOf self.old.positions self.new.positions
-            (report.now.account ∷ map (λ w. w.account) (with_match report.now.match_id self.old.trades)) }
+            (terms.now.account ∷ map (λ w. w.account) (with_match match_id.now self.old.trades)) }
         ensures refused { OnErr result (SameAnswers self.old self.new) }
     {
-        let waiting = first_side(self.trades.trade(report.match_id));
-        make_rows_of_trade(&mut self.positions, &waiting, report)?;
-        self.trades.push(report)?;
+        let waiting = waiting_side(&self.trades, match_id, terms, matched);
+        make_rows_of_trade(&mut self.positions, &waiting, terms)?;
+        self.trades.push_terms(firm, id, match_id, terms)?;
         if let Some(waiting) = &waiting {
             hold(&mut self.positions, waiting);
-            hold(&mut self.positions, report);
+            hold(&mut self.positions, terms);
         }
         Ok(())
     }
@@ -306,14 +315,17 @@ impl Totals {
     }
 }
 
-/// The report that waits for its other side, if one does.
-fn first_side(sides: Sides) -> Option<Report>
-    ensures waits { IfSome result (λ waiting. reports_in sides ≡ waiting ∷ []) }
-    ensures some { IsSome result ↔ (is_waiting (reports_in sides) ≡ true) }
+/// The terms of the report that waits for one that makes a trade with it. Of another nothing is looked up.
+fn waiting_side(trades: &Trades, match_id: &Id, terms: &Terms, matched: bool) -> Option<Terms>
+    requires { matched ≡ is_waiting (with_match match_id.now trades.now) }
+    ensures { result ≡ waiting_of (counterpart_of (with_match match_id.now trades.now) terms.now) }
 {
-    match sides {
-        Sides::One(waiting) => Some(waiting),
-        Sides::Neither | Sides::Both(..) => None,
+    if !matched {
+        return None;
+    }
+    match trades.counterpart(match_id, terms) {
+        Counterpart::Waiting(waiting) => Some(waiting),
+        Counterpart::Nobody | Counterpart::Conflicting => None,
     }
 }
 
@@ -338,8 +350,8 @@ fn make_rows(
 /// Makes the rows of a report and of the one that waits for it, where one does.
 fn make_rows_of_trade(
     positions: &mut Positions,
-    waiting: &Option<Report>,
-    report: &Report,
+    waiting: &Option<Terms>,
+    report: &Terms,
 ) -> Result<(), AllocError>
     ensures waiting { OnOk result (IfSome waiting.now (λ w. has_row positions.new w.account w.symbol ≡ true)) }
     ensures report { OnOk result (IfSome waiting.now (λ w. has_row positions.new report.now.account report.now.symbol ≡ true)) }
@@ -359,7 +371,7 @@ fn make_rows_of_trade(
 }
 
 /// Holds the lots of a report.
-fn hold(positions: &mut Positions, report: &Report)
+fn hold(positions: &mut Positions, report: &Terms)
     requires made { has_row positions.old report.now.account report.now.symbol ≡ true }
     requires fits { lots_on positions.old report.now.side report.now.symbol + report.now.lots < 2 ^ 64 }
     ensures same_rows { KeepsRows positions.old positions.new }

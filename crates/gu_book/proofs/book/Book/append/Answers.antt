@@ -11,6 +11,7 @@ use Rattle.gu_book.specs.Versions.{touches}
 use Rattle.gu_book.specs.declared.book.Book.TheInside.{Inside}
 use Rattle.gu_book.specs.declared.versions.Touched.{Touched}
 use Rattle.gu_book.specs.declared.versions.Versions.{Versions}
+use Rattle.gu_book.proofs.Accepting.{answer_is}
 use Rattle.gu_book.proofs.Beginning.{is-accepted, legal-accepted, legal-denied, legal-refused}
 use Rattle.gu_book.proofs.CountedLemmas.{touched-is, versions-fit, versions-push, versions-same}
 use Rattle.gu_book.proofs.Growing.{stands_last}
@@ -18,8 +19,8 @@ use Rattle.gu_book.proofs.Passing.{truncated}
 use Rattle.gu_book.proofs.book.Book.append.Goals as goal
 use Rattle.gu_book.proofs.book.Book.append.Goals.{then-accepts+in_default, else-accepts}
 
-pub take_in-requires : goal.take_in-requires
-take_in-requires c =
+pub take_in-requires-clause-may : goal.take_in-requires-clause-may
+take_in-requires-clause-may c =
     let old = c.self.inside in
     let is : c.args.reply.now ≡ answer old.reference old.history c.args.command.now = c.requires.answered ∙ ap (λ (k : Kept). answer k.reference k.history c.args.command.now) (sym c.self.view_is) in
     record {
@@ -27,6 +28,12 @@ take_in-requires c =
       kept = c.self.invariant.kept;
       accepted = is-accepted old.reference old.history c.args.command.now c.args.reply.now (rw (sym c.self.view_is) at c.requires.room) is (sym c.accepts.ensures ∙ c.if-accepts.true);
     }
+
+pub take_in-requires-clause-answered : goal.take_in-requires-clause-answered
+take_in-requires-clause-answered c =
+    let old = c.self.inside in
+    c.requires.answered ∙ ap (λ (k : Kept). answer k.reference k.history c.args.command.now) (sym c.self.view_is)
+    ∙ sym (answer_is old.reference old.history old.totals c.args.command.now c.self.invariant.kept.beside)
 
 pub invariant_of-self-in-Err : goal.invariant_of-self-in-Err
 invariant_of-self-in-Err c =

@@ -1,0 +1,98 @@
+-- What a report meets, by the reports with its match id, and what it brings to positions.
+use Rattle.std.proofs.Common.{◌≡◌, ◌+◌, ◌≤◌, Bool, true, false, List, [], ◌∷◌, map, Option, None, Some, unwrap_or, refl, sym, ap, ◌∙◌, arith, subst, inl, inr}
+use Rattle.std.specs.Option.{option_to_list}
+use Rattle.std.specs.Prelude.{if◌then◌else◌}
+use Rattle.std.proofs.lemmas.Bool.{cases_Bool}
+use Rattle.gu_terms.specs.declared.account.AccountId.{AccountId}
+use Rattle.gu_terms.specs.declared.refusal.Refusal.TheVariants.{MatchConflict}
+use Rattle.gu_terms.specs.declared.reply.Done.TheVariants.{Reported}
+use Rattle.gu_terms.specs.declared.report.Report.{Report}
+use Rattle.gu_terms.specs.declared.side.Side.{Side}
+use Rattle.gu_terms.specs.declared.symbol.Symbol.{Symbol}
+use Rattle.gu_positions.specs.Changes.{KeepsLots, lots_at}
+use Rattle.gu_positions.specs.Rows.{Row, lots_in, lots_on}
+use Rattle.gu_trades.specs.Counterparts.{counterpart_of}
+use Rattle.gu_trades.specs.Matching.{conflicts, have_other_sides, is_other_side, is_waiting}
+use Rattle.gu_trades.specs.Terms.{terms_of}
+use Rattle.gu_trades.specs.declared.counterpart.Counterpart.TheVariants.{Conflicting, Waiting}
+use Rattle.gu_trades.specs.declared.terms.Terms.{Terms}
+use Rattle.gu_book.specs.Answer.{first_standing}
+use Rattle.gu_book.specs.Beside.{answer_to_match, waiting_of}
+use Rattle.gu_book.specs.Effects.{HoldsMore, made_a_trade}
+
+-- the last test of a report, by what it meets
+pub answer-met : (sides : List Report) (report : Report)
+    → answer_to_match (counterpart_of sides (terms_of report)) ≡ first_standing ((conflicts sides report, MatchConflict) ∷ []) (Reported (is_waiting sides))
+answer-met [] report = refl
+answer-met (first ∷ []) report =
+    elim (cases_Bool (have_other_sides (terms_of first) (terms_of report))) [
+      | inl hit ↦ rw hit refl
+      | inr miss ↦ rw miss refl
+    ]
+answer-met (first ∷ second ∷ more) report = refl
+
+-- where none waits alone, nobody is met who waits
+pub nobody_waits : (sides : List Report) (terms : Terms) → is_waiting sides ≡ false → waiting_of (counterpart_of sides terms) ≡ None
+nobody_waits [] terms alone = refl
+nobody_waits (first ∷ []) terms alone = cc
+nobody_waits (first ∷ second ∷ more) terms alone = refl
+
+-- the one that waits is alone, and the other side
+pub waits : (sides : List Report) (report : Report) (found : Option Terms) (waiting : Terms) → found ≡ Some waiting → found ≡ waiting_of (counterpart_of sides (terms_of report))
+    → (first : Report) × (sides ≡ first ∷ []) × (terms_of first ≡ waiting) × (is_other_side first report ≡ true)
+waits sides report found waiting is met = of sides (sym is ∙ met)
+  where
+    one_alone : (first : Report) (fits : Bool) → have_other_sides (terms_of first) (terms_of report) ≡ fits → Some waiting ≡ waiting_of (if fits then Waiting (terms_of first) else Conflicting)
+        → (other : Report) × (first ∷ [] ≡ other ∷ []) × (terms_of other ≡ waiting) × (is_other_side other report ≡ true)
+    one_alone first true hit own = (first, refl, ap (λ (t : Option Terms). unwrap_or t waiting) (sym own), hit)
+    one_alone first false miss own = cc
+
+    of : (sides : List Report) → Some waiting ≡ waiting_of (counterpart_of sides (terms_of report)) → (first : Report) × (sides ≡ first ∷ []) × (terms_of first ≡ waiting) × (is_other_side first report ≡ true)
+    of [] own = cc
+    of (first ∷ []) own = one_alone first (have_other_sides (terms_of first) (terms_of report)) refl own
+    of (first ∷ second ∷ more) own = cc
+
+-- where a report conflicts with none and nobody waits, there is none
+pub nobody : (sides : List Report) (report : Report) (found : Option Terms) → found ≡ None → found ≡ waiting_of (counterpart_of sides (terms_of report)) → conflicts sides report ≡ false → sides ≡ []
+nobody [] report found is met fits = refl
+nobody (first ∷ []) report found is met fits =
+    elim (cases_Bool (have_other_sides (terms_of first) (terms_of report))) [
+      | inl hit ↦ let own : found ≡ Some (terms_of first) = rw hit at met in let never : None ≡ Some (terms_of first) = sym is ∙ own in cc
+      | inr miss ↦ let never : true ≡ false = rw miss at fits in cc
+    ]
+nobody (first ∷ second ∷ more) report found is met fits = cc
+
+-- the accounts of those that wait
+pub accounts-waiting : (sides : List Report) (report : Report) (found : Option Terms) → found ≡ waiting_of (counterpart_of sides (terms_of report)) → conflicts sides report ≡ false
+    → map (λ (w : Terms). w.account) (option_to_list found) ≡ map (λ (w : Report). w.account) sides
+accounts-waiting sides report None met fits = ap (map (λ (w : Report). w.account)) (sym (nobody sides report None refl met fits))
+accounts-waiting sides report (Some waiting) met fits =
+    let alone = waits sides report (Some waiting) waiting refl met in
+    ap (λ (t : Terms). t.account ∷ []) (sym alone.2) ∙ ap (map (λ (w : Report). w.account)) (sym alone.1)
+
+-- both sides of a trade are held
+pub holds-both : (old made mid new : List Row) (sides : List Report) (report : Report) (found : Option Terms) (waiting : Terms) → found ≡ Some waiting → found ≡ waiting_of (counterpart_of sides (terms_of report)) → KeepsLots old made
+    → ((on : Side) (account : AccountId) (symbol : Symbol) → lots_in mid on account symbol ≡ lots_in made on account symbol + lots_at waiting.side waiting.account waiting.symbol waiting.lots on account symbol)
+    → ((on : Side) (symbol : Symbol) → lots_on mid on symbol ≤ lots_on made on symbol + 1000000)
+    → ((on : Side) (account : AccountId) (symbol : Symbol) → lots_in new on account symbol ≡ lots_in mid on account symbol + lots_at report.side report.account report.symbol report.lots on account symbol)
+    → ((on : Side) (symbol : Symbol) → lots_on new on symbol ≤ lots_on mid on symbol + 1000000)
+    → HoldsMore old new (made_a_trade sides report)
+holds-both old made mid new sides report found waiting is met same first most second more =
+    let alone = waits sides report found waiting is met in
+    let both : HoldsMore old new (alone.0 ∷ report ∷ []) = record {
+      lots = λ on account symbol.
+          let theirs : lots_at alone.0.side alone.0.account alone.0.symbol alone.0.lots on account symbol ≡ lots_at waiting.side waiting.account waiting.symbol waiting.lots on account symbol =
+          ap (λ (t : Terms). lots_at t.side t.account t.symbol t.lots on account symbol) alone.2 in
+          omega (arith, same.lots on account symbol, first on account symbol, second on account symbol, theirs);
+      sums = λ on symbol. omega (arith, same.sums on symbol, most on symbol, more on symbol);
+    } in
+    subst (λ (rs : List Report). HoldsMore old new (made_a_trade rs report)) (sym alone.1) both
+
+-- and a report that opens brings nothing
+pub holds-none : (old new : List Row) (sides : List Report) (report : Report) (found : Option Terms) → found ≡ None → found ≡ waiting_of (counterpart_of sides (terms_of report)) → conflicts sides report ≡ false → KeepsLots old new
+    → HoldsMore old new (made_a_trade sides report)
+holds-none old new sides report found is met fits same =
+    subst (λ (rs : List Report). HoldsMore old new (made_a_trade rs report)) (sym (nobody sides report found is met fits)) (record {
+      lots = λ on account symbol. omega (arith, same.lots on account symbol);
+      sums = λ on symbol. omega (arith, same.sums on symbol);
+    })
