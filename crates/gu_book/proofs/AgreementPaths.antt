@@ -1,12 +1,13 @@
 -- The path of each agreement of a reference, and what it goes through.
-use Rattle.std.proofs.Common.{◌≡◌, ℕ, ◌&&◌, Bool, true, List, [], ◌∷◌, Option, Some, None, is_some, refl, sym, ap, ◌∙◌, inl, inr}
-use Rattle.std.specs.List.{AllByRecursion, find}
+use Rattle.std.proofs.Common.{◌≡◌, ◌&&◌, Bool, true, List, [], ◌∷◌, Option, Some, None, is_some, unwrap_or, subst, refl, sym, ap, ◌∙◌, inl, inr}
+use Rattle.std.specs.List.{AllByRecursion, IsDistinct, find}
 use Rattle.std.specs.Option.{option_and_then, option_map}
 use Rattle.std.proofs.lemmas.Bool.{cases_Bool}
 use Rattle.std.proofs.lemmas.Cmp.{nat_list_eq_equiv}
 use Rattle.std.proofs.lemmas.List.Elements.{recursion_from_All}
 use Rattle.gu_terms.proofs.Lists.{along}
 use Rattle.gu_terms.proofs.SameValues.{both}
+use Rattle.gu_terms.specs.LimitKeys.{key_eq}
 use Rattle.gu_terms.specs.Paths.{path_through}
 use Rattle.gu_terms.specs.Same.{same_agreement}
 use Rattle.gu_terms.specs.declared.account.AccountId.{AccountId}
@@ -14,16 +15,15 @@ use Rattle.gu_terms.specs.declared.agreement.AgreementId.{AgreementId}
 use Rattle.gu_terms.specs.declared.firm.FirmId.{FirmId}
 use Rattle.gu_terms.specs.declared.limit_key.LimitKey.{LimitKey}
 use Rattle.gu_terms.specs.declared.offer.Offer.{Offer as GivenUp}
+use Rattle.gu_limits.proofs.PathKeys.{kinds_differ}
 use Rattle.gu_limits.specs.Paths.{path_of}
-use Rattle.gu_offers.specs.Rows.{Row, left_in, row_at}
 use Rattle.gu_ref.specs.Listed.{agreement_for}
 use Rattle.gu_ref.specs.Reference.{account_row, agreement_between, agreement_row, guarantor_of, is_firm}
 use Rattle.gu_ref.specs.Rules.{IsSound}
 use Rattle.gu_ref.specs.Tables.{Tables}
 use Rattle.gu_ref.specs.declared.accounts.Account.{Account}
 use Rattle.gu_ref.specs.declared.agreements.Agreement.{Agreement}
-use Rattle.gu_view.specs.declared.view.Offer.{Offer}
-use Rattle.gu_book.specs.Shown.{shown_at}
+use Rattle.gu_book.specs.Limits.{path_behind}
 use Rattle.gu_book.proofs.Facts.{some-is}
 use Rattle.gu_book.proofs.KnownAccounts.{all-found}
 
@@ -91,3 +91,21 @@ goes_through reference id path at = by (agreement_row reference id) refl at
             → option_map {U = List LimitKey} (λ c. path_through a.executing id a.account c.firm (guarantor_of reference c.firm)) carried ≡ Some path → GoesThrough reference id path
         of None e h = cc
         of (Some c) e h = let same : path_through a.executing id a.account c.firm (guarantor_of reference c.firm) ≡ path = cc in record { executing = a.executing; account = a.account; carried = c; there = e; is = sym same }
+
+-- it names each key once
+no_keys : IsDistinct key_eq []
+unfolding IsDistinct
+no_keys = tt
+
+pub path_behind-once : (reference : Tables) (offer : GivenUp) → IsDistinct key_eq (path_behind reference offer)
+path_behind-once reference offer = by (agreement_between reference offer.firm offer.account)
+  where
+    by : (between : Option AgreementId) → IsDistinct key_eq (unwrap_or (option_and_then (path_of reference) between) [])
+    by None = no_keys
+    by (Some id) = of (path_of reference id) refl
+      where
+        of : (found : Option (List LimitKey)) → path_of reference id ≡ found → IsDistinct key_eq (unwrap_or found [])
+        of None e = no_keys
+        of (Some path) e =
+            let goes = goes_through reference id path e in
+            subst (IsDistinct key_eq) (sym goes.is) (kinds_differ goes.executing id goes.account goes.carried.firm (guarantor_of reference goes.carried.firm))

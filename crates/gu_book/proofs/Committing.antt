@@ -1,5 +1,5 @@
 -- A legal history grows by a sweep that is committed.
-use Rattle.std.proofs.Common.{◌≡◌, ◌+◌, ◌≤◌, List, [], ◌∷◌, ◌++◌, length, if◌then◌else◌, refl, sym, arith, subst}
+use Rattle.std.proofs.Common.{◌≡◌, ◌+◌, ◌≤◌, List, [], ◌∷◌, ◌++◌, length, if◌then◌else◌, refl, sym, ap, ◌∙◌, arith, subst}
 use Rattle.std.specs.List.{AllByRecursion}
 use Rattle.gu_terms.specs.declared.entry.Entry.{Entry}
 use Rattle.gu_terms.specs.declared.entry.Entry.TheVariants.{Swept}
@@ -8,6 +8,7 @@ use Rattle.gu_terms.specs.declared.takes.Take.{Take}
 use Rattle.gu_ref.specs.Tables.{Tables}
 use Rattle.gu_flow.specs.Proposals.{ProposedSweep}
 use Rattle.gu_view.specs.View.{GroupView}
+use Rattle.gu_view.specs.declared.view.Offer.{Offer}
 use Rattle.gu_book.specs.Beside.{IsAccounted, IsKeptLegal, IsShown}
 use Rattle.gu_book.specs.Commits.{IsCurrent, sweep_of}
 use Rattle.gu_book.specs.Counted.{is_touched, version_in}
@@ -16,6 +17,7 @@ use Rattle.gu_book.specs.Kept.{Kept}
 use Rattle.gu_book.specs.Legal.{StandsLast}
 use Rattle.gu_book.specs.Moving.{HasRows, MayMove, MovesAll}
 use Rattle.gu_book.specs.Sweeps.{IsSweepOf, MaySweep}
+use Rattle.gu_book.specs.Views.{offers_shown}
 use Rattle.gu_book.specs.declared.totals.Totals.{Totals}
 use Rattle.gu_book.specs.declared.versions.Touched.TheVariants.{Only}
 use Rattle.gu_book.specs.declared.versions.Versions.{Versions}
@@ -30,10 +32,14 @@ pub may-sweep : (book : Kept) (proposal : ProposedSweep) → IsCurrent book prop
 may-sweep book proposal current right = record { known = current.known; sweeps = subst (λ (v : GroupView). IsSweepOf v (sweep_of proposal)) current.same right }
 
 -- its takes may be moved
-pub may-move : (book : Kept) (proposal : ProposedSweep) (old mid : Totals) (versions : Versions) → IsKeptLegal book.reference book.history old versions → IsCurrent book proposal.view
-    → IsSweepOf proposal.view (sweep_of proposal) → SameAnswers old mid → AllByRecursion (λ (t : Take). HasRows mid t.offer) proposal.takes → MayMove book.reference mid proposal.takes
-may-move book proposal old mid versions kept current right same made =
-    sweep-moves book.reference book.history mid (sweep_of proposal) (still-kept book.reference book.history old mid kept.kept same) (may-sweep book proposal current right).sweeps made
+pub may-move : (book : Kept) (proposal : ProposedSweep) (old mid : Totals) (versions : Versions) (view : GroupView) (takes : List Take) → IsKeptLegal book.reference book.history old versions
+    → IsCurrent book proposal.view → IsSweepOf proposal.view (sweep_of proposal) → SameAnswers old mid → AllByRecursion (λ (t : Take). HasRows mid t.offer) proposal.takes → view ≡ proposal.view → takes ≡ proposal.takes
+    → MayMove book.reference mid view.offers takes
+may-move book proposal old mid versions view takes kept current right same made of_view are =
+    let may = sweep-moves book.reference book.history mid (sweep_of proposal) (still-kept book.reference book.history old mid kept.kept same) (may-sweep book proposal current right).sweeps made in
+    let shown = ap (λ (v : GroupView). v.offers) (of_view ∙ current.same) in
+    subst (λ (offers : List Offer). MayMove book.reference mid offers takes) (sym shown)
+    (subst (MayMove book.reference mid (offers_shown book.reference book.history proposal.view.group)) (sym are) may)
 
 -- where a growth was refused, all stays
 pub legal-still : (reference : Tables) (history : List Entry) (old mid : Totals) (old_counts new_counts : Versions) → IsKeptLegal reference history old old_counts → SameAnswers old mid

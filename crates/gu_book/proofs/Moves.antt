@@ -25,10 +25,12 @@ use Rattle.gu_offers.specs.Changes.{changed, taken}
 use Rattle.gu_offers.specs.Rows.{Row, left_in, left_of, row_at}
 use Rattle.gu_positions.specs.Changes.{KeepsRows}
 use Rattle.gu_positions.specs.Rows.{has_row, lots_in}
+use Rattle.gu_view.specs.View.{offer_of}
+use Rattle.gu_view.specs.declared.view.Offer.{Offer as ShownOffer}
 use Rattle.gu_book.specs.Beside.{IsAccounted, IsKept, IsShown}
 use Rattle.gu_book.specs.Effects.{HoldsMoved, KeepsMade, OnlyRowsOf, SameAnswers, SameEntries, UsesMore}
 use Rattle.gu_book.specs.Limits.{path_behind}
-use Rattle.gu_book.specs.Moving.{HasRows, MayMove, MovesAll, MovesOne, given_by, lots_used, part, parts}
+use Rattle.gu_book.specs.Moving.{HasRows, MayMove, MovesAll, MovesOne, ShowsPath, given_by, lots_used, part, parts}
 use Rattle.gu_book.specs.Offers.{standing_of}
 use Rattle.gu_book.specs.Positions.{report_behind}
 use Rattle.gu_book.specs.declared.totals.Totals.{Totals}
@@ -187,25 +189,35 @@ take-room reference totals one_take offer report is room k d within =
     )
 
 -- its lots are there
-pub take-there : (reference : Tables) (totals : Totals) (one_take : Take) (offer : Offer) (report : Report) → Some (offer, report) ≡ given_by totals one_take.offer → MayMove reference totals (one_take ∷ [])
+pub take-there : (reference : Tables) (totals : Totals) (offers : List ShownOffer) (one_take : Take) (offer : Offer) (report : Report) → Some (offer, report) ≡ given_by totals one_take.offer → MayMove reference totals offers (one_take ∷ [])
     → one_take.lots ≤ lots_in totals.positions report.side report.account report.symbol
-take-there reference totals one_take offer report is may =
+take-there reference totals offers one_take offer report is may =
     let f = found-there reference may.history totals one_take.offer may.kept may.still_open.0 in
     let same = (seen-is reference may.history totals one_take.offer offer report f.1 f.0 may.kept.beside (given-seen totals one_take.offer offer report is) f.2).1 in
     let less : f.0.moved + one_take.lots ≤ f.0.offer.lots = omega (arith, f.4, may.left.0) in
     subst (λ (r : Report). one_take.lots ≤ lots_in totals.positions r.side r.account r.symbol) (sym same) (taken-there reference may.history totals one_take.offer one_take.lots f.0 f.1 may.kept f.2 f.3 less)
 
 -- and the rows are made
-pub take-rows : (reference : Tables) (totals : Totals) (one_take : Take) (offer : Offer) (report : Report) → Some (offer, report) ≡ given_by totals one_take.offer → MayMove reference totals (one_take ∷ [])
+pub take-rows : (reference : Tables) (totals : Totals) (offers : List ShownOffer) (one_take : Take) (offer : Offer) (report : Report) → Some (offer, report) ≡ given_by totals one_take.offer → MayMove reference totals offers (one_take ∷ [])
     → (has_row totals.positions report.account report.symbol ≡ true) × (has_row totals.positions offer.account report.symbol ≡ true)
-take-rows reference totals one_take offer report is may =
+take-rows reference totals offers one_take offer report is may =
     subst (λ (g : Option (Offer × Report)). IfSome g (λ g. (has_row totals.positions g.1.account g.1.symbol ≡ true) × (has_row totals.positions g.0.account g.1.symbol ≡ true))) (sym is) may.rows.0
 
+-- the view shows its offer with the path that it comes under
+pub take-path : (reference : Tables) (totals : Totals) (offers : List ShownOffer) (one_take : Take) (offer : Offer) (report : Report) (shown : ShownOffer)
+    → Some (offer, report) ≡ given_by totals one_take.offer → Some shown ≡ offer_of offers one_take.offer → MayMove reference totals offers (one_take ∷ []) → shown.path ≡ path_behind reference offer
+take-path reference totals offers one_take offer report shown is found may =
+    let one = seen-row totals one_take.offer offer report (given-seen totals one_take.offer offer report is) in
+    let has =
+    subst (λ (found : Option Row). IfSome found (λ (row : Row). option_map (λ (o : ShownOffer). o.path) (offer_of offers one_take.offer) ≡ Some (path_behind reference row.offer))) one.1 may.paths.0
+    ∙ ap (λ (o : Offer). Some (path_behind reference o)) one.2 in
+    let both : Some shown.path ≡ Some (path_behind reference offer) = ap (option_map (λ (o : ShownOffer). o.path)) found ∙ has in cc
+
 -- one take was moved
-pub moves-one : (reference : Tables) (old new : Totals) (one_take : Take) (offer : Offer) (report : Report) → Some (offer, report) ≡ given_by old one_take.offer → MayMove reference old (one_take ∷ [])
+pub moves-one : (reference : Tables) (old new : Totals) (offers : List ShownOffer) (one_take : Take) (offer : Offer) (report : Report) → Some (offer, report) ≡ given_by old one_take.offer → MayMove reference old offers (one_take ∷ [])
     → SameEntries old new → new.offers ≡ changed old.offers one_take.offer (taken one_take.lots) → UsesMore reference old.limits new.limits offer one_take.lots
     → HoldsMoved old.positions new.positions report report.account offer.account one_take.lots → KeepsRows old.positions new.positions → MovesOne reference old new one_take
-moves-one reference old new one_take offer report is may same offers uses holds rows =
+moves-one reference old new shown one_take offer report is may same offers uses holds rows =
     let seen = given-seen old one_take.offer offer report is in
     let one = seen-row old one_take.offer offer report seen in
     record {
@@ -279,8 +291,8 @@ module _ (reference : Tables) (old new : Totals) (one_take : Take) (moves : Move
       omega (arith, room group key, sum_by-cons uses one_take takes, mine, later-used takes later group key, limits.limits.lots group key, limits.uses group key)
 
   -- the takes that come later may be moved then
-  pub may-rest : (takes : List Take) → MayMove reference old (one_take ∷ takes) → MayMove reference new takes
-  may-rest takes may =
+  pub may-rest : (offers : List ShownOffer) (takes : List Take) → MayMove reference old offers (one_take ∷ takes) → MayMove reference new offers takes
+  may-rest offers takes may =
       let later = may.ascending.0 in
       let f = found-there reference may.history old one_take.offer may.kept may.still_open.0 in
       let at : row_at old.offers one_take.offer ≡ Some f.0 = ap (λ (rs : List Row). row_at rs one_take.offer) may.kept.beside.offers ∙ f.2.at in
@@ -296,6 +308,9 @@ module _ (reference : Tables) (old new : Totals) (one_take : Take) (moves : Move
         room = room-left takes f.0 at later may.room;
         rows = along2 (λ (t : Take). one_take.offer < t.offer) (λ (t : Take). HasRows old t.offer) (λ (t : Take). HasRows new t.offer) takes
             (λ t after has. has_rows-on old new t.offer (later-given t.offer after) (λ account symbol h. moves.rows account symbol ∙ h) has) later may.rows.1;
+        paths = along2 (λ (t : Take). one_take.offer < t.offer) (λ (t : Take). ShowsPath reference old.offers offers t.offer) (λ (t : Take). ShowsPath reference new.offers offers t.offer) takes
+            (λ t after shows. subst (λ (found : Option Row). IfSome found (λ (row : Row). option_map (λ (o : ShownOffer). o.path) (offer_of offers t.offer) ≡ Some (path_behind reference row.offer))) (sym (later-row t.offer after)) shows)
+            later may.paths.1;
       }
 
   -- what was moved before, and this one
@@ -310,8 +325,9 @@ module _ (reference : Tables) (old new : Totals) (one_take : Take) (moves : Move
   }
 
 -- the first of takes that may be moved may be
-pub may-first : (reference : Tables) (totals : Totals) (one_take : Take) (takes : List Take) → MayMove reference totals (one_take ∷ takes) → MayMove reference totals (one_take ∷ [])
-may-first reference totals one_take takes may = record {
+pub may-first : (reference : Tables) (totals : Totals) (offers : List ShownOffer) (one_take : Take) (takes : List Take) → MayMove reference totals offers (one_take ∷ takes)
+    → MayMove reference totals offers (one_take ∷ [])
+may-first reference totals offers one_take takes may = record {
   history = may.history;
   kept = may.kept;
   ascending = (tt, tt);
@@ -321,6 +337,7 @@ may-first reference totals one_take takes may = record {
       let uses : Take → ℕ = λ t. option_map_or (λ (r : Row). lots_under r.offer.group (path_behind reference r.offer) t.lots group key) (row_at totals.offers t.offer) 0 in
       omega (arith, may.room group key, sum_by-cons uses one_take takes, sum_by-cons uses one_take []);
   rows = (may.rows.0, tt);
+  paths = (may.paths.0, tt);
 }
 
 -- nothing was moved

@@ -1,5 +1,5 @@
 -- What a sweep of a group's view takes is left, and there is room for it.
-use Rattle.std.proofs.Common.{◌≡◌, ℕ, zero, suc, ◌+◌, ◌-◌, ◌<◌, ◌≤◌, ◌==◌, ◌&&◌, Bool, true, false, cond, List, [], ◌∷◌, map, sum_by, slice_get, if◌then◌else◌, Option, Some, None, refl, sym, ap, ◌∙◌, arith, subst, inl, inr}
+use Rattle.std.proofs.Common.{◌≡◌, ℕ, zero, suc, ◌+◌, ◌-◌, ◌<◌, ◌≤◌, ◌==◌, ◌&&◌, Bool, true, false, cond, List, [], ◌∷◌, map, sum_by, slice_get, if◌then◌else◌, Option, Some, None, IfSome, refl, sym, ap, ◌∙◌, arith, subst, inl, inr}
 use Rattle.std.specs.List.{AllByRecursion, cons_option, filter_map, list_any}
 use Rattle.std.specs.Option.{option_and_then, option_map, option_map_or}
 use Rattle.std.proofs.lemmas.Bool.{cases_Bool, ltb-true}
@@ -26,12 +26,12 @@ use Rattle.gu_limits.specs.Limits.{room_in}
 use Rattle.gu_offers.specs.Rows.{Row, is_open_in, left_in, left_of, numbers_from, open_numbers, open_offer_at, row_at}
 use Rattle.gu_view.proofs.RoomLemmas.{has_key-keys_of}
 use Rattle.gu_view.specs.Takes.{IsAdmissible, lots_under}
-use Rattle.gu_view.specs.View.{keys_of}
+use Rattle.gu_view.specs.View.{keys_of, offer_of}
 use Rattle.gu_view.specs.declared.view.Offer.{Offer}
 use Rattle.gu_view.specs.declared.view.Room.{Room}
 use Rattle.gu_book.specs.Beside.{IsKept}
 use Rattle.gu_book.specs.Limits.{path_behind, room_of}
-use Rattle.gu_book.specs.Moving.{HasRows, MayMove, lots_used}
+use Rattle.gu_book.specs.Moving.{HasRows, MayMove, ShowsPath, lots_used}
 use Rattle.gu_book.specs.Offers.{standing_of}
 use Rattle.gu_book.specs.Sweeps.{IsSweepOf}
 use Rattle.gu_book.specs.Views.{group_view, offers_shown, shown}
@@ -111,13 +111,13 @@ offers-stand reference history group =
 
 -- ---- lots
 
--- what holds of each offer holds of one of a number
-named : (P : Offer → Type 0) (offers : List Offer) (n : ℕ) → list_any (λ (o : Offer). o.number == n) offers ≡ true → AllByRecursion P offers → (o : Offer) × (o.number ≡ n) × P o
+-- what holds of each offer holds of the one of a number
+named : (P : Offer → Type 0) (offers : List Offer) (n : ℕ) → list_any (λ (o : Offer). o.number == n) offers ≡ true → AllByRecursion P offers → (o : Offer) × (offer_of offers n ≡ Some o) × (o.number ≡ n) × P o
 named P [] n has all = cc
 named P (o ∷ offers) n has all =
     elim (cases_Bool (o.number == n)) [
-      | inl hit ↦ (o, (Decides-eqb o.number n).0 hit, all.0)
-      | inr miss ↦ named P offers n (sym (rw miss refl) ∙ has) all.1
+      | inl hit ↦ (o, rw hit refl, (Decides-eqb o.number n).0 hit, all.0)
+      | inr miss ↦ rw miss (named P offers n (sym (rw miss refl) ∙ has) all.1)
     ]
 
 -- where offers ascend, each take has the lots that are taken of its offer
@@ -134,6 +134,7 @@ own-lots (take ∷ takes) later =
 -- a take is of an open offer, which has its lots left
 pub record TakesLeft (reference : Tables) (rows : List Row) (group : Group) (offers : List Offer) (t : Take) : Type 0 where
   pub o : Offer
+  pub found : offer_of offers t.offer ≡ Some o
   pub number : o.number ≡ t.offer
   pub stands : Stands reference rows group o
   pub lots : t.lots ≤ o.lots
@@ -162,12 +163,13 @@ all-left reference history sweep right =
     along2 (λ (t : Take). list_any (λ (o : Offer). o.number == t.offer) offers ≡ true) (λ (t : Take). lots t.offer ≡ t.lots) (TakesLeft reference rows sweep.group offers) sweep.takes
     (λ t known own.
     let found = named Has offers t.offer known all in
-    let it = found.2 in
+    let it = found.3 in
     record {
       o = found.0;
-      number = found.1;
+      found = found.1;
+      number = found.2;
       stands = it.0;
-      lots = omega (arith, it.1, ap lots found.1, own);
+      lots = omega (arith, it.1, ap lots found.2, own);
       among = it.2;
     })
     (recursion_from_All (λ (t : Take). list_any (λ (o : Offer). o.number == t.offer) offers ≡ true) sweep.takes right.right.takes_known)
@@ -276,7 +278,7 @@ under-room reference history group key lots within =
 -- ---- a sweep that may follow may be moved
 
 pub sweep-moves : (reference : Tables) (history : List Entry) (totals : Totals) (sweep : SweepEntry) → IsKept reference history totals → IsSweepOf (group_view reference history sweep.group) sweep
-    → AllByRecursion (λ (t : Take). HasRows totals t.offer) sweep.takes → MayMove reference totals sweep.takes
+    → AllByRecursion (λ (t : Take). HasRows totals t.offer) sweep.takes → MayMove reference totals (offers_shown reference history sweep.group) sweep.takes
 sweep-moves reference history totals sweep kept right made =
     let rows = standing_of history in
     let offers = offers_shown reference history sweep.group in
@@ -302,6 +304,12 @@ sweep-moves reference history totals sweep kept right made =
             | inr other ↦ omega (arith, here, none-used reference rows sweep.group offers group key sweep.takes other left)
           ];
       rows = made;
+      paths = along (TakesLeft reference rows sweep.group offers) (λ (t : Take). ShowsPath reference totals.offers offers t.offer) sweep.takes
+          (λ t takes.
+          let s = takes.stands in
+          let here : row_at totals.offers t.offer ≡ Some s.row = ap (λ (rs : List Row). row_at rs t.offer) same_rows ∙ ap (row_at rows) (sym takes.number) ∙ s.at in
+          subst (λ (found : Option Row). IfSome found (λ (row : Row). option_map (λ (o : Offer). o.path) (offer_of offers t.offer) ≡ Some (path_behind reference row.offer))) (sym here)
+          (ap (option_map (λ (o : Offer). o.path)) takes.found ∙ ap (λ (path : List LimitKey). Some path) s.path)) left;
     }
   where
     left-there : (t : Take) (takes : TakesLeft reference (standing_of history) sweep.group (offers_shown reference history sweep.group) t) → left_in (standing_of history) t.offer ≡ left_of takes.stands.row

@@ -20,6 +20,8 @@ use Rattle.gu_offers.specs.Changes.{changed, taken}
 use Rattle.gu_offers.specs.Rows.{Row, left_in, row_at}
 use Rattle.gu_positions.specs.Changes.{KeepsRows}
 use Rattle.gu_positions.specs.Rows.{has_row, lots_on}
+use Rattle.gu_view.specs.View.{offer_of}
+use Rattle.gu_view.specs.declared.view.Offer.{Offer as ShownOffer}
 use Rattle.gu_book.specs.Beside.{IsAccounted, IsKept, IsShown}
 use Rattle.gu_book.specs.Effects.{SameEntries, UsesMore}
 use Rattle.gu_book.specs.Limits.{path_behind}
@@ -42,13 +44,19 @@ given_by totals n = option_and_then (λ (row : Row). option_map (λ (r : Report)
 abbrev pub HasRows : Totals → ℕ → Type 0
 HasRows totals n = IfSome (given_by totals n) (λ g. (has_row totals.positions g.1.account g.1.symbol ≡ true) × (has_row totals.positions g.0.account g.1.symbol ≡ true))
 
+-- of these offers of a view the one with a number has the path that it comes under
+abbrev pub ShowsPath : Tables → List Row → List ShownOffer → ℕ → Type 0
+ShowsPath reference rows offers n =
+    IfSome (row_at rows n) (λ row. option_map (λ (o : ShownOffer). o.path) (offer_of offers n) ≡ Some (path_behind reference row.offer))
+
 -- the lots that takes use under a key in a group
 abbrev pub lots_used : Tables → List Row → List Take → Group → LimitKey → ℕ
 lots_used reference rows takes group key =
     sum_by (λ (t : Take). option_map_or (λ (r : Row). lots_under r.offer.group (path_behind reference r.offer) t.lots group key) (row_at rows t.offer) 0) takes
 
--- takes may be moved: offers ascend, each is open and has the lots left, every room suffices for all, and rows are made
-pub record MayMove (reference : Tables) (totals : Totals) (takes : List Take) : Type 0 where
+-- takes of a view's offers may be moved: offers ascend, each is open and has the lots left, every room suffices for all, rows are
+-- made, and the view shows the paths
+pub record MayMove (reference : Tables) (totals : Totals) (offers : List ShownOffer) (takes : List Take) : Type 0 where
   pub history : List Entry
   pub kept : IsKept reference history totals
   pub ascending : Later (λ (a b : Take). a.offer < b.offer) takes
@@ -56,6 +64,7 @@ pub record MayMove (reference : Tables) (totals : Totals) (takes : List Take) : 
   pub left : AllByRecursion (λ (t : Take). t.lots ≤ left_in totals.offers t.offer) takes
   pub room : (group : Group) (key : LimitKey) → lots_used reference totals.offers takes group key ≤ room_in totals.limits group key
   pub rows : AllByRecursion (λ (t : Take). HasRows totals t.offer) takes
+  pub paths : AllByRecursion (λ (t : Take). ShowsPath reference totals.offers offers t.offer) takes
 
 -- one take was moved
 pub record MovesOne (reference : Tables) (old new : Totals) (take : Take) : Type 0 where

@@ -288,7 +288,7 @@ impl Book {
         self.history.push_swept(sweep)?;
         move_takes(
             &mut self.totals,
-            &self.reference,
+            proposal.view(),
             proposal.takes().as_slice(),
         );
         touch(&mut self.versions, &touched, place);

@@ -11,8 +11,8 @@ ghost use Rattle.gu_book.specs.Sweeps.{IsSweepOf};
 
 use crate::totals::Totals;
 use gu_flow::Proposal;
-use gu_ref::Reference;
 use gu_terms::{OfferNo, SweepEntry, Take};
+use gu_view::View;
 use std::alloc::AllocError;
 
 /// The sweep that a proposal asks for.
@@ -72,23 +72,31 @@ pub fn make_ways(totals: &mut Totals, takes: &[Take]) -> Result<(), AllocError>
     Ok(())
 }
 
-/// Moves the lots of one take. It takes no memory.
-fn move_take(totals: &mut Totals, reference: &Reference, take: &Take)
-    requires { MayMove reference.now totals.old (take.now ∷ []) }
-    ensures { MovesOne reference.now totals.old totals.new take.now }
+/// Moves the lots of one take, and charges them under the path that a view shows. It takes no memory.
+fn move_take(totals: &mut Totals, view: &View, take: &Take)
+    requires { (reference : Tables) × MayMove reference totals.old view.now.offers (take.now ∷ []) }
+    ensures { (reference : Tables)
+        → MayMove reference totals.old view.now.offers (take.now ∷ [])
+        → MovesOne reference totals.old totals.new take.now }
 {
     let Some((offer, report)) = totals.given(take.offer) else {
         unreachable!();
     };
-    totals.move_lots(reference, take.offer, &offer, &report, take.lots);
+    let Some(shown) = view.offer(take.offer) else {
+        unreachable!();
+    };
+    totals.limits.charge(&offer.group, &shown.path, take.lots);
+    totals.move_lots(take.offer, &offer, &report, take.lots);
 }
 
-/// Moves the lots of takes, one after another. It takes no memory.
-pub fn move_takes(totals: &mut Totals, reference: &Reference, takes: &[Take])
-    requires { MayMove reference.now totals.old takes.now }
-    ensures { MovesAll reference.now totals.old totals.new takes.now }
+/// Moves the lots of takes of a view's offers, one after another. It takes no memory.
+pub fn move_takes(totals: &mut Totals, view: &View, takes: &[Take])
+    requires { (reference : Tables) × MayMove reference totals.old view.now.offers takes.now }
+    ensures { (reference : Tables)
+        → MayMove reference totals.old view.now.offers takes.now
+        → MovesAll reference totals.old totals.new takes.now }
 {
     for take in takes {
-        move_take(totals, reference, take);
+        move_take(totals, view, take);
     }
 }

@@ -221,29 +221,19 @@ impl Totals {
         )
     }
 
-    /// Lots of an offer are moved: they are used under the keys of its path, and leave the account of its report for its own. The rows
-    /// are made. It takes no memory.
-    pub fn move_lots(
-        &mut self,
-        reference: &Reference,
-        number: OfferNo,
-        offer: &Offer,
-        report: &Report,
-        lots: u64,
-    )
+    /// Lots of an offer are moved: they leave the account of its report for its own. The rows are made. It takes no memory.
+    pub fn move_lots(&mut self, number: OfferNo, offer: &Offer, report: &Report, lots: u64)
         requires left { lots ≤ left_in self.old.offers number }
-        requires room { All (λ key. lots ≤ room_in self.old.limits offer.now.group key) (path_behind reference.now offer.now) }
         requires there { lots ≤ lots_in self.old.positions report.now.side report.now.account report.now.symbol }
         requires from { has_row self.old.positions report.now.account report.now.symbol ≡ true }
         requires to { has_row self.old.positions offer.now.account report.now.symbol ≡ true }
         ensures entries { SameEntries self.old self.new }
         ensures offers { self.new.offers ≡ changed self.old.offers number (taken lots) }
-        ensures limits { UsesMore reference.now self.old.limits self.new.limits offer.now lots }
+        ensures limits { self.new.limits ≡ self.old.limits }
         ensures positions { HoldsMoved self.old.positions self.new.positions report.now report.now.account offer.now.account lots }
         ensures rows { KeepsRows self.old.positions self.new.positions }
     {
         self.offers.take(number, lots);
-        charge(&mut self.limits, reference, offer, lots);
         self.positions.shift(
             report.account,
             offer.account,
@@ -253,7 +243,7 @@ impl Totals {
         );
     }
 
-    /// Lots of an offer are claimed: the rows are made, and they are moved.
+    /// Lots of an offer are claimed: the rows are made, and they are used under the keys of its path and moved.
     pub fn claim(
         &mut self,
         reference: &Reference,
@@ -275,7 +265,8 @@ impl Totals {
         ensures refused { OnErr result (SameAnswers self.old self.new) }
     {
         self.make_way(offer, report)?;
-        self.move_lots(reference, number, offer, report, lots);
+        charge(&mut self.limits, reference, offer, lots);
+        self.move_lots(number, offer, report, lots);
         Ok(())
     }
 

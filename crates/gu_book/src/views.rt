@@ -2,20 +2,22 @@
 
 ghost use Rattle.std.specs.Prelude.{◌≡◌, ◌<◌, ◌^◌, ◌++◌, IfOk, OnOk};
 ghost use Rattle.std.specs.List.{filter_map};
-ghost use Rattle.std.specs.Option.{option_map, option_to_list};
-ghost use Rattle.gu_limits.specs.Paths.{path_of};
+ghost use Rattle.std.specs.Option.{option_to_list};
 ghost use Rattle.gu_book.specs.Beside.{IsShown};
 ghost use Rattle.gu_book.specs.Counted.{version_in};
 ghost use Rattle.gu_view.specs.View.{IsNested};
-ghost use Rattle.gu_book.specs.Shown.{offers_in, rooms_in, shown_at, view_in};
+ghost use Rattle.gu_book.specs.Shown.{rooms_in, shown_at, view_in};
 
 use crate::totals::Totals;
 use crate::versions::Versions;
 use gu_limits::{LimitTable, path_between};
 use gu_ref::Reference;
-use gu_terms::{AgreementId, Group, LimitKey, OfferNo};
+use gu_terms::{Group, LimitKey, OfferNo};
 use gu_view::{KeyedOffers, Offer, Room, View};
 use std::alloc::{AllocError, Global};
+
+/// The keys that each path is expected to bring to a view: as many as there are on one without a guarantor.
+const EXPECTED_KEYS: usize = 4;
 
 /// The offer of a number, as a view shows it: what is left of it, its agreement and its path. It takes no memory.
 pub fn shown_offer(reference: &Reference, totals: &Totals, number: u64) -> Option<Offer>
@@ -114,7 +116,7 @@ pub fn view_of(
     totals.limits.rules();
     let numbers = totals.offers.open_numbers(*group);
     let offers = offers_of(alloc, reference, totals, numbers)?;
-    let offers = KeyedOffers::new(alloc, offers, numbers.len())?;
+    let offers = KeyedOffers::new(alloc, offers, numbers.len().saturating_mul(EXPECTED_KEYS))?;
     let rooms = rooms_of(alloc, &totals.limits, group, offers.keys())?;
     View::of(alloc, *group, versions.of(group), offers, rooms)
 }

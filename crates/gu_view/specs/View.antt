@@ -1,5 +1,5 @@
 -- The view of a group: its open offers, and the rooms of the keys on their paths.
-use Rattle.std.specs.Prelude.{◌≡◌, ℕ, suc, ◌<◌, ◌≤◌, not, List, [], ◌∷◌, Option, Some, All, AllPairs, IsTrue, filter, length, map, slice_get}
+use Rattle.std.specs.Prelude.{◌≡◌, ℕ, suc, ◌<◌, ◌≤◌, ◌==◌, not, List, [], ◌∷◌, Option, Some, All, AllPairs, IsTrue, filter, find, length, map, slice_get}
 use Rattle.std.specs.List.{flat_map, position_or_len}
 use Rattle.gu_terms.specs.declared.account.AccountId.{AccountId}
 use Rattle.gu_terms.specs.declared.firm.FirmId.{FirmId}
@@ -39,6 +39,10 @@ pub record IsView (view : GroupView) : Type 0 where
   pub rooms : map (λ r. r.key) view.rooms ≡ keys_of view.offers
   pub few_rooms : length view.rooms ≤ 20480
   pub limits : All (λ r. r.lots ≤ 1000000000) view.rooms
+
+-- the offer with a number
+abbrev pub offer_of : List Offer → ℕ → Option Offer
+offer_of offers number = find (λ o. o.number == number) offers
 
 -- the place of a key among keys
 abbrev pub place_among : List LimitKey → LimitKey → ℕ

@@ -40,7 +40,7 @@ fn smaller(offers: &[Offer], number: OfferNo) -> usize
 }
 
 /// The place of the offer with a number.
-fn offer_place(offers: &[Offer], number: OfferNo) -> Option<usize>
+pub fn offer_place(offers: &[Offer], number: OfferNo) -> Option<usize>
     requires { AllPairs (λ a b. a.number < b.number) offers.now }
     ensures { result ≡ position (λ o. o.number == number) offers.now }
 {

@@ -3,7 +3,7 @@
 ghost use Rattle.std.specs.Prelude.{◌≡◌, ◌<◌, List, All, AllPairs, IfOk, IsTrue, MatchOption, find, slice_get};
 ghost use Rattle.std.specs.Option.{option_map};
 ghost use Rattle.indexmap.specs.IndexMap.{get};
-ghost use Rattle.gu_terms.specs.LimitKeys.{has_key, key_eq};
+ghost use Rattle.gu_terms.specs.LimitKeys.{key_eq};
 ghost use Rattle.gu_view.specs.Check.{has_room};
 ghost use Rattle.gu_terms.specs.declared.limit_key.LimitKey.{LimitKey};
 ghost use Rattle.gu_view.specs.Keeping.{IsGiven};

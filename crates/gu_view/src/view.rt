@@ -1,11 +1,13 @@
 //! Views of groups.
 
 ghost use Rattle.std.specs.Prelude.{◌≡◌, ℕ, ◌<◌, ◌≤◌, ◌↔◌, IfErr, IfOk, IfSome, IsTrue, MatchOption, OnOk, length, map, All, position, slice_get};
+ghost use Rattle.std.specs.Option.{option_copied};
 ghost use Rattle.gu_terms.specs.LimitKeys.{key_eq};
 ghost use Rattle.gu_terms.specs.declared.limit_key.LimitKey.TheVariants.{Agr};
 ghost use Rattle.gu_view.specs.Making.{bad_offer, view_of, AreRooms, MakesView, Refuses};
-ghost use Rattle.gu_view.specs.View.{IsView, IsNested, keys_of, place_of, places_under};
+ghost use Rattle.gu_view.specs.View.{IsView, IsNested, keys_of, offer_of, place_of, places_under};
 
+use crate::checker::offer_place;
 use crate::error::ViewError;
 use crate::keyed_offers::KeyedOffers;
 use crate::making::{bad_offer, path_differs, rooms_in_order};
@@ -174,6 +176,14 @@ impl View {
         ensures sound { IsView self.now }
     {
         self.offers.as_slice()
+    }
+
+    /// The offer with a number.
+    pub fn offer(&self, number: OfferNo) -> Option<&Offer>
+        ensures { option_copied result ≡ offer_of self.now.offers number }
+    {
+        let place = offer_place(&self.offers, number)?;
+        Some(&self.offers[place])
     }
 
     /// The rooms, in order of first mention.

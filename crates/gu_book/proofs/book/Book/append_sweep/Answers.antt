@@ -10,7 +10,7 @@ use Rattle.gu_book.specs.Commits.{IsCurrent, sweep_of}
 use Rattle.gu_book.specs.Counted.{version_in}
 use Rattle.gu_book.specs.Kept.{Kept}
 use Rattle.gu_book.specs.Legal.{StandsLast}
-use Rattle.gu_book.specs.Moving.{HasRows, MayMove, MovesAll}
+use Rattle.gu_book.specs.Moving.{HasRows, MovesAll}
 use Rattle.gu_book.proofs.Committing.{legal-still, legal-swept, may-move, swept-last}
 use Rattle.gu_book.proofs.CountedLemmas.{versions-fit, versions-same}
 use Rattle.gu_book.proofs.book.Book.append_sweep.Goals as goal
@@ -34,9 +34,11 @@ move_takes-requires c =
     let book : Kept = record { reference = old.reference; history = old.history } in
     let proposal = c.args.proposal.now in
     let current = subst (λ (k : Kept). IsCurrent k proposal.view) (sym c.self.view_is) c.requires in
-    let made = subst (AllByRecursion (λ (t : Take). HasRows c.make_ways.new.totals t.offer)) (c.as_slice.ensures.takes ∙ c.takes.ensures.takes) c.in_ok-make_ways.ensures.rows in
-    subst (MayMove old.reference c.make_ways.new.totals) (sym (c.as_slice-2.ensures.takes ∙ c.takes-2.ensures.takes))
-    (may-move book proposal old.totals c.make_ways.new.totals old.versions c.self.invariant current c.in_ok-sweep.ensures.right c.make_ways.ensures.same made)
+    let made = subst (AllByRecursion (λ (t : Take). HasRows c.make_ways.new.totals t.offer)) (c.as_slice.ensures.takes ∙ c.takes.ensures.takes) c.in_ok-make_ways.ensures.rows in (
+      old.reference,
+      may-move book proposal old.totals c.make_ways.new.totals old.versions c.view.result.now c.as_slice-2.result.now c.self.invariant current c.in_ok-sweep.ensures.right c.make_ways.ensures.same made
+          c.view.ensures.view (c.as_slice-2.ensures.takes ∙ c.takes-2.ensures.takes),
+    )
 
 pub touch-requires-clause-fits : goal.touch-requires-clause-fits
 touch-requires-clause-fits c group =
@@ -52,7 +54,12 @@ invariant_of-self-2 c =
     let still =
     legal-still old.reference old.history old.totals c.make_ways.new.totals old.versions c.know.new.versions c.self.invariant c.make_ways.ensures.same (c.make_ways.ensures.known old.reference) c.know.ensures.days
     c.know.ensures.same in
-    let moves = subst (MovesAll old.reference c.make_ways.new.totals c.move_takes.new.totals) (c.as_slice-2.ensures.takes ∙ c.takes-2.ensures.takes) c.move_takes.ensures in
+    let made = subst (AllByRecursion (λ (t : Take). HasRows c.make_ways.new.totals t.offer)) (c.as_slice.ensures.takes ∙ c.takes.ensures.takes) c.in_ok-make_ways.ensures.rows in
+    let takes = c.as_slice-2.ensures.takes ∙ c.takes-2.ensures.takes in
+    let may =
+    may-move book proposal old.totals c.make_ways.new.totals old.versions c.view.result.now c.as_slice-2.result.now c.self.invariant current c.in_ok-sweep.ensures.right c.make_ways.ensures.same made
+    c.view.ensures.view takes in
+    let moves = subst (MovesAll old.reference c.make_ways.new.totals c.move_takes.new.totals) takes (c.move_takes.ensures old.reference may) in
     let is = c.in_ok-sweep.ensures.sweep in
     let pushed = c.in_ok-push_swept.ensures.added ∙ ap (λ (s : SweepEntry). old.history ++ Swept s ∷ []) is in
     subst (λ (history : List Entry). IsKeptLegal old.reference history c.move_takes.new.totals c.touch.new.versions) (sym pushed)

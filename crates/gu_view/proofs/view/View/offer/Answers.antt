@@ -1,0 +1,38 @@
+use Rattle.std.proofs.Common.{◌≡◌, ◌==◌, ◌<◌, ◌∙◌, ℕ, Bool, true, false, cond, List, None, Some, length, nat_lt, refl, sym, ap, arith}
+use Rattle.std.specs.Prelude.{find, position, slice_get}
+use Rattle.std.specs.List.{position_or_len}
+use Rattle.std.specs.Option.{option_and_then, option_copied}
+use Rattle.std.proofs.lemmas.Bool.{ltb-false, ltb-true}
+use Rattle.std.proofs.lemmas.List.Folds.{find_at}
+use Rattle.std.proofs.lemmas.Option.{slice_get-get_or, slice_get_past}
+use Rattle.gu_view.specs.declared.view.Offer.{Offer}
+use Rattle.gu_view.proofs.view.View.offer.Goals as goal
+
+-- what is found stands at its place
+found_at_place : (test : Offer → Bool) (offers : List Offer) → find test offers ≡ option_and_then (slice_get offers) (position test offers)
+found_at_place test offers = find_at test offers ∙ go (nat_lt (position_or_len test offers) (length offers)) refl
+  where
+    go : (b : Bool) → nat_lt (position_or_len test offers) (length offers) ≡ b
+        → slice_get offers (position_or_len test offers) ≡ option_and_then (slice_get offers) (cond b (Some (position_or_len test offers)) None)
+    go true e = refl
+    go false e = slice_get_past offers (position_or_len test offers) (ltb-false (position_or_len test offers) (length offers) e)
+
+within : (test : Offer → Bool) (offers : List Offer) (place : ℕ) → position test offers ≡ Some place → place < length offers
+within test offers place is = by (nat_lt (position_or_len test offers) (length offers)) refl is
+  where
+    by : (b : Bool) → nat_lt (position_or_len test offers) (length offers) ≡ b → cond b (Some (position_or_len test offers)) None ≡ Some place → place < length offers
+    by true e h = let same : position_or_len test offers ≡ place = cc in omega (arith, same, ltb-true (position_or_len test offers) (length offers) e)
+    by false e h = cc
+
+pub returns-in_err-place : goal.returns-in_err-place
+returns-in_err-place c =
+    let offers = c.self.inside.offers.items in
+    let none = rw c.deref.ensures.value at (sym c.offer_place.ensures ∙ c.in_err-place.was) in
+    rw (← c.self.view_is, found_at_place (λ o. o.number == c.args.number) offers, none) (ap option_copied c.from_residual.ensures)
+
+pub returns : goal.returns
+returns c =
+    let offers = c.self.inside.offers.items in
+    let place = rw c.deref.ensures.value at (sym c.offer_place.ensures ∙ c.in_ok-place.was) in
+    rw (← c.self.view_is, found_at_place (λ o. o.number == c.args.number) offers, place)
+    (ap (λ (o : Offer). Some o) c.index.ensures ∙ sym (slice_get-get_or offers c.in_ok-place.place c.index.result.now (within (λ o. o.number == c.args.number) offers c.in_ok-place.place place)))
