@@ -1,5 +1,5 @@
 -- What is kept beside a history takes accepted commands in.
-use Rattle.std.proofs.Common.{◌≡◌, ℕ, zero, suc, ◌+◌, ◌*◌, ◌-◌, ◌<◌, ◌≤◌, ◌&&◌, ◌++◌, Bool, true, false, List, [], ◌∷◌, length, slice_index_or, Option, Some, Result, Ok, Err, refl, sym, ap, ◌∙◌, arith, subst}
+use Rattle.std.proofs.Common.{◌≡◌, ℕ, zero, suc, ◌+◌, ◌*◌, ◌-◌, ◌<◌, ◌≤◌, ◌&&◌, ◌++◌, Bool, true, false, List, [], ◌∷◌, length, slice_index_or, Option, None, Some, unwrap_or, Result, Ok, Err, refl, sym, ap, ◌∙◌, arith, subst}
 use Rattle.std.specs.Result.{OnOk}
 use Rattle.std.specs.Option.{option_map}
 use Rattle.gu_terms.proofs.SameNames.{same_account-own, same_group-own, same_symbol-own}
@@ -28,6 +28,8 @@ use Rattle.gu_offers.specs.Changes.{changed, closed, reversed, taken}
 use Rattle.gu_offers.specs.Rows.{Row, left_in, row_at, today_in}
 use Rattle.gu_positions.specs.Changes.{lots_at}
 use Rattle.gu_positions.specs.Rows.{lots_in}
+use Rattle.gu_trades.specs.Terms.{terms_of}
+use Rattle.gu_trades.specs.declared.terms.Terms.{Terms}
 use Rattle.gu_book.specs.Accepted.{MayClaim, MayReverse, TakesIn}
 use Rattle.gu_book.specs.Answer.{State, answer, answer_in, first_standing, state_of}
 use Rattle.gu_book.specs.Beside.{IsBeside, IsKept, state_in}
@@ -88,24 +90,29 @@ own_place : (side : Side) (account : AccountId) (symbol : Symbol) (lots : ℕ) �
 own_place Buy account symbol lots = rw (same_account-own account, same_symbol-own symbol) refl
 own_place Sell account symbol lots = rw (same_account-own account, same_symbol-own symbol) refl
 
--- an offer and its report, as they are found
-pub record IsSeen (totals : Totals) (n : ℕ) (offer : Offer) (report : Report) : Type 0 where
+-- terms that are found are a report's
+pub some-terms : (found : Option Report) (terms : Terms) → Some terms ≡ option_map terms_of found → (report : Report) × (found ≡ Some report) × (terms_of report ≡ terms)
+some-terms None terms is = cc
+some-terms (Some r) terms is = (r, refl, ap (λ (t : Option Terms). unwrap_or t terms) (sym is))
+
+-- an offer and the terms of its report, as they are found
+pub record IsSeen (totals : Totals) (n : ℕ) (offer : Offer) (report : Terms) : Type 0 where
   pub shown : Some offer ≡ option_map (λ (r : Row). r.offer) (row_at totals.offers n)
-  pub found : Some report ≡ report_by totals.trades offer.firm offer.report
+  pub found : Some report ≡ option_map terms_of (report_by totals.trades offer.firm offer.report)
 
 -- are those of the history
-pub seen-is : (reference : Tables) (history : List Entry) (totals : Totals) (n : ℕ) (offer : Offer) (report found : Report) (row : Row) → IsBeside reference history totals
-    → IsSeen totals n offer report → IsThere history n row found → (offer ≡ row.offer) × (report ≡ found)
+pub seen-is : (reference : Tables) (history : List Entry) (totals : Totals) (n : ℕ) (offer : Offer) (report : Terms) (found : Report) (row : Row) → IsBeside reference history totals
+    → IsSeen totals n offer report → IsThere history n row found → (offer ≡ row.offer) × (report ≡ terms_of found)
 seen-is reference history totals n offer report found row b seen there =
     let shown : Some offer ≡ Some row.offer = seen.shown ∙ ap (λ (rs : List Row). option_map (λ (r : Row). r.offer) (row_at rs n)) b.offers ∙ ap (λ (o : Option Row). option_map (λ (r : Row). r.offer) o) there.at in
     let same : offer ≡ row.offer = cc in
-    let reported : Some report ≡ Some found = seen.found ∙ (λ i. report_by (b.reports i) (same i).firm (same i).report) ∙ there.behind in
-    let one : report ≡ found = cc in (same, one)
+    let reported : Some report ≡ Some (terms_of found) = seen.found ∙ ap (option_map terms_of) ((λ i. report_by (b.reports i) (same i).firm (same i).report) ∙ there.behind) in
+    (same, ap (λ (t : Option Terms). unwrap_or t report) reported)
 
 -- ---- claims
 
 -- a claim has room
-pub claim-room : (reference : Tables) (totals : Totals) (n : ℕ) (offer : Offer) (report : Report) → IsSeen totals n offer report → MayClaim reference totals n → (k : ℕ) (d : LimitKey)
+pub claim-room : (reference : Tables) (totals : Totals) (n : ℕ) (offer : Offer) (report : Terms) → IsSeen totals n offer report → MayClaim reference totals n → (k : ℕ) (d : LimitKey)
     → k < length (path_behind reference offer) → left_in totals.offers n ≤ room_in totals.limits offer.group (slice_index_or (path_behind reference offer) k d)
 claim-room reference totals n offer report seen may k d within =
     let history = may.may.history in
@@ -129,7 +136,7 @@ taken-there reference history totals n lots row report kept there stands less =
     omega (arith, has, own_place report.side report.account report.symbol lots, kept.beside.positions report.side report.account report.symbol)
 
 -- and so are those of a claim
-pub claim-there : (reference : Tables) (totals : Totals) (n : ℕ) (offer : Offer) (report : Report) → IsSeen totals n offer report → MayClaim reference totals n
+pub claim-there : (reference : Tables) (totals : Totals) (n : ℕ) (offer : Offer) (report : Terms) → IsSeen totals n offer report → MayClaim reference totals n
     → left_in totals.offers n ≤ lots_in totals.positions report.side report.account report.symbol
 claim-there reference totals n offer report seen may =
     let history = may.may.history in
@@ -138,10 +145,10 @@ claim-there reference totals n offer report seen may =
     let same = (seen-is reference history totals n offer report f.1 f.0 kept.beside seen f.2.there).1 in
     let left = ap (λ (rs : List Row). left_in rs n) kept.beside.offers in
     let fits = taken-there reference history totals n (left_in (standing_of history) n) f.0 f.1 kept f.2.there f.2.stands f.2.less in
-    subst (λ (r : Report). left_in totals.offers n ≤ lots_in totals.positions r.side r.account r.symbol) (sym same) (omega (arith, fits, left))
+    subst (λ (r : Terms). left_in totals.offers n ≤ lots_in totals.positions r.side r.account r.symbol) (sym same) (omega (arith, fits, left))
 
 -- an entry that takes lots of an open offer is taken in
-pub lots-taken : (reference : Tables) (history : List Entry) (old new : Totals) (entry : Entry) (n lots : ℕ) (offer : Offer) (report found : Report) (row : Row) → IsSeen old n offer report → TakesOne entry n lots
+pub lots-taken : (reference : Tables) (history : List Entry) (old new : Totals) (entry : Entry) (n lots : ℕ) (offer : Offer) (report : Terms) (found : Report) (row : Row) → IsSeen old n offer report → TakesOne entry n lots
     → SameEntries old new → new.offers ≡ changed old.offers n (taken lots) → UsesMore reference old.limits new.limits offer lots
     → HoldsMoved old.positions new.positions report report.account offer.account lots → IsKept reference history old → IsThere history n row found → row.is_shut ≡ false → row.moved + lots ≤ row.offer.lots
     → IsKept reference (history ++ entry ∷ []) new
@@ -149,11 +156,11 @@ lots-taken reference history old new entry n lots offer report found row seen ta
     let is = seen-is reference history old n offer report found row kept.beside seen there in
     kept-taken reference history old new entry n lots row found takes kept there stands less same offers
     (subst (λ (o : Offer). UsesMore reference old.limits new.limits o lots) is.0 uses)
-    (subst (λ (r : Report). HoldsMoved old.positions new.positions r r.account row.offer.account lots) is.1
+    (subst (λ (r : Terms). HoldsMoved old.positions new.positions r r.account row.offer.account lots) is.1
     (subst (λ (o : Offer). HoldsMoved old.positions new.positions report report.account o.account lots) is.0 holds))
 
 -- a claim is taken in
-pub claim-taken : (reference : Tables) (old new : Totals) (n : ℕ) (offer : Offer) (report : Report) → IsSeen old n offer report → SameEntries old new
+pub claim-taken : (reference : Tables) (old new : Totals) (n : ℕ) (offer : Offer) (report : Terms) → IsSeen old n offer report → SameEntries old new
     → new.offers ≡ changed old.offers n (taken (left_in old.offers n)) → UsesMore reference old.limits new.limits offer (left_in old.offers n)
     → HoldsMoved old.positions new.positions report report.account offer.account (left_in old.offers n) → (firm : FirmId) → TakesIn reference old new (Claim firm n)
 claim-taken reference old new n offer report seen same offers uses holds firm history kept accepted =
@@ -181,7 +188,7 @@ key_at (key ∷ path) zero d within = rw (key_eq-refl key) refl
 key_at (key ∷ path) (suc k) d within = either-true (key_eq key (slice_index_or path k d)) (has_key path (slice_index_or path k d)) (key_at path k d (omega arith))
 
 -- what is reversed was used
-pub reversal-used : (reference : Tables) (totals : Totals) (n : ℕ) (offer : Offer) (report : Report) → IsSeen totals n offer report → MayReverse reference totals n → (k : ℕ) (d : LimitKey)
+pub reversal-used : (reference : Tables) (totals : Totals) (n : ℕ) (offer : Offer) (report : Terms) → IsSeen totals n offer report → MayReverse reference totals n → (k : ℕ) (d : LimitKey)
     → k < length (path_behind reference offer) → today_in totals.offers n ≤ used_in totals.limits offer.group (slice_index_or (path_behind reference offer) k d)
 reversal-used reference totals n offer report seen may k d within =
     let history = may.may.history in
@@ -197,7 +204,7 @@ reversal-used reference totals n offer report seen may k d within =
     omega (arith, counts, today-is (standing_of history) n row there.at, ap (λ (rs : List Row). today_in rs n) b.offers, b.uses offer.group key)
 
 -- and its lots are there
-pub reversal-there : (reference : Tables) (totals : Totals) (n : ℕ) (offer : Offer) (report : Report) → IsSeen totals n offer report → MayReverse reference totals n
+pub reversal-there : (reference : Tables) (totals : Totals) (n : ℕ) (offer : Offer) (report : Terms) → IsSeen totals n offer report → MayReverse reference totals n
     → today_in totals.offers n ≤ lots_in totals.positions report.side offer.account report.symbol
 reversal-there reference totals n offer report seen may =
     let history = may.may.history in
@@ -220,11 +227,11 @@ reversal-there reference totals n offer report seen may =
       ap (λ (rs : List Row). today_in rs n) b.offers,
       b.positions found.side row.offer.account found.symbol,
     ) in
-    subst (λ (r : Report). today_in totals.offers n ≤ lots_in totals.positions r.side offer.account r.symbol) (sym is.1)
+    subst (λ (r : Terms). today_in totals.offers n ≤ lots_in totals.positions r.side offer.account r.symbol) (sym is.1)
     (subst (λ (at : Offer). today_in totals.offers n ≤ lots_in totals.positions found.side at.account found.symbol) (sym is.0) fits)
 
 -- a reversal is taken in
-pub reversal-taken : (reference : Tables) (old new : Totals) (n : ℕ) (offer : Offer) (report : Report) → IsSeen old n offer report → SameEntries old new
+pub reversal-taken : (reference : Tables) (old new : Totals) (n : ℕ) (offer : Offer) (report : Terms) → IsSeen old n offer report → SameEntries old new
     → new.offers ≡ changed old.offers n reversed → UsesLess reference old.limits new.limits offer (today_in old.offers n)
     → HoldsMoved old.positions new.positions report offer.account report.account (today_in old.offers n) → (firm : FirmId) → TakesIn reference old new (Reverse firm n)
 reversal-taken reference old new n offer report seen same offers uses holds firm history kept accepted =
@@ -238,6 +245,6 @@ reversal-taken reference old new n offer report seen same offers uses holds firm
     subst (λ (lots : ℕ). IsKept reference (history ++ taken_back firm n lots ∷ []) new) (sym own)
     (kept-taken_back reference history old new firm n row found kept there same offers
     (subst (λ (lots : ℕ). UsesLess reference old.limits new.limits row.offer lots) today (subst (λ (o : Offer). UsesLess reference old.limits new.limits o (today_in old.offers n)) is.0 uses))
-    (subst (λ (lots : ℕ). HoldsMoved old.positions new.positions found row.offer.account found.account lots) today
-    (subst (λ (r : Report). HoldsMoved old.positions new.positions r row.offer.account r.account (today_in old.offers n)) is.1
+    (subst (λ (lots : ℕ). HoldsMoved old.positions new.positions (terms_of found) row.offer.account found.account lots) today
+    (subst (λ (r : Terms). HoldsMoved old.positions new.positions r row.offer.account r.account (today_in old.offers n)) is.1
     (subst (λ (o : Offer). HoldsMoved old.positions new.positions report o.account report.account (today_in old.offers n)) is.0 holds))))

@@ -9,6 +9,7 @@ use Rattle.gu_offers.specs.Changes.{changed, closed, reversed, taken}
 use Rattle.gu_offers.specs.Rows.{Row, row_at}
 use Rattle.gu_positions.specs.Changes.{lots_at}
 use Rattle.gu_book.specs.Beside.{IsKept}
+use Rattle.gu_trades.specs.Terms.{terms_of}
 use Rattle.gu_book.specs.Effects.{HoldsMoved, SameEntries, UsesLess, UsesMore}
 use Rattle.gu_book.specs.Offers.{standing_of}
 use Rattle.gu_book.specs.Orderly.{AreWithin}
@@ -42,7 +43,7 @@ within-taken history n lots row at less within = all-changed (λ r. r.moved ≤ 
 -- a claim, or a sweep of one offer
 pub kept-taken : (reference : Tables) (history : List Entry) (old new : Totals) (entry : Entry) (n lots : ℕ) (row : Row) (report : Report) → TakesOne entry n lots → IsKept reference history old → IsThere history n row report
     → row.is_shut ≡ false → row.moved + lots ≤ row.offer.lots → SameEntries old new → new.offers ≡ changed old.offers n (taken lots)
-    → UsesMore reference old.limits new.limits row.offer lots → HoldsMoved old.positions new.positions report report.account row.offer.account lots
+    → UsesMore reference old.limits new.limits row.offer lots → HoldsMoved old.positions new.positions (terms_of report) report.account row.offer.account lots
     → IsKept reference (history ++ entry ∷ []) new
 kept-taken reference history old new entry n lots row report takes kept there stands less same offers uses holds =
     let rows = standing_of history in
@@ -87,7 +88,7 @@ kept-refused reference history old new firm n why lots row report kept there sam
 -- a reversal
 pub kept-taken_back : (reference : Tables) (history : List Entry) (old new : Totals) (firm : FirmId) (n : ℕ) (row : Row) (report : Report) → IsKept reference history old → IsThere history n row report
     → SameEntries old new → new.offers ≡ changed old.offers n reversed
-    → UsesLess reference old.limits new.limits row.offer row.today → HoldsMoved old.positions new.positions report row.offer.account report.account row.today
+    → UsesLess reference old.limits new.limits row.offer row.today → HoldsMoved old.positions new.positions (terms_of report) row.offer.account report.account row.today
     → IsKept reference (history ++ taken_back firm n row.today ∷ []) new
 kept-taken_back reference history old new firm n row report kept there same offers uses holds =
     let rows = standing_of history in

@@ -24,17 +24,18 @@ use Rattle.gu_terms.specs.declared.symbol.Symbol.{Symbol}
 use Rattle.gu_terms.proofs.Lists.{any_none}
 use Rattle.gu_ref.specs.Reference.{account_row}
 use Rattle.gu_ref.specs.Tables.{Tables}
-use Rattle.gu_trades.specs.Reports.{is_by, report_of, with_match}
+use Rattle.gu_trades.specs.Reports.{is_by, report_by, report_of, with_match}
 use Rattle.gu_offers.specs.Changes.{changed, next_day, offered, with_lines}
 use Rattle.gu_offers.specs.Rows.{Row, row_at}
 use Rattle.gu_positions.specs.Rows.{Row as PositionRow, has_row}
+use Rattle.gu_trades.specs.declared.terms.Terms.{Terms}
 use Rattle.gu_book.specs.Accepted.{MayTakeIn}
 use Rattle.gu_book.specs.Answer.{done_of, has_unknown_account, report_tests, state_of, tests_of}
 use Rattle.gu_book.specs.Beside.{IsAccounted}
 use Rattle.gu_book.specs.Effects.{IsEven, OnlyRowsOf, SameAnswers}
 use Rattle.gu_book.specs.Reports.{open_day, reports_of}
 use Rattle.gu_book.specs.declared.totals.Totals.{Totals}
-use Rattle.gu_book.proofs.Accepting.{IsSeen}
+use Rattle.gu_book.proofs.Accepting.{IsSeen, some-terms}
 use Rattle.gu_book.proofs.KeptReports.{all-push}
 use Rattle.gu_book.proofs.OrderlyLemmas.{all-at, all-changed}
 use Rattle.gu_book.proofs.Passing.{none_stands}
@@ -96,7 +97,7 @@ offers-known reference old new (Ok x) n row change at same known ok err =
 offers-known reference old new (Err e) n row change at same known ok err = subst (AllByRecursion (λ (o : Row). is_there reference o.offer.account)) (sym err.offers) known
 
 -- an offer that is seen stands in a row
-pub seen-row : (totals : Totals) (n : ℕ) (offer : Offer) (report : Report) → IsSeen totals n offer report → (row : Row) × (row_at totals.offers n ≡ Some row) × (row.offer ≡ offer)
+pub seen-row : (totals : Totals) (n : ℕ) (offer : Offer) (report : Terms) → IsSeen totals n offer report → (row : Row) × (row_at totals.offers n ≡ Some row) × (row.offer ≡ offer)
 seen-row totals n offer report seen = by (row_at totals.offers n) refl seen.shown
   where
     by : (found : Option Row) → row_at totals.offers n ≡ found → Some offer ≡ option_map (λ (r : Row). r.offer) found → (row : Row) × (row_at totals.offers n ≡ Some row) × (row.offer ≡ offer)
@@ -104,13 +105,14 @@ seen-row totals n offer report seen = by (row_at totals.offers n) refl seen.show
     by (Some row) e h = let same : row.offer ≡ offer = cc in (row, e, same)
 
 -- a claim or a reversal
-pub known-moved : {T E : Type 0} (reference : Tables) (old new : Totals) (r : Result T E) (n : ℕ) (change : Row → Row) (offer : Offer) (report : Report) → IsSeen old n offer report → ((row : Row) → (change row).offer ≡ row.offer)
+pub known-moved : {T E : Type 0} (reference : Tables) (old new : Totals) (r : Result T E) (n : ℕ) (change : Row → Row) (offer : Offer) (report : Terms) → IsSeen old n offer report → ((row : Row) → (change row).offer ≡ row.offer)
     → new.trades ≡ old.trades → OnOk r (new.offers ≡ changed old.offers n change) → OnErr r (SameAnswers old new) → OnlyRowsOf old.positions new.positions (report.account ∷ offer.account ∷ [])
     → (IsEven old.positions → IsEven new.positions) → IsAccounted reference old → IsAccounted reference new
 known-moved reference old new r n change offer report seen same trades ok err rows even known =
     let one = seen-row old n offer report seen in
     let mine = subst (λ (o : Offer). is_there reference o.account) one.2 (all-at (λ (o : Row). is_there reference o.offer.account) old.offers n one.0 one.1 known.offers) in
-    let theirs = all-found (λ (q : Report). is_there reference q.account) (is_by offer.firm offer.report) old.trades report known.reports (sym seen.found) in
+    let behind = some-terms (report_by old.trades offer.firm offer.report) report seen.found in
+    let theirs = subst (λ (t : Terms). is_there reference t.account) behind.2 (all-found (λ (q : Report). is_there reference q.account) (is_by offer.firm offer.report) old.trades behind.0 known.reports behind.1) in
     record {
       reports = subst (AllByRecursion (λ (q : Report). is_there reference q.account)) (sym trades) known.reports;
       offers = offers-known reference old new r n one.0 change one.1 (same one.0) known.offers ok err;

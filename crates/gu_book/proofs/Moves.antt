@@ -19,6 +19,8 @@ use Rattle.gu_terms.specs.declared.takes.Take.{Take}
 use Rattle.gu_ref.specs.Reference.{account_row}
 use Rattle.gu_ref.specs.Tables.{Tables}
 use Rattle.gu_trades.specs.Reports.{is_by, report_by}
+use Rattle.gu_trades.specs.Terms.{terms_of}
+use Rattle.gu_trades.specs.declared.terms.Terms.{Terms}
 use Rattle.gu_limits.specs.Changes.{lots_under}
 use Rattle.gu_limits.specs.Limits.{room_in}
 use Rattle.gu_offers.specs.Changes.{changed, taken}
@@ -34,7 +36,7 @@ use Rattle.gu_book.specs.Moving.{HasRows, MayMove, MovesAll, MovesOne, ShowsPath
 use Rattle.gu_book.specs.Offers.{standing_of}
 use Rattle.gu_book.specs.Positions.{report_behind}
 use Rattle.gu_book.specs.declared.totals.Totals.{Totals}
-use Rattle.gu_book.proofs.Accepting.{IsSeen, key_at, lots-taken, seen-is, taken-there}
+use Rattle.gu_book.proofs.Accepting.{IsSeen, key_at, lots-taken, seen-is, some-terms, taken-there}
 use Rattle.gu_book.proofs.Facts.{IsThere, open-left, left-is, there}
 use Rattle.gu_book.proofs.InOrder.{IsInOrder, in_order}
 use Rattle.gu_book.proofs.KeptReports.{all-push}
@@ -46,30 +48,30 @@ use Rattle.gu_book.proofs.Takers.{apart, part-takes}
 -- ---- what is found
 
 -- the offer and the report that are found are seen
-pub given-seen : (totals : Totals) (n : ℕ) (offer : Offer) (report : Report) → Some (offer, report) ≡ given_by totals n → IsSeen totals n offer report
+pub given-seen : (totals : Totals) (n : ℕ) (offer : Offer) (report : Terms) → Some (offer, report) ≡ given_by totals n → IsSeen totals n offer report
 given-seen totals n offer report is = by (row_at totals.offers n) refl is
   where
     by : (found : Option Row) → row_at totals.offers n ≡ found
-        → ◌≡◌ {A = Option (Offer × Report)} (Some (offer, report)) (option_and_then {U = Offer × Report} (λ (row : Row). option_map {U = Offer × Report} (λ (r : Report). (row.offer, r)) (report_behind totals.trades row)) found)
+        → ◌≡◌ {A = Option (Offer × Terms)} (Some (offer, report)) (option_and_then {U = Offer × Terms} (λ (row : Row). option_map {U = Offer × Terms} (λ (r : Report). (row.offer, terms_of r)) (report_behind totals.trades row)) found)
         → IsSeen totals n offer report
     by None e h = cc
     by (Some row) e h = of (report_behind totals.trades row) refl h
       where
-        of : (behind : Option Report) → report_behind totals.trades row ≡ behind → ◌≡◌ {A = Option (Offer × Report)} (Some (offer, report)) (option_map {U = Offer × Report} (λ (r : Report). (row.offer, r)) behind)
+        of : (behind : Option Report) → report_behind totals.trades row ≡ behind → ◌≡◌ {A = Option (Offer × Terms)} (Some (offer, report)) (option_map {U = Offer × Terms} (λ (r : Report). (row.offer, terms_of r)) behind)
             → IsSeen totals n offer report
         of None f k = cc
         of (Some r) f k =
-            let pair : ◌≡◌ {A = Offer × Report} (offer, report) (row.offer, r) = cc in
-            let offers : offer ≡ row.offer = ap (λ (p : Offer × Report). p.0) pair in
-            let reports : report ≡ r = ap (λ (p : Offer × Report). p.1) pair in
+            let pair : ◌≡◌ {A = Offer × Terms} (offer, report) (row.offer, terms_of r) = cc in
+            let offers : offer ≡ row.offer = ap (λ (p : Offer × Terms). p.0) pair in
+            let reports : report ≡ terms_of r = ap (λ (p : Offer × Terms). p.1) pair in
             record {
               shown = ap (λ (o : Offer). Some o) offers ∙ ap (λ (o : Option Row). option_map (λ (q : Row). q.offer) o) (sym e);
-              found = ap (λ (q : Report). Some q) reports ∙ sym f ∙ (λ i. report_by totals.trades (sym offers i).firm (sym offers i).report);
+              found = ap (λ (q : Terms). Some q) reports ∙ ap (option_map terms_of) (sym f ∙ (λ i. report_by totals.trades (sym offers i).firm (sym offers i).report));
             }
 
 -- an open offer of a history in order is there
 pub open-there : (history : List Entry) (n : ℕ) → IsInOrder history → 0 < left_in (standing_of history) n
-    → (row : Row) × (report : Report) × IsThere history n row report × (row.is_shut ≡ false) × (row.moved + left_in (standing_of history) n ≤ row.offer.lots)
+    → (row : Row) × (report : Terms) × IsThere history n row report × (row.is_shut ≡ false) × (row.moved + left_in (standing_of history) n ≤ row.offer.lots)
 open-there history n o some =
     let found = there history n o (is_there (row_at (standing_of history) n) some) in
     let row = found.0 in
@@ -84,7 +86,7 @@ open-there history n o some =
 
 -- and found by what is kept
 pub found-there : (reference : Tables) (history : List Entry) (totals : Totals) (n : ℕ) → IsKept reference history totals → 0 < left_in totals.offers n
-    → (row : Row) × (report : Report) × IsThere history n row report × (row.is_shut ≡ false) × (row.moved + left_in totals.offers n ≤ row.offer.lots)
+    → (row : Row) × (report : Terms) × IsThere history n row report × (row.is_shut ≡ false) × (row.moved + left_in totals.offers n ≤ row.offer.lots)
 found-there reference history totals n kept open_ =
     let same = ap (λ (rs : List Row). left_in rs n) kept.beside.offers in
     let it = open-there history n (in_order history kept.orderly) (omega (arith, open_, same)) in
@@ -95,9 +97,9 @@ found-there reference history totals n kept open_ =
 -- rows that were made for an offer stay, where no answer changes
 has_rows-on : (old new : Totals) (n : ℕ) → given_by new n ≡ given_by old n → KeepsMade old.positions new.positions → HasRows old n → HasRows new n
 has_rows-on old new n same stay has =
-    subst (λ (g : Option (Offer × Report)). IfSome g (λ g. (has_row new.positions g.1.account g.1.symbol ≡ true) × (has_row new.positions g.0.account g.1.symbol ≡ true))) (sym same) (by (given_by old n) has)
+    subst (λ (g : Option (Offer × Terms)). IfSome g (λ g. (has_row new.positions g.1.account g.1.symbol ≡ true) × (has_row new.positions g.0.account g.1.symbol ≡ true))) (sym same) (by (given_by old n) has)
   where
-    by : (g : Option (Offer × Report)) → IfSome g (λ g. (has_row old.positions g.1.account g.1.symbol ≡ true) × (has_row old.positions g.0.account g.1.symbol ≡ true))
+    by : (g : Option (Offer × Terms)) → IfSome g (λ g. (has_row old.positions g.1.account g.1.symbol ≡ true) × (has_row old.positions g.0.account g.1.symbol ≡ true))
         → IfSome g (λ g. (has_row new.positions g.1.account g.1.symbol ≡ true) × (has_row new.positions g.0.account g.1.symbol ≡ true))
     by None h = tt
     by (Some g) h = (stay g.1.account g.1.symbol h.0, stay g.0.account g.1.symbol h.1)
@@ -105,7 +107,7 @@ has_rows-on old new n same stay has =
 pub has_rows-kept : (old new : Totals) (n : ℕ) → SameAnswers old new → KeepsMade old.positions new.positions → HasRows old n → HasRows new n
 has_rows-kept old new n same stay has =
     has_rows-on old new n
-    (λ i. option_and_then (λ (row : Row). option_map (λ (r : Report). (row.offer, r)) (report_behind (same.entries.trades i) row)) (row_at (same.offers i) n)) stay has
+    (λ i. option_and_then (λ (row : Row). option_map (λ (r : Report). (row.offer, terms_of r)) (report_behind (same.entries.trades i) row)) (row_at (same.offers i) n)) stay has
 
 all-rows-kept : (old new : Totals) (takes : List Take) → SameAnswers old new → KeepsMade old.positions new.positions → AllByRecursion (λ (t : Take). HasRows old t.offer) takes
     → AllByRecursion (λ (t : Take). HasRows new t.offer) takes
@@ -119,26 +121,29 @@ all-rows-next old new takes i {take_} within is same stay has more =
     (all-push (λ (t : Take). HasRows new t.offer) (take i takes) take_ (all-rows-kept old new (take i takes) same stay has) more)
 
 -- those that are made for an offer
-pub has_rows-made : (old new : Totals) (n : ℕ) (offer : Offer) (report : Report) → SameAnswers old new → Some (offer, report) ≡ given_by old n
+pub has_rows-made : (old new : Totals) (n : ℕ) (offer : Offer) (report : Terms) → SameAnswers old new → Some (offer, report) ≡ given_by old n
     → has_row new.positions report.account report.symbol ≡ true → has_row new.positions offer.account report.symbol ≡ true → HasRows new n
 has_rows-made old new n offer report same is from to =
     let there : Some (offer, report) ≡ given_by new n =
-    is ∙ sym (λ i. option_and_then (λ (row : Row). option_map (λ (r : Report). (row.offer, r)) (report_behind (same.entries.trades i) row)) (row_at (same.offers i) n)) in
-    subst (λ (g : Option (Offer × Report)). IfSome g (λ g. (has_row new.positions g.1.account g.1.symbol ≡ true) × (has_row new.positions g.0.account g.1.symbol ≡ true))) there (from, to)
+    is ∙ sym (λ i. option_and_then (λ (row : Row). option_map (λ (r : Report). (row.offer, terms_of r)) (report_behind (same.entries.trades i) row)) (row_at (same.offers i) n)) in
+    subst (λ (g : Option (Offer × Terms)). IfSome g (λ g. (has_row new.positions g.1.account g.1.symbol ≡ true) × (has_row new.positions g.0.account g.1.symbol ≡ true))) there (from, to)
 
 -- none are wanted where there is no offer
 pub has_rows-none : (totals : Totals) (n : ℕ) → given_by totals n ≡ None → HasRows totals n
 has_rows-none totals n none =
-    subst (λ (g : Option (Offer × Report)). IfSome g (λ g. (has_row totals.positions g.1.account g.1.symbol ≡ true) × (has_row totals.positions g.0.account g.1.symbol ≡ true))) (sym none) tt
+    subst (λ (g : Option (Offer × Terms)). IfSome g (λ g. (has_row totals.positions g.1.account g.1.symbol ≡ true) × (has_row totals.positions g.0.account g.1.symbol ≡ true))) (sym none) tt
 
 -- their accounts are in the reference
-pub known-way : (reference : Tables) (old new : Totals) (n : ℕ) (offer : Offer) (report : Report) → Some (offer, report) ≡ given_by old n → SameAnswers old new
+pub known-way : (reference : Tables) (old new : Totals) (n : ℕ) (offer : Offer) (report : Terms) → Some (offer, report) ≡ given_by old n → SameAnswers old new
     → OnlyRowsOf old.positions new.positions (report.account ∷ offer.account ∷ []) → IsAccounted reference old → IsAccounted reference new
 known-way reference old new n offer report is same rows known =
     let seen = given-seen old n offer report is in
     let one = seen-row old n offer report seen in
     let mine = subst (λ (o : Offer). is_some (account_row reference o.account) ≡ true) one.2 (all-at (λ (o : Row). is_some (account_row reference o.offer.account) ≡ true) old.offers n one.0 one.1 known.offers) in
-    let theirs = all-found (λ (q : Report). is_some (account_row reference q.account) ≡ true) (is_by offer.firm offer.report) old.trades report known.reports (sym seen.found) in
+    let behind = some-terms (report_by old.trades offer.firm offer.report) report seen.found in
+    let theirs =
+    subst (λ (t : Terms). is_some (account_row reference t.account) ≡ true) behind.2
+    (all-found (λ (q : Report). is_some (account_row reference q.account) ≡ true) (is_by offer.firm offer.report) old.trades behind.0 known.reports behind.1) in
     record {
       reports = subst (AllByRecursion (λ (q : Report). is_some (account_row reference q.account) ≡ true)) (sym same.entries.trades) known.reports;
       offers = subst (AllByRecursion (λ (o : Row). is_some (account_row reference o.offer.account) ≡ true)) (sym same.offers) known.offers;
@@ -170,7 +175,7 @@ same-self totals = record {
 -- ---- one take
 
 -- a room that suffices for the lots of a take
-pub take-room : (reference : Tables) (totals : Totals) (one_take : Take) (offer : Offer) (report : Report) → Some (offer, report) ≡ given_by totals one_take.offer
+pub take-room : (reference : Tables) (totals : Totals) (one_take : Take) (offer : Offer) (report : Terms) → Some (offer, report) ≡ given_by totals one_take.offer
     → ((group : Group) (key : LimitKey) → lots_used reference totals.offers (one_take ∷ []) group key ≤ room_in totals.limits group key)
     → (k : ℕ) (d : LimitKey) → k < length (path_behind reference offer) → one_take.lots ≤ room_in totals.limits offer.group (slice_index_or (path_behind reference offer) k d)
 take-room reference totals one_take offer report is room k d within =
@@ -189,22 +194,22 @@ take-room reference totals one_take offer report is room k d within =
     )
 
 -- its lots are there
-pub take-there : (reference : Tables) (totals : Totals) (offers : List ShownOffer) (one_take : Take) (offer : Offer) (report : Report) → Some (offer, report) ≡ given_by totals one_take.offer → MayMove reference totals offers (one_take ∷ [])
+pub take-there : (reference : Tables) (totals : Totals) (offers : List ShownOffer) (one_take : Take) (offer : Offer) (report : Terms) → Some (offer, report) ≡ given_by totals one_take.offer → MayMove reference totals offers (one_take ∷ [])
     → one_take.lots ≤ lots_in totals.positions report.side report.account report.symbol
 take-there reference totals offers one_take offer report is may =
     let f = found-there reference may.history totals one_take.offer may.kept may.still_open.0 in
     let same = (seen-is reference may.history totals one_take.offer offer report f.1 f.0 may.kept.beside (given-seen totals one_take.offer offer report is) f.2).1 in
     let less : f.0.moved + one_take.lots ≤ f.0.offer.lots = omega (arith, f.4, may.left.0) in
-    subst (λ (r : Report). one_take.lots ≤ lots_in totals.positions r.side r.account r.symbol) (sym same) (taken-there reference may.history totals one_take.offer one_take.lots f.0 f.1 may.kept f.2 f.3 less)
+    subst (λ (r : Terms). one_take.lots ≤ lots_in totals.positions r.side r.account r.symbol) (sym same) (taken-there reference may.history totals one_take.offer one_take.lots f.0 f.1 may.kept f.2 f.3 less)
 
 -- and the rows are made
-pub take-rows : (reference : Tables) (totals : Totals) (offers : List ShownOffer) (one_take : Take) (offer : Offer) (report : Report) → Some (offer, report) ≡ given_by totals one_take.offer → MayMove reference totals offers (one_take ∷ [])
+pub take-rows : (reference : Tables) (totals : Totals) (offers : List ShownOffer) (one_take : Take) (offer : Offer) (report : Terms) → Some (offer, report) ≡ given_by totals one_take.offer → MayMove reference totals offers (one_take ∷ [])
     → (has_row totals.positions report.account report.symbol ≡ true) × (has_row totals.positions offer.account report.symbol ≡ true)
 take-rows reference totals offers one_take offer report is may =
-    subst (λ (g : Option (Offer × Report)). IfSome g (λ g. (has_row totals.positions g.1.account g.1.symbol ≡ true) × (has_row totals.positions g.0.account g.1.symbol ≡ true))) (sym is) may.rows.0
+    subst (λ (g : Option (Offer × Terms)). IfSome g (λ g. (has_row totals.positions g.1.account g.1.symbol ≡ true) × (has_row totals.positions g.0.account g.1.symbol ≡ true))) (sym is) may.rows.0
 
 -- the view shows its offer with the path that it comes under
-pub take-path : (reference : Tables) (totals : Totals) (offers : List ShownOffer) (one_take : Take) (offer : Offer) (report : Report) (shown : ShownOffer)
+pub take-path : (reference : Tables) (totals : Totals) (offers : List ShownOffer) (one_take : Take) (offer : Offer) (report : Terms) (shown : ShownOffer)
     → Some (offer, report) ≡ given_by totals one_take.offer → Some shown ≡ offer_of offers one_take.offer → MayMove reference totals offers (one_take ∷ []) → shown.path ≡ path_behind reference offer
 take-path reference totals offers one_take offer report shown is found may =
     let one = seen-row totals one_take.offer offer report (given-seen totals one_take.offer offer report is) in
@@ -214,7 +219,7 @@ take-path reference totals offers one_take offer report shown is found may =
     let both : Some shown.path ≡ Some (path_behind reference offer) = ap (option_map (λ (o : ShownOffer). o.path)) found ∙ has in cc
 
 -- one take was moved
-pub moves-one : (reference : Tables) (old new : Totals) (offers : List ShownOffer) (one_take : Take) (offer : Offer) (report : Report) → Some (offer, report) ≡ given_by old one_take.offer → MayMove reference old offers (one_take ∷ [])
+pub moves-one : (reference : Tables) (old new : Totals) (offers : List ShownOffer) (one_take : Take) (offer : Offer) (report : Terms) → Some (offer, report) ≡ given_by old one_take.offer → MayMove reference old offers (one_take ∷ [])
     → SameEntries old new → new.offers ≡ changed old.offers one_take.offer (taken one_take.lots) → UsesMore reference old.limits new.limits offer one_take.lots
     → HoldsMoved old.positions new.positions report report.account offer.account one_take.lots → KeepsRows old.positions new.positions → MovesOne reference old new one_take
 moves-one reference old new shown one_take offer report is may same offers uses holds rows =
@@ -270,7 +275,7 @@ module _ (reference : Tables) (old new : Totals) (one_take : Take) (moves : Move
 
   later-given : (m : ℕ) → one_take.offer < m → given_by new m ≡ given_by old m
   later-given m later =
-      λ i. option_and_then (λ (row : Row). option_map (λ (r : Report). (row.offer, r)) (report_behind (moves.entries.trades i) row)) (later-row m later i)
+      λ i. option_and_then (λ (row : Row). option_map (λ (r : Report). (row.offer, terms_of r)) (report_behind (moves.entries.trades i) row)) (later-row m later i)
 
   -- and later takes use what they would have used
   later-used : (takes : List Take) → AllByRecursion (λ (t : Take). one_take.offer < t.offer) takes → (group : Group) (key : LimitKey) → lots_used reference new.offers takes group key ≡ lots_used reference old.offers takes group key

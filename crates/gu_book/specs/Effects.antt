@@ -15,6 +15,7 @@ use Rattle.gu_limits.specs.Changes.{SameLimits, lots_under}
 use Rattle.gu_limits.specs.Limits.{GroupLimit, has_limit, limit_in, same_place, used_in}
 use Rattle.gu_positions.specs.Changes.{KeepsLots, lots_at}
 use Rattle.gu_positions.specs.Rows.{Row, has_row, lots_in, lots_on}
+use Rattle.gu_trades.specs.declared.terms.Terms.{Terms}
 use Rattle.gu_book.specs.Limits.{path_behind}
 use Rattle.gu_book.specs.declared.totals.Totals.{Totals}
 
@@ -45,8 +46,8 @@ pub record HoldsMore (old new : List Row) (reports : List Report) : Type 0 where
   pub lots : (side : Side) (account : AccountId) (symbol : Symbol) → lots_in new side account symbol ≡ lots_in old side account symbol + lots_of_reports reports side account symbol
   pub sums : (side : Side) (symbol : Symbol) → lots_on new side symbol ≤ lots_on old side symbol + 2000000
 
--- lots of a report leave one account for another
-pub record HoldsMoved (old new : List Row) (report : Report) (from to : AccountId) (moved : ℕ) : Type 0 where
+-- lots of a report of these terms leave one account for another
+pub record HoldsMoved (old new : List Row) (report : Terms) (from to : AccountId) (moved : ℕ) : Type 0 where
   pub lots : (side : Side) (account : AccountId) (symbol : Symbol)
       → lots_in new side account symbol
       ≡ lots_in old side account symbol - lots_at report.side from report.symbol moved side account symbol + lots_at report.side to report.symbol moved side account symbol

@@ -15,6 +15,8 @@ use Rattle.gu_terms.specs.declared.symbol.Symbol.{Symbol}
 use Rattle.gu_terms.specs.declared.takes.Take.{Take}
 use Rattle.gu_ref.specs.Tables.{Tables}
 use Rattle.gu_limits.specs.Changes.{lots_under}
+use Rattle.gu_trades.specs.Terms.{terms_of}
+use Rattle.gu_trades.specs.declared.terms.Terms.{Terms}
 use Rattle.gu_limits.specs.Limits.{room_in}
 use Rattle.gu_offers.specs.Changes.{changed, taken}
 use Rattle.gu_offers.specs.Rows.{Row, left_in, row_at}
@@ -36,9 +38,9 @@ part sweep take = Swept (record { group = sweep.group; takes = take ∷ []; cut 
 abbrev pub parts : SweepEntry → List Take → List Entry
 parts sweep takes = map (part sweep) takes
 
--- the offer of a number, and the report that it gives up
-abbrev pub given_by : Totals → ℕ → Option (Offer × Report)
-given_by totals n = option_and_then (λ (row : Row). option_map (λ (r : Report). (row.offer, r)) (report_behind totals.trades row)) (row_at totals.offers n)
+-- the offer of a number, and the terms of the report that it gives up
+abbrev pub given_by : Totals → ℕ → Option (Offer × Terms)
+given_by totals n = option_and_then (λ (row : Row). option_map (λ (r : Report). (row.offer, terms_of r)) (report_behind totals.trades row)) (row_at totals.offers n)
 
 -- the accounts between which lots of an offer move have rows of its instrument
 abbrev pub HasRows : Totals → ℕ → Type 0

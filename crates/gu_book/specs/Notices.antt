@@ -22,6 +22,8 @@ use Rattle.gu_ref.specs.Reference.{account_row}
 use Rattle.gu_ref.specs.Tables.{Tables}
 use Rattle.gu_ref.specs.declared.accounts.Account.{Account}
 use Rattle.gu_trades.specs.Reports.{report_by, with_match}
+use Rattle.gu_trades.specs.Terms.{terms_of}
+use Rattle.gu_trades.specs.declared.terms.Terms.{Terms}
 use Rattle.gu_book.specs.Kept.{Kept}
 use Rattle.gu_book.specs.Reports.{reports_of}
 use Rattle.gu_book.specs.Versions.{offer_at}
@@ -42,9 +44,9 @@ pub record Told : Type 0 where
   pub notice : Notice
 
 -- an event of an offer, of so many lots: the account is the offer's, the rest is of the trade that it gives up
-abbrev pub offer_notice : ℕ → OfferEvent → ℕ → Offer → Report → Notice
-offer_notice n event lots o r =
-    OfferOf (record { offer = n; event = event; lots = lots; account = o.account; symbol = r.symbol; side = r.side; price = r.price; day = r.day })
+abbrev pub offer_notice : ℕ → OfferEvent → ℕ → Offer → Terms → Notice
+offer_notice n event lots o t =
+    OfferOf (record { offer = n; event = event; lots = lots; account = o.account; symbol = t.symbol; side = t.side; price = t.price; day = t.day })
 
 -- a notice to the firm that carries an offer's account
 abbrev pub to_carrier : Tables → Offer → Notice → List Told
@@ -60,11 +62,11 @@ told_of register n tell = option_map_or (λ (o : Offer). option_map_or (tell o) 
 
 -- an offer was made: the firm that carries its account is told
 abbrev pub told_of_line : Register → ℕ → List Told
-told_of_line register n = told_of register n (λ o r. to_carrier register.reference o (offer_notice n IsOffered o.lots o r))
+told_of_line register n = told_of register n (λ o r. to_carrier register.reference o (offer_notice n IsOffered o.lots o (terms_of r)))
 
 -- lots of an offer were claimed, closed, or moved back: both its firms are told
 abbrev pub told_of_event : Register → ℕ → OfferEvent → ℕ → List Told
-told_of_event register n event lots = told_of register n (λ o r. to_both register.reference o (offer_notice n event lots o r))
+told_of_event register n event lots = told_of register n (λ o r. to_both register.reference o (offer_notice n event lots o (terms_of r)))
 
 -- a sweep took lots of an offer: where it took none, nobody is told (and none takes above a million)
 abbrev pub told_of_take : Register → Take → List Told

@@ -13,7 +13,7 @@ use gu_terms::{
     Command, Done, Entry, FirmId, History, Id, Lots, Notice, Offer, OfferEvent, OfferNo,
     OfferNotice, Reply, Report, Side, Take,
 };
-use gu_trades::Sides;
+use gu_trades::{Sides, Terms};
 use std::alloc::{AllocError, Global};
 
 /// The notices to one firm.
@@ -267,7 +267,7 @@ fn offer_notice(
     event: OfferEvent,
     lots: Lots,
     offer: &Offer,
-    report: &Report,
+    report: &Terms,
 ) -> Notice
     ensures { result ≡ offer_notice number event lots offer.now report.now }
 {

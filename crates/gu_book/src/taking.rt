@@ -50,7 +50,7 @@ fn take_in_claim(
     let Some(offer) = totals.offers.get(number) else {
         unreachable!();
     };
-    let Some(report) = totals.trades.side_of(offer.firm, offer.report) else {
+    let Some(report) = totals.trades.terms(&offer.firm, &offer.report) else {
         unreachable!();
     };
     let lots = totals.offers.left(number);
@@ -71,7 +71,7 @@ fn take_in_reversal(
     let Some(offer) = totals.offers.get(number) else {
         unreachable!();
     };
-    let Some(report) = totals.trades.side_of(offer.firm, offer.report) else {
+    let Some(report) = totals.trades.terms(&offer.firm, &offer.report) else {
         unreachable!();
     };
     let lots = totals.offers.moved_today(number);

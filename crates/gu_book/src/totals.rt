@@ -25,9 +25,7 @@ use gu_limits::{LimitTable, SetError};
 use gu_offers::Offers;
 use gu_positions::Positions;
 use gu_ref::Reference;
-use gu_terms::{
-    AccountId, Day, FirmId, Group, Id, LimitKey, Lines, Offer, OfferNo, Report, Seed, Symbol,
-};
+use gu_terms::{AccountId, Day, FirmId, Group, Id, LimitKey, Lines, Offer, OfferNo, Seed, Symbol};
 use gu_trades::{Counterpart, Terms, Trades};
 use indexmap::IndexSet;
 use std::alloc::{AllocError, Global};
@@ -195,17 +193,17 @@ impl Totals {
         Ok(())
     }
 
-    /// The offer of a number, and the report that it gives up.
-    pub fn given(&self, number: OfferNo) -> Option<(Offer, Report)>
+    /// The offer of a number, and the terms of the report that it gives up.
+    pub fn given(&self, number: OfferNo) -> Option<(Offer, Terms)>
         ensures { result ≡ given_by self.now number }
     {
         let offer = self.offers.get(number)?;
-        let report = self.trades.side_of(offer.firm, offer.report)?;
+        let report = self.trades.terms(&offer.firm, &offer.report)?;
         Some((offer, report))
     }
 
     /// Makes the rows of the accounts between which lots of an offer move. No answer changes.
-    pub fn make_way(&mut self, offer: &Offer, report: &Report) -> Result<(), AllocError>
+    pub fn make_way(&mut self, offer: &Offer, report: &Terms) -> Result<(), AllocError>
         ensures from { OnOk result (has_row self.new.positions report.now.account report.now.symbol ≡ true) }
         ensures to { OnOk result (has_row self.new.positions offer.now.account report.now.symbol ≡ true) }
         ensures stay { KeepsMade self.old.positions self.new.positions }
@@ -222,7 +220,7 @@ impl Totals {
     }
 
     /// Lots of an offer are moved: they leave the account of its report for its own. The rows are made. It takes no memory.
-    pub fn move_lots(&mut self, number: OfferNo, offer: &Offer, report: &Report, lots: u64)
+    pub fn move_lots(&mut self, number: OfferNo, offer: &Offer, report: &Terms, lots: u64)
         requires left { lots ≤ left_in self.old.offers number }
         requires there { lots ≤ lots_in self.old.positions report.now.side report.now.account report.now.symbol }
         requires from { has_row self.old.positions report.now.account report.now.symbol ≡ true }
@@ -249,7 +247,7 @@ impl Totals {
         reference: &Reference,
         number: OfferNo,
         offer: &Offer,
-        report: &Report,
+        report: &Terms,
         lots: u64,
     ) -> Result<(), AllocError>
         requires left { lots ≤ left_in self.old.offers number }
@@ -276,7 +274,7 @@ impl Totals {
         reference: &Reference,
         number: OfferNo,
         offer: &Offer,
-        report: &Report,
+        report: &Terms,
         lots: u64,
     ) -> Result<(), AllocError>
         requires closed { left_in self.old.offers number ≡ 0 }

@@ -7,23 +7,23 @@ use Rattle.gu_book.proofs.taking.take_in_claim.Goals as goal
 pub claim-requires-clause-room : goal.claim-requires-clause-room
 claim-requires-clause-room c =
     rw c.left-lots.ensures
-    (claim-room c.args.reference.now c.args.totals.now c.args.number c.in-Some.offer c.in-Some-side_of.report (record { shown = c.in-Some.ensures; found = c.in-Some-side_of.ensures.found })
+    (claim-room c.args.reference.now c.args.totals.now c.args.number c.in-Some.offer c.in-Some-terms.report (record { shown = c.in-Some.ensures; found = c.in-Some-terms.ensures })
     c.requires)
 
 pub claim-requires-clause-there : goal.claim-requires-clause-there
 claim-requires-clause-there c =
     rw c.left-lots.ensures
-    (claim-there c.args.reference.now c.args.totals.now c.args.number c.in-Some.offer c.in-Some-side_of.report
-    (record { shown = c.in-Some.ensures; found = c.in-Some-side_of.ensures.found }) c.requires)
+    (claim-there c.args.reference.now c.args.totals.now c.args.number c.in-Some.offer c.in-Some-terms.report
+    (record { shown = c.in-Some.ensures; found = c.in-Some-terms.ensures }) c.requires)
 
 pub returns-clause-taken : goal.returns-clause-taken
 returns-clause-taken c =
     on_ok_three c.claim.result
-    (claim-taken c.args.reference.now c.args.totals.now c.claim.new.self c.args.number c.in-Some.offer c.in-Some-side_of.report
-    (record { shown = c.in-Some.ensures; found = c.in-Some-side_of.ensures.found }) c.claim.ensures.entries)
+    (claim-taken c.args.reference.now c.args.totals.now c.claim.new.self c.args.number c.in-Some.offer c.in-Some-terms.report
+    (record { shown = c.in-Some.ensures; found = c.in-Some-terms.ensures }) c.claim.ensures.entries)
     (rw c.left-lots.ensures at c.claim.ensures.offers) (rw c.left-lots.ensures at c.claim.ensures.limits) (rw c.left-lots.ensures at c.claim.ensures.positions)
 
 pub returns-clause-known : goal.returns-clause-known
 returns-clause-known c =
-    known-moved c.args.reference.now c.args.totals.now c.claim.new.self c.claim.result c.args.number (taken c.left-lots.result) c.in-Some.offer c.in-Some-side_of.report
-    (record { shown = c.in-Some.ensures; found = c.in-Some-side_of.ensures.found }) (λ row. refl) c.claim.ensures.entries.trades c.claim.ensures.offers c.claim.ensures.refused c.claim.ensures.rows c.claim.ensures.even
+    known-moved c.args.reference.now c.args.totals.now c.claim.new.self c.claim.result c.args.number (taken c.left-lots.result) c.in-Some.offer c.in-Some-terms.report
+    (record { shown = c.in-Some.ensures; found = c.in-Some-terms.ensures }) (λ row. refl) c.claim.ensures.entries.trades c.claim.ensures.offers c.claim.ensures.refused c.claim.ensures.rows c.claim.ensures.even
