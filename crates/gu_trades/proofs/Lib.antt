@@ -1,3 +1,4 @@
+pub mod KeptLemmas
 pub mod LastPlaces
 pub mod OneMore
 pub mod ReportPlaces

@@ -1,5 +1,6 @@
 pub mod Counterparts
 pub mod Kept
+pub mod KeptReports
 pub mod Matching
 pub mod Numbered
 pub mod Places

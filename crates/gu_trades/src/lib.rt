@@ -2,6 +2,7 @@
 #![tactic(auto)]
 
 mod counterpart;
+mod kept;
 mod matching;
 mod places;
 mod reports;

@@ -1,11 +1,14 @@
 //! Reports, as they are kept.
 
-ghost use Rattle.std.specs.Prelude.{◌≡◌, ◌++◌, ◌∷◌, [], ◌<◌, length, slice_get, OnErr, OnOk, Some};
+ghost use Rattle.std.specs.Prelude.{◌≡◌, ◌++◌, ◌∷◌, [], ◌<◌, ◌≤◌, All, length, map, slice_get, OnErr, OnOk, Some};
 ghost use Rattle.std.specs.Option.{option_map};
+ghost use Rattle.gu_terms.specs.Names.{IsId};
 ghost use Rattle.gu_terms.specs.declared.report.Report.{Report as ReportOf};
 ghost use Rattle.gu_trades.specs.Kept.{is_by_at, is_with_at};
+ghost use Rattle.gu_trades.specs.KeptReports.{report_of_kept, IsWithin};
 ghost use Rattle.gu_trades.specs.Terms.{report_with, terms_of};
 
+use crate::kept::{Kept, id_of};
 use crate::terms::Terms;
 use gu_terms::{FirmId, Id, Report};
 use std::alloc::{AllocError, Global};
@@ -14,16 +17,65 @@ use std::marker::Model;
 /// Reports, in the order in which they came. To a contract it is their list.
 #[derive(Drop)]
 pub(crate) struct Reports {
-    list: Vec<Report>,
+    rows: Vec<Kept>,
+    /// The ids of all reports, one behind the other.
+    texts: Vec<u8>,
 }
 
 impl Model for Reports {
-    ghost use Rattle.std.specs.Prelude.{List};
+    ghost use Rattle.std.specs.Prelude.{All, List, map};
     ghost use Rattle.gu_terms.specs.declared.report.Report.{Report as Row};
+    ghost use Rattle.gu_trades.specs.KeptReports.{report_of_kept, IsWithin};
 
     ghost Value = { List Row };
 
-    ghost view = { λ r. r.list.items };
+    ghost view = { λ r. map (report_of_kept r.texts.items) r.rows.items };
+
+    ghost invariant = { λ r. All (IsWithin r.texts.items) r.rows.items };
+}
+
+/// Appends two texts, or neither.
+fn append_texts(texts: &mut Vec<u8>, first: &[u8], second: &[u8]) -> Result<(), AllocError>
+    requires first { length first.now ≤ 64 }
+    requires second { length second.now ≤ 64 }
+    ensures appended { OnOk result (texts.new.items ≡ texts.old.items ++ first.now ++ second.now) }
+    ensures refused { OnErr result (texts.new.items ≡ texts.old.items) }
+{
+    texts.reserve(first.len() + second.len())?;
+    let _ = texts.extend_from_slice(first);
+    let _ = texts.extend_from_slice(second);
+    Ok(())
+}
+
+#[tactic(auto, using(crate::proofs::KeptLemmas::reports_more))]
+/// Adds what is kept of a report behind the others, and its ids behind theirs. The growths come first.
+fn add(
+    rows: &mut Vec<Kept>,
+    texts: &mut Vec<u8>,
+    firm: &FirmId,
+    own: &[u8],
+    matched: &[u8],
+    terms: &Terms,
+) -> Result<(), AllocError>
+    requires kept { All (IsWithin texts.old.items) rows.old.items }
+    requires own { IsId own.now }
+    requires matched { IsId matched.now }
+    ensures kept { All (IsWithin texts.new.items) rows.new.items }
+    ensures added { OnOk result (map (report_of_kept texts.new.items) rows.new.items
+        ≡ map (report_of_kept texts.old.items) rows.old.items ++ report_with firm.now own.now matched.now terms.now ∷ []) }
+    ensures refused { OnErr result ((texts.new.items ≡ texts.old.items) × (rows.new.items ≡ rows.old.items)) }
+{
+    let kept = Kept {
+        firm: *firm,
+        own: own.len() as u8,
+        matched: matched.len() as u8,
+        at: texts.len(),
+        terms: *terms,
+    };
+    rows.reserve(1)?;
+    append_texts(texts, own, matched)?;
+    let _ = rows.push(kept);
+    Ok(())
 }
 
 impl Reports {
@@ -32,7 +84,8 @@ impl Reports {
         ensures { result ≡ [] }
     {
         Reports {
-            list: Vec::new(alloc),
+            rows: Vec::new(alloc),
+            texts: Vec::new(alloc),
         }
     }
 
@@ -41,8 +94,8 @@ impl Reports {
         requires { place < length self.now }
         ensures { result ≡ is_by_at self.now firm.now id.now place }
     {
-        let report = &self.list[place];
-        report.firm == *firm && report.id == *id
+        let kept = &self.rows[place];
+        kept.firm == *firm && kept.own_id(&self.texts) == id.get()
     }
 
     /// Whether the report at a place has this match id.
@@ -50,7 +103,7 @@ impl Reports {
         requires { place < length self.now }
         ensures { result ≡ is_with_at self.now match_id.now place }
     {
-        self.list[place].match_id == *match_id
+        self.rows[place].match_id(&self.texts) == match_id.get()
     }
 
     /// The match id of the report at a place.
@@ -58,7 +111,7 @@ impl Reports {
         requires { place < length self.now }
         ensures { option_map (λ (r : ReportOf). r.match_id) (slice_get self.now place) ≡ Some result }
     {
-        self.list[place].match_id
+        id_of(self.rows[place].match_id(&self.texts))
     }
 
     /// The report at a place.
@@ -66,7 +119,7 @@ impl Reports {
         requires { place < length self.now }
         ensures { slice_get self.now place ≡ Some result }
     {
-        self.list[place]
+        self.rows[place].report(&self.texts)
     }
 
     /// The terms of the report at a place.
@@ -74,7 +127,7 @@ impl Reports {
         requires { place < length self.now }
         ensures { option_map terms_of (slice_get self.now place) ≡ Some result }
     {
-        Terms::of(&self.list[place])
+        self.rows[place].terms
     }
 
     /// Puts a report behind the others.
@@ -88,17 +141,13 @@ impl Reports {
         ensures added { OnOk result (self.new ≡ self.old ++ report_with firm.now id.now match_id.now terms.now ∷ []) }
         ensures refused { OnErr result (self.new ≡ self.old) }
     {
-        self.list.push(Report {
-            firm: *firm,
-            id: *id,
-            match_id: *match_id,
-            symbol: terms.symbol,
-            lots: terms.lots,
-            price: terms.price,
-            day: terms.day,
-            side: terms.side,
-            account: terms.account,
-        })?;
-        Ok(())
+        add(
+            &mut self.rows,
+            &mut self.texts,
+            firm,
+            id.get(),
+            match_id.get(),
+            terms,
+        )
     }
 }
