@@ -61,7 +61,8 @@ impl Form {
     fn is_begun_by(self, word: &[u8]) -> bool
         ensures { result ≡ bytes_eq (form_word self) word.now }
     {
-        self.word().as_bytes() == word
+        // Most words differ in length, and are told apart by it.
+        self.word().len() == word.len() && self.word().as_bytes() == word
     }
 
     /// The form with this word in front.

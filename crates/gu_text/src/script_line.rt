@@ -73,10 +73,10 @@ fn begun(line: &[u8]) -> Option<(Form, &[u8])>
 fn told(said: Option<Line>, number: u64) -> Result<Option<Line>, TextError>
     ensures { (text : List ℕ) → MatchOption said (IsBad text) (Says text) → IsTold text number result }
 {
-    match said {
-        Some(said) => Ok(Some(said)),
-        None => Err(TextError::BadLine(number)),
+    if said.is_none() {
+        return Err(TextError::BadLine(number));
     }
+    Ok(said)
 }
 
 /// What is told of a give-up in the line with this number.
