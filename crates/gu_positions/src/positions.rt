@@ -1,6 +1,6 @@
 //! The positions of all accounts, in the order in which their rows were made.
 
-ghost use Rattle.std.specs.Prelude.{◌≡◌, ◌+◌, ◌-◌, ◌<◌, ◌≤◌, ◌^◌, ◌||◌, [], true, Some, is_some, unwrap_or, OnOk, OnErr};
+ghost use Rattle.std.specs.Prelude.{◌≡◌, ◌+◌, ◌-◌, ◌<◌, ◌≤◌, ◌^◌, ◌||◌, [], true, Some, is_some, unwrap_or, IsTrue, OnOk, OnErr};
 ghost use Rattle.std.specs.List.{IsDistinct};
 ghost use Rattle.std.specs.Option.{option_map_or};
 ghost use Rattle.indexmap.specs.IndexMap.{get, insert_entry, Updates};
@@ -11,7 +11,7 @@ ghost use Rattle.gu_terms.specs.declared.symbol.Symbol.{Symbol as Instrument};
 ghost use Rattle.gu_terms.specs.Same.{same_symbol};
 ghost use Rattle.gu_positions.specs.Changes.{KeepsLots, KeepsRows, lots_at, lots_at_side, same_place, with_less, with_more, with_row};
 ghost use Rattle.gu_positions.specs.Holdings.{held, less, more};
-ghost use Rattle.gu_positions.specs.Kept.{IsWritten, place_of};
+ghost use Rattle.gu_positions.specs.Kept.{IsWritten, place_of, StandsAt};
 ghost use Rattle.gu_positions.specs.Rows.{has_row, lots_in, lots_on, open_interest_in, same_row};
 
 use crate::holding::Holding;
@@ -27,16 +27,29 @@ struct Place {
     symbol: Symbol,
 }
 
+/// Where two rows stood when they were asked for. It is a guess alone: who takes it sees whether the row is the one that is meant.
+#[derive(Clone, Copy)]
+struct Recent {
+    last: usize,
+    before: usize,
+}
+
 /// The lots that accounts hold of instruments, by side. To a contract it is the list of the rows, in the order in which they were made.
 pub struct Positions {
     rows: IndexMap<Place, Holding>,
     /// The open interest of each instrument that has rows.
     interests: IndexMap<Symbol, u64>,
+    /// Where the rows stand that were asked for last.
+    recent: Recent,
 }
 
 impl Drop for Positions {
     fn drop(self) {
-        let Positions { rows, interests } = self;
+        let Positions {
+            rows,
+            interests,
+            recent: _,
+        } = self;
         drop(rows);
         drop(interests);
     }
@@ -57,9 +70,45 @@ impl Model for Positions {
     ghost invariant = { IsKept };
 }
 
+impl Recent {
+    /// A further row stands at this index.
+    fn note(&mut self, index: usize) {
+        self.before = self.last;
+        self.last = index;
+    }
+}
+
+/// Whether the row at an index is the one of a place.
+fn is_at(rows: &IndexMap<Place, Holding>, index: usize, place: &Place) -> bool
+    ensures { IsTrue result → StandsAt rows.now.entries place.now index }
+{
+    match rows.get_index(index) {
+        Some((key, _)) => key == place,
+        None => false,
+    }
+}
+
+/// Where a row stands that is there. One of those that were asked for last isn't looked up.
+fn index_of(rows: &IndexMap<Place, Holding>, recent: Recent, place: &Place) -> usize
+    requires { is_some (get ⟦<Place as PartialEq>⟧.eq rows.now place.now) ≡ true }
+    ensures { StandsAt rows.now.entries place.now result }
+{
+    if is_at(rows, recent.last, place) {
+        return recent.last;
+    }
+    if is_at(rows, recent.before, place) {
+        return recent.before;
+    }
+    let Some((index, _, _)) = rows.get_full(place) else {
+        unreachable!();
+    };
+    index
+}
+
 /// Adds lots on a side of a row that is there. Answers what its long lots were above its short ones, and what they are.
 fn add_to(
     rows: &mut IndexMap<Place, Holding>,
+    recent: Recent,
     account: AccountId,
     symbol: Symbol,
     side: Side,
@@ -70,7 +119,8 @@ fn add_to(
     ensures { IsWritten rows.old.entries rows.new.entries account symbol (more side lots) result.0 result.1 }
 {
     let place = Place { account, symbol };
-    let Some(holding) = rows.get_mut(&place) else {
+    let index = index_of(rows, recent, &place);
+    let Some(holding) = rows.get_index_mut(index) else {
         unreachable!();
     };
     let before = *holding;
@@ -161,6 +211,7 @@ impl Positions {
         Positions {
             rows: IndexMap::new(alloc),
             interests: IndexMap::new(alloc),
+            recent: Recent { last: 0, before: 0 },
         }
     }
 
@@ -206,10 +257,13 @@ impl Positions {
         ensures refused { OnErr result (self.new ≡ self.old) }
     {
         let place = Place { account, symbol };
-        if self.rows.contains_key(&place) {
+        if let Some(index) = self.rows.get_index_of(&place) {
+            self.recent.note(index);
             return Ok(());
         }
+        let index = self.rows.len();
         make(&mut self.rows, &mut self.interests, &place)?;
+        self.recent.note(index);
         Ok(())
     }
 
@@ -223,7 +277,7 @@ impl Positions {
             → lots_in self.new on other another ≡ lots_in self.old on other another + lots_at side account symbol lots on other another }
         ensures sums { (on : SideOf) (another : Instrument) → lots_on self.new on another ≡ lots_on self.old on another + lots_at_side side symbol lots on another }
     {
-        let (before, after) = add_to(&mut self.rows, account, symbol, side, lots);
+        let (before, after) = add_to(&mut self.rows, self.recent, account, symbol, side, lots);
         settle(&mut self.interests, &symbol, before, after);
     }
 

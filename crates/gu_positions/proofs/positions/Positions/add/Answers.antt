@@ -31,7 +31,7 @@ settle-requires-clause-fits c =
 
 -- both tables, after the call
 abbrev after : After-settle → Inside
-after c = record { rows = c.add_to-before.new.rows; interests = c.settle.new.interests }
+after c = record { rows = c.add_to-before.new.rows; interests = c.settle.new.interests; recent = c.self.inside.recent }
 
 -- they are kept, and the rows are those
 kept : (c : After-settle) → IsKept (after c) × (rows_of (after c) ≡ with_more (rows_of c.self.inside) c.args.side c.args.account c.args.symbol c.args.lots)

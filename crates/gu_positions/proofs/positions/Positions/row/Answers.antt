@@ -6,31 +6,32 @@ use Rattle.gu_positions.specs.declared.positions.Positions.TheInside.{Inside}
 use Rattle.gu_positions.proofs.KeptLots.{has_row-lookup}
 use Rattle.gu_positions.proofs.OneRowMore.{has_row-one_more, has_row-present, keeps_lots-one_more, kept-one_more}
 use Rattle.gu_positions.proofs.positions.Positions.row.Goals as goal
-use Rattle.gu_positions.proofs.positions.Positions.row.Goals.{Then-contains_key, In_ok-make}
+use Rattle.gu_positions.proofs.positions.Positions.row.Goals.{After-note, After-note-2}
 
 -- where the table has the place, the row is there
-present : (c : Then-contains_key) → has_row c.args.self.now c.args.account c.args.symbol ≡ true
+present : (c : After-note) → has_row c.args.self.now c.args.account c.args.symbol ≡ true
 present c =
     ap (λ rows. has_row rows c.args.account c.args.symbol) (sym c.self.view_is) ∙ has_row-lookup c.args.account c.args.symbol c.self.inside.rows.entries
-    ∙ sym c.contains_key.ensures ∙ c.if-contains_key.true
+    ∙ sym c.in-Some.ensures.found
 
-pub returns-then-contains_key-clause-made : goal.returns-then-contains_key-clause-made
-returns-then-contains_key-clause-made c =
-    ap (λ there. if there then c.args.self.now else c.args.self.now ++ empty_row c.args.account c.args.symbol ∷ []) (sym (present c))
+pub returns-in-Some-clause-made : goal.returns-in-Some-clause-made
+returns-in-Some-clause-made c =
+    c.self.view_is ∙ ap (λ there. if there then c.args.self.now else c.args.self.now ++ empty_row c.args.account c.args.symbol ∷ []) (sym (present c))
 
-pub returns-then-contains_key-clause-there : goal.returns-then-contains_key-clause-there
-returns-then-contains_key-clause-there c = has_row-present c.args.self.now c.args.account c.args.symbol (present c)
+pub returns-in-Some-clause-there : goal.returns-in-Some-clause-there
+returns-in-Some-clause-there c = λ a s.
+    ap (λ rows. has_row rows a s) c.self.view_is ∙ has_row-present c.args.self.now c.args.account c.args.symbol (present c) a s
 
 -- else it is not there
-absent : (c : In_ok-make) → has_row (rows_of c.self.inside) c.args.account c.args.symbol ≡ false
-absent c = has_row-lookup c.args.account c.args.symbol c.self.inside.rows.entries ∙ sym c.contains_key.ensures ∙ c.if-contains_key.false
+absent : (c : After-note-2) → has_row (rows_of c.self.inside) c.args.account c.args.symbol ≡ false
+absent c = has_row-lookup c.args.account c.args.symbol c.self.inside.rows.entries ∙ sym c.in_default.ensures.found
 
 -- both tables, after the call
-abbrev after : In_ok-make → Inside
-after c = record { rows = c.make.new.rows; interests = c.make.new.interests }
+abbrev after : After-note-2 → Inside
+after c = record { rows = c.make.new.rows; interests = c.make.new.interests; recent = c.note-2.new.self }
 
 -- they are kept, with an empty row last
-kept : (c : In_ok-make) → IsKept (after c) × (rows_of (after c) ≡ c.args.self.now ++ empty_row c.args.account c.args.symbol ∷ [])
+kept : (c : After-note-2) → IsKept (after c) × (rows_of (after c) ≡ c.args.self.now ++ empty_row c.args.account c.args.symbol ∷ [])
 kept c =
     let done = kept-one_more c.self.inside (after c) (record { account = c.args.account; symbol = c.args.symbol }) c.self.invariant (absent c)
     c.in_ok-make.ensures.made c.in_ok-make.ensures.known c.make.ensures.same in
