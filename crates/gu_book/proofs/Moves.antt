@@ -71,7 +71,7 @@ given-seen totals n offer report is = by (row_at totals.offers n) refl is
 
 -- an open offer of a history in order is there
 pub open-there : (history : List Entry) (n : ℕ) → IsInOrder history → 0 < left_in (standing_of history) n
-    → (row : Row) × (report : Terms) × IsThere history n row report × (row.is_shut ≡ false) × (row.moved + left_in (standing_of history) n ≤ row.offer.lots)
+    → (row : Row) × (report : Report) × IsThere history n row report × (row.is_shut ≡ false) × (row.moved + left_in (standing_of history) n ≤ row.offer.lots)
 open-there history n o some =
     let found = there history n o (is_there (row_at (standing_of history) n) some) in
     let row = found.0 in
@@ -86,7 +86,7 @@ open-there history n o some =
 
 -- and found by what is kept
 pub found-there : (reference : Tables) (history : List Entry) (totals : Totals) (n : ℕ) → IsKept reference history totals → 0 < left_in totals.offers n
-    → (row : Row) × (report : Terms) × IsThere history n row report × (row.is_shut ≡ false) × (row.moved + left_in totals.offers n ≤ row.offer.lots)
+    → (row : Row) × (report : Report) × IsThere history n row report × (row.is_shut ≡ false) × (row.moved + left_in totals.offers n ≤ row.offer.lots)
 found-there reference history totals n kept open_ =
     let same = ap (λ (rs : List Row). left_in rs n) kept.beside.offers in
     let it = open-there history n (in_order history kept.orderly) (omega (arith, open_, same)) in

@@ -75,6 +75,7 @@ impl Draft {
     }
 
     /// Appends a number.
+    #[inline(always)]
     pub fn push_number(&mut self, tag: u32, number: u64) -> Result<(), AllocError>
         ensures { OnOk result (self.new ≡ self.old ++ number_field tag number ∷ []) }
     {
@@ -83,6 +84,7 @@ impl Draft {
     }
 
     /// Appends a firm's own id.
+    #[inline(always)]
     pub fn push_id(&mut self, tag: u32, id: Id) -> Result<(), AllocError>
         ensures { OnOk result (self.new ≡ self.old ++ tag_value tag id ∷ []) }
     {
@@ -90,6 +92,7 @@ impl Draft {
     }
 
     /// Appends a name of the house's.
+    #[inline(always)]
     pub fn push_name(&mut self, tag: u32, name: &[u8]) -> Result<(), AllocError>
         requires { IsName name.now }
         ensures { OnOk result (self.new ≡ self.old ++ tag_value tag name.now ∷ []) }
@@ -113,6 +116,7 @@ impl Draft {
     }
 
     /// Appends a moment.
+    #[inline(always)]
     pub fn push_moment(&mut self, tag: u32, moment: Moment) -> Result<(), AllocError>
         ensures { OnOk result ((text : List ℕ) × WritesMoment moment text × (self.new ≡ self.old ++ tag_value tag text ∷ [])) }
     {

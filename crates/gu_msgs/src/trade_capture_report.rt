@@ -27,6 +27,7 @@ use crate::typed_values::{account_at, side_at};
 const NO_SIDES_ROW: usize = 18;
 
 /// The entry of the one side.
+#[inline(always)]
 fn side_entry<'a>(fields: &Run<'a>, numbers: &Standings) -> Run<'a>
     requires made { IsWellMade kind.TradeCaptureReport fields.now }
     requires standings { AreStandings (outer_rows kind.TradeCaptureReport) fields.now numbers.now }

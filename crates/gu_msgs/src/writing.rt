@@ -106,6 +106,7 @@ fn push_marks(draft: &mut Draft, first: Option<Moment>) -> Result<(), AllocError
 }
 
 /// Appends the fields of a message to none, in order, each with a value that can be encoded.
+#[inline(always)]
 fn fields_of(mut draft: Draft, message: &Outbound) -> Result<Fields, AllocError>
     requires { draft ≡ [] }
     ensures written { IfOk result (λ fields. IsWritten message.now fields) }
@@ -122,6 +123,7 @@ fn fields_of(mut draft: Draft, message: &Outbound) -> Result<Fields, AllocError>
 }
 
 /// The fields of a message in the room of a draft without fields.
+#[inline(always)]
 fn written_in(draft: Draft, message: &Outbound) -> Result<Fields, AllocError>
     requires { draft ≡ [] }
     ensures written { IfOk result (λ fields. IsWritten message.now fields) }
