@@ -6,6 +6,7 @@ pub mod LastTake
 pub mod Lists
 pub mod NameTests
 pub mod NumberLemmas
+pub mod PaddedLemmas
 pub mod Placed
 pub mod SameNames
 pub mod SameValues

@@ -1,16 +1,24 @@
 //! Names of the house's own.
 
-ghost use Rattle.std.specs.Prelude.{◌≡◌, ◌↔◌, IsTrue, IsSome, IfSome};
+ghost use Rattle.std.specs.Prelude.{◌≡◌, ◌↔◌, ◌+◌, ◌≤◌, ◌∷◌, [], IsTrue, IsSome, IfSome, take, drop};
+ghost use Rattle.std.specs.Cmp.{partial_equiv_from_equiv};
+ghost use Rattle.std.specs.Cmp.Rules.{hashing};
+ghost use Rattle.std.specs.Int.{w32, from_le_bytes};
+ghost use Rattle.std.specs.Str.{bytes_eq};
+ghost use Rattle.std.proofs.lemmas.Cmp.{nat_list_eq_equiv};
+ghost use Rattle.std.proofs.Common.{rules};
 ghost use Rattle.gu_terms.specs.Names.{IsName, is_name_byte};
+ghost use Rattle.gu_terms.specs.Padded.{padded};
 
 use crate::padded::Padded;
+use std::hash::{Hash, Hasher};
 use std::marker::Model;
 
 /// The bytes that a name has at most.
 const LONGEST_NAME: usize = 12;
 
 /// 1 to 12 bytes of A-Z, 0-9 and `-`. To a contract it is these bytes.
-#[derive(Clone, Copy, Debug, PartialEq, Eq, Hash)]
+#[derive(Clone, Copy, Debug)]
 pub struct Name {
     text: Padded<LONGEST_NAME>,
 }
@@ -41,6 +49,54 @@ fn is_name(bytes: &[u8]) -> bool
     ensures { IsTrue result ↔ IsName bytes.now }
 {
     !bytes.is_empty() && bytes.len() <= LONGEST_NAME && bytes.iter().all(|byte| is_name_byte(*byte))
+}
+
+/// Four bytes from a place on, as one number.
+fn four_at(bytes: &[u8; LONGEST_NAME], place: usize) -> u32
+    requires { place + 4 ≤ 12 }
+    ensures { result ≡ from_le_bytes w32 (take 4 (drop place bytes.now)) }
+{
+    u32::from_le_bytes([
+        bytes[place],
+        bytes[place + 1],
+        bytes[place + 2],
+        bytes[place + 3],
+    ])
+}
+
+/// Whether twelve bytes are the same, by four at a time.
+fn are_same(left: &[u8; LONGEST_NAME], right: &[u8; LONGEST_NAME]) -> bool
+    ensures { result ≡ bytes_eq left.now right.now }
+{
+    four_at(left, 0) == four_at(right, 0)
+        && four_at(left, 4) == four_at(right, 4)
+        && four_at(left, 8) == four_at(right, 8)
+}
+
+impl PartialEq for Name {
+    ghost eq = { bytes_eq };
+
+    ghost laws = { partial_equiv_from_equiv nat_list_eq_equiv };
+
+    fn eq(&self, other: &Self) -> bool {
+        self.text.len() == other.text.len()
+            && are_same(self.text.with_zeros(), other.text.with_zeros())
+    }
+}
+
+impl Eq for Name {
+    ghost laws = { nat_list_eq_equiv };
+}
+
+// One write of twelve bytes, which is short code: a hash of bytes whose number varies is a loop.
+impl Hash for Name {
+    ghost hash_input = { λ name. padded 12 name ∷ [] };
+
+    ghost respects_eq = { Prim.search (hashing, rules) };
+
+    fn hash<H: Hasher>(&self, state: &mut H) {
+        state.write(self.text.with_zeros());
+    }
 }
 
 impl Name {

@@ -6,6 +6,7 @@ ghost use Rattle.std.specs.Cmp.{partial_equiv_from_equiv};
 ghost use Rattle.std.specs.Cmp.Rules.{hashing};
 ghost use Rattle.std.proofs.lemmas.Cmp.{nat_list_eq_equiv};
 ghost use Rattle.std.proofs.Common.{rules};
+ghost use Rattle.gu_terms.specs.Padded.{padded};
 
 use std::hash::{Hash, Hasher};
 use std::marker::Model;
@@ -62,6 +63,20 @@ impl<const N: usize> Padded<N> {
             bytes,
             len: len as u8,
         }
+    }
+
+    /// The bytes that it has.
+    pub fn len(&self) -> usize
+        ensures { result ≡ length self.now }
+    {
+        self.len as usize
+    }
+
+    /// The text with the zeros behind it: `N` bytes.
+    pub fn with_zeros(&self) -> &[u8; N]
+        ensures { result.now ≡ padded N self.now }
+    {
+        &self.bytes
     }
 
     /// The text.

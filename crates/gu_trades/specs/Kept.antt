@@ -1,6 +1,7 @@
 -- Machinery: how reports are kept: in order, and their places by firm and id and by match id.
 use Rattle.std.specs.Prelude.{◌≡◌, ℕ, ◌-◌, ◌∷◌, [], Bool, false, List, length, map, slice_get}
 use Rattle.std.specs.Option.{option_map_or}
+use Rattle.gu_terms.specs.Padded.{padded}
 use Rattle.gu_terms.specs.Same.{same_id}
 use Rattle.gu_terms.specs.declared.firm.FirmId.{FirmId}
 use Rattle.gu_terms.specs.declared.id.Id.{Id}
@@ -13,7 +14,7 @@ use Rattle.gu_trades.specs.Rules.{IsSound}
 
 -- the number that is kept of a firm and an id
 abbrev pub id_number : Seed → FirmId → Id → ℕ
-id_number seed firm id = number_of seed (firm.name ∷ id ∷ [])
+id_number seed firm id = number_of seed (padded 12 firm.name ∷ id ∷ [])
 
 -- the number that is kept of a match id
 abbrev pub match_number : Seed → Id → ℕ

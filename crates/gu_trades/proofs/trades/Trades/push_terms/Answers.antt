@@ -7,3 +7,9 @@ pub invariant_of-self-2 : goal.invariant_of-self-2
 invariant_of-self-2 c =
     kept-push c.self.inside _ c.args.self.now (report_with c.args.firm.now c.args.id.now c.args.match_id.now c.args.terms.now)
     c.self.view_is c.self.invariant c.requires.new_id c.requires.fits refl c.in_ok-add.ensures.added c.in_ok-add.ensures.named c.in_ok-add.ensures.matched
+
+pub invariant_of-self : goal.invariant_of-self
+invariant_of-self c =
+    let same = c.in_err-add.ensures.err in
+    let kept = c.self.invariant in
+    rw (same.0, same.1, same.2) (record { named = kept.named; matched = kept.matched; sound = kept.sound })
