@@ -1,7 +1,7 @@
 -- What a reference says of a name.
 use Rattle.std.specs.Prelude.{Bool, Option}
 use Rattle.std.specs.List.{list_any}
-use Rattle.std.specs.Option.{option_map}
+use Rattle.std.specs.Option.{option_and_then, option_map}
 use Rattle.gu_terms.specs.declared.firm.FirmId.{FirmId}
 use Rattle.gu_terms.specs.declared.group.Group.{Group}
 use Rattle.gu_terms.specs.declared.symbol.Symbol.{Symbol}
@@ -10,6 +10,7 @@ use Rattle.gu_terms.specs.declared.agreement.AgreementId.{AgreementId}
 use Rattle.gu_ref.specs.declared.instruments.Instrument.{Instrument}
 use Rattle.gu_ref.specs.declared.accounts.Account.{Account}
 use Rattle.gu_ref.specs.declared.agreements.Agreement.{Agreement}
+use Rattle.gu_ref.specs.declared.partner.Partner.{Partner}
 use Rattle.gu_terms.specs.Same.{same_symbol}
 use Rattle.gu_ref.specs.Listed.{has_firm, has_group, instrument_in, account_in, agreement_in, agreement_for, guarantor_for, is_guarantor_in}
 use Rattle.gu_ref.specs.Tables.{Tables}
@@ -41,6 +42,13 @@ agreement_row reference id = agreement_in reference.agreements id
 -- the agreement by which this firm gives up to this account
 abbrev pub agreement_between : Tables → FirmId → AccountId → Option AgreementId
 agreement_between reference executing account = option_map (λ a. a.id) (agreement_for reference.agreements executing account)
+
+-- this agreement, with the firm that carries the account
+abbrev pub partner_between : Tables → FirmId → AccountId → Option Partner
+partner_between reference executing account =
+    option_and_then
+    (λ agreement. option_map (λ row. record { agreement = agreement; carrying = row.firm }) (account_row reference account))
+    (agreement_between reference executing account)
 
 -- the guarantor of this firm, where it has one
 abbrev pub guarantor_of : Tables → FirmId → Option FirmId

@@ -8,6 +8,7 @@ use crate::agreements::{Agreement, Agreements};
 use crate::guarantors::{Guarantor, Guarantors};
 use crate::instruments::Instrument;
 use crate::names::Names;
+use crate::partner::Partner;
 use crate::row::Row;
 use crate::table::Table;
 use gu_terms::{AccountId, AgreementId, FirmId, Group, Symbol};
@@ -77,7 +78,7 @@ impl Reference {
     ghost use Rattle.gu_ref.specs.Growth.{Passes, with_row, row_count};
     ghost use Rattle.gu_ref.specs.Rules.{IsSound};
     ghost use Rattle.gu_ref.specs.Reference.{is_firm, is_group, is_instrument, instrument_row, account_row, agreement_row, agreement_between};
-    ghost use Rattle.gu_ref.specs.Reference.{guarantor_of, is_guarantor};
+    ghost use Rattle.gu_ref.specs.Reference.{guarantor_of, is_guarantor, partner_between};
 
     /// The rules of every reference. One firm carries an account, one agreement stands between a firm and an account, and a
     /// firm has one guarantor at most.
@@ -198,6 +199,18 @@ impl Reference {
         self.agreements
             .between(executing, account)
             .map(|row| row.id)
+    }
+
+    /// The agreement by which the firm gives trades up to the account, with the firm that carries the account.
+    pub fn partner(&self, firm: FirmId, account: AccountId) -> Option<Partner>
+        ensures { result ≡ partner_between self.now firm account }
+    {
+        let agreement = self.between(firm, account)?;
+        let carrying = self.account(account)?.firm;
+        Some(Partner {
+            agreement,
+            carrying,
+        })
     }
 
     /// The guarantor of a firm, where it has one.

@@ -1,0 +1,10 @@
+//! What stands between an executing firm and an account.
+
+use gu_terms::{AgreementId, FirmId};
+
+/// The agreement by which an executing firm gives trades up to an account, and the firm that carries the account.
+#[derive(Clone, Copy, Debug, PartialEq, Eq)]
+pub struct Partner {
+    pub agreement: AgreementId,
+    pub carrying: FirmId,
+}
