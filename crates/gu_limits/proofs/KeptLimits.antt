@@ -36,7 +36,7 @@ same_as a b = ap (λ keys. same_group a.group b.group && keys) (eq_is a.key b.ke
 pub same_is : (a b : GroupKey) → same a b ≡ same_place b.group b.key a.group a.key
 same_is a b = same_as a b ∙ same_place-sym a.group a.key b.group b.key
 
-same-one : (a b : GroupKey) → same a b ≡ true → a ≡ b
+pub same-one : (a b : GroupKey) → same a b ≡ true → a ≡ b
 same-one a b h =
     let one = same_place-one a.group a.key b.group b.key (sym (same_as a b) ∙ h) in
     λ i. record { group = one.0 i; key = one.1 i }
@@ -89,6 +89,14 @@ module _ (day : ℕ) (on : GroupKey) where
         ∙ elim (lookup (same on) es) as
         (λ o. option_map (λ (l : GroupLimit). (l.limit, l.used)) (option_map (λ kept. limit_on day (on, kept)) o) ≡ option_map {U = ℕ × ℕ} (λ kept. (kept.limit, used_on day kept)) o)
         [ None ↦ refl | Some kept ↦ refl ]
+
+    -- the room that is left, by what a look-up finds
+    pub room-kept : (o : Option KeptLimit) → lookup (same on) es ≡ o
+        → room_in (map (limit_on day) es) on.group on.key ≡ option_map_or (λ (kept : KeptLimit). kept.limit - used_on day kept) o 0
+    room-kept o found =
+        (λ i. limit-kept i - used-kept i)
+        ∙ ap (λ o. option_map_or (λ (kept : KeptLimit). kept.limit) o 0 - option_map_or (used_on day) o 0) found
+        ∙ elim o as (λ o. option_map_or (λ (kept : KeptLimit). kept.limit) o 0 - option_map_or (used_on day) o 0 ≡ option_map_or (λ (kept : KeptLimit). kept.limit - used_on day kept) o 0) [ None ↦ refl | Some kept ↦ refl ]
 
 none-apart : IsDistinct same_limit []
 unfolding IsDistinct

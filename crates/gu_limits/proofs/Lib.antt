@@ -4,3 +4,4 @@ pub mod KeptLimits
 pub mod LimitLemmas
 pub mod PathKeys
 pub mod RowsBetween
+pub mod Standing

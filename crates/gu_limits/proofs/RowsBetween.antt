@@ -1,7 +1,7 @@
--- The agreement between a firm and an account is the one that its name finds.
-use Rattle.std.proofs.Common.{◌≡◌, ◌∙◌, sym, refl, ap, subst, Bool, true, false, cond, List, [], ◌∷◌, Option, None, Some}
+-- The agreement between a firm and an account is the one that its name finds, and its path is through the firm that carries the account.
+use Rattle.std.proofs.Common.{◌≡◌, ◌∙◌, sym, refl, ap, subst, is_some, Bool, true, false, cond, List, [], ◌∷◌, Option, None, Some}
 use Rattle.std.specs.List.{AllByRecursion, IsDistinct, find}
-use Rattle.std.specs.Option.{option_map}
+use Rattle.std.specs.Option.{option_and_then, option_map}
 use Rattle.std.proofs.lemmas.Cmp.{nat_list_eq_equiv}
 use Rattle.gu_terms.proofs.SameNames.{same_account-true, same_firm-true}
 use Rattle.gu_terms.proofs.SameValues.{both}
@@ -9,11 +9,16 @@ use Rattle.gu_terms.specs.Same.{same_account, same_agreement, same_firm}
 use Rattle.gu_terms.specs.declared.account.AccountId.{AccountId}
 use Rattle.gu_terms.specs.declared.agreement.AgreementId.{AgreementId}
 use Rattle.gu_terms.specs.declared.firm.FirmId.{FirmId}
+use Rattle.gu_terms.specs.Paths.{path_through}
 use Rattle.gu_ref.specs.Listed.{agreement_for, is_between}
-use Rattle.gu_ref.specs.Reference.{agreement_between, agreement_row}
+use Rattle.gu_ref.specs.Reference.{account_row, agreement_between, agreement_row, guarantor_of, partner_between}
 use Rattle.gu_ref.specs.Rules.{IsSound}
 use Rattle.gu_ref.specs.Tables.{Tables}
+use Rattle.gu_ref.specs.declared.accounts.Account.{Account}
 use Rattle.gu_ref.specs.declared.agreements.Agreement.{Agreement}
+use Rattle.gu_ref.specs.declared.partner.Partner.{Partner}
+use Rattle.gu_limits.specs.Paths.{path_of}
+use Rattle.gu_limits.proofs.CarriedAccounts.{account_is_there}
 
 -- what is found passes the test by which it was found
 found_passes : {X : Type 0} (wanted : X → Bool) (rows : List X) (row : X) → find wanted rows ≡ Some row → wanted row ≡ true
@@ -61,3 +66,41 @@ row_between reference sound executing account id between = by (agreement_for ref
         let firm = same_firm-true a.executing executing parties.0 in
         let its = same_account-true a.account account parties.1 in
         ap (agreement_row reference) (sym name) ∙ own ∙ (λ i. Some (let it : Agreement = record { id = name i; executing = firm i; account = its i } in it))
+
+abbrev partner : AgreementId → FirmId → Partner
+partner agreement carrying = record { agreement = agreement; carrying = carrying }
+
+-- where a firm has an agreement for an account, the account is there
+carried_between : (reference : Tables) → IsSound reference → (executing : FirmId) (account : AccountId) (id : AgreementId) → agreement_between reference executing account ≡ Some id
+    → is_some (account_row reference account) ≡ true
+carried_between reference sound executing account id between = account_is_there reference sound id _ (row_between reference sound executing account id between)
+
+-- with the agreement stands the firm that carries the account
+pub partner-none : (reference : Tables) → IsSound reference → (executing : FirmId) (account : AccountId) → partner_between reference executing account ≡ None
+    → agreement_between reference executing account ≡ None
+partner-none reference sound executing account none = by (agreement_between reference executing account) refl (account_row reference account) refl none
+  where
+    by : (id : Option AgreementId) → agreement_between reference executing account ≡ id → (row : Option Account) → account_row reference account ≡ row
+        → option_and_then (λ agreement. option_map (λ (row : Account). partner agreement row.firm) row) id ≡ None → agreement_between reference executing account ≡ None
+    by None e row f h = e
+    by (Some id) e None f h = let never : true ≡ false = sym (carried_between reference sound executing account id e) ∙ ap is_some f in cc
+    by (Some id) e (Some row) f h = cc
+
+-- it is that agreement, and its path is through that firm
+pub partner-path : (reference : Tables) → IsSound reference → (executing : FirmId) (account : AccountId) (p : Partner) → partner_between reference executing account ≡ Some p
+    → (agreement_between reference executing account ≡ Some p.agreement)
+    × (path_of reference p.agreement ≡ Some (path_through executing p.agreement account p.carrying (guarantor_of reference p.carrying)))
+partner-path reference sound executing account p is = by (agreement_between reference executing account) refl (account_row reference account) refl is
+  where
+    by : (id : Option AgreementId) → agreement_between reference executing account ≡ id → (row : Option Account) → account_row reference account ≡ row
+        → option_and_then (λ agreement. option_map (λ (row : Account). partner agreement row.firm) row) id ≡ Some p
+        → (agreement_between reference executing account ≡ Some p.agreement)
+        × (path_of reference p.agreement ≡ Some (path_through executing p.agreement account p.carrying (guarantor_of reference p.carrying)))
+    by None e row f h = cc
+    by (Some id) e None f h = cc
+    by (Some id) e (Some row) f h =
+        let one : partner id row.firm ≡ p = cc in
+        subst (λ (p : Partner). (agreement_between reference executing account ≡ Some p.agreement)
+        × (path_of reference p.agreement ≡ Some (path_through executing p.agreement account p.carrying (guarantor_of reference p.carrying))))
+        one
+        (e, rw (row_between reference sound executing account id e, f) refl)

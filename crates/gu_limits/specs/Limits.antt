@@ -1,5 +1,5 @@
 -- Limits: what was set for the keys of a product group, what is used of it today, and the room that is left.
-use Rattle.std.specs.Prelude.{ℕ, ◌-◌, ◌&&◌, Bool, List, Option, Some, None, is_some, if◌then◌else◌}
+use Rattle.std.specs.Prelude.{ℕ, ◌-◌, ◌&&◌, Bool, List, Option, Some, None, is_some, position, if◌then◌else◌}
 use Rattle.std.specs.List.{find}
 use Rattle.std.specs.Option.{option_map, option_map_or}
 use Rattle.gu_terms.specs.LimitKeys.{key_eq}
@@ -30,6 +30,10 @@ limit_for limits group key = find (is_of group key) limits
 -- a limit was set for a group and key
 abbrev pub has_limit : List GroupLimit → Group → LimitKey → Bool
 has_limit limits group key = is_some (limit_for limits group key)
+
+-- the place of a limit among these, where one was set: how many stand before it
+abbrev pub place_in : List GroupLimit → Group → LimitKey → Option ℕ
+place_in limits group key = position (is_of group key) limits
 
 -- the lots that were set and those that are used today, where a limit was set
 abbrev pub limit_and_use : List GroupLimit → Group → LimitKey → Option (ℕ × ℕ)

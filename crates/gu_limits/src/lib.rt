@@ -3,8 +3,10 @@
 
 mod error;
 mod paths;
+mod places;
 mod table;
 
 pub use error::SetError;
 pub use paths::{path, path_between};
+pub use places::Places;
 pub use table::LimitTable;

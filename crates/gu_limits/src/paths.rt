@@ -5,28 +5,26 @@ ghost use Rattle.std.specs.List.{IsDistinct};
 ghost use Rattle.std.specs.Option.{option_map};
 ghost use Rattle.gu_terms.specs.LimitKeys.{key_eq};
 ghost use Rattle.gu_terms.specs.Paths.{path_through};
-ghost use Rattle.gu_ref.specs.Reference.{account_row, agreement_between, agreement_row, guarantor_of};
+ghost use Rattle.gu_ref.specs.Reference.{agreement_between, agreement_row, guarantor_of, partner_between};
 ghost use Rattle.gu_limits.specs.Paths.{path_of};
 
-use gu_ref::Reference;
+use gu_ref::{Partner, Reference};
 use gu_terms::{AccountId, AgreementId, FirmId, Path};
 
-/// The path through an executing firm, its agreement and the agreement's account.
+/// The path through an executing firm, its agreement, the agreement's account and the firm that carries it.
 #[tactic(auto, using(crate::proofs::PathKeys::kinds_differ))]
 fn through(
     reference: &Reference,
     executing: &FirmId,
     agreement: &AgreementId,
     account: &AccountId,
-) -> Option<Path>
-    ensures keys { result ≡ option_map
-        (λ carried. path_through executing.now agreement.now account.now carried.firm (guarantor_of reference.now carried.firm))
-        (account_row reference.now account.now) }
-    ensures once { IfSome result (IsDistinct key_eq) }
+    carrying: &FirmId,
+) -> Path
+    ensures keys { result ≡ path_through executing.now agreement.now account.now carrying.now (guarantor_of reference.now carrying.now) }
+    ensures once { IsDistinct key_eq result }
 {
-    let carrying = reference.account(*account)?.firm;
-    let guarantor = reference.guarantor(carrying);
-    Some(Path::new(*executing, *agreement, *account, carrying, guarantor))
+    let guarantor = reference.guarantor(*carrying);
+    Path::new(*executing, *agreement, *account, *carrying, guarantor)
 }
 
 /// The keys that an agreement's offers come under, in order: executing firm, agreement, account, the firm that carries the
@@ -38,7 +36,35 @@ pub fn path(reference: &Reference, agreement: AgreementId) -> Option<Path>
 {
     reference.rules();
     let parties = reference.agreement(agreement)?;
-    through(reference, &parties.executing, &agreement, &parties.account)
+    let carrying = reference.account(parties.account)?.firm;
+    Some(through(
+        reference,
+        &parties.executing,
+        &agreement,
+        &parties.account,
+        &carrying,
+    ))
+}
+
+/// The path of the agreement that is known to stand between an executing firm and an account.
+pub fn path_by(
+    reference: &Reference,
+    executing: &FirmId,
+    account: &AccountId,
+    partner: &Partner,
+) -> Path
+    requires { partner_between reference.now executing.now account.now ≡ Some partner.now }
+    ensures keys { path_of reference.now partner.now.agreement ≡ Some result }
+    ensures once { IsDistinct key_eq result }
+{
+    reference.rules();
+    through(
+        reference,
+        executing,
+        &partner.agreement,
+        account,
+        &partner.carrying,
+    )
 }
 
 /// The agreement by which an executing firm gives trades up to an account, with its path.
@@ -52,7 +78,7 @@ pub fn path_between(
     ensures once { IfSome result (λ p. IsDistinct key_eq p.1) }
 {
     reference.rules();
-    let agreement = reference.between(executing, account)?;
-    let path = through(reference, &executing, &agreement, &account)?;
-    Some((agreement, path))
+    let partner = reference.partner(executing, account)?;
+    let path = path_by(reference, &executing, &account, &partner);
+    Some((partner.agreement, path))
 }

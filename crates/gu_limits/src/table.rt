@@ -1,6 +1,6 @@
 //! The limits of the house, and what is used of them today.
 
-ghost use Rattle.std.specs.Prelude.{◌≡◌, ◌+◌, ◌-◌, ◌^◌, ◌<◌, ◌≤◌, ◌↔◌, ◌||◌, [], ◌∷◌, All, IsErrOf, OnErr, OnOk, if◌then◌else◌, map};
+ghost use Rattle.std.specs.Prelude.{◌≡◌, ◌+◌, ◌-◌, ◌^◌, ◌<◌, ◌≤◌, ◌↔◌, ◌||◌, [], ◌∷◌, All, IfSome, IsErrOf, IsTrue, None, OnErr, OnOk, if◌then◌else◌, map};
 ghost use Rattle.std.specs.List.{IsDistinct};
 ghost use Rattle.std.specs.Option.{ForSome};
 ghost use Rattle.indexmap.specs.IndexMap.{get, insert_entry, IsUnique};
@@ -8,10 +8,11 @@ ghost use Rattle.gu_terms.specs.LimitKeys.{key_eq};
 ghost use Rattle.gu_terms.specs.declared.group.Group.{Group as GroupOf};
 ghost use Rattle.gu_terms.specs.declared.limit_key.LimitKey.{LimitKey as LimitKeyOf};
 ghost use Rattle.gu_limits.specs.Changes.{limits_after_charge, limits_after_return, limits_after_setting, limits_of_new_day, lots_under, SameLimits, SameUses};
-ghost use Rattle.gu_limits.specs.Kept.{set_to, unused, used_on, with_use};
-ghost use Rattle.gu_limits.specs.Limits.{has_limit, limit_and_use, limit_in, room_in, row_in, same_limit, same_place, used_in};
+ghost use Rattle.gu_limits.specs.Kept.{set_to, StandsAt, unused, used_on, with_use};
+ghost use Rattle.gu_limits.specs.Limits.{has_limit, limit_and_use, limit_in, place_in, room_in, row_in, same_limit, same_place, used_in};
 
 use crate::error::SetError;
+use crate::places::Places;
 use gu_terms::{Group, LimitKey, LimitRow, MOST_LIMIT, Path};
 use indexmap::IndexMap;
 use std::alloc::{AllocError, Global};
@@ -119,10 +120,24 @@ impl LimitTable {
     pub fn room(&self, group: &Group, key: &LimitKey) -> u64
         ensures { result ≡ room_in self.now group.now key.now }
     {
-        match self.limit_and_use(group, key) {
-            Some((limit, used)) => limit.saturating_sub(used),
-            None => 0,
-        }
+        let (room, _) = self.room_and_place(group, key);
+        room
+    }
+
+    /// The same, and where the limit stands in the table, where one was set.
+    pub fn room_and_place(&self, group: &Group, key: &LimitKey) -> (u64, Option<usize>)
+        ensures room { result.0 ≡ room_in self.now group.now key.now }
+        ensures place { result.1 ≡ place_in self.now group.now key.now }
+    {
+        let on = GroupKey {
+            group: *group,
+            key: *key,
+        };
+        let Some((place, _, kept)) = self.limits.get_full(&on) else {
+            return (0, None);
+        };
+        let room = kept.limit.saturating_sub(kept.used_on(self.day));
+        (room, Some(place))
     }
 
     /// Sets a limit. What is used of it stays, also where that is more.
@@ -154,13 +169,25 @@ impl LimitTable {
         ensures uses { (at : GroupOf) (on : LimitKeyOf) →
             used_in self.new at on ≡ used_in self.old at on + lots_under group.now path.now lots at on }
     {
-        for key in path.keys() {
-            self.charge_key(group, key, lots);
+        self.charge_near(group, path, lots, &Places::none());
+    }
+
+    /// The same, and a limit that still stands at the place that was noted for its key isn't looked up.
+    pub fn charge_near(&mut self, group: &Group, path: &Path, lots: u64, places: &Places)
+        requires room { All (λ key. lots ≤ room_in self.old group.now key) path.now }
+        requires once { IsDistinct key_eq path.now }
+        ensures rows { self.new ≡ limits_after_charge self.old group.now path.now lots }
+        ensures limits { SameLimits self.old self.new }
+        ensures uses { (at : GroupOf) (on : LimitKeyOf) →
+            used_in self.new at on ≡ used_in self.old at on + lots_under group.now path.now lots at on }
+    {
+        for (number, key) in path.keys().iter().enumerate() {
+            self.charge_key(group, key, lots, places.of(number));
         }
     }
 
-    /// Charges lots to one limit.
-    fn charge_key(&mut self, group: &Group, key: &LimitKey, lots: u64)
+    /// Charges lots to one limit, which may stand at this place.
+    fn charge_key(&mut self, group: &Group, key: &LimitKey, lots: u64, place: usize)
         requires { lots ≤ room_in self.old group.now key.now }
         ensures { self.new ≡ limits_after_charge self.old group.now (key.now ∷ []) lots }
     {
@@ -168,7 +195,7 @@ impl LimitTable {
             group: *group,
             key: *key,
         };
-        add_use(&mut self.limits, &on, self.day, lots);
+        add_use(&mut self.limits, &on, place, self.day, lots);
     }
 
     /// Gives back lots that were charged today to all limits of a path in a group.
@@ -239,17 +266,52 @@ fn put(
     Ok(())
 }
 
-/// Adds lots to the use of a limit on a day.
-fn add_use(limits: &mut IndexMap<GroupKey, KeptLimit>, on: &GroupKey, day: u64, lots: u64)
+/// Whether the limit at a place is the one of this group and key.
+fn is_at(limits: &IndexMap<GroupKey, KeptLimit>, place: usize, on: &GroupKey) -> bool
+    ensures { IsTrue result → StandsAt limits.now.entries on.now place }
+{
+    match limits.get_index(place) {
+        Some((key, _)) => key == on,
+        None => false,
+    }
+}
+
+/// Where a limit stands, where one was set. If it stands at this place, it isn't looked up.
+fn place_near(limits: &IndexMap<GroupKey, KeptLimit>, place: usize, on: &GroupKey) -> Option<usize>
+    ensures at { IfSome result (StandsAt limits.now.entries on.now) }
+    ensures none { result ≡ None → get ⟦<GroupKey as PartialEq>⟧.eq limits.now on.now ≡ None }
+    ensures apart { IsUnique ⟦<GroupKey as PartialEq>⟧.eq limits.now }
+{
+    // The map tells that its keys are apart.
+    let _ = limits.len();
+    if is_at(limits, place, on) {
+        return Some(place);
+    }
+    let (place, _, _) = limits.get_full(on)?;
+    Some(place)
+}
+
+/// Adds lots to the use of a limit on a day. The limit may stand at this place.
+fn add_use(
+    limits: &mut IndexMap<GroupKey, KeptLimit>,
+    on: &GroupKey,
+    place: usize,
+    day: u64,
+    lots: u64,
+)
     requires { ForSome (get ⟦<GroupKey as PartialEq>⟧.eq limits.old on.now) (λ kept. used_on day kept + lots < 2 ^ 64) }
     ensures written { limits.new.entries
         ≡ with_use ⟦<GroupKey as PartialEq>⟧.eq on.now day (λ used. used + lots) limits.old.entries }
     ensures apart { IsUnique ⟦<GroupKey as PartialEq>⟧.eq limits.old }
 {
-    if let Some(kept) = limits.get_mut(on) {
-        kept.used = kept.used_on(day) + lots;
-        kept.day = day;
-    }
+    let Some(place) = place_near(limits, place, on) else {
+        return;
+    };
+    let Some(kept) = limits.get_index_mut(place) else {
+        unreachable!();
+    };
+    kept.used = kept.used_on(day) + lots;
+    kept.day = day;
 }
 
 /// Takes lots off the use of a limit on a day.

@@ -1,15 +1,13 @@
-use Rattle.std.proofs.Common.{◌≡◌, sym, ap, ◌∙◌, is_some, true, false}
-use Rattle.gu_limits.proofs.CarriedAccounts.{account_is_there, is_some-option_map}
-use Rattle.gu_limits.proofs.RowsBetween.{row_between}
+use Rattle.std.proofs.Common.{◌∙◌, ap, sym}
+use Rattle.std.specs.Option.{option_map}
+use Rattle.gu_limits.proofs.RowsBetween.{partner-none, partner-path}
 use Rattle.gu_limits.proofs.paths.path_between.Goals as goal
 
-pub returns-in_err-path-clause-agreement : goal.returns-in_err-path-clause-agreement
-returns-in_err-path-clause-agreement c =
-    let row = row_between c.args.reference.now c.rules.ensures.sound c.args.executing c.args.account c.in_ok-agreement.agreement (sym c.between.ensures ∙ c.in_ok-agreement.was) in
-    let there = account_is_there c.args.reference.now c.rules.ensures.sound c.in_ok-agreement.agreement _ row in
-    let never : true ≡ false = sym (is_some-option_map _ _ there) ∙ ap is_some (sym c.in_err-path.ensures.keys) in cc
+pub returns-in_err-partner-clause-agreement : goal.returns-in_err-partner-clause-agreement
+returns-in_err-partner-clause-agreement c =
+    ap (option_map (λ p. p.0)) c.from_residual.ensures
+    ∙ sym (partner-none c.args.reference.now c.rules.ensures.sound c.args.executing c.args.account (sym c.partner.ensures ∙ c.in_err-partner.was))
 
-pub returns-clause-keys : goal.returns-clause-keys
-returns-clause-keys c =
-    let row = row_between c.args.reference.now c.rules.ensures.sound c.args.executing c.args.account c.in_ok-agreement.agreement (sym c.between.ensures ∙ c.in_ok-agreement.was) in
-    rw row (sym c.in_ok-path.ensures.keys)
+pub returns-clause-agreement : goal.returns-clause-agreement
+returns-clause-agreement c =
+    sym (partner-path c.args.reference.now c.rules.ensures.sound c.args.executing c.args.account c.in_ok-partner.partner (sym c.partner.ensures ∙ c.in_ok-partner.was)).0
