@@ -132,6 +132,7 @@ fn add_to(
 /// Takes lots on a side of a row that is there. Answers what its long lots were above its short ones, and what they are.
 fn take_from(
     rows: &mut IndexMap<Place, Holding>,
+    recent: Recent,
     account: AccountId,
     symbol: Symbol,
     side: Side,
@@ -142,7 +143,8 @@ fn take_from(
     ensures { IsWritten rows.old.entries rows.new.entries account symbol (less side lots) result.0 result.1 }
 {
     let place = Place { account, symbol };
-    let Some(holding) = rows.get_mut(&place) else {
+    let index = index_of(rows, recent, &place);
+    let Some(holding) = rows.get_index_mut(index) else {
         unreachable!();
     };
     let before = *holding;
@@ -291,7 +293,7 @@ impl Positions {
             → lots_in self.new on other another ≡ lots_in self.old on other another - lots_at side account.now symbol.now lots on other another }
         ensures sums { (on : SideOf) (another : Instrument) → lots_on self.new on another + lots_at_side side symbol.now lots on another ≡ lots_on self.old on another }
     {
-        let (before, after) = take_from(&mut self.rows, *account, *symbol, side, lots);
+        let (before, after) = take_from(&mut self.rows, self.recent, *account, *symbol, side, lots);
         settle(&mut self.interests, symbol, before, after);
     }
 
