@@ -1,5 +1,5 @@
 -- Machinery: limits as they are kept, each with the number of the day on which it was charged last.
-use Rattle.std.specs.Prelude.{◌≡◌, ℕ, ◌≤◌, ◌==◌, Bool, List, Option, Some, All, map, slice_get, unwrap_or, if◌then◌else◌}
+use Rattle.std.specs.Prelude.{ℕ, ◌≤◌, ◌==◌, Bool, List, Option, All, map, unwrap_or, if◌then◌else◌}
 use Rattle.std.specs.Map.{lookup, set_value}
 use Rattle.std.specs.Option.{option_map_or}
 use Rattle.gu_limits.specs.declared.table.GroupKey.{GroupKey}
@@ -27,11 +27,6 @@ with_use same on day change entries =
     (λ kept. set_value (same on) entries (record kept { used = change (used_on day kept); day = day }))
     (lookup (same on) entries)
     entries
-
--- the limit of this group and key stands at this place
-pub record StandsAt (entries : List (GroupKey × KeptLimit)) (on : GroupKey) (place : ℕ) : Type 0 where
-  pub kept : KeptLimit
-  pub here : slice_get entries place ≡ Some (on, kept)
 
 -- a limit of these lots, where it was this or none: its use stays, and nothing is used of a new one
 abbrev pub set_to : ℕ → ℕ → Option KeptLimit → KeptLimit

@@ -7,8 +7,9 @@ ghost use Rattle.indexmap.specs.IndexMap.{get, insert_entry, IsUnique};
 ghost use Rattle.gu_terms.specs.LimitKeys.{key_eq};
 ghost use Rattle.gu_terms.specs.declared.group.Group.{Group as GroupOf};
 ghost use Rattle.gu_terms.specs.declared.limit_key.LimitKey.{LimitKey as LimitKeyOf};
+ghost use Rattle.gu_terms.specs.Standing.{StandsAt};
 ghost use Rattle.gu_limits.specs.Changes.{limits_after_charge, limits_after_return, limits_after_setting, limits_of_new_day, lots_under, SameLimits, SameUses};
-ghost use Rattle.gu_limits.specs.Kept.{set_to, StandsAt, unused, used_on, with_use};
+ghost use Rattle.gu_limits.specs.Kept.{set_to, unused, used_on, with_use};
 ghost use Rattle.gu_limits.specs.Limits.{has_limit, limit_and_use, limit_in, place_in, room_in, row_in, same_limit, same_place, used_in};
 
 use crate::error::SetError;

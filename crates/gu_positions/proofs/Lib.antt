@@ -3,4 +3,3 @@ pub mod Changed
 pub mod KeptLots
 pub mod OneRowMore
 pub mod Places
-pub mod Standing

@@ -1,11 +1,10 @@
 -- An empty row that is new goes last, and changes no answer.
-use Rattle.std.proofs.Common.{◌≡◌, ◌∙◌, sym, refl, ap, subst, ℕ, ◌-◌, ◌<◌, ◌^◌, Bool, true, false, cond, ◌&&◌, ◌||◌, List, [], ◌∷◌, ◌++◌, map, Option, Some, None, is_some, unwrap_or, arith, if◌then◌else◌}
+use Rattle.std.proofs.Common.{◌≡◌, ◌∙◌, sym, refl, ap, subst, ℕ, ◌-◌, ◌<◌, ◌^◌, Bool, true, false, cond, ◌||◌, List, [], ◌∷◌, ◌++◌, map, Option, Some, None, is_some, unwrap_or, arith, if◌then◌else◌}
 use Rattle.std.specs.List.{AllByRecursion, IsDistinct, find, sum_by}
 use Rattle.std.specs.Option.{option_map_or}
 use Rattle.std.proofs.lemmas.List.{map-append}
 use Rattle.std.proofs.lemmas.List.Folds.{list_any-append}
 use Rattle.std.proofs.lemmas.List.Sums.{sum_by-append, sum_by-cons}
-use Rattle.std.proofs.lemmas.Cmp.{nat_list_eq_equiv}
 use Rattle.indexmap.specs.IndexMap.{get, insert_entry}
 use Rattle.indexmap.proofs.CallerLemmas.{insert_entry-new}
 use Rattle.gu_terms.specs.declared.account.AccountId.{AccountId}
@@ -20,12 +19,8 @@ use Rattle.gu_positions.specs.Changes.{KeepsLots, empty_row, same_place}
 use Rattle.gu_positions.specs.Kept.{IsKept, row_of, rows_of, same_key}
 use Rattle.gu_positions.specs.Rows.{Row, has_row, is_of, lots_in, lots_of, lots_on, open_interest_in, same_row}
 use Rattle.gu_positions.proofs.KeptLots.{has_row-lookup}
-use Rattle.gu_positions.proofs.Places.{same_place-true}
+use Rattle.gu_positions.proofs.Places.{same_place-sym, same_place-true}
 use Rattle.gu_terms.proofs.SameNames.{same_symbol-own}
-
--- two places are one whichever is named first
-pub same_place-sym : (a : AccountId) (s : Symbol) (b : AccountId) (t : Symbol) → same_place a s b t ≡ same_place b t a s
-same_place-sym a s b t = λ i. nat_list_eq_equiv.symm a.name b.name i && nat_list_eq_equiv.symm s.name t.name i
 
 or_neither : (p : Bool) → (p || false) ≡ p
 or_neither true = refl

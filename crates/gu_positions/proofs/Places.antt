@@ -1,11 +1,15 @@
 -- Two places are one where their names are the same.
-use Rattle.std.proofs.Common.{◌≡◌, refl, true}
+use Rattle.std.proofs.Common.{◌≡◌, ◌&&◌, ap, refl, true}
+use Rattle.std.specs.Cmp.{IsEquivalence}
+use Rattle.std.proofs.lemmas.Cmp.{nat_list_eq_equiv}
 use Rattle.gu_terms.proofs.SameValues.{both}
 use Rattle.gu_terms.proofs.SameNames.{same_account-own, same_account-true, same_symbol-own, same_symbol-true}
 use Rattle.gu_terms.specs.declared.account.AccountId.{AccountId}
 use Rattle.gu_terms.specs.declared.symbol.Symbol.{Symbol}
 use Rattle.gu_terms.specs.Same.{same_account, same_symbol}
 use Rattle.gu_positions.specs.Changes.{same_place}
+use Rattle.gu_positions.specs.Kept.{same_key}
+use Rattle.gu_positions.specs.declared.positions.Place.{Place}
 
 -- places of the same names are one
 pub same_place-true : (a : AccountId) (s : Symbol) (b : AccountId) (t : Symbol) → same_place a s b t ≡ true → (a ≡ b) × (s ≡ t)
@@ -15,3 +19,21 @@ same_place-true a s b t h =
 
 pub same_place-own : (a : AccountId) (s : Symbol) → same_place a s a s ≡ true
 same_place-own a s = rw (same_account-own a, same_symbol-own s) refl
+
+-- two places are one whichever is named first
+pub same_place-sym : (a : AccountId) (s : Symbol) (b : AccountId) (t : Symbol) → same_place a s b t ≡ same_place b t a s
+same_place-sym a s b t = λ i. nat_list_eq_equiv.symm a.name b.name i && nat_list_eq_equiv.symm s.name t.name i
+
+-- ---- the `==` of places, by which the map finds rows
+
+pub same_key-true : (a b : Place) → same_key a b ≡ true → a ≡ b
+same_key-true a b h =
+    let p = same_place-true a.account a.symbol b.account b.symbol h in
+    λ i. record { account = p.0 i; symbol = p.1 i }
+
+pub same_key-laws : IsEquivalence same_key
+same_key-laws = record {
+  refl = λ a. same_place-own a.account a.symbol;
+  symm = λ a b. same_place-sym a.account a.symbol b.account b.symbol;
+  congr = λ a b c h. ap (λ k. same_key k c) (same_key-true a b h);
+}

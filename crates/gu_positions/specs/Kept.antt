@@ -1,5 +1,5 @@
 -- Machinery: how positions are kept: the lots of each row under its account and instrument, and each instrument's open interest.
-use Rattle.std.specs.Prelude.{◌≡◌, ℕ, ◌-◌, ◌<◌, ◌^◌, Bool, true, ◌&&◌, List, map, slice_get, Some, is_some, unwrap_or}
+use Rattle.std.specs.Prelude.{◌≡◌, ℕ, ◌-◌, ◌<◌, ◌^◌, Bool, true, ◌&&◌, List, map, Some, is_some, unwrap_or}
 use Rattle.std.specs.List.{IsDistinct}
 use Rattle.std.specs.Map.{lookup, set_value}
 use Rattle.indexmap.specs.IndexMap.{get}
@@ -23,11 +23,6 @@ place_of account symbol = record { account = account; symbol = symbol }
 -- one place
 abbrev pub same_key : Place → Place → Bool
 same_key a b = same_account a.account b.account && same_symbol a.symbol b.symbol
-
--- the row of this place stands at this index
-pub record StandsAt (entries : List (Place × Holding)) (place : Place) (index : ℕ) : Type 0 where
-  pub holding : Holding
-  pub here : slice_get entries index ≡ Some (place, holding)
 
 -- a row that is there was changed in this way; before and after are what its long lots were above its short ones
 pub record IsWritten (old new : List (Place × Holding)) (account : AccountId) (symbol : Symbol) (change : Holding → Holding) (before after : ℕ) : Type 0 where

@@ -9,9 +9,10 @@ ghost use Rattle.gu_terms.specs.declared.side.Side.{Side as SideOf};
 ghost use Rattle.gu_terms.specs.declared.side.Side.TheVariants.{Buy, Sell};
 ghost use Rattle.gu_terms.specs.declared.symbol.Symbol.{Symbol as Instrument};
 ghost use Rattle.gu_terms.specs.Same.{same_symbol};
+ghost use Rattle.gu_terms.specs.Standing.{StandsAt};
 ghost use Rattle.gu_positions.specs.Changes.{KeepsLots, KeepsRows, lots_at, lots_at_side, same_place, with_less, with_more, with_row};
 ghost use Rattle.gu_positions.specs.Holdings.{held, less, more};
-ghost use Rattle.gu_positions.specs.Kept.{IsWritten, place_of, StandsAt};
+ghost use Rattle.gu_positions.specs.Kept.{IsWritten, place_of};
 ghost use Rattle.gu_positions.specs.Rows.{has_row, lots_in, lots_on, open_interest_in, same_row};
 
 use crate::holding::Holding;

@@ -10,4 +10,5 @@ pub mod PaddedLemmas
 pub mod Placed
 pub mod SameNames
 pub mod SameValues
+pub mod Standing
 pub mod RefusalTexts

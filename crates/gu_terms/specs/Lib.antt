@@ -12,4 +12,5 @@ pub mod Padded
 pub mod Paths
 pub mod Refusals
 pub mod Same
+pub mod Standing
 pub mod Takes

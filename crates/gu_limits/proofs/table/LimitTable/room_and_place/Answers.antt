@@ -2,7 +2,7 @@ use Rattle.std.proofs.Common.{◌∙◌, ◌-◌, sym, ap, Some, None}
 use Rattle.gu_limits.specs.Limits.{place_in, room_in}
 use Rattle.gu_limits.specs.declared.table.GroupKey.{GroupKey}
 use Rattle.gu_limits.proofs.KeptLimits.{room-kept}
-use Rattle.gu_limits.proofs.Standing.{place-kept}
+use Rattle.gu_limits.proofs.LimitPlaces.{place-kept}
 use Rattle.gu_limits.proofs.table.LimitTable.room_and_place.Goals as goal
 
 pub returns-in_default-clause-room : goal.returns-in_default-clause-room
