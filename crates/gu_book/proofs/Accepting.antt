@@ -33,10 +33,12 @@ use Rattle.gu_trades.specs.declared.terms.Terms.{Terms}
 use Rattle.gu_book.specs.Accepted.{MayClaim, MayReverse, TakesIn}
 use Rattle.gu_book.specs.Answer.{State, answer, answer_in, first_standing, state_of}
 use Rattle.gu_book.specs.Beside.{IsBeside, IsKept, state_in}
-use Rattle.gu_book.specs.Effects.{HoldsMoved, SameEntries, UsesLess, UsesMore}
+use Rattle.gu_book.specs.Effects.{HoldsMoved, SameEntries, UsesLess, UsesMore, UsesUnder}
 use Rattle.gu_book.specs.Limits.{is_under, path_behind, room_of}
 use Rattle.gu_book.specs.Offers.{offers_of, standing_of}
 use Rattle.gu_book.specs.Reports.{reports_of}
+use Rattle.gu_book.specs.Met.{IsMetOffer}
+use Rattle.gu_book.specs.declared.met.MetOffer.{MetOffer}
 use Rattle.gu_book.specs.declared.totals.Totals.{Totals}
 use Rattle.gu_book.proofs.ChangedPositions.{held_in-has, held_in-moved}
 use Rattle.gu_book.proofs.ChangedSums.{today-le-use_in}
@@ -169,6 +171,15 @@ claim-taken reference old new n offer report seen same offers uses holds firm hi
     subst (λ (lots : ℕ). IsKept reference (history ++ claimed firm n lots ∷ []) new) left
     (lots-taken reference history old new (claimed firm n (left_in old.offers n)) n (left_in old.offers n) offer report f.1 f.0 seen (claim-takes firm n (left_in old.offers n)) same offers uses holds kept f.2.there
     f.2.stands (omega (arith, f.2.less, left)))
+
+-- so is one of an offer that its answer met
+pub claim-met : (old new : Totals) (n : ℕ) (met : MetOffer) (report : Terms) → Some report ≡ option_map terms_of (report_by old.trades met.offer.firm met.offer.report) → SameEntries old new
+    → new.offers ≡ changed old.offers n (taken (left_in old.offers n)) → UsesUnder (unwrap_or met.path []) old.limits new.limits met.offer.group (left_in old.offers n)
+    → HoldsMoved old.positions new.positions report report.account met.offer.account (left_in old.offers n)
+    → (reference : Tables) → MayClaim reference old n → IsMetOffer reference old n met → (firm : FirmId) → TakesIn reference old new (Claim firm n)
+claim-met old new n met report found same offers uses holds reference may is firm =
+    claim-taken reference old new n met.offer report (record { shown = is.shown; found = found }) same offers
+    (subst (λ (keys : List LimitKey). UsesUnder keys old.limits new.limits met.offer.group (left_in old.offers n)) is.path uses) holds firm
 
 -- ---- refusals
 

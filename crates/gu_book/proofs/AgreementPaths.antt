@@ -1,5 +1,5 @@
 -- The path of each agreement of a reference, and what it goes through.
-use Rattle.std.proofs.Common.{◌≡◌, ◌&&◌, Bool, true, List, [], ◌∷◌, Option, Some, None, is_some, unwrap_or, subst, refl, sym, ap, ◌∙◌, inl, inr}
+use Rattle.std.proofs.Common.{◌≡◌, ◌&&◌, Bool, true, false, not, is_none, List, [], ◌∷◌, Option, Some, None, is_some, unwrap_or, subst, refl, sym, ap, ◌∙◌, inl, inr}
 use Rattle.std.specs.List.{AllByRecursion, IsDistinct, find}
 use Rattle.std.specs.Option.{option_and_then, option_map}
 use Rattle.std.proofs.lemmas.Bool.{cases_Bool}
@@ -14,8 +14,10 @@ use Rattle.gu_terms.specs.declared.account.AccountId.{AccountId}
 use Rattle.gu_terms.specs.declared.agreement.AgreementId.{AgreementId}
 use Rattle.gu_terms.specs.declared.firm.FirmId.{FirmId}
 use Rattle.gu_terms.specs.declared.limit_key.LimitKey.{LimitKey}
+use Rattle.gu_terms.specs.declared.lines.Line.{Line}
 use Rattle.gu_terms.specs.declared.offer.Offer.{Offer as GivenUp}
 use Rattle.gu_limits.proofs.PathKeys.{kinds_differ}
+use Rattle.gu_limits.proofs.RowsBetween.{carried_between}
 use Rattle.gu_limits.specs.Paths.{path_of}
 use Rattle.gu_ref.specs.Listed.{agreement_for}
 use Rattle.gu_ref.specs.Reference.{account_row, agreement_between, agreement_row, guarantor_of, is_firm}
@@ -23,6 +25,7 @@ use Rattle.gu_ref.specs.Rules.{IsSound}
 use Rattle.gu_ref.specs.Tables.{Tables}
 use Rattle.gu_ref.specs.declared.accounts.Account.{Account}
 use Rattle.gu_ref.specs.declared.agreements.Agreement.{Agreement}
+use Rattle.gu_book.specs.Answer.{has_unknown_account, lacks_agreement}
 use Rattle.gu_book.specs.Limits.{path_behind}
 use Rattle.gu_book.proofs.Facts.{some-is}
 use Rattle.gu_book.proofs.KnownAccounts.{all-found}
@@ -109,3 +112,17 @@ path_behind-once reference offer = by (agreement_between reference offer.firm of
         of (Some path) e =
             let goes = goes_through reference id path e in
             subst (IsDistinct key_eq) (sym goes.is) (kinds_differ goes.executing id goes.account goes.carried.firm (guarantor_of reference goes.carried.firm))
+
+-- where a firm has an agreement for each line, the account of each is there
+pub accounts-known : (reference : Tables) → IsSound reference → (firm : FirmId) (lines : List Line) → lacks_agreement reference firm lines ≡ false → has_unknown_account reference lines ≡ false
+accounts-known reference sound firm [] none = refl
+accounts-known reference sound firm (line ∷ lines) none = by (agreement_between reference firm line.account) refl (accounts-known reference sound firm lines)
+  where
+    by : (id : Option AgreementId) → agreement_between reference firm line.account ≡ id → (lacks_agreement reference firm lines ≡ false → has_unknown_account reference lines ≡ false)
+        → has_unknown_account reference (line ∷ lines) ≡ false
+    by None e others = let never : true ≡ false = rw e at none in cc
+    by (Some id) e others =
+        let there : is_some (account_row reference line.account) ≡ true = carried_between reference sound firm line.account id e in
+        let rest : lacks_agreement reference firm lines ≡ false = rw e at none in
+        let known : is_none (account_row reference line.account) ≡ false = ap not there in
+        rw known (others rest)

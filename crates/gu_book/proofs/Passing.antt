@@ -10,6 +10,7 @@ use Rattle.gu_terms.specs.declared.refusal.Refusal.{Refusal}
 use Rattle.gu_terms.specs.declared.reply.Done.{Done}
 use Rattle.gu_terms.specs.declared.reply.Reply.TheVariants.{Accepted, Denied}
 use Rattle.gu_terms.specs.declared.limit_key.LimitKey.{LimitKey}
+use Rattle.gu_terms.specs.declared.offer.Offer.{Offer}
 use Rattle.gu_terms.specs.declared.refusal.Refusal.TheVariants.{LimitReached, OfferClosed}
 use Rattle.gu_ref.specs.Tables.{Tables}
 use Rattle.gu_offers.specs.Rows.{Row, left_in, row_at}
@@ -70,6 +71,17 @@ claim_refused reference state n some = first (left_in state.offers n == 0) some 
         → refusal_in (tests found) ≡ option_map LimitReached (option_map_or (λ (row : Row). find (λ key. nat_lt (state.room row.offer.group key) left) (path_behind reference row.offer)) found None)
     rooms None = refl
     rooms (Some row) = room_first (state.room row.offer.group) left (path_behind reference row.offer)
+
+-- the first key of an offer that is found, by its own path
+pub short_key-of : (reference : Tables) (state : State) (n lots : ℕ) (offer : Offer) → Some offer ≡ option_map (λ (row : Row). row.offer) (row_at state.offers n)
+    → find (λ key. nat_lt (state.room offer.group key) lots) (path_behind reference offer) ≡ short_key reference state n lots
+short_key-of reference state n lots offer shown = by (row_at state.offers n) shown
+  where
+    by : (found : Option Row) → Some offer ≡ option_map (λ (row : Row). row.offer) found
+        → find (λ key. nat_lt (state.room offer.group key) lots) (path_behind reference offer)
+        ≡ option_map_or (λ (row : Row). find (λ key. nat_lt (state.room row.offer.group key) lots) (path_behind reference row.offer)) found None
+    by None e = cc
+    by (Some row) e = let one : offer ≡ row.offer = cc in ap (λ (o : Offer). find (λ key. nat_lt (state.room o.group key) lots) (path_behind reference o)) one
 
 -- some lots are those, and not none
 pub lots_are : (n lots : ℕ) → Some lots ≡ some_lots n → (lots ≡ n) × ((n == 0) ≡ false)

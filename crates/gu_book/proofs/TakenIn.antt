@@ -29,12 +29,12 @@ use Rattle.gu_terms.proofs.SameValues.{both}
 use Rattle.gu_ref.specs.Tables.{Tables}
 use Rattle.gu_positions.proofs.Changed.{find-passes}
 use Rattle.gu_trades.specs.Counterparts.{standing_in}
-use Rattle.gu_trades.specs.Matching.{conflicts, is_of_trade, is_waiting}
+use Rattle.gu_trades.specs.Matching.{conflicts, is_of_trade}
 use Rattle.gu_trades.specs.declared.standing.Standing.{Standing}
 use Rattle.gu_trades.specs.Reports.{has_report, is_by, report_by, report_of, with_match}
 use Rattle.gu_offers.specs.Changes.{next_day, with_lines}
 use Rattle.gu_offers.specs.Rows.{counted_under}
-use Rattle.gu_book.specs.Accepted.{IsAccepted, MayTakeIn, TakesIn, group_answered, is_matched}
+use Rattle.gu_book.specs.Accepted.{IsAccepted, MayTakeIn, TakesIn, group_answered}
 use Rattle.gu_book.specs.Answer.{State, answer_in, done_of, given_up, group_of, lines_tests, report_tests, state_of, tests_of}
 use Rattle.gu_book.specs.Beside.{IsKept, group_named_by, standing_given_up, state_in}
 use Rattle.gu_book.specs.Effects.{HoldsMore, SetsLimit, UsesNothing, made_a_trade}
@@ -105,14 +105,6 @@ module _
       let opened : open_day history ≡ Some day = sym kept.beside.today ∙ day_is in
       kept-reported reference history entry old new made kept (ap (λ (d : Option Day). report_on d entry) opened) refl refl
       (record { takes = λ n. refl; gives = λ n. refl; closed = λ n. refl }) (λ f i. refl) (λ g k. refl) (fits-in history opened accepted) today give_ups trades offers limits holds
-
-  -- and the answer says whether it makes a trade
-  pub matched-answered : (totals : Totals) (reply : Reply) → MayTakeIn reference totals (ReportSide firm id match_id symbol lots price given side account)
-      → reply ≡ answer_in reference (state_in totals) (ReportSide firm id match_id symbol lots price given side account) → is_matched reply ≡ is_waiting (with_match match_id totals.trades)
-  matched-answered totals reply may is =
-      let command = ReportSide firm id match_id symbol lots price given side account in
-      ap is_matched (is ∙ answer_is reference may.history totals command may.kept.beside ∙ may.accepted.accepted)
-      ∙ ap (λ (rs : List Report). is_waiting (with_match match_id rs)) (sym may.kept.beside.reports)
 
 -- ---- give-ups
 

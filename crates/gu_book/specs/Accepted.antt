@@ -6,7 +6,7 @@ use Rattle.gu_terms.specs.declared.entry.Entry.{Entry}
 use Rattle.gu_terms.specs.declared.entry.Entry.TheVariants.{Asked}
 use Rattle.gu_terms.specs.declared.firm.FirmId.{FirmId}
 use Rattle.gu_terms.specs.declared.group.Group.{Group}
-use Rattle.gu_terms.specs.declared.reply.Done.TheVariants.{Offered, Reported}
+use Rattle.gu_terms.specs.declared.reply.Done.TheVariants.{Offered}
 use Rattle.gu_terms.specs.declared.reply.Reply.TheVariants.{Accepted, Denied}
 use Rattle.gu_terms.specs.declared.reply.Reply.{Reply}
 use Rattle.gu_ref.specs.Tables.{Tables}
@@ -18,11 +18,6 @@ use Rattle.gu_book.specs.declared.totals.Totals.{Totals}
 abbrev pub accepts : Reply → Bool
 accepts (Accepted done) = true
 accepts (Denied why) = false
-
--- a reply says that a report makes a trade
-abbrev pub is_matched : Reply → Bool
-is_matched (Accepted (Reported matched)) = matched
-is_matched _ = false
 
 -- the group that the answer to a give-up names
 abbrev pub group_answered : Reply → Option Group

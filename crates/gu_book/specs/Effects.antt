@@ -59,10 +59,14 @@ pub record SetsLimit (old new : List GroupLimit) (group : Group) (key : LimitKey
   pub limits : (at : Group) (on : LimitKey) → limit_in new at on ≡ (if same_place at on group key then lots else limit_in old at on)
   pub uses : (at : Group) (on : LimitKey) → used_in new at on ≡ used_in old at on
 
--- lots are used more under the keys of an offer
-pub record UsesMore (reference : Tables) (old new : List GroupLimit) (offer : Offer) (lots : ℕ) : Type 0 where
+-- lots are used more under keys in a group
+pub record UsesUnder (keys : List LimitKey) (old new : List GroupLimit) (group : Group) (lots : ℕ) : Type 0 where
   pub limits : SameLimits old new
-  pub uses : (at : Group) (on : LimitKey) → used_in new at on ≡ used_in old at on + lots_under offer.group (path_behind reference offer) lots at on
+  pub uses : (at : Group) (on : LimitKey) → used_in new at on ≡ used_in old at on + lots_under group keys lots at on
+
+-- and under the keys of an offer
+abbrev pub UsesMore : Tables → List GroupLimit → List GroupLimit → Offer → ℕ → Type 0
+UsesMore reference old new offer lots = UsesUnder (path_behind reference offer) old new offer.group lots
 
 -- lots are used less under them
 pub record UsesLess (reference : Tables) (old new : List GroupLimit) (offer : Offer) (lots : ℕ) : Type 0 where

@@ -9,6 +9,7 @@ pub mod Kept
 pub mod Laws
 pub mod Legal
 pub mod Limits
+pub mod Met
 pub mod Moving
 pub mod Notices
 pub mod Offers

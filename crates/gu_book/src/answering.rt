@@ -1,22 +1,29 @@
 //! Answers to commands.
 
-ghost use Rattle.std.specs.Prelude.{◌≡◌, ◌<◌, [], nat_lt, length, unwrap_or, IfSome};
+ghost use Rattle.std.specs.Prelude.{◌≡◌, ◌<◌, [], nat_lt, length, unwrap_or, true, IfErr, IfOk, IfSome, OnOk, None, Some};
 ghost use Rattle.std.specs.List.{find, IsDistinct};
 ghost use Rattle.gu_terms.specs.LimitKeys.{key_eq};
 ghost use Rattle.std.specs.Option.{option_map};
 ghost use Rattle.gu_limits.specs.Limits.{room_in};
+ghost use Rattle.gu_ref.specs.Reference.{partner_between};
+ghost use Rattle.gu_ref.specs.Tables.{Tables};
+ghost use Rattle.gu_terms.specs.declared.firm.FirmId.{FirmId as FirmIdOf};
+ghost use Rattle.gu_trades.specs.Counterparts.{counterpart_of};
 ghost use Rattle.gu_trades.specs.Matching.{is_waiting};
 ghost use Rattle.gu_trades.specs.Reports.{with_match};
 ghost use Rattle.gu_trades.specs.Terms.{report_with};
-ghost use Rattle.gu_book.specs.Answer.{answer_in, claim_tests, first_standing, give_up_tests, has_unknown_account, is_known_key, is_later, is_other_day};
+ghost use Rattle.gu_book.specs.Answer.{answer_in, claim_tests, first_standing, give_up_tests, has_unknown_account, is_another_firms, is_known_key, is_later, is_other_day};
+ghost use Rattle.gu_book.specs.Accepted.{accepts};
 ghost use Rattle.gu_book.specs.Answer.{lacks_agreement, limit_tests, offer_tests, opening_tests, refusal_in, refuse_tests, report_tests, reverse_tests, room_tests, tests_of_lines};
-ghost use Rattle.gu_book.specs.Beside.{answer_to_match, group_named_by, short_key, some_lots, standing_given_up, state_in};
-ghost use Rattle.gu_offers.specs.Rows.{left_in, today_in};
+ghost use Rattle.gu_book.specs.Beside.{answer_to_match, group_named_by, some_lots, standing_given_up, state_in, waiting_of};
+ghost use Rattle.gu_offers.specs.Rows.{Row, left_in, row_at, today_in};
 ghost use Rattle.gu_book.specs.Limits.{path_behind};
+ghost use Rattle.gu_book.specs.Met.{IsMet};
 
+use crate::met::{Met, MetOffer};
 use crate::totals::Totals;
-use gu_limits::{LimitTable, path_between};
-use gu_ref::Reference;
+use gu_limits::{LimitTable, Places, path_by};
+use gu_ref::{Partner, Reference};
 use gu_terms::{
     AllocReject, Command, Day, Done, FirmId, Group, Id, LimitKey, Line, Lines, Lots, MOST_LIMIT,
     MOST_OPEN_OFFERS, Offer, OfferNo, Path, Refusal, Reply,
@@ -55,6 +62,16 @@ fn is_known_key(reference: &Reference, key: LimitKey) -> bool
     }
 }
 
+/// The terms of the report that waits, where a report meets one.
+fn waiting_of(counterpart: &Counterpart) -> Option<Terms>
+    ensures { result ≡ waiting_of counterpart.now }
+{
+    match counterpart {
+        Counterpart::Waiting(waiting) => Some(*waiting),
+        Counterpart::Nobody | Counterpart::Conflicting => None,
+    }
+}
+
 /// The answer to a report that is the first of its firm with its id, by what it meets under its match id.
 fn answer_to_match(counterpart: &Counterpart) -> Reply
     ensures { result ≡ answer_to_match counterpart.now }
@@ -75,9 +92,11 @@ fn answer_to_report(
     match_id: &Id,
     terms: &Terms,
     day: Option<Day>,
+    met: &mut Met,
 ) -> Reply
-    ensures { result ≡ first_standing (report_tests reference.now trades.now (report_with firm.now id.now match_id.now terms.now) day)
+    ensures reply { result ≡ first_standing (report_tests reference.now trades.now (report_with firm.now id.now match_id.now terms.now) day)
         (Done.Reported (is_waiting (with_match match_id.now trades.now))) }
+    ensures met { accepts result ≡ true → met.new.waiting ≡ waiting_of (counterpart_of (with_match match_id.now trades.now) terms.now) }
 {
     if is_other_day(terms.day, day) {
         return Reply::Denied(Refusal::WrongDay);
@@ -94,7 +113,9 @@ fn answer_to_report(
     if trades.has(firm, id) {
         return Reply::Denied(Refusal::DuplicateId);
     }
-    answer_to_match(&trades.counterpart(match_id, terms))
+    let counterpart = trades.counterpart(match_id, terms);
+    met.waiting = waiting_of(&counterpart);
+    answer_to_match(&counterpart)
 }
 
 /// The answer to a limit.
@@ -150,6 +171,15 @@ fn has_unknown_account(reference: &Reference, lines: &[Line]) -> bool
     lines.iter().any(|line| !reference.is_account(line.account))
 }
 
+/// The same, where it is told whether a firm lacks an agreement for one of the lines. If it has all, no account is looked up.
+fn has_unknown_account_without(reference: &Reference, lines: &[Line], lacks: bool) -> bool
+    requires { (firm : FirmIdOf) × (lacks ≡ lacks_agreement reference.now firm lines.now) }
+    ensures { result ≡ has_unknown_account reference.now lines.now }
+{
+    reference.rules();
+    lacks && has_unknown_account(reference, lines)
+}
+
 /// Whether the firm has no agreement for the account of one of the lines.
 fn lacks_agreement(reference: &Reference, firm: FirmId, lines: &[Line]) -> bool
     ensures { result ≡ lacks_agreement reference.now firm lines.now }
@@ -161,20 +191,21 @@ fn lacks_agreement(reference: &Reference, firm: FirmId, lines: &[Line]) -> bool
 
 /// Why lines of a firm's report can't be given up in its group, if they can't.
 fn refusal_of_lines(
-    reference: &Reference,
     totals: &Totals,
     firm: &FirmId,
     report: &Id,
     standing: &Standing,
     group: &Group,
     lines: &Lines,
+    lacks: bool,
 ) -> Option<Refusal>
-    ensures { result ≡ refusal_in (tests_of_lines reference.now totals.now.offers firm.now report.now standing.now group.now lines.now) }
+    ensures { (reference : Tables) → lacks ≡ lacks_agreement reference firm.now lines.now
+        → result ≡ refusal_in (tests_of_lines reference totals.now.offers firm.now report.now standing.now group.now lines.now) }
 {
     if !standing.is_of_trade {
         return Some(Refusal::NotMatched);
     }
-    if lacks_agreement(reference, *firm, lines.as_slice()) {
+    if lacks {
         return Some(Refusal::NoAgreement);
     }
     let counted = totals.offers.counted(*firm, *report);
@@ -202,7 +233,8 @@ fn answer_to_give_up(
     if totals.today.is_none() {
         return Reply::Denied(Refusal::NoDay);
     }
-    if has_unknown_account(reference, lines.as_slice()) {
+    let lacks = lacks_agreement(reference, *firm, lines.as_slice());
+    if has_unknown_account_without(reference, lines.as_slice(), lacks) {
         return Reply::Denied(Refusal::UnknownAccount);
     }
     if totals.has_give_up(firm, id) {
@@ -211,9 +243,7 @@ fn answer_to_give_up(
     let Some((standing, group)) = given_up(reference, totals, firm, report) else {
         return Reply::Denied(Refusal::UnknownTrade);
     };
-    if let Some(refusal) = refusal_of_lines(
-        reference, totals, firm, report, &standing, &group, lines,
-    ) {
+    if let Some(refusal) = refusal_of_lines(totals, firm, report, &standing, &group, lines, lacks) {
         return Reply::Denied(refusal);
     }
     let Some(first) = OfferNo::new(totals.offers.count() as u64 + 1) else {
@@ -247,34 +277,81 @@ fn refusal_of_firm(
     }
 }
 
+/// Whether a firm isn't the one that carries an offer's account, where the agreement by which it was made is known, or that there is none.
+fn is_anothers(
+    reference: &Reference,
+    offer: &Offer,
+    partner: &Option<Partner>,
+    firm: FirmId,
+) -> bool
+    requires { partner.now ≡ partner_between reference.now offer.now.firm offer.now.account }
+    ensures { result ≡ is_another_firms reference.now offer.now.account firm }
+{
+    if let Some(partner) = partner {
+        return partner.carrying != firm;
+    }
+    match reference.account(offer.account) {
+        Some(row) => row.firm != firm,
+        None => false,
+    }
+}
+
+/// The path of the agreement by which an offer was made, where it is known, or that there is none.
+fn path_with(reference: &Reference, offer: &Offer, partner: &Option<Partner>) -> Option<Path>
+    requires { partner.now ≡ partner_between reference.now offer.now.firm offer.now.account }
+    ensures keys { unwrap_or result [] ≡ path_behind reference.now offer.now }
+    ensures once { IfSome result (IsDistinct key_eq) }
+{
+    reference.rules();
+    match partner {
+        Some(partner) => Some(path_by(reference, &offer.firm, &offer.account, partner)),
+        None => None,
+    }
+}
+
 /// The path of the agreement by which an offer was made.
 pub fn path_of_offer(reference: &Reference, offer: &Offer) -> Option<Path>
     ensures keys { unwrap_or result [] ≡ path_behind reference.now offer.now }
     ensures once { IfSome result (IsDistinct key_eq) }
 {
-    let (_, path) = path_between(reference, offer.firm, offer.account)?;
-    Some(path)
+    let partner = reference.partner(offer.firm, offer.account);
+    path_with(reference, offer, &partner)
 }
 
-/// The first key of a path under which there is less room than these lots.
-fn first_short(limits: &LimitTable, group: &Group, path: &Path, lots: u64) -> Option<LimitKey>
+/// The first key of a path under which there is less room than these lots. The places of the limits that are read are noted.
+fn first_short(
+    limits: &LimitTable,
+    group: &Group,
+    path: &Path,
+    lots: u64,
+    places: &mut Places,
+) -> Option<LimitKey>
     ensures { result ≡ find (λ key. nat_lt (room_in limits.now group.now key) lots) path.now }
 {
     for key in path.keys() {
-        if limits.room(group, key) < lots {
+        let (room, place) = limits.room_and_place(group, key);
+        if room < lots {
             return Some(*key);
         }
+        places.note(place);
     }
     None
 }
 
-/// The first key under which an offer comes that has less room than these lots.
-fn short_key(reference: &Reference, totals: &Totals, number: OfferNo, lots: u64) -> Option<LimitKey>
-    ensures { result ≡ short_key reference.now (state_in totals.now) number lots }
+/// The same, of a path that may not be there.
+fn short_key(
+    limits: &LimitTable,
+    group: &Group,
+    path: &Option<Path>,
+    lots: u64,
+    places: &mut Places,
+) -> Option<LimitKey>
+    ensures { result ≡ find (λ key. nat_lt (room_in limits.now group.now key) lots) (unwrap_or path.now []) }
 {
-    let offer = totals.offers.get(number)?;
-    let path = path_of_offer(reference, &offer)?;
-    first_short(&totals.limits, &offer.group, &path, lots)
+    match path {
+        Some(path) => first_short(limits, group, path, lots, places),
+        None => None,
+    }
 }
 
 /// The lots that are left of an offer, where there are any.
@@ -295,19 +372,59 @@ fn lots_moved_today(totals: &Totals, number: OfferNo) -> Option<Lots>
     Lots::new(totals.offers.moved_today(number))
 }
 
-/// The answer to a claim.
-fn answer_to_claim(reference: &Reference, totals: &Totals, firm: FirmId, offer: OfferNo) -> Reply
-    ensures { result ≡ answer_in reference.now (state_in totals.now) (Command.Claim firm offer) }
+/// The offer that a firm claims, and the agreement by which it was made, where there is one; or why the firm may say nothing to it.
+fn claimed_by(
+    reference: &Reference,
+    totals: &Totals,
+    firm: FirmId,
+    number: OfferNo,
+) -> Result<(Offer, Option<Partner>), Refusal>
+    ensures passed { OnOk result (refusal_in (offer_tests reference.now (state_in totals.now) firm number) ≡ None) }
+    ensures refused { IfErr result (λ why. refusal_in (offer_tests reference.now (state_in totals.now) firm number) ≡ Some why) }
+    ensures offer { IfOk result (λ r. Some r.0 ≡ option_map (λ (row : Row). row.offer) (row_at totals.now.offers number)) }
+    ensures partner { IfOk result (λ r. r.1 ≡ partner_between reference.now r.0.firm r.0.account) }
 {
-    if let Some(refusal) = refusal_of_firm(reference, totals, firm, offer) {
-        return Reply::Denied(refusal);
+    if totals.today.is_none() {
+        return Err(Refusal::NoDay);
     }
-    let Some(lots) = lots_left(totals, offer) else {
+    let Some(offer) = totals.offers.get(number) else {
+        return Err(Refusal::UnknownOffer);
+    };
+    let partner = reference.partner(offer.firm, offer.account);
+    if is_anothers(reference, &offer, &partner, firm) {
+        return Err(Refusal::NotYours);
+    }
+    Ok((offer, partner))
+}
+
+/// The answer to a claim.
+fn answer_to_claim(
+    reference: &Reference,
+    totals: &Totals,
+    firm: FirmId,
+    number: OfferNo,
+    met: &mut Met,
+) -> Reply
+    ensures reply { result ≡ answer_in reference.now (state_in totals.now) (Command.Claim firm number) }
+    ensures met { accepts result ≡ true → IsMet reference.now totals.now (Command.Claim firm number) met.new }
+{
+    let (offer, partner) = match claimed_by(reference, totals, firm, number) {
+        Ok(claimed) => claimed,
+        Err(refusal) => return Reply::Denied(refusal),
+    };
+    let Some(lots) = lots_left(totals, number) else {
         return Reply::Denied(Refusal::OfferClosed);
     };
-    if let Some(key) = short_key(reference, totals, offer, lots.get()) {
+    let path = path_with(reference, &offer, &partner);
+    let mut places = Places::none();
+    if let Some(key) = short_key(&totals.limits, &offer.group, &path, lots.get(), &mut places) {
         return Reply::Denied(Refusal::LimitReached(key));
     }
+    met.claimed = Some(MetOffer {
+        offer,
+        path,
+        places,
+    });
     Reply::Accepted(Done::Claimed { lots })
 }
 
@@ -346,10 +463,11 @@ fn answer_to_reversal(reference: &Reference, totals: &Totals, firm: FirmId, offe
     Reply::Accepted(Done::Reversed { lots })
 }
 
-/// The answer to a command, where a history comes to this.
-pub fn answer_of(reference: &Reference, totals: &Totals, command: &Command) -> Reply
+/// The answer to a command, where a history comes to this. What it met is told beside.
+pub fn answer_of(reference: &Reference, totals: &Totals, command: &Command, met: &mut Met) -> Reply
     requires { length totals.now.offers < 16000000 }
-    ensures { result ≡ answer_in reference.now (state_in totals.now) command.now }
+    ensures reply { result ≡ answer_in reference.now (state_in totals.now) command.now }
+    ensures met { accepts result ≡ true → IsMet reference.now totals.now command.now met.new }
 {
     match command {
         Command::OpenDay { day } => answer_to_opening(totals.today, *day),
@@ -378,7 +496,16 @@ pub fn answer_of(reference: &Reference, totals: &Totals, command: &Command) -> R
                 lots: *lots,
                 price: *price,
             };
-            answer_to_report(reference, &totals.trades, firm, id, match_id, &terms, *day)
+            answer_to_report(
+                reference,
+                &totals.trades,
+                firm,
+                id,
+                match_id,
+                &terms,
+                *day,
+                met,
+            )
         }
         Command::GiveUp {
             firm,
@@ -386,7 +513,7 @@ pub fn answer_of(reference: &Reference, totals: &Totals, command: &Command) -> R
             report,
             lines,
         } => answer_to_give_up(reference, totals, firm, id, report, lines),
-        Command::Claim { firm, offer } => answer_to_claim(reference, totals, *firm, *offer),
+        Command::Claim { firm, offer } => answer_to_claim(reference, totals, *firm, *offer, met),
         Command::Refuse { firm, offer, why } => {
             answer_to_refusal(reference, totals, *firm, *offer, *why)
         }

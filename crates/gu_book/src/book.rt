@@ -18,6 +18,7 @@ use crate::answering::answer_of;
 use crate::current::shows_all;
 use crate::error::{CommitError, EnterError, LookError};
 use crate::limits::rows_in_order;
+use crate::met::Met;
 use crate::notices::notices_of;
 use crate::positions::{is_of_firm, rows_of_account};
 use crate::sweeping::{make_ways, move_takes, sweep_from, sweep_of};
@@ -103,27 +104,35 @@ impl Book {
         }
     }
 
-    /// Adds a command with its answer.
-    fn append(&mut self, command: &Command, reply: &Reply) -> Result<(), AllocError>
+    /// Adds a command with its answer, and tells the answer.
+    fn append(&mut self, command: &Command) -> Result<Reply, AllocError>
         requires room { length self.old.history < 1000000 }
-        requires answered { reply.now ≡ answer self.old.reference self.old.history command.now }
-        ensures entered { OnOk result (self.new.history ≡ self.old.history ++ Entry.Asked command.now reply.now ∷ []) }
-        ensures stands { OnOk result (StandsLast self.old.reference (length self.old.history + 1) (Entry.Asked command.now reply.now)) }
+        ensures entered { IfOk result (λ reply. self.new.history ≡ self.old.history ++ Entry.Asked command.now reply ∷ []) }
+        ensures reply { IfOk result (λ reply. reply ≡ answer self.old.reference self.old.history command.now) }
+        ensures stands { IfOk result (λ reply. StandsLast self.old.reference (length self.old.history + 1) (Entry.Asked command.now reply)) }
         ensures reference { self.new.reference ≡ self.old.reference }
         ensures refused { OnErr result (self.new.history ≡ self.old.history) }
     {
+        let mut met = Met::nothing();
+        let reply = answer_of(&self.reference, &self.totals, command, &mut met);
         let count = self.history.len();
-        let touched = touched_in(&self.totals, command, reply);
+        let touched = touched_in(&self.totals, command, &reply);
         let place = know(&mut self.versions, &touched)?;
-        self.history.push_asked(command, *reply)?;
-        if accepts(reply) {
-            if let Err(refused) = take_in(&mut self.totals, &self.reference, command, reply) {
+        self.history.push_asked(command, reply)?;
+        if accepts(&reply) {
+            if let Err(refused) = take_in(
+                &mut self.totals,
+                &self.reference,
+                command,
+                &reply,
+                &met,
+            ) {
                 self.history.truncate(count);
                 return Err(refused);
             }
         }
         touch(&mut self.versions, &touched, place);
-        Ok(())
+        Ok(reply)
     }
 
     /// Enters a command with its answer, a refusal too, and tells the answer alone.
@@ -140,9 +149,7 @@ impl Book {
         if self.history.len() >= MOST_ENTRIES {
             return Err(EnterError::Full);
         }
-        let reply = answer_of(&self.reference, &self.totals, command);
-        self.append(command, &reply)?;
-        Ok(reply)
+        Ok(self.append(command)?)
     }
 
     /// Enters a command with its answer, a refusal too.

@@ -8,6 +8,7 @@ mod error;
 mod laws;
 mod laws_of_offers;
 mod limits;
+mod met;
 mod notices;
 mod positions;
 mod sweeping;

@@ -4,11 +4,14 @@ ghost use Rattle.std.specs.Prelude.{◌≡◌, OnErr, OnOk, Some};
 ghost use Rattle.std.specs.Option.{option_map};
 ghost use Rattle.gu_terms.specs.declared.alloc_reject.AllocReject.{AllocReject as AllocRejectOf};
 ghost use Rattle.gu_terms.specs.declared.firm.FirmId.{FirmId as FirmIdOf};
+ghost use Rattle.gu_ref.specs.Tables.{Tables};
 ghost use Rattle.gu_book.specs.Answer.{answer_in, given_up};
 ghost use Rattle.gu_book.specs.Beside.{IsAccounted, state_in};
 ghost use Rattle.gu_book.specs.Effects.{SameAnswers};
-ghost use Rattle.gu_book.specs.Accepted.{MayClaim, MayReverse, MayTakeIn, TakesIn, group_answered, is_matched};
+ghost use Rattle.gu_book.specs.Accepted.{MayClaim, MayReverse, MayTakeIn, TakesIn, group_answered};
+ghost use Rattle.gu_book.specs.Met.{IsMet, IsMetOffer};
 
+use crate::met::{Met, MetOffer};
 use crate::totals::Totals;
 use gu_ref::Reference;
 use gu_terms::{Command, Done, FirmId, Group, Id, Lines, OfferNo, Reply};
@@ -36,25 +39,20 @@ fn take_in_give_up(
     totals.give_up(firm, id, report, group, lines)
 }
 
-/// A claim is taken in.
-fn take_in_claim(
-    totals: &mut Totals,
-    reference: &Reference,
-    number: OfferNo,
-) -> Result<(), AllocError>
-    requires { MayClaim reference.now totals.old number }
-    ensures taken { OnOk result ((firm : FirmIdOf) → TakesIn reference.now totals.old totals.new (Command.Claim firm number)) }
+/// A claim is taken in, of an offer that its answer met.
+fn take_in_claim(totals: &mut Totals, number: OfferNo, claimed: &MetOffer) -> Result<(), AllocError>
+    requires { (reference : Tables) × (MayClaim reference totals.old number) × (IsMetOffer reference totals.old number claimed.now) }
+    ensures taken { OnOk result ((reference : Tables) → MayClaim reference totals.old number → IsMetOffer reference totals.old number claimed.now
+        → (firm : FirmIdOf) → TakesIn reference totals.old totals.new (Command.Claim firm number)) }
     ensures refused { OnErr result (SameAnswers totals.old totals.new) }
-    ensures known { IsAccounted reference.now totals.old → IsAccounted reference.now totals.new }
+    ensures known { (reference : Tables) → IsAccounted reference totals.old → IsAccounted reference totals.new }
 {
-    let Some(offer) = totals.offers.get(number) else {
-        unreachable!();
-    };
+    let offer = &claimed.offer;
     let Some(report) = totals.trades.terms(&offer.firm, &offer.report) else {
         unreachable!();
     };
     let lots = totals.offers.left(number);
-    totals.claim(reference, number, &offer, &report, lots)
+    totals.claim(number, claimed, &report, lots)
 }
 
 /// A reversal is taken in.
@@ -78,13 +76,6 @@ fn take_in_reversal(
     totals.reverse(reference, number, &offer, &report, lots)
 }
 
-/// Whether a report is answered by a trade.
-fn is_matched(reply: &Reply) -> bool
-    ensures { result ≡ is_matched reply.now }
-{
-    matches!(reply, Reply::Accepted(Done::Reported { matched: true }))
-}
-
 /// The group that the answer to a give-up names.
 fn group_answered(reply: &Reply) -> Option<Group>
     ensures { result ≡ group_answered reply.now }
@@ -95,15 +86,17 @@ fn group_answered(reply: &Reply) -> Option<Group>
     }
 }
 
-/// An accepted command is taken in, with its answer.
+/// An accepted command is taken in, with its answer and what that met.
 pub fn take_in(
     totals: &mut Totals,
     reference: &Reference,
     command: &Command,
     reply: &Reply,
+    met: &Met,
 ) -> Result<(), AllocError>
     requires may { MayTakeIn reference.now totals.old command.now }
     requires answered { reply.now ≡ answer_in reference.now (state_in totals.old) command.now }
+    requires met { IsMet reference.now totals.old command.now met.now }
     ensures taken { OnOk result (TakesIn reference.now totals.old totals.new command.now) }
     ensures refused { OnErr result (SameAnswers totals.old totals.new) }
     ensures known { IsAccounted reference.now totals.old → IsAccounted reference.now totals.new }
@@ -136,7 +129,7 @@ pub fn take_in(
                 lots: *lots,
                 price: *price,
             };
-            totals.report(firm, id, match_id, &terms, is_matched(reply))
+            totals.report(firm, id, match_id, &terms, &met.waiting)
         }
         Command::GiveUp {
             firm,
@@ -149,7 +142,12 @@ pub fn take_in(
             };
             take_in_give_up(totals, reference, firm, id, report, &group, lines)
         }
-        Command::Claim { firm: _, offer } => take_in_claim(totals, reference, *offer),
+        Command::Claim { firm: _, offer } => {
+            let Some(claimed) = &met.claimed else {
+                unreachable!();
+            };
+            take_in_claim(totals, *offer, claimed)
+        }
         Command::Refuse {
             firm: _,
             offer,

@@ -1,32 +1,34 @@
 //! What a book keeps beside its history, so that no answer reads it.
 
-ghost use Rattle.std.specs.Prelude.{◌≡◌, ◌<◌, ◌≤◌, ◌+◌, ◌^◌, ◌++◌, ◌∷◌, [], true, false, All, Some, None, IfSome, OnOk, OnErr, length, map};
+ghost use Rattle.std.specs.Prelude.{◌≡◌, ◌<◌, ◌≤◌, ◌+◌, ◌^◌, ◌++◌, ◌∷◌, [], true, false, All, Some, None, IfSome, OnOk, OnErr, length, map, unwrap_or};
+ghost use Rattle.std.specs.List.{IsDistinct};
 ghost use Rattle.std.specs.Option.{option_to_list};
 ghost use Rattle.gu_limits.specs.Limits.{room_in, used_in};
 ghost use Rattle.gu_offers.specs.Changes.{changed, closed, next_day, reversed, taken, with_lines};
 ghost use Rattle.gu_offers.specs.Rows.{left_in, row_at, today_in};
 ghost use Rattle.gu_positions.specs.Changes.{KeepsLots, KeepsRows, lots_at, lots_at_side};
 ghost use Rattle.gu_positions.specs.Rows.{has_row, lots_in, lots_on};
+ghost use Rattle.gu_terms.specs.LimitKeys.{key_eq};
 ghost use Rattle.gu_terms.specs.declared.account.AccountId.{AccountId as AccountOf};
 ghost use Rattle.gu_terms.specs.declared.side.Side.{Side as SideOf};
 ghost use Rattle.gu_terms.specs.declared.symbol.Symbol.{Symbol as SymbolOf};
 ghost use Rattle.gu_trades.specs.Counterparts.{counterpart_of};
-ghost use Rattle.gu_trades.specs.Matching.{conflicts, is_waiting};
 ghost use Rattle.gu_trades.specs.Reports.{has_report, report_by, with_match};
 ghost use Rattle.gu_trades.specs.Terms.{report_with};
 ghost use Rattle.gu_book.specs.Beside.{is_kept_give_up, waiting_of};
-ghost use Rattle.gu_book.specs.Effects.{HoldsMore, HoldsMoved, IsEven, KeepsMade, OnlyRowsOf, SameAnswers, SameEntries, SetsLimit, UsesLess, UsesMore, UsesNothing, made_a_trade};
+ghost use Rattle.gu_book.specs.Effects.{HoldsMore, HoldsMoved, IsEven, KeepsMade, OnlyRowsOf, SameAnswers, SameEntries, SetsLimit, UsesLess, UsesNothing, UsesUnder, made_a_trade};
 ghost use Rattle.gu_book.specs.Limits.{path_behind};
 ghost use Rattle.gu_book.specs.Moving.{given_by};
 ghost use Rattle.gu_book.specs.Reports.{Fits};
 
 use crate::answering::path_of_offer;
+use crate::met::MetOffer;
 use gu_limits::{LimitTable, SetError};
 use gu_offers::Offers;
 use gu_positions::Positions;
 use gu_ref::Reference;
 use gu_terms::{AccountId, Day, FirmId, Group, Id, LimitKey, Lines, Offer, OfferNo, Seed, Symbol};
-use gu_trades::{Counterpart, Terms, Trades};
+use gu_trades::{Terms, Trades};
 use indexmap::IndexSet;
 use std::alloc::{AllocError, Global};
 
@@ -131,17 +133,17 @@ impl Totals {
         }
     }
 
-    /// A firm's report is taken in. Once it makes a trade with one that waits, the lots of both are held.
+    /// A firm's report is taken in. Once it makes a trade with one that waits, which is of these terms, the lots of both are held.
     pub fn report(
         &mut self,
         firm: &FirmId,
         id: &Id,
         match_id: &Id,
         terms: &Terms,
-        matched: bool,
+        waiting: &Option<Terms>,
     ) -> Result<(), AllocError>
         requires fits { Fits self.old.trades (report_with firm.now id.now match_id.now terms.now) }
-        requires matched { matched ≡ is_waiting (with_match match_id.now self.old.trades) }
+        requires waiting { waiting.now ≡ waiting_of (counterpart_of (with_match match_id.now self.old.trades) terms.now) }
         requires room { (side : SideOf) (symbol : SymbolOf) → lots_on self.old.positions side symbol + 2000000 < 2 ^ 64 }
         ensures today { self.new.today ≡ self.old.today }
         ensures give_ups { self.new.give_ups.keys ≡ self.old.give_ups.keys }
@@ -155,10 +157,9 @@ impl Totals {
             (terms.now.account ∷ map (λ w. w.account) (with_match match_id.now self.old.trades)) }
         ensures refused { OnErr result (SameAnswers self.old self.new) }
     {
-        let waiting = waiting_side(&self.trades, match_id, terms, matched);
-        make_rows_of_trade(&mut self.positions, &waiting, terms)?;
+        make_rows_of_trade(&mut self.positions, waiting, terms)?;
         self.trades.push_terms(firm, id, match_id, terms)?;
-        if let Some(waiting) = &waiting {
+        if let Some(waiting) = waiting {
             hold(&mut self.positions, waiting);
             hold(&mut self.positions, terms);
         }
@@ -244,27 +245,27 @@ impl Totals {
     /// Lots of an offer are claimed: the rows are made, and they are used under the keys of its path and moved.
     pub fn claim(
         &mut self,
-        reference: &Reference,
         number: OfferNo,
-        offer: &Offer,
+        claimed: &MetOffer,
         report: &Terms,
         lots: u64,
     ) -> Result<(), AllocError>
         requires left { lots ≤ left_in self.old.offers number }
-        requires room { All (λ key. lots ≤ room_in self.old.limits offer.now.group key) (path_behind reference.now offer.now) }
+        requires room { All (λ key. lots ≤ room_in self.old.limits claimed.now.offer.group key) (unwrap_or claimed.now.path []) }
+        requires once { IfSome claimed.now.path (IsDistinct key_eq) }
         requires there { lots ≤ lots_in self.old.positions report.now.side report.now.account report.now.symbol }
         ensures entries { SameEntries self.old self.new }
         ensures offers { OnOk result (self.new.offers ≡ changed self.old.offers number (taken lots)) }
-        ensures limits { OnOk result (UsesMore reference.now self.old.limits self.new.limits offer.now lots) }
+        ensures limits { OnOk result (UsesUnder (unwrap_or claimed.now.path []) self.old.limits self.new.limits claimed.now.offer.group lots) }
         ensures positions { OnOk result
-            (HoldsMoved self.old.positions self.new.positions report.now report.now.account offer.now.account lots) }
+            (HoldsMoved self.old.positions self.new.positions report.now report.now.account claimed.now.offer.account lots) }
         ensures even { IsEven self.old.positions → IsEven self.new.positions }
-        ensures rows { OnlyRowsOf self.old.positions self.new.positions (report.now.account ∷ offer.now.account ∷ []) }
+        ensures rows { OnlyRowsOf self.old.positions self.new.positions (report.now.account ∷ claimed.now.offer.account ∷ []) }
         ensures refused { OnErr result (SameAnswers self.old self.new) }
     {
-        self.make_way(offer, report)?;
-        charge(&mut self.limits, reference, offer, lots);
-        self.move_lots(number, offer, report, lots);
+        self.make_way(&claimed.offer, report)?;
+        charge(&mut self.limits, claimed, lots);
+        self.move_lots(number, &claimed.offer, report, lots);
         Ok(())
     }
 
@@ -301,20 +302,6 @@ impl Totals {
             lots,
         );
         Ok(())
-    }
-}
-
-/// The terms of the report that waits for one that makes a trade with it. Of another nothing is looked up.
-fn waiting_side(trades: &Trades, match_id: &Id, terms: &Terms, matched: bool) -> Option<Terms>
-    requires { matched ≡ is_waiting (with_match match_id.now trades.now) }
-    ensures { result ≡ waiting_of (counterpart_of (with_match match_id.now trades.now) terms.now) }
-{
-    if !matched {
-        return None;
-    }
-    match trades.counterpart(match_id, terms) {
-        Counterpart::Waiting(waiting) => Some(waiting),
-        Counterpart::Nobody | Counterpart::Conflicting => None,
     }
 }
 
@@ -362,7 +349,7 @@ fn make_rows_of_trade(
 /// Holds the lots of a report.
 fn hold(positions: &mut Positions, report: &Terms)
     requires made { has_row positions.old report.now.account report.now.symbol ≡ true }
-    requires fits { lots_on positions.old report.now.side report.now.symbol + report.now.lots < 2 ^ 64 }
+    requires fits { lots_on positions.old report.now.side report.now.symbol + 1000000 < 2 ^ 64 }
     ensures same_rows { KeepsRows positions.old positions.new }
     ensures lots { (on : SideOf) (other : AccountOf) (another : SymbolOf) → lots_in positions.new on other another
         ≡ lots_in positions.old on other another + lots_at report.now.side report.now.account report.now.symbol report.now.lots on other another }
@@ -380,12 +367,13 @@ fn hold(positions: &mut Positions, report: &Terms)
 }
 
 /// Uses lots under the keys of an offer's path.
-fn charge(limits: &mut LimitTable, reference: &Reference, offer: &Offer, lots: u64)
-    requires { All (λ key. lots ≤ room_in limits.old offer.now.group key) (path_behind reference.now offer.now) }
-    ensures { UsesMore reference.now limits.old limits.new offer.now lots }
+fn charge(limits: &mut LimitTable, claimed: &MetOffer, lots: u64)
+    requires room { All (λ key. lots ≤ room_in limits.old claimed.now.offer.group key) (unwrap_or claimed.now.path []) }
+    requires once { IfSome claimed.now.path (IsDistinct key_eq) }
+    ensures { UsesUnder (unwrap_or claimed.now.path []) limits.old limits.new claimed.now.offer.group lots }
 {
-    if let Some(path) = path_of_offer(reference, offer) {
-        limits.charge(&offer.group, &path, lots);
+    if let Some(path) = &claimed.path {
+        limits.charge_near(&claimed.offer.group, path, lots, &claimed.places);
     }
 }
 

@@ -71,7 +71,7 @@ abbrev partner : AgreementId → FirmId → Partner
 partner agreement carrying = record { agreement = agreement; carrying = carrying }
 
 -- where a firm has an agreement for an account, the account is there
-carried_between : (reference : Tables) → IsSound reference → (executing : FirmId) (account : AccountId) (id : AgreementId) → agreement_between reference executing account ≡ Some id
+pub carried_between : (reference : Tables) → IsSound reference → (executing : FirmId) (account : AccountId) (id : AgreementId) → agreement_between reference executing account ≡ Some id
     → is_some (account_row reference account) ≡ true
 carried_between reference sound executing account id between = account_is_there reference sound id _ (row_between reference sound executing account id between)
 

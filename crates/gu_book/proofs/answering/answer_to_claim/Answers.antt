@@ -1,36 +1,51 @@
-use Rattle.std.proofs.Common.{ℕ, Option, sym, ap, ◌∙◌}
+use Rattle.std.proofs.Common.{ℕ, List, Option, nat_lt, refl, sym, ap, ◌∙◌}
+use Rattle.std.specs.List.{find}
 use Rattle.std.specs.Option.{option_map}
 use Rattle.gu_terms.specs.declared.limit_key.LimitKey.{LimitKey}
 use Rattle.gu_terms.specs.declared.refusal.Refusal.TheVariants.{LimitReached}
 use Rattle.gu_terms.specs.declared.reply.Done.TheVariants.{Claimed}
 use Rattle.gu_terms.specs.declared.reply.Reply.TheVariants.{Accepted}
+use Rattle.gu_limits.specs.Limits.{room_in}
 use Rattle.gu_offers.specs.Rows.{left_in}
 use Rattle.gu_book.specs.Answer.{claim_tests, offer_tests}
 use Rattle.gu_book.specs.Beside.{short_key, state_in}
-use Rattle.gu_book.proofs.Passing.{claim_refused, lots_are, standing_behind, standing_in, standing_none}
+use Rattle.gu_book.proofs.Passing.{claim_refused, lots_are, short_key-of, standing_behind, standing_in, standing_none}
 use Rattle.gu_book.proofs.answering.answer_to_claim.Goals as goal
 
-pub returns-in-Some-short_key : goal.returns-in-Some-short_key
-returns-in-Some-short_key c =
+pub returns-in-Some-short_key-clause-reply : goal.returns-in-Some-short_key-clause-reply
+returns-in-Some-short_key-clause-reply c =
     let reference = c.args.reference.now in
     let state = state_in c.args.totals.now in
-    let left = left_in state.offers c.args.offer in
-    let lots = lots_are left c.in-Some-lots_left.lots c.in-Some-lots_left.ensures in
-    let key = c.in-Some-short_key.ensures ∙ ap (short_key reference state c.args.offer) (c.get.ensures.number ∙ lots.0) in
+    let left = left_in state.offers c.args.number in
+    let offer = c.in-Ok.claimed.0 in
+    let lots = lots_are left c.in-Some.lots c.in-Some.ensures in
+    let key =
+    c.in-Some-short_key.ensures
+    ∙ ap (λ (path : List LimitKey). find (λ key. nat_lt (room_in c.args.totals.now.limits offer.group key) c.get.result) path) c.path_with-path.ensures.keys
+    ∙ short_key-of reference state c.args.number c.get.result offer c.in-Ok.ensures.offer
+    ∙ ap (short_key reference state c.args.number) (c.get.ensures.number ∙ lots.0) in
     sym
-    (standing_behind (offer_tests reference state c.args.firm c.args.offer) (claim_tests reference state c.args.offer) (Claimed left) (sym c.in_default.ensures)
-    ∙ standing_in (claim_tests reference state c.args.offer) (Claimed left) (LimitReached c.in-Some-short_key.key)
-    (claim_refused reference state c.args.offer lots.1 ∙ ap (λ (k : Option LimitKey). option_map LimitReached k) (sym key)))
+    (standing_behind (offer_tests reference state c.args.firm c.args.number) (claim_tests reference state c.args.number) (Claimed left) c.in-Ok.ensures.passed
+    ∙ standing_in (claim_tests reference state c.args.number) (Claimed left) (LimitReached c.in-Some-short_key.key)
+    (claim_refused reference state c.args.number lots.1 ∙ ap (λ (k : Option LimitKey). option_map LimitReached k) (sym key)))
 
-pub returns : goal.returns
-returns c =
+pub returns-clause-reply : goal.returns-clause-reply
+returns-clause-reply c =
     let reference = c.args.reference.now in
     let state = state_in c.args.totals.now in
-    let left = left_in state.offers c.args.offer in
-    let lots = lots_are left c.in-Some-lots_left.lots c.in-Some-lots_left.ensures in
-    let none = c.in_default-short_key.ensures ∙ ap (short_key reference state c.args.offer) (c.get.ensures.number ∙ lots.0) in
+    let left = left_in state.offers c.args.number in
+    let offer = c.in-Ok.claimed.0 in
+    let lots = lots_are left c.in-Some.lots c.in-Some.ensures in
+    let none =
+    c.in_default-short_key.ensures
+    ∙ ap (λ (path : List LimitKey). find (λ key. nat_lt (room_in c.args.totals.now.limits offer.group key) c.get.result) path) c.path_with-path.ensures.keys
+    ∙ short_key-of reference state c.args.number c.get.result offer c.in-Ok.ensures.offer
+    ∙ ap (short_key reference state c.args.number) (c.get.ensures.number ∙ lots.0) in
     ap (λ (n : ℕ). Accepted (Claimed n)) lots.0
     ∙ sym
-    (standing_behind (offer_tests reference state c.args.firm c.args.offer) (claim_tests reference state c.args.offer) (Claimed left) (sym c.in_default.ensures)
-    ∙ standing_none (claim_tests reference state c.args.offer) (Claimed left)
-    (claim_refused reference state c.args.offer lots.1 ∙ ap (λ (k : Option LimitKey). option_map LimitReached k) (sym none)))
+    (standing_behind (offer_tests reference state c.args.firm c.args.number) (claim_tests reference state c.args.number) (Claimed left) c.in-Ok.ensures.passed
+    ∙ standing_none (claim_tests reference state c.args.number) (Claimed left)
+    (claim_refused reference state c.args.number lots.1 ∙ ap (λ (k : Option LimitKey). option_map LimitReached k) (sym none)))
+
+pub returns-clause-met : goal.returns-clause-met
+returns-clause-met c accepted = (refl, record { shown = c.in-Ok.ensures.offer; path = c.path_with-path.ensures.keys; once = c.path_with-path.ensures.once })

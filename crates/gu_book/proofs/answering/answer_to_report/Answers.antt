@@ -4,12 +4,12 @@ use Rattle.gu_terms.specs.Same.{same_firm}
 use Rattle.gu_trades.specs.Reports.{has_report, with_match}
 use Rattle.gu_trades.specs.Terms.{report_with}
 use Rattle.gu_book.specs.Answer.{is_other_day}
-use Rattle.gu_book.specs.Beside.{answer_to_match}
+use Rattle.gu_book.specs.Beside.{answer_to_match, waiting_of}
 use Rattle.gu_book.proofs.Counterparts.{answer-met}
 use Rattle.gu_book.proofs.answering.answer_to_report.Goals as goal
 
-pub returns : goal.returns
-returns c =
+pub returns-clause-reply : goal.returns-clause-reply
+returns-clause-reply c =
     let reference = c.args.reference.now in
     let terms = c.args.terms.now in
     let day : is_other_day terms.day c.args.day ≡ false = sym c.is_other_day.ensures ∙ c.if-is_other_day.false in
@@ -17,5 +17,8 @@ returns c =
     let account : account_row reference terms.account ≡ Some c.in-Some.row = sym c.in-Some.ensures in
     let has : has_report c.args.trades.now c.args.firm.now c.args.id.now ≡ false = sym c.has.ensures ∙ c.if-has.false in
     let own : not (same_firm c.in-Some.row.firm c.args.firm.now) ≡ false = sym c.ne.ensures ∙ c.if-ne.false in
-    let met = c.answer_to_match.ensures ∙ ap answer_to_match c.counterpart.ensures ∙ answer-met (with_match c.args.match_id.now c.args.trades.now) (report_with c.args.firm.now c.args.id.now c.args.match_id.now terms) in
+    let met = c.answer_to_match.ensures ∙ ap answer_to_match c.counterpart-counterpart.ensures ∙ answer-met (with_match c.args.match_id.now c.args.trades.now) (report_with c.args.firm.now c.args.id.now c.args.match_id.now terms) in
     rw (day, instrument, account, own, has) met
+
+pub returns-clause-met : goal.returns-clause-met
+returns-clause-met c accepted = c.waiting_of-met.ensures ∙ ap waiting_of c.counterpart-counterpart.ensures

@@ -1,14 +1,26 @@
-use Rattle.std.proofs.Common.{◌≡◌, ◌∙◌, ap, sym, subst, refl, None, Some}
+use Rattle.std.proofs.Common.{◌≡◌, ◌∙◌, ap, sym, subst, refl, None, Some, Option}
+use Rattle.std.specs.Prelude.{IfSome}
 use Rattle.std.specs.Result.{OnOk}
 use Rattle.std.proofs.lemmas.Result.{on_ok_weaker}
+use Rattle.gu_terms.specs.declared.account.AccountId.{AccountId}
 use Rattle.gu_terms.specs.declared.command.Command.{Command}
+use Rattle.gu_terms.specs.declared.day.Day.{Day}
+use Rattle.gu_terms.specs.declared.lots.Lots.{Lots}
+use Rattle.gu_terms.specs.declared.price.Price.{Price}
+use Rattle.gu_terms.specs.declared.side.Side.{Side}
+use Rattle.gu_terms.specs.declared.symbol.Symbol.{Symbol}
+use Rattle.gu_trades.specs.Counterparts.{counterpart_of}
+use Rattle.gu_trades.specs.Reports.{with_match}
+use Rattle.gu_trades.specs.declared.terms.Terms.{Terms}
 use Rattle.gu_book.specs.Accepted.{MayTakeIn, TakesIn}
 use Rattle.gu_book.specs.Answer.{answer_in}
-use Rattle.gu_book.specs.Beside.{state_in}
+use Rattle.gu_book.specs.Beside.{state_in, waiting_of}
+use Rattle.gu_book.specs.Met.{IsMet, IsMetOffer}
+use Rattle.gu_book.specs.declared.met.MetOffer.{MetOffer}
 use Rattle.gu_book.proofs.Accepting.{on_ok_two, refusal-taken}
 use Rattle.gu_offers.specs.Changes.{closed}
 use Rattle.gu_book.proofs.KnownAccounts.{known-opened, known-refused, known-reported}
-use Rattle.gu_book.proofs.TakenIn.{given-answered, limit-taken, matched-answered, opening-taken, report-fits, report-taken}
+use Rattle.gu_book.proofs.TakenIn.{given-answered, limit-taken, opening-taken, report-fits, report-taken}
 use Rattle.gu_book.proofs.taking.take_in.Goals as goal
 
 pub returns-in-OpenDay-clause-taken : goal.returns-in-OpenDay-clause-taken
@@ -40,13 +52,28 @@ returns-in-Some-clause-taken c =
     (report-taken c.args.reference.now at.firm at.id at.match_id at.symbol at.lots at.price at.day at.side at.account c.in-Some.day c.args.totals.now c.report.new.self c.in-Some.is e.today e.give_ups e.offers e.limits)
     e.trades e.positions)
 
-pub report-requires-clause-matched : goal.report-requires-clause-matched
-report-requires-clause-matched c =
+pub report-requires-clause-waiting : goal.report-requires-clause-waiting
+report-requires-clause-waiting c =
     let at = c.in-ReportSide in
-    c.is_matched.ensures
-    ∙ matched-answered c.args.reference.now at.firm at.id at.match_id at.symbol at.lots at.price at.day at.side at.account c.in-Some.day c.args.totals.now c.args.reply.now
-    (subst (λ (command : Command). MayTakeIn c.args.reference.now c.args.totals.now command) at.is c.requires.may)
-    (c.requires.answered ∙ ap (answer_in c.args.reference.now (state_in c.args.totals.now)) at.is)
+    let totals = c.args.totals.now in
+    let met = subst (λ (command : Command). IsMet c.args.reference.now totals command c.args.met.now) at.is c.requires.met in
+    subst
+    (λ (today : Option Day). IfSome today (λ (today : Day). c.args.met.now.waiting ≡ waiting_of (counterpart_of (with_match at.match_id totals.trades) (terms_on at.symbol at.account at.side at.lots at.price today))))
+    c.in-Some.is met
+  where
+    terms_on : Symbol → AccountId → Side → Lots → Price → Day → Terms
+    terms_on symbol account side lots price day = record { symbol = symbol; account = account; side = side; day = day; lots = lots; price = price }
+
+pub take_in_claim-requires : goal.take_in_claim-requires
+take_in_claim-requires c =
+    let at = c.in-Claim in
+    let reference = c.args.reference.now in
+    let totals = c.args.totals.now in
+    let met = subst (λ (command : Command). IsMet reference totals command c.args.met.now) at.is c.requires.met in (
+      reference,
+      record { firm = at.firm; may = subst (λ (command : Command). MayTakeIn reference totals command) at.is c.requires.may },
+      subst (λ (claimed : Option MetOffer). IfSome claimed (IsMetOffer reference totals at.offer)) c.in-Some-claimed.is met.1,
+    )
 
 pub unreachable-requires-in_default-group_answered : goal.unreachable-requires-in_default-group_answered
 unreachable-requires-in_default-group_answered c =
@@ -91,3 +118,19 @@ pub returns-in-Refuse-clause-known : goal.returns-in-Refuse-clause-known
 returns-in-Refuse-clause-known c =
     let old = c.args.totals.now in
     known-refused c.args.reference.now old (record old { offers = c.close.new.self }) c.in-Refuse.offer closed (λ row. refl) refl c.close.ensures refl
+
+pub returns-in-Some-claimed-clause-taken : goal.returns-in-Some-claimed-clause-taken
+returns-in-Some-claimed-clause-taken c =
+    let at = c.in-Claim in
+    let reference = c.args.reference.now in
+    let old = c.args.totals.now in
+    let met = subst (λ (command : Command). IsMet reference old command c.args.met.now) at.is c.requires.met in
+    subst (λ (command : Command). OnOk c.take_in_claim.result (TakesIn reference old c.take_in_claim.new.totals command)) (sym at.is)
+    (on_ok_weaker c.take_in_claim.result
+    (λ taken.
+    taken reference (record { firm = at.firm; may = subst (λ (command : Command). MayTakeIn reference old command) at.is c.requires.may })
+    (subst (λ (claimed : Option MetOffer). IfSome claimed (IsMetOffer reference old at.offer)) c.in-Some-claimed.is met.1) at.firm)
+    c.take_in_claim.ensures.taken)
+
+pub returns-in-Some-claimed-clause-known : goal.returns-in-Some-claimed-clause-known
+returns-in-Some-claimed-clause-known c = c.take_in_claim.ensures.known c.args.reference.now

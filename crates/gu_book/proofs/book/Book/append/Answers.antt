@@ -1,4 +1,4 @@
-use Rattle.std.proofs.Common.{◌≡◌, ◌∙◌, ◌++◌, ◌∷◌, ◌+◌, ◌<◌, ◌^◌, [], List, length, ap, sym, subst, if◌then◌else◌}
+use Rattle.std.proofs.Common.{◌≡◌, ◌∙◌, ◌++◌, ◌∷◌, ◌+◌, ◌<◌, ◌^◌, [], List, length, ap, arith, sym, subst, if◌then◌else◌}
 use Rattle.gu_terms.specs.declared.entry.Entry.{Entry}
 use Rattle.gu_terms.specs.declared.entry.Entry.TheVariants.{Asked}
 use Rattle.gu_terms.specs.declared.group.Group.{Group}
@@ -11,7 +11,7 @@ use Rattle.gu_book.specs.Versions.{touches}
 use Rattle.gu_book.specs.declared.book.Book.TheInside.{Inside}
 use Rattle.gu_book.specs.declared.versions.Touched.{Touched}
 use Rattle.gu_book.specs.declared.versions.Versions.{Versions}
-use Rattle.gu_book.proofs.Accepting.{answer_is}
+use Rattle.gu_book.proofs.Accepting.{answer_is, few_offers}
 use Rattle.gu_book.proofs.Beginning.{is-accepted, legal-accepted, legal-denied, legal-refused}
 use Rattle.gu_book.proofs.CountedLemmas.{touched-is, versions-fit, versions-push, versions-same}
 use Rattle.gu_book.proofs.Growing.{stands_last}
@@ -19,27 +19,30 @@ use Rattle.gu_book.proofs.Passing.{truncated}
 use Rattle.gu_book.proofs.book.Book.append.Goals as goal
 use Rattle.gu_book.proofs.book.Book.append.Goals.{then-accepts+in_default, else-accepts}
 
+pub answer_of-reply-requires : goal.answer_of-reply-requires
+answer_of-reply-requires c =
+    let old = c.self.inside in
+    let room : length old.history < 1000000 = rw (sym c.self.view_is) at c.requires.room in
+    omega (arith, few_offers old.reference old.history old.totals c.self.invariant.kept, room)
+
 pub take_in-requires-clause-may : goal.take_in-requires-clause-may
 take_in-requires-clause-may c =
     let old = c.self.inside in
-    let is : c.args.reply.now ≡ answer old.reference old.history c.args.command.now = c.requires.answered ∙ ap (λ (k : Kept). answer k.reference k.history c.args.command.now) (sym c.self.view_is) in
+    let is : c.answer_of-reply.result ≡ answer old.reference old.history c.args.command.now = c.answer_of-reply.ensures.reply ∙ answer_is c.self.inside.reference c.self.inside.history c.self.inside.totals c.args.command.now c.self.invariant.kept.beside in
     record {
       history = old.history;
       kept = c.self.invariant.kept;
-      accepted = is-accepted old.reference old.history c.args.command.now c.args.reply.now (rw (sym c.self.view_is) at c.requires.room) is (sym c.accepts.ensures ∙ c.if-accepts.true);
+      accepted = is-accepted old.reference old.history c.args.command.now c.answer_of-reply.result (rw (sym c.self.view_is) at c.requires.room) is (sym c.accepts.ensures ∙ c.if-accepts.true);
     }
 
-pub take_in-requires-clause-answered : goal.take_in-requires-clause-answered
-take_in-requires-clause-answered c =
-    let old = c.self.inside in
-    c.requires.answered ∙ ap (λ (k : Kept). answer k.reference k.history c.args.command.now) (sym c.self.view_is)
-    ∙ sym (answer_is old.reference old.history old.totals c.args.command.now c.self.invariant.kept.beside)
+pub take_in-requires-clause-met : goal.take_in-requires-clause-met
+take_in-requires-clause-met c = c.answer_of-reply.ensures.met (sym c.accepts.ensures ∙ c.if-accepts.true)
 
 pub invariant_of-self-in-Err : goal.invariant_of-self-in-Err
 invariant_of-self-in-Err c =
     let old = c.self.inside in
     let pushed = c.in_ok-push_asked.ensures.added in
-    let back = truncated old.history (Asked c.args.command.now c.args.reply.now) c.len-count.result c.push_asked.new.self c.truncate.new.self c.len-count.ensures pushed c.truncate.ensures in
+    let back = truncated old.history (Asked c.args.command.now c.answer_of-reply.result) c.len-count.result c.push_asked.new.self c.truncate.new.self c.len-count.ensures pushed c.truncate.ensures in
     subst (λ (history : List Entry). IsKeptLegal old.reference history c.take_in.new.totals c.know.new.versions) (sym back)
     (legal-refused old.reference old.history old.totals c.take_in.new.totals old.versions c.know.new.versions c.self.invariant c.in-Err.ensures.refused c.take_in.ensures.known
     (versions-same old.history old.versions c.know.new.versions c.self.invariant.counted c.know.ensures.days c.know.ensures.same))
@@ -59,10 +62,10 @@ pub invariant_of-self-2 : goal.invariant_of-self-2
 invariant_of-self-2 c =
     let old = c.self.inside in
     let command = c.args.command.now in
-    let reply = c.args.reply.now in
+    let reply = c.answer_of-reply.result in
     let entry = Asked command reply in
     let room = rw (sym c.self.view_is) at c.requires.room in
-    let is : reply ≡ answer old.reference old.history command = c.requires.answered ∙ ap (λ (k : Kept). answer k.reference k.history command) (sym c.self.view_is) in
+    let is : reply ≡ answer old.reference old.history command = c.answer_of-reply.ensures.reply ∙ answer_is old.reference old.history old.totals command c.self.invariant.kept.beside in
     let pushed = c.in_ok-push_asked.ensures.added in
     let before = versions-same old.history old.versions c.know.new.versions c.self.invariant.counted c.know.ensures.days c.know.ensures.same in
     let touched : (group : Group) → is_touched c.touched_in-touched.result group ≡ touches old.history group entry =
@@ -91,6 +94,11 @@ invariant_of-self-2 c =
 pub returns-clause-stands : goal.returns-clause-stands
 returns-clause-stands c =
     let old = c.self.inside in
-    let is : c.args.reply.now ≡ answer old.reference old.history c.args.command.now = c.requires.answered ∙ ap (λ (k : Kept). answer k.reference k.history c.args.command.now) (sym c.self.view_is) in
-    subst (λ (k : Kept). StandsLast k.reference (length k.history + 1) (Asked c.args.command.now c.args.reply.now)) c.self.view_is
-    (stands_last old.reference old.history (Asked c.args.command.now c.args.reply.now) c.self.invariant.legal (rw (sym c.self.view_is) at c.requires.room) is)
+    let is : c.answer_of-reply.result ≡ answer old.reference old.history c.args.command.now = c.answer_of-reply.ensures.reply ∙ answer_is c.self.inside.reference c.self.inside.history c.self.inside.totals c.args.command.now c.self.invariant.kept.beside in
+    subst (λ (k : Kept). StandsLast k.reference (length k.history + 1) (Asked c.args.command.now c.answer_of-reply.result)) c.self.view_is
+    (stands_last old.reference old.history (Asked c.args.command.now c.answer_of-reply.result) c.self.invariant.legal (rw (sym c.self.view_is) at c.requires.room) is)
+
+pub returns-clause-reply : goal.returns-clause-reply
+returns-clause-reply c =
+    c.answer_of-reply.ensures.reply ∙ answer_is c.self.inside.reference c.self.inside.history c.self.inside.totals c.args.command.now c.self.invariant.kept.beside
+    ∙ ap (λ (k : Kept). answer k.reference k.history c.args.command.now) c.self.view_is

@@ -1,7 +1,7 @@
-use Rattle.std.proofs.Common.{◌∙◌, ◌-◌, ◌+◌, ◌++◌, arith, drop, subst, take}
+use Rattle.std.proofs.Common.{◌-◌, ◌+◌, arith, drop, subst, take}
 use Rattle.gu_book.specs.Notices.{told_by, told_from}
 use Rattle.gu_book.specs.Telling.{register_in}
-use Rattle.gu_book.proofs.NoticeLemmas.{IsToldSoFar, rest-is, told-none, told-then, told_at, told-nothing}
+use Rattle.gu_book.proofs.NoticeLemmas.{IsToldSoFar, told-then, told_at, told-nothing}
 use Rattle.gu_book.proofs.notices.Mailbox.tell_entries.Goals as goal
 
 pub loop-place-init : goal.loop-place-init
