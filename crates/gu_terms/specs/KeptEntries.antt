@@ -1,5 +1,5 @@
 -- Machinery: entries as a history keeps them. The ids of all stand in one list of bytes, and of each entry is known where its own stand there.
-use Rattle.std.specs.Prelude.{◌≡◌, ℕ, ◌+◌, ◌-◌, ◌<◌, ◌≤◌, ◌^◌, All, AllPairs, List, [], length, slice_get, take, drop}
+use Rattle.std.specs.Prelude.{◌≡◌, ℕ, ◌+◌, ◌-◌, ◌<◌, ◌≤◌, ◌^◌, All, AllPairs, List, [], ◌∷◌, length, slice_get, take, drop}
 use Rattle.std.specs.Option.{option_map_or}
 use Rattle.gu_terms.specs.Names.{IsId}
 use Rattle.gu_terms.specs.declared.command.Command.{Command}
@@ -28,6 +28,8 @@ second_id texts ids = text_at texts (ids.at + ids.first) ids.second
 abbrev pub entry_by : List ℕ → List ℕ → Body → Entry
 entry_by first second (body.Reported firm symbol account side matched day lots price) =
     Asked (ReportSide firm first second symbol lots price day side account) (Accepted (Reported matched))
+entry_by first second (body.OfferedOne firm group account number lots) =
+    Asked (GiveUp firm first second ((record { account = account; lots = lots }) ∷ [])) (Accepted (Offered group number 1))
 entry_by first second (body.Offered firm group number lines) =
     Asked (GiveUp firm first second lines) (Accepted (Offered group number (length lines)))
 entry_by first second (body.Claimed firm offer lots) = Asked (Claim firm offer) (Accepted (Claimed lots))
@@ -48,6 +50,7 @@ end_of_last entries = option_map_or end_of (slice_get entries (length entries - 
 -- a body has ids, and these are they
 abbrev pub AreIdsOf : Body → List ℕ → List ℕ → Type 0
 AreIdsOf (body.Reported firm symbol account side matched day lots price) first second = IsId first × IsId second
+AreIdsOf (body.OfferedOne firm group account number lots) first second = IsId first × IsId second
 AreIdsOf (body.Offered firm group number lines) first second = IsId first × IsId second
 AreIdsOf other first second = Unit {0}
 

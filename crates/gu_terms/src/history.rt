@@ -134,7 +134,7 @@ impl History {
         requires { place < length self.now }
         ensures { IfOk result (λ entry. slice_get self.now place ≡ Some entry) }
     {
-        self.entries[place].entry(&self.texts)
+        self.entries[place].entry(self.alloc, &self.texts)
     }
 
     /// The entry of a number. There is none of number 0.

@@ -11,14 +11,14 @@ use crate::entry::Entry;
 use crate::firm::FirmId;
 use crate::group::Group;
 use crate::id::Id;
-use crate::lines::Lines;
+use crate::lines::{Line, Lines};
 use crate::lots::Lots;
 use crate::offer_no::OfferNo;
 use crate::price::Price;
 use crate::reply::{Done, Reply};
 use crate::side::Side;
 use crate::symbol::Symbol;
-use std::alloc::AllocError;
+use std::alloc::{AllocError, Global};
 
 /// Where the two ids of an entry stand among the texts: from which byte on, and how many bytes each has, the second behind the first.
 /// An entry without ids has two of no bytes.
@@ -42,6 +42,14 @@ pub(crate) enum Body {
         day: Option<Day>,
         lots: Lots,
         price: Price,
+    },
+    /// A give-up whose one line became an offer, as most are. Its ids are its own and that of the report.
+    OfferedOne {
+        firm: FirmId,
+        group: Group,
+        account: AccountId,
+        first: OfferNo,
+        lots: Lots,
     },
     /// A give-up whose lines became as many offers. Its ids are its own and that of the report.
     Offered {
@@ -113,7 +121,7 @@ impl Kept {
     }
 
     /// The entry that is kept so, with its ids out of the texts.
-    pub(crate) fn entry(&self, texts: &[u8]) -> Result<Entry, AllocError>
+    pub(crate) fn entry(&self, alloc: Global, texts: &[u8]) -> Result<Entry, AllocError>
         requires { IsWithin texts.now self.now }
         ensures { IfOk result (λ entry. entry ≡ entry_of texts.now self.now) }
     {
@@ -141,6 +149,32 @@ impl Kept {
                 },
                 reply: Reply::Accepted(Done::Reported { matched: *matched }),
             }),
+            Body::OfferedOne {
+                firm,
+                group,
+                account,
+                first,
+                lots,
+            } => {
+                let line = Line {
+                    account: *account,
+                    lots: *lots,
+                };
+                let lines = Lines::one(alloc, line)?;
+                Ok(Entry::Asked {
+                    command: Command::GiveUp {
+                        firm: *firm,
+                        id: self.ids.first_id(texts),
+                        report: self.ids.second_id(texts),
+                        lines,
+                    },
+                    reply: Reply::Accepted(Done::Offered {
+                        group: *group,
+                        first: *first,
+                        count: 1,
+                    }),
+                })
+            }
             Body::Offered {
                 firm,
                 group,
@@ -232,6 +266,15 @@ fn body_of_give_up(
     };
     if lines.as_slice().len() as u64 != count {
         return Ok(None);
+    }
+    if let [line] = lines.as_slice() {
+        return Ok(Some(Body::OfferedOne {
+            firm: *firm,
+            group,
+            account: line.account,
+            first,
+            lots: line.lots,
+        }));
     }
     let lines = lines.copy()?;
     Ok(Some(Body::Offered {

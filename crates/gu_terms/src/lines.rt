@@ -1,12 +1,12 @@
 //! The lines of a give-up.
 
-ghost use Rattle.std.specs.Prelude.{◌≡◌, ◌↔◌, ◌≤◌, length, sum_by, IsTrue, IsSome, IfSome, IfOk};
+ghost use Rattle.std.specs.Prelude.{◌≡◌, ◌↔◌, ◌≤◌, ◌∷◌, [], length, sum_by, IsTrue, IsSome, IfSome, IfOk};
 ghost use Rattle.gu_terms.specs.Lines.{AreLines, lots_in_all};
 
 use crate::account::AccountId;
 use crate::bounds::MOST_LINES;
 use crate::lots::Lots;
-use std::alloc::AllocError;
+use std::alloc::{AllocError, Global};
 use std::marker::Model;
 
 /// A part of a give-up: an account, and the lots that it is to take up.
@@ -44,6 +44,14 @@ impl Lines {
             return None;
         }
         Some(Lines { list })
+    }
+
+    /// One line.
+    pub(crate) fn one(alloc: Global, line: Line) -> Result<Self, AllocError>
+        ensures { IfOk result (λ lines. lines ≡ line ∷ []) }
+    {
+        let list = vec![in alloc; line]?;
+        Ok(Lines { list })
     }
 
     /// The lines, in order.
