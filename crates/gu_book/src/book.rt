@@ -18,7 +18,7 @@ use crate::answering::answer_of;
 use crate::current::shows_all;
 use crate::error::{CommitError, EnterError, LookError};
 use crate::limits::rows_in_order;
-use crate::met::Met;
+use crate::met::{Met, MetRooms};
 use crate::notices::notices_of;
 use crate::positions::{is_of_firm, rows_of_account};
 use crate::sweeping::{make_ways, move_takes, sweep_from, sweep_of};
@@ -259,8 +259,13 @@ impl Book {
         )?)
     }
 
-    /// Why a proposal for a view may not be committed, where it may not. It takes no memory.
-    fn refusal(&self, view: &View) -> Option<CommitError>
+    /// No rooms of a view as yet.
+    fn no_rooms(&self, view: &View) -> MetRooms {
+        MetRooms::new(self.alloc, view.rooms().len())
+    }
+
+    /// Why a proposal for a view may not be committed, where it may not. It needs no memory. The places of the limits of its rooms are noted.
+    fn refusal(&self, view: &View, rooms: &mut MetRooms) -> Option<CommitError>
         ensures { MatchOption result (IsCurrent self.now view.now) (λ why. Refuses self.now view.now why) }
     {
         if MOST_ENTRIES <= self.history.len() {
@@ -274,14 +279,14 @@ impl Book {
         if !self.reference.group(view.group()) {
             return Some(CommitError::Foreign);
         }
-        if !shows_all(&self.reference, &self.totals, view) {
+        if !shows_all(&self.reference, &self.totals, view, rooms) {
             return Some(CommitError::Foreign);
         }
         None
     }
 
     /// Adds the sweep that a proposal asks for, and moves its lots.
-    fn append_sweep(&mut self, proposal: &Proposal) -> Result<(), AllocError>
+    fn append_sweep(&mut self, proposal: &Proposal, rooms: &MetRooms) -> Result<(), AllocError>
         requires { IsCurrent self.old proposal.now.view }
         ensures entered { OnOk result (self.new.history ≡ self.old.history ++ Entry.Swept (sweep_of proposal.now) ∷ []) }
         ensures stands { OnOk result (StandsLast self.old.reference (length self.old.history + 1) (Entry.Swept (sweep_of proposal.now))) }
@@ -297,6 +302,7 @@ impl Book {
             &mut self.totals,
             proposal.view(),
             proposal.takes().as_slice(),
+            rooms,
         );
         touch(&mut self.versions, &touched, place);
         Ok(())
@@ -316,10 +322,11 @@ impl Book {
         ensures reference { self.new.reference ≡ self.old.reference }
         ensures refused { OnErr result (self.new.history ≡ self.old.history) }
     {
-        if let Some(why) = self.refusal(proposal.view()) {
+        let mut rooms = self.no_rooms(proposal.view());
+        if let Some(why) = self.refusal(proposal.view(), &mut rooms) {
             return Err((why, proposal));
         }
-        if let Err(AllocError) = self.append_sweep(&proposal) {
+        if let Err(AllocError) = self.append_sweep(&proposal, &rooms) {
             return Err((CommitError::Memory, proposal));
         }
         Ok(Receipt {

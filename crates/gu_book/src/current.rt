@@ -8,6 +8,7 @@ ghost use Rattle.gu_view.specs.declared.view.Offer.{Offer as OfferOf};
 ghost use Rattle.gu_book.specs.Current.{HasRooms, ShowsAll};
 ghost use Rattle.gu_book.specs.Shown.{shown_at};
 
+use crate::met::MetRooms;
 use crate::totals::Totals;
 use crate::views::shown_offer;
 use gu_limits::LimitTable;
@@ -57,22 +58,27 @@ fn shows_offers(reference: &Reference, totals: &Totals, numbers: &[u64], offers:
     rest.is_empty()
 }
 
-/// Whether each room is that of its key in a group.
-fn shows_rooms(limits: &LimitTable, group: &Group, rooms: &[Room]) -> bool
+/// Whether each room is that of its key in a group. The places of the limits that are read are noted.
+fn shows_rooms(limits: &LimitTable, group: &Group, rooms: &[Room], met: &mut MetRooms) -> bool
     ensures { IsTrue result ↔ HasRooms limits.now group.now rooms.now }
 {
-    rooms
-        .iter()
-        .all(|room| room.lots == limits.room(group, &room.key))
+    for room in rooms {
+        let (lots, place) = limits.room_and_place(group, &room.key);
+        if room.lots != lots {
+            return false;
+        }
+        met.note(place);
+    }
+    true
 }
 
-/// Whether a view shows the open offers of its group, and each room as it is. It takes no memory.
-pub fn shows_all(reference: &Reference, totals: &Totals, view: &View) -> bool
+/// Whether a view shows the open offers of its group, and each room as it is. It needs no memory.
+pub fn shows_all(reference: &Reference, totals: &Totals, view: &View, met: &mut MetRooms) -> bool
     ensures shown { IsTrue result ↔ ShowsAll reference.now totals.now view.now }
     ensures sound { IsView view.now }
 {
     let group = view.group();
     let numbers = totals.offers.open_numbers(group);
     shows_offers(reference, totals, numbers, view.offers())
-        && shows_rooms(&totals.limits, &group, view.rooms())
+        && shows_rooms(&totals.limits, &group, view.rooms(), met)
 }

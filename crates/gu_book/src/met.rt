@@ -5,6 +5,7 @@ ghost use Rattle.std.specs.Prelude.{◌≡◌, None};
 use gu_limits::Places;
 use gu_terms::{Offer, Path};
 use gu_trades::Terms;
+use std::alloc::Global;
 
 /// An offer that is claimed, with the keys that it comes under, and where their limits stood as their rooms were read.
 #[derive(Clone, Copy, Debug)]
@@ -34,5 +35,34 @@ impl Met {
             waiting: None,
             claimed: None,
         }
+    }
+}
+
+/// Where the limits of a view's rooms stood as the rooms were read, in their order. As `Places`, these are guesses alone.
+#[derive(Drop)]
+pub struct MetRooms {
+    places: Vec<usize>,
+}
+
+impl MetRooms {
+    /// None as yet, with room for so many. Without memory fewer are noted.
+    pub fn new(alloc: Global, count: usize) -> Self {
+        let mut places = Vec::new(alloc);
+        let _ = places.reserve(count);
+        MetRooms { places }
+    }
+
+    /// Notes the place of the next room's limit, or that it has none.
+    pub fn note(&mut self, place: Option<usize>) {
+        let _ = self.places.push(place.unwrap_or(0));
+    }
+
+    /// Those of a path, by the places of its keys among the rooms.
+    pub fn of_path(&self, rooms: &[u32]) -> Places {
+        let mut places = Places::none();
+        for room in rooms {
+            places.note(self.places.get(*room as usize).copied());
+        }
+        places
     }
 }

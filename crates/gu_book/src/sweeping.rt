@@ -9,10 +9,12 @@ ghost use Rattle.gu_book.specs.Commits.{sweep_of};
 ghost use Rattle.gu_book.specs.Moving.{HasRows, MayMove, MovesAll, MovesOne};
 ghost use Rattle.gu_book.specs.Sweeps.{IsSweepOf};
 
+use crate::met::MetRooms;
 use crate::totals::Totals;
 use gu_flow::Proposal;
+use gu_limits::Places;
 use gu_terms::{OfferNo, SweepEntry, Take};
-use gu_view::View;
+use gu_view::{Offer, View};
 use std::alloc::AllocError;
 
 /// The sweep that a proposal asks for.
@@ -72,8 +74,27 @@ pub fn make_ways(totals: &mut Totals, takes: &[Take]) -> Result<(), AllocError>
     Ok(())
 }
 
+/// Where the first offer stands that doesn't come before a number, among those from a place on.
+fn place_from(offers: &[Offer], from: usize, number: OfferNo) -> usize {
+    for place in from..offers.len() {
+        if offers[place].number.get() >= number.get() {
+            return place;
+        }
+    }
+    offers.len()
+}
+
+/// Where the limits stood of the path of the offer at a place.
+fn places_at(view: &View, place: usize, rooms: &MetRooms) -> Places {
+    if place < view.offers().len() {
+        rooms.of_path(view.places(place))
+    } else {
+        Places::none()
+    }
+}
+
 /// Moves the lots of one take, and charges them under the path that a view shows. It takes no memory.
-fn move_take(totals: &mut Totals, view: &View, take: &Take)
+fn move_take(totals: &mut Totals, view: &View, take: &Take, places: &Places)
     requires { (reference : Tables) × MayMove reference totals.old view.now.offers (take.now ∷ []) }
     ensures { (reference : Tables)
         → MayMove reference totals.old view.now.offers (take.now ∷ [])
@@ -85,18 +106,22 @@ fn move_take(totals: &mut Totals, view: &View, take: &Take)
     let Some(shown) = view.offer(take.offer) else {
         unreachable!();
     };
-    totals.limits.charge(&offer.group, &shown.path, take.lots);
+    totals
+        .limits
+        .charge_near(&offer.group, &shown.path, take.lots, places);
     totals.move_lots(take.offer, &offer, &report, take.lots);
 }
 
 /// Moves the lots of takes of a view's offers, one after another. It takes no memory.
-pub fn move_takes(totals: &mut Totals, view: &View, takes: &[Take])
+pub fn move_takes(totals: &mut Totals, view: &View, takes: &[Take], rooms: &MetRooms)
     requires { (reference : Tables) × MayMove reference totals.old view.now.offers takes.now }
     ensures { (reference : Tables)
         → MayMove reference totals.old view.now.offers takes.now
         → MovesAll reference totals.old totals.new takes.now }
 {
+    let mut place = 0;
     for take in takes {
-        move_take(totals, view, take);
+        place = place_from(view.offers(), place, take.offer);
+        move_take(totals, view, take, &places_at(view, place, rooms));
     }
 }
