@@ -7,6 +7,7 @@ mod line_feed;
 mod lines;
 mod outcomes;
 mod replies;
+mod reserved;
 mod rows;
 mod script_forms;
 mod script_line;

@@ -1,87 +1,112 @@
 //! Replies to commands as lines.
 
-ghost use Rattle.std.specs.Prelude.{◌≡◌, ◌++◌, ◌∷◌, ◌+◌, ◌-◌, ◌≤◌, [], codes, IfOk, OnOk};
+ghost use Rattle.std.specs.Prelude.{◌≡◌, ◌++◌, ◌∷◌, ◌+◌, ◌-◌, ◌≤◌, [], codes, length, vec_capacity, vec_len, IfOk, OnOk};
 ghost use Rattle.std.specs.Fmt.{decimal};
+ghost use Rattle.gu_terms.specs.LimitKeys.{kind_of};
 ghost use Rattle.gu_text.specs.Replies.{done_words, key_words, refusal_words, reply_text};
 ghost use Rattle.gu_text.specs.Texts.{last_word, line_of};
 
-use crate::texts::{append_last_number, append_last_word, append_number, append_word};
+use crate::reserved::{LINE_ROOM, put_ended, put_last_number, put_last_word, put_number, put_word};
 use gu_terms::{Done, LimitKey, Lots, OfferNo, Refusal, Reply};
 use itoa::Buffer;
 use std::alloc::{AllocError, Global};
+
+/// The word for a key's kind.
+#[inline(always)]
+pub(crate) fn kind_word(key: &LimitKey) -> &'static [u8]
+    ensures word { result.now ≡ kind_of key.now }
+    ensures short { length result.now ≤ 20 }
+{
+    key.kind().as_bytes()
+}
+
+/// Puts a key, which ends the line, onto room that is there.
+pub(crate) fn put_key(output: &mut Vec<u8>, key: &LimitKey)
+    requires { vec_len output.old + 42 ≤ vec_capacity output.old }
+    ensures { output.new.items ≡ output.old.items ++ line_of (key_words key.now) }
+{
+    put_word(output, kind_word(key));
+    put_last_word(output, key.name());
+}
 
 /// Appends a key, which ends the line.
 pub(crate) fn append_key(output: &mut Vec<u8>, key: LimitKey) -> Result<(), AllocError>
     ensures { OnOk result (output.new.items ≡ output.old.items ++ line_of (key_words key)) }
 {
-    append_word(output, key.kind().as_bytes())?;
-    append_last_word(output, key.name())
+    output.reserve(LINE_ROOM)?;
+    put_key(output, &key);
+    Ok(())
 }
 
-/// Appends the number of the last of so many offers, which ends the line.
-fn append_last_offer(output: &mut Vec<u8>, first: OfferNo, count: u64) -> Result<(), AllocError>
-    ensures { OnOk result (output.new.items ≡ output.old.items ++ last_word (decimal (first + count - 1))) }
+/// Puts the number of the last of so many offers, which ends the line, onto room that is there.
+fn put_last_offer(output: &mut Vec<u8>, first: OfferNo, count: u64)
+    requires { vec_len output.old + 42 ≤ vec_capacity output.old }
+    ensures { output.new.items ≡ output.old.items ++ last_word (decimal (first + count - 1)) }
 {
     let mut digits = Buffer::new();
     let last = u128::from(first.get()) + u128::from(count) - 1;
-    append_last_word(output, digits.format(last).as_bytes())
+    put_ended(output, digits.format(last).as_bytes(), b'\n');
 }
 
-/// Appends lots, which end the line.
-fn append_lots(output: &mut Vec<u8>, lots: Lots) -> Result<(), AllocError>
-    ensures { OnOk result (output.new.items ≡ output.old.items ++ line_of (codes "OK" ∷ codes "LOTS" ∷ decimal lots ∷ [])) }
+/// Puts lots, which end the line, onto room that is there.
+fn put_lots(output: &mut Vec<u8>, lots: Lots)
+    requires { vec_len output.old + 63 ≤ vec_capacity output.old }
+    ensures { output.new.items ≡ output.old.items ++ line_of (codes "OK" ∷ codes "LOTS" ∷ decimal lots ∷ []) }
 {
-    append_word(output, b"OK")?;
-    append_word(output, b"LOTS")?;
-    append_last_number(output, lots.get())
+    put_word(output, b"OK");
+    put_word(output, b"LOTS");
+    put_last_number(output, lots.get());
 }
 
 /// The word for a report: whether it made a trade.
 fn report_word(matched: bool) -> &'static [u8]
-    ensures { done_words (Done.Reported matched) ≡ result.now ∷ [] }
+    ensures word { done_words (Done.Reported matched) ≡ result.now ∷ [] }
+    ensures short { length result.now ≤ 20 }
 {
     if matched { b"MATCHED" } else { b"OPEN" }
 }
 
-/// Appends what an accepted command did, which ends the line.
-fn append_done(output: &mut Vec<u8>, done: Done) -> Result<(), AllocError>
-    ensures { OnOk result (output.new.items ≡ output.old.items ++ line_of (codes "OK" ∷ done_words done)) }
+/// Puts what an accepted command did, which ends the line, onto room that is there.
+fn put_done(output: &mut Vec<u8>, done: Done)
+    requires { vec_len output.old + 105 ≤ vec_capacity output.old }
+    ensures { output.new.items ≡ output.old.items ++ line_of (codes "OK" ∷ done_words done) }
 {
     match done {
-        Done::Opened | Done::LimitSet => append_last_word(output, b"OK"),
+        Done::Opened | Done::LimitSet => put_last_word(output, b"OK"),
         Done::Reported { matched } => {
-            append_word(output, b"OK")?;
-            append_last_word(output, report_word(matched))
+            put_word(output, b"OK");
+            put_last_word(output, report_word(matched));
         }
         Done::Offered {
             group: _,
             first,
             count,
         } => {
-            append_word(output, b"OK")?;
-            append_word(output, b"OFFERS")?;
-            append_number(output, first.get())?;
-            append_last_offer(output, first, count)
+            put_word(output, b"OK");
+            put_word(output, b"OFFERS");
+            put_number(output, first.get());
+            put_last_offer(output, first, count);
         }
         Done::Claimed { lots } | Done::Refused { lots } | Done::Reversed { lots } => {
-            append_lots(output, lots)
+            put_lots(output, lots)
         }
     }
 }
 
-/// Appends why a command was refused, which ends the line.
-fn append_refusal(output: &mut Vec<u8>, refusal: Refusal) -> Result<(), AllocError>
-    ensures { OnOk result (output.new.items ≡ output.old.items ++ line_of (codes "NO" ∷ refusal_words refusal)) }
+/// Puts why a command was refused, which ends the line, onto room that is there.
+fn put_refusal(output: &mut Vec<u8>, refusal: Refusal)
+    requires { vec_len output.old + 105 ≤ vec_capacity output.old }
+    ensures { output.new.items ≡ output.old.items ++ line_of (codes "NO" ∷ refusal_words refusal) }
 {
     let name = refusal.name().as_bytes();
-    append_word(output, b"NO")?;
-    append_number(output, refusal.number())?;
+    put_word(output, b"NO");
+    put_number(output, refusal.number());
     match refusal.key() {
         Some(key) => {
-            append_word(output, name)?;
-            append_key(output, key)
+            put_word(output, name);
+            put_key(output, &key);
         }
-        None => append_last_word(output, name),
+        None => put_last_word(output, name),
     }
 }
 
@@ -90,11 +115,13 @@ fn append_refusal(output: &mut Vec<u8>, refusal: Refusal) -> Result<(), AllocErr
 pub fn append_reply(output: &mut Vec<u8>, number: u64, reply: &Reply) -> Result<(), AllocError>
     ensures text { OnOk result (output.new.items ≡ output.old.items ++ reply_text number reply.now) }
 {
-    append_number(output, number)?;
+    output.reserve(LINE_ROOM)?;
+    put_number(output, number);
     match reply {
-        Reply::Accepted(done) => append_done(output, *done),
-        Reply::Denied(refusal) => append_refusal(output, *refusal),
+        Reply::Accepted(done) => put_done(output, *done),
+        Reply::Denied(refusal) => put_refusal(output, *refusal),
     }
+    Ok(())
 }
 
 /// The reply to the command of an entry with this number.

@@ -3,7 +3,9 @@
 ghost use Rattle.std.specs.Prelude.{◌≡◌, ◌++◌, IfOk, OnOk};
 ghost use Rattle.gu_text.specs.Rows.{interest_text, limit_text, position_text, unknown_text};
 
-use crate::texts::{append_last_number, append_last_word, append_number, append_word};
+use crate::replies::kind_word;
+use crate::reserved::{LINE_ROOM, put_last_number, put_number, put_word};
+use crate::texts::append_last_word;
 use gu_terms::{AccountId, Group, LimitRow, Symbol};
 use std::alloc::{AllocError, Global};
 
@@ -17,11 +19,13 @@ pub fn append_position(
 ) -> Result<(), AllocError>
     ensures text { OnOk result (output.new.items ≡ output.old.items ++ position_text account.now symbol.now long short) }
 {
-    append_word(output, b"POSITION")?;
-    append_word(output, account.get())?;
-    append_word(output, symbol.get())?;
-    append_number(output, long)?;
-    append_last_number(output, short)
+    output.reserve(LINE_ROOM)?;
+    put_word(output, b"POSITION");
+    put_word(output, account.get());
+    put_word(output, symbol.get());
+    put_number(output, long);
+    put_last_number(output, short);
+    Ok(())
 }
 
 /// What an account holds of an instrument, as a line.
@@ -43,9 +47,11 @@ pub fn position_text(
 pub fn append_interest(output: &mut Vec<u8>, symbol: &Symbol, lots: u64) -> Result<(), AllocError>
     ensures text { OnOk result (output.new.items ≡ output.old.items ++ interest_text symbol.now lots) }
 {
-    append_word(output, b"INTEREST")?;
-    append_word(output, symbol.get())?;
-    append_last_number(output, lots)
+    output.reserve(LINE_ROOM)?;
+    put_word(output, b"INTEREST");
+    put_word(output, symbol.get());
+    put_last_number(output, lots);
+    Ok(())
 }
 
 /// The open interest of an instrument, as a line.
@@ -61,13 +67,15 @@ pub fn interest_text(alloc: Global, symbol: &Symbol, lots: u64) -> Result<Vec<u8
 pub fn append_limit(output: &mut Vec<u8>, group: &Group, row: &LimitRow) -> Result<(), AllocError>
     ensures text { OnOk result (output.new.items ≡ output.old.items ++ limit_text group.now row.now) }
 {
-    append_word(output, b"LIMIT")?;
-    append_word(output, group.get())?;
-    append_word(output, row.key.kind().as_bytes())?;
-    append_word(output, row.key.name())?;
-    append_number(output, row.limit)?;
-    append_number(output, row.used)?;
-    append_last_number(output, row.room)
+    output.reserve(LINE_ROOM)?;
+    put_word(output, b"LIMIT");
+    put_word(output, group.get());
+    put_word(output, kind_word(&row.key));
+    put_word(output, row.key.name());
+    put_number(output, row.limit);
+    put_number(output, row.used);
+    put_last_number(output, row.room);
+    Ok(())
 }
 
 /// A limit in a group, with its use and its room, as a line.

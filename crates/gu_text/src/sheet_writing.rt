@@ -1,15 +1,16 @@
 //! Sweep sheets as they are written.
 
-ghost use Rattle.std.specs.Prelude.{◌≡◌, ◌<◌, ◌≤◌, ◌++◌, ◌∷◌, [], codes, length, AllPairs, IfOk, OnOk};
+ghost use Rattle.std.specs.Prelude.{◌≡◌, ◌<◌, ◌≤◌, ◌++◌, ◌∷◌, [], ◌+◌, codes, length, vec_capacity, vec_len, AllPairs, IfOk, OnOk};
 ghost use Rattle.std.specs.Fmt.{decimal};
 ghost use Rattle.std.specs.List.{flat_map};
 ghost use Rattle.gu_terms.specs.Takes.{IsAscending};
 ghost use Rattle.gu_text.specs.SheetText.{cut_key_line, cut_offer_line, head_line, offer_line, path_words, room_line, sheet_text, take_line};
 ghost use Rattle.gu_text.specs.Texts.{line_of};
 
-use crate::replies::append_key;
+use crate::replies::{kind_word, put_key};
+use crate::reserved::{LINE_ROOM, put_last_number, put_last_word, put_number, put_word};
 use crate::takes_in_order::{from_offer, lots_in_front};
-use crate::texts::{append_last_number, append_last_word, append_number, append_word};
+use crate::texts::append_last_word;
 use gu_terms::{Cut, OfferNo, Path, Take, Takes};
 use gu_view::{Offer, Room, View};
 use std::alloc::{AllocError, Global};
@@ -19,27 +20,30 @@ fn append_head(output: &mut Vec<u8>, view: &View) -> Result<(), AllocError>
     ensures { OnOk result (output.new.items ≡ output.old.items ++ head_line view.now) }
 {
     let group = view.group();
-    append_word(output, b"SHEET")?;
-    append_word(output, group.get())?;
-    append_last_number(output, view.version())
+    output.reserve(LINE_ROOM)?;
+    put_word(output, b"SHEET");
+    put_word(output, group.get());
+    put_last_number(output, view.version());
+    Ok(())
 }
 
-/// Appends the names on a path but its agreement's, which end the line.
-fn append_path(output: &mut Vec<u8>, path: &Path) -> Result<(), AllocError>
-    ensures path { OnOk result (output.new.items ≡ output.old.items ++ line_of (path_words path.now)) }
+/// Puts the names on a path but its agreement's, which end the line, onto room that is there.
+fn put_path(output: &mut Vec<u8>, path: &Path)
+    requires { vec_len output.old + 84 ≤ vec_capacity output.old }
+    ensures path { output.new.items ≡ output.old.items ++ line_of (path_words path.now) }
     ensures some { 4 ≤ length path.now }
 {
     match path.keys() {
         [executing, _, account, carrying] => {
-            append_word(output, executing.name())?;
-            append_word(output, account.name())?;
-            append_last_word(output, carrying.name())
+            put_word(output, executing.name());
+            put_word(output, account.name());
+            put_last_word(output, carrying.name());
         }
         [executing, _, account, carrying, guarantor] => {
-            append_word(output, executing.name())?;
-            append_word(output, account.name())?;
-            append_word(output, carrying.name())?;
-            append_last_word(output, guarantor.name())
+            put_word(output, executing.name());
+            put_word(output, account.name());
+            put_word(output, carrying.name());
+            put_last_word(output, guarantor.name());
         }
         _ => unreachable!(),
     }
@@ -50,11 +54,13 @@ fn append_path(output: &mut Vec<u8>, path: &Path) -> Result<(), AllocError>
 fn append_offer(output: &mut Vec<u8>, offer: &Offer) -> Result<(), AllocError>
     ensures { OnOk result (output.new.items ≡ output.old.items ++ offer_line offer.now) }
 {
-    append_word(output, b"OFFER")?;
-    append_number(output, offer.number.get())?;
-    append_number(output, offer.lots)?;
-    append_word(output, offer.agreement.get())?;
-    append_path(output, &offer.path)
+    output.reserve(LINE_ROOM)?;
+    put_word(output, b"OFFER");
+    put_number(output, offer.number.get());
+    put_number(output, offer.lots);
+    put_word(output, offer.agreement.get());
+    put_path(output, &offer.path);
+    Ok(())
 }
 
 /// Appends offers.
@@ -71,10 +77,12 @@ fn append_offers(output: &mut Vec<u8>, offers: &[Offer]) -> Result<(), AllocErro
 fn append_room(output: &mut Vec<u8>, room: &Room) -> Result<(), AllocError>
     ensures { OnOk result (output.new.items ≡ output.old.items ++ room_line room.now) }
 {
-    append_word(output, b"ROOM")?;
-    append_word(output, room.key.kind().as_bytes())?;
-    append_word(output, room.key.name())?;
-    append_last_number(output, room.lots)
+    output.reserve(LINE_ROOM)?;
+    put_word(output, b"ROOM");
+    put_word(output, kind_word(&room.key));
+    put_word(output, room.key.name());
+    put_last_number(output, room.lots);
+    Ok(())
 }
 
 /// Appends rooms.
@@ -91,9 +99,11 @@ fn append_rooms(output: &mut Vec<u8>, rooms: &[Room]) -> Result<(), AllocError>
 fn append_take(output: &mut Vec<u8>, offer: OfferNo, lots: u64) -> Result<(), AllocError>
     ensures { OnOk result (output.new.items ≡ output.old.items ++ line_of (codes "TAKE" ∷ decimal offer ∷ decimal lots ∷ [])) }
 {
-    append_word(output, b"TAKE")?;
-    append_number(output, offer.get())?;
-    append_last_number(output, lots)
+    output.reserve(LINE_ROOM)?;
+    put_word(output, b"TAKE");
+    put_number(output, offer.get());
+    put_last_number(output, lots);
+    Ok(())
 }
 
 /// Appends a take for each offer, walking both side by side.
@@ -117,8 +127,10 @@ fn append_cut_key(output: &mut Vec<u8>, cut: &Cut, room: &Room) -> Result<(), Al
     if !cut.has_key(room.key) {
         return Ok(());
     }
-    append_word(output, b"CUT")?;
-    append_key(output, room.key)
+    output.reserve(LINE_ROOM)?;
+    put_word(output, b"CUT");
+    put_key(output, &room.key);
+    Ok(())
 }
 
 /// Appends the keys of the cut, in the order of the rooms.
@@ -138,9 +150,11 @@ fn append_cut_offer(output: &mut Vec<u8>, cut: &Cut, offer: &Offer) -> Result<()
     if !cut.has_offer(offer.number) {
         return Ok(());
     }
-    append_word(output, b"CUT")?;
-    append_word(output, b"OFFER")?;
-    append_last_number(output, offer.number.get())
+    output.reserve(LINE_ROOM)?;
+    put_word(output, b"CUT");
+    put_word(output, b"OFFER");
+    put_last_number(output, offer.number.get());
+    Ok(())
 }
 
 /// Appends the offers of the cut, in the order of the offers.

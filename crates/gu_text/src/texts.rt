@@ -4,6 +4,7 @@ ghost use Rattle.std.specs.Prelude.{◌≡◌, ◌++◌, ◌∷◌, [], OnErr, O
 ghost use Rattle.std.specs.Fmt.{decimal};
 ghost use Rattle.gu_text.specs.Texts.{word, last_word};
 
+use crate::reserved::put_ended;
 use itoa::Buffer;
 use std::alloc::AllocError;
 
@@ -13,8 +14,7 @@ fn append_ended(output: &mut Vec<u8>, bytes: &[u8], end: u8) -> Result<(), Alloc
     ensures refused { OnErr result (output.new.items ≡ output.old.items) }
 {
     output.reserve(bytes.len() + 1)?;
-    output.extend_from_slice(bytes)?;
-    output.push(end)?;
+    put_ended(output, bytes, end);
     Ok(())
 }
 
