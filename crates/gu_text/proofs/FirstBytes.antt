@@ -1,9 +1,21 @@
--- The first byte that passes a test, as a search of bytes tells it.
-use Rattle.std.proofs.Common.{◌≡◌, ℕ, Bool, true, false, List, Option, None, Some, length, position, refl, sym, ap, ◌∙◌, arith, nat_lt}
+-- The first byte that passes a test, as a loop or a search of bytes tells it.
+use Rattle.std.proofs.Common.{◌≡◌, ◌<◌, ℕ, Bool, true, false, List, Option, None, Some, length, position, slice_index_or, refl, sym, ap, ◌∙◌, arith, nat_lt}
 use Rattle.std.specs.List.{position_or_len}
 use Rattle.std.proofs.lemmas.Bool.{cond-true, cond-false, le-ltb, lt-ltb}
 use Rattle.std.proofs.lemmas.List.Sums.{position_or_len_is}
 use Rattle.memchr.specs.Find.{IsFirstByte}
+
+-- a place that passes is the first where none before it does
+pub first_place : (p : ℕ → Bool) (bytes : List ℕ) (place : ℕ) → ((k : ℕ) → k < place → p (slice_index_or bytes k 0) ≡ false) → place < length bytes → p (slice_index_or bytes place 0) ≡ true → Some place ≡ position p bytes
+first_place p bytes place before within here =
+    let at : position_or_len p bytes ≡ place = position_or_len_is p bytes place 0 (omega (arith, within)) before (λ inside. here) in
+    ap Some (sym at) ∙ sym (cond-true (nat_lt (position_or_len p bytes) (length bytes)) (Some (position_or_len p bytes)) None (lt-ltb _ _ (omega (arith, at, within))))
+
+-- and there is no place where none does
+pub no_place : (p : ℕ → Bool) (bytes : List ℕ) → ((k : ℕ) → k < length bytes → p (slice_index_or bytes k 0) ≡ false) → None ≡ position p bytes
+no_place p bytes nowhere =
+    let end : position_or_len p bytes ≡ length bytes = position_or_len_is p bytes (length bytes) 0 (omega arith) nowhere (λ within. absurd (omega (arith, within))) in
+    sym (cond-false (nat_lt (position_or_len p bytes) (length bytes)) (Some (position_or_len p bytes)) None (le-ltb _ _ (omega (arith, end))))
 
 fails : (b : Bool) → (b ≡ true → ⊥) → b ≡ false
 fails true h = absurd (h refl)
@@ -11,11 +23,5 @@ fails false h = refl
 
 -- it is at the first place that passes
 pub place_found : (p : ℕ → Bool) (bytes : List ℕ) (found : Option ℕ) → IsFirstByte p bytes found → found ≡ position p bytes
-place_found p bytes None nowhere =
-    let end : position_or_len p bytes ≡ length bytes =
-    position_or_len_is p bytes (length bytes) 0 (omega arith) (λ k within. fails _ (nowhere k (omega arith) within)) (λ within. absurd (omega (arith, within))) in
-    sym (cond-false (nat_lt (position_or_len p bytes) (length bytes)) (Some (position_or_len p bytes)) None (le-ltb _ _ (omega (arith, end))))
-place_found p bytes (Some place) h =
-    let at : position_or_len p bytes ≡ place =
-    position_or_len_is p bytes place 0 (omega (arith, h.0.high)) (λ k before. fails _ (h.0.before k (omega arith) before)) (λ within. h.1) in
-    ap Some (sym at) ∙ sym (cond-true (nat_lt (position_or_len p bytes) (length bytes)) (Some (position_or_len p bytes)) None (lt-ltb _ _ (omega (arith, at, h.0.high))))
+place_found p bytes None nowhere = no_place p bytes (λ k within. fails _ (nowhere k (omega arith) within))
+place_found p bytes (Some place) h = first_place p bytes place (λ k before. fails _ (h.0.before k (omega arith) before)) h.0.high h.1

@@ -1,12 +1,9 @@
 -- A line of a script is read.
-use Rattle.std.proofs.Common.{◌≡◌, ◌∷◌, [], ◌∙◌, ◌<◌, ◌≤◌, ℕ, true, false, List, Option, None, Some, length, MatchOption, IsTrue, IsErrOf, IfOk, Result, Ok, Err, refl, sym, ap, subst, arith}
-use Rattle.std.specs.List.{AllByRecursion}
-use Rattle.std.specs.Str.{bytes_eq}
-use Rattle.std.proofs.lemmas.Slice.Eq.{bytes_eq-Decides}
+use Rattle.std.proofs.Common.{◌≡◌, ◌≢◌, ◌∷◌, [], ◌∙◌, ◌<◌, ◌≤◌, ℕ, true, false, List, Option, None, Some, length, MatchOption, IsTrue, IsErrOf, IfOk, Result, Ok, Err, refl, sym, ap, subst, arith}
 use Rattle.gu_terms.specs.declared.command.Command.TheVariants.{OpenDay, SetLimit, ReportSide, GiveUp, Claim, Refuse, Reverse}
 use Rattle.gu_world.specs.declared.step.Step.TheVariants.{Enter, See, Propose, Commit}
 use Rattle.gu_text.specs.Lines.{is_silent, longest_line}
-use Rattle.gu_text.specs.ScriptForms.{IsBegun, IsTold, Reads, ReadsWords, WriteNone, form_begun, form_of, form_word, forms}
+use Rattle.gu_text.specs.ScriptForms.{IsBegun, IsTold, Reads, ReadsWords, WriteNone, form_begun, form_of, form_word}
 use Rattle.gu_text.specs.Scripts.{IsBad, Says, Writes}
 use Rattle.gu_text.specs.Words.{is_ragged, words_of}
 use Rattle.gu_text.specs.declared.error.TextError.{TextError}
@@ -15,7 +12,6 @@ use Rattle.gu_text.specs.declared.script_forms.Form.{Form}
 use Rattle.gu_text.specs.declared.script_forms.Form.TheVariants as form
 use Rattle.gu_text.specs.declared.script_line.Line.{Line}
 use Rattle.gu_text.specs.declared.script_line.Line.TheVariants as line
-use Rattle.gu_text.proofs.FormLemmas.{found}
 
 -- what is written begins with the word of its form
 pub begins : (words : List (List ℕ)) (said : Line) → Writes words said → (rest : List (List ℕ)) × (words ≡ form_word (form_of said) ∷ rest)
@@ -76,31 +72,32 @@ form_written kind words said h =
     ap form_begun first ∙ form_begun-word (form_of said)
 
 -- where the first word begins no form, words write nothing
-pub unbegun : (kind : List ℕ) (words : List (List ℕ)) → form_begun kind ≡ None → ReadsWords (kind ∷ words) None
-unbegun kind words none said h = let some = form_written kind words said h in cc
+unbegun : (kind : List ℕ) (words : List (List ℕ)) → ((f : Form) → kind ≢ form_word f) → ReadsWords (kind ∷ words) None
+unbegun kind words none said h = let b = begins (kind ∷ words) said h in let whole = b.1 in none (form_of said) cc
 
-all_forms : (kind : List ℕ) → AllByRecursion (λ (f : Form). Unit {0}) forms
-all_forms kind = (tt, (tt, (tt, (tt, (tt, (tt, (tt, (tt, (tt, (tt, (tt, (tt, (tt, (tt, tt))))))))))))))
-
-form_word_is : (kind : List ℕ) (f : Form) → form_begun kind ≡ Some f → form_word f ≡ kind
-form_word_is kind f h = (bytes_eq-Decides (form_word f) kind).0 (found (λ g. bytes_eq (form_word g) kind) (λ g. Unit {0}) forms f (all_forms kind) h).0
+-- and so a line is bad whose first word begins no form
+pub unbegun_bad : (text kind : List ℕ) (words : List (List ℕ)) → is_silent text ≡ false → words_of text ≡ kind ∷ words → ((f : Form) → kind ≢ form_word f) → IsBad text
+unbegun_bad text kind words speaks words_are none = record {
+  speaks = speaks;
+  nothing = λ said says. unbegun kind words none said (subst (λ (ws : List (List ℕ)). Writes ws said) words_are says.writes);
+}
 
 -- a line is begun by the form of its first word
-pub is_begun : (text kind : List ℕ) (f : Form) (words : List (List ℕ)) → is_silent text ≡ false → length text ≤ longest_line → is_ragged text ≡ false → words_of text ≡ kind ∷ words → form_begun kind ≡ Some f → IsBegun text f words
+pub is_begun : (text kind : List ℕ) (f : Form) (words : List (List ℕ)) → is_silent text ≡ false → length text ≤ longest_line → is_ragged text ≡ false → words_of text ≡ kind ∷ words → kind ≡ form_word f → IsBegun text f words
 is_begun text kind f words speaks short even words_are is = record {
   speaks = speaks;
   short = short;
   even = even;
-  words_are = words_are ∙ ap (λ (k : List ℕ). k ∷ words) (sym (form_word_is kind f is));
+  words_are = words_are ∙ ap (λ (k : List ℕ). k ∷ words) is;
 }
 
 -- what is read of the words of a form is what the words write
-pub begun : (kind : List ℕ) (words : List (List ℕ)) (f : Form) (read : Option Line) → form_begun kind ≡ Some f → Reads f words read → ReadsWords (kind ∷ words) read
-begun kind words f (Some said) is reads = subst (λ (k : List ℕ). Writes (k ∷ words) said) (form_word_is kind f is) reads
-begun kind words f None is reads = λ said h.
-    let same : f ≡ form_of said = let e = sym is ∙ form_written kind words said h in cc in
+pub begun : (words : List (List ℕ)) (f : Form) (read : Option Line) → Reads f words read → ReadsWords (form_word f ∷ words) read
+begun words f (Some said) reads = reads
+begun words f None reads = λ said h.
+    let same : f ≡ form_of said = let e = sym (form_begun-word f) ∙ form_written (form_word f) words said h in cc in
     let none : WriteNone (form_of said) (form_word f ∷ words) = subst (λ g. WriteNone g (form_word f ∷ words)) same reads in
-    none_written (kind ∷ words) said (subst (λ (k : List ℕ). WriteNone (form_of said) (k ∷ words)) (form_word_is kind f is) none) h
+    none_written (form_word f ∷ words) said none h
 
 -- no words write nothing
 pub wordless : (said : Line) → ¬ Writes [] said
@@ -122,7 +119,7 @@ words_said text None speaks short even reads = record { speaks = speaks; nothing
 pub begun_said : (text : List ℕ) (f : Form) (words : List (List ℕ)) (read : Option Line) → IsBegun text f words → Reads f words read → MatchOption read (IsBad text) (Says text)
 begun_said text f words read is reads =
     words_said text read is.speaks is.short is.even
-    (subst (λ (ws : List (List ℕ)). ReadsWords ws read) (sym is.words_are) (begun (form_word f) words f read (form_begun-word f) reads))
+    (subst (λ (ws : List (List ℕ)). ReadsWords ws read) (sym is.words_are) (begun words f read reads))
 
 -- a line of which something is told says it
 pub told_says : (text : List ℕ) (number : ℕ) (result : Result (Option Line) TextError) → IsTold text number result → IfOk result (λ said. MatchOption said (IsTrue (is_silent text)) (Says text))

@@ -1,5 +1,5 @@
 -- The words of a line, one after another.
-use Rattle.std.proofs.Common.{◌≡◌, ◌≢◌, ◌+◌, ◌∷◌, [], ◌∙◌, ℕ, true, false, not, List, None, Some, zero, suc, nat_lt, length, take, drop, filter, position, refl, ap, arith}
+use Rattle.std.proofs.Common.{◌≡◌, ◌≢◌, ◌↔◌, ◌+◌, ◌==◌, ◌∷◌, [], ◌∙◌, ℕ, Bool, true, false, not, List, Option, None, Some, IsTrue, zero, suc, nat_lt, length, take, drop, filter, position, refl, ap, arith}
 use Rattle.std.specs.List.{slice_split, position_or_len}
 use Rattle.std.proofs.lemmas.Bool.{cond-true}
 use Rattle.std.proofs.lemmas.Option.{cond_some}
@@ -33,3 +33,17 @@ word_in_front text place front h =
 -- a text without blanks is one word
 pub word_alone : (text : List ℕ) → text ≢ [] → position is_blank text ≡ None → words_of text ≡ text ∷ []
 word_alone text some h = ap (filter (λ word. not (is_empty word))) (split_none is_blank text h) ∙ kept text [] some
+
+more_than_none : (n : ℕ) → (suc n == 0) ≡ false
+more_than_none n = grind arith
+
+words_found : (text : List ℕ) (found : Option ℕ) → is_blank_at text 0 ≡ false → text ≢ [] → position is_blank text ≡ found → words_of text ≢ []
+words_found text None front some h = λ e. let alone = word_alone text some h in cc
+words_found text (Some place) front some h = λ e. let first = word_in_front text place front h in cc
+
+-- a text with no blank in front has words, unless it is empty
+pub has_words : (text : List ℕ) (b : Bool) → is_blank_at text 0 ≡ false → b ≡ (length text == 0) → IsTrue (not b) ↔ (words_of text ≢ [])
+has_words [] b front h = let e : b ≡ true = h in rw e ((λ no. cc), (λ some. absurd (some refl)))
+has_words (first ∷ rest) b front h =
+    let e : b ≡ false = h ∙ more_than_none (length rest) in
+    rw e ((λ yes. words_found (first ∷ rest) (position is_blank (first ∷ rest)) front (λ same. cc) refl), (λ some. refl))

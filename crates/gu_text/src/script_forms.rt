@@ -1,9 +1,9 @@
 //! The forms of a script's lines.
 
-ghost use Rattle.std.specs.Prelude.{◌≡◌, ◌<◌, ◌∷◌, codes, length, IfOk, IfSome, MatchOption};
-ghost use Rattle.std.specs.Str.{bytes_eq};
-ghost use Rattle.gu_text.specs.ScriptForms.{form_begun, form_word, IsGiver, Reads, ReadsLines, WriteNone, WritesLine, WritesNoLine};
+ghost use Rattle.std.specs.Prelude.{◌≡◌, ◌≢◌, ◌<◌, ◌∷◌, codes, length, IfOk, IfSome, MatchOption};
+ghost use Rattle.gu_text.specs.ScriptForms.{form_word, IsGiver, Reads, ReadsLines, WriteNone, WritesLine, WritesNoLine};
 ghost use Rattle.gu_text.specs.Words.{words_of};
+ghost use Rattle.gu_text.specs.declared.script_forms.Form.{Form as FormOf};
 
 use crate::script_line::Line;
 use crate::values::{
@@ -35,75 +35,32 @@ pub(crate) enum Form {
 }
 
 impl Form {
-    /// The word in front.
-    fn word(self) -> &'static str
-        ensures { result.now ≡ form_word self }
-    {
-        match self {
-            Form::Day => "DAY",
-            Form::Limit => "LIMIT",
-            Form::Report => "REPORT",
-            Form::GiveUp => "GIVEUP",
-            Form::Claim => "CLAIM",
-            Form::Refuse => "REFUSE",
-            Form::Reverse => "REVERSE",
-            Form::See => "SEE",
-            Form::Propose => "PROPOSE",
-            Form::Commit => "COMMIT",
-            Form::Sweep => "SWEEP",
-            Form::Position => "POSITION",
-            Form::Interest => "INTEREST",
-            Form::Limits => "LIMITS",
-        }
-    }
-
-    /// Whether a word is the one in front.
-    fn is_begun_by(self, word: &[u8]) -> bool
-        ensures { result ≡ bytes_eq (form_word self) word.now }
-    {
-        // Most words differ in length, and are told apart by it.
-        self.word().len() == word.len() && self.word().as_bytes() == word
-    }
-
     /// The form with this word in front.
     pub(crate) fn begun(word: &[u8]) -> Option<Form>
-        ensures { result ≡ form_begun word.now }
+        ensures { MatchOption result ((form : FormOf) → word.now ≢ form_word form) (λ form. word.now ≡ form_word form) }
     {
-        if Form::Day.is_begun_by(word) {
-            Some(Form::Day)
-        } else if Form::Limit.is_begun_by(word) {
-            Some(Form::Limit)
-        } else if Form::Report.is_begun_by(word) {
-            Some(Form::Report)
-        } else if Form::GiveUp.is_begun_by(word) {
-            Some(Form::GiveUp)
-        } else if Form::Claim.is_begun_by(word) {
-            Some(Form::Claim)
-        } else if Form::Refuse.is_begun_by(word) {
-            Some(Form::Refuse)
-        } else if Form::Reverse.is_begun_by(word) {
-            Some(Form::Reverse)
-        } else if Form::See.is_begun_by(word) {
-            Some(Form::See)
-        } else if Form::Propose.is_begun_by(word) {
-            Some(Form::Propose)
-        } else if Form::Commit.is_begun_by(word) {
-            Some(Form::Commit)
-        } else if Form::Sweep.is_begun_by(word) {
-            Some(Form::Sweep)
-        } else if Form::Position.is_begun_by(word) {
-            Some(Form::Position)
-        } else if Form::Interest.is_begun_by(word) {
-            Some(Form::Interest)
-        } else if Form::Limits.is_begun_by(word) {
-            Some(Form::Limits)
-        } else {
-            None
+        match word {
+            b"DAY" => Some(Form::Day),
+            b"LIMIT" => Some(Form::Limit),
+            b"REPORT" => Some(Form::Report),
+            b"GIVEUP" => Some(Form::GiveUp),
+            b"CLAIM" => Some(Form::Claim),
+            b"REFUSE" => Some(Form::Refuse),
+            b"REVERSE" => Some(Form::Reverse),
+            b"SEE" => Some(Form::See),
+            b"PROPOSE" => Some(Form::Propose),
+            b"COMMIT" => Some(Form::Commit),
+            b"SWEEP" => Some(Form::Sweep),
+            b"POSITION" => Some(Form::Position),
+            b"INTEREST" => Some(Form::Interest),
+            b"LIMITS" => Some(Form::Limits),
+            _ => None,
         }
     }
 }
 
 /// The day that is opened.
+#[inline(never)]
 pub(crate) fn day_said(words: &[u8]) -> Option<Line>
     ensures { Reads Form.Day (words_of words.now) result }
 {
@@ -113,6 +70,7 @@ pub(crate) fn day_said(words: &[u8]) -> Option<Line>
 }
 
 /// A limit: its group, its key and its lots.
+#[inline(never)]
 pub(crate) fn limit_said(words: &[u8]) -> Option<Line>
     ensures { Reads Form.Limit (words_of words.now) result }
 {
@@ -129,6 +87,7 @@ pub(crate) fn limit_said(words: &[u8]) -> Option<Line>
 }
 
 /// A firm's side of a trade, of the open day.
+#[inline(never)]
 pub(crate) fn report_said(words: &[u8]) -> Option<Line>
     ensures { Reads Form.Report (words_of words.now) result }
 {
@@ -217,6 +176,7 @@ pub(crate) fn give_up_said(alloc: Global, words: &[u8]) -> Result<Option<Line>, 
 }
 
 /// A claim: the firm, and the number of the offer.
+#[inline(never)]
 pub(crate) fn claim_said(words: &[u8]) -> Option<Line>
     ensures { Reads Form.Claim (words_of words.now) result }
 {
@@ -230,6 +190,7 @@ pub(crate) fn claim_said(words: &[u8]) -> Option<Line>
 }
 
 /// A refusal: the firm, the number of the offer, and why.
+#[inline(never)]
 pub(crate) fn refuse_said(words: &[u8]) -> Option<Line>
     ensures { Reads Form.Refuse (words_of words.now) result }
 {
@@ -245,6 +206,7 @@ pub(crate) fn refuse_said(words: &[u8]) -> Option<Line>
 }
 
 /// A reversal: the firm, and the number of the offer.
+#[inline(never)]
 pub(crate) fn reverse_said(words: &[u8]) -> Option<Line>
     ensures { Reads Form.Reverse (words_of words.now) result }
 {
@@ -258,6 +220,7 @@ pub(crate) fn reverse_said(words: &[u8]) -> Option<Line>
 }
 
 /// A look: the worker, and the group.
+#[inline(never)]
 pub(crate) fn see_said(words: &[u8]) -> Option<Line>
     ensures { Reads Form.See (words_of words.now) result }
 {
@@ -268,6 +231,7 @@ pub(crate) fn see_said(words: &[u8]) -> Option<Line>
 }
 
 /// A proposal: the worker.
+#[inline(never)]
 pub(crate) fn propose_said(words: &[u8]) -> Option<Line>
     ensures { Reads Form.Propose (words_of words.now) result }
 {
@@ -277,6 +241,7 @@ pub(crate) fn propose_said(words: &[u8]) -> Option<Line>
 }
 
 /// A commit: the worker.
+#[inline(never)]
 pub(crate) fn commit_said(words: &[u8]) -> Option<Line>
     ensures { Reads Form.Commit (words_of words.now) result }
 {
@@ -286,6 +251,7 @@ pub(crate) fn commit_said(words: &[u8]) -> Option<Line>
 }
 
 /// A whole sweep: the group.
+#[inline(never)]
 pub(crate) fn sweep_said(words: &[u8]) -> Option<Line>
     ensures { Reads Form.Sweep (words_of words.now) result }
 {
@@ -295,6 +261,7 @@ pub(crate) fn sweep_said(words: &[u8]) -> Option<Line>
 }
 
 /// A question for a position: the account, and the instrument.
+#[inline(never)]
 pub(crate) fn position_said(words: &[u8]) -> Option<Line>
     ensures { Reads Form.Position (words_of words.now) result }
 {
@@ -305,6 +272,7 @@ pub(crate) fn position_said(words: &[u8]) -> Option<Line>
 }
 
 /// A question for the open interest: the instrument.
+#[inline(never)]
 pub(crate) fn interest_said(words: &[u8]) -> Option<Line>
     ensures { Reads Form.Interest (words_of words.now) result }
 {
@@ -314,6 +282,7 @@ pub(crate) fn interest_said(words: &[u8]) -> Option<Line>
 }
 
 /// A question for limits: the group.
+#[inline(never)]
 pub(crate) fn limits_said(words: &[u8]) -> Option<Line>
     ensures { Reads Form.Limits (words_of words.now) result }
 {

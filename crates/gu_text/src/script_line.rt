@@ -69,21 +69,15 @@ fn begun(line: &[u8]) -> Option<(Form, &[u8])>
     Some((form, words))
 }
 
-/// What is told of the line with this number, which says this, or is bad.
-fn told(said: Option<Line>, number: u64) -> Result<Option<Line>, TextError>
-    ensures { (text : List ℕ) → MatchOption said (IsBad text) (Says text) → IsTold text number result }
-{
-    if said.is_none() {
-        return Err(TextError::BadLine(number));
-    }
-    Ok(said)
-}
-
 /// What is told of a give-up in the line with this number.
+#[inline(never)]
 fn give_up_told(alloc: Global, words: &[u8], number: u64) -> Result<Option<Line>, TextError>
     ensures { (text : List ℕ) → IsBegun text Form.GiveUp (words_of words.now) → IsTold text number result }
 {
-    told(give_up_said(alloc, words)?, number)
+    let Some(said) = give_up_said(alloc, words)? else {
+        return Err(TextError::BadLine(number));
+    };
+    Ok(Some(said))
 }
 
 impl Line {
@@ -101,6 +95,9 @@ impl Line {
         if let Form::GiveUp = form {
             return give_up_told(alloc, words, number);
         }
-        told(plain_said(form, words), number)
+        let Some(said) = plain_said(form, words) else {
+            return Err(TextError::BadLine(number));
+        };
+        Ok(Some(said))
     }
 }

@@ -37,7 +37,12 @@ fn without_blanks(text: &[u8]) -> &[u8]
 fn blank_place(text: &[u8]) -> Option<usize>
     ensures { result ≡ position is_blank text.now }
 {
-    text.iter().position(|byte| *byte == b' ')
+    for place in 0..text.len() {
+        if text[place] == b' ' {
+            return Some(place);
+        }
+    }
+    None
 }
 
 #[tactic(auto, using(crate::proofs::WordLemmas::word_in_front, crate::proofs::WordLemmas::word_alone))]
@@ -60,7 +65,7 @@ pub(crate) fn first_word(text: &[u8]) -> Option<(&[u8], &[u8])>
 pub(crate) fn has_words(text: &[u8]) -> bool
     ensures { IsTrue result ↔ (words_of text.now ≢ []) }
 {
-    first_word(text).is_some()
+    !without_blanks(text).is_empty()
 }
 
 /// The first three words of a text, and the text behind them.
