@@ -1,129 +1,45 @@
 //! What answers a firm's message, and what notices are sent as.
-use crate::messages::first_of;
-use crate::writing::{Values, at_nine, sample, wrong};
+use crate::rows::{Subject, check, first_word, number};
+use crate::words::{done_of, notice_of, rejection_of, rows_of, side_of};
+use crate::writing::{Values, sample, text_at_nine};
 use gu_msgs::inbound::RequestForPositions;
-use gu_msgs::outbound::Body;
-use gu_msgs::{Question, Rejection, notice_body, positions_answer};
-use gu_terms::{
-    AllocReject, Done, Group, LimitKey, Lots, Notice, OfferEvent, OfferNotice, PositionRow,
-    PositionRows, Refusal, Report, Side,
-};
+use gu_msgs::{Question, notice_body, positions_answer};
+use gu_terms::PositionRows;
 use std::alloc::{AllocError, Global};
 
-/// What an answer is to say, where it isn't of this type or doesn't say it. A type of no bytes is no answer.
-fn wrong_answer_to(
-    alloc: Global,
-    w: &Values,
-    answer: Option<Body>,
-    msg_type: &str,
-    text: &'static str,
-) -> Result<Option<&'static str>, AllocError> {
-    match answer {
-        Some(body) => wrong(alloc, at_nine(w, body), msg_type, text),
-        None if msg_type.is_empty() => Ok(None),
-        None => Ok(Some(text)),
-    }
-}
+/// Questions with the number of their message and why they were refused, and their answers.
+pub const ANSWERS: &str = "\
+report 2 -> 35=AR|571=R1|880=M1|939=0|
+give-up 2 -> 35=P|70=R1|87=0|
+claim 2
+refusal 2
+reversal 2
+positions 2 OfferClosed
+report 2 Full -> 35=AR|571=R1|880=M1|939=1|751=99|58=Full|
+give-up 2 TooManyLots -> 35=P|70=R1|87=1|88=99|58=TooManyLots|
+claim 2 OfferClosed -> 35=j|45=2|379=1|372=AT|380=0|58=OfferClosed|
+claim 1000000000 LimitReached ACCT -> 35=j|45=1000000000|379=1|372=AT|380=0|58=LimitReached ACCT A1|
+refusal 2 Memory -> 35=j|45=2|379=1|372=AT|380=0|58=Memory|
+reversal 2 NothingToReverse -> 35=j|45=2|379=1|372=AT|380=0|58=NothingToReverse|
+";
 
-/// A question, the number of its message, why it was refused, and the type and text of its answer.
-type Row = (Question, u64, Option<Rejection>, &'static str, &'static str);
+/// Positions in so many instruments on an open day or on none, and the messages that tell them.
+pub const POSITIONS: &str = "\
+none -> 35=AO|721=R1-0|710=R1|728=3|729=2|727=0|1=A1|
+open 0 -> 35=AO|721=R1-0|710=R1|728=2|729=0|727=0|1=A1|
+closed 1 -> 35=AO|721=R1-0|710=R1|728=2|729=0|727=0|1=A1|
+open 2 -> 35=AO|721=R1-0|710=R1|728=0|729=0|727=2|1=A1| 35=AP|721=R1-1|710=R1|728=0|715=20260105|1=A1|55=XF6|702=1|703=TQ|704=10|705=0| 35=AP|721=R1-2|710=R1|728=0|715=20260105|1=A1|55=XF6|702=1|703=TQ|704=10|705=0|
+";
 
-/// What answers the questions that were done.
-fn done_rows(w: &Values) -> [Row; 6] {
-    let id = w.id;
-    let offer = w.offer;
-    let report = Question::Report {
-        id,
-        match_id: w.match_id,
-    };
-    let claim = Question::Claim { offer };
-    let refusal = Question::Refusal { offer };
-    let reversal = Question::Reversal { offer };
-    [
-        (report, 2, None, "AR", "571=R1|880=M1|939=0|"),
-        (Question::GiveUp { id }, 2, None, "P", "70=R1|87=0|"),
-        (claim, 2, None, "", "a claim that was done"),
-        (refusal, 2, None, "", "a refusal that was done"),
-        (reversal, 2, None, "", "a reversal that was done"),
-        (
-            Question::Positions(question(w)),
-            2,
-            Some(Rejection::Refused(Refusal::OfferClosed)),
-            "",
-            "a question",
-        ),
-    ]
-}
-
-/// What answers the questions that were refused.
-fn refused_rows(w: &Values) -> [Row; 6] {
-    let id = w.id;
-    let offer = w.offer;
-    let report = Question::Report {
-        id,
-        match_id: w.match_id,
-    };
-    let reached = Refusal::LimitReached(LimitKey::Acct(w.account));
-    [
-        (
-            report,
-            2,
-            Some(Rejection::Full),
-            "AR",
-            "571=R1|880=M1|939=1|751=99|58=Full|",
-        ),
-        (
-            Question::GiveUp { id },
-            2,
-            Some(Rejection::Refused(Refusal::TooManyLots)),
-            "P",
-            "70=R1|87=1|88=99|58=TooManyLots|",
-        ),
-        (
-            Question::Claim { offer },
-            2,
-            Some(Rejection::Refused(Refusal::OfferClosed)),
-            "j",
-            "45=2|379=1|372=AT|380=0|58=OfferClosed|",
-        ),
-        (
-            Question::Claim { offer },
-            1_000_000_000,
-            Some(Rejection::Refused(reached)),
-            "j",
-            "45=1000000000|379=1|372=AT|380=0|58=LimitReached ACCT A1|",
-        ),
-        (
-            Question::Refusal { offer },
-            2,
-            Some(Rejection::Memory),
-            "j",
-            "45=2|379=1|372=AT|380=0|58=Memory|",
-        ),
-        (
-            Question::Reversal { offer },
-            2,
-            Some(Rejection::Refused(Refusal::NothingToReverse)),
-            "j",
-            "45=2|379=1|372=AT|380=0|58=NothingToReverse|",
-        ),
-    ]
-}
-
-/// The first answer to a command that isn't its row's.
-fn wrong_command(
-    alloc: Global,
-    w: &Values,
-    rows: &[Row],
-) -> Result<Option<&'static str>, AllocError> {
-    for (question, number, rejection, msg_type, text) in rows {
-        let answer = question.answer(*number, *rejection);
-        if let Some(text) = wrong_answer_to(alloc, w, answer, msg_type, *text)? {
-            return Ok(Some(text));
-        }
-    }
-    Ok(None)
-}
+/// Notices, and what they are sent as.
+pub const NOTICES: &str = "\
+buy matched -> 35=AE|571=7-B|572=R1|573=0|880=M1|55=XF6|32=10|31=101.5|75=20260105|552=1|54=1|1=A1|
+sell matched -> 35=AE|571=7-S|572=R1|573=0|880=M1|55=XF6|32=10|31=101.5|75=20260105|552=1|54=2|1=A1|
+sell offered -> 35=AS|755=1|71=0|794=8|87=6|55=XF6|54=2|53=10|6=101.5|75=20260105|78=1|79=A1|80=10|
+sell claimed -> 35=AS|755=1|71=0|794=9|87=0|55=XF6|54=2|53=10|6=101.5|75=20260105|78=1|79=A1|80=10|
+sell refused 2 -> 35=AS|755=1|71=0|794=10|87=2|55=XF6|54=2|53=10|6=101.5|75=20260105|78=1|79=A1|80=10|
+sell reversed -> 35=AS|755=1|71=0|794=9|87=7|55=XF6|54=2|53=10|6=101.5|75=20260105|78=1|79=A1|80=10|
+";
 
 /// The question for the positions of the account.
 fn question(w: &Values) -> RequestForPositions {
@@ -133,224 +49,139 @@ fn question(w: &Values) -> RequestForPositions {
     }
 }
 
-/// So many rows of ten lots long, on an open day or none.
-fn told(
-    alloc: Global,
-    w: &Values,
-    is_open: bool,
-    count: usize,
-) -> Result<Option<PositionRows>, AllocError> {
-    let mut rows = Vec::new(alloc);
-    for _ in 0..count {
-        rows.push(PositionRow {
-            symbol: w.symbol,
-            long: 10,
-            short: 0,
-        })?;
-    }
-    let day = if is_open { Some(w.day) } else { None };
-    Ok(Some(PositionRows { day, rows }))
-}
-
-/// The messages that answer the question, each to be of its row's type and to say its row's text.
-fn wrong_positions(
-    alloc: Global,
-    w: &Values,
-    rows: &Option<PositionRows>,
-    expected: &[(&'static str, &'static str)],
-) -> Result<Option<&'static str>, AllocError> {
-    let bodies = positions_answer(alloc, &question(w), rows)?;
-    if bodies.len() != expected.len() {
-        return Ok(Some("another number of messages"));
-    }
-    for (body, (msg_type, text)) in bodies.into_iter().zip(expected) {
-        if let Some(text) = wrong(alloc, at_nine(w, body), msg_type, *text)? {
-            return Ok(Some(text));
-        }
-    }
-    Ok(None)
-}
-
-/// The first answer to a question that isn't right.
-fn wrong_question(alloc: Global, w: &Values) -> Result<Option<&'static str>, AllocError> {
-    let none = ("AO", "721=R1-0|710=R1|728=2|729=0|727=0|1=A1|");
-    let texts = [
-        wrong_positions(
-            alloc,
-            w,
-            &None,
-            &[("AO", "721=R1-0|710=R1|728=3|729=2|727=0|1=A1|")],
-        )?,
-        wrong_positions(alloc, w, &told(alloc, w, true, 0)?, &[none])?,
-        wrong_positions(alloc, w, &told(alloc, w, false, 1)?, &[none])?,
-        wrong_positions(
-            alloc,
-            w,
-            &told(alloc, w, true, 2)?,
-            &[
-                ("AO", "721=R1-0|710=R1|728=0|729=0|727=2|1=A1|"),
-                (
-                    "AP",
-                    "721=R1-1|710=R1|728=0|715=20260105|1=A1|55=XF6|702=1|703=TQ|704=10|705=0|",
-                ),
-                (
-                    "AP",
-                    "721=R1-2|710=R1|728=0|715=20260105|1=A1|55=XF6|702=1|703=TQ|704=10|705=0|",
-                ),
-            ],
-        )?,
-    ];
-    Ok(first_of(&texts))
-}
-
-/// The notice of entry 7, which made a trade of a report.
-fn matched(w: &Values, side: Side) -> Notice {
-    Notice::Matched {
-        entry: 7,
-        report: Report {
-            firm: w.firm,
-            id: w.id,
+/// A question by its word.
+fn question_of(w: &Values, word: &str) -> Option<Question> {
+    let id = w.id;
+    let offer = w.offer;
+    match word {
+        "report" => Some(Question::Report {
+            id,
             match_id: w.match_id,
-            symbol: w.symbol,
-            lots: w.lots,
-            price: w.price,
-            day: w.day,
-            side,
-            account: w.account,
-        },
+        }),
+        "give-up" => Some(Question::GiveUp { id }),
+        "claim" => Some(Question::Claim { offer }),
+        "refusal" => Some(Question::Refusal { offer }),
+        "reversal" => Some(Question::Reversal { offer }),
+        "positions" => Some(Question::Positions(question(w))),
+        _ => None,
     }
 }
 
-/// The notice of an event of the offer.
-fn offered(w: &Values, event: OfferEvent) -> Notice {
-    Notice::Offer(OfferNotice {
-        offer: w.offer,
-        event,
-        lots: w.lots,
-        account: w.account,
-        symbol: w.symbol,
-        side: Side::Sell,
-        price: w.price,
-        day: w.day,
-    })
-}
-
-/// Notices, with the type and text of what they are sent as.
-fn notice_rows(w: &Values) -> [(Notice, &'static str, &'static str); 6] {
-    let refused = OfferEvent::Refused(AllocReject::AccountLevel);
-    [
-        (
-            matched(w, Side::Buy),
-            "AE",
-            "571=7-B|572=R1|573=0|880=M1|55=XF6|32=10|31=101.5|75=20260105|552=1|54=1|1=A1|",
-        ),
-        (
-            matched(w, Side::Sell),
-            "AE",
-            "571=7-S|572=R1|573=0|880=M1|55=XF6|32=10|31=101.5|75=20260105|552=1|54=2|1=A1|",
-        ),
-        (
-            offered(w, OfferEvent::Offered),
-            "AS",
-            "755=1|71=0|794=8|87=6|55=XF6|54=2|53=10|6=101.5|75=20260105|78=1|79=A1|80=10|",
-        ),
-        (
-            offered(w, OfferEvent::Claimed),
-            "AS",
-            "755=1|71=0|794=9|87=0|55=XF6|54=2|53=10|6=101.5|75=20260105|78=1|79=A1|80=10|",
-        ),
-        (
-            offered(w, refused),
-            "AS",
-            "755=1|71=0|794=10|87=2|55=XF6|54=2|53=10|6=101.5|75=20260105|78=1|79=A1|80=10|",
-        ),
-        (
-            offered(w, OfferEvent::Reversed),
-            "AS",
-            "755=1|71=0|794=9|87=7|55=XF6|54=2|53=10|6=101.5|75=20260105|78=1|79=A1|80=10|",
-        ),
-    ]
-}
-
-/// The first notice that isn't its row's.
-fn wrong_notice(alloc: Global, w: &Values) -> Result<Option<&'static str>, AllocError> {
-    for (notice, msg_type, text) in &notice_rows(w) {
-        let message = at_nine(w, notice_body(notice));
-        if let Some(text) = wrong(alloc, message, msg_type, *text)? {
-            return Ok(Some(text));
-        }
-    }
-    Ok(None)
-}
-
-/// The first answer or notice that is wrong.
-pub fn wrong_table(alloc: Global) -> Result<Option<&'static str>, AllocError> {
-    let Some(w) = sample() else {
-        return Ok(Some("no sample"));
+/// The answer to a row's question.
+fn answer(alloc: Global, w: &Values, words: &str) -> Result<String, AllocError> {
+    let (word, rest) = first_word(words);
+    let (seq_num, rejection) = first_word(rest);
+    let Some(question) = question_of(w, word) else {
+        return format!(in alloc; "no question");
     };
-    let texts = [
-        wrong_command(alloc, &w, &done_rows(&w))?,
-        wrong_command(alloc, &w, &refused_rows(&w))?,
-        wrong_question(alloc, &w)?,
-        wrong_notice(alloc, &w)?,
-    ];
-    Ok(first_of(&texts))
+    match question.answer(number(seq_num), rejection_of(w, rejection)) {
+        Some(body) => text_at_nine(alloc, w, body),
+        None => Ok(String::new(alloc)),
+    }
+}
+
+/// The answer to a row's question.
+pub fn told(alloc: Global, words: &str) -> Result<String, AllocError> {
+    match sample() {
+        Some(w) => answer(alloc, &w, words),
+        None => format!(in alloc; "no sample"),
+    }
+}
+
+/// The positions of a row.
+fn positions_of(
+    alloc: Global,
+    w: &Values,
+    words: &str,
+) -> Result<Option<PositionRows>, AllocError> {
+    let (word, count) = first_word(words);
+    let count = number(count) as usize;
+    match word {
+        "open" => Ok(Some(rows_of(alloc, w, Some(w.day), count)?)),
+        "closed" => Ok(Some(rows_of(alloc, w, None, count)?)),
+        _ => Ok(None),
+    }
+}
+
+/// The messages that tell the positions of a row, one behind another.
+fn positions(alloc: Global, w: &Values, words: &str) -> Result<String, AllocError> {
+    let rows = positions_of(alloc, w, words)?;
+    let mut text = String::new(alloc);
+    for body in positions_answer(alloc, &question(w), &rows)? {
+        if !text.is_empty() {
+            text.push(' ')?;
+        }
+        text.push_str(&text_at_nine(alloc, w, body)?)?;
+    }
+    Ok(text)
+}
+
+/// The messages that tell the positions of a row.
+pub fn positions_told(alloc: Global, words: &str) -> Result<String, AllocError> {
+    match sample() {
+        Some(w) => positions(alloc, &w, words),
+        None => format!(in alloc; "no sample"),
+    }
+}
+
+/// What a notice is sent as.
+pub fn notice_told(alloc: Global, words: &str) -> Result<String, AllocError> {
+    let (side, event) = first_word(words);
+    let Some(w) = sample() else {
+        return format!(in alloc; "no sample");
+    };
+    match notice_of(&w, side_of(side), event) {
+        Some(notice) => text_at_nine(alloc, &w, notice_body(&notice)),
+        None => format!(in alloc; "no notice"),
+    }
 }
 
 #[test]
 fn each_message_has_its_answer_and_each_notice_its_message(rt: HostRuntime) {
-    assert_eq!(rt; wrong_table(rt.alloc()), Ok(None));
+    check(&rt, rt.alloc(), Subject::Answering, ANSWERS);
+    check(&rt, rt.alloc(), Subject::Positions, POSITIONS);
+    check(&rt, rt.alloc(), Subject::Notices, NOTICES);
 }
 
-/// What each question asks for, row by row, beside what was done: reported, offered, claimed, refused, reversed, opened.
-fn answered() -> Option<[[bool; 6]; 6]> {
-    let w = sample()?;
-    let lots = Lots::new(1)?;
-    let done = [
-        Done::Reported { matched: true },
-        Done::Offered {
-            group: Group::new(b"G1")?,
-            first: w.offer,
-            count: 1,
-        },
-        Done::Claimed { lots },
-        Done::Refused { lots },
-        Done::Reversed { lots },
-        Done::Opened,
-    ];
-    let questions = [
-        Question::Report {
-            id: w.id,
-            match_id: w.match_id,
-        },
-        Question::GiveUp { id: w.id },
-        Question::Claim { offer: w.offer },
-        Question::Refusal { offer: w.offer },
-        Question::Reversal { offer: w.offer },
-        Question::Positions(question(&w)),
-    ];
-    let mut table = [[false; 6]; 6];
-    for row in 0..6 {
-        for column in 0..6 {
-            table[row][column] = questions[row].is_done(done[column]);
+/// Questions, and what they are done by.
+const DONE: &str = "\
+report -> matched
+give-up -> offered
+claim -> claimed
+refusal -> refused
+reversal -> reversed
+positions
+";
+
+/// Whether a question is done by what a word says.
+fn is_done_by(w: &Values, question: &str, word: &str) -> Option<bool> {
+    let question = question_of(w, question)?;
+    Some(question.is_done(done_of(w, word)?))
+}
+
+/// Those of the words of what can be done by which a question is done.
+pub fn done_told(alloc: Global, question: &str) -> Result<String, AllocError> {
+    let Some(w) = sample() else {
+        return format!(in alloc; "no sample");
+    };
+    let mut text = String::new(alloc);
+    for word in "matched offered claimed refused reversed opened".split(' ') {
+        if is_done_by(&w, question, word) != Some(false) {
+            text.push_str(word)?;
         }
     }
-    Some(table)
+    Ok(text)
 }
 
 #[test]
 fn a_command_is_done_by_its_own_kind_alone(rt: HostRuntime) {
-    let mut expected = [[false; 6]; 6];
-    for kind in 0..5 {
-        expected[kind][kind] = true;
-    }
-    assert_eq!(rt; answered(), Some(expected));
+    check(&rt, rt.alloc(), Subject::Done, DONE);
 }
 
 /// How many messages tell the positions of an account in 10,000 instruments, in the last of so many turns.
 fn most_positions(alloc: Global, turns: usize) -> Option<usize> {
     let w = sample()?;
-    let rows = told(alloc, &w, true, 10_000).ok()?;
+    let rows = Some(rows_of(alloc, &w, Some(w.day), 10_000).ok()?);
     let mut count = 0;
     for _ in 0..turns {
         count = positions_answer(alloc, &question(&w), &rows).ok()?.len();

@@ -1,205 +1,189 @@
 //! What a feed gives.
-use crate::messages::{FIRST, HEARTBEAT, SECOND, SHORTEST, longest_value, wire, wire_around};
-use gu_fix::Feed;
+use crate::messages::{FIRST, HEARTBEAT, SECOND, SHORTEST, longest_value, shown, wire_around};
+use crate::rows::{Subject, check};
+use gu_fix::{Feed, Frame};
 use std::alloc::{AllocError, Global};
+use std::process::Abort;
 
 /// How many messages a feed gives with a piece.
-fn count(feed: &mut Feed, piece: &[u8]) -> Result<usize, AllocError> {
-    match feed.push(piece) {
-        Ok(frames) => Ok(frames.len()),
-        Err(_) => Err(AllocError),
-    }
+fn count(rt: &impl Abort, feed: &mut Feed, piece: &[u8]) -> usize {
+    feed.push(piece).expect(rt, "memory").len()
 }
 
 /// How many messages a feed gives with the pieces of so many bytes that a stream is cut into.
-fn count_cut(feed: &mut Feed, stream: &str, size: usize) -> Result<usize, AllocError> {
+fn count_cut(rt: &impl Abort, feed: &mut Feed, stream: &str, size: usize) -> usize {
     let mut given: usize = 0;
     for piece in stream.as_bytes().chunks(size.max(1)) {
-        given = given.saturating_add(count(feed, piece)?);
+        given = given.saturating_add(count(rt, feed, piece));
     }
-    Ok(given)
+    given
 }
 
-/// Whether a new feed gives these messages of a stream, one after another and each with a line's end behind it.
-fn gives(alloc: Global, stream: &str, lines: &str) -> Result<bool, AllocError> {
-    let mut feed = Feed::new(alloc);
-    let Ok(frames) = feed.push(stream.as_bytes()) else {
+/// A message of a feed, which is called SECOND where it is that.
+fn given(alloc: Global, frame: &Frame) -> Result<String, AllocError> {
+    let text = shown(alloc, frame.bytes())?;
+    if text.as_str() == SECOND {
+        String::from_str(alloc, "SECOND")
+    } else {
+        Ok(text)
+    }
+}
+
+/// The messages that a new feed gives of a front and SECOND behind it.
+pub fn told(alloc: Global, front: &str) -> Result<String, AllocError> {
+    let stream = wire_around(alloc, front, "", 0, SECOND)?;
+    let Ok(frames) = Feed::new(alloc).push(stream.as_bytes()) else {
         return Err(AllocError);
     };
-    let mut given = Vec::new(alloc);
+    let mut text = String::new(alloc);
     for frame in &frames {
-        given.extend_from_slice(frame.bytes())?;
-        given.push(b'\n')?;
-    }
-    Ok(given.as_slice() == lines.as_bytes())
-}
-
-/// The first front with which, and with SECOND behind it, a new feed doesn't give these lines.
-fn wrong_front(
-    alloc: Global,
-    fronts: &[&'static str],
-    lines: &str,
-) -> Result<Option<&'static str>, AllocError> {
-    let lines = wire(alloc, lines)?;
-    for front in fronts {
-        if !gives(alloc, &wire_around(alloc, front, "", 0, SECOND)?, &lines)? {
-            return Ok(Some(*front));
+        if !text.is_empty() {
+            text.push(' ')?;
         }
+        text.push_str(&given(alloc, frame)?)?;
     }
-    Ok(None)
+    Ok(text)
 }
-
-const SECOND_LINE: &str =
-    "8=FIXT.1.1|9=112|35=AE|49=E2|56=GIVEUP|34=1|52=20260105-09:00:00|571=R2|880=M1|55=XF6|32=10|31=101.5|75=20260105|552=1|54=2|1=H2|10=239|\n";
 
 /// Fronts that a message may follow from.
-const OPEN: [&str; 3] = [
-    "8=FIXT.1.1|9=65510|35=",
-    "8=FIXT.1.1|9=0000200|35=0|",
-    "8=FIXT.1.1|9=200|35=0|",
-];
+const OPEN: &str = "\
+8=FIXT.1.1|9=65510|35=
+8=FIXT.1.1|9=0000200|35=0|
+8=FIXT.1.1|9=200|35=0|
+";
 
 /// Fronts whose last byte fits no message.
-const GARBLED: [&str; 16] = [
-    "",
-    "8=FIXT.1.1|9=5|",
-    "8=FIXT.1.1|9=65511",
-    "8=FIXT.1.1|9=065510",
-    "8=FIXT.1.1|9=65510|34=",
-    "8=FIXT.1.1|9=0000000",
-    "8=FIXT.1.1|9=00000100",
-    "8=FIXT.1.1|9=|",
-    "8=FIXT.1.1|9=3|",
-    "8=FIXT.1.1|9=5|35=0.",
-    "8=FIXT.1.1|9=5|35=0|10=24|",
-    "8=FIXT.1.1|9=5|35=0|10=240",
-    "8=FIX.4.4|9=5|35=0|10=163|",
-    "8=8=FIXT.1",
-    "8888888888888888",
-    "\0\u{7f}|=|10=000|",
-];
+const GARBLED: &str = "\
+8=FIXT.1.1|9=5| -> SECOND
+ -> SECOND
+8=FIXT.1.1|9=65511 -> SECOND
+8=FIXT.1.1|9=065510 -> SECOND
+8=FIXT.1.1|9=65510|34= -> SECOND
+8=FIXT.1.1|9=0000000 -> SECOND
+8=FIXT.1.1|9=00000100 -> SECOND
+8=FIXT.1.1|9=| -> SECOND
+8=FIXT.1.1|9=3| -> SECOND
+8=FIXT.1.1|9=5|35=0. -> SECOND
+8=FIXT.1.1|9=5|35=0|10=24| -> SECOND
+8=FIXT.1.1|9=5|35=0|10=240 -> SECOND
+8=FIX.4.4|9=5|35=0|10=163| -> SECOND
+8=8=FIXT.1 -> SECOND
+8888888888888888 -> SECOND
+\0\u{7f}|=|10=000| -> SECOND
+";
 
 #[test]
 fn a_front_is_kept_while_a_message_may_follow_from_it_and_no_longer(rt: HostRuntime) {
-    assert_eq!(rt; wrong_front(rt.alloc(), &OPEN, ""), Ok(None));
-    assert_eq!(rt; wrong_front(rt.alloc(), &GARBLED, SECOND_LINE), Ok(None));
+    check(&rt, rt.alloc(), Subject::Fronts, OPEN);
+    check(&rt, rt.alloc(), Subject::Fronts, GARBLED);
 }
 
 /// A message whose text holds another, with a sound CheckSum and with a wrong one.
+const INSIDE: &str = "\
+8=FIXT.1.1|9=37|35=0|58=x|8=FIXT.1.1|9=5|35=0|10=241|10=112| -> 8=FIXT.1.1|9=37|35=0|58=x|8=FIXT.1.1|9=5|35=0|10=241|10=112| SECOND
+8=FIXT.1.1|9=37|35=0|58=x|8=FIXT.1.1|9=5|35=0|10=241|10=113| -> 8=FIXT.1.1|9=5|35=0|10=241| SECOND
+";
+
 #[test]
 fn a_message_inside_one_with_a_wrong_check_sum_is_found(rt: HostRuntime) {
-    const SOUND: &str = "8=FIXT.1.1|9=37|35=0|58=x|8=FIXT.1.1|9=5|35=0|10=241|10=112|";
-    const SOUND_LINES: &str =
-        "8=FIXT.1.1|9=37|35=0|58=x|8=FIXT.1.1|9=5|35=0|10=241|10=112|\n8=FIXT.1.1|9=112|35=AE|49=E2|56=GIVEUP|34=1|52=20260105-09:00:00|571=R2|880=M1|55=XF6|32=10|31=101.5|75=20260105|552=1|54=2|1=H2|10=239|\n";
-    const UNSOUND: &str = "8=FIXT.1.1|9=37|35=0|58=x|8=FIXT.1.1|9=5|35=0|10=241|10=113|";
-    const INNER_LINES: &str =
-        "8=FIXT.1.1|9=5|35=0|10=241|\n8=FIXT.1.1|9=112|35=AE|49=E2|56=GIVEUP|34=1|52=20260105-09:00:00|571=R2|880=M1|55=XF6|32=10|31=101.5|75=20260105|552=1|54=2|1=H2|10=239|\n";
-    assert_eq!(rt; wrong_front(rt.alloc(), &[SOUND], SOUND_LINES), Ok(None));
-    assert_eq!(rt; wrong_front(rt.alloc(), &[UNSOUND], INNER_LINES), Ok(None));
+    check(&rt, rt.alloc(), Subject::Fronts, INSIDE);
 }
 
 /// How many messages a new feed gives of a stream up to a cut, and behind it.
-fn counts_at(alloc: Global, stream: &[u8], cut: usize) -> Result<(usize, usize), AllocError> {
+fn counts_at(rt: &impl Abort, alloc: Global, stream: &[u8], cut: usize) -> (usize, usize) {
     let (front, rest) = stream.split_at(cut.min(stream.len()));
     let mut feed = Feed::new(alloc);
-    let before = count(&mut feed, front)?;
-    Ok((before, count(&mut feed, rest)?))
+    let before = count(rt, &mut feed, front);
+    (before, count(rt, &mut feed, rest))
 }
 
-/// The first cut of FIRST and SECOND at which they aren't given as their last bytes come.
-fn wrong_cut(alloc: Global) -> Result<Option<usize>, AllocError> {
-    let stream = wire_around(alloc, FIRST, "", 0, SECOND)?;
+/// Asserts that FIRST and SECOND are given as their last bytes come, wherever they are cut.
+fn check_cuts(rt: &impl Abort, alloc: Global, stream: &[u8]) {
     for cut in 0..278 {
         let expected = match cut {
             0..141 => (0, 2),
             141..277 => (1, 1),
             _ => (2, 0),
         };
-        if counts_at(alloc, stream.as_bytes(), cut)? != expected {
-            return Ok(Some(cut));
-        }
+        assert_eq!(rt; counts_at(rt, alloc, stream, cut), expected, "{cut}");
     }
-    Ok(None)
 }
 
-/// The first byte of FIRST that may be one higher, and yet FIRST is given.
-fn wrong_byte(alloc: Global) -> Result<Option<usize>, AllocError> {
-    let stream = wire_around(alloc, FIRST, "", 0, SECOND)?;
-    let mut bytes = Vec::from_slice(alloc, stream.as_bytes())?;
-    for place in 0..bytes.len().min(141) {
-        if place < bytes.len() {
-            bytes[place] = bytes[place].wrapping_add(1);
-        }
-        if counts_at(alloc, &bytes, 0)? != (0, 1) {
-            return Ok(Some(place));
-        }
-        if place < bytes.len() {
-            bytes[place] = bytes[place].wrapping_sub(1);
-        }
+/// A stream whose byte at a place is one higher.
+fn raised(alloc: Global, stream: &[u8], place: usize) -> Result<Vec<u8>, AllocError> {
+    let mut bytes = Vec::from_slice(alloc, stream)?;
+    if place < bytes.len() {
+        bytes[place] = bytes[place].wrapping_add(1);
     }
-    Ok(None)
+    Ok(bytes)
+}
+
+/// Asserts that FIRST isn't given where any byte of it is one higher, and SECOND behind it is.
+fn check_bytes(rt: &impl Abort, alloc: Global, stream: &[u8]) {
+    for place in 0..141 {
+        let bytes = raised(alloc, stream, place).expect(rt, "memory");
+        assert_eq!(rt; counts_at(rt, alloc, &bytes, 0), (0, 1), "{place}");
+    }
 }
 
 #[test]
 fn a_message_is_given_once_its_last_byte_has_come_and_only_as_it_is(rt: HostRuntime) {
-    assert_eq!(rt; wrong_cut(rt.alloc()), Ok(None));
-    assert_eq!(rt; wrong_byte(rt.alloc()), Ok(None));
+    let stream = wire_around(rt.alloc(), FIRST, "", 0, SECOND).expect(&rt, "memory");
+    check_cuts(&rt, rt.alloc(), stream.as_bytes());
+    check_bytes(&rt, rt.alloc(), stream.as_bytes());
 }
 
-/// Whether a feed gives a message that comes in pieces of so many bytes.
-fn takes(feed: &mut Feed, message: &[u8], size: usize) -> Result<bool, AllocError> {
+/// Whether a message is among those of a feed.
+fn has(frames: &[Frame], message: &[u8]) -> bool {
+    for frame in frames {
+        if frame.bytes() == message {
+            return true;
+        }
+    }
+    false
+}
+
+/// Whether a feed gives a message with its last piece, where it comes in pieces of so many bytes.
+fn takes(rt: &impl Abort, feed: &mut Feed, message: &[u8], size: usize) -> bool {
     let mut is_given = false;
     for piece in message.chunks(size.max(1)) {
-        match feed.push(piece) {
-            Ok(frames) => is_given = frames.iter().any(|frame| frame.bytes() == message),
-            Err(_) => return Err(AllocError),
-        }
+        let frames = feed.push(piece).expect(rt, "memory");
+        is_given = has(&frames, message);
     }
-    Ok(is_given)
+    is_given
 }
 
-/// The first size of pieces in which a feed doesn't give a message of 65,536 bytes.
-fn wrong_size(alloc: Global) -> Result<Option<usize>, AllocError> {
-    let message = longest_value(alloc)?;
-    let mut feed = Feed::new(alloc);
-    for size in [65_536, 4_096, 65_535, 1_000] {
-        if !takes(&mut feed, message.as_bytes(), size)? {
-            return Ok(Some(size));
-        }
-    }
-    Ok(None)
-}
-
-/// The first size of pieces in which a feed doesn't give so many messages of 70 bytes in a row.
-fn wrong_row(alloc: Global, times: usize) -> Result<Option<usize>, AllocError> {
-    let stream = HEARTBEAT.repeat(alloc, times)?;
-    let stream = wire(alloc, &stream)?;
+/// Asserts that a feed gives so many messages of 70 bytes in a row, in pieces of these sizes.
+fn check_thousands(rt: &impl Abort, alloc: Global, times: usize) {
+    let stream = wire_around(alloc, "", HEARTBEAT, times, "").expect(rt, "memory");
     let mut feed = Feed::new(alloc);
     for size in [70, 4_096, 350_000] {
-        if count_cut(&mut feed, &stream, size)? != times {
-            return Ok(Some(size));
-        }
+        assert_eq!(rt; count_cut(rt, &mut feed, &stream, size), times, "{size}");
     }
-    Ok(None)
 }
 
 #[test]
 fn messages_of_65_536_bytes_and_thousands_in_a_row_are_taken(rt: HostRuntime) {
-    assert_eq!(rt; wrong_size(rt.alloc()), Ok(None));
-    assert_eq!(rt; wrong_row(rt.alloc(), 5_000), Ok(None));
+    let message = longest_value(rt.alloc()).expect(&rt, "memory");
+    let mut feed = Feed::new(rt.alloc());
+    for size in [65_536, 4_096, 65_535, 1_000] {
+        assert!(rt; takes(&rt, &mut feed, message.as_bytes(), size), "{size}");
+    }
+    check_thousands(&rt, rt.alloc(), 5_000);
 }
 
 /// How many messages a feed gives of so many openings, one inside another and a message behind them, and how many
 /// when the length that they say has come.
-fn counts_behind(alloc: Global, openings: usize) -> Result<(usize, usize), AllocError> {
-    let stream = wire_around(alloc, "", "8=FIXT.1.1|9=65510|35=", openings, SHORTEST)?;
-    let rest = "x".repeat(alloc, 65_536)?;
+fn counts_behind(rt: &impl Abort, alloc: Global, openings: usize) -> (usize, usize) {
+    let opening = "8=FIXT.1.1|9=65510|35=";
+    let stream = wire_around(alloc, "", opening, openings, SHORTEST).expect(rt, "memory");
+    let rest = "x".repeat(alloc, 65_536).expect(rt, "memory");
     let mut feed = Feed::new(alloc);
-    let before = count_cut(&mut feed, &stream, 4_096)?;
-    Ok((before, count_cut(&mut feed, &rest, 4_096)?))
+    let before = count_cut(rt, &mut feed, &stream, 4_096);
+    (before, count_cut(rt, &mut feed, &rest, 4_096))
 }
 
 #[test]
 fn a_message_is_found_behind_thousands_of_openings(rt: HostRuntime) {
-    assert_eq!(rt; counts_behind(rt.alloc(), 4_000), Ok((0, 1)));
+    assert_eq!(rt; counts_behind(&rt, rt.alloc(), 4_000), (0, 1));
 }

@@ -1,4 +1,5 @@
 //! Histories of many entries.
+use crate::rows::{first_word, number};
 use gu_terms::{
     AccountId, AllocReject, Command, Day, Done, Entry, FirmId, Group, History, Id, LimitKey, Line,
     Lines, Lots, OfferNo, Price, Refusal, Reply, Side, Symbol,
@@ -77,40 +78,19 @@ fn is_asked(entry: &Entry, command: &Command, reply: Reply) -> bool {
     }
 }
 
-/// Whether a history of so many entries shows a command that is added as what it was.
-fn is_kept(history: &mut History, command: Option<Command>, reply: Option<Reply>) -> Option<bool> {
-    let (command, reply) = (command?, reply?);
-    history.push_asked(&command, reply).ok()?;
+/// Whether a history shows a command that is added as what it was.
+fn is_shown(history: &mut History, command: &Command, reply: Reply) -> Option<bool> {
+    history.push_asked(command, reply).ok()?;
     let entry = history.entry(history.len() as u64).ok()??;
-    Some(is_asked(&entry, &command, reply))
+    Some(is_asked(&entry, command, reply))
 }
 
-/// The reply to a give-up whose lines became so many offers.
-fn offered(count: u64) -> Option<Reply> {
-    Some(Reply::Accepted(Done::Offered {
-        group: Group::new(b"G1")?,
-        first: OfferNo::new(7)?,
-        count,
-    }))
-}
-
-/// The reply to a report.
-fn reported(matched: bool) -> Option<Reply> {
-    Some(Reply::Accepted(Done::Reported { matched }))
-}
-
-/// A claim, and the reply to it.
+/// A claim.
 fn claim() -> Option<Command> {
     Some(Command::Claim {
         firm: FirmId::new(b"C1")?,
         offer: OfferNo::new(16_000_000)?,
     })
-}
-
-fn claimed() -> Option<Reply> {
-    Some(Reply::Accepted(Done::Claimed {
-        lots: Lots::new(1_000_000)?,
-    }))
 }
 
 /// A refusal of an offer by its carrying firm.
@@ -122,70 +102,120 @@ fn refusal() -> Option<Command> {
     })
 }
 
+/// A command by its words: a report with ids of so many bytes, a give-up of so many lines, a claim or a refusal.
+fn command_of(alloc: Global, words: &str) -> Option<Command> {
+    let (word, rest) = first_word(words);
+    match word {
+        "report" => report(number(rest) as usize),
+        "give-up" => give_up(alloc, number(rest) as usize),
+        "claim" => claim(),
+        "refusal" => refusal(),
+        _ => None,
+    }
+}
+
+/// The reply to a give-up whose lines became so many offers.
+fn offered(count: u64) -> Option<Reply> {
+    Some(Reply::Accepted(Done::Offered {
+        group: Group::new(b"G1")?,
+        first: OfferNo::new(7)?,
+        count,
+    }))
+}
+
+/// The reply to a claim that was done.
+fn claimed() -> Option<Reply> {
+    Some(Reply::Accepted(Done::Claimed {
+        lots: Lots::new(1_000_000)?,
+    }))
+}
+
 /// The reply to a claim that a limit denies.
 fn denied() -> Option<Reply> {
     let key = LimitKey::Acct(AccountId::new(b"A1")?);
     Some(Reply::Denied(Refusal::LimitReached(key)))
 }
 
-#[test]
-fn a_history_shows_each_entry_as_it_came(rt: HostRuntime) {
-    let alloc = rt.alloc();
-    let mut history = History::new(alloc);
-    for len in [1, 7, 63, 64] {
-        assert_eq!(rt;
-            is_kept(&mut history, report(len), reported(len == 7)),
-            Some(true)
-        );
-        assert_eq!(rt; is_kept(&mut history, report(len), denied()), Some(true));
+/// A reply by its words; behind `offered` stands how many offers there are.
+fn reply_of(words: &str) -> Option<Reply> {
+    let (word, rest) = first_word(words);
+    match word {
+        "open" => Some(Reply::Accepted(Done::Reported { matched: false })),
+        "matched" => Some(Reply::Accepted(Done::Reported { matched: true })),
+        "offered" => offered(number(rest)),
+        "claimed" => claimed(),
+        "denied" => denied(),
+        _ => None,
     }
-    for count in [1, 2, 16] {
-        assert_eq!(rt;
-            is_kept(&mut history, give_up(alloc, count), offered(count as u64)),
-            Some(true)
-        );
-    }
-    // No book answers so, and it is kept nevertheless.
-    assert_eq!(rt;
-        is_kept(&mut history, give_up(alloc, 2), offered(3)),
-        Some(true)
-    );
-    assert_eq!(rt; is_kept(&mut history, claim(), reported(true)), Some(true));
-    assert_eq!(rt; is_kept(&mut history, claim(), claimed()), Some(true));
-    assert_eq!(rt; is_kept(&mut history, claim(), denied()), Some(true));
-    assert_eq!(rt; is_kept(&mut history, refusal(), claimed()), Some(true));
 }
 
-/// Whether the entry of a number is this report, accepted.
-fn is_report(rt: &impl Abort, history: &History, number: u64, len: usize) -> bool {
-    let entry = history
-        .entry(number)
-        .expect(rt, "memory")
-        .expect(rt, "an entry");
+/// Asserts that a history shows each row that is added.
+fn keep(rt: &impl Abort, alloc: Global, history: &mut History, rows: &str) {
+    for row in rows.lines() {
+        let (command, reply) = row.split_once(" = ").expect(rt, "a command and a reply");
+        let command = command_of(alloc, command).expect(rt, "a command");
+        let reply = reply_of(reply).expect(rt, "a reply");
+        let is_shown = is_shown(history, &command, reply);
+        assert!(rt; is_shown == Some(true), "{row}");
+    }
+}
+
+/// Commands and replies. No book answers the give-up of two lines by three offers, or a claim as a report, and they are
+/// kept nevertheless.
+const ENTRIES: &str = "\
+report 1 = open
+report 1 = denied
+report 7 = matched
+report 7 = denied
+report 63 = open
+report 63 = denied
+report 64 = open
+report 64 = denied
+give-up 1 = offered 1
+give-up 2 = offered 2
+give-up 16 = offered 16
+give-up 2 = offered 3
+claim = matched
+claim = claimed
+claim = denied
+refusal = claimed
+";
+
+#[test]
+fn a_history_shows_each_entry_as_it_came(rt: HostRuntime) {
+    let mut history = History::new(rt.alloc());
+    keep(&rt, rt.alloc(), &mut history, ENTRIES);
+}
+
+/// Asserts that the entry of a number is this report, accepted.
+fn check_report(rt: &impl Abort, history: &History, number: u64, len: usize) {
+    let found = history.entry(number).expect(rt, "memory");
+    let entry = found.expect(rt, "an entry");
     let command = report(len).expect(rt, "a report");
-    is_asked(
-        &entry,
-        &command,
-        Reply::Accepted(Done::Reported { matched: false }),
-    )
+    let reply = Reply::Accepted(Done::Reported { matched: false });
+    assert!(rt; is_asked(&entry, &command, reply), "{number}");
+}
+
+/// Asserts that a history has no entry of this number.
+fn check_none(rt: &impl Abort, history: &History, number: u64) {
+    let found = history.entry(number).expect(rt, "memory");
+    assert!(rt; found.is_none(), "{number}");
 }
 
 #[test]
 fn entries_that_are_taken_off_leave_the_others(rt: HostRuntime) {
-    let mut history = History::new(rt.alloc());
-    for len in [5, 64, 3] {
-        assert_eq!(rt;
-            is_kept(&mut history, report(len), reported(false)),
-            Some(true)
-        );
-    }
-    history.truncate(1);
-    assert_eq!(rt;
-        is_kept(&mut history, report(9), reported(false)),
-        Some(true)
+    let alloc = rt.alloc();
+    let mut history = History::new(alloc);
+    keep(
+        &rt,
+        alloc,
+        &mut history,
+        "report 5 = open\nreport 64 = open\nreport 3 = open\n",
     );
-    assert!(rt; is_report(&rt, &history, 1, 5));
-    assert!(rt; is_report(&rt, &history, 2, 9));
-    assert!(rt; history.entry(3).expect(&rt, "memory").is_none());
-    assert!(rt; history.entry(0).expect(&rt, "memory").is_none());
+    history.truncate(1);
+    keep(&rt, alloc, &mut history, "report 9 = open\n");
+    check_report(&rt, &history, 1, 5);
+    check_report(&rt, &history, 2, 9);
+    check_none(&rt, &history, 3);
+    check_none(&rt, &history, 0);
 }

@@ -3,6 +3,7 @@ use crate::bodies::{frame_of, message_of};
 use gu_session::{AskRef, Asked, Input, Outcome, Output, Session};
 use gu_terms::{FirmId, Moment, Refusal, Reply};
 use std::alloc::{AllocError, Global};
+use std::process::Abort;
 
 /// Whether an output is a message with this body.
 fn is_sent(alloc: Global, output: Option<&Output>, body: &str) -> Result<bool, AllocError> {
@@ -11,68 +12,6 @@ fn is_sent(alloc: Global, output: Option<&Output>, body: &str) -> Result<bool, A
         Some(Output::Send(bytes)) => Ok(bytes.as_slice() == expected.as_bytes()),
         _ => Ok(false),
     }
-}
-
-/// The reference of a report that comes with this number.
-fn report(
-    alloc: Global,
-    session: &mut Session,
-    now: Moment,
-    number: u64,
-) -> Result<Option<AskRef>, AllocError> {
-    let body = format!(in alloc;
-        "35=AE|49=E1|56=GIVEUP|34={number}|52=x|571=R{number}|880=M1|55=XF6|32=10|31=101.5|552=1|54=1|1=H1|"
-    )?;
-    let frame = frame_of(alloc, &body)?;
-    let mut given = session.step(Input::Frame(frame), now)?;
-    match given.pop() {
-        Some(Output::Hand(Asked { reference, .. })) => Ok(Some(reference)),
-        _ => Ok(None),
-    }
-}
-
-/// Whether a report with this number is denied by a message of the same number.
-fn is_denied(
-    alloc: Global,
-    session: &mut Session,
-    now: Moment,
-    number: u64,
-) -> Result<bool, AllocError> {
-    let Some(reference) = report(alloc, session, now, number)? else {
-        return Ok(false);
-    };
-    let denied = Outcome::Replied(Reply::Denied(Refusal::NoDay));
-    let given = session.step(Input::Answer(reference, denied), now)?;
-    let body = format!(in alloc;
-        "35=AR|49=GIVEUP|56=E1|34={number}|52=20260105-09:00:00.000|571=R{number}|880=M1|939=1|751=99|58=NoDay|"
-    )?;
-    is_sent(alloc, given.first(), &body)
-}
-
-/// The first of these numbers whose report isn't denied so.
-fn first_not_denied(
-    alloc: Global,
-    session: &mut Session,
-    now: Moment,
-) -> Result<Option<u64>, AllocError> {
-    for number in 2..4202 {
-        if !is_denied(alloc, session, now, number)? {
-            return Ok(Some(number));
-        }
-    }
-    Ok(None)
-}
-
-/// A session at nine, and that moment.
-fn begin(alloc: Global) -> Result<Option<(Session, Moment)>, AllocError> {
-    let Some(firm) = FirmId::new(b"E1") else {
-        return Ok(None);
-    };
-    let Some(now) = Moment::new(1_767_603_600_000) else {
-        return Ok(None);
-    };
-    let firms = Vec::from_slice(alloc, &[firm])?;
-    Ok(Some((Session::new(alloc, firms), now)))
 }
 
 /// What a frame with this body gives.
@@ -86,52 +25,99 @@ fn given(
     session.step(Input::Frame(frame), now)
 }
 
-/// Whether messages 1 to 105 are filled by one message, and 106 to 4,201 are sent again.
-fn is_all_again(alloc: Global, session: &mut Session, now: Moment) -> Result<bool, AllocError> {
-    let sent = given(
-        alloc,
-        session,
-        now,
-        "35=2|49=E1|56=GIVEUP|34=4202|52=x|7=1|16=0|",
-    )?;
+/// The body of a report with this number.
+fn report_body(alloc: Global, number: u64) -> Result<String, AllocError> {
+    format!(in alloc;
+        "35=AE|49=E1|56=GIVEUP|34={number}|52=x|571=R{number}|880=M1|55=XF6|32=10|31=101.5|552=1|54=1|1=H1|"
+    )
+}
+
+/// The body of the message of the same number that denies it.
+fn denial_body(alloc: Global, number: u64) -> Result<String, AllocError> {
+    format!(in alloc;
+        "35=AR|49=GIVEUP|56=E1|34={number}|52=20260105-09:00:00.000|571=R{number}|880=M1|939=1|751=99|58=NoDay|"
+    )
+}
+
+/// The reference of a report that comes with this number.
+fn report(
+    alloc: Global,
+    session: &mut Session,
+    now: Moment,
+    number: u64,
+) -> Result<Option<AskRef>, AllocError> {
+    let body = report_body(alloc, number)?;
+    let mut given = given(alloc, session, now, &body)?;
+    match given.pop() {
+        Some(Output::Hand(Asked { reference, .. })) => Ok(Some(reference)),
+        _ => Ok(None),
+    }
+}
+
+/// Whether a session answers that the report of this reference, which came with this number, was denied.
+fn is_answered(
+    alloc: Global,
+    session: &mut Session,
+    now: Moment,
+    reference: AskRef,
+    number: u64,
+) -> Result<bool, AllocError> {
+    let body = denial_body(alloc, number)?;
+    let denied = Outcome::Replied(Reply::Denied(Refusal::NoDay));
+    let given = session.step(Input::Answer(reference, denied), now)?;
+    is_sent(alloc, given.first(), &body)
+}
+
+/// Asserts that reports with numbers 2 to 4,201 are denied by messages of the same numbers.
+fn deny_all(rt: &impl Abort, alloc: Global, session: &mut Session, now: Moment) {
+    for number in 2..4202 {
+        let asked = report(alloc, session, now, number).expect(rt, "memory");
+        let reference = asked.expect(rt, "a report");
+        let is_answered = is_answered(alloc, session, now, reference, number);
+        assert!(rt; is_answered.expect(rt, "memory"), "{number}");
+    }
+}
+
+/// Asserts that messages 1 to 105 are filled by one message, and 106 to 4,201 are sent again.
+fn check_again(rt: &impl Abort, alloc: Global, sent: &Vec<Output>) {
     let first = is_sent(
         alloc,
         sent.first(),
         "35=4|49=GIVEUP|56=E1|34=1|52=20260105-09:00:00.000|43=Y|122=20260105-09:00:00.000|123=Y|36=106|",
-    )?;
+    );
+    assert_eq!(rt; first, Ok(true));
     let second = is_sent(
         alloc,
         sent.get(1),
         "35=AR|49=GIVEUP|56=E1|34=106|52=20260105-09:00:00.000|43=Y|122=20260105-09:00:00.000|571=R106|880=M1|939=1|751=99|58=NoDay|",
-    )?;
+    );
+    assert_eq!(rt; second, Ok(true));
     let last = is_sent(
         alloc,
         sent.last(),
         "35=AR|49=GIVEUP|56=E1|34=4201|52=20260105-09:00:00.000|43=Y|122=20260105-09:00:00.000|571=R4201|880=M1|939=1|751=99|58=NoDay|",
-    )?;
-    Ok(first && second && last && sent.len() == 4097)
+    );
+    assert_eq!(rt; last, Ok(true));
+    assert_eq!(rt; sent.len(), 4097);
 }
 
-/// What is wrong with 4,200 reports and the request for all of them.
-fn wrong_thousands(alloc: Global) -> Result<Option<&'static str>, AllocError> {
-    let Some((mut session, now)) = begin(alloc)? else {
-        return Ok(Some("no session"));
-    };
-    let logon = "35=A|49=E1|56=GIVEUP|34=1|52=x|98=0|108=30|1137=9|";
-    if given(alloc, &mut session, now, logon)?.len() != 1 {
-        return Ok(Some("no logon"));
-    }
-    if first_not_denied(alloc, &mut session, now)?.is_some() {
-        return Ok(Some("a report isn't denied"));
-    }
-    if is_all_again(alloc, &mut session, now)? {
-        Ok(None)
-    } else {
-        Ok(Some("not all are sent again"))
-    }
+/// A session at nine in which E1 may log on.
+fn session_of(alloc: Global, firm: FirmId) -> Result<Session, AllocError> {
+    let firms = Vec::from_slice(alloc, &[firm])?;
+    Ok(Session::new(alloc, firms))
 }
 
 #[test]
 fn the_last_4_096_of_4_200_reports_are_sent_again(rt: HostRuntime) {
-    assert_eq!(rt; wrong_thousands(rt.alloc()), Ok(None));
+    let alloc = rt.alloc();
+    let firm = FirmId::new(b"E1").expect(&rt, "a firm");
+    let now = Moment::new(1_767_603_600_000).expect(&rt, "a moment");
+    let mut session = session_of(alloc, firm).expect(&rt, "memory");
+    let logon = "35=A|49=E1|56=GIVEUP|34=1|52=x|98=0|108=30|1137=9|";
+    let answer = given(alloc, &mut session, now, logon).expect(&rt, "memory");
+    assert_eq!(rt; answer.len(), 1);
+    deny_all(&rt, alloc, &mut session, now);
+    let request = "35=2|49=E1|56=GIVEUP|34=4202|52=x|7=1|16=0|";
+    let sent = given(alloc, &mut session, now, request).expect(&rt, "memory");
+    check_again(&rt, alloc, &sent);
 }

@@ -44,6 +44,8 @@ mod reports;
 #[cfg(test)]
 mod resends;
 #[cfg(test)]
+mod rows;
+#[cfg(test)]
 mod session;
 #[cfg(test)]
 mod tables;

@@ -1,11 +1,11 @@
 //! Growths that are refused: run with each allocation failing in turn (`rt try --test --fail-alloc N`). A call that is
 //! refused leaves its value as it was, and passes when it is made again.
-use crate::messages::first_of;
-use crate::talk::wrong_line;
+use crate::reading::{GIVE_UP, SOUND};
+use crate::rows::{Subject, check_again};
+use crate::talk::follow;
 use crate::{answering, asking, encoding, fields, header, reading, writing};
 use gu_fix::{Feed, Fields};
 use gu_terms::{Command, Cut, Day, Done, FirmId, History, LimitKey, OfferNo, Reply, Takes};
-use std::alloc::{AllocError, Global};
 
 /// How many messages a feed gives with a piece, at the second try where the first is refused.
 fn count(feed: &mut Feed, piece: &[u8]) -> Option<usize> {
@@ -54,30 +54,19 @@ fn a_piece_is_fed_again_and_a_field_is_appended_again(rt: HostRuntime) {
     assert_eq!(rt; append_all(&mut fields, 20), Some(20));
 }
 
-/// The first row of any table that is wrong.
-fn wrong_table(alloc: Global) -> Result<Option<&'static str>, AllocError> {
-    let texts = [
-        fields::wrong_row(alloc, &fields::ROWS)?,
-        encoding::wrong_row(alloc, &encoding::ROWS)?,
-        header::wrong_row(alloc, &header::ROWS)?,
-        reading::wrong_row(alloc, &reading::SESSION)?,
-        reading::wrong_row(alloc, &reading::GIVE_UPS)?,
-        writing::wrong_table(alloc)?,
-        asking::wrong_row(alloc, &asking::ROWS)?,
-        answering::wrong_table(alloc)?,
-    ];
-    Ok(first_of(&texts))
-}
-
 #[test]
 fn messages_are_split_read_and_written_again(rt: HostRuntime) {
-    let first = wrong_table(rt.alloc());
-    let settled = if first.is_ok() {
-        first
-    } else {
-        wrong_table(rt.alloc())
-    };
-    assert_eq!(rt; settled, Ok(None));
+    let alloc = rt.alloc();
+    check_again(&rt, alloc, Subject::Fields, fields::ROWS);
+    check_again(&rt, alloc, Subject::Encoding, encoding::ROWS);
+    check_again(&rt, alloc, Subject::Header, header::ROWS);
+    check_again(&rt, alloc, Subject::Reading(SOUND), reading::SESSION);
+    check_again(&rt, alloc, Subject::Reading(GIVE_UP), reading::GIVE_UPS);
+    check_again(&rt, alloc, Subject::Writing, writing::ROWS);
+    check_again(&rt, alloc, Subject::Asking, asking::ROWS);
+    check_again(&rt, alloc, Subject::Answering, answering::ANSWERS);
+    check_again(&rt, alloc, Subject::Positions, answering::POSITIONS);
+    check_again(&rt, alloc, Subject::Notices, answering::NOTICES);
 }
 
 /// How many takes there are when one more is added, at the second try where the first is refused.
@@ -173,31 +162,25 @@ fn takes_entries_and_members_of_a_cut_are_added_again(rt: HostRuntime) {
 }
 
 /// A conversation in which something is handed out, answered, and sent again.
-const CONVERSATION: [&str; 15] = [
-    "in A 1 98=0|108=30|1137=9|",
-    "out A 1 98=0|108=30|1137=9|",
-    "in AE 3 571=R1|880=M1|55=XF6|32=10|31=101.5|552=1|54=1|1=H1|",
-    "out 2 2 7=2|16=0|",
-    "in AE 2 571=R1|880=M1|55=XF6|32=10|31=101.5|552=1|54=1|1=H1|",
-    "hand report",
-    "answer open",
-    "out AR 3 571=R1|880=M1|939=0|",
-    "in 2 3 7=1|16=0|",
-    "again 1 09:00:00.000 4 123=Y|36=3|",
-    "again 3 09:00:00.000 AR 571=R1|880=M1|939=0|",
-    "in AE 2 43=Y|571=R1|880=M1|55=XF6|32=10|31=101.5|552=1|54=1|1=H1|",
-    "in AE 2 571=R1|880=M1|55=XF6|32=10|31=101.5|552=1|54=1|1=H1|",
-    "out 5 4 58=SeqTooLow|",
-    "close",
-];
+const CONVERSATION: &str = "\
+in A 1 98=0|108=30|1137=9|
+out A 1 98=0|108=30|1137=9|
+in AE 3 571=R1|880=M1|55=XF6|32=10|31=101.5|552=1|54=1|1=H1|
+out 2 2 7=2|16=0|
+in AE 2 571=R1|880=M1|55=XF6|32=10|31=101.5|552=1|54=1|1=H1|
+hand report
+answer open
+out AR 3 571=R1|880=M1|939=0|
+in 2 3 7=1|16=0|
+again 1 09:00:00.000 4 123=Y|36=3|
+again 3 09:00:00.000 AR 571=R1|880=M1|939=0|
+in AE 2 43=Y|571=R1|880=M1|55=XF6|32=10|31=101.5|552=1|54=1|1=H1|
+in AE 2 571=R1|880=M1|55=XF6|32=10|31=101.5|552=1|54=1|1=H1|
+out 5 4 58=SeqTooLow|
+close
+";
 
 #[test]
 fn a_session_that_is_refused_memory_goes_on_as_it_was(rt: HostRuntime) {
-    let first = wrong_line(rt.alloc(), &CONVERSATION);
-    let settled = if first.is_ok() {
-        first
-    } else {
-        wrong_line(rt.alloc(), &CONVERSATION)
-    };
-    assert_eq!(rt; settled, Ok(None));
+    follow(&rt, rt.alloc(), CONVERSATION);
 }

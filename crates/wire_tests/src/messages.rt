@@ -21,6 +21,12 @@ pub fn wire(alloc: Global, text: &str) -> Result<String, AllocError> {
     text.replace(alloc, "|", "\x01")
 }
 
+/// What bytes on the wire are as a text: `|` ends a field, and a `|` on the wire is `!`.
+pub fn shown(alloc: Global, bytes: &[u8]) -> Result<String, AllocError> {
+    let text = str::from_utf8(bytes).unwrap_or("?");
+    text.replace(alloc, "|", "!")?.replace(alloc, "\x01", "|")
+}
+
 /// A text on the wire that stands so many times between a front and an end.
 pub fn wire_around(
     alloc: Global,
@@ -84,14 +90,4 @@ pub fn text_of(alloc: Global, fields: &Fields) -> Result<String, AllocError> {
         text.push_str(&format!(in alloc; "{}={value}|", field.tag)?)?;
     }
     Ok(text)
-}
-
-/// The first of these that is one.
-pub fn first_of(texts: &[Option<&'static str>]) -> Option<&'static str> {
-    for text in texts {
-        if text.is_some() {
-            return *text;
-        }
-    }
-    None
 }

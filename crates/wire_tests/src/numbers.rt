@@ -1,112 +1,105 @@
 //! Texts of numbers and days, beside their values.
-use gu_terms::{Day, Lots, Moment, NumberError, OfferNo, read_lots, read_price};
+use crate::rows::{Subject, check, number};
+use gu_terms::{Day, Lots, Moment, OfferNo, read_lots, read_price};
+use std::alloc::{AllocError, Global};
 
 /// Texts of lots, and what they mean.
-const LOTS: [(&str, Result<u64, NumberError>); 16] = [
-    ("0010.0", Ok(10)),
-    ("10.", Ok(10)),
-    ("1000000", Ok(1_000_000)),
-    ("10.5", Err(NumberError::OutOfRange)),
-    ("0", Err(NumberError::OutOfRange)),
-    ("-5", Err(NumberError::OutOfRange)),
-    ("-0", Err(NumberError::OutOfRange)),
-    ("1000001", Err(NumberError::OutOfRange)),
-    ("18446744073709551617", Err(NumberError::OutOfRange)),
-    ("", Err(NumberError::BadNumber)),
-    (".", Err(NumberError::BadNumber)),
-    ("+5", Err(NumberError::BadNumber)),
-    ("1e3", Err(NumberError::BadNumber)),
-    ("-", Err(NumberError::BadNumber)),
-    ("-.", Err(NumberError::BadNumber)),
-    ("1.2.3", Err(NumberError::BadNumber)),
-];
+const LOTS: &str = "\
+0010.0 -> 10
+10. -> 10
+1000000 -> 1000000
+10.5 -> OutOfRange
+0 -> OutOfRange
+-5 -> OutOfRange
+-0 -> OutOfRange
+1000001 -> OutOfRange
+18446744073709551617 -> OutOfRange
+ -> BadNumber
+. -> BadNumber
++5 -> BadNumber
+1e3 -> BadNumber
+- -> BadNumber
+-. -> BadNumber
+1.2.3 -> BadNumber
+";
 
 /// Texts of prices, and the millionths that they mean.
-const PRICES: [(&str, Result<i64, NumberError>); 12] = [
-    ("-0.25", Ok(-250_000)),
-    ("23.", Ok(23_000_000)),
-    (".5", Ok(500_000)),
-    ("0001.50000000", Ok(1_500_000)),
-    ("999999999.999999", Ok(999_999_999_999_999)),
-    ("-0", Ok(0)),
-    ("1000000000", Err(NumberError::OutOfRange)),
-    ("0.0000001", Err(NumberError::OutOfRange)),
-    ("", Err(NumberError::BadNumber)),
-    (".", Err(NumberError::BadNumber)),
-    ("+5", Err(NumberError::BadNumber)),
-    ("1e3", Err(NumberError::BadNumber)),
-];
+const PRICES: &str = "\
+-0.25 -> -250000
+23. -> 23000000
+.5 -> 500000
+0001.50000000 -> 1500000
+999999999.999999 -> 999999999999999
+-0 -> 0
+1000000000 -> OutOfRange
+0.0000001 -> OutOfRange
+ -> BadNumber
+. -> BadNumber
++5 -> BadNumber
+1e3 -> BadNumber
+";
 
 /// Texts of days, and the year, the month and the day that they mean.
-const DAYS: [(&str, Result<(u16, u8, u8), NumberError>); 8] = [
-    ("20260105", Ok((2026, 1, 5))),
-    ("20240229", Ok((2024, 2, 29))),
-    ("99991231", Ok((9999, 12, 31))),
-    ("20260230", Err(NumberError::OutOfRange)),
-    ("20260001", Err(NumberError::OutOfRange)),
-    ("00000101", Err(NumberError::OutOfRange)),
-    ("2026010", Err(NumberError::BadNumber)),
-    ("2026-105", Err(NumberError::BadNumber)),
-];
+const DAYS: &str = "\
+20260105 -> (2026, 1, 5)
+20240229 -> (2024, 2, 29)
+99991231 -> (9999, 12, 31)
+20260230 -> OutOfRange
+20260001 -> OutOfRange
+00000101 -> OutOfRange
+2026010 -> BadNumber
+2026-105 -> BadNumber
+";
 
 /// Numbers, and whether lots, an offer and a moment can have them.
-const RANGES: [(u64, (bool, bool, bool)); 8] = [
-    (0, (false, false, true)),
-    (1, (true, true, true)),
-    (1_000_000, (true, true, true)),
-    (1_000_001, (false, true, true)),
-    (16_000_000, (false, true, true)),
-    (16_000_001, (false, false, true)),
-    (253_402_300_799_999, (false, false, true)),
-    (253_402_300_800_000, (false, false, false)),
-];
+const RANGES: &str = "\
+0 -> false false true
+1 -> true true true
+1000000 -> true true true
+1000001 -> false true true
+16000000 -> false true true
+16000001 -> false false true
+253402300799999 -> false false true
+253402300800000 -> false false false
+";
 
-/// The first text of lots that isn't read as its row says.
-fn wrong_lots() -> Option<&'static str> {
-    for (text, expected) in &LOTS {
-        if read_lots(text.as_bytes()).map(|lots| lots.get()) != *expected {
-            return Some(*text);
-        }
+/// The number of lots that a text means, or why it means none.
+pub fn lots_told(alloc: Global, text: &str) -> Result<String, AllocError> {
+    match read_lots(text.as_bytes()) {
+        Ok(lots) => format!(in alloc; "{}", lots.get()),
+        Err(error) => format!(in alloc; "{error}"),
     }
-    None
 }
 
-/// The first text of a price that isn't read as its row says.
-fn wrong_price() -> Option<&'static str> {
-    for (text, expected) in &PRICES {
-        if read_price(text.as_bytes()).map(|price| price.get()) != *expected {
-            return Some(*text);
-        }
+/// The millionths that a text means, or why it means none.
+pub fn price_told(alloc: Global, text: &str) -> Result<String, AllocError> {
+    match read_price(text.as_bytes()) {
+        Ok(price) => format!(in alloc; "{}", price.get()),
+        Err(error) => format!(in alloc; "{error}"),
     }
-    None
 }
 
-/// The first text of a day that isn't read as its row says.
-fn wrong_day() -> Option<&'static str> {
-    for (text, expected) in &DAYS {
-        if Day::read(text.as_bytes()).map(|day| day.get()) != *expected {
-            return Some(*text);
-        }
+/// The day that a text means, or why it means none.
+pub fn day_told(alloc: Global, text: &str) -> Result<String, AllocError> {
+    match Day::read(text.as_bytes()) {
+        Ok(day) => format!(in alloc; "{:?}", day.get()),
+        Err(error) => format!(in alloc; "{error}"),
     }
-    None
 }
 
-/// The first number that isn't taken as its row says.
-fn wrong_range() -> Option<u64> {
-    for (number, expected) in &RANGES {
-        let lots = Lots::new(*number).is_some();
-        let offer = OfferNo::new(*number).is_some();
-        if (lots, offer, Moment::new(*number).is_some()) != *expected {
-            return Some(*number);
-        }
-    }
-    None
+/// Whether lots, an offer and a moment can have the number that a text writes.
+pub fn ranges_told(alloc: Global, text: &str) -> Result<String, AllocError> {
+    let number = number(text);
+    let is_lots = Lots::new(number).is_some();
+    let is_offer = OfferNo::new(number).is_some();
+    let is_moment = Moment::new(number).is_some();
+    format!(in alloc; "{is_lots} {is_offer} {is_moment}")
 }
 
 #[test]
 fn numbers_and_days_are_read_from_their_texts(rt: HostRuntime) {
-    assert_eq!(rt; wrong_lots(), None);
-    assert_eq!(rt; wrong_price(), None);
-    assert_eq!(rt; wrong_day(), None);
-    assert_eq!(rt; wrong_range(), None);
+    check(&rt, rt.alloc(), Subject::Lots, LOTS);
+    check(&rt, rt.alloc(), Subject::Price, PRICES);
+    check(&rt, rt.alloc(), Subject::Day, DAYS);
+    check(&rt, rt.alloc(), Subject::Ranges, RANGES);
 }

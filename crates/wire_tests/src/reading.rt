@@ -1,188 +1,142 @@
 //! What messages are read as.
 use crate::messages::{fields_of, frame_in, most_fields, wire_around};
+use crate::rows::{Subject, check};
 use gu_fix::{Fields, fields};
 use gu_msgs::inbound::{AllocationInstruction, TradeCaptureReport};
 use gu_msgs::{Inbound, MsgFault, read};
 use gu_terms::Side;
 use std::alloc::{AllocError, Global};
 
-/// What stands in front of each row of a table, and the fields of each message with what it is read as: what it says,
-/// or the tag and the reason of its first fault.
-pub type Table = (&'static str, &'static [(&'static str, &'static str)]);
+/// What stands in front of messages behind a sound header.
+pub const SOUND: &str = "8=FIXT.1.1|9=100|10=000|49=E1|56=GIVEUP|34=2|52=x|";
+
+/// What stands in front of whole messages.
+const FRAMED: &str = "8=FIXT.1.1|9=100|10=000|";
 
 /// Whole messages.
-const HEADERS: Table = (
-    "8=FIXT.1.1|9=100|10=000|",
-    &[
-        ("35=0|49=E1|56=GIVEUP|34=0|52=x|", "beats"),
-        ("35=0|49=E1|56=GIVEUP|34=1x|52=x|", "34: 6"),
-        ("35=0|49=E1|56=GIVEUP|34=1000000001|52=x|", "34: 5"),
-        (
-            "35=0|49=E1|56=GIVEUP|34=18446744073709551617|52=x|",
-            "34: 5",
-        ),
-        (
-            "35=AE|49=E1|56=GIVEUP|34=1x|52=x|571=R1|880=M1|55=X|32=1|31=1|",
-            "552: 1",
-        ),
-        (
-            "35=AE|49=E1|56=GIVEUP|34=1x|52=x|571=R1|880=M1|55=x|32=1|31=1|552=1|54=1|1=H1|",
-            "34: 6",
-        ),
-        ("35=0|34=2|52=x|", "49: 1"),
-        ("35=0|49=E1|56=GIVEUP|34=2|52=x|35=1|", "35: 13"),
-        ("49=E1|56=GIVEUP|34=2|", "35: 1"),
-        ("49=E1|49=E1|56=GIVEUP|34=2|", "49: 13"),
-        ("35=A!|49=E1|49=E1|", "35: 11"),
-        ("35=ABCD|", "35: 11"),
-        ("35=D|52=x|52=x|", "unread D"),
-    ],
-);
+const HEADERS: &str = "\
+35=0|49=E1|56=GIVEUP|34=0|52=x| -> beats
+35=0|49=E1|56=GIVEUP|34=1x|52=x| -> 34: 6
+35=0|49=E1|56=GIVEUP|34=1000000001|52=x| -> 34: 5
+35=0|49=E1|56=GIVEUP|34=18446744073709551617|52=x| -> 34: 5
+35=AE|49=E1|56=GIVEUP|34=1x|52=x|571=R1|880=M1|55=X|32=1|31=1| -> 552: 1
+35=AE|49=E1|56=GIVEUP|34=1x|52=x|571=R1|880=M1|55=x|32=1|31=1|552=1|54=1|1=H1| -> 34: 6
+35=0|34=2|52=x| -> 49: 1
+35=0|49=E1|56=GIVEUP|34=2|52=x|35=1| -> 35: 13
+49=E1|56=GIVEUP|34=2| -> 35: 1
+49=E1|49=E1|56=GIVEUP|34=2| -> 49: 13
+35=A!|49=E1|49=E1| -> 35: 11
+35=ABCD| -> 35: 11
+35=D|52=x|52=x| -> unread D
+";
 
 /// Messages of the session behind a sound header.
-pub const SESSION: Table = (
-    "8=FIXT.1.1|9=100|10=000|49=E1|56=GIVEUP|34=2|52=x|",
-    &[
-        ("35=0|", "beats"),
-        ("35=0|112=a =b|", "beats"),
-        ("35=1|112=TEST|", "asks TEST"),
-        ("35=1|112=a =b|", "asks a =b"),
-        ("35=1|112=|", "112: 5"),
-        ("35=1|112=a\x01b|", "112: 5"),
-        ("35=1|", "112: 1"),
-        ("35=2|7=003|16=0|", "again 3 to 0"),
-        ("35=2|7=0|16=x|", "7: 5"),
-        ("35=2|7=5|16=4|", "16: 5"),
-        ("35=2|7=5|16=-1|", "16: 6"),
-        ("35=3|45=1|", "rejects"),
-        ("35=4|36=9|123=Y|", "resets to 9, fill true"),
-        ("35=4|36=0|", "36: 5"),
-        ("35=5|", "logs out"),
-        (
-            "35=A|98=0|108=030|1137=009|141=N|",
-            "logs on, beats 30, resets false",
-        ),
-        ("35=A|98=0|108=3601|1137=9|", "108: 5"),
-        ("35=A|98=0|108=30|1137=8|", "1137: 5"),
-        ("35=D|52=x|", "unread D"),
-        ("35=ae|", "unread ae"),
-    ],
-);
+pub const SESSION: &str = "\
+35=0| -> beats
+35=0|112=a =b| -> beats
+35=1|112=TEST| -> asks TEST
+35=1|112=a =b| -> asks a =b
+35=1|112=| -> 112: 5
+35=1|112=a\x01b| -> 112: 5
+35=1| -> 112: 1
+35=2|7=003|16=0| -> again 3 to 0
+35=2|7=0|16=x| -> 7: 5
+35=2|7=5|16=4| -> 16: 5
+35=2|7=5|16=-1| -> 16: 6
+35=3|45=1| -> rejects
+35=4|36=9|123=Y| -> resets to 9, fill true
+35=4|36=0| -> 36: 5
+35=5| -> logs out
+35=A|98=0|108=030|1137=009|141=N| -> logs on, beats 30, resets false
+35=A|98=0|108=3601|1137=9| -> 108: 5
+35=A|98=0|108=30|1137=8| -> 1137: 5
+35=D|52=x| -> unread D
+35=ae| -> unread ae
+";
 
 /// Questions and answers behind a sound header.
-const HOUSE: Table = (
-    "8=FIXT.1.1|9=100|10=000|49=E1|56=GIVEUP|34=2|52=x|",
-    &[
-        ("35=AT|755=01|87=00|", "to 1 says 0"),
-        ("35=AT|755=-5|87=0|", "755: 6"),
-        ("35=AT|755=16000001|87=0|", "755: 5"),
-        ("35=AT|755=1|87=1|", "to 1 says 1"),
-        ("35=AT|755=1|87=2|", "to 1 says 2"),
-        ("35=AT|755=1|87=5|", "to 1 says 5"),
-        ("35=AT|755=1|87=6|", "to 1 says 6"),
-        ("35=AT|755=16000000|87=007|", "to 16000000 says 7"),
-        ("35=AT|755=1|87=3|", "87: 5"),
-        ("35=AT|755=1|87=8|", "87: 5"),
-        ("35=AT|755=1|87=18446744073709551623|", "87: 5"),
-        ("35=AT|755=1|87=-1|", "87: 6"),
-        ("35=AN|710=Q1|724=0|1=A1|", "Q1 asks of A1"),
-        ("35=AN|710=Q1|724=1|1=A1|", "724: 5"),
-        ("35=AN|710=Q 1|724=0|1=A1|", "710: 5"),
-    ],
-);
+const HOUSE: &str = "\
+35=AT|755=01|87=00| -> to 1 says 0
+35=AT|755=-5|87=0| -> 755: 6
+35=AT|755=16000001|87=0| -> 755: 5
+35=AT|755=1|87=1| -> to 1 says 1
+35=AT|755=1|87=2| -> to 1 says 2
+35=AT|755=1|87=5| -> to 1 says 5
+35=AT|755=1|87=6| -> to 1 says 6
+35=AT|755=16000000|87=007| -> to 16000000 says 7
+35=AT|755=1|87=3| -> 87: 5
+35=AT|755=1|87=8| -> 87: 5
+35=AT|755=1|87=18446744073709551623| -> 87: 5
+35=AT|755=1|87=-1| -> 87: 6
+35=AN|710=Q1|724=0|1=A1| -> Q1 asks of A1
+35=AN|710=Q1|724=1|1=A1| -> 724: 5
+35=AN|710=Q 1|724=0|1=A1| -> 710: 5
+";
+
+/// What stands in front of trade capture reports.
+const REPORT: &str =
+    "8=FIXT.1.1|9=100|10=000|35=AE|49=E1|56=GIVEUP|34=2|52=20260105-09:00:00|571=R1|";
 
 /// Trade capture reports behind a sound header.
-const REPORTS: Table = (
-    "8=FIXT.1.1|9=100|10=000|35=AE|49=E1|56=GIVEUP|34=2|52=20260105-09:00:00|571=R1|",
-    &[
-        (
-            "880=M1|55=XF6|32=10|31=1.5|75=20260105|552=1|54=1|1=H1|",
-            "R1 of M1: H1 buys 10 XF6 at 1500000 on (2026, 1, 5)",
-        ),
-        (
-            "880=M1|55=X|32=1|31=-1|552=1|54=1|1=H1|",
-            "R1 of M1: H1 buys 1 X at -1000000",
-        ),
-        ("55=X|32=1|31=1|552=1|54=1|1=H1|", "880: 1"),
-        ("880=M1|880=M1|571=R1|552=x|", "880: 13"),
-        ("880=M1|9=5|571=R1|", "9: 13"),
-        ("880=M1|55=x|32=-5|31=1|552=1|54=1|1=H1|", "55: 5"),
-        ("880=M1|55=X|32=-5|31=1|552=1|54=1|1=H1|", "32: 5"),
-        ("880=M1|55=X|32=1.5|31=1|552=1|54=1|1=H1|", "32: 5"),
-        ("880=M1|55=X|32=a|31=1|552=1|54=1|1=H1|", "32: 6"),
-        ("880=M1|55=X|32=1|31=1|75=2026010|552=1|54=1|1=H1|", "75: 6"),
-        (
-            "880=M1|55=X|32=1|31=1|75=20260230|552=1|54=1|1=H1|",
-            "75: 5",
-        ),
-        ("880=M1|55=X|32=1|31=1|487=1|552=1|54=1|1=H1|", "487: 5"),
-        ("880=M1|55=X|32=1|31=1|43=X|552=1|54=1|1=H1|", "43: 5"),
-    ],
-);
+const REPORTS: &str = "\
+880=M1|55=XF6|32=10|31=1.5|75=20260105|552=1|54=1|1=H1| -> R1 of M1: H1 buys 10 XF6 at 1500000 on (2026, 1, 5)
+880=M1|55=X|32=1|31=-1|552=1|54=1|1=H1| -> R1 of M1: H1 buys 1 X at -1000000
+55=X|32=1|31=1|552=1|54=1|1=H1| -> 880: 1
+880=M1|880=M1|571=R1|552=x| -> 880: 13
+880=M1|9=5|571=R1| -> 9: 13
+880=M1|55=x|32=-5|31=1|552=1|54=1|1=H1| -> 55: 5
+880=M1|55=X|32=-5|31=1|552=1|54=1|1=H1| -> 32: 5
+880=M1|55=X|32=1.5|31=1|552=1|54=1|1=H1| -> 32: 5
+880=M1|55=X|32=a|31=1|552=1|54=1|1=H1| -> 32: 6
+880=M1|55=X|32=1|31=1|75=2026010|552=1|54=1|1=H1| -> 75: 6
+880=M1|55=X|32=1|31=1|75=20260230|552=1|54=1|1=H1| -> 75: 5
+880=M1|55=X|32=1|31=1|487=1|552=1|54=1|1=H1| -> 487: 5
+880=M1|55=X|32=1|31=1|43=X|552=1|54=1|1=H1| -> 43: 5
+";
+
+/// What stands in front of the sides of trade capture reports.
+const SIDE: &str =
+    "8=FIXT.1.1|9=100|10=000|35=AE|49=E1|56=GIVEUP|34=2|52=x|571=R1|880=M1|55=XF6|32=0010.0|31=1|";
 
 /// The sides of trade capture reports.
-const SIDES: Table = (
-    "8=FIXT.1.1|9=100|10=000|35=AE|49=E1|56=GIVEUP|34=2|52=x|571=R1|880=M1|55=XF6|32=0010.0|31=1|",
-    &[
-        ("552=1|54=1|1=H1|", "R1 of M1: H1 buys 10 XF6 at 1000000"),
-        (
-            "552=1|1=Q|54=01|1=H1|",
-            "R1 of M1: H1 buys 10 XF6 at 1000000",
-        ),
-        (
-            "552=01|9999=q|54=1|452=7|1=H1|",
-            "R1 of M1: H1 buys 10 XF6 at 1000000",
-        ),
-        (
-            "54=1|552=1|54=2|1=H1|",
-            "R1 of M1: H1 sells 10 XF6 at 1000000",
-        ),
-        ("552=2|54=1|1=H1|", "552: 16"),
-        ("552=2|54=1|1=H1|54=2|1=H1|", "552: 5"),
-        ("552=0|", "552: 5"),
-        ("552=x|54=1|1=H1|", "552: 6"),
-        ("552=1000000001|54=1|1=H1|", "552: 16"),
-        ("552=18446744073709551617|54=1|1=H1|", "552: 16"),
-        ("552=1|1=H1|54=1|", "1: 1"),
-        ("552=1|54=1|1=H1|1=H1|", "1: 13"),
-        ("552=1|54=1|487=0|1=H1|", "1: 1"),
-        ("552=1|487=0|54=1|1=H1|", "552: 16"),
-        ("552=1|54=B|1=H1|", "54: 6"),
-        ("552=1|54=3|1=H1|", "54: 5"),
-        ("552=1|54=1|1=h1|", "1: 5"),
-        ("", "552: 1"),
-    ],
-);
+const SIDES: &str = "\
+552=1|54=1|1=H1| -> R1 of M1: H1 buys 10 XF6 at 1000000
+552=1|1=Q|54=01|1=H1| -> R1 of M1: H1 buys 10 XF6 at 1000000
+552=01|9999=q|54=1|452=7|1=H1| -> R1 of M1: H1 buys 10 XF6 at 1000000
+54=1|552=1|54=2|1=H1| -> R1 of M1: H1 sells 10 XF6 at 1000000
+552=2|54=1|1=H1| -> 552: 16
+552=2|54=1|1=H1|54=2|1=H1| -> 552: 5
+552=0| -> 552: 5
+552=x|54=1|1=H1| -> 552: 6
+552=1000000001|54=1|1=H1| -> 552: 16
+552=18446744073709551617|54=1|1=H1| -> 552: 16
+552=1|1=H1|54=1| -> 1: 1
+552=1|54=1|1=H1|1=H1| -> 1: 13
+552=1|54=1|487=0|1=H1| -> 1: 1
+552=1|487=0|54=1|1=H1| -> 552: 16
+552=1|54=B|1=H1| -> 54: 6
+552=1|54=3|1=H1| -> 54: 5
+552=1|54=1|1=h1| -> 1: 5
+ -> 552: 1
+";
+
+/// What stands in front of give-ups.
+pub const GIVE_UP: &str = "8=FIXT.1.1|9=100|10=000|35=J|49=E1|56=GIVEUP|34=2|52=x|70=L1|";
 
 /// Give-ups; one may have sixteen parts.
-pub const GIVE_UPS: Table = (
-    "8=FIXT.1.1|9=100|10=000|35=J|49=E1|56=GIVEUP|34=2|52=x|70=L1|",
-    &[
-        (
-            "71=0|53=10|124=1|17=R1|78=2|79=A1|80=4|79=A2|80=6|",
-            "L1 gives up 10 of R1: A1 4 A2 6",
-        ),
-        (
-            "53=10.0|78=2|79=A1|17=q|80=4|79=A1|80=6|124=01|79=q|17=R1|",
-            "L1 gives up 10 of R1: A1 4 A1 6",
-        ),
-        ("53=9|124=1|17=R1|78=1|79=A1|80=10|", "53: 5"),
-        ("53=9|124=1|17=R1|78=1|79=A1|80=x|", "80: 6"),
-        ("53=x|124=1|17=R1|78=1|79=A1|80=x|", "53: 6"),
-        ("53=9|124=1|17=R1|78=2|79=A1|80=4|80=5|79=A2|", "80: 13"),
-        ("53=9|124=1|17=R1|78=1|79=A1|79=A1|", "78: 16"),
-        ("53=9|124=1|78=2|79=A1|", "124: 16"),
-        ("53=9|124=1|17= |78=0|", "17: 5"),
-        (
-            "53=136|124=1|17=R1|78=16|79=A|80=1|79=B|80=2|79=C|80=3|79=D|80=4|79=E|80=5|79=F|80=6|79=G|80=7|79=H|80=8|79=I|80=9|79=J|80=10|79=K|80=11|79=L|80=12|79=M|80=13|79=N|80=14|79=O|80=15|79=P|80=16|",
-            "L1 gives up 136 of R1: A 1 B 2 C 3 D 4 E 5 F 6 G 7 H 8 I 9 J 10 K 11 L 12 M 13 N 14 O 15 P 16",
-        ),
-        (
-            "53=17|124=1|17=R1|78=17|79=A|80=1|79=B|80=1|79=C|80=1|79=D|80=1|79=E|80=1|79=F|80=1|79=G|80=1|79=H|80=1|79=I|80=1|79=J|80=1|79=K|80=1|79=L|80=1|79=M|80=1|79=N|80=1|79=O|80=1|79=P|80=1|79=Q|80=1|",
-            "78: 5",
-        ),
-    ],
-);
+pub const GIVE_UPS: &str = "\
+71=0|53=10|124=1|17=R1|78=2|79=A1|80=4|79=A2|80=6| -> L1 gives up 10 of R1: A1 4 A2 6
+53=10.0|78=2|79=A1|17=q|80=4|79=A1|80=6|124=01|79=q|17=R1| -> L1 gives up 10 of R1: A1 4 A1 6
+53=9|124=1|17=R1|78=1|79=A1|80=10| -> 53: 5
+53=9|124=1|17=R1|78=1|79=A1|80=x| -> 80: 6
+53=x|124=1|17=R1|78=1|79=A1|80=x| -> 53: 6
+53=9|124=1|17=R1|78=2|79=A1|80=4|80=5|79=A2| -> 80: 13
+53=9|124=1|17=R1|78=1|79=A1|79=A1| -> 78: 16
+53=9|124=1|78=2|79=A1| -> 124: 16
+53=9|124=1|17= |78=0| -> 17: 5
+53=136|124=1|17=R1|78=16|79=A|80=1|79=B|80=2|79=C|80=3|79=D|80=4|79=E|80=5|79=F|80=6|79=G|80=7|79=H|80=8|79=I|80=9|79=J|80=10|79=K|80=11|79=L|80=12|79=M|80=13|79=N|80=14|79=O|80=15|79=P|80=16| -> L1 gives up 136 of R1: A 1 B 2 C 3 D 4 E 5 F 6 G 7 H 8 I 9 J 10 K 11 L 12 M 13 N 14 O 15 P 16
+53=17|124=1|17=R1|78=17|79=A|80=1|79=B|80=1|79=C|80=1|79=D|80=1|79=E|80=1|79=F|80=1|79=G|80=1|79=H|80=1|79=I|80=1|79=J|80=1|79=K|80=1|79=L|80=1|79=M|80=1|79=N|80=1|79=O|80=1|79=P|80=1|79=Q|80=1| -> 78: 5
+";
 
 /// Bytes that are a text.
 pub fn text_in(bytes: &[u8]) -> &str {
@@ -275,38 +229,22 @@ pub fn answer(alloc: Global, fields: &Fields) -> Result<String, AllocError> {
 }
 
 /// What the fields of a front and of a text behind it are read as.
-fn answer_behind(alloc: Global, front: &str, text: &str) -> Result<String, AllocError> {
+pub fn told(alloc: Global, front: &str, text: &str) -> Result<String, AllocError> {
     let fields = fields_of(alloc, &format!(in alloc; "{front}{text}")?)?;
     answer(alloc, &fields)
-}
-
-/// The first message of a table that isn't read as its row says.
-pub fn wrong_row(alloc: Global, table: &Table) -> Result<Option<&'static str>, AllocError> {
-    for (text, expected) in table.1 {
-        if answer_behind(alloc, table.0, text)?.as_str() != *expected {
-            return Ok(Some(*text));
-        }
-    }
-    Ok(None)
-}
-
-/// The first row of any table that is wrong in so many turns.
-fn wrong_in_turns(alloc: Global, turns: usize) -> Result<Option<&'static str>, AllocError> {
-    for _ in 0..turns {
-        for table in [&HEADERS, &SESSION, &HOUSE, &REPORTS, &SIDES, &GIVE_UPS] {
-            if let Some(text) = wrong_row(alloc, table)? {
-                return Ok(Some(text));
-            }
-        }
-    }
-    Ok(None)
 }
 
 /// Each row, and thousands of them in a row.
 #[test]
 fn messages_say_what_they_ask_or_name_their_first_fault(rt: HostRuntime) {
-    assert_eq!(rt; wrong_in_turns(rt.alloc(), 1), Ok(None));
-    assert_eq!(rt; wrong_in_turns(rt.alloc(), 200), Ok(None));
+    for _ in 0..201 {
+        check(&rt, rt.alloc(), Subject::Reading(FRAMED), HEADERS);
+        check(&rt, rt.alloc(), Subject::Reading(SOUND), SESSION);
+        check(&rt, rt.alloc(), Subject::Reading(SOUND), HOUSE);
+        check(&rt, rt.alloc(), Subject::Reading(REPORT), REPORTS);
+        check(&rt, rt.alloc(), Subject::Reading(SIDE), SIDES);
+        check(&rt, rt.alloc(), Subject::Reading(GIVE_UP), GIVE_UPS);
+    }
 }
 
 /// Whether a message is read as this.
@@ -327,15 +265,12 @@ fn longest_give_up(alloc: Global) -> Result<String, AllocError> {
     )
 }
 
-/// Whether the longest give-up says its parts, and the message with the most fields has no sender.
-fn are_read(alloc: Global) -> Result<(bool, bool), AllocError> {
-    let parts =
-        "L gives up 16 of R: A 1 B 1 C 1 D 1 E 1 F 1 G 1 H 1 I 1 J 1 K 1 L 1 M 1 N 1 O 1 P 1";
-    let give_up = is_read_as(alloc, &longest_give_up(alloc)?, parts)?;
-    Ok((give_up, is_read_as(alloc, &most_fields(alloc)?, "49: 1")?))
-}
-
 #[test]
 fn messages_of_65_536_bytes_are_read(rt: HostRuntime) {
-    assert_eq!(rt; are_read(rt.alloc()), Ok((true, true)));
+    let parts =
+        "L gives up 16 of R: A 1 B 1 C 1 D 1 E 1 F 1 G 1 H 1 I 1 J 1 K 1 L 1 M 1 N 1 O 1 P 1";
+    let give_up = longest_give_up(rt.alloc()).expect(&rt, "memory");
+    assert_eq!(rt; is_read_as(rt.alloc(), &give_up, parts), Ok(true));
+    let fields = most_fields(rt.alloc()).expect(&rt, "memory");
+    assert_eq!(rt; is_read_as(rt.alloc(), &fields, "49: 1"), Ok(true));
 }

@@ -1,132 +1,129 @@
 //! What a session does with what is faulty, and with messages of its own.
-use crate::talk::wrong_line;
+use crate::talk::follow;
 
 /// The first fault is named; the number is used.
-const REJECTS_WHAT_IS_FAULTY: [&str; 25] = [
-    "in A 1 98=0|108=30|1137=9|",
-    "out A 1 98=0|108=30|1137=9|",
-    "in AE 2 571=R1|55=XF6|32=10|31=101.5|552=1|54=1|1=H1|",
-    "out 3 2 45=2|371=880|372=AE|373=1|",
-    "in AE 3 571=R1|880=M1|55=XF6|32=10|31=101.5|552=2|54=1|1=H1|",
-    "out 3 3 45=3|371=552|372=AE|373=16|",
-    "in AE 4 571=R1|880=M1|55=XF6|32=10|31=101.5|552=2|54=1|1=H1|54=2|1=H2|",
-    "out 3 4 45=4|371=552|372=AE|373=5|",
-    "in D 5 58=x|",
-    "out j 5 45=5|372=D|380=3|",
-    "body 35=0|49=E1|=x|56=GIVEUP|34=0006|52=x|",
-    "out 3 6 45=6|372=0|373=0|",
-    "body 35=AE|49=E1|58=|56=GIVEUP|34=7|52=x|",
-    "out 3 7 45=7|371=58|372=AE|373=4|",
-    "body 35=A-B|49=E1|56=GIVEUP|34=8|52=x|",
-    "out 3 8 45=8|371=35|373=11|",
-    "body 35=|49=E1|56=GIVEUP|34=9|52=x|",
-    "out 3 9 45=9|371=35|373=4|",
-    "in 5 10 52=x|",
-    "out 3 10 45=10|371=52|372=5|373=13|",
-    "in A 11 98=0|",
-    "out 3 11 45=11|371=108|372=A|373=1|",
-    "in ae 12 ",
-    "out j 12 45=12|372=ae|380=3|",
-    "in 0 13 ",
-];
+const REJECTS_WHAT_IS_FAULTY: &str = "\
+in A 1 98=0|108=30|1137=9|
+out A 1 98=0|108=30|1137=9|
+in AE 2 571=R1|55=XF6|32=10|31=101.5|552=1|54=1|1=H1|
+out 3 2 45=2|371=880|372=AE|373=1|
+in AE 3 571=R1|880=M1|55=XF6|32=10|31=101.5|552=2|54=1|1=H1|
+out 3 3 45=3|371=552|372=AE|373=16|
+in AE 4 571=R1|880=M1|55=XF6|32=10|31=101.5|552=2|54=1|1=H1|54=2|1=H2|
+out 3 4 45=4|371=552|372=AE|373=5|
+in D 5 58=x|
+out j 5 45=5|372=D|380=3|
+body 35=0|49=E1|=x|56=GIVEUP|34=0006|52=x|
+out 3 6 45=6|372=0|373=0|
+body 35=AE|49=E1|58=|56=GIVEUP|34=7|52=x|
+out 3 7 45=7|371=58|372=AE|373=4|
+body 35=A-B|49=E1|56=GIVEUP|34=8|52=x|
+out 3 8 45=8|371=35|373=11|
+body 35=|49=E1|56=GIVEUP|34=9|52=x|
+out 3 9 45=9|371=35|373=4|
+in 5 10 52=x|
+out 3 10 45=10|371=52|372=5|373=13|
+in A 11 98=0|
+out 3 11 45=11|371=108|372=A|373=1|
+in ae 12
+out j 12 45=12|372=ae|380=3|
+in 0 13
+";
 
 #[test]
 fn rejects_what_is_faulty(rt: HostRuntime) {
-    assert_eq!(rt; wrong_line(rt.alloc(), &REJECTS_WHAT_IS_FAULTY), Ok(None));
+    follow(&rt, rt.alloc(), REJECTS_WHAT_IS_FAULTY);
 }
 
 /// A sender that isn't the firm, then a target that isn't the house, is rejected once, and the session ends; nothing else is looked at.
-const ENDS_WHERE_A_PARTY_IS_WRONG: [&str; 41] = [
-    "in A 1 98=0|108=30|1137=9|",
-    "out A 1 98=0|108=30|1137=9|",
-    "body 35=AE|49=E2|56=X|34=2|52=x|=|",
-    "out 3 2 45=2|371=49|372=AE|373=9|",
-    "out 5 3 58=CompId|",
-    "close",
-    "new",
-    "in A 1 98=0|108=30|1137=9|",
-    "out A 1 98=0|108=30|1137=9|",
-    "body 35=0|49=E1|56=GIVEUPX|34=2|52=x|",
-    "out 3 2 45=2|371=56|372=0|373=9|",
-    "out 5 3 58=CompId|",
-    "close",
-    "new",
-    "in A 1 98=0|108=30|1137=9|",
-    "out A 1 98=0|108=30|1137=9|",
-    "body 35=0|56=GIVEUP|34=2|52=x|",
-    "out 3 2 45=2|371=49|372=0|373=9|",
-    "out 5 3 58=CompId|",
-    "close",
-    "new",
-    "in A 1 98=0|108=30|1137=9|",
-    "out A 1 98=0|108=30|1137=9|",
-    "body 35=0|49=E1|56=GIVEUP|56=GIVEUP|34=2|52=x|",
-    "out 3 2 45=2|371=56|372=0|373=9|",
-    "out 5 3 58=CompId|",
-    "close",
-    "new",
-    "in A 1 98=0|108=30|1137=9|",
-    "out A 1 98=0|108=30|1137=9|",
-    "body 35=0|49=|56=GIVEUP|34=2|52=x|",
-    "out 3 2 45=2|371=49|372=0|373=9|",
-    "out 5 3 58=CompId|",
-    "close",
-    "new",
-    "in A 1 98=0|108=30|1137=9|",
-    "out A 1 98=0|108=30|1137=9|",
-    "body 35=AE|49=e1|56=GIVEUP|34=2|52=x|",
-    "out 3 2 45=2|371=49|372=AE|373=9|",
-    "out 5 3 58=CompId|",
-    "close",
-];
+const ENDS_WHERE_A_PARTY_IS_WRONG: &str = "\
+in A 1 98=0|108=30|1137=9|
+out A 1 98=0|108=30|1137=9|
+body 35=AE|49=E2|56=X|34=2|52=x|=|
+out 3 2 45=2|371=49|372=AE|373=9|
+out 5 3 58=CompId|
+close
+new
+in A 1 98=0|108=30|1137=9|
+out A 1 98=0|108=30|1137=9|
+body 35=0|49=E1|56=GIVEUPX|34=2|52=x|
+out 3 2 45=2|371=56|372=0|373=9|
+out 5 3 58=CompId|
+close
+new
+in A 1 98=0|108=30|1137=9|
+out A 1 98=0|108=30|1137=9|
+body 35=0|56=GIVEUP|34=2|52=x|
+out 3 2 45=2|371=49|372=0|373=9|
+out 5 3 58=CompId|
+close
+new
+in A 1 98=0|108=30|1137=9|
+out A 1 98=0|108=30|1137=9|
+body 35=0|49=E1|56=GIVEUP|56=GIVEUP|34=2|52=x|
+out 3 2 45=2|371=56|372=0|373=9|
+out 5 3 58=CompId|
+close
+new
+in A 1 98=0|108=30|1137=9|
+out A 1 98=0|108=30|1137=9|
+body 35=0|49=|56=GIVEUP|34=2|52=x|
+out 3 2 45=2|371=49|372=0|373=9|
+out 5 3 58=CompId|
+close
+new
+in A 1 98=0|108=30|1137=9|
+out A 1 98=0|108=30|1137=9|
+body 35=AE|49=e1|56=GIVEUP|34=2|52=x|
+out 3 2 45=2|371=49|372=AE|373=9|
+out 5 3 58=CompId|
+close
+";
 
 #[test]
 fn ends_where_a_party_is_wrong(rt: HostRuntime) {
-    assert_eq!(rt;
-        wrong_line(rt.alloc(), &ENDS_WHERE_A_PARTY_IS_WRONG),
-        Ok(None)
-    );
+    follow(&rt, rt.alloc(), ENDS_WHERE_A_PARTY_IS_WRONG);
 }
 
 /// A TestRequest is answered with its id; a Heartbeat and a Reject by nothing.
-const ANSWERS_A_TEST_REQUEST: [&str; 11] = [
-    "in A 1 98=0|108=30|1137=9|",
-    "out A 1 98=0|108=30|1137=9|",
-    "in 1 2 112=TEST A|",
-    "out 0 2 112=TEST A|",
-    "in 0 3 112=x|",
-    "in 0 4 ",
-    "in 3 5 45=1|",
-    "in 1 6 112=|",
-    "out 3 3 45=6|371=112|372=1|373=4|",
-    "in 1 7 112=A=B|",
-    "out 0 4 112=A=B|",
-];
+const ANSWERS_A_TEST_REQUEST: &str = "\
+in A 1 98=0|108=30|1137=9|
+out A 1 98=0|108=30|1137=9|
+in 1 2 112=TEST A|
+out 0 2 112=TEST A|
+in 0 3 112=x|
+in 0 4
+in 3 5 45=1|
+in 1 6 112=|
+out 3 3 45=6|371=112|372=1|373=4|
+in 1 7 112=A=B|
+out 0 4 112=A=B|
+";
 
 #[test]
 fn answers_a_test_request(rt: HostRuntime) {
-    assert_eq!(rt; wrong_line(rt.alloc(), &ANSWERS_A_TEST_REQUEST), Ok(None));
+    follow(&rt, rt.alloc(), ANSWERS_A_TEST_REQUEST);
 }
 
 /// A Logout is answered by one, and a second Logon by the reason.
-const TAKES_LEAVE: [&str; 14] = [
-    "in A 1 98=0|108=30|1137=9|",
-    "out A 1 98=0|108=30|1137=9|",
-    "in 5 2 58=bye|",
-    "out 5 2 ",
-    "close",
-    "firm E1",
-    "in 0 3 ",
-    "end",
-    "new",
-    "in A 1 98=0|108=30|1137=9|",
-    "out A 1 98=0|108=30|1137=9|",
-    "in A 2 98=0|108=30|1137=9|",
-    "out 5 2 58=LoggedOn|",
-    "close",
-];
+const TAKES_LEAVE: &str = "\
+in A 1 98=0|108=30|1137=9|
+out A 1 98=0|108=30|1137=9|
+in 5 2 58=bye|
+out 5 2
+close
+firm E1
+in 0 3
+end
+new
+in A 1 98=0|108=30|1137=9|
+out A 1 98=0|108=30|1137=9|
+in A 2 98=0|108=30|1137=9|
+out 5 2 58=LoggedOn|
+close
+";
 
 #[test]
 fn takes_leave(rt: HostRuntime) {
-    assert_eq!(rt; wrong_line(rt.alloc(), &TAKES_LEAVE), Ok(None));
+    follow(&rt, rt.alloc(), TAKES_LEAVE);
 }

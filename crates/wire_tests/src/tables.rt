@@ -1,416 +1,223 @@
 //! The table of messages that are read, as docs/rules/messages.md has it, held against what `read` does with each tag.
 use crate::messages::fields_of;
-use gu_msgs::{Fault, MsgFault, read};
+use crate::rows::{columns, first_word};
+use gu_msgs::{MsgFault, read};
 use std::alloc::{AllocError, Global};
+use std::process::Abort;
 
-/// What a value must be: its word in the table.
-#[derive(Clone, Copy)]
-enum Kind {
-    Any,
-    TestReqId,
-    YesOrNo,
-    Id,
-    Name,
-    Lots,
-    Price,
-    Date,
-    /// A whole number, with its word.
-    Number(&'static str),
-    /// A number of entries, with its word.
-    Counter(&'static str),
+/// A block a message. Its first line is its type, its cells of the table, and what stands behind its tags: its groups. Each
+/// other line is a tag that is read: its cell, where a tag in brackets may be absent, a right value, and the reasons and
+/// values that aren't allowed.
+const MESSAGES: &str = "\
+0 -> [112]
+[112] -> x
+
+1 -> 112 of 1 to 1,024 bytes
+112 of 1 to 1,024 bytes -> x -> 5  -> 5 \x01
+
+2 -> 7 (1 and above), 16 (0, or not below 7)
+7 (1 and above) -> 1000000000 -> 5 0 -> 5 1000000001 -> 6 1.0
+16 (0, or not below 7) -> 1000000000 -> 5 1000000001 -> 5 999999999 -> 6 -1
+
+3
+
+4 -> [123] Y or N, 36 (1 and above)
+[123] Y or N -> N -> 5 y -> 5 YN
+36 (1 and above) -> 1000000000 -> 5 0 -> 5 1000000001 -> 6 1.0
+
+A -> 98 (0), 108 (0 to 3,600), 1137 (9), [141] Y or N
+98 (0) -> 00 -> 5 1 -> 6 -0
+108 (0 to 3,600) -> 3600 -> 5 3601 -> 6 x
+1137 (9) -> 09 -> 5 8 -> 5 10 -> 6 x
+[141] Y or N -> Y -> 5 y -> 5 YN
+
+AE -> 571 id, [487] (0), [856] (0), 880 id, 55 name, 32 lots, 31 price, [75] date, 552 (1) -> 54=1|1=H1|
+571 id -> R1 -> 5 R 1 -> 5 \x7f
+[487] (0) -> 0 -> 5 1 -> 6 -0
+[856] (0) -> 0 -> 5 1 -> 6 -0
+880 id -> M1 -> 5 R 1 -> 5 \x7f
+55 name -> XF6 -> 5 a -> 5 ABCDEFGHIJKLM
+32 lots -> 1000000 -> 5 0 -> 5 1000001 -> 5 1.5 -> 6 x
+31 price -> -0.5 -> 5 1000000000 -> 5 0.0000001 -> 6 +1
+[75] date -> 20260105 -> 5 20260230 -> 6 2026010
+552 (1) -> 1
+
+J -> 70 id, [71] (0), 53 lots, 124 (1), 78 (1 to 16) -> 79=A1|80=10|
+70 id -> L1 -> 5 R 1 -> 5 \x7f
+[71] (0) -> 0 -> 5 1 -> 6 -0
+53 lots -> 10 -> 5 0 -> 5 1000001 -> 5 1.5 -> 6 x
+124 (1) -> 1|17=R1
+78 (1 to 16) -> 1
+
+AT -> 755 (1 to 16,000,000), 87 (0, 1, 2, 5, 6 or 7)
+755 (1 to 16,000,000) -> 16000000 -> 5 0 -> 5 16000001 -> 6 -5
+87 (0, 1, 2, 5, 6 or 7) -> 7 -> 5 3 -> 5 4 -> 5 8 -> 6 x
+
+AN -> 710 id, 724 (0), 1 name
+710 id -> Q1 -> 5 R 1 -> 5 \x7f
+724 (0) -> 0 -> 5 1 -> 6 -0
+1 name -> A1 -> 5 a -> 5 ABCDEFGHIJKLM
+";
+
+/// The first line of a block, and the others.
+fn lines_of(block: &str) -> (&str, &str) {
+    block.split_once('\n').unwrap_or((block, ""))
 }
 
-/// A tag that is read: what its value must be, a right value, and values that aren't allowed with the reason.
-#[derive(Clone, Copy)]
-enum Row {
-    /// It must stand.
-    Required(u32, Kind, &'static str, Wrong),
-    /// It may be absent.
-    Optional(u32, Kind, &'static str, Wrong),
+/// The type of a block's message, its cells, and its groups.
+fn head(block: &str) -> (&str, &str, &str) {
+    let (line, _) = lines_of(block);
+    let (msg_type, rest) = columns(line);
+    let (cells, groups) = columns(rest);
+    (msg_type, cells, groups)
 }
 
-/// Values that aren't allowed, and the reason that is told.
-type Wrong = &'static [(&'static str, u64)];
-
-impl Row {
-    fn tag(&self) -> u32 {
-        match self {
-            Row::Required(tag, _, _, _) | Row::Optional(tag, _, _, _) => *tag,
-        }
-    }
-
-    fn kind(&self) -> Kind {
-        match self {
-            Row::Required(_, kind, _, _) | Row::Optional(_, kind, _, _) => *kind,
-        }
-    }
-
-    fn right(&self) -> &'static str {
-        match self {
-            Row::Required(_, _, right, _) | Row::Optional(_, _, right, _) => *right,
-        }
-    }
-
-    fn wrong(&self) -> Wrong {
-        match self {
-            Row::Required(_, _, _, wrong) | Row::Optional(_, _, _, wrong) => *wrong,
-        }
-    }
-
-    fn is_required(&self) -> bool {
-        matches!(self, Row::Required(_, _, _, _))
-    }
+/// The lines of a block's tags.
+fn rows(block: &str) -> &str {
+    let (_, rows) = lines_of(block);
+    rows
 }
 
-/// A message: its type, its cells of the table, its tags, and what stands behind them: its groups.
-struct Message {
-    msg_type: &'static str,
-    cell: &'static str,
-    rows: &'static [Row],
-    groups: &'static str,
+/// The tag of a line.
+fn tag(row: &str) -> &str {
+    let (word, _) = first_word(row);
+    word.trim_start_matches('[').trim_end_matches(']')
 }
 
-const IDS: Wrong = &[("R 1", 5), ("\x7f", 5)];
-
-const NAMES: Wrong = &[("a", 5), ("ABCDEFGHIJKLM", 5)];
-
-const LOTS: Wrong = &[("0", 5), ("1000001", 5), ("1.5", 5), ("x", 6)];
-
-const PRICES: Wrong = &[("1000000000", 5), ("0.0000001", 5), ("+1", 6)];
-
-const DATES: Wrong = &[("20260230", 5), ("2026010", 6)];
-
-const FLAGS: Wrong = &[("y", 5), ("YN", 5)];
-
-const ZERO: Wrong = &[("1", 5), ("-0", 6)];
-
-const FROM_ONE: Wrong = &[("0", 5), ("1000000001", 5), ("1.0", 6)];
-
-const MESSAGES: [Message; 10] = [
-    Message {
-        msg_type: "0",
-        cell: "[112]",
-        rows: &[Row::Optional(112, Kind::Any, "x", &[])],
-        groups: "",
-    },
-    Message {
-        msg_type: "1",
-        cell: "112 of 1 to 1,024 bytes",
-        rows: &[Row::Required(112, Kind::TestReqId, "x", &[("", 5), ("\x01", 5)])],
-        groups: "",
-    },
-    Message {
-        msg_type: "2",
-        cell: "7 (1 and above), 16 (0, or not below 7)",
-        rows: &[
-            Row::Required(7, Kind::Number("(1 and above)"), "1000000000", FROM_ONE),
-            Row::Required(
-                16,
-                Kind::Number("(0, or not below 7)"),
-                "1000000000",
-                &[("1000000001", 5), ("999999999", 5), ("-1", 6)],
-            ),
-        ],
-        groups: "",
-    },
-    Message {
-        msg_type: "3",
-        cell: "",
-        rows: &[],
-        groups: "",
-    },
-    Message {
-        msg_type: "4",
-        cell: "[123] Y or N, 36 (1 and above)",
-        rows: &[
-            Row::Optional(123, Kind::YesOrNo, "N", FLAGS),
-            Row::Required(36, Kind::Number("(1 and above)"), "1000000000", FROM_ONE),
-        ],
-        groups: "",
-    },
-    Message {
-        msg_type: "A",
-        cell: "98 (0), 108 (0 to 3,600), 1137 (9), [141] Y or N",
-        rows: &[
-            Row::Required(98, Kind::Number("(0)"), "00", ZERO),
-            Row::Required(
-                108,
-                Kind::Number("(0 to 3,600)"),
-                "3600",
-                &[("3601", 5), ("x", 6)],
-            ),
-            Row::Required(
-                1137,
-                Kind::Number("(9)"),
-                "09",
-                &[("8", 5), ("10", 5), ("x", 6)],
-            ),
-            Row::Optional(141, Kind::YesOrNo, "Y", FLAGS),
-        ],
-        groups: "",
-    },
-    Message {
-        msg_type: "AE",
-        cell: "571 id, [487] (0), [856] (0), 880 id, 55 name, 32 lots, 31 price, [75] date, 552 (1)",
-        rows: &[
-            Row::Required(571, Kind::Id, "R1", IDS),
-            Row::Optional(487, Kind::Number("(0)"), "0", ZERO),
-            Row::Optional(856, Kind::Number("(0)"), "0", ZERO),
-            Row::Required(880, Kind::Id, "M1", IDS),
-            Row::Required(55, Kind::Name, "XF6", NAMES),
-            Row::Required(32, Kind::Lots, "1000000", LOTS),
-            Row::Required(31, Kind::Price, "-0.5", PRICES),
-            Row::Optional(75, Kind::Date, "20260105", DATES),
-            Row::Required(552, Kind::Counter("(1)"), "1", &[]),
-        ],
-        groups: "54=1|1=H1|",
-    },
-    Message {
-        msg_type: "J",
-        cell: "70 id, [71] (0), 53 lots, 124 (1), 78 (1 to 16)",
-        rows: &[
-            Row::Required(70, Kind::Id, "L1", IDS),
-            Row::Optional(71, Kind::Number("(0)"), "0", ZERO),
-            Row::Required(53, Kind::Lots, "10", LOTS),
-            Row::Required(124, Kind::Counter("(1)"), "1|17=R1", &[]),
-            Row::Required(78, Kind::Counter("(1 to 16)"), "1", &[]),
-        ],
-        groups: "79=A1|80=10|",
-    },
-    Message {
-        msg_type: "AT",
-        cell: "755 (1 to 16,000,000), 87 (0, 1, 2, 5, 6 or 7)",
-        rows: &[
-            Row::Required(
-                755,
-                Kind::Number("(1 to 16,000,000)"),
-                "16000000",
-                &[("0", 5), ("16000001", 5), ("-5", 6)],
-            ),
-            Row::Required(
-                87,
-                Kind::Number("(0, 1, 2, 5, 6 or 7)"),
-                "7",
-                &[("3", 5), ("4", 5), ("8", 5), ("x", 6)],
-            ),
-        ],
-        groups: "",
-    },
-    Message {
-        msg_type: "AN",
-        cell: "710 id, 724 (0), 1 name",
-        rows: &[
-            Row::Required(710, Kind::Id, "Q1", IDS),
-            Row::Required(724, Kind::Number("(0)"), "0", ZERO),
-            Row::Required(1, Kind::Name, "A1", NAMES),
-        ],
-        groups: "",
-    },
-];
-
-/// The word of a kind.
-fn word(kind: Kind) -> &'static str {
-    match kind {
-        Kind::Any => "",
-        Kind::TestReqId => " of 1 to 1,024 bytes",
-        Kind::YesOrNo => " Y or N",
-        Kind::Id => " id",
-        Kind::Name => " name",
-        Kind::Lots => " lots",
-        Kind::Price => " price",
-        Kind::Date => " date",
-        Kind::Number(_) | Kind::Counter(_) => " ",
-    }
+/// A tag with its right value.
+fn right(alloc: Global, row: &str) -> Result<String, AllocError> {
+    let (_, rest) = columns(row);
+    let (right, _) = columns(rest);
+    format!(in alloc; "{}={right}|", tag(row))
 }
 
-/// The range of a number.
-fn range(kind: Kind) -> &'static str {
-    match kind {
-        Kind::Number(range) | Kind::Counter(range) => range,
-        _ => "",
-    }
-}
-
-/// The cell of a message's tags.
-fn cell(alloc: Global, rows: &[Row]) -> Result<String, AllocError> {
+/// The cells of a block's lines.
+fn cells(alloc: Global, block: &str) -> Result<String, AllocError> {
     let mut text = String::new(alloc);
-    for row in rows {
+    for row in rows(block).lines() {
         if !text.is_empty() {
             text.push_str(", ")?;
         }
-        let tag = if row.is_required() {
-            format!(in alloc; "{}", row.tag())?
-        } else {
-            format!(in alloc; "[{}]", row.tag())?
-        };
-        text.push_str(&tag)?;
-        text.push_str(word(row.kind()))?;
-        text.push_str(range(row.kind()))?;
+        let (cell, _) = columns(row);
+        text.push_str(cell)?;
     }
     Ok(text)
 }
 
-/// How a tag stands in a message.
-#[derive(Clone, Copy)]
-enum Standing {
-    /// Once, with its right value, as all others do.
-    Right,
-    /// Not at all.
-    Missing,
-    /// Twice.
-    Twice,
-    /// With this value.
-    With(&'static str),
-}
-
-/// Appends a tag with its right value, or as it stands.
-fn push_tag(
-    alloc: Global,
-    text: &mut String,
-    row: &Row,
-    standing: Standing,
-) -> Result<(), AllocError> {
-    let right = format!(in alloc; "{}={}|", row.tag(), row.right())?;
-    match standing {
-        Standing::Right => text.push_str(&right),
-        Standing::Missing => Ok(()),
-        Standing::Twice => {
-            text.push_str(&right)?;
-            text.push_str(&right)
+/// The tags of a block's message with their right values, but for one in whose place this stands.
+fn tags_with(alloc: Global, block: &str, changed: &str, other: &str) -> Result<String, AllocError> {
+    let mut text = String::new(alloc);
+    for row in rows(block).lines() {
+        if tag(row) == changed {
+            text.push_str(other)?;
+        } else {
+            text.push_str(&right(alloc, row)?)?;
         }
-        Standing::With(value) => text.push_str(&format!(in alloc; "{}={value}|", row.tag())?),
     }
+    Ok(text)
 }
 
-/// The fields of a message in which one tag stands so, as a text.
+/// The fields of a block's message behind these, with this in the place of a tag, as a text.
 fn text_with(
     alloc: Global,
-    message: &Message,
-    tag: u32,
-    standing: Standing,
+    block: &str,
+    front: &str,
+    changed: &str,
+    other: &str,
 ) -> Result<String, AllocError> {
-    let front = "8=FIXT.1.1|9=100|10=000|49=E1|56=GIVEUP|34=2|52=x|9999=a|9999=b|";
-    let mut text = format!(in alloc; "{front}35={}|", message.msg_type)?;
-    for row in message.rows {
-        let here = if row.tag() == tag {
-            standing
-        } else {
-            Standing::Right
-        };
-        push_tag(alloc, &mut text, row, here)?;
-    }
-    text.push_str(message.groups)?;
-    Ok(text)
+    let (msg_type, _, groups) = head(block);
+    let tags = tags_with(alloc, block, changed, other)?;
+    format!(in alloc;
+        "{front}8=FIXT.1.1|9=100|10=000|49=E1|56=GIVEUP|34=2|52=x|9999=a|9999=b|35={msg_type}|{tags}{groups}"
+    )
 }
 
-/// The first fault of a message in which one tag stands so.
-fn fault(
-    alloc: Global,
-    message: &Message,
-    tag: u32,
-    standing: Standing,
-) -> Result<Option<Fault>, AllocError> {
-    let fields = fields_of(alloc, &text_with(alloc, message, tag, standing)?)?;
+/// The reason and the tag of the first fault of a text's fields, or `sound`.
+fn fault(alloc: Global, text: &str) -> Result<String, AllocError> {
+    let fields = fields_of(alloc, text)?;
     match read(alloc, &fields) {
-        Ok(_) => Ok(None),
-        Err(MsgFault::Rejected(fault)) => Ok(Some(fault)),
+        Ok(_) => format!(in alloc; "sound"),
+        Err(MsgFault::Rejected(fault)) => {
+            format!(in alloc; "{} at {}", fault.reason.number(), fault.tag)
+        }
         Err(MsgFault::Memory) => Err(AllocError),
     }
 }
 
-/// Whether a message in which one tag stands so is at fault there for this reason.
-fn is_at_fault(
-    alloc: Global,
-    message: &Message,
-    tag: u32,
-    standing: Standing,
-    reason: u64,
-) -> Result<bool, AllocError> {
-    match fault(alloc, message, tag, standing)? {
-        Some(fault) => Ok(fault.tag == tag && fault.reason.number() == reason),
-        None => Ok(false),
+/// The reason why a block's message with this in the place of a line's tag is at fault there, or `sound`.
+fn reason(alloc: Global, block: &str, row: &str, other: &str) -> Result<String, AllocError> {
+    let text = text_with(alloc, block, "", tag(row), other)?;
+    let fault = fault(alloc, &text)?;
+    match fault.as_str().split_once(" at ") {
+        Some((reason, at)) if at == tag(row) => String::from_str(alloc, reason),
+        _ => Ok(fault),
     }
 }
 
-/// Whether each of a tag's wrong values is refused for its reason.
-fn are_refused(alloc: Global, message: &Message, row: &Row) -> Result<bool, AllocError> {
-    for (value, reason) in row.wrong() {
-        if !is_at_fault(alloc, message, row.tag(), Standing::With(value), *reason)? {
-            return Ok(false);
-        }
-    }
-    Ok(true)
+/// Asserts that with this in the place of its tag a line is told this reason, or `sound`.
+fn check_tag(rt: &impl Abort, alloc: Global, block: &str, row: &str, other: &str, expected: &str) {
+    let reason = reason(alloc, block, row, other).expect(rt, "memory");
+    assert_eq!(rt; reason.as_str(), expected, "{other} in {row}");
 }
 
-/// Whether a tag may be missing exactly where its row says so.
-fn is_missed(alloc: Global, message: &Message, row: &Row) -> Result<bool, AllocError> {
-    if row.is_required() {
-        return is_at_fault(alloc, message, row.tag(), Standing::Missing, 1);
-    }
-    Ok(fault(alloc, message, row.tag(), Standing::Missing)?.is_none())
+/// Asserts that a value is refused for the reason in front of it.
+fn check_wrong(rt: &impl Abort, alloc: Global, block: &str, row: &str, wrong: &str) {
+    let (reason, value) = first_word(wrong);
+    let other = format!(in alloc; "{}={value}|", tag(row)).expect(rt, "memory");
+    check_tag(rt, alloc, block, row, &other, reason);
 }
 
-/// The first tag of a message that isn't read as its row says.
-fn wrong_tag(alloc: Global, message: &Message) -> Result<Option<u32>, AllocError> {
-    for row in message.rows {
-        let is_right = fault(alloc, message, row.tag(), Standing::Right)?.is_none()
-            && is_missed(alloc, message, row)?
-            && is_at_fault(alloc, message, row.tag(), Standing::Twice, 13)?
-            && are_refused(alloc, message, row)?;
-        if !is_right {
-            return Ok(Some(row.tag()));
-        }
+/// Asserts that a line's tag is read as it says.
+fn check_row(rt: &impl Abort, alloc: Global, block: &str, row: &str) {
+    let right = right(alloc, row).expect(rt, "memory");
+    let twice = right.repeat(alloc, 2).expect(rt, "memory");
+    let missing = if row.starts_with('[') { "sound" } else { "1" };
+    check_tag(rt, alloc, block, row, &right, "sound");
+    check_tag(rt, alloc, block, row, "", missing);
+    check_tag(rt, alloc, block, row, &twice, "13");
+    for wrong in row.split(" -> ").skip(2) {
+        check_wrong(rt, alloc, block, row, wrong);
     }
-    Ok(None)
 }
 
 /// Whether a tag is one of a message's own, or of its groups.
-fn is_read(message: &Message, tag: u32) -> bool {
+fn is_read(block: &str, other: &str) -> bool {
+    let (msg_type, _, _) = head(block);
     let is_inner = matches!(
-        (message.msg_type, tag),
-        ("AE", 54 | 1) | ("J", 17 | 79 | 80)
+        (msg_type, other),
+        ("AE", "54" | "1") | ("J", "17" | "79" | "80")
     );
-    is_inner || message.rows.iter().any(|row| row.tag() == tag)
+    is_inner || rows(block).lines().any(|row| tag(row) == other)
 }
 
-/// The first tag of another message's that this one doesn't skip, though it stands twice.
-fn unskipped(
-    alloc: Global,
-    message: &Message,
-    others: &[Message],
-) -> Result<Option<u32>, AllocError> {
-    for other in others {
-        for row in other.rows {
-            if is_read(message, row.tag()) {
-                continue;
-            }
-            let text = text_with(alloc, message, 0, Standing::Right)?;
-            let text = format!(in alloc; "{}={}|{}={}|{text}", row.tag(), "?", row.tag(), "?")?;
-            if read(alloc, &fields_of(alloc, &text)?).is_err() {
-                return Ok(Some(row.tag()));
-            }
-        }
+/// Asserts that a block's message skips a tag that isn't its own, though it stands twice.
+fn check_skipped(rt: &impl Abort, alloc: Global, block: &str, other: &str) {
+    if !is_read(block, other) {
+        let front = format!(in alloc; "{other}=?|{other}=?|").expect(rt, "memory");
+        let text = text_with(alloc, block, &front, "", "").expect(rt, "memory");
+        let fault = fault(alloc, &text).expect(rt, "memory");
+        assert_eq!(rt; fault.as_str(), "sound", "{other} in {block}");
     }
-    Ok(None)
 }
 
-/// The first message whose tags aren't those of the table, or whose cell in the table isn't this one.
-fn wrong_message(alloc: Global) -> Result<Option<(&'static str, u32)>, AllocError> {
-    for message in &MESSAGES {
-        if cell(alloc, message.rows)?.as_str() != message.cell {
-            return Ok(Some((message.msg_type, 0)));
-        }
-        if let Some(tag) = wrong_tag(alloc, message)? {
-            return Ok(Some((message.msg_type, tag)));
-        }
-        if let Some(tag) = unskipped(alloc, message, &MESSAGES)? {
-            return Ok(Some((message.msg_type, tag)));
+/// Asserts that a block's message is read as the block says, and skips the tags of all others.
+fn check_block(rt: &impl Abort, alloc: Global, block: &str) {
+    let (_, expected, _) = head(block);
+    let cells = cells(alloc, block).expect(rt, "memory");
+    assert_eq!(rt; cells.as_str(), expected, "{block}");
+    for row in rows(block).lines() {
+        check_row(rt, alloc, block, row);
+    }
+    for other in MESSAGES.split("\n\n") {
+        for row in rows(other).lines() {
+            check_skipped(rt, alloc, block, tag(row));
         }
     }
-    Ok(None)
 }
 
 #[test]
 fn each_tag_is_read_as_the_table_of_messages_says(rt: HostRuntime) {
-    assert_eq!(rt; wrong_message(rt.alloc()), Ok(None));
+    for block in MESSAGES.split("\n\n") {
+        check_block(&rt, rt.alloc(), block);
+    }
 }

@@ -13,11 +13,12 @@ use crate::messages::wire;
 use crate::words::{notice_of, outcome_of, request_text};
 use crate::writing::{Values, sample};
 use gu_session::{AskRef, Input, Output, Session};
-use gu_terms::{FirmId, Moment};
+use gu_terms::{FirmId, Moment, Side};
 use std::alloc::{AllocError, Global};
+use std::process::Abort;
 
 /// What a conversation has come to.
-pub struct Talk {
+struct Talk {
     session: Session,
     values: Values,
     time: &'static str,
@@ -59,23 +60,17 @@ fn moment_of(time: &str) -> Option<Moment> {
 }
 
 impl Talk {
-    /// A conversation at nine with a session in which E1 and E2 may log on.
-    pub fn new(alloc: Global) -> Result<Option<Talk>, AllocError> {
-        let Some(values) = sample() else {
-            return Ok(None);
-        };
-        let Some(other) = FirmId::new(b"E2") else {
-            return Ok(None);
-        };
+    /// A conversation with a session in which these firms may log on.
+    fn new(alloc: Global, values: Values, other: FirmId) -> Result<Talk, AllocError> {
         let firms = Vec::from_slice(alloc, &[other, values.firm])?;
-        Ok(Some(Talk {
+        Ok(Talk {
             session: Session::new(alloc, firms),
             values,
             time: "09:00:00.000",
             now: values.nine,
             given: Vec::new(alloc),
             asked: None,
-        }))
+        })
     }
 
     /// The input of a line, where it has one.
@@ -86,7 +81,10 @@ impl Talk {
                 Ok(Some(Input::Frame(frame_of(alloc, &body)?)))
             }
             "body" => Ok(Some(Input::Frame(frame_of(alloc, text)?))),
-            "notice" => Ok(Some(Input::Notice(notice_of(&self.values, text)))),
+            "notice" => {
+                let notice = notice_of(&self.values, Side::Buy, text);
+                Ok(notice.map(Input::Notice))
+            }
             "answer" => {
                 let Some(reference) = self.asked else {
                     return Ok(None);
@@ -178,7 +176,6 @@ impl Talk {
     ) -> Result<bool, AllocError> {
         match word {
             "now" => Ok(self.set_clock(text)),
-            "new" => Ok(true),
             "out" => {
                 let body = body_out(alloc, self.time, text)?;
                 self.sends(alloc, &body)
@@ -221,34 +218,37 @@ impl Talk {
     }
 }
 
-/// A conversation that begins anew, where nothing of the one before is left.
-fn begin(alloc: Global, talk: Option<Talk>) -> Result<Option<Talk>, AllocError> {
-    match talk {
-        Some(before) if !before.is_told() => Ok(None),
-        _ => Talk::new(alloc),
+/// A conversation at nine in which E1 and E2 may log on.
+fn at_nine(rt: &impl Abort, alloc: Global) -> Result<Talk, AllocError> {
+    let values = sample().expect(rt, "a sample");
+    let other = FirmId::new(b"E2").expect(rt, "a firm");
+    Talk::new(alloc, values, other)
+}
+
+/// The same, at the second try where the first is refused memory.
+fn begin(rt: &impl Abort, alloc: Global) -> Talk {
+    match at_nine(rt, alloc) {
+        Ok(talk) => talk,
+        Err(_) => at_nine(rt, alloc).expect(rt, "memory"),
     }
 }
 
-/// The first line of conversations that isn't right.
-pub fn wrong_line(
-    alloc: Global,
-    lines: &[&'static str],
-) -> Result<Option<&'static str>, AllocError> {
-    let mut talk = Talk::new(alloc)?;
-    for line in lines {
-        if *line == "new" {
-            talk = begin(alloc, talk)?;
-        }
-        let is_right = match &mut talk {
-            Some(talk) => talk.take_again(alloc, line)?,
-            None => false,
-        };
-        if !is_right {
-            return Ok(Some(*line));
+/// Asserts that a line is right. One that is refused memory is tried once more.
+fn check_line(rt: &impl Abort, alloc: Global, talk: &mut Talk, line: &'static str) {
+    let is_right = talk.take_again(alloc, line).expect(rt, "memory");
+    assert!(rt; is_right, "{line}");
+}
+
+/// Asserts that each line of conversations is right, and that nothing is left at the end of each.
+pub fn follow(rt: &impl Abort, alloc: Global, lines: &'static str) {
+    let mut talk = begin(rt, alloc);
+    for line in lines.lines() {
+        if line == "new" {
+            assert!(rt; talk.is_told(), "something is left");
+            talk = begin(rt, alloc);
+        } else {
+            check_line(rt, alloc, &mut talk, line);
         }
     }
-    match talk {
-        Some(talk) if talk.is_told() => Ok(None),
-        _ => Ok(Some("something is left")),
-    }
+    assert!(rt; talk.is_told(), "something is left");
 }

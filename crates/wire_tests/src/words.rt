@@ -1,10 +1,11 @@
 //! What a session hands out, in words, and outcomes and notices by theirs.
+use crate::rows::first_word;
 use crate::writing::Values;
-use gu_msgs::Request;
+use gu_msgs::{Rejection, Request};
 use gu_session::{Failure, Outcome};
 use gu_terms::{
-    Command, Done, Group, LimitKey, Notice, OfferEvent, OfferNotice, PositionRow, PositionRows,
-    Query, Refusal, Reply, Report, Side,
+    AgreementId, AllocReject, Command, Day, Done, Group, LimitKey, Notice, OfferEvent, OfferNotice,
+    PositionRow, PositionRows, Query, Refusal, Reply, Report, Side,
 };
 use std::alloc::{AllocError, Global};
 
@@ -31,8 +32,29 @@ pub fn request_text(alloc: Global, request: &Request) -> Result<String, AllocErr
     }
 }
 
-/// The notice of a trade.
-fn matched(w: &Values) -> Notice {
+/// A side by its word.
+pub fn side_of(word: &str) -> Side {
+    match word {
+        "sell" => Side::Sell,
+        _ => Side::Buy,
+    }
+}
+
+/// An event of an offer by its words. A refusal has its number.
+pub fn event_of(words: &str) -> Option<OfferEvent> {
+    match words {
+        "offered" => Some(OfferEvent::Offered),
+        "claimed" => Some(OfferEvent::Claimed),
+        "refused 1" => Some(OfferEvent::Refused(AllocReject::BlockLevel)),
+        "refused 2" => Some(OfferEvent::Refused(AllocReject::AccountLevel)),
+        "refused 5" => Some(OfferEvent::Refused(AllocReject::Intermediary)),
+        "reversed" => Some(OfferEvent::Reversed),
+        _ => None,
+    }
+}
+
+/// The notice of entry 7, which made a trade of a report.
+fn matched(w: &Values, side: Side) -> Notice {
     Notice::Matched {
         entry: 7,
         report: Report {
@@ -43,38 +65,36 @@ fn matched(w: &Values) -> Notice {
             lots: w.lots,
             price: w.price,
             day: w.day,
-            side: Side::Buy,
+            side,
             account: w.account,
         },
     }
 }
 
-/// The notice of an offer.
-fn offered(w: &Values, event: OfferEvent) -> Notice {
+/// The notice of an event of the offer.
+fn offered(w: &Values, side: Side, event: OfferEvent) -> Notice {
     Notice::Offer(OfferNotice {
         offer: w.offer,
         event,
         lots: w.lots,
         account: w.account,
         symbol: w.symbol,
-        side: Side::Buy,
+        side,
         price: w.price,
         day: w.day,
     })
 }
 
-/// A notice by its word.
-pub fn notice_of(w: &Values, word: &str) -> Notice {
-    match word {
-        "matched" => matched(w),
-        "claimed" => offered(w, OfferEvent::Claimed),
-        "reversed" => offered(w, OfferEvent::Reversed),
-        _ => offered(w, OfferEvent::Offered),
+/// A notice by its words: of a trade that was matched, or of an event of an offer.
+pub fn notice_of(w: &Values, side: Side, words: &str) -> Option<Notice> {
+    if words == "matched" {
+        return Some(matched(w, side));
     }
+    Some(offered(w, side, event_of(words)?))
 }
 
 /// So many lots done, by the word of what was done.
-fn done_of(w: &Values, word: &str) -> Option<Done> {
+pub fn done_of(w: &Values, word: &str) -> Option<Done> {
     let lots = w.lots;
     match word {
         "open" => Some(Done::Reported { matched: false }),
@@ -87,22 +107,59 @@ fn done_of(w: &Values, word: &str) -> Option<Done> {
         "claimed" => Some(Done::Claimed { lots }),
         "refused" => Some(Done::Refused { lots }),
         "reversed" => Some(Done::Reversed { lots }),
+        "opened" => Some(Done::Opened),
         _ => None,
     }
 }
 
-/// A refusal by its word.
-fn refusal_of(w: &Values, word: &str) -> Option<Refusal> {
+/// The key of a limit by its word.
+fn limit_key_of(w: &Values, word: &str) -> Option<LimitKey> {
     match word {
-        "NoDay" => Some(Refusal::NoDay),
-        "OfferClosed" => Some(Refusal::OfferClosed),
-        "LimitReached" => Some(Refusal::LimitReached(LimitKey::Acct(w.account))),
+        "EXEC" => Some(LimitKey::Exec(w.firm)),
+        "AGR" => Some(LimitKey::Agr(AgreementId::new(b"P1")?)),
+        "ACCT" => Some(LimitKey::Acct(w.account)),
+        "CARRY" => Some(LimitKey::Carry(w.firm)),
+        "GUAR" => Some(LimitKey::Guar(w.firm)),
         _ => None,
     }
 }
 
-/// Ten lots long on the open day, in so many instruments.
-fn rows_of(alloc: Global, w: &Values, count: usize) -> Result<Option<PositionRows>, AllocError> {
+/// A refusal by its words: its name, and the word of the limit that is reached.
+fn refusal_of(w: &Values, words: &str) -> Option<Refusal> {
+    let (name, key) = first_word(words);
+    match name {
+        "NoDay" => Some(Refusal::NoDay),
+        "UnknownInstrument" => Some(Refusal::UnknownInstrument),
+        "UnknownAccount" => Some(Refusal::UnknownAccount),
+        "NotYours" => Some(Refusal::NotYours),
+        "MatchConflict" => Some(Refusal::MatchConflict),
+        "TooManyLots" => Some(Refusal::TooManyLots),
+        "TooManyOffers" => Some(Refusal::TooManyOffers),
+        "UnknownOffer" => Some(Refusal::UnknownOffer),
+        "OfferClosed" => Some(Refusal::OfferClosed),
+        "LimitReached" => Some(Refusal::LimitReached(limit_key_of(w, key)?)),
+        "OfferOpen" => Some(Refusal::OfferOpen),
+        "NothingToReverse" => Some(Refusal::NothingToReverse),
+        _ => None,
+    }
+}
+
+/// Why something isn't in the book, by its words. Other words say that it is.
+pub fn rejection_of(w: &Values, words: &str) -> Option<Rejection> {
+    match words {
+        "Memory" => Some(Rejection::Memory),
+        "Full" => Some(Rejection::Full),
+        _ => Some(Rejection::Refused(refusal_of(w, words)?)),
+    }
+}
+
+/// Ten lots long on this day or on none, in so many instruments.
+pub fn rows_of(
+    alloc: Global,
+    w: &Values,
+    day: Option<Day>,
+    count: usize,
+) -> Result<PositionRows, AllocError> {
     let mut rows = Vec::new(alloc);
     for _ in 0..count {
         rows.push(PositionRow {
@@ -111,10 +168,7 @@ fn rows_of(alloc: Global, w: &Values, count: usize) -> Result<Option<PositionRow
             short: 0,
         })?;
     }
-    Ok(Some(PositionRows {
-        day: Some(w.day),
-        rows,
-    }))
+    Ok(PositionRows { day, rows })
 }
 
 /// An outcome by its word: what was done, why it wasn't, or positions.
@@ -128,8 +182,8 @@ pub fn outcome_of(alloc: Global, w: &Values, word: &str) -> Result<Outcome, Allo
     match word {
         "Memory" => Ok(Outcome::Failed(Failure::Memory)),
         "Full" => Ok(Outcome::Failed(Failure::Full)),
-        "rows" => Ok(Outcome::Positions(rows_of(alloc, w, 1)?)),
-        "empty" => Ok(Outcome::Positions(rows_of(alloc, w, 0)?)),
+        "rows" => Ok(Outcome::Positions(Some(rows_of(alloc, w, Some(w.day), 1)?))),
+        "empty" => Ok(Outcome::Positions(Some(rows_of(alloc, w, Some(w.day), 0)?))),
         _ => Ok(Outcome::Positions(None)),
     }
 }

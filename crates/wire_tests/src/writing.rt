@@ -1,5 +1,7 @@
 //! What messages are written as.
-use crate::messages::{fields_of, first_of, text_of};
+use crate::messages::{fields_of, text_of};
+use crate::rows::{Subject, check, first_word, number};
+use crate::words::{event_of, rejection_of, side_of};
 use gu_msgs::outbound::{
     AllocationInstructionAck, AllocationReport, Body, BusinessMessageReject, PositionReport,
     Reject, RequestForPositionsAck, TradeCaptureReport, TradeCaptureReportAck,
@@ -9,8 +11,7 @@ use gu_msgs::{
     TestReqId, TypeCode, write, write_over,
 };
 use gu_terms::{
-    AccountId, AgreementId, AllocReject, Day, FirmId, Id, LimitKey, Lots, Moment, OfferEvent,
-    OfferNo, Price, Refusal, Side, Symbol,
+    AccountId, Day, FirmId, Id, Lots, Moment, OfferEvent, OfferNo, Price, Side, Symbol,
 };
 use std::alloc::{AllocError, Global};
 
@@ -56,71 +57,185 @@ pub fn at_nine(w: &Values, body: Body) -> Outbound {
     }
 }
 
-/// The notice of a side of a trade at this price, which entry 7 made.
-fn side_notice(w: &Values, side: Side, last_px: Price) -> Outbound {
-    let body = Body::TradeCaptureReport(TradeCaptureReport {
+/// Messages, and what they are written as, but for those parts of the header that each of them has.
+pub const ROWS: &str = "\
+logon 30 -> 35=A|98=0|108=30|1137=9|
+logon 0 reset -> 35=A|98=0|108=0|1137=9|141=Y|
+heartbeat -> 35=0|
+heartbeat a =b -> 35=0|112=a =b|
+test-request -> 35=1|112=TEST|
+resend-request 2 -> 35=2|7=2|16=0|
+sequence-reset 106 -> 35=4|123=Y|36=106|
+logout -> 35=5|
+logout SeqTooLow -> 35=5|58=SeqTooLow|
+reject 880 AE 1 -> 35=3|45=2|371=880|372=AE|373=1|
+reject 35 A! 11 -> 35=3|45=2|371=35|373=11|
+reject 0 D 0 -> 35=3|45=2|372=D|373=0|
+unread D -> 35=j|45=4|372=D|380=3|
+at-refused Memory -> 35=j|45=4|379=1|372=AT|380=0|58=Memory|
+at-refused Full -> 35=j|45=4|379=1|372=AT|380=0|58=Full|
+at-refused NoDay -> 35=j|45=4|379=1|372=AT|380=0|58=NoDay|
+at-refused NotYours -> 35=j|45=4|379=1|372=AT|380=0|58=NotYours|
+at-refused UnknownOffer -> 35=j|45=4|379=1|372=AT|380=0|58=UnknownOffer|
+at-refused OfferClosed -> 35=j|45=4|379=1|372=AT|380=0|58=OfferClosed|
+at-refused OfferOpen -> 35=j|45=4|379=1|372=AT|380=0|58=OfferOpen|
+at-refused NothingToReverse -> 35=j|45=4|379=1|372=AT|380=0|58=NothingToReverse|
+at-refused TooManyOffers -> 35=j|45=4|379=1|372=AT|380=0|58=TooManyOffers|
+at-refused UnknownInstrument -> 35=j|45=4|379=1|372=AT|380=0|58=UnknownInstrument|
+at-refused LimitReached EXEC -> 35=j|45=4|379=1|372=AT|380=0|58=LimitReached EXEC E1|
+at-refused LimitReached AGR -> 35=j|45=4|379=1|372=AT|380=0|58=LimitReached AGR P1|
+at-refused LimitReached ACCT -> 35=j|45=4|379=1|372=AT|380=0|58=LimitReached ACCT A1|
+at-refused LimitReached CARRY -> 35=j|45=4|379=1|372=AT|380=0|58=LimitReached CARRY E1|
+at-refused LimitReached GUAR -> 35=j|45=4|379=1|372=AT|380=0|58=LimitReached GUAR E1|
+report -> 35=AR|571=R1|880=M1|939=0|
+report UnknownAccount -> 35=AR|571=R1|880=M1|939=1|751=1|58=UnknownAccount|
+report Full -> 35=AR|571=R1|880=M1|939=1|751=99|58=Full|
+give-up -> 35=P|70=R1|87=0|
+give-up Memory -> 35=P|70=R1|87=1|88=99|58=Memory|
+question 1 -> 35=AO|721=R1-0|710=R1|728=0|729=0|727=1|1=A1|
+question NoPositionsFound -> 35=AO|721=R1-0|710=R1|728=2|729=0|727=0|1=A1|
+question NotAuthorized -> 35=AO|721=R1-0|710=R1|728=3|729=2|727=0|1=A1|
+side buy 101500000 -> 35=AE|571=7-B|572=R1|573=0|880=M1|55=XF6|32=10|31=101.5|75=20260105|552=1|54=1|1=A1|
+side sell 101500000 -> 35=AE|571=7-S|572=R1|573=0|880=M1|55=XF6|32=10|31=101.5|75=20260105|552=1|54=2|1=A1|
+event offered -> 35=AS|755=1|71=0|794=8|87=6|55=XF6|54=1|53=10|6=101.5|75=20260105|78=1|79=A1|80=10|
+event claimed -> 35=AS|755=1|71=0|794=9|87=0|55=XF6|54=1|53=10|6=101.5|75=20260105|78=1|79=A1|80=10|
+event refused 1 -> 35=AS|755=1|71=0|794=10|87=1|55=XF6|54=1|53=10|6=101.5|75=20260105|78=1|79=A1|80=10|
+event refused 2 -> 35=AS|755=1|71=0|794=10|87=2|55=XF6|54=1|53=10|6=101.5|75=20260105|78=1|79=A1|80=10|
+event refused 5 -> 35=AS|755=1|71=0|794=10|87=5|55=XF6|54=1|53=10|6=101.5|75=20260105|78=1|79=A1|80=10|
+event reversed -> 35=AS|755=1|71=0|794=9|87=7|55=XF6|54=1|53=10|6=101.5|75=20260105|78=1|79=A1|80=10|
+position -> 35=AP|721=R1-2|710=R1|728=0|715=20260105|1=A1|55=XF6|702=1|703=TQ|704=10|705=0|
+side buy 0 -> 35=AE|571=7-B|572=R1|573=0|880=M1|55=XF6|32=10|31=0|75=20260105|552=1|54=1|1=A1|
+side buy -250000 -> 35=AE|571=7-B|572=R1|573=0|880=M1|55=XF6|32=10|31=-0.25|75=20260105|552=1|54=1|1=A1|
+side buy 23000000 -> 35=AE|571=7-B|572=R1|573=0|880=M1|55=XF6|32=10|31=23|75=20260105|552=1|54=1|1=A1|
+side buy 1500000 -> 35=AE|571=7-B|572=R1|573=0|880=M1|55=XF6|32=10|31=1.5|75=20260105|552=1|54=1|1=A1|
+side buy 100000001 -> 35=AE|571=7-B|572=R1|573=0|880=M1|55=XF6|32=10|31=100.000001|75=20260105|552=1|54=1|1=A1|
+side buy -999999999999999 -> 35=AE|571=7-B|572=R1|573=0|880=M1|55=XF6|32=10|31=-999999999.999999|75=20260105|552=1|54=1|1=A1|
+";
+
+/// Why the house ends a session, by its word.
+fn logout_reason(word: &str) -> Option<LogoutReason> {
+    match word {
+        "SeqTooLow" => Some(LogoutReason::SeqTooLow),
+        _ => None,
+    }
+}
+
+/// Why a message is rejected, by the number.
+fn reject_reason(word: &str) -> SessionRejectReason {
+    match word {
+        "1" => SessionRejectReason::RequiredTagMissing,
+        "11" => SessionRejectReason::InvalidMsgType,
+        _ => SessionRejectReason::InvalidTagNumber,
+    }
+}
+
+/// A Logon with this interval, which resets the numbers where `reset` stands behind it.
+fn logon(words: &str) -> Body {
+    let (interval, flag) = first_word(words);
+    Body::Logon {
+        heart_bt_int: number(interval),
+        resets_seq_num: flag == "reset",
+    }
+}
+
+/// A Reject of message 2, by the tag, the type and the number of the reason.
+fn reject(words: &str) -> Body {
+    let (tag, rest) = first_word(words);
+    let (msg_type, reason) = first_word(rest);
+    Body::Reject(Reject {
+        ref_seq_num: 2,
+        ref_tag_id: tag.parse().unwrap_or(1),
+        ref_msg_type: TypeCode::new(msg_type.as_bytes()),
+        reason: reject_reason(reason),
+    })
+}
+
+/// A BusinessMessageReject of message 4.
+fn business_reject(reason: BusinessRejectReason) -> Body {
+    Body::BusinessMessageReject(BusinessMessageReject {
+        ref_seq_num: 4,
+        reason,
+    })
+}
+
+/// A BusinessMessageReject of message 4, an AT on offer 1 that was refused so.
+fn at_refused(w: &Values, word: &str) -> Option<Body> {
+    Some(business_reject(BusinessRejectReason::Other {
+        offer: w.offer,
+        rejection: rejection_of(w, word)?,
+    }))
+}
+
+/// A BusinessMessageReject of message 4, whose type isn't read.
+fn unread(word: &str) -> Option<Body> {
+    let code = TypeCode::new(word.as_bytes())?;
+    Some(business_reject(BusinessRejectReason::UnsupportedMessageType(code)))
+}
+
+/// The answer to a report, by why it was refused.
+fn report_ack(w: &Values, word: &str) -> Body {
+    Body::TradeCaptureReportAck(TradeCaptureReportAck {
+        trade_report_id: w.id,
+        trd_match_id: w.match_id,
+        rejection: rejection_of(w, word),
+    })
+}
+
+/// The answer to a give-up, by why it was refused.
+fn give_up_ack(w: &Values, word: &str) -> Body {
+    Body::AllocationInstructionAck(AllocationInstructionAck {
+        alloc_id: w.id,
+        rejection: rejection_of(w, word),
+    })
+}
+
+/// The answer to a question for positions: so many follow, or why none does.
+fn question_ack(w: &Values, word: &str) -> Body {
+    let outcome = match word {
+        "NoPositionsFound" => PosReqResult::NoPositionsFound,
+        "NotAuthorized" => PosReqResult::NotAuthorized,
+        _ => PosReqResult::ValidRequest(number(word)),
+    };
+    Body::RequestForPositionsAck(RequestForPositionsAck {
+        pos_req_id: w.id,
+        outcome,
+        account: w.account,
+    })
+}
+
+/// The notice of a side of a trade at a price in millionths, which entry 7 made.
+fn side_notice(w: &Values, words: &str) -> Option<Body> {
+    let (side, price) = first_word(words);
+    Some(Body::TradeCaptureReport(TradeCaptureReport {
         entry: 7,
         trade_report_ref_id: w.id,
         trd_match_id: w.match_id,
         symbol: w.symbol,
         last_qty: w.lots,
-        last_px,
+        last_px: Price::new(price.parse().ok()?)?,
         trade_date: w.day,
-        side,
+        side: side_of(side),
         account: w.account,
-    });
-    at_nine(w, body)
+    }))
 }
 
 /// The notice of an event of an offer.
-fn offer_notice(w: &Values, event: OfferEvent) -> Outbound {
-    let body = Body::AllocationReport(AllocationReport {
+fn offer_notice(w: &Values, words: &str) -> Option<Body> {
+    Some(Body::AllocationReport(AllocationReport {
         alloc_report_id: w.offer,
-        event,
+        event: event_of(words)?,
         symbol: w.symbol,
         side: Side::Buy,
         quantity: w.lots,
         avg_px: w.price,
         trade_date: w.day,
         account: w.account,
-    });
-    at_nine(w, body)
-}
-
-/// The answer to a report.
-fn report_ack(w: &Values, rejection: Option<Rejection>) -> Outbound {
-    let ack = TradeCaptureReportAck {
-        trade_report_id: w.id,
-        trd_match_id: w.match_id,
-        rejection,
-    };
-    at_nine(w, Body::TradeCaptureReportAck(ack))
-}
-
-/// The answer to a give-up.
-fn give_up_ack(w: &Values, rejection: Option<Rejection>) -> Outbound {
-    at_nine(
-        w,
-        Body::AllocationInstructionAck(AllocationInstructionAck {
-            alloc_id: w.id,
-            rejection,
-        }),
-    )
-}
-
-/// The answer to a question for positions.
-fn question_ack(w: &Values, outcome: PosReqResult) -> Outbound {
-    let ack = RequestForPositionsAck {
-        pos_req_id: w.id,
-        outcome,
-        account: w.account,
-    };
-    at_nine(w, Body::RequestForPositionsAck(ack))
+    }))
 }
 
 /// The second position that answers a question.
-fn position(w: &Values) -> Outbound {
-    let body = Body::PositionReport(PositionReport {
+fn position(w: &Values) -> Body {
+    Body::PositionReport(PositionReport {
         pos_req_id: w.id,
         place: 2,
         clearing_business_date: w.day,
@@ -128,8 +243,49 @@ fn position(w: &Values) -> Outbound {
         symbol: w.symbol,
         long_qty: 10,
         short_qty: 0,
-    });
-    at_nine(w, body)
+    })
+}
+
+/// What a message of the session says.
+fn session_body(word: &str, rest: &str) -> Option<Body> {
+    match word {
+        "logon" => Some(logon(rest)),
+        "test-request" => Some(Body::TestRequest),
+        "resend-request" => Some(Body::ResendRequest(number(rest))),
+        "sequence-reset" => Some(Body::SequenceReset(number(rest))),
+        "logout" => Some(Body::Logout(logout_reason(rest))),
+        "reject" => Some(reject(rest)),
+        "unread" => unread(rest),
+        _ => None,
+    }
+}
+
+/// What an answer or a notice says.
+fn house_body(w: &Values, word: &str, rest: &str) -> Option<Body> {
+    match word {
+        "at-refused" => at_refused(w, rest),
+        "report" => Some(report_ack(w, rest)),
+        "give-up" => Some(give_up_ack(w, rest)),
+        "question" => Some(question_ack(w, rest)),
+        "side" => side_notice(w, rest),
+        "event" => offer_notice(w, rest),
+        "position" => Some(position(w)),
+        _ => session_body(word, rest),
+    }
+}
+
+/// A Heartbeat that answers a TestRequest with this id.
+fn heartbeat(alloc: Global, id: &str) -> Result<Body, AllocError> {
+    Ok(Body::Heartbeat(TestReqId::new(alloc, id.as_bytes())?))
+}
+
+/// What the message of a row says.
+fn body_of(alloc: Global, w: &Values, words: &str) -> Result<Option<Body>, AllocError> {
+    let (word, rest) = first_word(words);
+    if word == "heartbeat" {
+        return Ok(Some(heartbeat(alloc, rest)?));
+    }
+    Ok(house_body(w, word, rest))
 }
 
 /// The fields of a message, as a text.
@@ -138,377 +294,25 @@ fn written(alloc: Global, message: &Outbound) -> Result<String, AllocError> {
     text_of(alloc, &fields)
 }
 
-/// What a message that is sent at nine is to say behind its header, where it isn't of this type or doesn't say it.
-pub fn wrong(
-    alloc: Global,
-    message: Outbound,
-    msg_type: &str,
-    text: &'static str,
-) -> Result<Option<&'static str>, AllocError> {
+/// What a message that is sent at nine is written as, but for those parts of the header that each has, where it has them.
+pub fn text_at_nine(alloc: Global, w: &Values, body: Body) -> Result<String, AllocError> {
+    let text = written(alloc, &at_nine(w, body))?;
     let head = "49=GIVEUP|56=E1|34=3|52=20260105-09:00:00.000|";
-    let expected = format!(in alloc; "35={msg_type}|{head}{text}")?;
-    let found = written(alloc, &message)?;
-    Ok(if found.as_str() == expected.as_str() {
-        None
-    } else {
-        Some(text)
-    })
-}
-
-/// The first message of the session that isn't written as its row says.
-fn wrong_session(alloc: Global, w: &Values) -> Result<Option<&'static str>, AllocError> {
-    let too_low = Some(LogoutReason::SeqTooLow);
-    let rows = [
-        (logon(w, 30, false), "A", "98=0|108=30|1137=9|"),
-        (logon(w, 0, true), "A", "98=0|108=0|1137=9|141=Y|"),
-        (at_nine(w, Body::Heartbeat(None)), "0", ""),
-        (heartbeat(alloc, w, "a =b")?, "0", "112=a =b|"),
-        (at_nine(w, Body::TestRequest), "1", "112=TEST|"),
-        (at_nine(w, Body::ResendRequest(2)), "2", "7=2|16=0|"),
-        (at_nine(w, Body::SequenceReset(106)), "4", "123=Y|36=106|"),
-        (at_nine(w, Body::Logout(None)), "5", ""),
-        (at_nine(w, Body::Logout(too_low)), "5", "58=SeqTooLow|"),
-    ];
-    for (message, msg_type, text) in rows {
-        if let Some(text) = wrong(alloc, message, msg_type, text)? {
-            return Ok(Some(text));
-        }
+    match text.as_str().split_once(head) {
+        Some((msg_type, rest)) => format!(in alloc; "{msg_type}{rest}"),
+        None => Ok(text),
     }
-    Ok(None)
 }
 
-/// A Logon.
-fn logon(w: &Values, heart_bt_int: u64, resets_seq_num: bool) -> Outbound {
-    at_nine(
-        w,
-        Body::Logon {
-            heart_bt_int,
-            resets_seq_num,
-        },
-    )
-}
-
-/// A Heartbeat that answers a TestRequest with this id.
-fn heartbeat(alloc: Global, w: &Values, id: &str) -> Result<Outbound, AllocError> {
-    let id = TestReqId::new(alloc, id.as_bytes())?;
-    Ok(at_nine(w, Body::Heartbeat(id)))
-}
-
-/// A Reject of message 2, of this type.
-fn reject(w: &Values, ref_tag_id: u32, msg_type: &[u8], reason: SessionRejectReason) -> Outbound {
-    at_nine(
-        w,
-        Body::Reject(Reject {
-            ref_seq_num: 2,
-            ref_tag_id,
-            ref_msg_type: TypeCode::new(msg_type),
-            reason,
-        }),
-    )
-}
-
-/// A BusinessMessageReject of message 4.
-fn business_reject(w: &Values, reason: BusinessRejectReason) -> Outbound {
-    let body = BusinessMessageReject {
-        ref_seq_num: 4,
-        reason,
-    };
-    at_nine(w, Body::BusinessMessageReject(body))
-}
-
-/// A BusinessMessageReject of message 4, an AT on offer 1 that was refused so.
-fn at_refused(w: &Values, rejection: Rejection) -> Outbound {
-    let offer = w.offer;
-    business_reject(w, BusinessRejectReason::Other { offer, rejection })
-}
-
-/// The refusals of an AT, and the texts of a BusinessMessageReject for them.
-const REFUSED: [(Refusal, &str); 8] = [
-    (Refusal::NoDay, "45=4|379=1|372=AT|380=0|58=NoDay|"),
-    (Refusal::NotYours, "45=4|379=1|372=AT|380=0|58=NotYours|"),
-    (
-        Refusal::UnknownOffer,
-        "45=4|379=1|372=AT|380=0|58=UnknownOffer|",
-    ),
-    (
-        Refusal::OfferClosed,
-        "45=4|379=1|372=AT|380=0|58=OfferClosed|",
-    ),
-    (Refusal::OfferOpen, "45=4|379=1|372=AT|380=0|58=OfferOpen|"),
-    (
-        Refusal::NothingToReverse,
-        "45=4|379=1|372=AT|380=0|58=NothingToReverse|",
-    ),
-    (
-        Refusal::TooManyOffers,
-        "45=4|379=1|372=AT|380=0|58=TooManyOffers|",
-    ),
-    (
-        Refusal::UnknownInstrument,
-        "45=4|379=1|372=AT|380=0|58=UnknownInstrument|",
-    ),
-];
-
-/// The first refusal of an AT that isn't told so.
-fn wrong_refusal(alloc: Global, w: &Values) -> Result<Option<&'static str>, AllocError> {
-    for (refusal, text) in &REFUSED {
-        let message = at_refused(w, Rejection::Refused(*refusal));
-        if let Some(text) = wrong(alloc, message, "j", *text)? {
-            return Ok(Some(text));
-        }
-    }
-    Ok(None)
-}
-
-/// A claim that is refused since this key has no room.
-fn limit_reached(w: &Values, key: LimitKey) -> Outbound {
-    at_refused(w, Rejection::Refused(Refusal::LimitReached(key)))
-}
-
-/// Keys, and the texts of a BusinessMessageReject for a claim that they leave no room.
-fn keys(w: &Values, agreement: AgreementId) -> [(LimitKey, &'static str); 5] {
-    [
-        (
-            LimitKey::Exec(w.firm),
-            "45=4|379=1|372=AT|380=0|58=LimitReached EXEC E1|",
-        ),
-        (
-            LimitKey::Agr(agreement),
-            "45=4|379=1|372=AT|380=0|58=LimitReached AGR P1|",
-        ),
-        (
-            LimitKey::Acct(w.account),
-            "45=4|379=1|372=AT|380=0|58=LimitReached ACCT A1|",
-        ),
-        (
-            LimitKey::Carry(w.firm),
-            "45=4|379=1|372=AT|380=0|58=LimitReached CARRY E1|",
-        ),
-        (
-            LimitKey::Guar(w.firm),
-            "45=4|379=1|372=AT|380=0|58=LimitReached GUAR E1|",
-        ),
-    ]
-}
-
-/// The first limit that isn't named so.
-fn wrong_limit(alloc: Global, w: &Values) -> Result<Option<&'static str>, AllocError> {
-    let Some(agreement) = AgreementId::new(b"P1") else {
-        return Ok(Some("no agreement"));
-    };
-    for (key, text) in &keys(w, agreement) {
-        if let Some(text) = wrong(alloc, limit_reached(w, *key), "j", *text)? {
-            return Ok(Some(text));
-        }
-    }
-    Ok(None)
-}
-
-/// The first rejection that isn't written as it is to be: the type is named where it has the form of one.
-fn wrong_rejection(alloc: Global, w: &Values) -> Result<Option<&'static str>, AllocError> {
-    let missing = SessionRejectReason::RequiredTagMissing;
-    let no_type = SessionRejectReason::InvalidMsgType;
-    let no_tag = SessionRejectReason::InvalidTagNumber;
-    let Some(code) = TypeCode::new(b"D") else {
-        return Ok(Some("no code"));
-    };
-    let unread = BusinessRejectReason::UnsupportedMessageType(code);
-    let rows = [
-        (
-            reject(w, 880, b"AE", missing),
-            "3",
-            "45=2|371=880|372=AE|373=1|",
-        ),
-        (reject(w, 35, b"A!", no_type), "3", "45=2|371=35|373=11|"),
-        (reject(w, 0, b"D", no_tag), "3", "45=2|372=D|373=0|"),
-        (business_reject(w, unread), "j", "45=4|372=D|380=3|"),
-        (
-            at_refused(w, Rejection::Memory),
-            "j",
-            "45=4|379=1|372=AT|380=0|58=Memory|",
-        ),
-        (
-            at_refused(w, Rejection::Full),
-            "j",
-            "45=4|379=1|372=AT|380=0|58=Full|",
-        ),
-    ];
-    for (message, msg_type, text) in rows {
-        if let Some(text) = wrong(alloc, message, msg_type, text)? {
-            return Ok(Some(text));
-        }
-    }
-    Ok(None)
-}
-
-/// Why a report was refused, and the text of its answer.
-const REPORT_ACKS: [(Option<Rejection>, &str); 3] = [
-    (None, "571=R1|880=M1|939=0|"),
-    (
-        Some(Rejection::Refused(Refusal::UnknownAccount)),
-        "571=R1|880=M1|939=1|751=1|58=UnknownAccount|",
-    ),
-    (Some(Rejection::Full), "571=R1|880=M1|939=1|751=99|58=Full|"),
-];
-
-/// The first answer to a report that isn't written as its row says.
-fn wrong_report_ack(alloc: Global, w: &Values) -> Result<Option<&'static str>, AllocError> {
-    for (rejection, text) in &REPORT_ACKS {
-        if let Some(text) = wrong(alloc, report_ack(w, *rejection), "AR", *text)? {
-            return Ok(Some(text));
-        }
-    }
-    Ok(None)
-}
-
-/// Why a give-up was refused, and the text of its answer.
-const GIVE_UP_ACKS: [(Option<Rejection>, &str); 2] = [
-    (None, "70=R1|87=0|"),
-    (Some(Rejection::Memory), "70=R1|87=1|88=99|58=Memory|"),
-];
-
-/// The first answer to a give-up that isn't written as its row says.
-fn wrong_give_up_ack(alloc: Global, w: &Values) -> Result<Option<&'static str>, AllocError> {
-    for (rejection, text) in &GIVE_UP_ACKS {
-        if let Some(text) = wrong(alloc, give_up_ack(w, *rejection), "P", *text)? {
-            return Ok(Some(text));
-        }
-    }
-    Ok(None)
-}
-
-/// What a question for positions comes to, and the text of its answer.
-const QUESTION_ACKS: [(PosReqResult, &str); 3] = [
-    (
-        PosReqResult::ValidRequest(1),
-        "721=R1-0|710=R1|728=0|729=0|727=1|1=A1|",
-    ),
-    (
-        PosReqResult::NoPositionsFound,
-        "721=R1-0|710=R1|728=2|729=0|727=0|1=A1|",
-    ),
-    (
-        PosReqResult::NotAuthorized,
-        "721=R1-0|710=R1|728=3|729=2|727=0|1=A1|",
-    ),
-];
-
-/// The first answer to a question for positions that isn't written as its row says.
-fn wrong_question_ack(alloc: Global, w: &Values) -> Result<Option<&'static str>, AllocError> {
-    for (outcome, text) in &QUESTION_ACKS {
-        if let Some(text) = wrong(alloc, question_ack(w, *outcome), "AO", *text)? {
-            return Ok(Some(text));
-        }
-    }
-    Ok(None)
-}
-
-/// The sides of a trade, and the texts of their notices.
-const SIDES: [(Side, &str); 2] = [
-    (
-        Side::Buy,
-        "571=7-B|572=R1|573=0|880=M1|55=XF6|32=10|31=101.5|75=20260105|552=1|54=1|1=A1|",
-    ),
-    (
-        Side::Sell,
-        "571=7-S|572=R1|573=0|880=M1|55=XF6|32=10|31=101.5|75=20260105|552=1|54=2|1=A1|",
-    ),
-];
-
-/// The first notice of a side that isn't written as its row says.
-fn wrong_side(alloc: Global, w: &Values) -> Result<Option<&'static str>, AllocError> {
-    for (side, text) in &SIDES {
-        if let Some(text) = wrong(alloc, side_notice(w, *side, w.price), "AE", *text)? {
-            return Ok(Some(text));
-        }
-    }
-    Ok(None)
-}
-
-/// The events of an offer, and the texts of their notices.
-const EVENTS: [(OfferEvent, &str); 6] = [
-    (
-        OfferEvent::Offered,
-        "755=1|71=0|794=8|87=6|55=XF6|54=1|53=10|6=101.5|75=20260105|78=1|79=A1|80=10|",
-    ),
-    (
-        OfferEvent::Claimed,
-        "755=1|71=0|794=9|87=0|55=XF6|54=1|53=10|6=101.5|75=20260105|78=1|79=A1|80=10|",
-    ),
-    (
-        OfferEvent::Refused(AllocReject::BlockLevel),
-        "755=1|71=0|794=10|87=1|55=XF6|54=1|53=10|6=101.5|75=20260105|78=1|79=A1|80=10|",
-    ),
-    (
-        OfferEvent::Refused(AllocReject::AccountLevel),
-        "755=1|71=0|794=10|87=2|55=XF6|54=1|53=10|6=101.5|75=20260105|78=1|79=A1|80=10|",
-    ),
-    (
-        OfferEvent::Refused(AllocReject::Intermediary),
-        "755=1|71=0|794=10|87=5|55=XF6|54=1|53=10|6=101.5|75=20260105|78=1|79=A1|80=10|",
-    ),
-    (
-        OfferEvent::Reversed,
-        "755=1|71=0|794=9|87=7|55=XF6|54=1|53=10|6=101.5|75=20260105|78=1|79=A1|80=10|",
-    ),
-];
-
-/// The first notice of an event that isn't written as its row says.
-fn wrong_event(alloc: Global, w: &Values) -> Result<Option<&'static str>, AllocError> {
-    for (event, text) in &EVENTS {
-        if let Some(text) = wrong(alloc, offer_notice(w, *event), "AS", *text)? {
-            return Ok(Some(text));
-        }
-    }
-    Ok(None)
-}
-
-/// What a position is to be written as, where it isn't.
-fn wrong_position(alloc: Global, w: &Values) -> Result<Option<&'static str>, AllocError> {
-    let text = "721=R1-2|710=R1|728=0|715=20260105|1=A1|55=XF6|702=1|703=TQ|704=10|705=0|";
-    wrong(alloc, position(w), "AP", text)
-}
-
-/// A price in millionths, and its text.
-const PRICES: [(i64, &str); 6] = [
-    (0, "|31=0|"),
-    (-250_000, "|31=-0.25|"),
-    (23_000_000, "|31=23|"),
-    (1_500_000, "|31=1.5|"),
-    (100_000_001, "|31=100.000001|"),
-    (-999_999_999_999_999, "|31=-999999999.999999|"),
-];
-
-/// The first price that isn't written as its row says.
-fn wrong_price(alloc: Global, w: &Values) -> Result<Option<&'static str>, AllocError> {
-    for (number, text) in &PRICES {
-        let message = side_notice(w, Side::Buy, Price::new(*number).unwrap_or(w.price));
-        if !written(alloc, &message)?.as_str().contains(*text) {
-            return Ok(Some(*text));
-        }
-    }
-    Ok(None)
-}
-
-/// The first row of any table that is wrong.
-pub fn wrong_table(alloc: Global) -> Result<Option<&'static str>, AllocError> {
+/// What the message of a row is written as.
+pub fn told(alloc: Global, words: &str) -> Result<String, AllocError> {
     let Some(w) = sample() else {
-        return Ok(Some("no sample"));
+        return format!(in alloc; "no sample");
     };
-    let texts = [
-        wrong_session(alloc, &w)?,
-        wrong_rejection(alloc, &w)?,
-        wrong_refusal(alloc, &w)?,
-        wrong_limit(alloc, &w)?,
-        wrong_report_ack(alloc, &w)?,
-        wrong_give_up_ack(alloc, &w)?,
-        wrong_question_ack(alloc, &w)?,
-        wrong_side(alloc, &w)?,
-        wrong_event(alloc, &w)?,
-        wrong_position(alloc, &w)?,
-        wrong_price(alloc, &w)?,
-    ];
-    Ok(first_of(&texts))
+    match body_of(alloc, &w, words)? {
+        Some(body) => text_at_nine(alloc, &w, body),
+        None => format!(in alloc; "no message"),
+    }
 }
 
 /// Whether a TestRequest that is sent again says when it is sent and when it was sent first.
@@ -525,13 +329,13 @@ fn is_marked(alloc: Global) -> Option<bool> {
 
 #[test]
 fn each_message_is_written_as_the_standard_has_it(rt: HostRuntime) {
-    assert_eq!(rt; wrong_table(rt.alloc()), Ok(None));
+    check(&rt, rt.alloc(), Subject::Writing, ROWS);
     assert_eq!(rt; is_marked(rt.alloc()), Some(true));
 }
 
 /// Whether a position is written over these fields as it is anywhere.
 fn is_written_over(alloc: Global, w: &Values, room: &str) -> Result<bool, AllocError> {
-    let message = position(w);
+    let message = at_nine(w, position(w));
     let fields = write_over(alloc, fields_of(alloc, room)?, &message)?;
     Ok(text_of(alloc, &fields)?.as_str() == written(alloc, &message)?.as_str())
 }
@@ -551,13 +355,14 @@ fn a_message_is_written_in_the_room_of_fields(rt: HostRuntime) {
 
 /// How many bytes the text of a Heartbeat has that answers an id of so many bytes.
 fn heartbeat_length(alloc: Global, w: &Values, length: usize) -> Result<usize, AllocError> {
-    let message = heartbeat(alloc, w, &"x".repeat(alloc, length)?)?;
+    let body = heartbeat(alloc, &"x".repeat(alloc, length)?)?;
+    let message = at_nine(w, body);
     Ok(written(alloc, &message)?.len())
 }
 
 /// How many bytes the text of a position has that is written so many times.
 fn position_length(alloc: Global, w: &Values, times: usize) -> Result<usize, AllocError> {
-    let message = position(w);
+    let message = at_nine(w, position(w));
     let mut length = 0;
     for _ in 0..times {
         length = written(alloc, &message)?.len();
