@@ -20,6 +20,7 @@ ghost use Rattle.gu_offers.specs.Rows.{Row, left_in, row_at, today_in};
 ghost use Rattle.gu_book.specs.Limits.{path_behind};
 ghost use Rattle.gu_book.specs.Met.{IsMet};
 
+use crate::agreed::LinePlaces;
 use crate::met::{Met, MetOffer};
 use crate::totals::Totals;
 use gu_limits::{LimitTable, Places, path_by};
@@ -180,13 +181,22 @@ fn has_unknown_account_without(reference: &Reference, lines: &[Line], lacks: boo
     lacks && has_unknown_account(reference, lines)
 }
 
-/// Whether the firm has no agreement for the account of one of the lines.
-fn lacks_agreement(reference: &Reference, firm: FirmId, lines: &[Line]) -> bool
-    ensures { result ≡ lacks_agreement reference.now firm lines.now }
+/// Whether the firm has no agreement for the account of one of the lines. The places of those that it has are noted.
+fn lacks_agreement(
+    reference: &Reference,
+    firm: &FirmId,
+    lines: &[Line],
+    agreed: &mut LinePlaces,
+) -> bool
+    ensures { result ≡ lacks_agreement reference.now firm.now lines.now }
 {
-    lines
-        .iter()
-        .any(|line| reference.between(firm, line.account).is_none())
+    for line in lines {
+        let Some(place) = reference.place_between(*firm, line.account) else {
+            return true;
+        };
+        agreed.note(place);
+    }
+    false
 }
 
 /// Why lines of a firm's report can't be given up in its group, if they can't.
@@ -226,6 +236,7 @@ fn answer_to_give_up(
     id: &Id,
     report: &Id,
     lines: &Lines,
+    agreed: &mut LinePlaces,
 ) -> Reply
     requires { length totals.now.offers < 16000000 }
     ensures { result ≡ answer_in reference.now (state_in totals.now) (Command.GiveUp firm.now id.now report.now lines.now) }
@@ -233,7 +244,7 @@ fn answer_to_give_up(
     if totals.today.is_none() {
         return Reply::Denied(Refusal::NoDay);
     }
-    let lacks = lacks_agreement(reference, *firm, lines.as_slice());
+    let lacks = lacks_agreement(reference, firm, lines.as_slice(), agreed);
     if has_unknown_account_without(reference, lines.as_slice(), lacks) {
         return Reply::Denied(Refusal::UnknownAccount);
     }
@@ -390,7 +401,8 @@ fn claimed_by(
     let Some(offer) = totals.offers.get(number) else {
         return Err(Refusal::UnknownOffer);
     };
-    let partner = reference.partner(offer.firm, offer.account);
+    let place = totals.agreed.of(number);
+    let partner = reference.partner_near(offer.firm, offer.account, place);
     if is_anothers(reference, &offer, &partner, firm) {
         return Err(Refusal::NotYours);
     }
@@ -512,7 +524,7 @@ pub fn answer_of(reference: &Reference, totals: &Totals, command: &Command, met:
             id,
             report,
             lines,
-        } => answer_to_give_up(reference, totals, firm, id, report, lines),
+        } => answer_to_give_up(reference, totals, firm, id, report, lines, &mut met.agreed),
         Command::Claim { firm, offer } => answer_to_claim(reference, totals, *firm, *offer, met),
         Command::Refuse { firm, offer, why } => {
             answer_to_refusal(reference, totals, *firm, *offer, *why)

@@ -1,6 +1,7 @@
 //! The book: a reference, and the history of all that was entered.
 #![tactic(auto)]
 
+mod agreed;
 mod answering;
 mod book;
 mod current;

@@ -11,6 +11,7 @@ ghost use Rattle.gu_book.specs.Effects.{SameAnswers};
 ghost use Rattle.gu_book.specs.Accepted.{MayClaim, MayReverse, MayTakeIn, TakesIn, group_answered};
 ghost use Rattle.gu_book.specs.Met.{IsMet, IsMetOffer};
 
+use crate::agreed::LinePlaces;
 use crate::met::{Met, MetOffer};
 use crate::totals::Totals;
 use gu_ref::Reference;
@@ -27,6 +28,7 @@ fn take_in_give_up(
     report: &Id,
     group: &Group,
     lines: &Lines,
+    agreed: &LinePlaces,
 ) -> Result<(), AllocError>
     requires may { MayTakeIn reference.now totals.old (Command.GiveUp firm.now id.now report.now lines.now) }
     requires group { option_map (λ g. g.1) (given_up reference.now (state_in totals.old) firm.now report.now) ≡ Some group.now }
@@ -36,7 +38,7 @@ fn take_in_give_up(
 {
     // The lines tell how many they are.
     let _ = lines.as_slice();
-    totals.give_up(firm, id, report, group, lines)
+    totals.give_up(firm, id, report, group, lines, agreed)
 }
 
 /// A claim is taken in, of an offer that its answer met.
@@ -140,7 +142,16 @@ pub fn take_in(
             let Some(group) = group_answered(reply) else {
                 unreachable!();
             };
-            take_in_give_up(totals, reference, firm, id, report, &group, lines)
+            take_in_give_up(
+                totals,
+                reference,
+                firm,
+                id,
+                report,
+                &group,
+                lines,
+                &met.agreed,
+            )
         }
         Command::Claim { firm: _, offer } => {
             let Some(claimed) = &met.claimed else {
