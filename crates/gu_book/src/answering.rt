@@ -20,7 +20,6 @@ ghost use Rattle.gu_offers.specs.Rows.{Row, left_in, row_at, today_in};
 ghost use Rattle.gu_book.specs.Limits.{path_behind};
 ghost use Rattle.gu_book.specs.Met.{IsMet};
 
-use crate::agreed::LinePlaces;
 use crate::met::{Met, MetOffer};
 use crate::totals::Totals;
 use gu_limits::{LimitTable, Places, path_by};
@@ -181,22 +180,13 @@ fn has_unknown_account_without(reference: &Reference, lines: &[Line], lacks: boo
     lacks && has_unknown_account(reference, lines)
 }
 
-/// Whether the firm has no agreement for the account of one of the lines. The places of those that it has are noted.
-fn lacks_agreement(
-    reference: &Reference,
-    firm: &FirmId,
-    lines: &[Line],
-    agreed: &mut LinePlaces,
-) -> bool
-    ensures { result ≡ lacks_agreement reference.now firm.now lines.now }
+/// Whether the firm has no agreement for the account of one of the lines.
+fn lacks_agreement(reference: &Reference, firm: FirmId, lines: &[Line]) -> bool
+    ensures { result ≡ lacks_agreement reference.now firm lines.now }
 {
-    for line in lines {
-        let Some(place) = reference.place_between(*firm, line.account) else {
-            return true;
-        };
-        agreed.note(place);
-    }
-    false
+    lines
+        .iter()
+        .any(|line| reference.between(firm, line.account).is_none())
 }
 
 /// Why lines of a firm's report can't be given up in its group, if they can't.
@@ -236,7 +226,6 @@ fn answer_to_give_up(
     id: &Id,
     report: &Id,
     lines: &Lines,
-    agreed: &mut LinePlaces,
 ) -> Reply
     requires { length totals.now.offers < 16000000 }
     ensures { result ≡ answer_in reference.now (state_in totals.now) (Command.GiveUp firm.now id.now report.now lines.now) }
@@ -244,7 +233,7 @@ fn answer_to_give_up(
     if totals.today.is_none() {
         return Reply::Denied(Refusal::NoDay);
     }
-    let lacks = lacks_agreement(reference, firm, lines.as_slice(), agreed);
+    let lacks = lacks_agreement(reference, *firm, lines.as_slice());
     if has_unknown_account_without(reference, lines.as_slice(), lacks) {
         return Reply::Denied(Refusal::UnknownAccount);
     }
@@ -401,8 +390,7 @@ fn claimed_by(
     let Some(offer) = totals.offers.get(number) else {
         return Err(Refusal::UnknownOffer);
     };
-    let place = totals.agreed.of(number);
-    let partner = reference.partner_near(offer.firm, offer.account, place);
+    let partner = reference.partner(offer.firm, offer.account);
     if is_anothers(reference, &offer, &partner, firm) {
         return Err(Refusal::NotYours);
     }
@@ -524,7 +512,7 @@ pub fn answer_of(reference: &Reference, totals: &Totals, command: &Command, met:
             id,
             report,
             lines,
-        } => answer_to_give_up(reference, totals, firm, id, report, lines, &mut met.agreed),
+        } => answer_to_give_up(reference, totals, firm, id, report, lines),
         Command::Claim { firm, offer } => answer_to_claim(reference, totals, *firm, *offer, met),
         Command::Refuse { firm, offer, why } => {
             answer_to_refusal(reference, totals, *firm, *offer, *why)

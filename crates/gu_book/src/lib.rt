@@ -1,7 +1,6 @@
 //! The book: a reference, and the history of all that was entered.
 #![tactic(auto)]
 
-mod agreed;
 mod answering;
 mod book;
 mod current;

@@ -2,7 +2,6 @@
 
 ghost use Rattle.std.specs.Prelude.{◌≡◌, None};
 
-use crate::agreed::LinePlaces;
 use gu_limits::Places;
 use gu_terms::{Offer, Path};
 use gu_trades::Terms;
@@ -22,8 +21,6 @@ pub struct MetOffer {
 pub struct Met {
     /// By a report: the terms of the one that waits for it, where one does.
     pub waiting: Option<Terms>,
-    /// By a give-up: where the agreements of its lines stand.
-    pub agreed: LinePlaces,
     /// By a claim: what is claimed.
     pub claimed: Option<MetOffer>,
 }
@@ -36,7 +33,6 @@ impl Met {
     {
         Met {
             waiting: None,
-            agreed: LinePlaces::none(),
             claimed: None,
         }
     }

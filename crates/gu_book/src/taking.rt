@@ -11,7 +11,6 @@ ghost use Rattle.gu_book.specs.Effects.{SameAnswers};
 ghost use Rattle.gu_book.specs.Accepted.{MayClaim, MayReverse, MayTakeIn, TakesIn, group_answered};
 ghost use Rattle.gu_book.specs.Met.{IsMet, IsMetOffer};
 
-use crate::agreed::LinePlaces;
 use crate::met::{Met, MetOffer};
 use crate::totals::Totals;
 use gu_ref::Reference;
@@ -28,7 +27,6 @@ fn take_in_give_up(
     report: &Id,
     group: &Group,
     lines: &Lines,
-    agreed: &LinePlaces,
 ) -> Result<(), AllocError>
     requires may { MayTakeIn reference.now totals.old (Command.GiveUp firm.now id.now report.now lines.now) }
     requires group { option_map (λ g. g.1) (given_up reference.now (state_in totals.old) firm.now report.now) ≡ Some group.now }
@@ -38,7 +36,7 @@ fn take_in_give_up(
 {
     // The lines tell how many they are.
     let _ = lines.as_slice();
-    totals.give_up(firm, id, report, group, lines, agreed)
+    totals.give_up(firm, id, report, group, lines)
 }
 
 /// A claim is taken in, of an offer that its answer met.
@@ -142,16 +140,7 @@ pub fn take_in(
             let Some(group) = group_answered(reply) else {
                 unreachable!();
             };
-            take_in_give_up(
-                totals,
-                reference,
-                firm,
-                id,
-                report,
-                &group,
-                lines,
-                &met.agreed,
-            )
+            take_in_give_up(totals, reference, firm, id, report, &group, lines)
         }
         Command::Claim { firm: _, offer } => {
             let Some(claimed) = &met.claimed else {

@@ -21,7 +21,6 @@ ghost use Rattle.gu_book.specs.Limits.{path_behind};
 ghost use Rattle.gu_book.specs.Moving.{given_by};
 ghost use Rattle.gu_book.specs.Reports.{Fits};
 
-use crate::agreed::{LinePlaces, OfferPlaces};
 use crate::answering::path_of_offer;
 use crate::met::MetOffer;
 use gu_limits::{LimitTable, SetError};
@@ -48,8 +47,6 @@ pub struct Totals {
     pub trades: Trades,
     /// The offers that were made, as they stand.
     pub offers: Offers,
-    /// Where the agreements stood by which they were made.
-    pub agreed: OfferPlaces,
     /// The give-ups that were accepted.
     pub give_ups: IndexSet<GiveUpKey, Seed>,
     /// The limits that were set, with what is used of them today.
@@ -64,14 +61,12 @@ impl Drop for Totals {
             today: _,
             trades,
             offers,
-            agreed,
             give_ups,
             limits,
             positions,
         } = self;
         drop(trades);
         drop(offers);
-        drop(agreed);
         drop(give_ups);
         drop(limits);
         drop(positions);
@@ -92,7 +87,6 @@ impl Totals {
             today: None,
             trades: Trades::seeded(alloc, seed),
             offers: Offers::seeded(alloc, seed),
-            agreed: OfferPlaces::new(alloc),
             give_ups: IndexSet::with_hasher(alloc, seed),
             limits: LimitTable::new(alloc),
             positions: Positions::new(alloc),
@@ -172,7 +166,7 @@ impl Totals {
         Ok(())
     }
 
-    /// Lines of a report are given up, whose agreements stand at these places.
+    /// Lines of a report are given up.
     pub fn give_up(
         &mut self,
         firm: &FirmId,
@@ -180,7 +174,6 @@ impl Totals {
         report: &Id,
         group: &Group,
         lines: &Lines,
-        agreed: &LinePlaces,
     ) -> Result<(), AllocError>
         requires new_id { is_kept_give_up self.old.give_ups.keys firm.now id.now ≡ false }
         requires numbers { length self.old.offers + length lines.now ≤ 16000000 }
@@ -192,15 +185,12 @@ impl Totals {
         ensures positions { self.new.positions ≡ self.old.positions }
         ensures refused { OnErr result (SameAnswers self.old self.new) }
     {
-        let count = lines.as_slice().len();
-        self.agreed.make_room(count)?;
         self.give_ups.reserve(1)?;
         self.offers.give_up(*firm, *report, *group, lines)?;
         self.give_ups.insert(GiveUpKey {
             firm: *firm,
             id: *id,
         })?;
-        self.agreed.append(agreed, count);
         Ok(())
     }
 

@@ -10,7 +10,7 @@ ghost use Rattle.gu_book.specs.Shown.{rooms_in, shown_at, view_in};
 
 use crate::totals::Totals;
 use crate::versions::Versions;
-use gu_limits::{LimitTable, path_near};
+use gu_limits::{LimitTable, path_between};
 use gu_ref::Reference;
 use gu_terms::{Group, LimitKey, OfferNo};
 use gu_view::{KeyedOffers, Offer, Room, View};
@@ -28,8 +28,7 @@ pub fn shown_offer(reference: &Reference, totals: &Totals, number: u64) -> Optio
     reference.rules();
     let number = OfferNo::new(number)?;
     let offer = totals.offers.get(number)?;
-    let place = totals.agreed.of(number);
-    let (agreement, path) = path_near(reference, offer.firm, offer.account, place)?;
+    let (agreement, path) = path_between(reference, offer.firm, offer.account)?;
     let lots = totals.offers.left(number);
     Some(Offer {
         number,

@@ -7,6 +7,6 @@ mod places;
 mod table;
 
 pub use error::SetError;
-pub use paths::{path, path_between, path_by, path_near};
+pub use paths::{path, path_between, path_by};
 pub use places::Places;
 pub use table::LimitTable;

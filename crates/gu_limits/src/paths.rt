@@ -77,22 +77,8 @@ pub fn path_between(
     ensures keys { IfSome result (λ p. path_of reference.now p.0 ≡ Some p.1) }
     ensures once { IfSome result (λ p. IsDistinct key_eq p.1) }
 {
-    path_near(reference, executing, account, usize::MAX)
-}
-
-/// The same. An agreement that stands at a place among those of the reference isn't looked up, and a wrong place changes nothing.
-pub fn path_near(
-    reference: &Reference,
-    executing: FirmId,
-    account: AccountId,
-    place: usize,
-) -> Option<(AgreementId, Path)>
-    ensures agreement { option_map (λ p. p.0) result ≡ agreement_between reference.now executing account }
-    ensures keys { IfSome result (λ p. path_of reference.now p.0 ≡ Some p.1) }
-    ensures once { IfSome result (λ p. IsDistinct key_eq p.1) }
-{
     reference.rules();
-    let partner = reference.partner_near(executing, account, place)?;
+    let partner = reference.partner(executing, account)?;
     let path = path_by(reference, &executing, &account, &partner);
     Some((partner.agreement, path))
 }

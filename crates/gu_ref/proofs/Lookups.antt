@@ -1,8 +1,7 @@
 -- A look-up by hash answers as a search of the list, and a new row goes last.
-use Rattle.std.proofs.Common.{◌≡◌, ◌∙◌, sym, refl, ap, Bool, true, false, cond, is_some, ◌||◌, if◌then◌else◌, ◌&&◌, ℕ, List, [], ◌∷◌, ◌++◌, map, Option, None, Some}
+use Rattle.std.proofs.Common.{◌≡◌, ◌∙◌, sym, refl, ap, Bool, true, false, cond, is_some, ◌||◌, if◌then◌else◌, ◌&&◌, ℕ, List, [], ◌∷◌, ◌++◌, map, None, Some}
 use Rattle.std.proofs.lemmas.List.{map-append}
 use Rattle.std.specs.List.{find, list_any}
-use Rattle.std.specs.Option.{option_map}
 use Rattle.std.specs.Map.{keys_of, values_of, lookup}
 use Rattle.std.specs.Cmp.{IsEquivalence}
 use Rattle.std.specs.Str.{bytes_eq}
@@ -66,8 +65,3 @@ inserted eq laws kept rows k new view none is =
 pub is_some-find : {X : Type 0} (test : X → Bool) (rows : List X) → is_some (find test rows) ≡ list_any test rows
 is_some-find test [] = refl
 is_some-find test (x ∷ rows) = elim (test x) as (λ b. is_some (cond b (Some x) (find test rows)) ≡ (b || list_any test rows)) [ true ↦ refl | false ↦ is_some-find test rows ]
-
--- what is made of a row is there where the row is
-pub is_some-option_map : {X Y : Type 0} (f : X → Y) (row : Option X) → is_some (option_map f row) ≡ is_some row
-is_some-option_map f None = refl
-is_some-option_map f (Some x) = refl

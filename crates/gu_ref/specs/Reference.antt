@@ -1,5 +1,5 @@
 -- What a reference says of a name.
-use Rattle.std.specs.Prelude.{ℕ, Bool, Option, position}
+use Rattle.std.specs.Prelude.{Bool, Option}
 use Rattle.std.specs.List.{list_any}
 use Rattle.std.specs.Option.{option_and_then, option_map}
 use Rattle.gu_terms.specs.declared.firm.FirmId.{FirmId}
@@ -12,7 +12,7 @@ use Rattle.gu_ref.specs.declared.accounts.Account.{Account}
 use Rattle.gu_ref.specs.declared.agreements.Agreement.{Agreement}
 use Rattle.gu_ref.specs.declared.partner.Partner.{Partner}
 use Rattle.gu_terms.specs.Same.{same_symbol}
-use Rattle.gu_ref.specs.Listed.{has_firm, has_group, instrument_in, account_in, agreement_in, agreement_for, guarantor_for, is_between, is_guarantor_in}
+use Rattle.gu_ref.specs.Listed.{has_firm, has_group, instrument_in, account_in, agreement_in, agreement_for, guarantor_for, is_guarantor_in}
 use Rattle.gu_ref.specs.Tables.{Tables}
 
 -- the reference has this firm
@@ -42,10 +42,6 @@ agreement_row reference id = agreement_in reference.agreements id
 -- the agreement by which this firm gives up to this account
 abbrev pub agreement_between : Tables → FirmId → AccountId → Option AgreementId
 agreement_between reference executing account = option_map (λ a. a.id) (agreement_for reference.agreements executing account)
-
--- the place of this agreement among all: how many stand before it
-abbrev pub place_between : Tables → FirmId → AccountId → Option ℕ
-place_between reference executing account = position (is_between executing account) reference.agreements
 
 -- this agreement, with the firm that carries the account
 abbrev pub partner_between : Tables → FirmId → AccountId → Option Partner

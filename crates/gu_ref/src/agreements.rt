@@ -1,7 +1,6 @@
 //! The agreements of a reference, in the order of their rows.
 
-ghost use Rattle.std.specs.Prelude.{◌≡◌, ◌++◌, ◌∷◌, [], None, if◌then◌else◌, is_some, position, OnOk, OnErr};
-ghost use Rattle.std.specs.Option.{option_map};
+ghost use Rattle.std.specs.Prelude.{◌≡◌, ◌++◌, ◌∷◌, [], None, if◌then◌else◌, is_some, OnOk, OnErr};
 ghost use Rattle.indexmap.specs.IndexMap.{insert_entry};
 ghost use Rattle.std.specs.Result.{is_ok};
 
@@ -25,18 +24,10 @@ struct Pair {
     account: AccountId,
 }
 
-/// What stands under a pair: the agreement's name, and where the row of its account stands. The place is a guess alone: who takes it sees whether
-/// the row is the one that is meant.
-#[derive(Clone, Copy, Debug)]
-pub(crate) struct Paired {
-    pub(crate) id: AgreementId,
-    pub(crate) place: usize,
-}
-
 /// Agreements, each name and each pair once. To a contract it is the list of them.
 pub(crate) struct Agreements {
     rows: IndexMap<AgreementId, Agreement>,
-    pairs: IndexMap<Pair, Paired>,
+    pairs: IndexMap<Pair, Agreement>,
 }
 
 impl Drop for Agreements {
@@ -61,49 +52,40 @@ impl Model for Agreements {
     ghost invariant = { IsKept };
 }
 
-/// Puts an agreement under its pair, with the place of its account.
-fn pair_up(
-    pairs: &mut IndexMap<Pair, Paired>,
-    agreement: &Agreement,
-    place: usize,
-) -> Result<(), AllocError>
+/// Puts an agreement under its pair.
+fn pair_up(pairs: &mut IndexMap<Pair, Agreement>, agreement: &Agreement) -> Result<(), AllocError>
     ensures paired { OnOk result (pairs.new.entries ≡ insert_entry ⟦<Pair as PartialEq>⟧.eq pairs.old.entries
-        (record { executing = agreement.now.executing; account = agreement.now.account }) (record { id = agreement.now.id; place = place })) }
+        (record { executing = agreement.now.executing; account = agreement.now.account }) agreement.now) }
     ensures err { OnErr result (pairs.new.entries ≡ pairs.old.entries) }
 {
     let pair = Pair {
         executing: agreement.executing,
         account: agreement.account,
     };
-    let paired = Paired {
-        id: agreement.id,
-        place,
-    };
-    pairs.insert(pair, paired)?;
+    pairs.insert(pair, *agreement)?;
     Ok(())
 }
 
 /// Puts an agreement under its name and under its pair. The growths come first, so that a refusal leaves both as they were.
 fn add(
     rows: &mut IndexMap<AgreementId, Agreement>,
-    pairs: &mut IndexMap<Pair, Paired>,
+    pairs: &mut IndexMap<Pair, Agreement>,
     agreement: &Agreement,
-    place: usize,
 ) -> Result<(), AllocError>
     ensures named { OnOk result (rows.new.entries
         ≡ insert_entry ⟦<AgreementId as PartialEq>⟧.eq rows.old.entries agreement.now.id agreement.now) }
     ensures paired { OnOk result (pairs.new.entries ≡ insert_entry ⟦<Pair as PartialEq>⟧.eq pairs.old.entries
-        (record { executing = agreement.now.executing; account = agreement.now.account }) (record { id = agreement.now.id; place = place })) }
+        (record { executing = agreement.now.executing; account = agreement.now.account }) agreement.now) }
     ensures err { OnErr result ((rows.new.entries ≡ rows.old.entries) × (pairs.new.entries ≡ pairs.old.entries)) }
 {
     rows.reserve(1)?;
-    pair_up(pairs, agreement, place)?;
+    pair_up(pairs, agreement)?;
     let _ = rows.insert(agreement.id, *agreement);
     Ok(())
 }
 
 impl Agreements {
-    ghost use Rattle.gu_ref.specs.Listed.{agreement_in, agreement_for, is_between};
+    ghost use Rattle.gu_ref.specs.Listed.{agreement_in, agreement_for};
 
     /// No agreements.
     pub(crate) fn new(alloc: Global) -> Self
@@ -136,39 +118,19 @@ impl Agreements {
         self.rows.contains_key(&id)
     }
 
-    /// The name of the agreement of this executing firm and this account, with where the account's row may stand. An agreement that stands at a
-    /// place isn't looked up.
-    pub(crate) fn between(
-        &self,
-        executing: FirmId,
-        account: AccountId,
-        place: usize,
-    ) -> Option<Paired>
-        ensures { option_map (λ p. p.id) result ≡ option_map (λ a. a.id) (agreement_for self.now executing account) }
+    /// The agreement of this executing firm and this account.
+    pub(crate) fn between(&self, executing: FirmId, account: AccountId) -> Option<Agreement>
+        ensures { result ≡ agreement_for self.now executing account }
     {
-        let pair = Pair { executing, account };
-        if let Some((key, paired)) = self.pairs.get_index(place) {
-            if *key == pair {
-                return Some(*paired);
-            }
-        }
-        self.pairs.get(&pair).copied()
+        self.pairs.get(&Pair { executing, account }).copied()
     }
 
-    /// The place of the agreement of this executing firm and this account.
-    pub(crate) fn place_of(&self, executing: FirmId, account: AccountId) -> Option<usize>
-        ensures place { result ≡ position (is_between executing account) self.now }
-        ensures known { is_some result ≡ is_some (agreement_for self.now executing account) }
-    {
-        self.pairs.get_index_of(&Pair { executing, account })
-    }
-
-    /// Adds an agreement whose name and whose pair are new, with the place of its account.
-    pub(crate) fn push(&mut self, agreement: Agreement, place: usize) -> Result<(), AllocError>
+    /// Adds an agreement whose name and whose pair are new.
+    pub(crate) fn push(&mut self, agreement: Agreement) -> Result<(), AllocError>
         requires name { agreement_in self.old agreement.id ≡ None }
         requires pair { agreement_for self.old agreement.executing agreement.account ≡ None }
         ensures { self.new ≡ (if is_ok result then self.old ++ agreement ∷ [] else self.old) }
     {
-        add(&mut self.rows, &mut self.pairs, &agreement, place)
+        add(&mut self.rows, &mut self.pairs, &agreement)
     }
 }

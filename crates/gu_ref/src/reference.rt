@@ -15,9 +15,6 @@ use gu_terms::{AccountId, AgreementId, FirmId, Group, Symbol};
 use std::alloc::{AllocError, Global};
 use std::marker::Model;
 
-/// A place at which no row stands.
-const NOWHERE: usize = usize::MAX;
-
 /// The reference data of one run, each kind in the order in which it was declared.
 /// To a contract it is these six lists.
 pub struct Reference {
@@ -81,7 +78,7 @@ impl Reference {
     ghost use Rattle.gu_ref.specs.Growth.{Passes, with_row, row_count};
     ghost use Rattle.gu_ref.specs.Rules.{IsSound};
     ghost use Rattle.gu_ref.specs.Reference.{is_firm, is_group, is_instrument, instrument_row, account_row, agreement_row, agreement_between};
-    ghost use Rattle.gu_ref.specs.Reference.{guarantor_of, is_guarantor, partner_between, place_between};
+    ghost use Rattle.gu_ref.specs.Reference.{guarantor_of, is_guarantor, partner_between};
 
     /// The rules of every reference. One firm carries an account, one agreement stands between a firm and an account, and a
     /// firm has one guarantor at most.
@@ -200,33 +197,18 @@ impl Reference {
         ensures { result ≡ agreement_between self.now executing account }
     {
         self.agreements
-            .between(executing, account, NOWHERE)
+            .between(executing, account)
             .map(|row| row.id)
-    }
-
-    /// The place of that agreement among all, by which it is found again without a look-up.
-    pub fn place_between(&self, executing: FirmId, account: AccountId) -> Option<usize>
-        ensures place { result ≡ place_between self.now executing account }
-        ensures known { is_some result ≡ is_some (agreement_between self.now executing account) }
-    {
-        self.agreements.place_of(executing, account)
     }
 
     /// The agreement by which the firm gives trades up to the account, with the firm that carries the account.
     pub fn partner(&self, firm: FirmId, account: AccountId) -> Option<Partner>
         ensures { result ≡ partner_between self.now firm account }
     {
-        self.partner_near(firm, account, NOWHERE)
-    }
-
-    /// The same. An agreement that stands at a place isn't looked up, and a wrong place changes nothing.
-    pub fn partner_near(&self, firm: FirmId, account: AccountId, place: usize) -> Option<Partner>
-        ensures { result ≡ partner_between self.now firm account }
-    {
-        let paired = self.agreements.between(firm, account, place)?;
-        let carrying = self.accounts.get_near(account, paired.place)?.firm;
+        let agreement = self.between(firm, account)?;
+        let carrying = self.account(account)?.firm;
         Some(Partner {
-            agreement: paired.id,
+            agreement,
             carrying,
         })
     }
@@ -283,10 +265,7 @@ impl Reference {
             Row::Group(group) => self.groups.push(group),
             Row::Instrument(instrument) => self.instruments.push(instrument),
             Row::Account(account) => self.accounts.push(account),
-            Row::Agreement(agreement) => {
-                let place = self.accounts.place_of(agreement.account);
-                self.agreements.push(agreement, place)
-            }
+            Row::Agreement(agreement) => self.agreements.push(agreement),
             Row::Guarantor(guarantor) => self.guarantors.push(guarantor),
         }
     }

@@ -66,23 +66,6 @@ impl<R: Named> Table<R> {
         self.rows.get(&name).copied()
     }
 
-    /// The same. A row that stands at a place isn't looked up.
-    pub(crate) fn get_near(&self, name: R::Name, place: usize) -> Option<R>
-        ensures { result ≡ find (λ row. R.Name.eq (R.name row) name) self.now }
-    {
-        if let Some((key, row)) = self.rows.get_index(place) {
-            if *key == name {
-                return Some(*row);
-            }
-        }
-        self.get(name)
-    }
-
-    /// Where the row of this name stands; 0 where there is none.
-    pub(crate) fn place_of(&self, name: R::Name) -> usize {
-        self.rows.get_index_of(&name).unwrap_or(0)
-    }
-
     /// Whether there is a row of this name.
     pub(crate) fn contains(&self, name: R::Name) -> bool
         ensures { result ≡ is_some (find (λ row. R.Name.eq (R.name row) name) self.now) }
