@@ -260,11 +260,11 @@ impl Book {
     }
 
     /// No rooms of a view as yet.
-    fn no_rooms(&self, view: &View) -> MetRooms {
-        MetRooms::new(self.alloc, view.rooms().len())
+    fn no_rooms(&self) -> MetRooms {
+        MetRooms::none(self.alloc)
     }
 
-    /// Why a proposal for a view may not be committed, where it may not. It needs no memory. The places of the limits of its rooms are noted.
+    /// Why a proposal for a view may not be committed, where it may not. It needs no memory; the places of the limits of its rooms are noted, where there is some.
     fn refusal(&self, view: &View, rooms: &mut MetRooms) -> Option<CommitError>
         ensures { MatchOption result (IsCurrent self.now view.now) (λ why. Refuses self.now view.now why) }
     {
@@ -322,7 +322,7 @@ impl Book {
         ensures reference { self.new.reference ≡ self.old.reference }
         ensures refused { OnErr result (self.new.history ≡ self.old.history) }
     {
-        let mut rooms = self.no_rooms(proposal.view());
+        let mut rooms = self.no_rooms();
         if let Some(why) = self.refusal(proposal.view(), &mut rooms) {
             return Err((why, proposal));
         }

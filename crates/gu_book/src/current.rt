@@ -1,4 +1,4 @@
-//! Whether a view is that of its group, without memory.
+//! Whether a view is that of its group, for which no memory is needed.
 
 ghost use Rattle.std.specs.Prelude.{◌≡◌, ◌↔◌, ◌++◌, ◌∷◌, IsTrue, IfSome, IsSome, List};
 ghost use Rattle.std.specs.List.{filter_map};
@@ -58,10 +58,11 @@ fn shows_offers(reference: &Reference, totals: &Totals, numbers: &[u64], offers:
     rest.is_empty()
 }
 
-/// Whether each room is that of its key in a group. The places of the limits that are read are noted.
+/// Whether each room is that of its key in a group. The places of the limits that are read are noted, where there is memory for them.
 fn shows_rooms(limits: &LimitTable, group: &Group, rooms: &[Room], met: &mut MetRooms) -> bool
     ensures { IsTrue result ↔ HasRooms limits.now group.now rooms.now }
 {
+    met.make_room(rooms.len());
     for room in rooms {
         let (lots, place) = limits.room_and_place(group, &room.key);
         if room.lots != lots {
@@ -72,7 +73,7 @@ fn shows_rooms(limits: &LimitTable, group: &Group, rooms: &[Room], met: &mut Met
     true
 }
 
-/// Whether a view shows the open offers of its group, and each room as it is. It needs no memory.
+/// Whether a view shows the open offers of its group, and each room as it is. It needs no memory; the places of the limits that are read are noted, where there is some.
 pub fn shows_all(reference: &Reference, totals: &Totals, view: &View, met: &mut MetRooms) -> bool
     ensures shown { IsTrue result ↔ ShowsAll reference.now totals.now view.now }
     ensures sound { IsView view.now }

@@ -45,11 +45,16 @@ pub struct MetRooms {
 }
 
 impl MetRooms {
-    /// None as yet, with room for so many. Without memory fewer are noted.
-    pub fn new(alloc: Global, count: usize) -> Self {
-        let mut places = Vec::new(alloc);
-        let _ = places.reserve(count);
-        MetRooms { places }
+    /// None as yet.
+    pub fn none(alloc: Global) -> Self {
+        MetRooms {
+            places: Vec::new(alloc),
+        }
+    }
+
+    /// Makes room for so many. Without memory fewer are noted.
+    pub fn make_room(&mut self, count: usize) {
+        let _ = self.places.reserve(count);
     }
 
     /// Notes the place of the next room's limit, or that it has none.
