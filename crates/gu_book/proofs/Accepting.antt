@@ -107,7 +107,7 @@ pub seen-is : (reference : Tables) (history : List Entry) (totals : Totals) (n :
     → IsSeen totals n offer report → IsThere history n row found → (offer ≡ row.offer) × (report ≡ terms_of found)
 seen-is reference history totals n offer report found row b seen there =
     let shown : Some offer ≡ Some row.offer = seen.shown ∙ ap (λ (rs : List Row). option_map (λ (r : Row). r.offer) (row_at rs n)) b.offers ∙ ap (λ (o : Option Row). option_map (λ (r : Row). r.offer) o) there.at in
-    let same : offer ≡ row.offer = cc in
+    let same : offer ≡ row.offer = ap (λ (o : Option Offer). unwrap_or o offer) shown in
     let reported : Some report ≡ Some (terms_of found) = seen.found ∙ ap (option_map terms_of) ((λ i. report_by (b.reports i) (same i).firm (same i).report) ∙ there.behind) in
     (same, ap (λ (t : Option Terms). unwrap_or t report) reported)
 

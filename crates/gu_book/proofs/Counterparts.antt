@@ -37,20 +37,28 @@ nobody_waits [] terms alone = refl
 nobody_waits (first ∷ []) terms alone = cc
 nobody_waits (first ∷ second ∷ more) terms alone = refl
 
--- the one that waits is alone, and the other side
+-- what is told where these terms are told if they fit
+told_alone : (terms waiting : Terms) (fits : Bool) → Some waiting ≡ waiting_of (if fits then Waiting terms else Conflicting) → (terms ≡ waiting) × (fits ≡ true)
+told_alone terms waiting true own = (ap (λ (t : Option Terms). unwrap_or t waiting) (sym own), refl)
+told_alone terms waiting false own = cc
+
+-- who waits is somebody (a `cc` among reports would look into each of their fields)
+somebody_waits : {A : Type 0} (waiting : Terms) → Some waiting ≡ None → A
+somebody_waits waiting own = cc
+
+-- who waits is alone, and the other side
+waits_alone : (sides : List Report) (report : Report) (waiting : Terms) → Some waiting ≡ waiting_of (counterpart_of sides (terms_of report))
+    → (first : Report) × (sides ≡ first ∷ []) × (terms_of first ≡ waiting) × (is_other_side first report ≡ true)
+waits_alone [] report waiting own = somebody_waits waiting own
+waits_alone (first ∷ []) report waiting own =
+    let alone = told_alone (terms_of first) waiting (have_other_sides (terms_of first) (terms_of report)) own in
+    (first, refl, alone.0, alone.1)
+waits_alone (first ∷ second ∷ more) report waiting own = somebody_waits waiting own
+
+-- so is one that is found
 pub waits : (sides : List Report) (report : Report) (found : Option Terms) (waiting : Terms) → found ≡ Some waiting → found ≡ waiting_of (counterpart_of sides (terms_of report))
     → (first : Report) × (sides ≡ first ∷ []) × (terms_of first ≡ waiting) × (is_other_side first report ≡ true)
-waits sides report found waiting is met = of sides (sym is ∙ met)
-  where
-    one_alone : (first : Report) (fits : Bool) → have_other_sides (terms_of first) (terms_of report) ≡ fits → Some waiting ≡ waiting_of (if fits then Waiting (terms_of first) else Conflicting)
-        → (other : Report) × (first ∷ [] ≡ other ∷ []) × (terms_of other ≡ waiting) × (is_other_side other report ≡ true)
-    one_alone first true hit own = (first, refl, ap (λ (t : Option Terms). unwrap_or t waiting) (sym own), hit)
-    one_alone first false miss own = cc
-
-    of : (sides : List Report) → Some waiting ≡ waiting_of (counterpart_of sides (terms_of report)) → (first : Report) × (sides ≡ first ∷ []) × (terms_of first ≡ waiting) × (is_other_side first report ≡ true)
-    of [] own = cc
-    of (first ∷ []) own = one_alone first (have_other_sides (terms_of first) (terms_of report)) refl own
-    of (first ∷ second ∷ more) own = cc
+waits sides report found waiting is met = waits_alone sides report waiting (sym is ∙ met)
 
 -- where a report conflicts with none and nobody waits, there is none
 pub nobody : (sides : List Report) (report : Report) (found : Option Terms) → found ≡ None → found ≡ waiting_of (counterpart_of sides (terms_of report)) → conflicts sides report ≡ false → sides ≡ []
