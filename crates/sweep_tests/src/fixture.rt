@@ -1,27 +1,22 @@
-//! Sheets, offers, rooms and names that several tests speak of.
-
-use gu_flow::{Proposal, propose};
-use gu_terms::{AccountId, AgreementId, FirmId, Group, LimitKey, Name, OfferNo, Path};
-use gu_text::Sheet;
-use gu_view::{Offer, Room, View, ViewError};
+//! Views that several tests speak of, and the sheets of rows.
+use crate::rows::meant;
 use std::alloc::{AllocError, Global};
-use std::process::Abort;
 
-/// An offer: number, lots, agreement, its path (executing firm, agreement, account, carrying firm), and the carrying firm's
-/// guarantor, where it has one.
-pub(crate) type OfferLine = (
-    u64,
-    u64,
-    &'static str,
-    [&'static str; 4],
-    Option<&'static str>,
-);
+/// A block a view, with its name in front, and in brackets what it shows.
+const VIEWS: &str = "\
+empty (no offers)
+SHEET G1 0
 
-/// A room: the kind and the name of its key, and its lots.
-pub(crate) type RoomLine = (&'static str, &'static str, u64);
+alone (one offer, with room for it)
+SHEET G1 6
+OFFER 1 7 P1 E1 A1 C1
+ROOM CARRY C1 100
+ROOM EXEC E1 100
+ROOM ACCT A1 100
+ROOM AGR P1 100
 
-/// The view of three agreements: oldest first over the group would take 10.
-pub(crate) const CROSSED: &str = "SHEET G1 11
+crossed (three agreements: oldest first over the group would take 10)
+SHEET G1 11
 OFFER 1 10 P1 E1 A1 C1
 OFFER 2 12 P2 E1 A2 C1
 OFFER 3 15 P3 E2 A1 C1
@@ -33,20 +28,72 @@ ROOM ACCT A1 10
 ROOM AGR P1 100
 ROOM EXEC E1 10
 ROOM AGR P3 100
-";
 
-/// The view of two offers of one agreement, with less room than both have.
-pub(crate) const SHARED: &str = "SHEET G1 7
+four (three agreements and one more, under which there is no room)
+SHEET G1 11
+OFFER 1 10 P1 E1 A1 C1
+OFFER 2 12 P2 E1 A2 C1
+OFFER 3 15 P3 E2 A1 C1
+OFFER 4 5 P4 E2 A3 C2
+ROOM EXEC E1 10
+ROOM AGR P1 100
+ROOM ACCT A1 10
+ROOM CARRY C1 100
+ROOM AGR P2 100
+ROOM ACCT A2 20
+ROOM EXEC E2 20
+ROOM AGR P3 100
+ROOM AGR P4 0
+ROOM ACCT A3 100
+ROOM CARRY C2 100
+
+shared (two offers of one agreement, with less room than both have)
+SHEET G1 7
 OFFER 1 5 P1 E1 A1 C1
 OFFER 2 5 P1 E1 A1 C1
 ROOM CARRY C1 100
 ROOM ACCT A1 100
 ROOM AGR P1 7
 ROOM EXEC E1 100
-";
 
-/// The view of one account under two carrying firms.
-pub(crate) const UNDER_TWO_FIRMS: &str = "SHEET G1 0
+wider (the same, with more room under their agreement)
+SHEET G1 7
+OFFER 1 5 P1 E1 A1 C1
+OFFER 2 5 P1 E1 A1 C1
+ROOM CARRY C1 100
+ROOM ACCT A1 100
+ROOM AGR P1 8
+ROOM EXEC E1 100
+
+full (an agreement without room)
+SHEET G1 9
+OFFER 2 4 P1 E1 A1 C1
+ROOM EXEC E1 94
+ROOM AGR P1 0
+ROOM ACCT A1 94
+ROOM CARRY C1 94
+
+narrow (two agreements behind one carrying firm with less room than both accounts)
+SHEET G1 0
+OFFER 1 10 P1 E1 A1 C1
+OFFER 2 10 P2 E1 A2 C1
+ROOM EXEC E1 100
+ROOM AGR P1 100
+ROOM AGR P2 100
+ROOM ACCT A1 10
+ROOM ACCT A2 10
+ROOM CARRY C1 13
+
+long (a carrying firm with a name of twelve bytes)
+SHEET G1 0
+OFFER 1 7 P1 E1 A1 ABCDEFGHIJKL
+ROOM EXEC E1 100
+ROOM AGR P1 100
+ROOM ACCT A1 100
+ROOM CARRY ABCDEFGHIJKL 6
+
+moved (one account under two carrying firms)
+SHEET G1 0
 OFFER 1 5 P1 E1 A1 C1
 OFFER 2 5 P2 E2 A1 C2
 ROOM EXEC E1 100
@@ -56,30 +103,27 @@ ROOM AGR P2 100
 ROOM ACCT A1 100
 ROOM CARRY C1 100
 ROOM CARRY C2 100
-";
 
-/// The view of an offer whose carrying firm has a guarantor, with room for it everywhere but under the guarantor.
-pub(crate) const GUARANTEED: &str = "SHEET G1 7
+guaranteed (a carrying firm with a guarantor, with room everywhere but under the guarantor)
+SHEET G1 7
 OFFER 1 10 P1 E1 A1 C1 E2
 ROOM EXEC E1 100
 ROOM AGR P1 100
 ROOM ACCT A1 100
 ROOM CARRY C1 100
 ROOM GUAR E2 4
-";
 
-/// The same offer, where no limit was set for the guarantor.
-pub(crate) const WITHOUT_THE_LIMIT: &str = "SHEET G1 6
+unlimited (the same offer, where no limit was set for the guarantor)
+SHEET G1 6
 OFFER 1 10 P1 E1 A1 C1 E2
 ROOM EXEC E1 100
 ROOM AGR P1 100
 ROOM ACCT A1 100
 ROOM CARRY C1 100
 ROOM GUAR E2 0
-";
 
-/// The view of two carrying firms under one guarantor.
-pub(crate) const UNDER_ONE_GUARANTOR: &str = "SHEET G1 12
+both (two carrying firms under one guarantor)
+SHEET G1 12
 OFFER 1 10 P1 E1 A1 C1 E2
 OFFER 2 10 P4 E2 A3 C2 E2
 ROOM EXEC E1 100
@@ -91,10 +135,9 @@ ROOM EXEC E2 100
 ROOM AGR P4 100
 ROOM ACCT A3 100
 ROOM CARRY C2 8
-";
 
-/// The view of two carrying firms, of which the first alone has a guarantor.
-pub(crate) const MIXED: &str = "SHEET G1 0
+mixed (two carrying firms, of which the first alone has a guarantor)
+SHEET G1 0
 OFFER 1 10 P1 E1 A1 C1 E2
 OFFER 2 10 P4 E2 A3 C2
 ROOM EXEC E1 100
@@ -106,103 +149,88 @@ ROOM EXEC E2 100
 ROOM AGR P4 100
 ROOM ACCT A3 100
 ROOM CARRY C2 8
-";
 
-/// The view of no offers.
-pub(crate) const EMPTY: &str = "SHEET G1 0\n";
+torn (one carrying firm under two guarantors)
+SHEET G1 0
+OFFER 1 5 P1 E1 A1 C1 E2
+OFFER 2 5 P2 E1 A2 C1 C2
+ROOM EXEC E1 100
+ROOM AGR P1 100
+ROOM AGR P2 100
+ROOM ACCT A1 100
+ROOM ACCT A2 100
+ROOM CARRY C1 100
+ROOM GUAR E2 100
+ROOM GUAR C2 100
 
-/// The sheet of a view, and of the lines behind it up to the end.
-pub(crate) fn sheet(alloc: Global, view: &str, rest: &str) -> Option<Sheet> {
-    let text = format!(in alloc; "{view}{rest}END\n").ok()?;
-    Sheet::read(alloc, text.as_bytes()).ok()
+once (one carrying firm that has a guarantor on one path alone)
+SHEET G1 0
+OFFER 1 5 P1 E1 A1 C1
+OFFER 2 5 P2 E1 A2 C1 E2
+ROOM EXEC E1 100
+ROOM AGR P1 100
+ROOM AGR P2 100
+ROOM ACCT A1 100
+ROOM ACCT A2 100
+ROOM CARRY C1 100
+ROOM GUAR E2 100
+
+creeping (a chain: firm n has accounts n and n - 1, and each account has room for one lot more than a firm fills. What firm 5 \
+would fill of account 4 goes through all firms down to firm 1, so searches find one way each, and a surge brings the rest)
+SHEET G1 11
+OFFER 1 1000000 P1 E4 A4 C1
+OFFER 2 1000000 P2 E3 A3 C1
+OFFER 3 1000000 P3 E2 A2 C1
+OFFER 4 1000000 P4 E1 A1 C1
+OFFER 5 1000000 P5 E5 A4 C1
+OFFER 6 1000000 P6 E4 A3 C1
+OFFER 7 1000000 P7 E3 A2 C1
+OFFER 8 1000000 P8 E2 A1 C1
+ROOM EXEC E4 1000
+ROOM AGR P1 1000000000
+ROOM ACCT A4 1001
+ROOM CARRY C1 1000000000
+ROOM EXEC E3 1000
+ROOM AGR P2 1000000000
+ROOM ACCT A3 1001
+ROOM EXEC E2 1000
+ROOM AGR P3 1000000000
+ROOM ACCT A2 1001
+ROOM EXEC E1 1004
+ROOM AGR P4 1000000000
+ROOM ACCT A1 1001
+ROOM EXEC E5 1000
+ROOM AGR P5 1000000000
+ROOM AGR P6 1000000000
+ROOM AGR P7 1000000000
+ROOM AGR P8 1000000000";
+
+/// The name of a block's view, and the view.
+fn named(block: &str) -> (&str, &str) {
+    let (head, view) = block.split_once('\n').unwrap_or((block, ""));
+    let (name, _) = head.split_once(" (").unwrap_or((head, ""));
+    (name, view)
 }
 
-/// The view in a text.
-pub(crate) fn view(alloc: Global, text: &str) -> Option<View> {
-    sheet(alloc, text, "")?.view.copy().ok()
-}
-
-/// What is proposed, or nothing where a growth was refused.
-pub(crate) fn proposed(answer: Result<Proposal, (AllocError, View)>) -> Option<Proposal> {
-    match answer {
-        Ok(proposal) => Some(proposal),
-        Err((_, view)) => {
-            drop(view);
-            None
+/// The view of this name, without the end of its last line.
+fn view_named(name: &str) -> &'static str {
+    for block in VIEWS.split("\n\n") {
+        let (found, view) = named(block);
+        if found == name {
+            return view;
         }
     }
+    ""
 }
 
-/// The proposal for a nested view.
-pub(crate) fn proposal(rt: &impl Abort, alloc: Global, view: View) -> Option<Proposal> {
-    assert!(rt; view.nested());
-    proposed(propose(alloc, view))
-}
-
-/// The key of a kind with a name.
-pub(crate) fn key(kind: &str, name: &str) -> Option<LimitKey> {
-    LimitKey::of(kind.as_bytes(), Name::new(name.as_bytes())?)
-}
-
-/// The firm of a name, where there is one.
-fn firm(name: Option<&str>) -> Option<Option<FirmId>> {
-    match name {
-        Some(name) => Some(Some(FirmId::new(name.as_bytes())?)),
-        None => Some(None),
+/// The text that a row speaks of. Behind the name of a view and `:` stand the lines between its rooms and its end; else the
+/// row has the whole text.
+pub fn sheet_text_of(alloc: Global, asked: &str) -> Result<String, AllocError> {
+    match asked.split_once(':') {
+        Some((name, rest)) => {
+            let rest = meant(alloc, rest)?;
+            format!(in alloc; "{}\n{rest}END\n", view_named(name))
+        }
+        None => meant(alloc, asked),
     }
-}
-
-/// The path of these names.
-fn path(
-    [executing, agreement, account, carrying]: [&str; 4],
-    guarantor: Option<&str>,
-) -> Option<Path> {
-    Some(Path::new(
-        FirmId::new(executing.as_bytes())?,
-        AgreementId::new(agreement.as_bytes())?,
-        AccountId::new(account.as_bytes())?,
-        FirmId::new(carrying.as_bytes())?,
-        firm(guarantor)?,
-    ))
-}
-
-/// The offer of a line.
-fn offer(line: &OfferLine) -> Option<Offer> {
-    let path = path(line.3, line.4)?;
-    Some(Offer {
-        number: OfferNo::new(line.0)?,
-        lots: line.1,
-        agreement: AgreementId::new(line.2.as_bytes())?,
-        path,
-    })
-}
-
-/// The offers of these lines.
-fn offers(alloc: Global, lines: &[OfferLine]) -> Option<Vec<Offer>> {
-    let mut offers = Vec::new(alloc);
-    for line in lines {
-        offers.push(offer(line)?).ok()?;
-    }
-    Some(offers)
-}
-
-/// The rooms of these lines.
-pub(crate) fn rooms(alloc: Global, lines: &[RoomLine]) -> Option<Vec<Room>> {
-    let mut rooms = Vec::new(alloc);
-    for (kind, name, lots) in lines {
-        let key = key(kind, name)?;
-        rooms.push(Room { key, lots: *lots }).ok()?;
-    }
-    Some(rooms)
-}
-
-/// What these lines make, or nothing where a growth of the lines' own is refused.
-pub(crate) fn made(
-    alloc: Global,
-    offer_lines: &[OfferLine],
-    room_lines: &[RoomLine],
-) -> Option<Result<View, ViewError>> {
-    let offers = offers(alloc, offer_lines)?;
-    let rooms = rooms(alloc, room_lines)?;
-    Some(View::new(alloc, Group::new(b"G1")?, 11, offers, rooms))
 }

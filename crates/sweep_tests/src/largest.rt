@@ -1,157 +1,107 @@
 //! Calls at their largest, and thousands of times over: a body that answers Memory at will meets every contract.
+use crate::rows::{Subject, check, check_row};
+use crate::sheets::Question;
+use crate::sweep::Telling;
+use std::alloc::{AllocError, Global};
 
-use crate::fixture::{CROSSED, proposal, sheet, view};
-use gu_flow::Proposal;
-use gu_text::{Line, Sheet, TextError, sheet_text, verdict_text};
-use gu_view::{View, check};
-use std::alloc::Global;
-use std::process::Abort;
-use std::test::Fail;
-
-/// The offers that a view has at most.
-const MOST: u64 = 4_096;
-
-/// A line for each number from 1, with the number in the place of each `#`.
-fn numbered(alloc: Global, line: &str, most: u64) -> Option<String> {
+/// A line for each number from a first to a last, with the number in the place of each `#`.
+fn numbered(alloc: Global, line: &str, first: u64, last: u64) -> Result<String, AllocError> {
     let mut text = String::new(alloc);
-    for number in 1..=most {
-        let digits = format!(in alloc; "{number}").ok()?;
-        text.push_str(&line.replace(alloc, '#', &digits).ok()?)
-            .ok()?;
+    for number in first..=last {
+        let digits = format!(in alloc; "{number}")?;
+        text.push_str(&line.replace(alloc, '#', &digits)?)?;
     }
-    Some(text)
+    Ok(text)
 }
 
 /// The view of so many offers, each of its own agreement, into its own account, under its own firms, the guarantor among them.
-fn apart(alloc: Global, most: u64) -> Option<String> {
-    let offers = numbered(alloc, "OFFER # 1 P# E# A# C# F#\n", most)?;
-    let rooms = numbered(
-        alloc,
-        "ROOM EXEC E# 1\nROOM AGR P# 1\nROOM ACCT A# 1\nROOM CARRY C# 1\nROOM GUAR F# 1\n",
-        most,
-    )?;
-    format!(in alloc; "SHEET G1 0\n{offers}{rooms}").ok()
+fn apart(alloc: Global, most: u64) -> Result<String, AllocError> {
+    let offers = numbered(alloc, "OFFER # 1 P# E# A# C# F#|", 1, most)?;
+    let rooms = "ROOM EXEC E# 1|ROOM AGR P# 1|ROOM ACCT A# 1|ROOM CARRY C# 1|ROOM GUAR F# 1|";
+    let rooms = numbered(alloc, rooms, 1, most)?;
+    format!(in alloc; "SHEET G1 0|{offers}{rooms}")
 }
 
-/// Takes of so many offers, and a cut of their account's keys and of the offers.
-fn taken(alloc: Global, most: u64) -> Option<String> {
-    let takes = numbered(alloc, "TAKE # 1\n", most)?;
-    let cut = numbered(alloc, "CUT ACCT A#\n", most)?;
-    format!(in alloc; "{takes}{cut}").ok()
-}
-
-/// Whether a check of a sheet answers this line, and a proposal for its view takes so many lots.
-fn is_answered(
-    rt: &impl Abort,
-    alloc: Global,
-    view: &str,
-    rest: &str,
-    line: &str,
-    lots: u64,
-) -> Option<bool> {
-    let sheet = sheet(alloc, view, rest)?;
-    let verdict = check(&sheet.view, &sheet.takes, &sheet.cut);
-    let text = verdict_text(alloc, &verdict).ok()?;
-    let proposal = proposal(rt, alloc, sheet.view.copy().ok()?)?;
-    let copy = proposal.copy().ok()?;
-    Some(text.as_slice() == line.as_bytes() && copy.lots() == lots)
+/// The same with takes of all offers, and a cut of the keys of their accounts and of so many offers.
+fn taken(alloc: Global, most: u64, cut: u64) -> Result<String, AllocError> {
+    let view = apart(alloc, most)?;
+    let takes = numbered(alloc, "TAKE # 1|", 1, most)?;
+    let keys = numbered(alloc, "CUT ACCT A#|", 1, most)?;
+    let offers = numbered(alloc, "CUT OFFER #|", 1, cut)?;
+    format!(in alloc; "{view}{takes}{keys}{offers}END|")
 }
 
 #[test]
-fn sheet_of_4096_offers_is_read_checked_and_swept(rt: HostRuntime) -> Result<(), Fail> {
-    let view = apart(rt.alloc(), MOST).ok_or("a view")?;
-    let rest = taken(rt.alloc(), MOST).ok_or("takes")?;
-    let answered = is_answered(&rt, rt.alloc(), &view, &rest, "OK 4096\n", 4_096);
-    assert_eq!(rt; answered, Some(true));
-    Ok(())
-}
-
-/// The number of the bad line of the sheet of so many offers.
-fn bad_line(alloc: Global, offers: u64) -> Option<u64> {
-    let text = format!(in alloc; "{}END\n", apart(alloc, offers)?).ok()?;
-    match Sheet::read(alloc, text.as_bytes()) {
-        Ok(_) | Err(TextError::Memory) => None,
-        Err(TextError::BadLine(number)) => Some(number),
-    }
+fn sheet_of_4096_offers_is_read_checked_swept_and_written(rt: HostRuntime) {
+    let swept = Subject::Sheets(Question::Sweep(Telling::Lots));
+    let sheet = taken(rt.alloc(), 4_096, 0).expect(&rt, "memory");
+    let verdict = Subject::Sheets(Question::Verdict);
+    check_row(&rt, rt.alloc(), verdict, &sheet, "OK 4096|");
+    check_row(&rt, rt.alloc(), swept, &sheet, "4096");
+    let sheet = taken(rt.alloc(), 4_096, 4_096).expect(&rt, "memory");
+    let written = Subject::Sheets(Question::Written);
+    check_row(&rt, rt.alloc(), written, &sheet, &sheet);
 }
 
 #[test]
-fn sheet_of_4097_offers_is_bad_at_its_end(rt: HostRuntime) -> Result<(), Fail> {
+fn sheet_of_4097_offers_is_bad_at_its_end(rt: HostRuntime) {
     // SHEET, 4,097 offers with five rooms each, END.
-    assert_eq!(rt; bad_line(rt.alloc(), MOST), None);
-    assert_eq!(rt; bad_line(rt.alloc(), MOST + 1), Some(24_584));
-    Ok(())
+    let more = apart(rt.alloc(), 4_097).expect(&rt, "memory");
+    let more = format!(in rt.alloc(); "{more}END|").expect(&rt, "memory");
+    let subject = Subject::Sheets(Question::IsRead);
+    check_row(&rt, rt.alloc(), subject, &more, "bad at 24584");
 }
 
 /// The view of so many offers of 1,000,000 lots under one agreement, with as much room as there may be.
-fn together(alloc: Global, most: u64) -> Option<View> {
-    let offers = numbered(alloc, "OFFER # 1000000 P1 E1 A1 C1\n", most)?;
+fn together(alloc: Global, most: u64) -> Result<String, AllocError> {
+    let offers = numbered(alloc, "OFFER # 1000000 P1 E1 A1 C1|", 1, most)?;
     let rooms =
-        "ROOM EXEC E1 1000000000\nROOM AGR P1 1000000000\nROOM ACCT A1 1000000000\nROOM CARRY C1 1000000000\n";
-    let text = format!(in alloc; "SHEET G1 0\n{offers}{rooms}").ok()?;
-    view(alloc, &text)
+        "ROOM EXEC E1 1000000000|ROOM AGR P1 1000000000|ROOM ACCT A1 1000000000|ROOM CARRY C1 1000000000|";
+    format!(in alloc; "SHEET G1 0|{offers}{rooms}END|")
 }
 
-/// Whether the first thousand offers are taken in full, and the others not at all.
-fn fills_a_thousand(proposal: &Proposal) -> bool {
-    proposal.takes().as_slice().iter().all(|take| {
-        let is_filled = take.offer.get() <= 1_000;
-        take.lots == if is_filled { 1_000_000 } else { 0 }
-    })
-}
-
-#[test]
-fn view_of_4096_offers_under_one_agreement_is_swept(rt: HostRuntime) -> Result<(), Fail> {
-    let view = together(rt.alloc(), MOST).ok_or("a view")?;
-    let full = proposal(&rt, rt.alloc(), view);
-    assert!(rt; full.is_some_and(|full| full.lots() == 1_000_000_000 && fills_a_thousand(&full)));
-    Ok(())
+/// What is told of its sweep: the first thousand offers are taken in full, and the others not at all.
+fn fills_a_thousand(alloc: Global, most: u64) -> Result<String, AllocError> {
+    let full = numbered(alloc, "TAKE # 1000000|", 1, 1_000)?;
+    let empty = numbered(alloc, "TAKE # 0|", 1_001, most)?;
+    format!(in alloc; "1000000000 OK 1000000000|{full}{empty}")
 }
 
 #[test]
-fn sheet_is_read_checked_and_swept_5000_times(rt: HostRuntime) -> Result<(), Fail> {
-    let rest = "TAKE 2 10\nTAKE 3 10\nCUT EXEC E1\nCUT ACCT A1\n";
-    for turn in 0..5_000 {
-        let answered = is_answered(&rt, rt.alloc(), CROSSED, rest, "OK 20\n", 20);
-        assert_eq!(rt; answered, Some(true), "in turn {turn}");
+fn view_of_4096_offers_under_one_agreement_is_swept(rt: HostRuntime) {
+    let view = together(rt.alloc(), 4_096).expect(&rt, "memory");
+    let takes = fills_a_thousand(rt.alloc(), 4_096).expect(&rt, "memory");
+    let expected = format!(in rt.alloc(); "{takes}CUT EXEC E1|END|").expect(&rt, "memory");
+    let subject = Subject::Sheets(Question::Sweep(Telling::Takes));
+    check_row(&rt, rt.alloc(), subject, &view, &expected);
+}
+
+/// A sheet that is read and swept, whose proposal is checked and written.
+const SWEEPS: &str =
+    "crossed: -> 20 OK 20|TAKE 1 0|TAKE 2 10|TAKE 3 10|CUT EXEC E1|CUT ACCT A1|END|";
+
+#[test]
+fn sheet_is_read_swept_and_checked_5000_times(rt: HostRuntime) {
+    let swept = Subject::Sheets(Question::Sweep(Telling::Takes));
+    for _ in 0..5_000 {
+        check(&rt, rt.alloc(), swept, SWEEPS);
     }
-    Ok(())
 }
 
-/// Whether the sheet of so many offers, each with five rooms of its own, is written as it was read.
-fn is_written(alloc: Global, offers: u64) -> Option<bool> {
-    let view = apart(alloc, offers)?;
-    let rest = taken(alloc, offers)?;
-    let cut = numbered(alloc, "CUT OFFER #\n", offers)?;
-    let text = format!(in alloc; "{view}{rest}{cut}END\n").ok()?;
-    let sheet = Sheet::read(alloc, text.as_bytes()).ok()?;
-    let written = sheet_text(alloc, &sheet.view, &sheet.takes, &sheet.cut).ok()?;
-    Some(written.as_slice() == text.as_bytes())
-}
+/// A give-up of sixteen lines.
+const LINES: &str = "\
+GIVEUP E1 L1 R1( ABCDEFGHIJKL 1000000*16) -> give up E1 L1 R1: \
+    ABCDEFGHIJKL 1000000 ABCDEFGHIJKL 1000000 ABCDEFGHIJKL 1000000 ABCDEFGHIJKL 1000000 \
+    ABCDEFGHIJKL 1000000 ABCDEFGHIJKL 1000000 ABCDEFGHIJKL 1000000 ABCDEFGHIJKL 1000000 \
+    ABCDEFGHIJKL 1000000 ABCDEFGHIJKL 1000000 ABCDEFGHIJKL 1000000 ABCDEFGHIJKL 1000000 \
+    ABCDEFGHIJKL 1000000 ABCDEFGHIJKL 1000000 ABCDEFGHIJKL 1000000 ABCDEFGHIJKL 1000000";
 
 #[test]
-fn sheet_of_4096_offers_and_8192_members_of_its_cut_is_written(
-    rt: HostRuntime,
-) -> Result<(), Fail> {
-    assert_eq!(rt; is_written(rt.alloc(), MOST), Some(true));
-    Ok(())
-}
-
-#[test]
-fn sheet_is_read_and_written_5000_times(rt: HostRuntime) -> Result<(), Fail> {
-    for turn in 0..5_000 {
-        assert_eq!(rt; is_written(rt.alloc(), 2), Some(true), "in turn {turn}");
+fn sheet_and_line_are_read_and_told_5000_times(rt: HostRuntime) {
+    let written = Subject::Sheets(Question::Written);
+    let sheet = taken(rt.alloc(), 2, 2).expect(&rt, "memory");
+    for _ in 0..5_000 {
+        check(&rt, rt.alloc(), Subject::Lines, LINES);
+        check_row(&rt, rt.alloc(), written, &sheet, &sheet);
     }
-    Ok(())
-}
-
-#[test]
-fn line_of_16_pairs_is_read_5000_times(rt: HostRuntime) -> Result<(), Fail> {
-    let pairs = " ABCDEFGHIJKL 1000000".repeat(rt.alloc(), 16)?;
-    let line = format!(in rt.alloc(); "GIVEUP E1 L1 R1{pairs}")?;
-    for turn in 0..5_000 {
-        let said = Line::read(rt.alloc(), line.as_bytes(), 1);
-        assert!(rt; matches!(said, Ok(Some(Line::Step(_)))), "in turn {turn}");
-    }
-    Ok(())
 }

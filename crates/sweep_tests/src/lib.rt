@@ -10,7 +10,7 @@ mod largest;
 #[cfg(test)]
 mod memory;
 #[cfg(test)]
-mod nesting;
+mod rows;
 #[cfg(test)]
 mod script_lines;
 #[cfg(test)]
@@ -21,8 +21,6 @@ mod sheets;
 mod sweep;
 #[cfg(test)]
 mod texts;
-#[cfg(test)]
-mod verdicts;
 #[cfg(test)]
 mod view;
 #[cfg(test)]

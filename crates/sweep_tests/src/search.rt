@@ -1,53 +1,30 @@
 //! Small views beside a search through all lots that could be taken.
-
 ghost use Rattle.std.specs.Prelude.{◌<◌};
 
-use crate::fixture::{OfferLine, RoomLine, made, proposal};
-use std::alloc::Global;
-use std::process::Abort;
-use std::test::Fail;
+use crate::rows::{Subject, check_row, first_word, told};
+use crate::sheets::Question;
+use crate::sweep::Telling;
+use gu_view::{Offer, Room, View};
+use std::alloc::{AllocError, Global};
 
-const FIRMS: [&str; 2] = ["E1", "E2"];
-
-const ACCOUNTS: [&str; 3] = ["A1", "A2", "A3"];
-
-const CARRYING: [&str; 2] = ["C1", "C2"];
-
-/// The places of the firms that carry these accounts.
-const CARRIERS: [usize; 3] = [0, 1, 0];
-
-/// The guarantor of a carrying firm.
-type Guarantor = Option<&'static str>;
-
-/// The agreements of each firm with each account.
-const AGREEMENTS: [[&str; 3]; 2] = [["P1", "P2", "P3"], ["P4", "P5", "P6"]];
-
-/// The keys that offers may come under.
-const KEYS: [(&str, &str); 15] = [
-    ("EXEC", "E1"),
-    ("EXEC", "E2"),
-    ("AGR", "P1"),
-    ("AGR", "P2"),
-    ("AGR", "P3"),
-    ("AGR", "P4"),
-    ("AGR", "P5"),
-    ("AGR", "P6"),
-    ("ACCT", "A1"),
-    ("ACCT", "A2"),
-    ("ACCT", "A3"),
-    ("CARRY", "C1"),
-    ("CARRY", "C2"),
-    ("GUAR", "F1"),
-    ("GUAR", "F2"),
-];
-
-/// The guarantors of both carrying firms, turn by turn.
-const GUARANTORS: [[Guarantor; 2]; 4] = [
-    [None, None],
-    [Some("F1"), None],
-    [Some("F1"), Some("F1")],
-    [Some("F1"), Some("F2")],
-];
+/// The keys that offers may come under. No two kinds have a name in common.
+const KEYS: &str = "\
+EXEC E1
+EXEC E2
+AGR P1
+AGR P2
+AGR P3
+AGR P4
+AGR P5
+AGR P6
+ACCT A1
+ACCT A2
+ACCT A3
+CARRY C1
+CARRY C2
+GUAR F1
+GUAR F2
+";
 
 /// The next number of a series, and a part of it below a bound.
 fn draw(seed: &mut u64, below: u64) -> u64
@@ -60,45 +37,55 @@ fn draw(seed: &mut u64, below: u64) -> u64
     (*seed >> 33) % below
 }
 
-/// An offer of one to four lots.
-fn draw_offer(seed: &mut u64, number: u64, guarantors: &[Guarantor; 2]) -> OfferLine {
-    let firm = draw(seed, 2) as usize;
-    let account = draw(seed, 3) as usize;
-    let agreement = AGREEMENTS[firm][account];
-    let carrier = CARRIERS[account];
-    let path = [FIRMS[firm], agreement, ACCOUNTS[account], CARRYING[carrier]];
+/// The guarantor of a carrying firm in a turn: none has one, the first alone, both the same, or each its own.
+fn guarantor(turn: u64, carrier: u64) -> &'static str {
+    match (turn % 4, carrier) {
+        (0, _) | (1, 2) => "",
+        (3, 2) => " F2",
+        _ => " F1",
+    }
+}
+
+/// An offer of one to four lots, under the agreement of its firm with its account.
+fn offer_line(alloc: Global, seed: &mut u64, turn: u64, number: u64) -> Result<String, AllocError> {
+    let firm = draw(seed, 2) + 1;
+    let account = draw(seed, 3) + 1;
     let lots = draw(seed, 4) + 1;
-    (number, lots, agreement, path, guarantors[carrier])
+    let agreement = (firm - 1) * 3 + account;
+    let carrier = if account == 2 { 2 } else { 1 };
+    let guarantor = guarantor(turn, carrier);
+    let front = format!(in alloc; "OFFER {number} {lots} P{agreement} E{firm}")?;
+    format!(in alloc; "{front} A{account} C{carrier}{guarantor}|")
 }
 
 /// One to five offers.
-fn draw_offers(
-    alloc: Global,
-    seed: &mut u64,
-    guarantors: &[Guarantor; 2],
-) -> Option<Vec<OfferLine>> {
-    let mut offers = Vec::new(alloc);
+fn offer_lines(alloc: Global, seed: &mut u64, turn: u64) -> Result<String, AllocError> {
+    let mut text = String::new(alloc);
     for number in 1..=draw(seed, 5) + 1 {
-        offers.push(draw_offer(seed, number, guarantors)).ok()?;
+        text.push_str(&offer_line(alloc, seed, turn, number)?)?;
     }
-    Some(offers)
+    Ok(text)
 }
 
-/// Whether an offer comes under a key with this name: no two kinds have a name in common.
-fn is_under(offer: &OfferLine, name: &str) -> bool {
-    offer.3.contains(&name) || offer.4 == Some(name)
+/// The room of a key with so many lots, where one of the offers comes under it.
+fn room_line(alloc: Global, offers: &str, key: &str, lots: u64) -> Result<String, AllocError> {
+    let (_, name) = first_word(key);
+    if offers.contains(name) {
+        format!(in alloc; "ROOM {key} {lots}|")
+    } else {
+        String::from_str(alloc, "")
+    }
 }
 
-/// A room of 0 to 7 lots for each key of an offer.
-fn draw_rooms(alloc: Global, offers: &[OfferLine], seed: &mut u64) -> Option<Vec<RoomLine>> {
-    let mut rooms = Vec::new(alloc);
-    for (kind, name) in KEYS {
+/// Offers, and a room of 0 to 7 lots for each of their keys.
+fn sheet_drawn(alloc: Global, seed: &mut u64, turn: u64) -> Result<String, AllocError> {
+    let offers = offer_lines(alloc, seed, turn)?;
+    let mut rooms = String::new(alloc);
+    for key in KEYS.lines() {
         let lots = draw(seed, 8);
-        if offers.iter().any(|offer| is_under(offer, name)) {
-            rooms.push((kind, name, lots)).ok()?;
-        }
+        rooms.push_str(&room_line(alloc, &offers, key, lots)?)?;
     }
-    Some(rooms)
+    format!(in alloc; "SHEET G1 11|{offers}{rooms}END|")
 }
 
 /// The lots that a code takes of the offer at a place: its digit to the base of five.
@@ -110,73 +97,58 @@ fn digit(code: u64, place: usize) -> u64 {
     }
 }
 
-/// The lots that a code takes of the offers that come under a key.
-fn lots_under(code: u64, offers: &[OfferLine], name: &str) -> u64 {
+/// The lots that a code takes of the offers that come under a room.
+fn lots_under(code: u64, offers: &[Offer], room: &Room) -> u64 {
     let mut sum = 0u64;
     for (place, offer) in offers.iter().enumerate() {
-        if is_under(offer, name) {
+        if offer.path.keys().contains(&room.key) {
             sum = sum.saturating_add(digit(code, place));
         }
     }
     sum
 }
 
-/// The lots that a code takes of so many offers.
-fn lots(code: u64, offers: usize) -> u64 {
+/// The lots that a code takes of offers, where it takes no more than each of them has.
+fn lots(code: u64, offers: &[Offer]) -> Option<u64> {
     let mut sum = 0u64;
-    for place in 0..offers {
-        sum = sum.saturating_add(digit(code, place));
+    for (place, offer) in offers.iter().enumerate() {
+        let lots = digit(code, place);
+        if offer.lots < lots {
+            return None;
+        }
+        sum = sum.saturating_add(lots);
     }
-    sum
+    Some(sum)
 }
 
-/// Whether a code takes no more than each offer has.
-fn is_within(code: u64, offers: &[OfferLine]) -> bool {
-    offers
+/// Whether a code takes no more under each key than its room.
+fn fits(code: u64, view: &View) -> bool {
+    view.rooms()
         .iter()
-        .enumerate()
-        .all(|(place, offer)| digit(code, place) <= offer.1)
+        .all(|room| lots_under(code, view.offers(), room) <= room.lots)
 }
 
-/// Whether a code takes no more than each offer has, and no more under each key than its room.
-fn is_admissible(code: u64, offers: &[OfferLine], rooms: &[RoomLine]) -> bool {
-    is_within(code, offers)
-        && rooms
-            .iter()
-            .all(|room| lots_under(code, offers, room.1) <= room.2)
-}
-
-/// The most lots that any admissible code takes.
-fn most(offers: &[OfferLine], rooms: &[RoomLine]) -> u64 {
+/// The most lots that any admissible code takes of a view with up to five offers.
+pub fn most(view: &View) -> u64 {
     let mut most = 0u64;
     for code in 0..3_125 {
-        if is_admissible(code, offers, rooms) {
-            most = most.max(lots(code, offers.len()));
+        if let Some(lots) = lots(code, view.offers()) {
+            if most < lots && fits(code, view) {
+                most = lots;
+            }
         }
     }
     most
 }
 
-/// The lots that a proposal takes.
-fn proposed(
-    rt: &impl Abort,
-    alloc: Global,
-    offers: &[OfferLine],
-    rooms: &[RoomLine],
-) -> Option<u64> {
-    let view = made(alloc, offers, rooms)?.ok()?;
-    Some(proposal(rt, alloc, view)?.lots())
-}
-
 #[test]
-fn finds_no_admissible_lots_that_are_more(rt: HostRuntime) -> Result<(), Fail> {
+fn finds_no_admissible_lots_that_are_more(rt: HostRuntime) {
+    let sought = Subject::Sheets(Question::Most);
+    let swept = Subject::Sheets(Question::Sweep(Telling::Lots));
     let mut seed = 20_260_105;
     for turn in 0..60 {
-        let guarantors = &GUARANTORS[turn % 4];
-        let offers = draw_offers(rt.alloc(), &mut seed, guarantors).ok_or("offers")?;
-        let rooms = draw_rooms(rt.alloc(), &offers, &mut seed).ok_or("rooms")?;
-        let lots = proposed(&rt, rt.alloc(), &offers, &rooms);
-        assert_eq!(rt; lots, Some(most(&offers, &rooms)), "in turn {turn}");
+        let sheet = sheet_drawn(rt.alloc(), &mut seed, turn).expect(&rt, "memory");
+        let most = told(rt.alloc(), sought, &sheet).expect(&rt, "memory");
+        check_row(&rt, rt.alloc(), swept, &sheet, &most);
     }
-    Ok(())
 }

@@ -1,184 +1,195 @@
-//! Texts that are sheets, and texts that aren't.
+//! Sheets: what is read, and what checks, sweeps and the writing of a sheet make of it.
+use crate::fixture::sheet_text_of;
+use crate::rows::{Subject, check, shown};
+use crate::search::most;
+use crate::sweep::{Telling, sweep_text};
+use crate::texts::entered_text;
+use gu_text::{Sheet, TextError, sheet_text, verdict_text};
+use std::alloc::{AllocError, Global};
 
-use crate::fixture::{MIXED, SHARED, UNDER_ONE_GUARANTOR, sheet};
-use gu_terms::{LimitKey, Take};
-use gu_text::{Sheet, TextError};
-use gu_view::{Room, View};
-use std::alloc::Global;
-use std::test::Fail;
+/// What is asked of a sheet.
+#[derive(Clone, Copy)]
+pub enum Question {
+    /// Nothing more than whether it is one.
+    IsRead,
+    /// Whether its view is nested.
+    IsNested,
+    /// The line that a check of it answers.
+    Verdict,
+    /// How it is written.
+    Written,
+    /// Whether view, takes and cut are the same once it is written and read back.
+    ReadBack,
+    /// Whether view, takes and cut are those of the two offers of one agreement.
+    IsShared,
+    /// What is proposed for its view.
+    Sweep(Telling),
+    /// The most lots that any admissible takes of its view have.
+    Most,
+    /// How its sweep is told, without its sheet and with it.
+    Entered,
+}
 
-/// The number of the bad line of a text, if it has one.
-fn bad_line(alloc: Global, text: &str) -> Option<u64> {
-    match Sheet::read(alloc, text.as_bytes()) {
-        Ok(_) | Err(TextError::Memory) => None,
-        Err(TextError::BadLine(number)) => Some(number),
+/// A sheet as it is written.
+fn written(alloc: Global, sheet: &Sheet) -> Result<Vec<u8>, AllocError> {
+    sheet_text(alloc, &sheet.view, &sheet.takes, &sheet.cut)
+}
+
+/// The line that a check of a sheet answers.
+fn verdict(alloc: Global, sheet: &Sheet) -> Result<Vec<u8>, AllocError> {
+    verdict_text(
+        alloc,
+        &gu_view::check(&sheet.view, &sheet.takes, &sheet.cut),
+    )
+}
+
+/// Whether view, takes and cut of two sheets are the same.
+fn same_text(alloc: Global, sheet: &Sheet, other: &Sheet) -> Result<String, AllocError> {
+    let view = sheet.view.is_same(&other.view);
+    let takes = sheet.takes.is_same(&other.takes);
+    let cut = sheet.cut.is_same(&other.cut);
+    format!(in alloc; "{view} {takes} {cut}")
+}
+
+/// The same, of a sheet and the one in a text.
+fn same_in(alloc: Global, sheet: &Sheet, text: &[u8]) -> Result<String, AllocError> {
+    match Sheet::read(alloc, text) {
+        Ok(other) => {
+            let told = same_text(alloc, sheet, &other);
+            drop(other);
+            told
+        }
+        Err(TextError::BadLine(number)) => format!(in alloc; "bad at {number}"),
+        Err(TextError::Memory) => Err(AllocError),
     }
 }
 
-/// Whether a text is a sheet.
-fn is_sheet(alloc: Global, text: &str) -> bool {
-    Sheet::read(alloc, text.as_bytes()).is_ok()
+/// The same, of a sheet and what is read of it as it is written.
+fn read_back(alloc: Global, sheet: &Sheet) -> Result<String, AllocError> {
+    let text = written(alloc, sheet)?;
+    same_in(alloc, sheet, &text)
 }
 
-#[test]
-fn have_lines_that_end_by_lf_or_cr_lf(rt: HostRuntime) -> Result<(), Fail> {
-    for text in [
-        "SHEET G1 0\nEND\n",
-        "SHEET G1 0\nEND",
-        "SHEET G1 0\r\nEND\r\n",
-        "SHEET   G1  0\nEND\n",
-        "# a comment\n\nSHEET G1 0\n\r\n#\nEND\n\n# more\n",
-        "SHEET G1 999999999999\nEND\n",
-        "SHEET G1 000000000001\nEND\n",
-    ] {
-        assert!(rt; is_sheet(rt.alloc(), text), "{text}");
+/// The same, of a sheet and the one of two offers of one agreement.
+fn shared_text(alloc: Global, sheet: &Sheet) -> Result<String, AllocError> {
+    let text = sheet_text_of(alloc, "shared:")?;
+    same_in(alloc, sheet, text.as_bytes())
+}
+
+/// What a sheet answers to a question.
+fn answer(alloc: Global, question: Question, sheet: &Sheet) -> Result<String, AllocError> {
+    match question {
+        Question::IsRead => String::from_str(alloc, "a sheet"),
+        Question::IsNested => format!(in alloc; "{}", sheet.view.nested()),
+        Question::Verdict => shown(alloc, verdict(alloc, sheet)),
+        Question::Written => shown(alloc, written(alloc, sheet)),
+        Question::ReadBack => read_back(alloc, sheet),
+        Question::IsShared => shared_text(alloc, sheet),
+        Question::Sweep(telling) => sweep_text(alloc, telling, &sheet.view),
+        Question::Most => format!(in alloc; "{}", most(&sheet.view)),
+        Question::Entered => entered_text(alloc, sheet),
     }
-    Ok(())
 }
 
-#[test]
-fn name_their_first_bad_line(rt: HostRuntime) -> Result<(), Fail> {
-    for (text, number) in [
-        // The end is missing: the number after the last line, with those that are skipped.
-        ("", 1),
-        ("SHEET G1 0\n", 2),
-        ("SHEET G1 0\n# a comment\n\n", 4),
-        // Parts and their order.
-        ("END\n", 1),
-        ("SHEET G1 0\nSHEET G1 0\nEND\n", 2),
-        ("SHEET G1 0\nCUT EXEC E1\nTAKE 1 0\nEND\n", 3),
-        ("SHEET G1 0\nTAKE 1 0\nROOM EXEC E1 5\nEND\n", 3),
-        ("SHEET G1 0\nEND\nEND\n", 3),
-        ("SHEET G1 0\nEND\n\nTAKE 1 0\n", 4),
-        // Repetitions.
-        ("SHEET G1 0\nTAKE 1 2\nTAKE 2 5\nTAKE 1 2\nEND\n", 4),
-        (
-            "SHEET G1 0\nCUT EXEC E1\nCUT OFFER 1\nCUT EXEC E1\nEND\n",
-            4,
-        ),
-        ("SHEET G1 0\nCUT OFFER 1\nCUT OFFER 1\nEND\n", 3),
-        // What makes no view is bad at the end, ahead of what stands behind it.
-        ("SHEET G1 0\nROOM EXEC E1 5\nEND\n", 3),
-        ("SHEET G1 0\nROOM GUAR E2 5\nEND\n", 3),
-        ("SHEET G1 0\nOFFER 1 5 P1 E1 A1 C1\nEND\nEND\n", 3),
-        (
-            "SHEET G1 0\nOFFER 1 5 P1 E1 A1 C1\nROOM EXEC E1 5\nROOM AGR P1 5\nROOM ACCT A1 5\nROOM CARRY C1 5\nROOM EXEC E1 5\nEND\n",
-            8,
-        ),
-        // Words and blanks.
-        (" SHEET G1 0\nEND\n", 1),
-        ("SHEET G1 0 \nEND\n", 1),
-        ("SHEET\tG1 0\nEND\n", 1),
-        ("SHEET G1 0\n \nEND\n", 2),
-        ("SHEET G1 0\n # a comment\nEND\n", 2),
-        ("SHEET G1 0\r\r\nEND\n", 1),
-        ("SHEET G1 0\nEND\r", 2),
-        ("SHEET G1 0\nEND END\n", 2),
-        ("SHEET G1\nEND\n", 1),
-        ("SHEET G1 0 0\nEND\n", 1),
-        ("SHEET G1 0\nOFFER 1 5 P1 E1 A1\nEND\n", 2),
-        ("SHEET G1 0\nOFFER 1 5 P1 E1 A1 C1 C2\nEND\n", 3),
-        ("SHEET G1 0\nOFFER 1 5 P1 E1 A1 C1 C2 C2\nEND\n", 2),
-        ("SHEET G1 0\nOFFER 1 5 P1 E1 A1 C1 c2\nEND\n", 2),
-        ("SHEET G1 0\nROOM GUARD E2 5\nEND\n", 2),
-        // Names and numbers.
-        ("SHEET g1 0\nEND\n", 1),
-        ("SHEET ABCDEFGHIJKLM 0\nEND\n", 1),
-        ("SHEET G1 1000000000000\nEND\n", 1),
-        ("SHEET G1 +1\nEND\n", 1),
-        ("SHEET G1 0\nOFFER 0 5 P1 E1 A1 C1\nEND\n", 2),
-        ("SHEET G1 0\nTAKE 0 1\nEND\n", 2),
-        ("SHEET G1 0\nTAKE 16000001 1\nEND\n", 2),
-        ("SHEET G1 0\nTAKE 1 1.0\nEND\n", 2),
-        ("SHEET G1 0\nCUT OFFER 0\nEND\n", 2),
-    ] {
-        assert_eq!(rt; bad_line(rt.alloc(), text), Some(number), "{text}");
+/// What the sheet in a text answers to a question, or its first bad line.
+fn told_in(alloc: Global, question: Question, text: &[u8]) -> Result<String, AllocError> {
+    match Sheet::read(alloc, text) {
+        Ok(sheet) => {
+            let told = answer(alloc, question, &sheet);
+            drop(sheet);
+            told
+        }
+        Err(TextError::BadLine(number)) => format!(in alloc; "bad at {number}"),
+        Err(TextError::Memory) => Err(AllocError),
     }
-    Ok(())
 }
 
-#[test]
-fn have_comments_of_1024_bytes_at_most(rt: HostRuntime) -> Result<(), Fail> {
-    for (length, number) in [(1_024, 2), (1_025, 1)] {
-        let comment = "#".repeat(rt.alloc(), length)?;
-        assert_eq!(rt; bad_line(rt.alloc(), &comment), Some(number), "{length}");
-    }
-    Ok(())
+/// The same of the text that a row speaks of.
+pub fn told(alloc: Global, question: Question, asked: &str) -> Result<String, AllocError> {
+    let text = sheet_text_of(alloc, asked)?;
+    told_in(alloc, question, text.as_bytes())
 }
 
-/// Takes and cuts in any order.
-const REST: &str = "TAKE 2 2
-TAKE 1 5
-CUT OFFER 2
-CUT AGR P1
-CUT EXEC E1
+/// Texts that are sheets.
+const SHEETS: &str = "\
+SHEET G1 0|END| -> a sheet
+SHEET G1 0|END -> a sheet
+SHEET G1 0\r|END\r| -> a sheet
+SHEET   G1  0|END| -> a sheet
+# a comment||SHEET G1 0|\r|#|END||# more| -> a sheet
+SHEET G1 999999999999|END| -> a sheet
+SHEET G1 000000000001|END| -> a sheet
 ";
 
-/// Whether takes stand in the order of offers.
-fn ascend(takes: &[Take]) -> bool {
-    let expected = [(1, 5), (2, 2)];
-    takes.len() == 2
-        && takes.iter().zip(expected).all(|(take, (offer, lots))| {
-            take.offer.get() == offer && take.lots == lots
-        })
-}
+/// Texts whose end is missing: bad is the number after the last line, with those that are skipped.
+const UNENDED: &str = "\
+SHEET G1 0| -> bad at 2
+ -> bad at 1
+SHEET G1 0|# a comment|| -> bad at 4
+(#*1024) -> bad at 2
+";
 
-/// Whether rooms stand in the order of the paths.
-fn follow_the_paths(rooms: &[Room]) -> bool {
-    let kinds = ["EXEC", "AGR", "ACCT", "CARRY"];
-    rooms.len() == 4
-        && rooms
-            .iter()
-            .zip(kinds)
-            .all(|(room, kind)| room.key.kind() == kind)
-}
+/// Parts that are out of their order, or stand twice.
+const OUT_OF_ORDER: &str = "\
+END| -> bad at 1
+SHEET G1 0|SHEET G1 0|END| -> bad at 2
+SHEET G1 0|CUT EXEC E1|TAKE 1 0|END| -> bad at 3
+SHEET G1 0|TAKE 1 0|ROOM EXEC E1 5|END| -> bad at 3
+SHEET G1 0|END|END| -> bad at 3
+SHEET G1 0|END||TAKE 1 0| -> bad at 4
+SHEET G1 0|TAKE 1 2|TAKE 2 5|TAKE 1 2|END| -> bad at 4
+SHEET G1 0|CUT EXEC E1|CUT OFFER 1|CUT EXEC E1|END| -> bad at 4
+SHEET G1 0|CUT OFFER 1|CUT OFFER 1|END| -> bad at 3
+";
 
-/// Whether keys of a cut stand in the order of their lines.
-fn stand_as_read(keys: &[LimitKey]) -> bool {
-    let kinds = ["AGR", "EXEC"];
-    keys.len() == 2 && keys.iter().zip(kinds).all(|(key, kind)| key.kind() == kind)
-}
+/// Offers and rooms that make no view: that is bad at the end, ahead of what stands behind it.
+const WITHOUT_A_VIEW: &str = "\
+SHEET G1 0|ROOM EXEC E1 5|END| -> bad at 3
+SHEET G1 0|ROOM GUAR E2 5|END| -> bad at 3
+SHEET G1 0|OFFER 1 5 P1 E1 A1 C1|END|END| -> bad at 3
+SHEET G1 0|OFFER 1 5 P1 E1 A1 C1|ROOM EXEC E1 5|ROOM AGR P1 5|ROOM ACCT A1 5|ROOM CARRY C1 5|ROOM EXEC E1 5|END| -> bad at 8
+";
+
+/// Lines whose words or blanks aren't those of a form.
+const OF_NO_FORM: &str = "\
+(#*1025) -> bad at 1
+ SHEET G1 0|END| -> bad at 1
+SHEET G1 0 |END| -> bad at 1
+SHEET\tG1 0|END| -> bad at 1
+SHEET G1 0| |END| -> bad at 2
+SHEET G1 0| # a comment|END| -> bad at 2
+SHEET G1 0\r\r|END| -> bad at 1
+SHEET G1 0|END\r -> bad at 2
+SHEET G1 0|END END| -> bad at 2
+SHEET G1|END| -> bad at 1
+SHEET G1 0 0|END| -> bad at 1
+SHEET G1 0|OFFER 1 5 P1 E1 A1|END| -> bad at 2
+SHEET G1 0|OFFER 1 5 P1 E1 A1 C1 C2|END| -> bad at 3
+SHEET G1 0|OFFER 1 5 P1 E1 A1 C1 C2 C2|END| -> bad at 2
+SHEET G1 0|OFFER 1 5 P1 E1 A1 C1 c2|END| -> bad at 2
+SHEET G1 0|ROOM GUARD E2 5|END| -> bad at 2
+";
+
+/// Lines with names and numbers that are none.
+const OF_BAD_WORDS: &str = "\
+SHEET g1 0|END| -> bad at 1
+SHEET ABCDEFGHIJKLM 0|END| -> bad at 1
+SHEET G1 1000000000000|END| -> bad at 1
+SHEET G1 +1|END| -> bad at 1
+SHEET G1 0|OFFER 0 5 P1 E1 A1 C1|END| -> bad at 2
+SHEET G1 0|TAKE 0 1|END| -> bad at 2
+SHEET G1 0|TAKE 16000001 1|END| -> bad at 2
+SHEET G1 0|TAKE 1 1.0|END| -> bad at 2
+SHEET G1 0|CUT OFFER 0|END| -> bad at 2
+";
 
 #[test]
-fn may_have_the_lines_of_a_part_in_any_order(rt: HostRuntime) -> Result<(), Fail> {
-    let sheet = sheet(rt.alloc(), SHARED, REST);
-    assert!(rt;
-        sheet.is_some_and(|sheet| {
-            ascend(sheet.takes.as_slice())
-                && follow_the_paths(sheet.view.rooms())
-                && stand_as_read(sheet.cut.keys())
-        })
-    );
-    Ok(())
-}
-
-/// The kinds of the keys on the paths of a view, offer by offer.
-fn have_kinds(view: &View, paths: [&[&str]; 2]) -> bool {
-    view.offers().len() == 2
-        && view.offers().iter().zip(paths).all(|(offer, kinds)| {
-            let keys = offer.path.keys();
-            keys.len() == kinds.len()
-                && keys
-                    .iter()
-                    .zip(kinds)
-                    .all(|(key, kind)| key.kind() == *kind)
-        })
-}
-
-#[test]
-fn name_a_guarantor_where_there_is_one(rt: HostRuntime) -> Result<(), Fail> {
-    let four = ["EXEC", "AGR", "ACCT", "CARRY"].as_slice();
-    let five = ["EXEC", "AGR", "ACCT", "CARRY", "GUAR"].as_slice();
-    for (text, paths) in [
-        (SHARED, [four, four]),
-        (MIXED, [five, four]),
-        (UNDER_ONE_GUARANTOR, [five, five]),
-    ] {
-        let sheet = sheet(rt.alloc(), text, "");
-        assert!(rt;
-            sheet.is_some_and(|sheet| have_kinds(&sheet.view, paths)),
-            "{text}"
-        );
-    }
-    Ok(())
+fn are_read_or_named_by_their_first_bad_line(rt: HostRuntime) {
+    let subject = Subject::Sheets(Question::IsRead);
+    check(&rt, rt.alloc(), subject, SHEETS);
+    check(&rt, rt.alloc(), subject, UNENDED);
+    check(&rt, rt.alloc(), subject, OUT_OF_ORDER);
+    check(&rt, rt.alloc(), subject, WITHOUT_A_VIEW);
+    check(&rt, rt.alloc(), subject, OF_NO_FORM);
+    check(&rt, rt.alloc(), subject, OF_BAD_WORDS);
 }

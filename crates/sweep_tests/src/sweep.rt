@@ -1,129 +1,103 @@
 //! Proposals whose takes and cuts are known.
+use crate::rows::{Subject, check, shown};
+use crate::sheets::Question;
+use gu_flow::{Proposal, propose};
+use gu_text::{sheet_text, verdict_text};
+use gu_view::View;
+use std::alloc::{AllocError, Global};
 
-use crate::fixture::{
-    CROSSED, EMPTY, GUARANTEED, MIXED, SHARED, UNDER_ONE_GUARANTOR, WITHOUT_THE_LIMIT, key,
-    proposal, view,
-};
-use gu_flow::Proposal;
-use gu_terms::{Cut, Take};
-use std::alloc::Global;
-use std::process::Abort;
-use std::test::Fail;
-
-/// One offer, with room for it.
-const ALONE: &str = "SHEET G1 0
-OFFER 1 7 P1 E1 A1 C1
-ROOM EXEC E1 100
-ROOM AGR P1 100
-ROOM ACCT A1 100
-ROOM CARRY C1 100
-";
-
-/// Two agreements behind one carrying firm with less room than both accounts.
-const NARROW: &str = "SHEET G1 0
-OFFER 1 10 P1 E1 A1 C1
-OFFER 2 10 P2 E1 A2 C1
-ROOM EXEC E1 100
-ROOM AGR P1 100
-ROOM AGR P2 100
-ROOM ACCT A1 10
-ROOM ACCT A2 10
-ROOM CARRY C1 13
-";
-
-/// Whether these lots are taken, offer by offer.
-fn gives(takes: &[Take], lots: &[u64]) -> bool {
-    takes.len() == lots.len()
-        && takes
-            .iter()
-            .zip(lots)
-            .all(|(take, lots)| take.lots == *lots)
+/// What is told of a proposal besides its lots.
+#[derive(Clone, Copy)]
+pub enum Telling {
+    Lots,
+    /// The line that a check answers, the takes and the cut.
+    Takes,
+    /// That line and the cut.
+    Cut,
 }
 
-/// Whether these are the keys of the cut, in any order, and so many offers are in it.
-fn has(cut: &Cut, keys: &[(&str, &str)], offers: usize) -> bool {
-    cut.keys().len() == keys.len()
-        && cut.offers().len() == offers
-        && keys.iter().all(|(kind, name)| key(kind, name).is_some_and(|key| cut.has_key(key)))
+/// The lots of a proposal, the line that a check of it answers, and its sheet from a word on.
+fn from_word(alloc: Global, proposal: &Proposal, word: &str) -> Result<String, AllocError> {
+    let verdict = gu_view::check(proposal.view(), proposal.takes(), proposal.cut());
+    let verdict = shown(alloc, verdict_text(alloc, &verdict))?;
+    let sheet = sheet_text(alloc, proposal.view(), proposal.takes(), proposal.cut());
+    let sheet = shown(alloc, sheet)?;
+    let (_, rest) = sheet.split_once(word).unwrap_or(("", ""));
+    format!(in alloc; "{} {verdict}{word}{rest}", proposal.lots())
 }
 
-/// The proposal for the view in a text.
-fn proposed(rt: &impl Abort, alloc: Global, text: &str) -> Option<Proposal> {
-    proposal(rt, alloc, view(alloc, text)?)
-}
-
-#[test]
-fn takes_what_greedy_misses_and_shows_why_no_more(rt: HostRuntime) -> Result<(), Fail> {
-    for (text, lots, takes, keys, offers) in [
-        (ALONE, 7, [7].as_slice(), [].as_slice(), 1),
-        (
-            CROSSED,
-            20,
-            [0, 10, 10].as_slice(),
-            [("EXEC", "E1"), ("ACCT", "A1")].as_slice(),
-            0,
-        ),
-        (SHARED, 7, [5, 2].as_slice(), [("AGR", "P1")].as_slice(), 0),
-        (
-            GUARANTEED,
-            4,
-            [4].as_slice(),
-            [("GUAR", "E2")].as_slice(),
-            0,
-        ),
-        (
-            WITHOUT_THE_LIMIT,
-            0,
-            [0].as_slice(),
-            [("GUAR", "E2")].as_slice(),
-            0,
-        ),
-        (
-            MIXED,
-            11,
-            [3, 8].as_slice(),
-            [("GUAR", "E2"), ("CARRY", "C2")].as_slice(),
-            0,
-        ),
-        (EMPTY, 0, [].as_slice(), [].as_slice(), 0),
-    ] {
-        let proposal = proposed(&rt, rt.alloc(), text);
-        assert!(rt;
-            proposal.is_some_and(|proposal| {
-                proposal.lots() == lots
-                    && gives(proposal.takes().as_slice(), takes)
-                    && has(proposal.cut(), keys, offers)
-            }),
-            "{text}"
-        );
+/// What is told of a proposal.
+fn proposal_text(
+    alloc: Global,
+    telling: Telling,
+    proposal: &Proposal,
+) -> Result<String, AllocError> {
+    match telling {
+        Telling::Lots => format!(in alloc; "{}", proposal.lots()),
+        Telling::Takes => from_word(alloc, proposal, "TAKE"),
+        Telling::Cut => from_word(alloc, proposal, "CUT"),
     }
-    Ok(())
 }
 
-#[test]
-fn stays_within_the_carrying_firm(rt: HostRuntime) -> Result<(), Fail> {
-    let narrow = proposed(&rt, rt.alloc(), NARROW);
-    assert!(rt;
-        narrow.is_some_and(|proposal| {
-            proposal.lots() == 13 && has(proposal.cut(), &[("CARRY", "C1")], 0)
-        })
-    );
-    Ok(())
+/// What is told of the copy of a proposal.
+fn copy_text(alloc: Global, telling: Telling, proposal: &Proposal) -> Result<String, AllocError> {
+    let copy = proposal.copy()?;
+    proposal_text(alloc, telling, &copy)
 }
 
+/// The proposal for a view that was given back, where that is this view.
+fn proposed_again(alloc: Global, view: &View, given: View) -> Result<Option<Proposal>, AllocError> {
+    if !given.is_same(view) || !given.nested() {
+        return Ok(None);
+    }
+    match propose(alloc, given) {
+        Ok(proposal) => Ok(Some(proposal)),
+        Err((refused, _)) => Err(refused),
+    }
+}
+
+/// The proposal for a nested view, at the second try where the first is refused memory.
+fn proposed(alloc: Global, view: &View) -> Result<Option<Proposal>, AllocError> {
+    let copy = view.copy()?;
+    if !copy.nested() {
+        return Ok(None);
+    }
+    match propose(alloc, copy) {
+        Ok(proposal) => Ok(Some(proposal)),
+        Err((_, given)) => proposed_again(alloc, view, given),
+    }
+}
+
+/// What is told of the proposal for a view.
+pub fn sweep_text(alloc: Global, telling: Telling, view: &View) -> Result<String, AllocError> {
+    match proposed(alloc, view)? {
+        Some(proposal) => copy_text(alloc, telling, &proposal),
+        None => String::from_str(alloc, "nothing"),
+    }
+}
+
+/// Views, and the lots of their proposals, the line that a check answers, the takes and the cut, in the order of the view.
+const TAKES: &str = "\
+SHEET G1 0|OFFER 1 7 P1 E1 A1 C1|ROOM EXEC E1 100|ROOM AGR P1 100|ROOM ACCT A1 100|ROOM CARRY C1 100|END| -> \
+    7 OK 7|TAKE 1 7|CUT OFFER 1|END|
+crossed: -> 20 OK 20|TAKE 1 0|TAKE 2 10|TAKE 3 10|CUT EXEC E1|CUT ACCT A1|END|
+shared: -> 7 OK 7|TAKE 1 5|TAKE 2 2|CUT AGR P1|END|
+guaranteed: -> 4 OK 4|TAKE 1 4|CUT GUAR E2|END|
+unlimited: -> 0 OK 0|TAKE 1 0|CUT GUAR E2|END|
+mixed: -> 11 OK 11|TAKE 1 3|TAKE 2 8|CUT GUAR E2|CUT CARRY C2|END|
+empty: -> 0 OK 0|TAKE
+";
+
+/// Views in which other takes are as great, and the same without the takes.
+const CUTS: &str = "\
+narrow: -> 13 OK 13|CUT CARRY C1|END|
+both: -> 10 OK 10|CUT GUAR E2|END|
+";
+
 #[test]
-fn stays_within_the_guarantor_of_two_carrying_firms(rt: HostRuntime) -> Result<(), Fail> {
-    let two = proposed(&rt, rt.alloc(), UNDER_ONE_GUARANTOR);
-    assert!(rt;
-        two.is_some_and(|proposal| {
-            proposal.lots() == 10
-                && proposal
-                    .takes()
-                    .as_slice()
-                    .iter()
-                    .all(|take| take.lots <= 8)
-                && has(proposal.cut(), &[("GUAR", "E2")], 0)
-        })
-    );
-    Ok(())
+fn takes_what_greedy_misses_and_shows_why_no_more(rt: HostRuntime) {
+    let takes = Subject::Sheets(Question::Sweep(Telling::Takes));
+    let cut = Subject::Sheets(Question::Sweep(Telling::Cut));
+    check(&rt, rt.alloc(), takes, TAKES);
+    check(&rt, rt.alloc(), cut, CUTS);
 }

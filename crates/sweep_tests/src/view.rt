@@ -1,126 +1,118 @@
-//! Which offers and rooms make a view, and what it shows.
+//! Which offers and rooms make a view.
+use crate::rows::{Subject, check, first_word, number};
+use gu_terms::{AgreementId, Group, LimitKey, Name, OfferNo, Path};
+use gu_view::{Offer, Room, View, ViewError};
+use std::alloc::{AllocError, Global};
 
-use crate::fixture::{CROSSED, OfferLine, RoomLine, SHARED, key, made, view};
-use gu_terms::{Group, OfferNo};
-use gu_view::{View, ViewError};
-use std::alloc::Global;
-use std::test::Fail;
+/// The key of a kind with a name.
+pub fn key_of(words: &str) -> Option<LimitKey> {
+    let (kind, name) = first_word(words);
+    LimitKey::of(kind.as_bytes(), Name::new(name.as_bytes())?)
+}
 
-/// Offers and rooms that make no view: the refusal, and the offer that it names, or 0.
-type RefusedLine = (&'static [OfferLine], &'static [RoomLine], &'static str, u64);
+/// The path of these keys, with a `,` between two of them.
+fn path_of(alloc: Global, words: &str) -> Result<Path, AllocError> {
+    let mut keys = Vec::new(alloc);
+    for key in words.split(',') {
+        keys.push(key_of(key).ok_or(AllocError)?)?;
+    }
+    Path::of(&keys).ok_or(AllocError)
+}
 
-const DESCENDING: [OfferLine; 2] = [
-    (2, 5, "P1", ["E1", "P1", "A1", "C1"], None),
-    (1, 5, "P1", ["E1", "P1", "A1", "C1"], None),
-];
+/// The offer of these numbers and this agreement, with a path.
+fn offer_of(number_of: u64, lots: u64, agreement: &str, path: Path) -> Option<Offer> {
+    Some(Offer {
+        number: OfferNo::new(number_of)?,
+        lots,
+        agreement: AgreementId::new(agreement.as_bytes())?,
+        path,
+    })
+}
 
-const OF_NO_LOTS: [OfferLine; 1] = [(1, 0, "P1", ["E1", "P1", "A1", "C1"], None)];
+/// The offer of a line: its number, its lots, its agreement, and the keys of its path.
+fn offer_in(alloc: Global, line: &str) -> Result<Offer, AllocError> {
+    let (first, rest) = first_word(line);
+    let (lots, rest) = first_word(rest);
+    let (agreement, keys) = first_word(rest);
+    let path = path_of(alloc, keys)?;
+    offer_of(number(first), number(lots), agreement, path).ok_or(AllocError)
+}
 
-const OF_TWO_PATHS: [OfferLine; 2] = [
-    (1, 5, "P1", ["E1", "P1", "A1", "C1"], None),
-    (2, 5, "P1", ["E1", "P1", "A2", "C1"], None),
-];
+/// The offers of lines.
+fn offers_in(alloc: Global, lines: &str) -> Result<Vec<Offer>, AllocError> {
+    let mut offers = Vec::new(alloc);
+    for line in lines.split('|') {
+        offers.push(offer_in(alloc, line)?)?;
+    }
+    Ok(offers)
+}
 
-const OF_ANOTHER_AGREEMENT: [OfferLine; 1] = [(1, 5, "P1", ["E1", "P2", "A1", "C1"], None)];
+/// The rooms of lines: their lots and their keys. A line without a key has none.
+fn rooms_in(alloc: Global, lines: &str) -> Result<Vec<Room>, AllocError> {
+    let mut rooms = Vec::new(alloc);
+    for line in lines.split('|') {
+        let (lots, words) = first_word(line);
+        let found: Option<LimitKey> = key_of(words);
+        if let Some(key) = found {
+            let lots = number(lots);
+            rooms.push(Room { key, lots })?;
+        }
+    }
+    Ok(rooms)
+}
 
-const ALONE: [OfferLine; 1] = [(1, 5, "P1", ["E1", "P1", "A1", "C1"], None)];
+/// The view of offers and, behind a `/`, of rooms.
+fn made(alloc: Global, asked: &str) -> Result<View, ViewError> {
+    let (offers, rooms) = asked.split_once('/').unwrap_or((asked, ""));
+    let offers = offers_in(alloc, offers)?;
+    let rooms = rooms_in(alloc, rooms)?;
+    let group = Group::new(b"G1").ok_or(ViewError::Memory)?;
+    View::new(alloc, group, 11, offers, rooms)
+}
 
-const THREE_ROOMS: [RoomLine; 3] = [("EXEC", "E1", 100), ("AGR", "P1", 100), ("ACCT", "A1", 100)];
+/// Whether a view is nested, and whether its copy is the same.
+fn view_text(alloc: Global, view: &View) -> Result<String, AllocError> {
+    let copy = view.copy()?;
+    format!(in alloc; "{} {}", view.nested(), copy.is_same(view))
+}
 
-const TOO_HIGH: [RoomLine; 4] = [
-    ("EXEC", "E1", 100),
-    ("AGR", "P1", 1_000_000_001),
-    ("ACCT", "A1", 100),
-    ("CARRY", "C1", 100),
-];
+/// A refusal and the offer that it names.
+fn refusal_text(alloc: Global, name: &str, offer: OfferNo) -> Result<String, AllocError> {
+    format!(in alloc; "{name} {}", offer.get())
+}
 
-const REFUSED: [RefusedLine; 6] = [
-    (&DESCENDING, &[], "BadOffer", 1),
-    (&OF_NO_LOTS, &[], "BadOffer", 1),
-    (&OF_TWO_PATHS, &[], "PathDiffers", 2),
-    (&OF_ANOTHER_AGREEMENT, &[], "PathDiffers", 1),
-    (&ALONE, &THREE_ROOMS, "BadRooms", 0),
-    (&ALONE, &TOO_HIGH, "BadRooms", 0),
-];
-
-/// The refusal of this name, for an offer where it names one.
-fn refusal(name: &str, number: u64) -> Option<ViewError> {
-    match name {
-        "BadOffer" => OfferNo::new(number).map(ViewError::BadOffer),
-        "PathDiffers" => OfferNo::new(number).map(ViewError::PathDiffers),
-        _ => Some(ViewError::BadRooms),
+/// Why offers and rooms make no view.
+fn error_text(alloc: Global, error: ViewError) -> Result<String, AllocError> {
+    match error {
+        ViewError::BadOffer(offer) => refusal_text(alloc, "BadOffer", offer),
+        ViewError::PathDiffers(offer) => refusal_text(alloc, "PathDiffers", offer),
+        ViewError::BadRooms => String::from_str(alloc, "BadRooms"),
+        ViewError::Memory => Err(AllocError),
     }
 }
 
-/// What refuses these lines.
-fn refused(alloc: Global, offers: &[OfferLine], rooms: &[RoomLine]) -> Option<ViewError> {
-    made(alloc, offers, rooms)?.err()
-}
-
-#[test]
-fn is_refused_by_the_first_rule_that_is_broken(rt: HostRuntime) -> Result<(), Fail> {
-    for (offers, rooms, name, number) in &REFUSED {
-        let refused = refused(rt.alloc(), offers, rooms);
-        assert_eq!(rt; refused, refusal(name, *number), "{name}");
+/// The same of the view of offers and rooms, or why they make none.
+pub fn told(alloc: Global, asked: &str) -> Result<String, AllocError> {
+    match made(alloc, asked) {
+        Ok(view) => view_text(alloc, &view),
+        Err(error) => error_text(alloc, error),
     }
-    Ok(())
 }
 
-/// The place of a key's room in the view of three agreements.
-fn place(alloc: Global, kind: &str, name: &str) -> Option<Option<usize>> {
-    let view = view(alloc, CROSSED)?;
-    Some(view.place(key(kind, name)?))
-}
-
-#[test]
-fn keeps_rooms_in_order_of_first_mention(rt: HostRuntime) -> Result<(), Fail> {
-    for (kind, name, at) in [
-        ("EXEC", "E1", Some(0)),
-        ("ACCT", "A2", Some(5)),
-        ("AGR", "P3", Some(7)),
-        ("ACCT", "A3", None),
-    ] {
-        assert_eq!(rt; place(rt.alloc(), kind, name), Some(at), "{kind} {name}");
-    }
-    Ok(())
-}
-
-/// Whether a view shows three agreements.
-fn shows_three(view: &View) -> bool {
-    view.version() == 11
-        && Some(view.group()) == Group::new(b"G1")
-        && view.offers().len() == 3
-        && view.rooms().len() == 8
-        && view.members(2) == [0, 2].as_slice()
-        && view.places(2) == [6, 7, 2, 3].as_slice()
-}
-
-#[test]
-fn shows_what_it_was_made_of(rt: HostRuntime) -> Result<(), Fail> {
-    let view = view(rt.alloc(), CROSSED);
-    assert!(rt; view.is_some_and(|view| shows_three(&view)));
-    Ok(())
-}
-
-/// The view of two offers, with more room under their agreement.
-const WIDER: &str = "SHEET G1 7
-OFFER 1 5 P1 E1 A1 C1
-OFFER 2 5 P1 E1 A1 C1
-ROOM CARRY C1 100
-ROOM ACCT A1 100
-ROOM AGR P1 8
-ROOM EXEC E1 100
+/// Offers that descend, have no lots, have two paths, or name another agreement; rooms of which one lacks or is too high; and paths
+/// in their order and in another.
+const VIEWS: &str = "\
+2 5 P1 EXEC E1,AGR P1,ACCT A1,CARRY C1|1 5 P1 EXEC E1,AGR P1,ACCT A1,CARRY C1 -> BadOffer 1
+1 0 P1 EXEC E1,AGR P1,ACCT A1,CARRY C1 -> BadOffer 1
+1 5 P1 EXEC E1,AGR P1,ACCT A1,CARRY C1|2 5 P1 EXEC E1,AGR P1,ACCT A2,CARRY C1 -> PathDiffers 2
+1 5 P1 EXEC E1,AGR P2,ACCT A1,CARRY C1 -> PathDiffers 1
+1 5 P1 EXEC E1,AGR P1,ACCT A1,CARRY C1/100 EXEC E1|100 AGR P1|100 ACCT A1 -> BadRooms
+1 5 P1 EXEC E1,AGR P1,ACCT A1,CARRY C1/100 EXEC E1|1000000001 AGR P1|100 ACCT A1|100 CARRY C1 -> BadRooms
+1 5 P1 EXEC E1,AGR P1,ACCT A1,CARRY C1/100 EXEC E1|1000000000 AGR P1|100 ACCT A1|100 CARRY C1 -> true true
+1 5 P1 ACCT A1,AGR P1,EXEC E1,CARRY C1/1 EXEC E1|1 AGR P1|1 ACCT A1|1 CARRY C1 -> false true
 ";
 
-/// Whether two texts are of the same view.
-fn same(alloc: Global, text: &str, other: &str) -> Option<bool> {
-    let other = view(alloc, other)?;
-    Some(view(alloc, text)?.is_same(&other))
-}
-
 #[test]
-fn is_the_same_only_with_the_same_rooms(rt: HostRuntime) -> Result<(), Fail> {
-    assert_eq!(rt; same(rt.alloc(), SHARED, SHARED), Some(true));
-    assert_eq!(rt; same(rt.alloc(), SHARED, WIDER), Some(false));
-    Ok(())
+fn is_refused_by_the_first_rule_that_is_broken(rt: HostRuntime) {
+    check(&rt, rt.alloc(), Subject::Views, VIEWS);
 }
