@@ -63,15 +63,21 @@ command_added old sub new app shape adds plain is bare =
     ∙ ap (λ (a : App). with_subcommand a (shape_of sub)) bare
     ∙ ap (with_subcommand app) is
 
+-- a command that is added at the end
+pub last_command_added : {E : Type 0} (result : Result Command E) (old sub : Command) (shape : Shape) → shape.is_plain ≡ true → shape_of sub ≡ shape
+    → IfOk result (λ command. AddsSubcommand old sub command) → IfOk result (λ command. app_of command ≡ with_subcommand (app_of old) shape)
+last_command_added (Ok command) old sub shape plain is adds = command_added old sub command (app_of old) shape adds plain is refl
+last_command_added (Err error) old sub shape plain is adds = tt
+
 -- the program with its three commands
-pub three_commands : {E : Type 0} (result : Result Command E) (bare one two check fix replay : Command) → app_of bare ≡ new_app (codes "giveup")
-    → AddsSubcommand bare check one → shape_of check ≡ check_shape → AddsSubcommand one fix two → shape_of fix ≡ fix_shape
-    → shape_of replay ≡ replay_shape → IfOk result (λ command. AddsSubcommand two replay command) → IfOk result (λ command. app_of command ≡ program)
-three_commands (Ok command) bare one two check fix replay is checks is_check fixes is_fix is_replay replays =
+pub three_commands : {E : Type 0} (result : Result Command E) (bare one two check : Command) → app_of bare ≡ new_app (codes "giveup")
+    → AddsSubcommand bare check one → shape_of check ≡ check_shape → app_of two ≡ with_subcommand (app_of one) fix_shape
+    → IfOk result (λ command. app_of command ≡ with_subcommand (app_of two) replay_shape) → IfOk result (λ command. app_of command ≡ program)
+three_commands (Ok command) bare one two check is checks is_check fixes replays =
     let checking = command_added bare check one (new_app (codes "giveup")) check_shape checks refl is_check is in
-    let fixing = command_added one fix two (with_subcommand (new_app (codes "giveup")) check_shape) fix_shape fixes refl is_fix checking in
-    command_added two replay command (with_subcommand (with_subcommand (new_app (codes "giveup")) check_shape) fix_shape) replay_shape replays refl is_replay fixing
-three_commands (Err error) bare one two check fix replay is checks is_check fixes is_fix is_replay replays = tt
+    let fixing = fixes ∙ ap (λ (a : App). with_subcommand a fix_shape) checking in
+    replays ∙ ap (λ (a : App). with_subcommand a replay_shape) fixing
+three_commands (Err error) bare one two check is checks is_check fixes replays = tt
 
 -- the command `fix`, with these rows, asks for a session
 pub fixes : (sub : Option (Text × List Row)) (rows : List Row) (firm reference : Text) (script : Option Text) → option_map (λ (p : Text × List Row). p.0) sub ≡ Some (codes "fix") → option_map (λ (p : Text × List Row). p.1) sub ≡ Some rows

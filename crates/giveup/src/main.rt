@@ -94,7 +94,7 @@ fn run<R: Input + Print + Eprint + Env + Files + Clock + Alloc<A = Global>, T: W
 ) -> Result<Status, RunError> {
     match given(rt) {
         Ok(words) => perform(rt, words.as_slice(), terminal),
-        Err(error) => Ok(answer(rt, &error)?),
+        Err(error) => answer(rt, &error).map_err(RunError::from),
     }
 }
 
@@ -116,9 +116,9 @@ fn perform<R: Input + Print + Eprint + Files + Clock + Alloc<A = Global>, T: Wri
             },
         ) => match firm_named(rt.alloc(), firm) {
             Ok(firm) => run_fix(rt, firm, reference, script),
-            Err(error) => Ok(answer(rt, &error)?),
+            Err(error) => answer(rt, &error).map_err(RunError::from),
         },
-        Err(error) => Ok(answer(rt, &error)?),
+        Err(error) => answer(rt, &error).map_err(RunError::from),
     }
 }
 

@@ -1,7 +1,7 @@
 //! The words that the program is called with.
 
 ghost use Rattle.std.specs.Prelude.{◌≡◌, ◌∷◌, [], List, ℕ, Err, IfOk, codes, false, map, unwrap_or};
-ghost use Rattle.clap.specs.Words.{FailsBy, app_of, fault_of, first_value, found_of, kind_of, rule_of, shape_of, subcommand_rows_of};
+ghost use Rattle.clap.specs.Words.{FailsBy, app_of, fault_of, first_value, found_of, kind_of, rule_of, shape_of, subcommand_rows_of, with_subcommand};
 ghost use Rattle.clap.specs.declared.error.kind.ErrorKind.TheVariants.{OutOfMemory};
 ghost use Rattle.giveup.specs.ProgramWords.{Captures, Checks, Reads, check_shape, fix_shape, needed, program, replay_shape, script_rule, status_of, wanted_by, wanted_in, wanted_of};
 
@@ -73,10 +73,10 @@ fn fix_command<'a>(alloc: Global) -> Result<Command<'a>, AllocError>
         "Serves one session of a firm over standard input and output",
     );
     let firm = needed(alloc, "FIRM");
-    let reference = needed(alloc, "REF");
-    let script = script_option(alloc);
     let of_firm = bare.arg(firm)?;
+    let reference = needed(alloc, "REF");
     let on_reference = of_firm.arg(reference)?;
+    let script = script_option(alloc);
     on_reference.arg(script)
 }
 
@@ -91,18 +91,37 @@ fn replay_command<'a>(alloc: Global) -> Result<Command<'a>, AllocError>
     bare.arg(reference)
 }
 
-/// The program's command, a subcommand for each task but trade capture.
+/// A command, and `fix` behind it.
+fn with_fix<'a>(alloc: Global, command: Command<'a>) -> Result<Command<'a>, AllocError>
+    ensures { IfOk result (λ with. app_of with ≡ with_subcommand (app_of command.entry) fix_shape) }
+{
+    let fix = fix_command(alloc)?;
+    command.subcommand(fix)
+}
+
+/// A command, and `replay` behind it.
+fn with_replay<'a>(alloc: Global, command: Command<'a>) -> Result<Command<'a>, AllocError>
+    ensures { IfOk result (λ with. app_of with ≡ with_subcommand (app_of command.entry) replay_shape) }
+{
+    let replay = replay_command(alloc)?;
+    command.subcommand(replay)
+}
+
+/// The program's command, a subcommand for each task but trade capture. No command is held while another is made.
 fn program<'a>(alloc: Global) -> Result<Command<'a>, AllocError>
     ensures { IfOk result (λ command. app_of command ≡ program) }
 {
     let bare = Command::new(alloc, "giveup").about(
         "The desk of a clearing house. Without a command: trade capture on the sample, from standard input",
     );
-    let fix = fix_command(alloc)?;
-    let replay = replay_command(alloc)?;
     let checking = bare.subcommand(check_command(alloc))?;
-    let fixing = checking.subcommand(fix)?;
-    fixing.subcommand(replay)
+    let fixing = with_fix(alloc, checking)?;
+    with_replay(alloc, fixing)
+}
+
+/// The refusal of a word, for this reason, with how the program is called.
+fn refusal(alloc: Global, why: &str) -> Result<Error, AllocError> {
+    program(alloc)?.error(ErrorKind::InvalidValue, why)
 }
 
 /// The word that was given for a name.
@@ -149,7 +168,7 @@ pub fn firm_named(alloc: Global, name: &str) -> Result<FirmId, Error>
 {
     match FirmId::new(name.as_bytes()) {
         Some(firm) => Ok(firm),
-        None => Err(program(alloc)?.error(ErrorKind::InvalidValue, NO_FIRM)?),
+        None => Err(refusal(alloc, NO_FIRM)?),
     }
 }
 
@@ -159,7 +178,7 @@ pub fn given<R: Env + Alloc<A = Global>>(rt: &R) -> Result<Vec<String>, Error> {
     match env::args(rt) {
         Ok(words) => Ok(words.collect(alloc)?),
         Err(error) if error.kind() == io::ErrorKind::OutOfMemory => Err(Error::from(AllocError)),
-        Err(_) => Err(program(alloc)?.error(ErrorKind::InvalidValue, NOT_TEXT)?),
+        Err(_) => Err(refusal(alloc, NOT_TEXT)?),
     }
 }
 

@@ -1,0 +1,7 @@
+use Rattle.std.proofs.Common.{refl}
+use Rattle.giveup.specs.ProgramWords.{replay_shape}
+use Rattle.giveup.proofs.WordLemmas.{last_command_added}
+use Rattle.giveup.proofs.words.with_replay.Goals as goal
+
+pub returns : goal.returns
+returns c = last_command_added c.subcommand.result c.args.command c.in_ok-replay.replay replay_shape refl c.in_ok-replay.ensures c.subcommand.ensures
