@@ -1,3 +1,4 @@
+pub mod KeptAt
 pub mod KeptLemmas
 pub mod LastPlaces
 pub mod OneMore
