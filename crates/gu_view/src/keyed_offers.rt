@@ -19,7 +19,6 @@ const MOST_KEYS: usize = 5;
 
 /// Offers of which a view may be made, with the keys of their paths in order of first mention. To a contract it is the list of
 /// these offers.
-#[derive(Drop)]
 pub struct KeyedOffers {
     offers: Vec<Offer>,
     keys: IndexSet<LimitKey>,
@@ -37,6 +36,20 @@ impl Model for KeyedOffers {
     ghost view = { λ k. k.offers.items };
 
     ghost invariant = { λ k. IsKeyed k.offers.items k.keys.keys k.places };
+}
+
+// By hand, so that who holds them lets them go by one call.
+impl Drop for KeyedOffers {
+    fn drop(self) {
+        let KeyedOffers {
+            offers,
+            keys,
+            places,
+        } = self;
+        drop(offers);
+        drop(keys);
+        drop(places);
+    }
 }
 
 /// Mentions the keys of a path, and adds the list of their places.
@@ -64,6 +77,26 @@ fn mention(
     places.push(&list[..path.len()])
 }
 
+/// Mentions the keys of the offers' paths, in order, and adds for each offer the list of their places.
+fn mention_all(
+    keys: &mut IndexSet<LimitKey>,
+    places: &mut PlaceLists,
+    offers: &[Offer],
+) -> Result<(), AllocError>
+    requires none { keys.old.keys ≡ [] }
+    requires nowhere { places.old ≡ [] }
+    requires few { length offers.now ≤ 4096 }
+    ensures keys { OnOk result (keys.new.keys ≡ keys_of offers.now) }
+    ensures few { OnOk result (length keys.new.keys ≤ 5 * length offers.now) }
+    ensures places { OnOk result (places.new ≡ map (λ o. map (place_among keys.new.keys) o.path) offers.now) }
+{
+    for offer in offers {
+        let path = offer.path.keys();
+        mention(keys, places, path)?;
+    }
+    Ok(())
+}
+
 /// The keys of the offers' paths, in order of first mention, and for each offer the places of its path's keys. So many keys are
 /// expected.
 fn keyed(
@@ -76,13 +109,15 @@ fn keyed(
     ensures few { IfOk result (λ made. length made.0.keys ≤ 5 * length offers.now) }
     ensures places { IfOk result (λ made. made.1 ≡ map (λ o. map (place_among made.0.keys) o.path) offers.now) }
 {
-    let mut keys = IndexSet::with_capacity(alloc, expected)?;
     let mut places = PlaceLists::with_room(alloc, offers.len(), offers.len() * MOST_KEYS)?;
-    for offer in offers {
-        let path = offer.path.keys();
-        mention(&mut keys, &mut places, path)?;
+    let mut keys = IndexSet::with_capacity(alloc, expected)?;
+    match mention_all(&mut keys, &mut places, offers) {
+        Ok(()) => Ok((keys, places)),
+        Err(refused) => {
+            drop(keys);
+            Err(refused)
+        }
     }
-    Ok((keys, places))
 }
 
 impl KeyedOffers {

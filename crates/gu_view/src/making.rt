@@ -1,8 +1,8 @@
 //! What a view is made of: offers in order, paths, rooms by first mention.
 
-ghost use Rattle.std.specs.Prelude.{◌≡◌, ◌<◌, List, All, AllPairs, IfOk, IsTrue, MatchOption, find, slice_get};
+ghost use Rattle.std.specs.Prelude.{◌≡◌, ◌<◌, List, All, AllPairs, IfOk, IsTrue, MatchBool, MatchOption, find, slice_get};
 ghost use Rattle.std.specs.Option.{option_map};
-ghost use Rattle.indexmap.specs.IndexMap.{get};
+ghost use Rattle.indexmap.specs.IndexMap.{get, IsEmpty};
 ghost use Rattle.gu_terms.specs.LimitKeys.{key_eq};
 ghost use Rattle.gu_view.specs.Check.{has_room};
 ghost use Rattle.gu_terms.specs.declared.limit_key.LimitKey.{LimitKey};
@@ -65,16 +65,15 @@ fn is_own(offer: &Offer) -> bool
         .is_some_and(|key| LimitKey::Agr(offer.agreement).is_same(*key))
 }
 
-/// The first offer whose path isn't that of its agreement. So many agreements are expected at most.
-pub fn path_differs(
-    alloc: Global,
+/// The first offer whose path isn't that of its agreement. The paths of the agreements are kept in a map, which is empty before.
+fn first_other_path(
+    paths: &mut IndexMap<AgreementId, Path>,
     offers: &[Offer],
-    expected: usize,
 ) -> Result<Option<OfferNo>, AllocError>
-    requires { AllPairs (λ a b. a.number < b.number) offers.now }
+    requires empty { IsEmpty paths.old }
+    requires ascending { AllPairs (λ a b. a.number < b.number) offers.now }
     ensures { IfOk result (λ found. found ≡ path_differs offers.now) }
 {
-    let mut paths: IndexMap<AgreementId, Path> = IndexMap::with_capacity(alloc, expected)?;
     for offer in offers {
         if !is_own(offer) {
             return Ok(Some(offer.number));
@@ -93,28 +92,43 @@ pub fn path_differs(
     Ok(None)
 }
 
-/// The lots that are given for each key, where each room is needed, within its limit and given once.
-fn given(
+/// The first offer whose path isn't that of its agreement. So many agreements are expected at most.
+pub fn path_differs(
     alloc: Global,
+    offers: &[Offer],
+    expected: usize,
+) -> Result<Option<OfferNo>, AllocError>
+    requires { AllPairs (λ a b. a.number < b.number) offers.now }
+    ensures { IfOk result (λ found. found ≡ path_differs offers.now) }
+{
+    let mut paths = IndexMap::with_capacity(alloc, expected)?;
+    let found = first_other_path(&mut paths, offers);
+    drop(paths);
+    found
+}
+
+/// Gives each key its lots, in a map that is empty before: whether each room is needed, within its limit and given once.
+fn give(
+    lots: &mut IndexMap<LimitKey, u64>,
     keys: &IndexSet<LimitKey>,
     rooms: &[Room],
-) -> Result<Option<IndexMap<LimitKey, u64>>, AllocError>
-    ensures { IfOk result (λ given.
-        MatchOption given (¬ AreRooms keys.now.keys rooms.now) (λ lots. IsGiven keys.now.keys rooms.now (get key_eq lots))) }
+) -> Result<bool, AllocError>
+    requires { IsEmpty lots.old }
+    ensures { IfOk result (λ all.
+        MatchBool all (IsGiven keys.now.keys rooms.now (get key_eq lots.new)) (¬ AreRooms keys.now.keys rooms.now)) }
 {
-    let mut lots = IndexMap::with_capacity(alloc, keys.len())?;
     for room in rooms {
         if MOST_LIMIT < room.lots {
-            return Ok(None);
+            return Ok(false);
         }
         if !keys.contains(&room.key) {
-            return Ok(None);
+            return Ok(false);
         }
         if lots.insert(room.key, room.lots)?.is_some() {
-            return Ok(None);
+            return Ok(false);
         }
     }
-    Ok(Some(lots))
+    Ok(true)
 }
 
 /// The rooms in the order of the keys, where each has one.
@@ -142,6 +156,25 @@ fn ordered(
     Ok(Some(made))
 }
 
+/// The rooms in the order of the keys, where they are exactly theirs. The lots are kept in a map, which is empty before.
+fn rooms_by_lots(
+    alloc: Global,
+    lots: &mut IndexMap<LimitKey, u64>,
+    keys: &IndexSet<LimitKey>,
+    rooms: &[Room],
+) -> Result<Option<Vec<Room>>, AllocError>
+    requires { IsEmpty lots.old }
+    ensures { IfOk result (λ ordered.
+        MatchOption ordered (¬ AreRooms keys.now.keys rooms.now)
+        (λ made. AreRooms keys.now.keys rooms.now × (made.items ≡ in_order keys.now.keys rooms.now))) }
+{
+    if give(lots, keys, rooms)? {
+        ordered(alloc, keys.as_slice(), lots)
+    } else {
+        Ok(None)
+    }
+}
+
 /// The rooms in the order of the keys, where they are exactly theirs.
 pub fn rooms_in_order(
     alloc: Global,
@@ -152,8 +185,8 @@ pub fn rooms_in_order(
         MatchOption ordered (¬ AreRooms keys.now.keys rooms.now)
         (λ made. AreRooms keys.now.keys rooms.now × (made.items ≡ in_order keys.now.keys rooms.now))) }
 {
-    match given(alloc, keys, rooms)? {
-        Some(lots) => ordered(alloc, keys.as_slice(), &lots),
-        None => Ok(None),
-    }
+    let mut lots = IndexMap::with_capacity(alloc, keys.len())?;
+    let ordered = rooms_by_lots(alloc, &mut lots, keys, rooms);
+    drop(lots);
+    ordered
 }

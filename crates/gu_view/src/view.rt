@@ -256,9 +256,9 @@ impl View {
             version: self.version,
             offers: self.offers.clone()?,
             rooms: self.rooms.clone()?,
-            keys: self.keys.clone()?,
             places: self.places.copy()?,
             members: self.members.copy()?,
+            keys: self.keys.clone()?,
         })
     }
 }

@@ -4,7 +4,7 @@ use Rattle.gu_terms.specs.LimitKeys.{key_eq}
 use Rattle.gu_terms.proofs.KeyLemmas.{eq, eq_is}
 use Rattle.gu_view.proofs.DerivedEq.{has_key-eq}
 use Rattle.gu_view.proofs.MakingLemmas.{needless, given_twice, given_more, lookup-agree, some_value, no_value}
-use Rattle.gu_view.proofs.making.given.Goals as goal
+use Rattle.gu_view.proofs.making.give.Goals as goal
 
 pub returns-then-not-contains : goal.returns-then-not-contains
 returns-then-not-contains c =

@@ -5,7 +5,7 @@ use Rattle.gu_terms.specs.declared.limit_key.LimitKey.{LimitKey}
 use Rattle.gu_view.specs.View.{firsts, place_among}
 use Rattle.gu_view.specs.declared.view.Offer.{Offer}
 use Rattle.gu_view.proofs.Mentions.{all_known, all_places-more, all_places-stay, keys_of-more}
-use Rattle.gu_view.proofs.keyed_offers.keyed.Goals as goal
+use Rattle.gu_view.proofs.keyed_offers.mention_all.Goals as goal
 
 pub loop-offer-preserved : goal.loop-offer-preserved
 loop-offer-preserved c =

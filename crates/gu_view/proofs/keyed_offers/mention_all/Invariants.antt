@@ -1,6 +1,6 @@
 use Rattle.std.proofs.Common.{◌≡◌, ◌≤◌, ◌*◌, length, map, take}
 use Rattle.gu_view.specs.View.{keys_of, place_among}
-use Rattle.gu_view.proofs.keyed_offers.keyed.Given as goal
+use Rattle.gu_view.proofs.keyed_offers.mention_all.Given as goal
 
 abbrev pub invariant-loop-offer : goal.invariant-loop-offer
 invariant-loop-offer l = record {
