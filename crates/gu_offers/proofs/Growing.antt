@@ -206,3 +206,18 @@ module _ (firm : FirmId) (report : Id) (group : Group) where
             ≡ counted_under (rows_of kept) other another + counted_under (map (offered firm report group) lines) other another
         held other another true these = omega (arith, is_kept.counts other another, these)
         held other another false these = omega (arith, is_kept.counts other another, these)
+
+-- offers that stay, with tables that say what they said, are kept as they were
+module _ (old new : Inside) (kept : IsKept old) (items : new.rows.items ≡ old.rows.items) (day : new.day ≡ old.day) where
+  rows-same : rows_of old ≡ rows_of new
+  rows-same = λ i. map (row_of (sym day i)) (sym items i)
+
+  pub kept-same : ((group : Group) → numbers_in new.groups group ≡ numbers_in old.groups group)
+      → ((firm : FirmId) (id : Id) → lots_under new.counts firm id ≡ lots_under old.counts firm id) → IsKept new
+  kept-same numbers counts = record {
+    sound = subst (AllByRecursion IsSound) rows-same kept.sound;
+    days = rw (items, day) kept.days;
+    few = rw items kept.few;
+    numbers = λ group. numbers group ∙ kept.numbers group ∙ ap (λ rows. open_numbers rows group) rows-same;
+    counts = λ firm id. counts firm id ∙ kept.counts firm id ∙ ap (λ rows. counted_under rows firm id) rows-same;
+  }

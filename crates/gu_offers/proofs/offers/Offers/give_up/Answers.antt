@@ -5,7 +5,7 @@ use Rattle.gu_terms.specs.Same.{same_firm, same_id}
 use Rattle.gu_offers.specs.Changes.{with_lines}
 use Rattle.gu_offers.specs.Given.{given_for, row_of}
 use Rattle.gu_offers.specs.Kept.{rows_of}
-use Rattle.gu_offers.proofs.Growing.{counted-few, kept-offered, rows-offered}
+use Rattle.gu_offers.proofs.Growing.{counted-few, kept-same, kept-offered, rows-offered}
 use Rattle.gu_offers.proofs.offers.Offers.give_up.Goals as goal
 
 pub add-requires-clause-fits : goal.add-requires-clause-fits
@@ -45,3 +45,18 @@ returns-clause-offered c =
     c.as_slice-lines.result.now c.are_lots.ensures
     (c.push_offers.ensures ∙ ap (λ items. items ++ map (given_for c.args.firm c.args.report c.args.group) c.as_slice-lines.result.now) c.reserve.ensures.items) refl
     ∙ (λ i. with_lines (c.self.view_is i) c.args.firm c.args.report c.args.group (c.as_slice-lines.ensures.lines i))
+
+pub invariant_of-self : goal.invariant_of-self
+invariant_of-self c =
+    kept-same c.self.inside (record { rows = c.reserve.new.self; groups = c.self.inside.groups; counts = c.self.inside.counts; day = c.self.inside.day }) c.self.invariant c.reserve.ensures.items refl
+    (λ group. refl) (λ firm id. refl)
+
+pub invariant_of-self-in_err-know : goal.invariant_of-self-in_err-know
+invariant_of-self-in_err-know c =
+    kept-same c.self.inside (record { rows = c.reserve.new.self; groups = c.self.inside.groups; counts = c.know.new.self; day = c.self.inside.day }) c.self.invariant c.reserve.ensures.items refl
+    (λ group. refl) c.know.ensures.same
+
+pub invariant_of-self-in_err-append : goal.invariant_of-self-in_err-append
+invariant_of-self-in_err-append c =
+    kept-same c.self.inside (record { rows = c.reserve.new.self; groups = c.append.new.self; counts = c.know.new.self; day = c.self.inside.day }) c.self.invariant c.reserve.ensures.items refl
+    c.in_err-append.ensures.refused c.know.ensures.same
