@@ -105,24 +105,33 @@ fn push_marks(draft: &mut Draft, first: Option<Moment>) -> Result<(), AllocError
     Ok(())
 }
 
-/// Appends the fields of a message to none, in order, each with a value that can be encoded.
+/// Appends the fields of a message to none, in order.
 #[inline(always)]
-fn fields_of(mut draft: Draft, message: &Outbound) -> Result<Fields, AllocError>
-    requires { draft ≡ [] }
-    ensures written { IfOk result (λ fields. IsWritten message.now fields) }
-    ensures plain { IfOk result ArePlain }
+fn push_message(draft: &mut Draft, message: &Outbound) -> Result<(), AllocError>
+    requires { draft.old ≡ [] }
+    ensures { OnOk result (IsWritten message.now draft.new) }
 {
     draft.push(MSG_TYPE, message.body.code().as_bytes())?;
     draft.push(SENDER_COMP_ID, HOUSE)?;
     draft.push_name(TARGET_COMP_ID, message.firm.get())?;
     draft.push_number(MSG_SEQ_NUM, message.msg_seq_num)?;
     draft.push_moment(SENDING_TIME, message.sending_time)?;
-    push_marks(&mut draft, message.orig_sending_time)?;
-    push_body(&mut draft, &message.body)?;
+    push_marks(draft, message.orig_sending_time)?;
+    push_body(draft, &message.body)
+}
+
+/// The fields of a message in the room of a draft without fields, each with a value that can be encoded.
+#[inline(always)]
+fn fields_of(mut draft: Draft, message: &Outbound) -> Result<Fields, AllocError>
+    requires { draft ≡ [] }
+    ensures written { IfOk result (λ fields. IsWritten message.now fields) }
+    ensures plain { IfOk result ArePlain }
+{
+    push_message(&mut draft, message)?;
     Ok(draft.into_fields())
 }
 
-/// The fields of a message in the room of a draft without fields.
+/// The fields of a message in the room of a draft without fields. They can be encoded as a whole message, and are read back.
 #[inline(always)]
 fn written_in(draft: Draft, message: &Outbound) -> Result<Fields, AllocError>
     requires { draft ≡ [] }
