@@ -173,7 +173,7 @@ no_millionths front back millionths six all some is =
     mul_comm 1000000 (v * q + r) ∙ ap (λ (n : ℕ). n * 1000000) (sym (digits_value-append front back)) ∙ is ∙ ap (λ (n : ℕ). millionths * n) long ∙ mul_left_comm millionths 1000000 q in
     some (multiples v millionths r q (digits_value-lt 10 back all) (eq_of_mul-eq-mul_left 1000000 (omega arith) _ _ scaled)).1
 
-digits_from : (n : ℕ) (ds : List ℕ) → AllDigits 10 ds → AllDigits 10 (drop n ds)
+pub digits_from : (n : ℕ) (ds : List ℕ) → AllDigits 10 ds → AllDigits 10 (drop n ds)
 digits_from zero ds h = h
 digits_from (suc n) [] h = h
 digits_from (suc n) (d ∷ ds) h = digits_from n ds h.1
@@ -198,7 +198,7 @@ front_counts_all fraction count n is all some counts =
           no_millionths (take count fraction) (drop count fraction) n six (digits_from count fraction all) some (subst (λ (f : List ℕ). digits_value 10 f * 1000000 ≡ n * 10 ^ length f) whole counts)
     ]
 
-digits_until : (n : ℕ) (ds : List ℕ) → AllDigits 10 ds → AllDigits 10 (take n ds)
+pub digits_until : (n : ℕ) (ds : List ℕ) → AllDigits 10 ds → AllDigits 10 (take n ds)
 digits_until zero ds h = tt
 digits_until (suc n) [] h = tt
 digits_until (suc n) (d ∷ ds) h = (h.0, digits_until n ds h.1)

@@ -49,6 +49,13 @@ fn two_digits(digits: &[u8]) -> u8
     }
 }
 
+/// Whether these are eight digits.
+fn is_day_text(text: &[u8]) -> bool
+    ensures { IsTrue result ↔ IsDayText text.now }
+{
+    text.len() == 8 && are_digits(text)
+}
+
 impl Day {
     /// The day of this year, month and day of the month.
     pub fn new(year: u16, month: u8, day: u8) -> Option<Self>
@@ -78,7 +85,7 @@ impl Day {
         ensures out_of_range { IsErrOf result NumberError.OutOfRange
             ↔ (IsDayText text.now × (¬ IsDay (year_of text.now) (month_of text.now) (day_of text.now))) }
     {
-        if text.len() != 8 || !are_digits(text) {
+        if !is_day_text(text) {
             return Err(NumberError::BadNumber);
         }
         let year = short_value(&text[..4]);
