@@ -1,17 +1,10 @@
 //! Claims and refusals: which offers are taken up, under which limits.
 
-use crate::sample::{GUARANTOR, TRADED, book, book_with};
-use crate::transcript::follow;
+use crate::transcript::{Patience, follow_all};
 
-#[test]
-fn lots_move_when_they_are_claimed(rt: HostRuntime) {
-    let mut book = book(rt.alloc()).expect(&rt, "a book");
-    follow(&rt, rt.alloc(), &mut book, TRADED);
-    follow(
-        &rt,
-        rt.alloc(),
-        &mut book,
-        "\
+const TRANSCRIPTS: &str = "\
+== lots move when they are claimed
+BEHIND a trade
 GIVEUP E1 L1 R1 A1 10 = 8 OK OFFERS 1 1
 POSITION H1 XF6       = 10 0
 POSITION A1 XF6       = 0 0
@@ -22,18 +15,7 @@ POSITION A1 XF6       = 10 0
 POSITION H2 XF6       = 0 10
 LIMITS G1             = EXEC E1 100 10 90, AGR P1 100 10 90, ACCT A1 100 10 90, CARRY C1 100 10 90
 LIMITS G2             =
-",
-    );
-}
-
-#[test]
-fn the_first_key_without_room_is_named(rt: HostRuntime) {
-    let mut book = book(rt.alloc()).expect(&rt, "a book");
-    follow(
-        &rt,
-        rt.alloc(),
-        &mut book,
-        "\
+== the first key without room is named
 CLAIM C1 1                        = 1 NO 1 NoDay
 DAY 20260105                      = 2 OK
 LIMIT G1 EXEC E1 100              = 3 OK
@@ -51,18 +33,8 @@ CLAIM C1 1                        = 14 OK LOTS 8
 CLAIM C1 1                        = 15 NO 14 OfferClosed
 CLAIM C2 1                        = 16 NO 5 NotYours
 CLAIM C1 9                        = 17 NO 13 UnknownOffer
-",
-    );
-}
-
-#[test]
-fn a_limit_that_was_never_set_has_no_room_and_equal_room_is_enough(rt: HostRuntime) {
-    let mut book = book_with(rt.alloc(), GUARANTOR).expect(&rt, "a book");
-    follow(
-        &rt,
-        rt.alloc(),
-        &mut book,
-        "\
+== a limit that was never set has no room and equal room is enough
+ROWS GUARANTOR,E2,C1
 DAY 20260105                      = 1 OK
 REPORT E1 R1 M1 B XF6 10 101.5 H1 = 2 OK OPEN
 REPORT E2 R2 M1 S XF6 10 101.5 H2 = 3 OK MATCHED
@@ -84,18 +56,7 @@ LIMIT G1 GUAR E2 8                = 18 OK
 CLAIM C1 1                        = 19 OK LOTS 8
 LIMITS G1 = EXEC E1 8 8 0, AGR P1 8 8 0, ACCT A1 8 8 0, CARRY C1 8 8 0, GUAR E2 8 8 0
 LIMITS G2 = AGR P1 100 0 100
-",
-    );
-}
-
-#[test]
-fn claims_use_up_the_rooms_of_the_day(rt: HostRuntime) {
-    let mut book = book(rt.alloc()).expect(&rt, "a book");
-    follow(
-        &rt,
-        rt.alloc(),
-        &mut book,
-        "\
+== claims use up the rooms of the day
 DAY 20260105                      = 1 OK
 LIMIT G1 EXEC E1 100              = 2 OK
 LIMIT G1 AGR P1 10                = 3 OK
@@ -123,19 +84,8 @@ CLAIM C1 2                        = 20 OK LOTS 5
 POSITION H1 XF6                   = 2 0
 POSITION A1 XF6                   = 11 0
 POSITION A2 XF6                   = 7 0
-",
-    );
-}
-
-#[test]
-fn a_limit_holds_in_its_own_group(rt: HostRuntime) {
-    let mut book = book(rt.alloc()).expect(&rt, "a book");
-    follow(&rt, rt.alloc(), &mut book, TRADED);
-    follow(
-        &rt,
-        rt.alloc(),
-        &mut book,
-        "\
+== a limit holds in its own group
+BEHIND a trade
 REPORT E1 R3 M3 B YF6 10 99 H1 = 8 OK OPEN
 REPORT E2 R4 M3 S YF6 10 99 H2 = 9 OK MATCHED
 GIVEUP E1 L1 R3 A1 10          = 10 OK OFFERS 1 1
@@ -151,18 +101,7 @@ LIMITS G1 = EXEC E1 100 10 90, AGR P1 100 10 90, ACCT A1 100 10 90, CARRY C1 100
 LIMITS G2 = EXEC E1 10 10 0, AGR P1 10 10 0, ACCT A1 10 10 0, CARRY C1 10 10 0
 POSITION A1 XF6                = 10 0
 POSITION A1 YF6                = 10 0
-",
-    );
-}
-
-#[test]
-fn the_first_refusal_of_a_claim_or_a_refusal_is_given(rt: HostRuntime) {
-    let mut book = book(rt.alloc()).expect(&rt, "a book");
-    follow(
-        &rt,
-        rt.alloc(),
-        &mut book,
-        "\
+== the first refusal of a claim or a refusal is given
 CLAIM C2 9                        = 1 NO 1 NoDay
 REFUSE C2 9 1                     = 2 NO 1 NoDay
 DAY 20260105                      = 3 OK
@@ -183,19 +122,8 @@ CLAIM C1 2                        = 17 NO 15 LimitReached EXEC E1
 REFUSE C1 2 2                     = 18 OK LOTS 4
 POSITION H1 XF6                   = 10 0
 POSITION A1 XF6                   = 0 0
-",
-    );
-}
-
-#[test]
-fn offers_outlive_the_day(rt: HostRuntime) {
-    let mut book = book(rt.alloc()).expect(&rt, "a book");
-    follow(&rt, rt.alloc(), &mut book, TRADED);
-    follow(
-        &rt,
-        rt.alloc(),
-        &mut book,
-        "\
+== offers outlive the day
+BEHIND a trade
 LIMIT G1 EXEC E2 100      = 8 OK
 LIMIT G1 AGR P3 100       = 9 OK
 GIVEUP E1 L1 R1 A1 6 A1 4 = 10 OK OFFERS 1 2
@@ -210,19 +138,9 @@ POSITION H1 XF6           = 4 0
 POSITION H2 XF6           = 0 3
 POSITION A1 XF6           = 6 7
 LIMITS G1 = EXEC E1 100 6 94, EXEC E2 100 0 100, AGR P1 100 6 94, AGR P3 100 0 100, ACCT A1 100 6 94, CARRY C1 100 6 94
-",
-    );
-}
-
-#[test]
-fn a_guarantors_limit_stands_last(rt: HostRuntime) {
-    let mut book = book_with(rt.alloc(), GUARANTOR).expect(&rt, "a book");
-    follow(&rt, rt.alloc(), &mut book, TRADED);
-    follow(
-        &rt,
-        rt.alloc(),
-        &mut book,
-        "\
+== a guarantors limit stands last
+ROWS GUARANTOR,E2,C1
+BEHIND a trade
 GIVEUP E1 L1 R1 A1 10 = 8 OK OFFERS 1 1
 CLAIM C1 1            = 9 NO 15 LimitReached GUAR E2
 LIMIT G1 GUAR E2 4    = 10 OK
@@ -231,21 +149,9 @@ LIMIT G1 GUAR C2 5    = 12 NO 16 UnknownKey
 LIMIT G1 GUAR E2 10   = 13 OK
 CLAIM C1 1            = 14 OK LOTS 10
 LIMITS G1 = EXEC E1 100 10 90, AGR P1 100 10 90, ACCT A1 100 10 90, CARRY C1 100 10 90, GUAR E2 10 10 0
-",
-    );
-}
-
-#[test]
-fn a_firm_that_executes_carries_and_guarantees_has_three_limits(rt: HostRuntime) {
-    let rows = b"AGREEMENT,P5,E1,H2\nGUARANTOR,E2,C1\nGUARANTOR,C2,E2\n";
-    let mut book = book_with(rt.alloc(), rows).expect(&rt, "a book");
-    follow(&rt, rt.alloc(), &mut book, TRADED);
-    // E2 gives up to A1, which C1 carries under E2's guarantee; E1 gives up to H2, which E2 carries under that of C2.
-    follow(
-        &rt,
-        rt.alloc(),
-        &mut book,
-        "\
+== a firm that executes carries and guarantees has three limits
+ROWS AGREEMENT,P5,E1,H2; GUARANTOR,E2,C1; GUARANTOR,C2,E2
+BEHIND a trade
 LIMIT G1 EXEC E2 4    = 8 OK
 LIMIT G1 CARRY E2 5   = 9 OK
 LIMIT G1 GUAR E2 6    = 10 OK
@@ -263,20 +169,9 @@ LIMITS G1 = EXEC E1 100 5 95, EXEC E2 4 3 1, AGR P1 100 0 100, AGR P3 9 3 6, AGR
 POSITION H1 XF6       = 5 0
 POSITION H2 XF6       = 5 7
 POSITION A1 XF6       = 0 3
-",
-    );
-}
-
-#[test]
-fn two_carrying_firms_share_their_guarantors_limit(rt: HostRuntime) {
-    let rows = b"GUARANTOR,E2,C1\nGUARANTOR,E2,C2\n";
-    let mut book = book_with(rt.alloc(), rows).expect(&rt, "a book");
-    follow(&rt, rt.alloc(), &mut book, TRADED);
-    follow(
-        &rt,
-        rt.alloc(),
-        &mut book,
-        "\
+== two carrying firms share their guarantors limit
+ROWS GUARANTOR,E2,C1; GUARANTOR,E2,C2
+BEHIND a trade
 LIMIT G1 EXEC E2 100  = 8 OK
 LIMIT G1 AGR P4 100   = 9 OK
 LIMIT G1 ACCT A3 100  = 10 OK
@@ -289,6 +184,9 @@ CLAIM C2 2            = 16 NO 15 LimitReached GUAR E2
 REVERSE C1 1          = 17 OK LOTS 6
 CLAIM C2 2            = 18 OK LOTS 5
 POSITION A3 XF6       = 0 5
-",
-    );
+";
+
+#[test]
+fn claims_and_refusals_are_answered_so(rt: HostRuntime) {
+    follow_all(&rt, rt.alloc(), TRANSCRIPTS, Patience::Never);
 }

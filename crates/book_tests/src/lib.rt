@@ -4,6 +4,10 @@
 #[cfg(test)]
 mod answers;
 #[cfg(test)]
+mod beginnings;
+#[cfg(test)]
+mod blame;
+#[cfg(test)]
 mod claims;
 #[cfg(test)]
 mod commits;
@@ -14,15 +18,9 @@ mod give_ups;
 #[cfg(test)]
 mod histories;
 #[cfg(test)]
-mod house;
-#[cfg(test)]
 mod limits;
 #[cfg(test)]
-mod looks;
-#[cfg(test)]
 mod memory;
-#[cfg(test)]
-mod memory_of_sweeps;
 #[cfg(test)]
 mod notices;
 #[cfg(test)]
@@ -30,13 +28,15 @@ mod offers;
 #[cfg(test)]
 mod positions;
 #[cfg(test)]
-mod readers;
+mod questions;
 #[cfg(test)]
-mod refused_steps;
+mod readers;
 #[cfg(test)]
 mod reversals;
 #[cfg(test)]
 mod sample;
+#[cfg(test)]
+mod steps;
 #[cfg(test)]
 mod sweeps;
 #[cfg(test)]
@@ -49,7 +49,3 @@ mod transcript;
 mod views;
 #[cfg(test)]
 mod words;
-#[cfg(test)]
-mod workers;
-#[cfg(test)]
-mod world;

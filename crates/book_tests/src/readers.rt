@@ -1,14 +1,20 @@
 //! Readers that fail, that don't end, and that are asked for much.
 
-use crate::sample::largest;
-use gu_ref::{CountedReads, RefFault, Reference};
+use crate::files::text_of;
+use crate::sample::file_of;
+use gu_ref::{CountedReads, Reference};
 use std::alloc::Global;
 use std::io;
 use std::io::Read;
+use std::process::Abort;
 
-/// Why the rows of a reader are refused.
-fn fault_of<R: Read + Drop>(alloc: Global, reader: R) -> Option<RefFault> {
-    Reference::read(alloc, &mut CountedReads::new(reader)).err()
+/// Why the rows of a reader are refused, or `OK`.
+fn told<R: Read + Drop>(rt: &impl Abort, alloc: Global, reader: R) -> String {
+    text_of(
+        rt,
+        alloc,
+        Reference::read(alloc, &mut CountedReads::new(reader)),
+    )
 }
 
 /// A reader that gives a byte at a time, then fails.
@@ -31,20 +37,6 @@ impl<'a> Read for Failing<'a> {
     }
 }
 
-#[test]
-fn a_reader_that_fails_is_a_read_fault_unless_a_row_before_it_is_refused(rt: HostRuntime) {
-    for (file, want) in [
-        ("", RefFault::ReadFault),
-        ("FIRM,E1\nFIRM,E", RefFault::ReadFault),
-        ("FIRM,E1\nFIRM,E1\n", RefFault::Twice(2)),
-    ] {
-        let reader = Failing {
-            file: file.as_bytes(),
-        };
-        assert_eq!(rt; fault_of(rt.alloc(), reader), Some(want), "{file:?}");
-    }
-}
-
 /// A reader of line ends without end.
 #[derive(Drop)]
 struct Endless;
@@ -57,11 +49,6 @@ impl Read for Endless {
         *place = b'\n';
         Ok(1)
     }
-}
-
-#[test]
-fn a_reader_without_end_is_a_read_fault(rt: HostRuntime) {
-    assert_eq!(rt; fault_of(rt.alloc(), Endless), Some(RefFault::ReadFault));
 }
 
 /// A reader that keeps the greatest length that it was asked for, and how often it was asked.
@@ -80,16 +67,33 @@ impl<'a> Read for Recording<'a> {
     }
 }
 
+/// Files of readers that fail behind them, unless a row before that is refused.
+const FAILING: [(&str, &str); 3] = [
+    ("", "ReadFault"),
+    ("FIRM,E1\nFIRM,E", "ReadFault"),
+    ("FIRM,E1\nFIRM,E1\n", "Twice 2"),
+];
+
 #[test]
-fn the_largest_file_is_read_in_pieces_of_4096_bytes(rt: HostRuntime) {
-    let file = largest(rt.alloc()).expect(&rt, "the largest file");
+fn a_reader_fails_has_no_end_or_is_asked_for_4096_bytes(rt: HostRuntime) {
+    for (file, want) in FAILING {
+        let file = file.as_bytes();
+        let text = told(&rt, rt.alloc(), Failing { file });
+        assert_eq!(rt; text.as_str(), want, "{file:?}");
+    }
+    let text = told(&rt, rt.alloc(), Endless);
+    assert_eq!(rt; text.as_str(), "ReadFault");
+    let largest = file_of(rt.alloc(), "the largest", "")
+        .ok()
+        .expect(&rt, "the largest file");
     let mut reader = Recording {
-        file: file.as_bytes(),
+        file: largest.as_bytes(),
         greatest: 0,
         reads: 0,
     };
-    assert_eq!(rt; fault_of(rt.alloc(), &mut reader), None);
+    let text = told(&rt, rt.alloc(), &mut reader);
+    assert_eq!(rt; text.as_str(), "OK");
     assert_eq!(rt; reader.greatest, 4_096);
     // The end may be asked for twice.
-    assert!(rt; reader.reads <= file.len().div_ceil(4_096) + 2);
+    assert!(rt; reader.reads <= largest.len().div_ceil(4_096) + 2);
 }

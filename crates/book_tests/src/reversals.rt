@@ -1,17 +1,10 @@
 //! Reversals: what was moved today goes back, and the offer stays closed.
 
-use crate::sample::{TRADED, book};
-use crate::transcript::follow;
+use crate::transcript::{Patience, follow_all};
 
-#[test]
-fn what_was_claimed_today_goes_back(rt: HostRuntime) {
-    let mut book = book(rt.alloc()).expect(&rt, "a book");
-    follow(&rt, rt.alloc(), &mut book, TRADED);
-    follow(
-        &rt,
-        rt.alloc(),
-        &mut book,
-        "\
+const TRANSCRIPTS: &str = "\
+== what was claimed today goes back
+BEHIND a trade
 GIVEUP E1 L1 R1 A1 10 = 8 OK OFFERS 1 1
 CLAIM C1 1            = 9 OK LOTS 10
 REVERSE C1 1          = 10 OK LOTS 10
@@ -25,37 +18,15 @@ REVERSE C1 2          = 14 NO 18 OfferOpen
 REVERSE C2 2          = 15 NO 5 NotYours
 REVERSE C1 9          = 16 NO 13 UnknownOffer
 REFUSE C1 1 1         = 17 NO 14 OfferClosed
-",
-    );
-}
-
-#[test]
-fn what_was_claimed_on_an_earlier_day_stays(rt: HostRuntime) {
-    let mut book = book(rt.alloc()).expect(&rt, "a book");
-    follow(&rt, rt.alloc(), &mut book, TRADED);
-    follow(
-        &rt,
-        rt.alloc(),
-        &mut book,
-        "\
+== what was claimed on an earlier day stays
+BEHIND a trade
 GIVEUP E1 L1 R1 A1 10 = 8 OK OFFERS 1 1
 CLAIM C1 1            = 9 OK LOTS 10
 DAY 20260106          = 10 OK
 REVERSE C1 1          = 11 NO 19 NothingToReverse
 DAY 20260106          = 12 NO 2 WrongDay
 POSITION A1 XF6       = 10 0
-",
-    );
-}
-
-#[test]
-fn the_first_refusal_of_a_reversal_is_given(rt: HostRuntime) {
-    let mut book = book(rt.alloc()).expect(&rt, "a book");
-    follow(
-        &rt,
-        rt.alloc(),
-        &mut book,
-        "\
+== the first refusal of a reversal is given
 REVERSE C2 9                      = 1 NO 1 NoDay
 DAY 20260105                      = 2 OK
 REVERSE C2 9                      = 3 NO 13 UnknownOffer
@@ -68,19 +39,8 @@ REVERSE C1 1                      = 9 NO 18 OfferOpen
 REFUSE C1 1 1                     = 10 OK LOTS 10
 REVERSE C2 1                      = 11 NO 5 NotYours
 REVERSE C1 1                      = 12 NO 19 NothingToReverse
-",
-    );
-}
-
-#[test]
-fn no_room_is_needed_to_reverse(rt: HostRuntime) {
-    let mut book = book(rt.alloc()).expect(&rt, "a book");
-    follow(&rt, rt.alloc(), &mut book, TRADED);
-    follow(
-        &rt,
-        rt.alloc(),
-        &mut book,
-        "\
+== no room is needed to reverse
+BEHIND a trade
 GIVEUP E1 L1 R1 A1 6 A1 4 = 8 OK OFFERS 1 2
 CLAIM C1 1                = 9 OK LOTS 6
 CLAIM C1 2                = 10 OK LOTS 4
@@ -93,19 +53,8 @@ GIVEUP E1 L2 R1 A1 6      = 15 OK OFFERS 3 3
 CLAIM C1 3                = 16 NO 15 LimitReached ACCT A1
 POSITION H1 XF6           = 6 0
 POSITION A1 XF6           = 4 0
-",
-    );
-}
-
-#[test]
-fn both_sides_of_a_trade_move_over_two_days(rt: HostRuntime) {
-    let mut book = book(rt.alloc()).expect(&rt, "a book");
-    follow(&rt, rt.alloc(), &mut book, TRADED);
-    follow(
-        &rt,
-        rt.alloc(),
-        &mut book,
-        "\
+== both sides of a trade move over two days
+BEHIND a trade
 LIMIT G1 EXEC E2 100      = 8 OK
 LIMIT G1 AGR P3 100       = 9 OK
 LIMIT G1 AGR P4 100       = 10 OK
@@ -141,6 +90,9 @@ POSITION H2 XF6           = 0 7
 POSITION A1 XF6           = 6 0
 POSITION A3 XF6           = 0 3
 POSITION H1 XF6           = 4 0
-",
-    );
+";
+
+#[test]
+fn reversals_are_answered_so(rt: HostRuntime) {
+    follow_all(&rt, rt.alloc(), TRANSCRIPTS, Patience::Never);
 }

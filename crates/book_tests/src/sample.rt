@@ -1,13 +1,12 @@
-//! The sample's rows, the largest file, and books that are made of them.
+//! Reference files: the sample, the house of the random histories, one with an account for each offer, and the largest.
 
-use gu_book::Book;
 use gu_ref::{CountedReads, RefFault, Reference};
 use std::alloc::{AllocError, Global};
 use std::fmt::Write;
-use std::io::Read;
 
 /// The sample: seventeen rows.
-pub const ROWS: &[u8] = b"FIRM,E1
+pub const SAMPLE: &str = "\
+FIRM,E1
 FIRM,E2
 FIRM,C1
 FIRM,C2
@@ -26,86 +25,100 @@ AGREEMENT,P3,E2,A1
 AGREEMENT,P4,E2,A3
 ";
 
-/// A guarantor, as the sample's eighteenth row.
-pub const GUARANTOR: &[u8] = b"GUARANTOR,E2,C1\n";
-
-/// A day with limits of 100 on the path of P1, and a trade of ten lots, bought for H1 by report R1 of E1 and sold for H2 by
-/// report R2 of E2: a transcript.
-pub const TRADED: &str = "\
-DAY 20260105                      = 1 OK
-LIMIT G1 EXEC E1 100              = 2 OK
-LIMIT G1 AGR P1 100               = 3 OK
-LIMIT G1 ACCT A1 100              = 4 OK
-LIMIT G1 CARRY C1 100             = 5 OK
-REPORT E1 R1 M1 B XF6 10 101.5 H1 = 6 OK OPEN
-REPORT E2 R2 M1 S XF6 10 101.5 H2 = 7 OK MATCHED
+/// What `tools/house --rows` prints.
+const HOUSE: &str = "\
+FIRM,E1
+FIRM,E2
+FIRM,C1
+GROUP,G1
+GROUP,G2
+INSTRUMENT,XF6,G1
+INSTRUMENT,YF6,G1
+INSTRUMENT,ZF6,G2
+ACCOUNT,H1,E1
+ACCOUNT,H2,E2
+ACCOUNT,A1,C1
+ACCOUNT,A2,C1
+AGREEMENT,P1,E1,A1
+AGREEMENT,P2,E1,A2
+AGREEMENT,P3,E2,A1
+AGREEMENT,P4,E1,H2
+GUARANTOR,E2,C1
 ";
 
-/// The reference of a file.
-pub fn read(alloc: Global, file: &[u8]) -> Result<Reference, RefFault> {
-    Reference::read(alloc, &mut CountedReads::new(file))
+/// 4,096 accounts, each with an agreement of its own.
+const WIDE: &str = "\
+FIRM,E1
+FIRM,C1
+GROUP,G1
+INSTRUMENT,XF6,G1
+ACCOUNT,H1,E1
+ACCOUNT,N#,C1 x 4096
+AGREEMENT,N#,E1,N# x 4096
+";
+
+/// As many rows as there may be. Firm N0 carries all accounts, and the agreements are N1's.
+const LARGEST: &str = "\
+FIRM,N# x 1000
+GROUP,N# x 100
+INSTRUMENT,N#,N0 x 10000
+ACCOUNT,N#,N0 x 10000
+AGREEMENT,N#,N1,N# x 10000
+GUARANTOR,N#+1,N# x 999
+GUARANTOR,N0,N999
+";
+
+/// The rows of a file by its name.
+fn rows_of(name: &str) -> &'static str {
+    match name {
+        "the house" => HOUSE,
+        "the wide" => WIDE,
+        "the largest" => LARGEST,
+        "nothing" => "",
+        _ => SAMPLE,
+    }
 }
 
-/// The reference of the sample with more rows.
-pub fn read_with(alloc: Global, rows: &[u8]) -> Result<Reference, RefFault> {
-    Reference::read(alloc, &mut CountedReads::new(ROWS.chain(rows)))
-}
-
-/// A book of the sample with more rows, without entries.
-pub fn book_with(alloc: Global, rows: &[u8]) -> Option<Book> {
-    let reference = read_with(alloc, rows).ok()?;
-    Some(Book::new(alloc, reference))
-}
-
-/// A book of a file, without entries.
-pub fn book_of(alloc: Global, file: &[u8]) -> Option<Book> {
-    let reference = read(alloc, file).ok()?;
-    Some(Book::new(alloc, reference))
-}
-
-/// A book of the sample, without entries.
-pub fn book(alloc: Global) -> Option<Book> {
-    book_of(alloc, ROWS)
-}
-
-/// As many rows of one kind, with names of their own.
-fn push_rows(file: &mut String, kind: &str, count: u32, tail: &str) -> Result<(), AllocError> {
-    for n in 0..count {
-        writeln!(file, "{kind},N{n}{tail}")?;
+/// Adds a form with a number for each `#`, and the next ones for `#+1` and `#+2`.
+pub fn push_numbered(text: &mut String, form: &str, n: u64) -> Result<(), AllocError> {
+    for (place, part) in form.split("#").enumerate() {
+        let (more, rest) = match part.split_at_checked(2) {
+            Some(("+1", rest)) if place > 0 => (1, rest),
+            Some(("+2", rest)) if place > 0 => (2, rest),
+            _ => (0, part),
+        };
+        if place > 0 && write!(text, "{}", n.saturating_add(more)).is_err() {
+            return Err(AllocError);
+        }
+        text.push_str(rest)?;
     }
     Ok(())
 }
 
-/// As many agreements, each of firm N1 with an account of its own.
-fn push_agreements(file: &mut String, count: u32) -> Result<(), AllocError> {
-    for n in 0..count {
-        writeln!(file, "AGREEMENT,N{n},N1,N{n}")?;
+/// Adds a row, or as many as the number behind ` x ` says, in which that of each stands for `#`, from 0 on.
+fn push_rows(file: &mut String, row: &str) -> Result<(), AllocError> {
+    let (form, count) = row.split_once(" x ").unwrap_or((row, "1"));
+    for n in 0..count.parse::<u64>().unwrap_or(0) {
+        push_numbered(file, form, n)?;
+        file.push('\n')?;
     }
     Ok(())
 }
 
-/// A guarantor for each firm: the next one, and the first for the last.
-fn push_guarantors(file: &mut String, firms: u32) -> Result<(), AllocError> {
-    for n in 1..firms {
-        writeln!(file, "GUARANTOR,N{n},N{}", n - 1)?;
-    }
-    writeln!(file, "GUARANTOR,N0,N{}", firms.saturating_sub(1))
-}
-
-/// As many rows as there may be: 1,000 firms, 100 groups, 10,000 instruments, accounts and agreements each, and 1,000
-/// guarantors. Firm N0 carries all accounts.
-pub fn push_largest(file: &mut String) -> Result<(), AllocError> {
-    push_rows(file, "FIRM", 1_000, "")?;
-    push_rows(file, "GROUP", 100, "")?;
-    push_rows(file, "INSTRUMENT", 10_000, ",N0")?;
-    push_rows(file, "ACCOUNT", 10_000, ",N0")?;
-    push_agreements(file, 10_000)?;
-    push_guarantors(file, 1_000)
-}
-
-/// The largest file.
-pub fn largest(alloc: Global) -> Option<String> {
+/// The text of a file, and more rows, with `; ` between two.
+pub fn file_of(alloc: Global, name: &str, rows: &str) -> Result<String, AllocError> {
     let mut file = String::new(alloc);
-    push_largest(&mut file).ok()?;
-    Some(file)
+    for row in rows_of(name).lines() {
+        push_rows(&mut file, row)?;
+    }
+    for row in rows.split_terminator("; ") {
+        push_rows(&mut file, row)?;
+    }
+    Ok(file)
+}
+
+/// The reference of a file with more rows.
+pub fn reference_of(alloc: Global, name: &str, rows: &str) -> Result<Reference, RefFault> {
+    let file = file_of(alloc, name, rows)?;
+    Reference::read(alloc, &mut CountedReads::new(file.as_bytes()))
 }

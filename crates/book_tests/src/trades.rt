@@ -1,23 +1,123 @@
-//! Which report goes with one that waits.
+//! Reports that `Trades` takes in one by one, telling what each makes. (The book takes them in by their terms, without that answer.)
 
-use crate::words::report;
-use gu_trades::Sides;
+use gu_terms::{Command, Day, Report};
+use gu_text::Line;
+use gu_trades::{Matching, Trades};
+use gu_world::Step;
+use std::alloc::{AllocError, Global};
+use std::process::Abort;
+
+/// Reports of one day, and what becomes of each.
+const REPORTS: &str = "\
+REPORT E1 R1 M1 B XF6 10 101.5 H1  = waits
+REPORT E1 R1 M9 S XF6 10 101.5 H1  = is known
+REPORT E2 R1 M1 B XF6 10 101.5 H2  = conflicts
+REPORT E2 R1 M1 S XF6 11 101.5 H2  = conflicts
+REPORT E2 R1 M1 S YF6 10 101.5 H2  = conflicts
+REPORT E2 R1 M1 S XF6 10 101.6 H2  = conflicts
+REPORT E2 R1 M1 S XF6 10 101.50 H2 = is of a trade
+REPORT E2 R2 M1 S XF6 10 101.5 H2  = conflicts
+REPORT E1 R2 M2 B XF6 10 101.5 H1  = waits
+REPORT E1 R3 M2 S XF6 10 101.5 H1  = is of a trade
+REPORT E1 R4 M3 B XF6 10 101.5 H1  = waits
+REPORT E1 R5 M4 B XF6 10 101.5 H1  = waits
+REPORT E1 R6 M5 B XF6 10 101.5 H1  = waits
+REPORT E1 R7 M6 B XF6 10 101.5 H1  = waits
+REPORT E1 R8 M7 B XF6 10 101.5 H1  = waits
+REPORT E2 R8 M7 S XF6 10 101.5 H2  = is of a trade
+";
+
+/// The report that a firm asks for, on one day.
+fn report_of(command: &Command) -> Option<Report> {
+    let day = Day::new(2026, 1, 5)?;
+    match command {
+        Command::ReportSide {
+            firm,
+            id,
+            match_id,
+            symbol,
+            lots,
+            price,
+            day: _,
+            side,
+            account,
+        } => Some(Report {
+            firm: *firm,
+            id: *id,
+            match_id: *match_id,
+            symbol: *symbol,
+            lots: *lots,
+            price: *price,
+            day,
+            side: *side,
+            account: *account,
+        }),
+        _ => None,
+    }
+}
+
+/// The report of a line.
+fn read_report(alloc: Global, line: &str) -> Option<Report> {
+    let read = Line::read(alloc, line.as_bytes(), 0);
+    match &read {
+        Ok(Some(Line::Step(Step::Enter(command)))) => report_of(command),
+        _ => None,
+    }
+}
+
+/// Takes in a report where it is new and fits, and tells what becomes of it.
+fn take(trades: &mut Trades, report: &Report) -> Result<&'static str, AllocError> {
+    if trades.side_of(report.firm, report.id).is_some() {
+        return Ok("is known");
+    }
+    if trades.trade(report.match_id).conflicts_with(report) {
+        return Ok("conflicts");
+    }
+    let matching = trades.report(
+        report.firm,
+        report.id,
+        report.match_id,
+        report.symbol,
+        report.lots,
+        report.price,
+        report.day,
+        report.side,
+        report.account,
+    )?;
+    Ok(match matching {
+        Matching::Opened => "waits",
+        Matching::Matched => "is of a trade",
+    })
+}
+
+/// The same, at the second try where memory is refused to the first, which changes nothing.
+fn take_again(rt: &impl Abort, trades: &mut Trades, report: &Report) -> &'static str {
+    let before = trades.trade(report.match_id);
+    if let Ok(told) = take(trades, report) {
+        return told;
+    }
+    assert!(rt; trades.trade(report.match_id) == before);
+    assert!(rt; trades.side_of(report.firm, report.id).is_none());
+    take(trades, report).ok().expect(rt, "memory")
+}
 
 #[test]
-fn a_report_conflicts_unless_it_is_the_other_side(rt: HostRuntime) {
-    let buy = report("REPORT E1 R1 M1 B XF6 10 101.5 H1").expect(&rt, "a report");
-    let waiting = Sides::One(buy);
-    for (line, conflicts) in [
-        ("REPORT E2 R2 M1 S XF6 10 101.5 H2", false),
-        ("REPORT E2 R2 M1 S XF6 10 101.50 H2", false),
-        ("REPORT E1 R2 M1 S XF6 10 101.5 H1", false),
-        ("REPORT E2 R2 M1 S YF6 10 101.5 H2", true),
-        ("REPORT E2 R2 M1 S XF6 11 101.5 H2", true),
-        ("REPORT E2 R2 M1 S XF6 10 101.6 H2", true),
-        ("REPORT E2 R2 M1 S XF6 10 101.5 H2 20260106", true),
-        ("REPORT E2 R2 M1 B XF6 10 101.5 H2", true),
-    ] {
-        let new = report(line).expect(&rt, "a report");
-        assert_eq!(rt; waiting.conflicts_with(&new), conflicts, "{line}");
+fn a_report_waits_or_is_of_a_trade_unless_it_is_known_or_conflicts(rt: HostRuntime) {
+    let mut trades = Trades::new(rt.alloc());
+    for row in REPORTS.lines() {
+        let (line, want) = row.split_once("=").unwrap_or((row, ""));
+        let read = read_report(rt.alloc(), line.trim());
+        let report = match read {
+            Some(report) => report,
+            None => read_report(rt.alloc(), line.trim()).expect(&rt, "a report"),
+        };
+        let told = take_again(&rt, &mut trades, &report);
+        assert_eq!(rt; told, want.trim(), "{row}");
+        let found = trades.side_of(report.firm, report.id);
+        assert_eq!(rt;
+            found == Some(report),
+            matches!(told, "waits" | "is of a trade"),
+            "{row}"
+        );
     }
 }

@@ -1,178 +1,290 @@
-//! Transcripts: what is entered or asked, and what the house says to it, line by line.
+//! Transcripts: what is said to a world line by line, and behind ` = ` what it tells. `== name` begins one, in a world of its own,
+//! whose reference is the sample. Below it may stand `FILE name` for another file, `ROWS row; row` for more rows, and `BEHIND name`
+//! for the lines of a beginning. A line is one of a script (docs/rules/script.md), or one of these:
+//!
+//! - `20260105 REPORT ..`: a report that names its day
+//! - `BOOK`: how many entries there are, and the open day
+//! - `VIEW G1`: the view of a group; `LOOK 0`: what a worker saw last
+//! - `EXTENT G1`: the first and the last open offer of a group, how many there are, and how many rooms
+//! - `COUNT G1`: how many limits are set in a group, and the sums of them and of their rooms
+//! - `HELD E1 H1`: what a firm is told that an account holds
+//! - `PATH P1`: the keys over an agreement
+//! - `NOTICES E1 7`: what a firm is told of the entries from a number on
+//! - `EACH 10 40 3: line; line`: these lines for each third number from 10 up to 40, which stands for `#`, and the next two for
+//!   `#+1` and `#+2`; what is told to each has in it what stands behind ` = `
+//!
+//! What is told in several lines has `, ` between two of them.
 
-use crate::words::{account, command, group, symbol, word};
-use gu_book::{Book, LookError};
-use gu_terms::{Command, Done, Entry, LimitKey, LimitRow, Receipt, Refusal, Reply};
-use gu_view::{Offer, Room, View};
-use std::alloc::Global;
-use std::fmt::Write;
+use crate::beginnings::beginning;
+use crate::questions::{tell_of_book, tell_view};
+use crate::sample::{push_numbered, reference_of};
+use crate::steps::{take_steps, tell_outcome};
+use crate::words::{number, word};
+use gu_book::Book;
+use gu_ref::RefFault;
+use gu_text::texts::append_last_word;
+use gu_world::{Worker, World};
+use std::alloc::{AllocError, Global};
 use std::process::Abort;
 use std::str;
 
-/// What an accepted command did, where that is what was asked.
-fn done_text(alloc: Global, command: &Command, done: Done) -> Option<String> {
-    let text = match done {
-        Done::Opened if matches!(command, Command::OpenDay { .. }) => format!(in alloc; "OK"),
-        Done::LimitSet if matches!(command, Command::SetLimit { .. }) => format!(in alloc; "OK"),
-        Done::Reported { matched: false } if matches!(command, Command::ReportSide { .. }) => {
-            format!(in alloc; "OK OPEN")
-        }
-        Done::Reported { matched: true } if matches!(command, Command::ReportSide { .. }) => {
-            format!(in alloc; "OK MATCHED")
-        }
-        Done::Offered { first, count, .. } if matches!(command, Command::GiveUp { .. }) => {
-            let last = first.get().checked_add(count)?.checked_sub(1)?;
-            format!(in alloc; "OK OFFERS {} {last}", first.get())
-        }
-        Done::Claimed { lots } if matches!(command, Command::Claim { .. }) => {
-            format!(in alloc; "OK LOTS {}", lots.get())
-        }
-        Done::Refused { lots } if matches!(command, Command::Refuse { .. }) => {
-            format!(in alloc; "OK LOTS {}", lots.get())
-        }
-        Done::Reversed { lots } if matches!(command, Command::Reverse { .. }) => {
-            format!(in alloc; "OK LOTS {}", lots.get())
-        }
-        _ => return None,
-    };
-    text.ok()
+/// How often memory may be refused to a line.
+#[derive(Clone, Copy)]
+pub enum Patience {
+    Never,
+    /// Once to the steps, which change nothing then, and once to what is told.
+    Once,
 }
 
-/// Why a command was refused: a number, and the text of the refusal.
-fn refusal_text(alloc: Global, refusal: &Refusal) -> Option<String> {
-    let text = refusal.text();
-    let text = str::from_utf8(text.get()).ok()?;
-    let number = refusal.number();
-    format!(in alloc; "NO {number} {text}").ok()
-}
+/// What a book of the sample shows.
+const PICTURE: &str = "\
+BOOK
+POSITION H1 XF6
+POSITION H2 XF6
+POSITION A1 XF6
+POSITION A2 XF6
+POSITION A3 XF6
+POSITION H1 YF6
+POSITION H2 YF6
+POSITION A1 YF6
+POSITION A2 YF6
+POSITION A3 YF6
+INTEREST XF6
+INTEREST YF6
+LIMITS G1
+LIMITS G2
+VIEW G1
+VIEW G2
+";
 
-/// The number of an entry, and its reply.
-pub fn receipt_text(alloc: Global, receipt: &Receipt) -> Option<String> {
-    let Entry::Asked { command, reply } = &receipt.entry else {
-        return None;
-    };
-    let text = match reply {
-        Reply::Accepted(done) => done_text(alloc, command, *done)?,
-        Reply::Denied(refusal) => refusal_text(alloc, refusal)?,
-    };
-    let number = receipt.number;
-    format!(in alloc; "{number} {text}").ok()
-}
-
-/// What an account holds of an instrument, from a line as `POSITION H1 XF6`: the lots long, and the lots short.
-fn position_text(alloc: Global, book: &Book, line: &str) -> Option<String> {
-    let (long, short) = book.position(account(line, 1)?, symbol(line, 2)?);
-    format!(in alloc; "{long} {short}").ok()
-}
-
-/// Adds a limit behind others: its key, the limit, its use and its room.
-fn push_row(text: &mut String, row: &LimitRow) -> Option<()> {
-    if !text.is_empty() {
-        text.push_str(", ").ok()?;
-    }
-    let name = str::from_utf8(row.key.name()).ok()?;
-    let kind = row.key.kind();
-    write!(
-        text,
-        "{kind} {name} {} {} {}",
-        row.limit, row.used, row.room
-    )
-    .ok()
-}
-
-/// The limits of a group, from a line as `LIMITS G1`.
-fn limits_text(alloc: Global, book: &Book, line: &str) -> Option<String> {
-    let mut text = String::new(alloc);
-    for row in &book.limits(&group(line, 1)?).ok()? {
-        push_row(&mut text, row)?;
-    }
-    Some(text)
-}
-
-/// Adds an open offer behind others: its number, what is left of it, its agreement, and the other names on its path.
-fn push_offer(text: &mut String, offer: &Offer) -> Option<()> {
-    let number = offer.number.get();
-    let agreement = str::from_utf8(offer.agreement.get()).ok()?;
-    write!(text, ", OFFER {number} {} {agreement}", offer.lots).ok()?;
-    for key in offer.path.keys() {
-        if !matches!(key, LimitKey::Agr(_)) {
-            let name = str::from_utf8(key.name()).ok()?;
-            write!(text, " {name}").ok()?;
-        }
+/// Adds what a book of the sample shows.
+fn show(text: &mut Vec<u8>, alloc: Global, book: &Book) -> Option<()> {
+    for question in PICTURE.lines() {
+        tell_of_book(text, alloc, book, question)?;
     }
     Some(())
 }
 
-/// Adds the room of a key behind others.
-fn push_room(text: &mut String, room: &Room) -> Option<()> {
-    let name = str::from_utf8(room.key.name()).ok()?;
-    let kind = room.key.kind();
-    write!(text, ", ROOM {kind} {name} {}", room.lots).ok()
+/// What a book of the sample shows, at the second try where memory is refused to the first.
+pub fn picture(rt: &impl Abort, alloc: Global, book: &Book) -> Vec<u8> {
+    let mut text = Vec::new(alloc);
+    if show(&mut text, alloc, book).is_none() {
+        text.clear();
+        assert!(rt; show(&mut text, alloc, book).is_some());
+    }
+    text
 }
 
-/// A view: its version, its open offers, and the rooms of their keys.
-fn shown_text(alloc: Global, view: &View) -> Option<String> {
-    let version = view.version();
-    let mut text = format!(in alloc; "{version}").ok()?;
-    for offer in view.offers() {
-        push_offer(&mut text, offer)?;
-    }
-    for room in view.rooms() {
-        push_room(&mut text, room)?;
-    }
-    Some(text)
-}
-
-/// The view of a group, from a line as `SEE G1`.
-fn view_text(alloc: Global, book: &Book, line: &str) -> Option<String> {
-    let group = group(line, 1)?;
-    match book.view(&group) {
-        Ok(view) if view.group() == group => shown_text(alloc, &view),
-        Ok(_) => None,
-        Err(LookError::UnknownGroup) => format!(in alloc; "UNKNOWN GROUP").ok(),
-        Err(LookError::Memory) => None,
+/// Tells what a worker saw, from a line as `LOOK 0`.
+fn tell_look(text: &mut Vec<u8>, world: &World, line: &str) -> Option<()> {
+    let worker = Worker::new(u8::try_from(number(line, 1)?).ok()?)?;
+    match world.look(worker) {
+        Some(view) => tell_view(text, view).ok(),
+        None => append_last_word(text, b"NONE").ok(),
     }
 }
 
-/// What a book of the sample shows: its entries, the open day, what each account holds, the limits and the view of each group.
-pub fn picture(alloc: Global, book: &Book) -> Option<String> {
-    let mut text = String::with_capacity(alloc, 2_000).ok()?;
-    let entries = book.history().len();
-    let day = book.day();
-    write!(text, "{entries} {day:?}").ok()?;
-    for name in ["H1", "H2", "A1", "A2", "A3"] {
-        for instrument in ["XF6", "YF6"] {
-            let (long, short) = book.position(account(name, 0)?, symbol(instrument, 0)?);
-            write!(text, ", {name} {instrument} {long} {short}").ok()?;
+/// Adds what a world tells of a question, or of its last step where there is none. Nothing comes of it where memory is refused.
+fn tell(text: &mut Vec<u8>, alloc: Global, world: &World, question: &str) -> Option<()> {
+    match word(question, 0) {
+        "" => match world.outcomes().last() {
+            Ok(Some(outcome)) => tell_outcome(text, &outcome).ok(),
+            _ => None,
+        },
+        "LOOK" => tell_look(text, world, question),
+        _ => tell_of_book(text, alloc, world.book(), question),
+    }
+}
+
+/// What a world tells of a question, or of its last step.
+fn told(
+    rt: &impl Abort,
+    alloc: Global,
+    world: &World,
+    question: &str,
+    patience: Patience,
+) -> Vec<u8> {
+    let mut text = Vec::new(alloc);
+    if tell(&mut text, alloc, world, question).is_none() {
+        assert!(rt; matches!(patience, Patience::Once), "no memory: {question}");
+        text.clear();
+        assert!(rt;
+            tell(&mut text, alloc, world, question).is_some(),
+            "{question}"
+        );
+    }
+    text
+}
+
+/// Takes the steps of a line, at the second try where memory is refused to the first: then the book shows what it showed before.
+fn take_again(rt: &impl Abort, alloc: Global, world: &mut World, line: &str) -> bool {
+    let before = picture(rt, alloc, world.book());
+    let count = world.outcomes().len();
+    if let Some(is_step) = take_steps(alloc, world, line) {
+        return is_step;
+    }
+    let after = picture(rt, alloc, world.book());
+    assert!(rt;
+        after == before,
+        "refused memory, and changed something: {line}"
+    );
+    assert_eq!(rt; world.outcomes().len(), count, "{line}");
+    take_steps(alloc, world, line).expect(rt, "memory at the second try")
+}
+
+/// What is told to a line, whose steps are taken before.
+fn say(
+    rt: &impl Abort,
+    alloc: Global,
+    world: &mut World,
+    line: &str,
+    patience: Patience,
+) -> Vec<u8> {
+    let is_step = match patience {
+        Patience::Never => take_steps(alloc, world, line).expect(rt, "memory for each step"),
+        Patience::Once => take_again(rt, alloc, world, line),
+    };
+    let question = if is_step { "" } else { line };
+    told(rt, alloc, world, question, patience)
+}
+
+/// Writes a form with a number for each `#`.
+fn fill(text: &mut String, form: &str, n: u64) -> Result<(), AllocError> {
+    text.clear();
+    push_numbered(text, form, n)
+}
+
+/// A form with a number for each `#`, at the second try where memory is refused to the first.
+fn numbered(rt: &impl Abort, alloc: Global, form: &str, n: u64) -> String {
+    let mut text = String::new(alloc);
+    if fill(&mut text, form, n).is_err() {
+        assert!(rt; fill(&mut text, form, n).is_ok());
+    }
+    text
+}
+
+/// Says a line with a number, and compares.
+fn say_numbered(
+    rt: &impl Abort,
+    alloc: Global,
+    world: &mut World,
+    forms: (&str, &str),
+    n: u64,
+    patience: Patience,
+) {
+    let line = numbered(rt, alloc, forms.0, n);
+    let want = numbered(rt, alloc, forms.1, n);
+    let told = say(rt, alloc, world, &line, patience);
+    let told = str::from_utf8(&told).unwrap_or("");
+    assert!(rt;
+        told.contains(want.as_str()),
+        "{line} is told {told}, not {want}"
+    );
+}
+
+/// Says lines for each number of some, as `EACH 10 40 3: line; line` asks for.
+fn say_each(
+    rt: &impl Abort,
+    alloc: Global,
+    world: &mut World,
+    line: &str,
+    want: &str,
+    patience: Patience,
+) {
+    let (head, forms) = line.split_once(": ").expect(rt, "numbers and lines");
+    let first = number(head, 1).expect(rt, "a first number");
+    let end = number(head, 2).expect(rt, "an end");
+    let step = number(head, 3).expect(rt, "a step");
+    for n in first..end {
+        if n.saturating_sub(first) % step.max(1) == 0 {
+            for form in forms.split("; ") {
+                say_numbered(rt, alloc, world, (form, want), n, patience);
+            }
         }
     }
-    for name in ["G1", "G2"] {
-        text.push_str("; ").ok()?;
-        for row in &book.limits(&group(name, 0)?).ok()? {
-            push_row(&mut text, row)?;
+}
+
+/// Says a line, and compares what is told.
+fn say_one(
+    rt: &impl Abort,
+    alloc: Global,
+    world: &mut World,
+    name: &str,
+    line: &str,
+    patience: Patience,
+) {
+    let (asked, want) = line.split_once("=").expect(rt, "a line and what is told");
+    let (asked, want) = (asked.trim(), want.trim());
+    if word(asked, 0) == "EACH" {
+        return say_each(rt, alloc, world, asked, want, patience);
+    }
+    let told = say(rt, alloc, world, asked, patience);
+    let told = str::from_utf8(&told).unwrap_or("").trim_end();
+    assert!(rt;
+        told.split("\n").eq(want.split(", ")),
+        "{name}: {line}: told {told}"
+    );
+}
+
+/// Says lines, and compares what is told to each.
+pub fn follow(
+    rt: &impl Abort,
+    alloc: Global,
+    world: &mut World,
+    name: &str,
+    lines: &str,
+    patience: Patience,
+) {
+    for line in lines.lines() {
+        say_one(rt, alloc, world, name, line, patience);
+    }
+}
+
+/// A world of a file with more rows, read at the second try where memory is refused to the first.
+pub fn world_of(
+    rt: &impl Abort,
+    alloc: Global,
+    file: &str,
+    rows: &str,
+    patience: Patience,
+) -> World {
+    match reference_of(alloc, file, rows) {
+        Ok(reference) => World::new(alloc, reference),
+        Err(fault) => {
+            assert_eq!(rt; fault, RefFault::Memory);
+            assert!(rt; matches!(patience, Patience::Once));
+            let reference = reference_of(alloc, file, rows)
+                .ok()
+                .expect(rt, "a reference");
+            World::new(alloc, reference)
         }
-        let view = book.view(&group(name, 0)?).ok()?;
-        text.push_str("; ").ok()?;
-        text.push_str(shown_text(alloc, &view)?.as_str()).ok()?;
-    }
-    Some(text)
-}
-
-/// What the house says to a line, which asks for a position, for limits or for a view, or else is entered.
-pub fn told(alloc: Global, book: &mut Book, line: &str) -> Option<String> {
-    match word(line, 0)? {
-        b"POSITION" => position_text(alloc, book, line),
-        b"LIMITS" => limits_text(alloc, book, line),
-        b"SEE" => view_text(alloc, book, line),
-        _ => receipt_text(alloc, &book.enter(command(alloc, line)?).ok()?),
     }
 }
 
-/// Follows a transcript: each line, and behind ` = ` what the house says to it.
-pub fn follow(rt: &impl Abort, alloc: Global, book: &mut Book, transcript: &str) {
-    for line in transcript.lines() {
-        let (asked, want) = line.split_once("=").expect(rt, "a line and an answer");
-        let told = told(alloc, book, asked).expect(rt, "an answer");
-        assert_eq!(rt; told.as_str(), want.trim(), "{line}");
+/// What stands behind a mark with which a text begins, up to the end of its line, and the lines below; without the mark nothing, and all.
+fn marked<'a>(text: &'a str, mark: &str) -> (&'a str, &'a str) {
+    match text.strip_prefix(mark) {
+        Some(rest) => rest.split_once("\n").unwrap_or((rest, "")),
+        None => ("", text),
+    }
+}
+
+/// Follows a transcript in a world of its own.
+fn follow_one(rt: &impl Abort, alloc: Global, transcript: &str, patience: Patience) {
+    let (name, rest) = transcript.split_once("\n").unwrap_or((transcript, ""));
+    let (file, rest) = marked(rest, "FILE ");
+    let (rows, rest) = marked(rest, "ROWS ");
+    let (start, lines) = marked(rest, "BEHIND ");
+    let mut world = world_of(rt, alloc, file, rows, patience);
+    follow(rt, alloc, &mut world, name, beginning(start), patience);
+    follow(rt, alloc, &mut world, name, lines, patience);
+}
+
+/// Follows transcripts.
+pub fn follow_all(rt: &impl Abort, alloc: Global, transcripts: &str, patience: Patience) {
+    for transcript in transcripts.split("== ") {
+        if !transcript.is_empty() {
+            follow_one(rt, alloc, transcript, patience);
+        }
     }
 }

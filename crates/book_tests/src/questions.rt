@@ -1,0 +1,243 @@
+//! Questions to a book, and what it tells: line by line.
+
+use crate::words::{number, word};
+use gu_book::{Book, LookError};
+use gu_limits::path;
+use gu_terms::{
+    AccountId, AgreementId, AllocReject, FirmId, Group, LimitKey, LimitRow, Notice, OfferEvent,
+    OfferNotice, PositionRows, Report, Side, Symbol,
+};
+use gu_text::Line;
+use gu_text::texts::{append_last_number, append_last_word, append_number, append_word};
+use gu_view::{Offer, View};
+use std::alloc::{AllocError, Global};
+
+/// Tells what an account holds of an instrument: the lots long, and the lots short.
+fn tell_position(
+    text: &mut Vec<u8>,
+    book: &Book,
+    account: AccountId,
+    symbol: Symbol,
+) -> Result<(), AllocError> {
+    let (long, short) = book.position(account, symbol);
+    append_number(text, long)?;
+    append_last_number(text, short)
+}
+
+/// Ends a line whose last word has a blank behind it.
+pub fn end_line(text: &mut Vec<u8>) -> Result<(), AllocError> {
+    let _ = text.pop();
+    text.push(b'\n')?;
+    Ok(())
+}
+
+/// Tells the kind and the name of a key, and a number.
+pub fn tell_key(text: &mut Vec<u8>, key: &LimitKey, lots: u64) -> Result<(), AllocError> {
+    append_word(text, key.kind().as_bytes())?;
+    append_word(text, key.name())?;
+    append_last_number(text, lots)
+}
+
+/// Tells limits: the key of each, the limit, its use and its room.
+pub fn tell_limits(text: &mut Vec<u8>, rows: &[LimitRow]) -> Result<(), AllocError> {
+    for row in rows {
+        append_word(text, row.key.kind().as_bytes())?;
+        append_word(text, row.key.name())?;
+        append_number(text, row.limit)?;
+        append_number(text, row.used)?;
+        append_last_number(text, row.room)?;
+    }
+    Ok(())
+}
+
+/// Tells how many limits there are, and the sums of them and of their rooms.
+fn tell_count(text: &mut Vec<u8>, rows: &[LimitRow]) -> Result<(), AllocError> {
+    let mut limits: u64 = 0;
+    let mut rooms: u64 = 0;
+    for row in rows {
+        limits = limits.saturating_add(row.limit);
+        rooms = rooms.saturating_add(row.room);
+    }
+    append_number(text, rows.len() as u64)?;
+    append_number(text, limits)?;
+    append_last_number(text, rooms)
+}
+
+/// Tells an open offer: its number, what is left of it, its agreement, and the other names on its path.
+fn tell_offer(text: &mut Vec<u8>, offer: &Offer) -> Result<(), AllocError> {
+    append_word(text, b"OFFER")?;
+    append_number(text, offer.number.get())?;
+    append_number(text, offer.lots)?;
+    append_word(text, offer.agreement.get())?;
+    for key in offer.path.keys() {
+        if !matches!(key, LimitKey::Agr(_)) {
+            append_word(text, key.name())?;
+        }
+    }
+    end_line(text)
+}
+
+/// Tells a view: its version, its open offers, and the rooms of their keys.
+pub fn tell_view(text: &mut Vec<u8>, view: &View) -> Result<(), AllocError> {
+    append_last_number(text, view.version())?;
+    for offer in view.offers() {
+        tell_offer(text, offer)?;
+    }
+    for room in view.rooms() {
+        append_word(text, b"ROOM")?;
+        tell_key(text, &room.key, room.lots)?;
+    }
+    Ok(())
+}
+
+/// Tells the first and the last offer of a view, how many there are, and how many rooms.
+fn tell_extent(text: &mut Vec<u8>, view: &View) -> Result<(), AllocError> {
+    if let ([first, ..], [.., last]) = (view.offers(), view.offers()) {
+        append_number(text, first.number.get())?;
+        append_number(text, last.number.get())?;
+    }
+    append_number(text, view.offers().len() as u64)?;
+    append_last_number(text, view.rooms().len() as u64)
+}
+
+/// A side, as it is reported.
+fn side_word(side: Side) -> &'static [u8] {
+    match side {
+        Side::Buy => b"B",
+        Side::Sell => b"S",
+    }
+}
+
+/// What became of an offer.
+fn event_word(event: OfferEvent) -> &'static [u8] {
+    match event {
+        OfferEvent::Offered => b"OFFERED",
+        OfferEvent::Claimed => b"CLAIMED",
+        OfferEvent::Refused(AllocReject::BlockLevel) => b"REFUSED 1",
+        OfferEvent::Refused(AllocReject::AccountLevel) => b"REFUSED 2",
+        OfferEvent::Refused(AllocReject::Intermediary) => b"REFUSED 5",
+        OfferEvent::Reversed => b"REVERSED",
+    }
+}
+
+/// Tells a report of a trade: the entry that made it, and the report.
+fn tell_matched(text: &mut Vec<u8>, entry: u64, report: &Report) -> Result<(), AllocError> {
+    append_number(text, entry)?;
+    append_word(text, report.id.get())?;
+    append_word(text, report.match_id.get())?;
+    append_word(text, side_word(report.side))?;
+    append_word(text, report.symbol.get())?;
+    append_number(text, report.lots.get())?;
+    append_last_word(text, report.account.get())
+}
+
+/// Tells an event of an offer: its number, the lots, the account, and the side and instrument of the trade.
+fn tell_event(text: &mut Vec<u8>, notice: &OfferNotice) -> Result<(), AllocError> {
+    append_number(text, notice.offer.get())?;
+    append_word(text, event_word(notice.event))?;
+    append_number(text, notice.lots.get())?;
+    append_word(text, notice.account.get())?;
+    append_word(text, side_word(notice.side))?;
+    append_last_word(text, notice.symbol.get())
+}
+
+/// Tells the number from which to ask next, and each notice.
+fn tell_notices(text: &mut Vec<u8>, next: u64, list: &[Notice]) -> Result<(), AllocError> {
+    append_word(text, b"next")?;
+    append_last_number(text, next)?;
+    for notice in list {
+        match notice {
+            Notice::Matched { entry, report } => tell_matched(text, *entry, report)?,
+            Notice::Offer(notice) => tell_event(text, notice)?,
+        }
+    }
+    Ok(())
+}
+
+/// Tells the open day, and all that an account holds.
+fn tell_held(text: &mut Vec<u8>, held: &PositionRows) -> Result<(), AllocError> {
+    append_last_number(text, held.day.map_or(0, |day| u64::from(day.number())))?;
+    for row in &held.rows {
+        append_word(text, row.symbol.get())?;
+        append_number(text, row.long)?;
+        append_last_number(text, row.short)?;
+    }
+    Ok(())
+}
+
+/// Tells how many entries there are, and the open day.
+fn tell_book(text: &mut Vec<u8>, book: &Book) -> Result<(), AllocError> {
+    append_number(text, book.history().len() as u64)?;
+    append_last_number(text, book.day().map_or(0, |day| u64::from(day.number())))
+}
+
+/// Tells the keys over an agreement.
+fn tell_path(text: &mut Vec<u8>, keys: &[LimitKey]) -> Result<(), AllocError> {
+    for key in keys {
+        append_word(text, key.kind().as_bytes())?;
+        append_last_word(text, key.name())?;
+    }
+    Ok(())
+}
+
+/// Tells of the limits of a group, or of the view of a group.
+fn tell_of_group(
+    text: &mut Vec<u8>,
+    book: &Book,
+    kind: &str,
+    group: &Group,
+) -> Result<(), AllocError> {
+    if kind == "COUNT" {
+        return tell_count(text, &book.limits(group)?);
+    }
+    match book.view(group) {
+        Ok(view) if kind == "VIEW" => tell_view(text, &view),
+        Ok(view) => tell_extent(text, &view),
+        Err(LookError::UnknownGroup) => append_last_word(text, b"UNKNOWN GROUP"),
+        Err(LookError::Memory) => Err(AllocError),
+    }
+}
+
+/// What a book tells of a question that no script has. Nothing is told where memory is refused.
+fn tell_more(text: &mut Vec<u8>, book: &Book, line: &str) -> Option<()> {
+    let name = word(line, 1).as_bytes();
+    match word(line, 0) {
+        "BOOK" => tell_book(text, book).ok(),
+        "PATH" => match path(book.reference(), AgreementId::new(name)?) {
+            Some(path) => tell_path(text, path.keys()).ok(),
+            None => append_last_word(text, b"NONE").ok(),
+        },
+        "NOTICES" => match book.notices(FirmId::new(name)?, number(line, 2)?) {
+            Ok(notices) => tell_notices(text, notices.next, &notices.list).ok(),
+            Err(_) => None,
+        },
+        "HELD" => match book.positions(
+            FirmId::new(name)?,
+            AccountId::new(word(line, 2).as_bytes())?,
+        ) {
+            Ok(Some(held)) => tell_held(text, &held).ok(),
+            Ok(None) => append_last_word(text, b"NONE").ok(),
+            Err(_) => None,
+        },
+        kind => tell_of_group(text, book, kind, &Group::new(name)?).ok(),
+    }
+}
+
+/// Adds what a book tells of a question. Nothing is told where memory is refused.
+pub fn tell_of_book(text: &mut Vec<u8>, alloc: Global, book: &Book, line: &str) -> Option<()> {
+    let read = Line::read(alloc, line.as_bytes(), 0);
+    match &read {
+        Ok(Some(Line::Position(account, symbol))) => {
+            tell_position(text, book, *account, *symbol).ok()
+        }
+        Ok(Some(Line::Interest(symbol))) => {
+            append_last_number(text, book.open_interest(*symbol)).ok()
+        }
+        Ok(Some(Line::Limits(group))) => match book.limits(group) {
+            Ok(rows) => tell_limits(text, &rows).ok(),
+            Err(_) => None,
+        },
+        Ok(_) => None,
+        Err(_) => tell_more(text, book, line),
+    }
+}

@@ -1,0 +1,102 @@
+//! Lines that ask for steps, and what is told of these.
+
+use gu_terms::{Command, Day, Entry, Group, SweepEntry};
+use gu_text::texts::{append_last_number, append_last_word, append_number, append_word};
+use gu_text::{Line, TextError, append_outcome};
+use gu_world::{Outcome, Step, Worker, World};
+use std::alloc::{AllocError, Global};
+
+/// A report on a day that it names.
+fn report_on(command: &Command, on: Day) -> Option<Step> {
+    match command {
+        Command::ReportSide {
+            firm,
+            id,
+            match_id,
+            symbol,
+            lots,
+            price,
+            day: _,
+            side,
+            account,
+        } => Some(Step::Enter(Command::ReportSide {
+            firm: *firm,
+            id: *id,
+            match_id: *match_id,
+            symbol: *symbol,
+            lots: *lots,
+            price: *price,
+            day: Some(on),
+            side: *side,
+            account: *account,
+        })),
+        _ => None,
+    }
+}
+
+/// The step of a line as `20260105 REPORT E1 R1 M1 B XF6 10 101.5 H1`.
+fn dated(alloc: Global, line: &str) -> Option<Step> {
+    let (date, report) = line.split_once(" ")?;
+    let on = Day::read(date.as_bytes()).ok()?;
+    let read = Line::read(alloc, report.as_bytes(), 0);
+    match &read {
+        Ok(Some(Line::Step(Step::Enter(command)))) => report_on(command, on),
+        _ => None,
+    }
+}
+
+/// Sweeps a group in one go.
+fn sweep(world: &mut World, group: Group) -> Option<()> {
+    let worker = Worker::new(63)?;
+    world.step(Step::See(worker, group)).ok()?;
+    world.step(Step::Propose(worker)).ok()?;
+    world.step(Step::Commit(worker)).ok()
+}
+
+/// Takes the steps that a line asks for, and says whether there are any. Nothing comes of it where memory is refused.
+pub fn take_steps(alloc: Global, world: &mut World, line: &str) -> Option<bool> {
+    let taken = match Line::read(alloc, line.as_bytes(), 0) {
+        Ok(Some(Line::Step(step))) => world.step(step).ok(),
+        Ok(Some(Line::Sweep(group))) => sweep(world, group),
+        Ok(_) => return Some(false),
+        Err(TextError::Memory) => None,
+        Err(TextError::BadLine(_)) => match dated(alloc, line) {
+            Some(step) => world.step(step).ok(),
+            None => return Some(false),
+        },
+    };
+    taken.map(|_| true)
+}
+
+/// Tells what a sweep takes, where that is something, and its cut.
+fn tell_sweep(text: &mut Vec<u8>, sweep: &SweepEntry) -> Result<(), AllocError> {
+    for take in sweep.takes.as_slice() {
+        if take.lots > 0 {
+            append_word(text, b"TAKE")?;
+            append_number(text, take.offer.get())?;
+            append_last_number(text, take.lots)?;
+        }
+    }
+    for key in sweep.cut.keys() {
+        append_word(text, b"CUT")?;
+        append_word(text, key.kind().as_bytes())?;
+        append_last_word(text, key.name())?;
+    }
+    for offer in sweep.cut.offers() {
+        append_word(text, b"CUT OFFER")?;
+        append_last_number(text, offer.get())?;
+    }
+    Ok(())
+}
+
+/// Tells what came of a step.
+pub fn tell_outcome(text: &mut Vec<u8>, outcome: &Outcome) -> Result<(), AllocError> {
+    append_outcome(text, None, None, outcome)?;
+    match outcome {
+        Outcome::Swept(receipt) => match &receipt.entry {
+            Entry::Swept(sweep) => tell_sweep(text, sweep),
+            Entry::Asked { .. } => Ok(()),
+        },
+        _ => Ok(()),
+    }
+}
