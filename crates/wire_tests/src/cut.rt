@@ -1,45 +1,66 @@
 //! Cuts with many members.
+use crate::rows::{Subject, check, number};
 use gu_terms::{AccountId, Cut, LimitKey, OfferNo};
-use std::alloc::Global;
+use std::alloc::{AllocError, Global};
 
-/// The account with this number in its name.
-fn account(alloc: Global, number: u64) -> Option<AccountId> {
-    let name = format!(in alloc; "A{number}").ok()?;
-    AccountId::new(name.as_bytes())
+/// Adds an offer to a cut, at the second try where the first is refused, and answers whether it was new.
+fn add_offer(cut: &mut Cut, number: u64) -> Option<bool> {
+    let offer = OfferNo::new(number)?;
+    match cut.add_offer(offer) {
+        Ok(is_new) => Some(is_new),
+        Err(_) => cut.add_offer(offer).ok(),
+    }
 }
 
-/// How many members were new of the offers and the accounts with numbers from 1 to 4,096.
-fn add_all(alloc: Global, cut: &mut Cut) -> Option<usize> {
-    let mut added: usize = 0;
-    for number in 1..4_097 {
-        if cut.add_offer(OfferNo::new(number)?).ok()? {
-            added = added.saturating_add(1);
-        }
-        if cut.add_key(LimitKey::Acct(account(alloc, number)?)).ok()? {
-            added = added.saturating_add(1);
-        }
+/// The same of an account with this name.
+fn add_key(cut: &mut Cut, name: &str) -> Option<bool> {
+    let key = LimitKey::Acct(AccountId::new(name.as_bytes())?);
+    match cut.add_key(key) {
+        Ok(is_new) => Some(is_new),
+        Err(_) => cut.add_key(key).ok(),
     }
-    Some(added)
 }
 
-/// How many members a copy has.
-fn count_of_copy(cut: &Cut) -> Option<usize> {
-    match cut.copy() {
-        Ok(copy) => {
-            let count = copy.offers().len().saturating_add(copy.keys().len());
-            drop(copy);
-            Some(count)
-        }
-        Err(_) => None,
+/// How many members were new of the offers and the accounts with so many numbers.
+fn add_all(alloc: Global, cut: &mut Cut, count: u64) -> Result<u64, AllocError> {
+    let mut added: u64 = 0;
+    for place in 0..count {
+        let number = place + 1;
+        let is_new = add_offer(cut, number) == Some(true);
+        let name = format!(in alloc; "A{number}")?;
+        let is_new_key = add_key(cut, name.as_str()) == Some(true);
+        added = added.saturating_add(u64::from(is_new) + u64::from(is_new_key));
     }
+    Ok(added)
+}
+
+/// How many members were new, how many were new once more, and how many a copy has.
+fn counts(alloc: Global, cut: &mut Cut, count: u64) -> Result<String, AllocError> {
+    let first = add_all(alloc, cut, count)?;
+    let again = add_all(alloc, cut, count)?;
+    let copy = cut.copy()?;
+    format!(in alloc;
+        "{first} {again} {} {}",
+        copy.offers().len(),
+        copy.keys().len()
+    )
+}
+
+/// The same of a new cut.
+pub fn told(alloc: Global, count: &str) -> Result<String, AllocError> {
+    let mut cut = Cut::new(alloc);
+    let told = counts(alloc, &mut cut, number(count));
+    drop(cut);
+    told
 }
 
 /// A sweep looks at 4,096 offers at most.
+const COUNTS: &str = "\
+20 -> 40 0 20 20
+4096 -> 8192 0 4096 4096
+";
+
 #[test]
 fn a_cut_names_each_of_its_thousands_of_members_once(rt: HostRuntime) {
-    let mut cut = Cut::new(rt.alloc());
-    assert_eq!(rt; add_all(rt.alloc(), &mut cut), Some(8_192));
-    assert_eq!(rt; add_all(rt.alloc(), &mut cut), Some(0));
-    assert_eq!(rt; count_of_copy(&cut), Some(8_192));
-    drop(cut);
+    check(&rt, rt.alloc(), Subject::Cut, COUNTS);
 }

@@ -1,48 +1,33 @@
 //! What a feed gives.
-use crate::messages::{FIRST, HEARTBEAT, SECOND, SHORTEST, longest_value, shown, wire_around};
-use crate::rows::{Subject, check};
+use crate::messages::{FIRST, SECOND, shown, wire};
+use crate::rows::{Subject, check, number};
 use gu_fix::{Feed, Frame};
 use std::alloc::{AllocError, Global};
-use std::process::Abort;
 
-/// How many messages a feed gives with a piece.
-fn count(rt: &impl Abort, feed: &mut Feed, piece: &[u8]) -> usize {
-    feed.push(piece).expect(rt, "memory").len()
-}
-
-/// How many messages a feed gives with the pieces of so many bytes that a stream is cut into.
-fn count_cut(rt: &impl Abort, feed: &mut Feed, stream: &str, size: usize) -> usize {
-    let mut given: usize = 0;
-    for piece in stream.as_bytes().chunks(size.max(1)) {
-        given = given.saturating_add(count(rt, feed, piece));
-    }
-    given
-}
-
-/// A message of a feed, which is called SECOND where it is that.
-fn given(alloc: Global, frame: &Frame) -> Result<String, AllocError> {
-    let text = shown(alloc, frame.bytes())?;
-    if text.as_str() == SECOND {
-        String::from_str(alloc, "SECOND")
-    } else {
-        Ok(text)
+/// The messages that a feed gives with a piece, at the second try where the first is refused.
+fn pushed(feed: &mut Feed, piece: &[u8]) -> Result<Vec<Frame>, AllocError> {
+    match feed.push(piece) {
+        Ok(frames) => Ok(frames),
+        Err(_) => feed.push(piece).ok().ok_or(AllocError),
     }
 }
 
-/// The messages that a new feed gives of a front and SECOND behind it.
+/// The bytes of the messages that a new feed gives of a stream, one behind another.
+fn given_of(alloc: Global, stream: &[u8]) -> Result<Vec<u8>, AllocError> {
+    let mut feed = Feed::new(alloc);
+    let mut bytes = Vec::new(alloc);
+    for frame in &pushed(&mut feed, stream)? {
+        bytes.extend_from_slice(frame.bytes())?;
+    }
+    Ok(bytes)
+}
+
+/// The messages that a new feed gives of a front and SECOND behind it, which is called by this name.
 pub fn told(alloc: Global, front: &str) -> Result<String, AllocError> {
-    let stream = wire_around(alloc, front, "", 0, SECOND)?;
-    let Ok(frames) = Feed::new(alloc).push(stream.as_bytes()) else {
-        return Err(AllocError);
-    };
-    let mut text = String::new(alloc);
-    for frame in &frames {
-        if !text.is_empty() {
-            text.push(' ')?;
-        }
-        text.push_str(&given(alloc, frame)?)?;
-    }
-    Ok(text)
+    let stream = format!(in alloc; "{front}{SECOND}")?;
+    let stream = wire(alloc, stream.as_str())?;
+    let given = given_of(alloc, stream.as_bytes())?;
+    shown(alloc, &given)?.replace(alloc, SECOND, "SECOND")
 }
 
 /// Fronts that a message may follow from.
@@ -80,8 +65,8 @@ fn a_front_is_kept_while_a_message_may_follow_from_it_and_no_longer(rt: HostRunt
 
 /// A message whose text holds another, with a sound CheckSum and with a wrong one.
 const INSIDE: &str = "\
-8=FIXT.1.1|9=37|35=0|58=x|8=FIXT.1.1|9=5|35=0|10=241|10=112| -> 8=FIXT.1.1|9=37|35=0|58=x|8=FIXT.1.1|9=5|35=0|10=241|10=112| SECOND
-8=FIXT.1.1|9=37|35=0|58=x|8=FIXT.1.1|9=5|35=0|10=241|10=113| -> 8=FIXT.1.1|9=5|35=0|10=241| SECOND
+8=FIXT.1.1|9=37|35=0|58=x|8=FIXT.1.1|9=5|35=0|10=241|10=112| -> 8=FIXT.1.1|9=37|35=0|58=x|8=FIXT.1.1|9=5|35=0|10=241|10=112|SECOND
+8=FIXT.1.1|9=37|35=0|58=x|8=FIXT.1.1|9=5|35=0|10=241|10=113| -> 8=FIXT.1.1|9=5|35=0|10=241|SECOND
 ";
 
 #[test]
@@ -89,101 +74,122 @@ fn a_message_inside_one_with_a_wrong_check_sum_is_found(rt: HostRuntime) {
     check(&rt, rt.alloc(), Subject::Fronts, INSIDE);
 }
 
+/// How many bytes messages have.
+fn bytes_in(frames: &[Frame]) -> usize {
+    let mut bytes: usize = 0;
+    for frame in frames {
+        bytes = bytes.saturating_add(frame.bytes().len());
+    }
+    bytes
+}
+
+/// How many messages a feed gives of a stream in pieces of so many bytes, and how many bytes they have.
+fn given_in(feed: &mut Feed, stream: &[u8], size: usize) -> Result<(usize, usize), AllocError> {
+    let mut count: usize = 0;
+    let mut bytes: usize = 0;
+    for piece in stream.chunks(size.max(1)) {
+        let frames = pushed(feed, piece)?;
+        count = count.saturating_add(frames.len());
+        bytes = bytes.saturating_add(bytes_in(&frames));
+    }
+    Ok((count, bytes))
+}
+
+/// The same of one feed with sizes one after another, as a text.
+fn given_by(alloc: Global, stream: &[u8], sizes: &str) -> Result<String, AllocError> {
+    let mut feed = Feed::new(alloc);
+    let mut text = String::new(alloc);
+    for size in sizes.split(' ') {
+        let given = given_in(&mut feed, stream, number(size) as usize)?;
+        write!(text, "{given:?}")?;
+    }
+    Ok(text)
+}
+
+/// The same of the stream and the sizes of a row.
+pub fn pieces_told(alloc: Global, asked: &str) -> Result<String, AllocError> {
+    let (stream, sizes) = asked.split_once(" by ").unwrap_or((asked, ""));
+    let stream = wire(alloc, stream)?;
+    given_by(alloc, stream.as_bytes(), sizes)
+}
+
+/// Streams and the sizes of their pieces: how many messages are given each time, and how many bytes they have. Pieces of 9
+/// bytes are kept twice before a message is whole. Behind thousands of openings, one inside another, a message is found
+/// when the length that they say has come.
+const PIECES: &str = "\
+{8=FIXT.1.1|9=5|35=0|10=241|*20} by 9 -> (20, 540)
+8=FIXT.1.1|9=65510|35=0|58={x*65501}|10=000| by 65536 4096 65535 1000 -> (1, 65536)(1, 65536)(1, 65536)(1, 65536)
+{8=FIXT.1.1|9=47|35=0|49=E1|56=GIVEUP|34=2|52=20260105-09:00:00|10=151|*5000} by 70 4096 350000 -> (5000, 350000)(5000, 350000)(5000, 350000)
+{8=FIXT.1.1|9=65510|35=*4000}8=FIXT.1.1|9=5|35=0|10=241| by 4096 -> (0, 0)
+{8=FIXT.1.1|9=65510|35=*4000}8=FIXT.1.1|9=5|35=0|10=241|{x*65536} by 4096 -> (1, 27)
+";
+
+#[test]
+fn messages_of_65_536_bytes_and_thousands_in_a_row_are_taken(rt: HostRuntime) {
+    check(&rt, rt.alloc(), Subject::Pieces, PIECES);
+}
+
+/// What is done to a stream at a place.
+#[derive(Clone, Copy)]
+pub enum Change {
+    /// It comes in two pieces, of which the second begins there.
+    Cut,
+    /// The byte there is one higher.
+    Raise,
+}
+
 /// How many messages a new feed gives of a stream up to a cut, and behind it.
-fn counts_at(rt: &impl Abort, alloc: Global, stream: &[u8], cut: usize) -> (usize, usize) {
+fn counts_at(alloc: Global, stream: &[u8], cut: usize) -> Result<(usize, usize), AllocError> {
     let (front, rest) = stream.split_at(cut.min(stream.len()));
     let mut feed = Feed::new(alloc);
-    let before = count(rt, &mut feed, front);
-    (before, count(rt, &mut feed, rest))
+    let before = pushed(&mut feed, front)?.len();
+    Ok((before, pushed(&mut feed, rest)?.len()))
 }
 
-/// Asserts that FIRST and SECOND are given as their last bytes come, wherever they are cut.
-fn check_cuts(rt: &impl Abort, alloc: Global, stream: &[u8]) {
-    for cut in 0..278 {
-        let expected = match cut {
-            0..141 => (0, 2),
-            141..277 => (1, 1),
-            _ => (2, 0),
-        };
-        assert_eq!(rt; counts_at(rt, alloc, stream, cut), expected, "{cut}");
+/// How many messages a new feed gives of a stream that is changed at a place: before a cut, and behind it.
+fn counts_with(
+    alloc: Global,
+    stream: &[u8],
+    change: Change,
+    place: usize,
+) -> Result<(usize, usize), AllocError> {
+    match change {
+        Change::Cut => counts_at(alloc, stream, place),
+        Change::Raise => {
+            let mut bytes = Vec::from_slice(alloc, stream)?;
+            if let Some(byte) = bytes.get_mut(place) {
+                *byte = byte.wrapping_add(1);
+            }
+            counts_at(alloc, &bytes, 0)
+        }
     }
 }
 
-/// A stream whose byte at a place is one higher.
-fn raised(alloc: Global, stream: &[u8], place: usize) -> Result<Vec<u8>, AllocError> {
-    let mut bytes = Vec::from_slice(alloc, stream)?;
-    if place < bytes.len() {
-        bytes[place] = bytes[place].wrapping_add(1);
+/// The same by the place of the change, where it isn't as at the place before.
+fn places_in(alloc: Global, stream: &[u8], change: Change) -> Result<String, AllocError> {
+    let mut text = String::new(alloc);
+    let mut last = (9, 9);
+    for place in 0..278 {
+        let counts = counts_with(alloc, stream, change, place)?;
+        if counts != last {
+            write!(text, "{place}: {counts:?} ")?;
+            last = counts;
+        }
     }
-    Ok(bytes)
+    Ok(text)
 }
 
-/// Asserts that FIRST isn't given where any byte of it is one higher, and SECOND behind it is.
-fn check_bytes(rt: &impl Abort, alloc: Global, stream: &[u8]) {
-    for place in 0..141 {
-        let bytes = raised(alloc, stream, place).expect(rt, "memory");
-        assert_eq!(rt; counts_at(rt, alloc, &bytes, 0), (0, 1), "{place}");
-    }
+/// The same of FIRST and SECOND.
+pub fn places_told(alloc: Global, change: Change) -> Result<String, AllocError> {
+    let stream = format!(in alloc; "{FIRST}{SECOND}")?;
+    let stream = wire(alloc, stream.as_str())?;
+    places_in(alloc, stream.as_bytes(), change)
 }
 
 #[test]
 fn a_message_is_given_once_its_last_byte_has_come_and_only_as_it_is(rt: HostRuntime) {
-    let stream = wire_around(rt.alloc(), FIRST, "", 0, SECOND).expect(&rt, "memory");
-    check_cuts(&rt, rt.alloc(), stream.as_bytes());
-    check_bytes(&rt, rt.alloc(), stream.as_bytes());
-}
-
-/// Whether a message is among those of a feed.
-fn has(frames: &[Frame], message: &[u8]) -> bool {
-    for frame in frames {
-        if frame.bytes() == message {
-            return true;
-        }
-    }
-    false
-}
-
-/// Whether a feed gives a message with its last piece, where it comes in pieces of so many bytes.
-fn takes(rt: &impl Abort, feed: &mut Feed, message: &[u8], size: usize) -> bool {
-    let mut is_given = false;
-    for piece in message.chunks(size.max(1)) {
-        let frames = feed.push(piece).expect(rt, "memory");
-        is_given = has(&frames, message);
-    }
-    is_given
-}
-
-/// Asserts that a feed gives so many messages of 70 bytes in a row, in pieces of these sizes.
-fn check_thousands(rt: &impl Abort, alloc: Global, times: usize) {
-    let stream = wire_around(alloc, "", HEARTBEAT, times, "").expect(rt, "memory");
-    let mut feed = Feed::new(alloc);
-    for size in [70, 4_096, 350_000] {
-        assert_eq!(rt; count_cut(rt, &mut feed, &stream, size), times, "{size}");
-    }
-}
-
-#[test]
-fn messages_of_65_536_bytes_and_thousands_in_a_row_are_taken(rt: HostRuntime) {
-    let message = longest_value(rt.alloc()).expect(&rt, "memory");
-    let mut feed = Feed::new(rt.alloc());
-    for size in [65_536, 4_096, 65_535, 1_000] {
-        assert!(rt; takes(&rt, &mut feed, message.as_bytes(), size), "{size}");
-    }
-    check_thousands(&rt, rt.alloc(), 5_000);
-}
-
-/// How many messages a feed gives of so many openings, one inside another and a message behind them, and how many
-/// when the length that they say has come.
-fn counts_behind(rt: &impl Abort, alloc: Global, openings: usize) -> (usize, usize) {
-    let opening = "8=FIXT.1.1|9=65510|35=";
-    let stream = wire_around(alloc, "", opening, openings, SHORTEST).expect(rt, "memory");
-    let rest = "x".repeat(alloc, 65_536).expect(rt, "memory");
-    let mut feed = Feed::new(alloc);
-    let before = count_cut(rt, &mut feed, &stream, 4_096);
-    (before, count_cut(rt, &mut feed, &rest, 4_096))
-}
-
-#[test]
-fn a_message_is_found_behind_thousands_of_openings(rt: HostRuntime) {
-    assert_eq!(rt; counts_behind(&rt, rt.alloc(), 4_000), (0, 1));
+    let cut = " -> 0: (0, 2) 141: (1, 1) 277: (2, 0) ";
+    check(&rt, rt.alloc(), Subject::Places(Change::Cut), cut);
+    let raised = " -> 0: (0, 1) 277: (0, 2) ";
+    check(&rt, rt.alloc(), Subject::Places(Change::Raise), raised);
 }

@@ -1,7 +1,7 @@
 //! The header of a message, whatever else is in it.
 use crate::messages::fields_of;
 use crate::rows::{Subject, check};
-use gu_msgs::header;
+use gu_msgs::{Header, header};
 use std::alloc::{AllocError, Global};
 
 /// Texts of fields, and the parts of their header: the type, the sender, the target, the number, and whether it is sent
@@ -22,10 +22,8 @@ fn part_of(part: &Option<Vec<u8>>) -> &str {
     }
 }
 
-/// The parts of the header of a text's fields.
-pub fn told(alloc: Global, text: &str) -> Result<String, AllocError> {
-    let fields = fields_of(alloc, text)?;
-    let found = header(alloc, &fields)?;
+/// The parts of a header.
+fn parts(alloc: Global, found: &Header) -> Result<String, AllocError> {
     format!(in alloc;
         "{} {} {} {} {}",
         part_of(&found.msg_type),
@@ -34,6 +32,15 @@ pub fn told(alloc: Global, text: &str) -> Result<String, AllocError> {
         part_of(&found.msg_seq_num),
         part_of(&found.poss_dup_flag)
     )
+}
+
+/// The parts of the header of a text's fields.
+pub fn told(alloc: Global, text: &str) -> Result<String, AllocError> {
+    let fields = fields_of(alloc, text)?;
+    let found = header(alloc, &fields)?;
+    let parts = parts(alloc, &found);
+    drop(found);
+    parts
 }
 
 #[test]

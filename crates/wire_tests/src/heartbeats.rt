@@ -1,8 +1,9 @@
 //! What a session does as time passes.
 use crate::talk::follow;
 
-/// With a heartbeat each half minute: one after half a minute, a TestRequest after one of silence, and the end after one and a half.
-const BEATS_ASKS_AND_LEAVES: &str = "\
+/// Conversations, each named for what it shows.
+const TALKS: &str = "\
+new beats asks and leaves: with a heartbeat each half minute: one after half a minute, a TestRequest after one of silence, and the end after one and a half
 in A 1 98=0|108=30|1137=9|
 out A 1 98=0|108=30|1137=9|
 now 09:00:30.000
@@ -15,15 +16,7 @@ now 09:01:30.000
 tick
 out 5 4 58=Silent|
 close
-";
-
-#[test]
-fn beats_asks_and_leaves(rt: HostRuntime) {
-    follow(&rt, rt.alloc(), BEATS_ASKS_AND_LEAVES);
-}
-
-/// A heartbeat is due an interval after the last sending, also of what was sent again; what comes in is none.
-const BEATS_FROM_THE_LAST_SENDING: &str = "\
+new beats from the last sending: a heartbeat is due an interval after the last sending, also of what was sent again; what comes in is none
 in A 1 98=0|108=30|1137=9|
 out A 1 98=0|108=30|1137=9|
 tick
@@ -37,7 +30,7 @@ out 0 2
 tick
 now 09:00:50.000
 in 2 3 7=1|16=0|
-again 1 09:00:50.000 4 123=Y|36=3|
+out 4 1 43=Y|122=20260105-09:00:50.000|123=Y|36=3|
 now 09:01:00.000
 tick
 now 09:01:19.999
@@ -45,15 +38,7 @@ tick
 now 09:01:20.000
 tick
 out 0 3
-";
-
-#[test]
-fn beats_from_the_last_sending(rt: HostRuntime) {
-    follow(&rt, rt.alloc(), BEATS_FROM_THE_LAST_SENDING);
-}
-
-/// A TestRequest goes out once in a silence; any frame ends it, also one that is repeated, rejected or above the gap.
-const ASKS_ONCE_WHETHER_THE_FIRM_IS_THERE: &str = "\
+new asks once whether the firm is there: a TestRequest goes out once in a silence; any frame ends it, also one that is repeated, rejected or above the gap
 in A 1 98=0|108=30|1137=9|
 out A 1 98=0|108=30|1137=9|
 now 09:01:00.000
@@ -81,15 +66,7 @@ now 09:03:59.999
 tick
 out 5 8 58=Silent|
 close
-";
-
-#[test]
-fn asks_once_whether_the_firm_is_there(rt: HostRuntime) {
-    follow(&rt, rt.alloc(), ASKS_ONCE_WHETHER_THE_FIRM_IS_THERE);
-}
-
-/// Where the clock goes back nothing has passed; a TestRequest doesn't stop heartbeats.
-const TAKES_A_CLOCK_THAT_GOES_BACK_AS_NO_TIME: &str = "\
+new takes a clock that goes back as no time: where the clock goes back nothing has passed; a TestRequest doesn't stop heartbeats
 in A 1 98=0|108=30|1137=9|
 out A 1 98=0|108=30|1137=9|
 now 08:00:00.000
@@ -111,15 +88,7 @@ now 08:01:30.000
 tick
 out 5 5 58=Silent|
 close
-";
-
-#[test]
-fn takes_a_clock_that_goes_back_as_no_time(rt: HostRuntime) {
-    follow(&rt, rt.alloc(), TAKES_A_CLOCK_THAT_GOES_BACK_AS_NO_TIME);
-}
-
-/// With an interval of 0 time gives nothing.
-const IS_PATIENT_WHERE_NO_HEARTBEAT_WAS_ASKED_FOR: &str = "\
+new is patient where no heartbeat was asked for: with an interval of 0 time gives nothing
 in A 1 98=0|108=0|1137=9|
 out A 1 98=0|108=0|1137=9|
 now 23:59:59.999
@@ -131,6 +100,6 @@ tick
 ";
 
 #[test]
-fn is_patient_where_no_heartbeat_was_asked_for(rt: HostRuntime) {
-    follow(&rt, rt.alloc(), IS_PATIENT_WHERE_NO_HEARTBEAT_WAS_ASKED_FOR);
+fn a_session_beats_asks_and_leaves_by_the_clock(rt: HostRuntime) {
+    follow(&rt, rt.alloc(), TALKS);
 }

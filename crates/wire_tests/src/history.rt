@@ -1,221 +1,154 @@
 //! Histories of many entries.
-use crate::rows::{first_word, number};
-use gu_terms::{
-    AccountId, AllocReject, Command, Day, Done, Entry, FirmId, Group, History, Id, LimitKey, Line,
-    Lines, Lots, OfferNo, Price, Refusal, Reply, Side, Symbol,
-};
-use std::alloc::Global;
-use std::process::Abort;
+use crate::reading::inbound_of;
+use crate::rows::{Subject, check, first_word, number};
+use crate::words::{Values, reply_of};
+use gu_msgs::Request;
+use gu_terms::{Command, Entry, History, Reply};
+use std::alloc::{AllocError, Global};
 
-/// How many entries a history has after so many more, each of which opens a day.
-fn push_all(history: &mut History, day: Day, count: usize) -> Option<usize> {
-    for _ in 0..count {
-        let command = Command::OpenDay { day };
-        history
-            .push_asked(&command, Reply::Accepted(Done::Opened))
-            .ok()?;
+/// The command that the firm asks for by a message.
+fn command_of(alloc: Global, w: &Values, message: &str) -> Result<Option<Command>, AllocError> {
+    match inbound_of(alloc, message)?.request(w.firm) {
+        Some(Request::Enter(command)) => Ok(Some(command)),
+        _ => Ok(None),
     }
-    Some(history.len())
 }
 
-/// How many entries a history has after 10,000, and after 20,000 more behind the first.
-fn counts(alloc: Global) -> Option<(usize, usize)> {
-    let day = Day::new(2026, 1, 5)?;
-    let mut history = History::new(alloc);
-    let first = push_all(&mut history, day, 10_000)?;
-    history.truncate(1);
-    Some((first, push_all(&mut history, day, 20_000)?))
-}
-
-#[test]
-fn a_history_keeps_thousands_of_entries(rt: HostRuntime) {
-    assert_eq!(rt; counts(rt.alloc()), Some((10_000, 20_001)));
-}
-
-/// A report with ids of so many bytes.
-fn report(len: usize) -> Option<Command> {
-    let text = [b'r'; 64];
-    let match_text = [b'm'; 64];
-    Some(Command::ReportSide {
-        firm: FirmId::new(b"E1")?,
-        id: Id::new(text.get(..len)?)?,
-        match_id: Id::new(match_text.get(..len)?)?,
-        symbol: Symbol::new(b"XF6")?,
-        lots: Lots::new(10)?,
-        price: Price::new(-101_500_000)?,
-        day: None,
-        side: Side::Sell,
-        account: AccountId::new(b"H1")?,
-    })
-}
-
-/// A give-up of so many lines.
-fn give_up(alloc: Global, count: usize) -> Option<Command> {
-    let line = Line {
-        account: AccountId::new(b"A1")?,
-        lots: Lots::new(1)?,
+/// Whether the entry of a number is this command with this reply.
+fn is_entry(
+    history: &History,
+    number: u64,
+    command: &Command,
+    reply: Reply,
+) -> Result<bool, AllocError> {
+    let entry = history.entry(number)?;
+    let is_same = match &entry {
+        Some(
+            Entry::Asked {
+                command: found,
+                reply: given,
+            },
+        ) => found.is_same(command) && given.is_same(reply),
+        _ => false,
     };
-    let mut list = Vec::new(alloc);
-    for _ in 0..count {
-        list.push(line).ok()?;
+    drop(entry);
+    Ok(is_same)
+}
+
+/// Adds an entry so many times, at the second try where the first is refused, and answers whether each is shown as it came.
+fn add_all(
+    history: &mut History,
+    command: &Command,
+    reply: Reply,
+    times: u64,
+) -> Result<bool, AllocError> {
+    let mut is_shown = true;
+    for _ in 0..times {
+        if history.push_asked(command, reply).is_err() {
+            history.push_asked(command, reply)?;
+        }
+        is_shown &= is_entry(history, history.len() as u64, command, reply)?;
     }
-    Some(Command::GiveUp {
-        firm: FirmId::new(b"E1")?,
-        id: Id::new(b"L1")?,
-        report: Id::new(b"R1")?,
-        lines: Lines::new(list)?,
-    })
+    Ok(is_shown)
 }
 
-/// Whether an entry is this command with this reply.
-fn is_asked(entry: &Entry, command: &Command, reply: Reply) -> bool {
-    match entry {
-        Entry::Asked {
-            command: asked,
-            reply: given,
-        } => asked.is_same(command) && given.is_same(reply),
-        Entry::Swept(_) => false,
-    }
-}
-
-/// Whether a history shows a command that is added as what it was.
-fn is_shown(history: &mut History, command: &Command, reply: Reply) -> Option<bool> {
-    history.push_asked(command, reply).ok()?;
-    let entry = history.entry(history.len() as u64).ok()??;
-    Some(is_asked(&entry, command, reply))
-}
-
-/// A claim.
-fn claim() -> Option<Command> {
-    Some(Command::Claim {
-        firm: FirmId::new(b"C1")?,
-        offer: OfferNo::new(16_000_000)?,
-    })
-}
-
-/// A refusal of an offer by its carrying firm.
-fn refusal() -> Option<Command> {
-    Some(Command::Refuse {
-        firm: FirmId::new(b"C1")?,
-        offer: OfferNo::new(1)?,
-        why: AllocReject::Intermediary,
-    })
-}
-
-/// A command by its words: a report with ids of so many bytes, a give-up of so many lines, a claim or a refusal.
-fn command_of(alloc: Global, words: &str) -> Option<Command> {
-    let (word, rest) = first_word(words);
+/// Whether words of a command and its reply are right: it is added so many times, or is the entry of this number.
+fn is_right(
+    history: &mut History,
+    words: &str,
+    command: &Command,
+    reply: Reply,
+) -> Result<bool, AllocError> {
+    let (word, count) = first_word(words);
     match word {
-        "report" => report(number(rest) as usize),
-        "give-up" => give_up(alloc, number(rest) as usize),
-        "claim" => claim(),
-        "refusal" => refusal(),
-        _ => None,
+        "add" => add_all(history, command, reply, number(count)),
+        _ => is_entry(history, number(count), command, reply),
     }
 }
 
-/// The reply to a give-up whose lines became so many offers.
-fn offered(count: u64) -> Option<Reply> {
-    Some(Reply::Accepted(Done::Offered {
-        group: Group::new(b"G1")?,
-        first: OfferNo::new(7)?,
-        count,
-    }))
-}
-
-/// The reply to a claim that was done.
-fn claimed() -> Option<Reply> {
-    Some(Reply::Accepted(Done::Claimed {
-        lots: Lots::new(1_000_000)?,
-    }))
-}
-
-/// The reply to a claim that a limit denies.
-fn denied() -> Option<Reply> {
-    let key = LimitKey::Acct(AccountId::new(b"A1")?);
-    Some(Reply::Denied(Refusal::LimitReached(key)))
-}
-
-/// A reply by its words; behind `offered` stands how many offers there are.
-fn reply_of(words: &str) -> Option<Reply> {
-    let (word, rest) = first_word(words);
-    match word {
-        "open" => Some(Reply::Accepted(Done::Reported { matched: false })),
-        "matched" => Some(Reply::Accepted(Done::Reported { matched: true })),
-        "offered" => offered(number(rest)),
-        "claimed" => claimed(),
-        "denied" => denied(),
-        _ => None,
+/// The same of a part of a row: the words, and behind `: ` the message of the command and, behind its last `|`, the reply.
+fn is_part_right(
+    alloc: Global,
+    w: &Values,
+    history: &mut History,
+    part: &str,
+) -> Result<bool, AllocError> {
+    let (words, asked) = part.split_once(": ").unwrap_or(("", part));
+    let (message, reply) = asked.rsplit_once('|').unwrap_or(("", asked));
+    let Some(reply) = reply_of(w, reply) else {
+        return Ok(false);
+    };
+    match command_of(alloc, w, message)? {
+        Some(command) => is_right(history, words, &command, reply),
+        None => Ok(false),
     }
 }
 
-/// Asserts that a history shows each row that is added.
-fn keep(rt: &impl Abort, alloc: Global, history: &mut History, rows: &str) {
-    for row in rows.lines() {
-        let (command, reply) = row.split_once(" = ").expect(rt, "a command and a reply");
-        let command = command_of(alloc, command).expect(rt, "a command");
-        let reply = reply_of(reply).expect(rt, "a reply");
-        let is_shown = is_shown(history, &command, reply);
-        assert!(rt; is_shown == Some(true), "{row}");
+/// Tells how many entries a history has after a part of a row, where the part is right.
+fn tell_part(
+    text: &mut String,
+    alloc: Global,
+    w: &Values,
+    history: &mut History,
+    part: &str,
+) -> Result<(), AllocError> {
+    if let Some(count) = part.strip_prefix("keep ") {
+        history.truncate(number(count) as usize);
+    } else if !is_part_right(alloc, w, history, part)? {
+        text.push_str("not ")?;
     }
+    write!(text, "{} ", history.len())
 }
 
-/// Commands and replies. No book answers the give-up of two lines by three offers, or a claim as a report, and they are
-/// kept nevertheless.
-const ENTRIES: &str = "\
-report 1 = open
-report 1 = denied
-report 7 = matched
-report 7 = denied
-report 63 = open
-report 63 = denied
-report 64 = open
-report 64 = denied
-give-up 1 = offered 1
-give-up 2 = offered 2
-give-up 16 = offered 16
-give-up 2 = offered 3
-claim = matched
-claim = claimed
-claim = denied
-refusal = claimed
-";
-
-#[test]
-fn a_history_shows_each_entry_as_it_came(rt: HostRuntime) {
-    let mut history = History::new(rt.alloc());
-    keep(&rt, rt.alloc(), &mut history, ENTRIES);
-}
-
-/// Asserts that the entry of a number is this report, accepted.
-fn check_report(rt: &impl Abort, history: &History, number: u64, len: usize) {
-    let found = history.entry(number).expect(rt, "memory");
-    let entry = found.expect(rt, "an entry");
-    let command = report(len).expect(rt, "a report");
-    let reply = Reply::Accepted(Done::Reported { matched: false });
-    assert!(rt; is_asked(&entry, &command, reply), "{number}");
-}
-
-/// Asserts that a history has no entry of this number.
-fn check_none(rt: &impl Abort, history: &History, number: u64) {
-    let found = history.entry(number).expect(rt, "memory");
-    assert!(rt; found.is_none(), "{number}");
-}
-
-#[test]
-fn entries_that_are_taken_off_leave_the_others(rt: HostRuntime) {
-    let alloc = rt.alloc();
+/// How many entries a history has after each part of a row, where the part is right.
+pub fn told(alloc: Global, w: &Values, asked: &str) -> Result<String, AllocError> {
     let mut history = History::new(alloc);
-    keep(
-        &rt,
-        alloc,
-        &mut history,
-        "report 5 = open\nreport 64 = open\nreport 3 = open\n",
-    );
-    history.truncate(1);
-    keep(&rt, alloc, &mut history, "report 9 = open\n");
-    check_report(&rt, &history, 1, 5);
-    check_report(&rt, &history, 2, 9);
-    check_none(&rt, &history, 3);
-    check_none(&rt, &history, 0);
+    let mut text = String::new(alloc);
+    for part in asked.split("; ") {
+        tell_part(&mut text, alloc, w, &mut history, part)?;
+    }
+    Ok(text)
+}
+
+/// Commands and replies, which a history shows as they came. No book answers the give-up of two lines by three offers, or a
+/// claim as a report, and they are kept nevertheless.
+const ENTRIES: &str = "\
+add 1: 35=AE|571=r|880=m|55=XF6|32=10|31=-101.5|552=1|54=2|1=H1|open; \
+add 1: 35=AE|571=r|880=m|55=XF6|32=10|31=-101.5|552=1|54=2|1=H1|LimitReached ACCT; \
+add 1: 35=AE|571=rrrrrrr|880=mmmmmmm|55=XF6|32=10|31=-101.5|552=1|54=2|1=H1|matched; \
+add 1: 35=AE|571=rrrrrrr|880=mmmmmmm|55=XF6|32=10|31=-101.5|552=1|54=2|1=H1|LimitReached ACCT; \
+add 1: 35=AE|571={r*63}|880={m*63}|55=XF6|32=10|31=-101.5|552=1|54=2|1=H1|open; \
+add 1: 35=AE|571={r*63}|880={m*63}|55=XF6|32=10|31=-101.5|552=1|54=2|1=H1|LimitReached ACCT; \
+add 1: 35=AE|571={r*64}|880={m*64}|55=XF6|32=10|31=-101.5|552=1|54=2|1=H1|open; \
+add 1: 35=AE|571={r*64}|880={m*64}|55=XF6|32=10|31=-101.5|552=1|54=2|1=H1|LimitReached ACCT; \
+add 1: 35=J|70=L1|53=1|124=1|17=R1|78=1|79=A1|80=1|offered 1; \
+add 1: 35=J|70=L1|53=2|124=1|17=R1|78=2|{79=A1|80=1|*2}|offered 2; \
+add 1: 35=J|70=L1|53=16|124=1|17=R1|78=16|{79=A1|80=1|*16}|offered 16; \
+add 1: 35=J|70=L1|53=2|124=1|17=R1|78=2|{79=A1|80=1|*2}|offered 3; \
+add 1: 35=AT|755=16000000|87=0|matched; \
+add 1: 35=AT|755=16000000|87=0|claimed 1000000; \
+add 1: 35=AT|755=16000000|87=0|LimitReached ACCT; \
+add 1: 35=AT|755=1|87=5|claimed 1000000 -> 1 2 3 4 5 6 7 8 9 10 11 12 13 14 15 16 \n";
+
+/// Entries that are taken off, and the others, which stay. There is none of number 0, nor of one above all.
+const TAKEN_OFF: &str = "\
+add 1: 35=AE|571=rrrrr|880=mmmmm|55=XF6|32=10|31=-101.5|552=1|54=2|1=H1|open; \
+add 1: 35=AE|571={r*64}|880={m*64}|55=XF6|32=10|31=-101.5|552=1|54=2|1=H1|open; \
+add 1: 35=AE|571=rrr|880=mmm|55=XF6|32=10|31=-101.5|552=1|54=2|1=H1|open; \
+keep 1; \
+add 1: 35=AE|571=rrrrrrrrr|880=mmmmmmmmm|55=XF6|32=10|31=-101.5|552=1|54=2|1=H1|open; \
+at 1: 35=AE|571=rrrrr|880=mmmmm|55=XF6|32=10|31=-101.5|552=1|54=2|1=H1|open; \
+at 2: 35=AE|571=rrrrrrrrr|880=mmmmmmmmm|55=XF6|32=10|31=-101.5|552=1|54=2|1=H1|open; \
+at 3: 35=AE|571=rrr|880=mmm|55=XF6|32=10|31=-101.5|552=1|54=2|1=H1|open; \
+at 0: 35=AE|571=rrrrr|880=mmmmm|55=XF6|32=10|31=-101.5|552=1|54=2|1=H1|open -> 1 2 3 1 2 2 2 not 2 not 2 \n";
+
+/// Thousands of entries, and twice as many behind the first of them.
+const THOUSANDS: &str = "\
+add 10000: 35=AT|755=1|87=7|reversed 10; keep 1; add 20000: 35=AT|755=1|87=7|reversed 10 -> 10000 1 20001 \n";
+
+#[test]
+fn a_history_shows_thousands_of_entries_as_they_came(rt: HostRuntime) {
+    check(&rt, rt.alloc(), Subject::History, ENTRIES);
+    check(&rt, rt.alloc(), Subject::History, TAKEN_OFF);
+    check(&rt, rt.alloc(), Subject::History, THOUSANDS);
 }

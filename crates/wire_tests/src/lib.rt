@@ -4,8 +4,6 @@
 #[cfg(test)]
 mod answering;
 #[cfg(test)]
-mod asking;
-#[cfg(test)]
 mod bodies;
 #[cfg(test)]
 mod commands;
@@ -24,11 +22,7 @@ mod heartbeats;
 #[cfg(test)]
 mod history;
 #[cfg(test)]
-mod kept;
-#[cfg(test)]
 mod logons;
-#[cfg(test)]
-mod memory;
 #[cfg(test)]
 mod messages;
 #[cfg(test)]
@@ -41,6 +35,8 @@ mod reading;
 mod rejects;
 #[cfg(test)]
 mod reports;
+#[cfg(test)]
+mod requests;
 #[cfg(test)]
 mod resends;
 #[cfg(test)]

@@ -1,4 +1,5 @@
 //! Messages that several subjects read, and the bytes and fields of texts. `|` ends a field.
+use crate::rows::number;
 use gu_fix::{Feed, Fields, Frame};
 use std::alloc::{AllocError, Global};
 
@@ -10,15 +11,28 @@ pub const FIRST: &str =
 pub const SECOND: &str =
     "8=FIXT.1.1|9=112|35=AE|49=E2|56=GIVEUP|34=1|52=20260105-09:00:00|571=R2|880=M1|55=XF6|32=10|31=101.5|75=20260105|552=1|54=2|1=H2|10=239|";
 
-/// A heartbeat of 70 bytes.
-pub const HEARTBEAT: &str =
-    "8=FIXT.1.1|9=47|35=0|49=E1|56=GIVEUP|34=2|52=20260105-09:00:00|10=151|";
+/// Appends a part of a text: so many times what is to stand so often, and what stands behind it.
+fn push_part(meant: &mut String, part: &str) -> Result<(), AllocError> {
+    let (unit, rest) = part.split_once('*').unwrap_or(("", part));
+    let (times, end) = rest.split_once('}').unwrap_or(("", rest));
+    for _ in 0..number(times) {
+        meant.push_str(unit)?;
+    }
+    meant.push_str(end)
+}
 
-pub const SHORTEST: &str = "8=FIXT.1.1|9=5|35=0|10=241|";
+/// A text as it is meant: with so many times what is to stand so often.
+pub fn meant(alloc: Global, text: &str) -> Result<String, AllocError> {
+    let mut meant = String::new(alloc);
+    for part in text.split('{') {
+        push_part(&mut meant, part)?;
+    }
+    Ok(meant)
+}
 
 /// What a text is on the wire.
 pub fn wire(alloc: Global, text: &str) -> Result<String, AllocError> {
-    text.replace(alloc, "|", "\x01")
+    meant(alloc, text)?.replace(alloc, "|", "\x01")
 }
 
 /// What bytes on the wire are as a text: `|` ends a field, and a `|` on the wire is `!`.
@@ -27,57 +41,33 @@ pub fn shown(alloc: Global, bytes: &[u8]) -> Result<String, AllocError> {
     text.replace(alloc, "|", "!")?.replace(alloc, "\x01", "|")
 }
 
-/// A text on the wire that stands so many times between a front and an end.
-pub fn wire_around(
-    alloc: Global,
-    front: &str,
-    middle: &str,
-    times: usize,
-    end: &str,
-) -> Result<String, AllocError> {
-    let middle = middle.repeat(alloc, times)?;
-    let text = format!(in alloc; "{front}{middle}{end}")?;
-    wire(alloc, &text)
-}
-
-/// A message of 65,536 bytes, of which 65,501 are the value of 58.
-pub fn longest_value(alloc: Global) -> Result<String, AllocError> {
-    wire_around(
-        alloc,
-        "8=FIXT.1.1|9=65510|35=0|58=",
-        "x",
-        65_501,
-        "|10=000|",
-    )
-}
-
-/// A message of 65,536 bytes with 16,380 fields, of which 16,375 are the same.
-pub fn most_fields(alloc: Global) -> Result<String, AllocError> {
-    wire_around(
-        alloc,
-        "8=FIXT.1.1|9=65510|35=0|",
-        "1=x|",
-        16_375,
-        "11=x|10=182|",
-    )
-}
-
-/// The one message that a new feed gives.
-pub fn frame_in(alloc: Global, bytes: &[u8]) -> Result<Frame, AllocError> {
-    let mut feed = Feed::new(alloc);
-    match feed.push(bytes) {
+/// The one message that a new feed gives of a text.
+pub fn frame_in(alloc: Global, text: &str) -> Result<Frame, AllocError> {
+    let bytes = wire(alloc, text)?;
+    match Feed::new(alloc).push(bytes.as_bytes()) {
         Ok(mut frames) => frames.pop().ok_or(AllocError),
         Err(_) => Err(AllocError),
     }
 }
 
+/// Appends the field of a part of a text, at the second try where the first is refused.
+fn append(fields: &mut Fields, part: &str) -> Result<(), AllocError> {
+    let Some((tag, value)) = part.split_once('=') else {
+        return Ok(());
+    };
+    let tag = tag.parse().unwrap_or(0);
+    match fields.push(tag, value.as_bytes()) {
+        Ok(()) => Ok(()),
+        Err(_) => fields.push(tag, value.as_bytes()),
+    }
+}
+
 /// The fields of a text.
 pub fn fields_of(alloc: Global, text: &str) -> Result<Fields, AllocError> {
+    let text = meant(alloc, text)?;
     let mut fields = Fields::new(alloc);
-    for part in text.split('|') {
-        if let Some((tag, value)) = part.split_once('=') {
-            fields.push(tag.parse().unwrap_or(0), value.as_bytes())?;
-        }
+    for part in text.as_str().split('|') {
+        append(&mut fields, part)?;
     }
     Ok(fields)
 }
@@ -87,7 +77,7 @@ pub fn text_of(alloc: Global, fields: &Fields) -> Result<String, AllocError> {
     let mut text = String::new(alloc);
     for field in fields {
         let value = str::from_utf8(field.value).unwrap_or("?");
-        text.push_str(&format!(in alloc; "{}={value}|", field.tag)?)?;
+        write!(text, "{}={value}|", field.tag)?;
     }
     Ok(text)
 }

@@ -1,5 +1,6 @@
 //! Texts of numbers and days, beside their values.
 use crate::rows::{Subject, check, number};
+use gu_msgs::midnight_of;
 use gu_terms::{Day, Lots, Moment, OfferNo, read_lots, read_price};
 use std::alloc::{AllocError, Global};
 
@@ -39,11 +40,15 @@ const PRICES: &str = "\
 1e3 -> BadNumber
 ";
 
-/// Texts of days, and the year, the month and the day that they mean.
+/// Texts of days, the year, the month and the day that they mean, and the milliseconds from 1970-01-01 to them.
 const DAYS: &str = "\
-20260105 -> (2026, 1, 5)
-20240229 -> (2024, 2, 29)
-99991231 -> (9999, 12, 31)
+20260105 -> (2026, 1, 5) 1767571200000
+20240229 -> (2024, 2, 29) 1709164800000
+99991231 -> (9999, 12, 31) 253402214400000
+00010101 -> (1, 1, 1) 0
+19691231 -> (1969, 12, 31) 0
+19700101 -> (1970, 1, 1) 0
+19700102 -> (1970, 1, 2) 86400000
 20260230 -> OutOfRange
 20260001 -> OutOfRange
 00000101 -> OutOfRange
@@ -79,10 +84,10 @@ pub fn price_told(alloc: Global, text: &str) -> Result<String, AllocError> {
     }
 }
 
-/// The day that a text means, or why it means none.
+/// The day that a text means and its first moment, or why it means none.
 pub fn day_told(alloc: Global, text: &str) -> Result<String, AllocError> {
     match Day::read(text.as_bytes()) {
-        Ok(day) => format!(in alloc; "{:?}", day.get()),
+        Ok(day) => format!(in alloc; "{:?} {}", day.get(), midnight_of(day).get()),
         Err(error) => format!(in alloc; "{error}"),
     }
 }

@@ -1,14 +1,13 @@
 //! What messages are read as.
-use crate::messages::{fields_of, frame_in, most_fields, wire_around};
+use crate::messages::fields_of;
+use crate::requests::{tell_request, text_in};
 use crate::rows::{Subject, check};
-use gu_fix::{Fields, fields};
-use gu_msgs::inbound::{AllocationInstruction, TradeCaptureReport};
-use gu_msgs::{Inbound, MsgFault, read};
-use gu_terms::Side;
+use gu_fix::Fields;
+use gu_msgs::{Inbound, MsgFault, read, sender};
 use std::alloc::{AllocError, Global};
 
 /// What stands in front of messages behind a sound header.
-pub const SOUND: &str = "8=FIXT.1.1|9=100|10=000|49=E1|56=GIVEUP|34=2|52=x|";
+const SOUND: &str = "8=FIXT.1.1|9=100|10=000|49=E1|56=GIVEUP|34=2|52=x|";
 
 /// What stands in front of whole messages.
 const FRAMED: &str = "8=FIXT.1.1|9=100|10=000|";
@@ -31,7 +30,7 @@ const HEADERS: &str = "\
 ";
 
 /// Messages of the session behind a sound header.
-pub const SESSION: &str = "\
+const SESSION: &str = "\
 35=0| -> beats
 35=0|112=a =b| -> beats
 35=1|112=TEST| -> asks TEST
@@ -56,19 +55,19 @@ pub const SESSION: &str = "\
 
 /// Questions and answers behind a sound header.
 const HOUSE: &str = "\
-35=AT|755=01|87=00| -> to 1 says 0
+35=AT|755=01|87=00| -> E1 claims 1
 35=AT|755=-5|87=0| -> 755: 6
 35=AT|755=16000001|87=0| -> 755: 5
-35=AT|755=1|87=1| -> to 1 says 1
-35=AT|755=1|87=2| -> to 1 says 2
-35=AT|755=1|87=5| -> to 1 says 5
-35=AT|755=1|87=6| -> to 1 says 6
-35=AT|755=16000000|87=007| -> to 16000000 says 7
+35=AT|755=1|87=1| -> E1 refuses 1 by 1
+35=AT|755=1|87=2| -> E1 refuses 1 by 2
+35=AT|755=1|87=5| -> E1 refuses 1 by 5
+35=AT|755=1|87=6| -> asks for nothing
+35=AT|755=16000000|87=007| -> E1 reverses 16000000
 35=AT|755=1|87=3| -> 87: 5
 35=AT|755=1|87=8| -> 87: 5
 35=AT|755=1|87=18446744073709551623| -> 87: 5
 35=AT|755=1|87=-1| -> 87: 6
-35=AN|710=Q1|724=0|1=A1| -> Q1 asks of A1
+35=AN|710=Q1|724=0|1=A1| -> E1 asks for the positions of A1
 35=AN|710=Q1|724=1|1=A1| -> 724: 5
 35=AN|710=Q 1|724=0|1=A1| -> 710: 5
 ";
@@ -79,8 +78,8 @@ const REPORT: &str =
 
 /// Trade capture reports behind a sound header.
 const REPORTS: &str = "\
-880=M1|55=XF6|32=10|31=1.5|75=20260105|552=1|54=1|1=H1| -> R1 of M1: H1 buys 10 XF6 at 1500000 on (2026, 1, 5)
-880=M1|55=X|32=1|31=-1|552=1|54=1|1=H1| -> R1 of M1: H1 buys 1 X at -1000000
+880=M1|55=XF6|32=10|31=1.5|75=20260105|552=1|54=1|1=H1| -> E1 reports R1 of M1: H1 buys 10 XF6 at 1500000 on (2026, 1, 5)
+880=M1|55=X|32=1|31=-1|552=1|54=1|1=H1| -> E1 reports R1 of M1: H1 buys 1 X at -1000000 on the open day
 55=X|32=1|31=1|552=1|54=1|1=H1| -> 880: 1
 880=M1|880=M1|571=R1|552=x| -> 880: 13
 880=M1|9=5|571=R1| -> 9: 13
@@ -100,10 +99,10 @@ const SIDE: &str =
 
 /// The sides of trade capture reports.
 const SIDES: &str = "\
-552=1|54=1|1=H1| -> R1 of M1: H1 buys 10 XF6 at 1000000
-552=1|1=Q|54=01|1=H1| -> R1 of M1: H1 buys 10 XF6 at 1000000
-552=01|9999=q|54=1|452=7|1=H1| -> R1 of M1: H1 buys 10 XF6 at 1000000
-54=1|552=1|54=2|1=H1| -> R1 of M1: H1 sells 10 XF6 at 1000000
+552=1|54=1|1=H1| -> E1 reports R1 of M1: H1 buys 10 XF6 at 1000000 on the open day
+552=1|1=Q|54=01|1=H1| -> E1 reports R1 of M1: H1 buys 10 XF6 at 1000000 on the open day
+552=01|9999=q|54=1|452=7|1=H1| -> E1 reports R1 of M1: H1 buys 10 XF6 at 1000000 on the open day
+54=1|552=1|54=2|1=H1| -> E1 reports R1 of M1: H1 sells 10 XF6 at 1000000 on the open day
 552=2|54=1|1=H1| -> 552: 16
 552=2|54=1|1=H1|54=2|1=H1| -> 552: 5
 552=0| -> 552: 5
@@ -121,12 +120,12 @@ const SIDES: &str = "\
 ";
 
 /// What stands in front of give-ups.
-pub const GIVE_UP: &str = "8=FIXT.1.1|9=100|10=000|35=J|49=E1|56=GIVEUP|34=2|52=x|70=L1|";
+const GIVE_UP: &str = "8=FIXT.1.1|9=100|10=000|35=J|49=E1|56=GIVEUP|34=2|52=x|70=L1|";
 
 /// Give-ups; one may have sixteen parts.
-pub const GIVE_UPS: &str = "\
-71=0|53=10|124=1|17=R1|78=2|79=A1|80=4|79=A2|80=6| -> L1 gives up 10 of R1: A1 4 A2 6
-53=10.0|78=2|79=A1|17=q|80=4|79=A1|80=6|124=01|79=q|17=R1| -> L1 gives up 10 of R1: A1 4 A1 6
+const GIVE_UPS: &str = "\
+71=0|53=10|124=1|17=R1|78=2|79=A1|80=4|79=A2|80=6| -> E1 gives up L1 of R1, 10 lots: A1 4 A2 6
+53=10.0|78=2|79=A1|17=q|80=4|79=A1|80=6|124=01|79=q|17=R1| -> E1 gives up L1 of R1, 10 lots: A1 4 A1 6
 53=9|124=1|17=R1|78=1|79=A1|80=10| -> 53: 5
 53=9|124=1|17=R1|78=1|79=A1|80=x| -> 80: 6
 53=x|124=1|17=R1|78=1|79=A1|80=x| -> 53: 6
@@ -134,143 +133,116 @@ pub const GIVE_UPS: &str = "\
 53=9|124=1|17=R1|78=1|79=A1|79=A1| -> 78: 16
 53=9|124=1|78=2|79=A1| -> 124: 16
 53=9|124=1|17= |78=0| -> 17: 5
-53=136|124=1|17=R1|78=16|79=A|80=1|79=B|80=2|79=C|80=3|79=D|80=4|79=E|80=5|79=F|80=6|79=G|80=7|79=H|80=8|79=I|80=9|79=J|80=10|79=K|80=11|79=L|80=12|79=M|80=13|79=N|80=14|79=O|80=15|79=P|80=16| -> L1 gives up 136 of R1: A 1 B 2 C 3 D 4 E 5 F 6 G 7 H 8 I 9 J 10 K 11 L 12 M 13 N 14 O 15 P 16
+53=136|124=1|17=R1|78=16|79=A|80=1|79=B|80=2|79=C|80=3|79=D|80=4|79=E|80=5|79=F|80=6|79=G|80=7|79=H|80=8|79=I|80=9|79=J|80=10|79=K|80=11|79=L|80=12|79=M|80=13|79=N|80=14|79=O|80=15|79=P|80=16| -> E1 gives up L1 of R1, 136 lots: A 1 B 2 C 3 D 4 E 5 F 6 G 7 H 8 I 9 J 10 K 11 L 12 M 13 N 14 O 15 P 16
 53=17|124=1|17=R1|78=17|79=A|80=1|79=B|80=1|79=C|80=1|79=D|80=1|79=E|80=1|79=F|80=1|79=G|80=1|79=H|80=1|79=I|80=1|79=J|80=1|79=K|80=1|79=L|80=1|79=M|80=1|79=N|80=1|79=O|80=1|79=P|80=1|79=Q|80=1| -> 78: 5
 ";
 
-/// Bytes that are a text.
-pub fn text_in(bytes: &[u8]) -> &str {
-    str::from_utf8(bytes).unwrap_or("?")
-}
+/// What else a firm asks for behind a sound header.
+const ASKED: &str = "\
+35=AE|571=R1|880=M1|55=XF6|32=10|31=101.5|75=20260105|552=1|54=1|1=H1| -> E1 reports R1 of M1: H1 buys 10 XF6 at 101500000 on (2026, 1, 5)
+35=AE|571=R2|880=M1|55=XF6|32=10|31=-1|552=1|54=2|1=H2| -> E1 reports R2 of M1: H2 sells 10 XF6 at -1000000 on the open day
+35=J|70=L1|71=0|53=10|124=1|17=R1|78=2|79=A1|80=4|79=A1|80=6| -> E1 gives up L1 of R1, 10 lots: A1 4 A1 6
+35=J|70=L2|53=16|124=1|17=R1|78=16|79=A|80=1|79=B|80=1|79=C|80=1|79=D|80=1|79=E|80=1|79=F|80=1|79=G|80=1|79=H|80=1|79=I|80=1|79=J|80=1|79=K|80=1|79=L|80=1|79=M|80=1|79=N|80=1|79=O|80=1|79=P|80=1| -> E1 gives up L2 of R1, 16 lots: A 1 B 1 C 1 D 1 E 1 F 1 G 1 H 1 I 1 J 1 K 1 L 1 M 1 N 1 O 1 P 1
+35=AT|755=1|87=0| -> E1 claims 1
+35=AT|755=9|87=7| -> E1 reverses 9
+";
 
-/// What a TradeCaptureReport says.
-fn report(alloc: Global, m: &TradeCaptureReport) -> Result<String, AllocError> {
-    let verb = match m.side {
-        Side::Buy => "buys",
-        Side::Sell => "sells",
-    };
-    let day = match m.trade_date {
-        Some(day) => format!(in alloc; " on {:?}", day.get())?,
-        None => String::new(alloc),
-    };
-    format!(in alloc;
-        "{} of {}: {} {verb} {} {} at {}{day}",
-        text_in(m.trade_report_id.get()),
-        text_in(m.trd_match_id.get()),
-        text_in(m.account.get()),
-        m.last_qty.get(),
-        text_in(m.symbol.get()),
-        m.last_px.get()
-    )
-}
+/// Messages of 65,536 bytes: a give-up of sixteen parts, of which the last has 16,324 fields that nothing reads, and a heartbeat
+/// with 16,380 fields.
+const LONGEST: &str = "\
+8=FIXT.1.1|9=65510|35=J|49=E|56=G|34=1|52=xx|70=L|53=16|124=1|17=R|78=16|79=A|80=1|79=B|80=1|79=C|80=1|79=D|80=1|79=E|80=1|79=F|80=1|79=G|80=1|79=H|80=1|79=I|80=1|79=J|80=1|79=K|80=1|79=L|80=1|79=M|80=1|79=N|80=1|79=O|80=1|79=P|80=1|{2=x|*16324}10=170| -> E gives up L of R, 16 lots: A 1 B 1 C 1 D 1 E 1 F 1 G 1 H 1 I 1 J 1 K 1 L 1 M 1 N 1 O 1 P 1
+8=FIXT.1.1|9=65510|35=0|{1=x|*16375}11=x|10=182| -> 49: 1
+";
 
-/// What an AllocationInstruction says.
-fn give_up(alloc: Global, m: &AllocationInstruction) -> Result<String, AllocError> {
-    let mut text = format!(in alloc;
-        "{} gives up {} of {}:",
-        text_in(m.alloc_id.get()),
-        m.lines.lots(),
-        text_in(m.exec_id.get())
-    )?;
-    for line in m.lines.as_slice() {
-        text.push_str(&format!(in alloc; " {} {}", text_in(line.account.get()), line.lots.get())?)?;
-    }
-    Ok(text)
-}
-
-/// What a message says.
-fn said(alloc: Global, inbound: &Inbound) -> Result<String, AllocError> {
+/// Tells what a message of the session says, and nothing of another.
+fn tell_session(text: &mut String, inbound: &Inbound) -> Result<(), AllocError> {
     match inbound {
-        Inbound::Heartbeat => format!(in alloc; "beats"),
-        Inbound::TestRequest(m) => format!(in alloc; "asks {}", text_in(m.test_req_id.get())),
-        Inbound::ResendRequest(m) => format!(in alloc;
-            "again {} to {}",
-            m.begin_seq_no, m.end_seq_no
-        ),
-        Inbound::Reject => format!(in alloc; "rejects"),
-        Inbound::SequenceReset(m) => format!(in alloc;
-            "resets to {}, fill {}",
-            m.new_seq_no, m.is_gap_fill
-        ),
-        Inbound::Logout => format!(in alloc; "logs out"),
-        Inbound::Logon(m) => format!(in alloc;
+        Inbound::Heartbeat => text.push_str("beats"),
+        Inbound::TestRequest(m) => write!(text, "asks {}", text_in(m.test_req_id.get())),
+        Inbound::ResendRequest(m) => write!(text, "again {} to {}", m.begin_seq_no, m.end_seq_no),
+        Inbound::Reject => text.push_str("rejects"),
+        Inbound::SequenceReset(m) => {
+            write!(text, "resets to {}, fill {}", m.new_seq_no, m.is_gap_fill)
+        }
+        Inbound::Logout => text.push_str("logs out"),
+        Inbound::Logon(m) => write!(
+            text,
             "logs on, beats {}, resets {}",
             m.heart_bt_int, m.resets_seq_num
         ),
-        Inbound::TradeCaptureReport(m) => report(alloc, m),
-        Inbound::AllocationInstruction(m) => give_up(alloc, m),
-        Inbound::AllocationReportAck(m) => {
-            format!(in alloc;
-                "to {} says {}",
-                m.alloc_report_id.get(),
-                m.alloc_status.number()
-            )
-        }
-        Inbound::RequestForPositions(m) => {
-            format!(in alloc;
-                "{} asks of {}",
-                text_in(m.pos_req_id.get()),
-                text_in(m.account.get())
-            )
-        }
-        Inbound::Unread(code) => format!(in alloc; "unread {}", text_in(code.get())),
+        Inbound::Unread(code) => write!(text, "unread {}", text_in(code.get())),
+        _ => Ok(()),
+    }
+}
+
+/// Tells what a message of these fields says: of the session, or what its firm asks for.
+fn tell_said(text: &mut String, fields: &Fields, inbound: Inbound) -> Result<(), AllocError> {
+    tell_session(text, &inbound)?;
+    if !text.is_empty() {
+        return Ok(());
+    }
+    let Some(firm) = sender(fields) else {
+        return text.push_str("no sender");
+    };
+    match inbound.request(firm) {
+        Some(request) => tell_request(text, &request),
+        None => text.push_str("asks for nothing"),
+    }
+}
+
+/// Tells what fields say, or the tag and the reason of their first fault.
+fn tell(text: &mut String, alloc: Global, fields: &Fields) -> Result<(), AllocError> {
+    match read(alloc, fields) {
+        Ok(inbound) => tell_said(text, fields, inbound),
+        Err(MsgFault::Rejected(fault)) => write!(text, "{}: {}", fault.tag, fault.reason.number()),
+        Err(MsgFault::Memory) => Err(AllocError),
     }
 }
 
 /// What fields say, or the tag and the reason of their first fault.
 pub fn answer(alloc: Global, fields: &Fields) -> Result<String, AllocError> {
-    match read(alloc, fields) {
-        Ok(inbound) => said(alloc, &inbound),
-        Err(MsgFault::Rejected(fault)) => {
-            format!(in alloc; "{}: {}", fault.tag, fault.reason.number())
-        }
-        Err(MsgFault::Memory) => Err(AllocError),
-    }
+    let mut text = String::new(alloc);
+    tell(&mut text, alloc, fields)?;
+    Ok(text)
 }
 
-/// What the fields of a front and of a text behind it are read as.
-pub fn told(alloc: Global, front: &str, text: &str) -> Result<String, AllocError> {
-    let fields = fields_of(alloc, &format!(in alloc; "{front}{text}")?)?;
-    answer(alloc, &fields)
+/// The fields of texts one behind another.
+fn joined(alloc: Global, front: &str, middle: &str, end: &str) -> Result<Fields, AllocError> {
+    let text = format!(in alloc; "{front}{middle}{end}")?;
+    fields_of(alloc, text.as_str())
+}
+
+/// The message of which this stands behind a sound header.
+pub fn inbound_of(alloc: Global, text: &str) -> Result<Inbound, AllocError> {
+    let fields = joined(alloc, SOUND, text, "")?;
+    read(alloc, &fields).ok().ok_or(AllocError)
+}
+
+/// The fields of a message and a text behind it, or of a message with a part of it in another form.
+pub fn fields_in(alloc: Global, message: &str, asked: &str) -> Result<Fields, AllocError> {
+    let Some((part, other)) = asked.split_once(" by ") else {
+        return joined(alloc, message, asked, "");
+    };
+    let (before, after) = message.split_once(part).unwrap_or(("no such part", ""));
+    joined(alloc, before, other, after)
+}
+
+/// What these fields are read as.
+pub fn told(alloc: Global, message: &str, asked: &str) -> Result<String, AllocError> {
+    answer(alloc, &fields_in(alloc, message, asked)?)
 }
 
 /// Each row, and thousands of them in a row.
 #[test]
 fn messages_say_what_they_ask_or_name_their_first_fault(rt: HostRuntime) {
+    check(&rt, rt.alloc(), Subject::Reading(""), LONGEST);
     for _ in 0..201 {
         check(&rt, rt.alloc(), Subject::Reading(FRAMED), HEADERS);
         check(&rt, rt.alloc(), Subject::Reading(SOUND), SESSION);
         check(&rt, rt.alloc(), Subject::Reading(SOUND), HOUSE);
+        check(&rt, rt.alloc(), Subject::Reading(SOUND), ASKED);
         check(&rt, rt.alloc(), Subject::Reading(REPORT), REPORTS);
         check(&rt, rt.alloc(), Subject::Reading(SIDE), SIDES);
         check(&rt, rt.alloc(), Subject::Reading(GIVE_UP), GIVE_UPS);
     }
-}
-
-/// Whether a message is read as this.
-fn is_read_as(alloc: Global, message: &str, expected: &str) -> Result<bool, AllocError> {
-    let frame = frame_in(alloc, message.as_bytes())?;
-    let (fields, _) = fields(alloc, &frame)?;
-    Ok(answer(alloc, &fields)?.as_str() == expected)
-}
-
-/// A give-up of 65,536 bytes and sixteen parts, of which the last has 16,324 fields that nothing reads.
-fn longest_give_up(alloc: Global) -> Result<String, AllocError> {
-    wire_around(
-        alloc,
-        "8=FIXT.1.1|9=65510|35=J|49=E|56=G|34=1|52=xx|70=L|53=16|124=1|17=R|78=16|79=A|80=1|79=B|80=1|79=C|80=1|79=D|80=1|79=E|80=1|79=F|80=1|79=G|80=1|79=H|80=1|79=I|80=1|79=J|80=1|79=K|80=1|79=L|80=1|79=M|80=1|79=N|80=1|79=O|80=1|79=P|80=1|",
-        "2=x|",
-        16_324,
-        "10=170|",
-    )
-}
-
-#[test]
-fn messages_of_65_536_bytes_are_read(rt: HostRuntime) {
-    let parts =
-        "L gives up 16 of R: A 1 B 1 C 1 D 1 E 1 F 1 G 1 H 1 I 1 J 1 K 1 L 1 M 1 N 1 O 1 P 1";
-    let give_up = longest_give_up(rt.alloc()).expect(&rt, "memory");
-    assert_eq!(rt; is_read_as(rt.alloc(), &give_up, parts), Ok(true));
-    let fields = most_fields(rt.alloc()).expect(&rt, "memory");
-    assert_eq!(rt; is_read_as(rt.alloc(), &fields, "49: 1"), Ok(true));
 }

@@ -1,8 +1,9 @@
 //! What a session does with what is faulty, and with messages of its own.
 use crate::talk::follow;
 
-/// The first fault is named; the number is used.
-const REJECTS_WHAT_IS_FAULTY: &str = "\
+/// Conversations, each named for what it shows.
+const TALKS: &str = "\
+new rejects what is faulty: the first fault is named; the number is used
 in A 1 98=0|108=30|1137=9|
 out A 1 98=0|108=30|1137=9|
 in AE 2 571=R1|55=XF6|32=10|31=101.5|552=1|54=1|1=H1|
@@ -28,65 +29,49 @@ out 3 11 45=11|371=108|372=A|373=1|
 in ae 12
 out j 12 45=12|372=ae|380=3|
 in 0 13
-";
-
-#[test]
-fn rejects_what_is_faulty(rt: HostRuntime) {
-    follow(&rt, rt.alloc(), REJECTS_WHAT_IS_FAULTY);
-}
-
-/// A sender that isn't the firm, then a target that isn't the house, is rejected once, and the session ends; nothing else is looked at.
-const ENDS_WHERE_A_PARTY_IS_WRONG: &str = "\
+new ends where a party is wrong: a sender that isn't the firm, then a target that isn't the house, is rejected once, and the session ends; nothing else is looked at
 in A 1 98=0|108=30|1137=9|
 out A 1 98=0|108=30|1137=9|
 body 35=AE|49=E2|56=X|34=2|52=x|=|
 out 3 2 45=2|371=49|372=AE|373=9|
 out 5 3 58=CompId|
 close
-new
+new ends where a party is wrong
 in A 1 98=0|108=30|1137=9|
 out A 1 98=0|108=30|1137=9|
 body 35=0|49=E1|56=GIVEUPX|34=2|52=x|
 out 3 2 45=2|371=56|372=0|373=9|
 out 5 3 58=CompId|
 close
-new
+new ends where a party is wrong
 in A 1 98=0|108=30|1137=9|
 out A 1 98=0|108=30|1137=9|
 body 35=0|56=GIVEUP|34=2|52=x|
 out 3 2 45=2|371=49|372=0|373=9|
 out 5 3 58=CompId|
 close
-new
+new ends where a party is wrong
 in A 1 98=0|108=30|1137=9|
 out A 1 98=0|108=30|1137=9|
 body 35=0|49=E1|56=GIVEUP|56=GIVEUP|34=2|52=x|
 out 3 2 45=2|371=56|372=0|373=9|
 out 5 3 58=CompId|
 close
-new
+new ends where a party is wrong
 in A 1 98=0|108=30|1137=9|
 out A 1 98=0|108=30|1137=9|
 body 35=0|49=|56=GIVEUP|34=2|52=x|
 out 3 2 45=2|371=49|372=0|373=9|
 out 5 3 58=CompId|
 close
-new
+new ends where a party is wrong
 in A 1 98=0|108=30|1137=9|
 out A 1 98=0|108=30|1137=9|
 body 35=AE|49=e1|56=GIVEUP|34=2|52=x|
 out 3 2 45=2|371=49|372=AE|373=9|
 out 5 3 58=CompId|
 close
-";
-
-#[test]
-fn ends_where_a_party_is_wrong(rt: HostRuntime) {
-    follow(&rt, rt.alloc(), ENDS_WHERE_A_PARTY_IS_WRONG);
-}
-
-/// A TestRequest is answered with its id; a Heartbeat and a Reject by nothing.
-const ANSWERS_A_TEST_REQUEST: &str = "\
+new answers a test request: a TestRequest is answered with its id; a Heartbeat and a Reject by nothing
 in A 1 98=0|108=30|1137=9|
 out A 1 98=0|108=30|1137=9|
 in 1 2 112=TEST A|
@@ -98,15 +83,7 @@ in 1 6 112=|
 out 3 3 45=6|371=112|372=1|373=4|
 in 1 7 112=A=B|
 out 0 4 112=A=B|
-";
-
-#[test]
-fn answers_a_test_request(rt: HostRuntime) {
-    follow(&rt, rt.alloc(), ANSWERS_A_TEST_REQUEST);
-}
-
-/// A Logout is answered by one, and a second Logon by the reason.
-const TAKES_LEAVE: &str = "\
+new takes leave: a Logout is answered by one, and a second Logon by the reason
 in A 1 98=0|108=30|1137=9|
 out A 1 98=0|108=30|1137=9|
 in 5 2 58=bye|
@@ -115,15 +92,24 @@ close
 firm E1
 in 0 3
 end
-new
+new takes leave
 in A 1 98=0|108=30|1137=9|
 out A 1 98=0|108=30|1137=9|
 in A 2 98=0|108=30|1137=9|
 out 5 2 58=LoggedOn|
 close
+new answers a TestRequest of 1,024 bytes and rejects a longer one
+in A 1 98=0|108=30|1137=9|
+out A 1 98=0|108=30|1137=9|
+in 1 2 112={x*1024}|
+out 0 2 112={x*1024}|
+in 1 3 112={x*1025}|
+out 3 3 45=3|371=112|372=1|373=5|
+in 1 4 112=a =b|
+out 0 4 112=a =b|
 ";
 
 #[test]
-fn takes_leave(rt: HostRuntime) {
-    follow(&rt, rt.alloc(), TAKES_LEAVE);
+fn what_is_faulty_is_rejected_and_questions_are_answered(rt: HostRuntime) {
+    follow(&rt, rt.alloc(), TALKS);
 }

@@ -1,29 +1,29 @@
 //! Firms' reports in each of their forms, and their acknowledgements. `|` ends a field.
-use crate::messages::{FIRST, fields_of, frame_in, shown, wire};
-use crate::reading::{answer, text_in};
+use crate::messages::{FIRST, shown};
+use crate::reading::{answer, fields_in};
+use crate::requests::text_in;
 use crate::rows::{Subject, check, first_word, number};
-use crate::words::rejection_of;
-use crate::writing::sample;
-use gu_fix::{Fields, encode, encode_onto, fields};
+use crate::words::{Values, rejection_of};
+use gu_fix::encode_onto;
 use gu_msgs::outbound::{Body, TradeCaptureReportAck};
-use gu_msgs::{Outbound, Rejection, midnight_of, sender, write};
-use gu_terms::{Day, FirmId, Id};
+use gu_msgs::{Outbound, midnight_of, sender, write};
+use gu_terms::{FirmId, Id};
 use std::alloc::{AllocError, Global};
 
 /// A part of the first report and another form of it, and what the report is read as then. One is in another order, the
 /// group first; the last three have tags of the group outside it, or before its first side.
 const FORMS: &str = "\
-|34=1| by |34=0001| -> E1: R1 of M1: H1 buys 10 XF6 at 101500000 on (2026, 1, 5)
-|34=1| by |34=1000000000| -> E1: R1 of M1: H1 buys 10 XF6 at 101500000 on (2026, 1, 5)
-|56=GIVEUP| by |56=x|43=Y|122=y| -> E1: R1 of M1: H1 buys 10 XF6 at 101500000 on (2026, 1, 5)
-|56=GIVEUP| by |43=N|56=GIVEUP| -> E1: R1 of M1: H1 buys 10 XF6 at 101500000 on (2026, 1, 5)
-|571=R1| by |571=R1|487=0|856=00|448=a|448=b| -> E1: R1 of M1: H1 buys 10 XF6 at 101500000 on (2026, 1, 5)
-|75=20260105| by | -> E1: R1 of M1: H1 buys 10 XF6 at 101500000
-|54=1| by |54=02| -> E1: R1 of M1: H1 sells 10 XF6 at 101500000 on (2026, 1, 5)
-34=1|52=20260105-09:00:00|571=R1|880=M1|55=XF6|32=0010.0|31=101.50|75=20260105|552=1|54=1|1=H1| by 552=01|54=01|448=P|1=H1|880=M1|75=20260105|31=101.5|55=XF6|32=10|571=R1|52=x|34=1| -> E1: R1 of M1: H1 buys 10 XF6 at 101500000 on (2026, 1, 5)
-|571=R1| by |54=2|1=H9|571=R1| -> E1: R1 of M1: H1 buys 10 XF6 at 101500000 on (2026, 1, 5)
-|552=1| by |552=1|1=H9| -> E1: R1 of M1: H1 buys 10 XF6 at 101500000 on (2026, 1, 5)
-|10=222| by |10=222|54=2|1=H9| -> E1: R1 of M1: H1 buys 10 XF6 at 101500000 on (2026, 1, 5)
+|34=1| by |34=0001| -> E1: E1 reports R1 of M1: H1 buys 10 XF6 at 101500000 on (2026, 1, 5)
+|34=1| by |34=1000000000| -> E1: E1 reports R1 of M1: H1 buys 10 XF6 at 101500000 on (2026, 1, 5)
+|56=GIVEUP| by |56=x|43=Y|122=y| -> E1: E1 reports R1 of M1: H1 buys 10 XF6 at 101500000 on (2026, 1, 5)
+|56=GIVEUP| by |43=N|56=GIVEUP| -> E1: E1 reports R1 of M1: H1 buys 10 XF6 at 101500000 on (2026, 1, 5)
+|571=R1| by |571=R1|487=0|856=00|448=a|448=b| -> E1: E1 reports R1 of M1: H1 buys 10 XF6 at 101500000 on (2026, 1, 5)
+|75=20260105| by | -> E1: E1 reports R1 of M1: H1 buys 10 XF6 at 101500000 on the open day
+|54=1| by |54=02| -> E1: E1 reports R1 of M1: H1 sells 10 XF6 at 101500000 on (2026, 1, 5)
+34=1|52=20260105-09:00:00|571=R1|880=M1|55=XF6|32=0010.0|31=101.50|75=20260105|552=1|54=1|1=H1| by 552=01|54=01|448=P|1=H1|880=M1|75=20260105|31=101.5|55=XF6|32=10|571=R1|52=x|34=1| -> E1: E1 reports R1 of M1: H1 buys 10 XF6 at 101500000 on (2026, 1, 5)
+|571=R1| by |54=2|1=H9|571=R1| -> E1: E1 reports R1 of M1: H1 buys 10 XF6 at 101500000 on (2026, 1, 5)
+|552=1| by |552=1|1=H9| -> E1: E1 reports R1 of M1: H1 buys 10 XF6 at 101500000 on (2026, 1, 5)
+|10=222| by |10=222|54=2|1=H9| -> E1: E1 reports R1 of M1: H1 buys 10 XF6 at 101500000 on (2026, 1, 5)
 ";
 
 /// A part of the first report and what stands in its place, and why that is no report of a firm's.
@@ -60,133 +60,75 @@ const OTHERS: &str = "\
 |10=222| by |10=222|10=222| -> E1: 10: 13
 ";
 
-/// Who sent a message, and what it is read as.
-fn sent(alloc: Global, fields: &Fields) -> Result<String, AllocError> {
-    let Some(firm) = sender(fields) else {
+/// The sides of a trade.
+const TRADE: &str = "\
+8=FIXT.1.1|9=117|35=AE|49=E1|56=GIVEUP|34=1|52=20260105-09:00:00|571=R1|880=M1|55=XF6|32=0010.0|31=101.50|75=20260105|552=1|54=1|1=H1|10=222| -> E1: E1 reports R1 of M1: H1 buys 10 XF6 at 101500000 on (2026, 1, 5)
+8=FIXT.1.1|9=112|35=AE|49=E2|56=GIVEUP|34=1|52=20260105-09:00:00|571=R2|880=M1|55=XF6|32=10|31=101.5|75=20260105|552=1|54=2|1=H2|10=239| -> E2: E2 reports R2 of M1: H2 sells 10 XF6 at 101500000 on (2026, 1, 5)
+";
+
+/// Who sent a message with a text behind it or a part of it in another form, and what it is read as.
+pub fn told(alloc: Global, message: &str, asked: &str) -> Result<String, AllocError> {
+    let fields = fields_in(alloc, message, asked)?;
+    let Some(firm) = sender(&fields) else {
         return format!(in alloc; "no sender");
     };
-    let text = answer(alloc, fields)?;
+    let text = answer(alloc, &fields)?;
     format!(in alloc; "{}: {text}", text_in(firm.get()))
 }
 
-/// What the first report is read as with a part of it in another form.
-pub fn form_told(alloc: Global, asked: &str) -> Result<String, AllocError> {
-    let (part, other) = asked.split_once(" by ").unwrap_or((asked, ""));
-    let Some((before, after)) = FIRST.split_once(part) else {
-        return format!(in alloc; "no such part");
-    };
-    let fields = fields_of(alloc, &format!(in alloc; "{before}{other}{after}")?)?;
-    sent(alloc, &fields)
-}
-
 #[test]
-fn a_report_is_read_in_each_of_its_forms(rt: HostRuntime) {
-    check(&rt, rt.alloc(), Subject::Forms, FORMS);
-}
-
-#[test]
-fn other_messages_are_no_reports(rt: HostRuntime) {
-    check(&rt, rt.alloc(), Subject::Forms, OTHERS);
-}
-
-/// What a message on the wire is read as.
-pub fn told(alloc: Global, message: &str) -> Result<String, AllocError> {
-    let frame = frame_in(alloc, wire(alloc, message)?.as_bytes())?;
-    let (fields, _) = fields(alloc, &frame)?;
-    sent(alloc, &fields)
-}
-
-/// The sides of a trade.
-const TRADE: &str = "\
-8=FIXT.1.1|9=117|35=AE|49=E1|56=GIVEUP|34=1|52=20260105-09:00:00|571=R1|880=M1|55=XF6|32=0010.0|31=101.50|75=20260105|552=1|54=1|1=H1|10=222| -> E1: R1 of M1: H1 buys 10 XF6 at 101500000 on (2026, 1, 5)
-8=FIXT.1.1|9=112|35=AE|49=E2|56=GIVEUP|34=1|52=20260105-09:00:00|571=R2|880=M1|55=XF6|32=10|31=101.5|75=20260105|552=1|54=2|1=H2|10=239| -> E2: R2 of M1: H2 sells 10 XF6 at 101500000 on (2026, 1, 5)
-";
-
-#[test]
-fn the_sides_of_a_trade_are_read(rt: HostRuntime) {
-    check(&rt, rt.alloc(), Subject::Senders, TRADE);
+fn a_report_is_read_in_each_of_its_forms_and_others_are_none(rt: HostRuntime) {
+    check(&rt, rt.alloc(), Subject::Sent(FIRST), FORMS);
+    check(&rt, rt.alloc(), Subject::Sent(FIRST), OTHERS);
+    check(&rt, rt.alloc(), Subject::Sent(""), TRADE);
 }
 
 /// The firm, the number of the message, the report and why it isn't in the book, and the message.
 const ANSWERS: &str = "\
-E1 1 R1 done -> 8=FIXT.1.1|9=72|35=AR|49=GIVEUP|56=E1|34=1|52=20260105-00:00:00.000|571=R1|880=M1|939=0|10=121|
-E2 2 R2 done -> 8=FIXT.1.1|9=72|35=AR|49=GIVEUP|56=E2|34=2|52=20260105-00:00:00.000|571=R2|880=M1|939=0|10=124|
-E2 3 R3 MatchConflict -> 8=FIXT.1.1|9=96|35=AR|49=GIVEUP|56=E2|34=3|52=20260105-00:00:00.000|571=R3|880=M1|939=1|751=99|58=MatchConflict|10=156|
-E2 4 R3 NotYours -> 8=FIXT.1.1|9=90|35=AR|49=GIVEUP|56=E2|34=4|52=20260105-00:00:00.000|571=R3|880=M1|939=1|751=1|58=NotYours|10=138|
-E2 5 R3 Memory -> 8=FIXT.1.1|9=89|35=AR|49=GIVEUP|56=E2|34=5|52=20260105-00:00:00.000|571=R3|880=M1|939=1|751=99|58=Memory|10=250|
-E2 1000000000 R3 UnknownInstrument -> 8=FIXT.1.1|9=108|35=AR|49=GIVEUP|56=E2|34=1000000000|52=20260105-00:00:00.000|571=R3|880=M1|939=1|751=2|58=UnknownInstrument|10=062|
+E1 1 R1 done -> x8=FIXT.1.1|9=72|35=AR|49=GIVEUP|56=E1|34=1|52=20260105-00:00:00.000|571=R1|880=M1|939=0|10=121|
+E2 2 R2 done -> x8=FIXT.1.1|9=72|35=AR|49=GIVEUP|56=E2|34=2|52=20260105-00:00:00.000|571=R2|880=M1|939=0|10=124|
+E2 3 R3 MatchConflict -> x8=FIXT.1.1|9=96|35=AR|49=GIVEUP|56=E2|34=3|52=20260105-00:00:00.000|571=R3|880=M1|939=1|751=99|58=MatchConflict|10=156|
+E2 4 R3 NotYours -> x8=FIXT.1.1|9=90|35=AR|49=GIVEUP|56=E2|34=4|52=20260105-00:00:00.000|571=R3|880=M1|939=1|751=1|58=NotYours|10=138|
+E2 5 R3 Memory -> x8=FIXT.1.1|9=89|35=AR|49=GIVEUP|56=E2|34=5|52=20260105-00:00:00.000|571=R3|880=M1|939=1|751=99|58=Memory|10=250|
+E2 1000000000 R3 UnknownInstrument -> x8=FIXT.1.1|9=108|35=AR|49=GIVEUP|56=E2|34=1000000000|52=20260105-00:00:00.000|571=R3|880=M1|939=1|751=2|58=UnknownInstrument|10=062|
 ";
 
-/// The answer to a firm's report of 2026-01-05 with match id M1.
-fn ack(firm: &str, number: u64, id: &str, rejection: Option<Rejection>) -> Option<Outbound> {
+/// The answer of 2026-01-05 to a firm's report with match id M1, by the number of its message, the report and the outcome.
+fn ack_to(w: &Values, firm: FirmId, words: &str) -> Option<Outbound> {
+    let (seq_num, rest) = first_word(words);
+    let (id, outcome) = first_word(rest);
     Some(Outbound {
-        firm: FirmId::new(firm.as_bytes())?,
-        msg_seq_num: number,
-        sending_time: midnight_of(Day::new(2026, 1, 5)?),
+        firm,
+        msg_seq_num: number(seq_num),
+        sending_time: midnight_of(w.day),
         orig_sending_time: None,
         body: Body::TradeCaptureReportAck(TradeCaptureReportAck {
             trade_report_id: Id::new(id.as_bytes())?,
-            trd_match_id: Id::new(b"M1")?,
-            rejection,
+            trd_match_id: w.match_id,
+            rejection: rejection_of(w, outcome),
         }),
     })
 }
 
-/// The answer that a row's words ask for.
-fn ack_of(words: &str) -> Option<Outbound> {
-    let (firm, rest) = first_word(words);
-    let (seq_num, rest) = first_word(rest);
-    let (id, word) = first_word(rest);
-    ack(firm, number(seq_num), id, rejection_of(&sample()?, word))
-}
-
-/// A message on the wire, by itself and behind what is there.
-fn on_the_wire(alloc: Global, fields: &Fields) -> Result<String, AllocError> {
-    let Ok(bytes) = encode(alloc, fields) else {
-        return Err(AllocError);
-    };
+/// A message on the wire, behind an `x`.
+fn on_the_wire(alloc: Global, message: &Outbound) -> Result<String, AllocError> {
+    let fields = write(alloc, message)?;
     let mut output = Vec::from_slice(alloc, b"x")?;
-    encode_onto(alloc, &mut output, fields)?;
-    if output.split_first() == Some((&b'x', bytes.as_slice())) {
-        shown(alloc, &bytes)
-    } else {
-        format!(in alloc; "another message behind what is there")
-    }
+    encode_onto(alloc, &mut output, &fields)?;
+    shown(alloc, &output)
 }
 
-/// The answer to a report, on the wire.
-pub fn acknowledged(alloc: Global, words: &str) -> Result<String, AllocError> {
-    let Some(message) = ack_of(words) else {
-        return format!(in alloc; "no answer");
-    };
-    let fields = write(alloc, &message)?;
-    on_the_wire(alloc, &fields)
+/// The answer to a report, on the wire behind an `x`.
+pub fn acknowledged(alloc: Global, w: &Values, words: &str) -> Result<String, AllocError> {
+    let (firm, rest) = first_word(words);
+    let firm = FirmId::new(firm.as_bytes()).unwrap_or(w.firm);
+    match ack_to(w, firm, rest) {
+        Some(message) => on_the_wire(alloc, &message),
+        None => format!(in alloc; "no id"),
+    }
 }
 
 #[test]
 fn reports_are_answered_with_the_reason(rt: HostRuntime) {
     check(&rt, rt.alloc(), Subject::Acknowledged, ANSWERS);
-}
-
-/// Days, and the milliseconds from 1970-01-01 to them.
-const MIDNIGHTS: &str = "\
-00010101 -> 0
-19691231 -> 0
-19700101 -> 0
-19700102 -> 86400000
-20260105 -> 1767571200000
-99991231 -> 253402214400000
-";
-
-/// The milliseconds from 1970-01-01 to a day.
-pub fn midnight_told(alloc: Global, day: &str) -> Result<String, AllocError> {
-    match Day::read(day.as_bytes()) {
-        Ok(day) => format!(in alloc; "{}", midnight_of(day).get()),
-        Err(error) => format!(in alloc; "{error}"),
-    }
-}
-
-#[test]
-fn days_begin_at_midnight_and_none_before_1970(rt: HostRuntime) {
-    check(&rt, rt.alloc(), Subject::Midnight, MIDNIGHTS);
 }

@@ -1,7 +1,10 @@
 //! Tables of tests: texts whose lines are rows. A row is what is asked and, behind ` -> `, what is to be told; one with no
-//! ` -> ` is to be told nothing, which is an empty text.
+//! ` -> ` is to be told nothing, which is an empty text. In both, `{x*9}` is nine times x.
+use crate::messages::meant;
+use crate::words::{Values, sample};
 use crate::{
-    answering, asking, encoding, feed, fields, header, names, numbers, reading, reports, writing,
+    answering, cut, encoding, feed, fields, header, history, names, numbers, reading, reports,
+    takes, writing,
 };
 use std::alloc::{AllocError, Global};
 use std::process::Abort;
@@ -11,98 +14,103 @@ use std::process::Abort;
 pub enum Subject {
     /// A name and an id with this text.
     Names,
-    /// The lots, the price or the day of this text.
+    /// The lots, the price, or the day and its first moment of this text.
     Lots,
     Price,
     Day,
     /// Lots, an offer and a moment with this number.
     Ranges,
+    /// So many takes, and so many members of a cut.
+    Takes,
+    Cut,
+    /// How many entries a history has.
+    History,
     /// The messages that a feed gives behind this front.
     Fronts,
+    /// How many messages a feed gives of a stream in pieces.
+    Pieces,
+    /// How many messages a feed gives wherever a stream is cut, or a byte of it is another.
+    Places(feed::Change),
     /// The fields of this message, and its first malformed one.
-    Fields,
+    Fields(fields::Holder),
     /// The message of these fields.
     Encoding,
     /// The header of these fields.
     Header,
-    /// What the fields of a message say behind this front.
+    /// What the fields of a message say behind this front, or with a part of this message in another form.
     Reading(&'static str),
-    /// Who sent the first report with a part in another form, and what it says.
-    Forms,
-    /// Who sent this message, and what it says.
-    Senders,
-    /// The answer to a report, on the wire.
-    Acknowledged,
-    /// The first moment of a day.
-    Midnight,
-    /// What E1 asks for by this message, and what the answer needs of it.
-    Asking,
-    /// What this is written as.
-    Writing,
-    /// What a question is answered by.
-    Answering,
-    /// What a question for positions is answered by.
+    /// The same, and who sent it.
+    Sent(&'static str),
+    /// The answer to what a message asks.
+    Answers,
+    /// How many messages answer a question for positions.
     Positions,
     /// What a notice is sent as.
     Notices,
-    /// What a question is done by.
-    Done,
+    /// What a message of the session is written as.
+    Written,
+    /// The answer to a report, on the wire.
+    Acknowledged,
 }
 
 /// What the public calls tell of what is asked.
-fn told(alloc: Global, subject: Subject, asked: &str) -> Result<String, AllocError> {
+fn told(alloc: Global, w: &Values, subject: Subject, asked: &str) -> Result<String, AllocError> {
     match subject {
         Subject::Names => names::told(alloc, asked),
         Subject::Lots => numbers::lots_told(alloc, asked),
         Subject::Price => numbers::price_told(alloc, asked),
         Subject::Day => numbers::day_told(alloc, asked),
         Subject::Ranges => numbers::ranges_told(alloc, asked),
+        Subject::Takes => takes::told(alloc, asked),
+        Subject::Cut => cut::told(alloc, asked),
+        Subject::History => history::told(alloc, w, asked),
         Subject::Fronts => feed::told(alloc, asked),
-        Subject::Fields => fields::told(alloc, asked),
+        Subject::Pieces => feed::pieces_told(alloc, asked),
+        Subject::Places(change) => feed::places_told(alloc, change),
+        Subject::Fields(holder) => fields::told(alloc, holder, asked),
         Subject::Encoding => encoding::told(alloc, asked),
         Subject::Header => header::told(alloc, asked),
         Subject::Reading(front) => reading::told(alloc, front, asked),
-        Subject::Forms => reports::form_told(alloc, asked),
-        Subject::Senders => reports::told(alloc, asked),
-        Subject::Acknowledged => reports::acknowledged(alloc, asked),
-        Subject::Midnight => reports::midnight_told(alloc, asked),
-        Subject::Asking => asking::told(alloc, asked),
-        Subject::Writing => writing::told(alloc, asked),
-        Subject::Answering => answering::told(alloc, asked),
-        Subject::Positions => answering::positions_told(alloc, asked),
-        Subject::Notices => answering::notice_told(alloc, asked),
-        Subject::Done => answering::done_told(alloc, asked),
+        Subject::Sent(front) => reports::told(alloc, front, asked),
+        Subject::Answers => answering::told(alloc, w, asked),
+        Subject::Positions => answering::positions_told(alloc, w, asked),
+        Subject::Notices => answering::notice_told(alloc, w, asked),
+        Subject::Written => writing::told(alloc, w, asked),
+        Subject::Acknowledged => reports::acknowledged(alloc, w, asked),
+    }
+}
+
+/// What is wrong with a row: an empty text where it is right.
+fn fault(alloc: Global, w: &Values, subject: Subject, row: &str) -> Result<String, AllocError> {
+    let (asked, expected) = row.split_once(" -> ").unwrap_or((row, ""));
+    let expected = meant(alloc, expected)?;
+    let found = told(alloc, w, subject, asked)?;
+    if found.as_str() == expected.as_str() {
+        Ok(String::new(alloc))
+    } else {
+        format!(in alloc; "told {found} of {row}")
     }
 }
 
 /// The same, at the second try where the first is refused memory.
-fn told_again(alloc: Global, subject: Subject, asked: &str) -> Result<String, AllocError> {
-    match told(alloc, subject, asked) {
+fn fault_again(
+    alloc: Global,
+    w: &Values,
+    subject: Subject,
+    row: &str,
+) -> Result<String, AllocError> {
+    match fault(alloc, w, subject, row) {
         Ok(text) => Ok(text),
-        Err(_) => told(alloc, subject, asked),
+        Err(_) => fault(alloc, w, subject, row),
     }
-}
-
-/// What stands in front of the first ` -> ` of a line, and what stands behind it.
-pub fn columns(row: &str) -> (&str, &str) {
-    row.split_once(" -> ").unwrap_or((row, ""))
 }
 
 /// Asserts that what each row of a table asks is told as the row says.
 pub fn check(rt: &impl Abort, alloc: Global, subject: Subject, table: &str) {
+    let w = sample().expect(rt, "a sample");
     for row in table.lines() {
-        let (asked, expected) = columns(row);
-        let found = told(alloc, subject, asked).expect(rt, "memory");
-        assert_eq!(rt; found.as_str(), expected, "{row}");
-    }
-}
-
-/// The same, where a row that is refused memory is tried once more.
-pub fn check_again(rt: &impl Abort, alloc: Global, subject: Subject, table: &str) {
-    for row in table.lines() {
-        let (asked, expected) = columns(row);
-        let found = told_again(alloc, subject, asked).expect(rt, "memory");
-        assert_eq!(rt; found.as_str(), expected, "{row}");
+        let fault = fault_again(alloc, &w, subject, row).expect(rt, "memory");
+        assert!(rt; fault.is_empty(), "{fault}");
     }
 }
 

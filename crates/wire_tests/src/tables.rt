@@ -1,223 +1,273 @@
-//! The table of messages that are read, as docs/rules/messages.md has it, held against what `read` does with each tag.
-use crate::messages::fields_of;
-use crate::rows::{columns, first_word};
-use gu_msgs::{MsgFault, read};
-use std::alloc::{AllocError, Global};
-use std::process::Abort;
+//! The table of messages that are read, as docs/rules/messages.md has it, held against what `read` does with each tag. A table
+//! changes a sound message of one type: as it is; with all tags twice that other types read; and each of its own outer tags missing,
+//! twice, and with values that aren't allowed. The cells of the rules stand above it.
+use crate::rows::{Subject, check};
 
-/// A block a message. Its first line is its type, its cells of the table, and what stands behind its tags: its groups. Each
-/// other line is a tag that is read: its cell, where a tag in brackets may be absent, a right value, and the reasons and
-/// values that aren't allowed.
-const MESSAGES: &str = "\
-0 -> [112]
-[112] -> x
+/// Heartbeat (0): [112].
+const HEARTBEAT: &str =
+    "8=FIXT.1.1|9=100|10=000|49=E1|56=GIVEUP|34=2|52=x|9999=a|9999=b|35=0|112=x|";
 
-1 -> 112 of 1 to 1,024 bytes
-112 of 1 to 1,024 bytes -> x -> 5  -> 5 \x01
-
-2 -> 7 (1 and above), 16 (0, or not below 7)
-7 (1 and above) -> 1000000000 -> 5 0 -> 5 1000000001 -> 6 1.0
-16 (0, or not below 7) -> 1000000000 -> 5 1000000001 -> 5 999999999 -> 6 -1
-
-3
-
-4 -> [123] Y or N, 36 (1 and above)
-[123] Y or N -> N -> 5 y -> 5 YN
-36 (1 and above) -> 1000000000 -> 5 0 -> 5 1000000001 -> 6 1.0
-
-A -> 98 (0), 108 (0 to 3,600), 1137 (9), [141] Y or N
-98 (0) -> 00 -> 5 1 -> 6 -0
-108 (0 to 3,600) -> 3600 -> 5 3601 -> 6 x
-1137 (9) -> 09 -> 5 8 -> 5 10 -> 6 x
-[141] Y or N -> Y -> 5 y -> 5 YN
-
-AE -> 571 id, [487] (0), [856] (0), 880 id, 55 name, 32 lots, 31 price, [75] date, 552 (1) -> 54=1|1=H1|
-571 id -> R1 -> 5 R 1 -> 5 \x7f
-[487] (0) -> 0 -> 5 1 -> 6 -0
-[856] (0) -> 0 -> 5 1 -> 6 -0
-880 id -> M1 -> 5 R 1 -> 5 \x7f
-55 name -> XF6 -> 5 a -> 5 ABCDEFGHIJKLM
-32 lots -> 1000000 -> 5 0 -> 5 1000001 -> 5 1.5 -> 6 x
-31 price -> -0.5 -> 5 1000000000 -> 5 0.0000001 -> 6 +1
-[75] date -> 20260105 -> 5 20260230 -> 6 2026010
-552 (1) -> 1
-
-J -> 70 id, [71] (0), 53 lots, 124 (1), 78 (1 to 16) -> 79=A1|80=10|
-70 id -> L1 -> 5 R 1 -> 5 \x7f
-[71] (0) -> 0 -> 5 1 -> 6 -0
-53 lots -> 10 -> 5 0 -> 5 1000001 -> 5 1.5 -> 6 x
-124 (1) -> 1|17=R1
-78 (1 to 16) -> 1
-
-AT -> 755 (1 to 16,000,000), 87 (0, 1, 2, 5, 6 or 7)
-755 (1 to 16,000,000) -> 16000000 -> 5 0 -> 5 16000001 -> 6 -5
-87 (0, 1, 2, 5, 6 or 7) -> 7 -> 5 3 -> 5 4 -> 5 8 -> 6 x
-
-AN -> 710 id, 724 (0), 1 name
-710 id -> Q1 -> 5 R 1 -> 5 \x7f
-724 (0) -> 0 -> 5 1 -> 6 -0
-1 name -> A1 -> 5 a -> 5 ABCDEFGHIJKLM
+/// Its forms.
+const HEARTBEAT_FORMS: &str = "\
+|52=x| by |52=x| -> beats
+|52=x| by |52=x|{7=?|*2}{16=?|*2}{123=?|*2}{36=?|*2}{98=?|*2}{108=?|*2}{1137=?|*2}{141=?|*2}{571=?|*2}{487=?|*2}{856=?|*2}{880=?|*2}{55=?|*2}{32=?|*2}{31=?|*2}{75=?|*2}{552=?|*2}{70=?|*2}{71=?|*2}{53=?|*2}{124=?|*2}{78=?|*2}{755=?|*2}{87=?|*2}{710=?|*2}{724=?|*2}{1=?|*2} -> beats
+|112=x| by | -> beats
+|112=x| by |112=x|112=x| -> 112: 13
 ";
 
-/// The first line of a block, and the others.
-fn lines_of(block: &str) -> (&str, &str) {
-    block.split_once('\n').unwrap_or((block, ""))
-}
+/// TestRequest (1): 112 of 1 to 1,024 bytes.
+const TEST_REQUEST: &str =
+    "8=FIXT.1.1|9=100|10=000|49=E1|56=GIVEUP|34=2|52=x|9999=a|9999=b|35=1|112=x|";
 
-/// The type of a block's message, its cells, and its groups.
-fn head(block: &str) -> (&str, &str, &str) {
-    let (line, _) = lines_of(block);
-    let (msg_type, rest) = columns(line);
-    let (cells, groups) = columns(rest);
-    (msg_type, cells, groups)
-}
+/// Its forms.
+const TEST_REQUEST_FORMS: &str = "\
+|52=x| by |52=x| -> asks x
+|52=x| by |52=x|{7=?|*2}{16=?|*2}{123=?|*2}{36=?|*2}{98=?|*2}{108=?|*2}{1137=?|*2}{141=?|*2}{571=?|*2}{487=?|*2}{856=?|*2}{880=?|*2}{55=?|*2}{32=?|*2}{31=?|*2}{75=?|*2}{552=?|*2}{70=?|*2}{71=?|*2}{53=?|*2}{124=?|*2}{78=?|*2}{755=?|*2}{87=?|*2}{710=?|*2}{724=?|*2}{1=?|*2} -> asks x
+|112=x| by | -> 112: 1
+|112=x| by |112=x|112=x| -> 112: 13
+|112=x| by |112=| -> 112: 5
+|112=x| by |112=\x01| -> 112: 5
+";
 
-/// The lines of a block's tags.
-fn rows(block: &str) -> &str {
-    let (_, rows) = lines_of(block);
-    rows
-}
+/// ResendRequest (2): 7 (1 and above), 16 (0, or not below 7).
+const RESEND_REQUEST: &str =
+    "8=FIXT.1.1|9=100|10=000|49=E1|56=GIVEUP|34=2|52=x|9999=a|9999=b|35=2|7=1000000000|16=1000000000|";
 
-/// The tag of a line.
-fn tag(row: &str) -> &str {
-    let (word, _) = first_word(row);
-    word.trim_start_matches('[').trim_end_matches(']')
-}
+/// Its forms.
+const RESEND_REQUEST_FORMS: &str = "\
+|52=x| by |52=x| -> again 1000000000 to 1000000000
+|52=x| by |52=x|{112=?|*2}{123=?|*2}{36=?|*2}{98=?|*2}{108=?|*2}{1137=?|*2}{141=?|*2}{571=?|*2}{487=?|*2}{856=?|*2}{880=?|*2}{55=?|*2}{32=?|*2}{31=?|*2}{75=?|*2}{552=?|*2}{70=?|*2}{71=?|*2}{53=?|*2}{124=?|*2}{78=?|*2}{755=?|*2}{87=?|*2}{710=?|*2}{724=?|*2}{1=?|*2} -> again 1000000000 to 1000000000
+|7=1000000000| by | -> 7: 1
+|7=1000000000| by |7=1000000000|7=1000000000| -> 7: 13
+|7=1000000000| by |7=0| -> 7: 5
+|7=1000000000| by |7=1000000001| -> 7: 5
+|7=1000000000| by |7=1.0| -> 7: 6
+|16=1000000000| by | -> 16: 1
+|16=1000000000| by |16=1000000000|16=1000000000| -> 16: 13
+|16=1000000000| by |16=1000000001| -> 16: 5
+|16=1000000000| by |16=999999999| -> 16: 5
+|16=1000000000| by |16=-1| -> 16: 6
+";
 
-/// A tag with its right value.
-fn right(alloc: Global, row: &str) -> Result<String, AllocError> {
-    let (_, rest) = columns(row);
-    let (right, _) = columns(rest);
-    format!(in alloc; "{}={right}|", tag(row))
-}
+/// Reject (3): no tags of its own.
+const REJECT: &str = "8=FIXT.1.1|9=100|10=000|49=E1|56=GIVEUP|34=2|52=x|9999=a|9999=b|35=3|";
 
-/// The cells of a block's lines.
-fn cells(alloc: Global, block: &str) -> Result<String, AllocError> {
-    let mut text = String::new(alloc);
-    for row in rows(block).lines() {
-        if !text.is_empty() {
-            text.push_str(", ")?;
-        }
-        let (cell, _) = columns(row);
-        text.push_str(cell)?;
-    }
-    Ok(text)
-}
+/// Its forms.
+const REJECT_FORMS: &str = "\
+|52=x| by |52=x| -> rejects
+|52=x| by |52=x|{112=?|*2}{7=?|*2}{16=?|*2}{123=?|*2}{36=?|*2}{98=?|*2}{108=?|*2}{1137=?|*2}{141=?|*2}{571=?|*2}{487=?|*2}{856=?|*2}{880=?|*2}{55=?|*2}{32=?|*2}{31=?|*2}{75=?|*2}{552=?|*2}{70=?|*2}{71=?|*2}{53=?|*2}{124=?|*2}{78=?|*2}{755=?|*2}{87=?|*2}{710=?|*2}{724=?|*2}{1=?|*2} -> rejects
+";
 
-/// The tags of a block's message with their right values, but for one in whose place this stands.
-fn tags_with(alloc: Global, block: &str, changed: &str, other: &str) -> Result<String, AllocError> {
-    let mut text = String::new(alloc);
-    for row in rows(block).lines() {
-        if tag(row) == changed {
-            text.push_str(other)?;
-        } else {
-            text.push_str(&right(alloc, row)?)?;
-        }
-    }
-    Ok(text)
-}
+/// SequenceReset (4): [123] Y or N, 36 (1 and above).
+const SEQUENCE_RESET: &str =
+    "8=FIXT.1.1|9=100|10=000|49=E1|56=GIVEUP|34=2|52=x|9999=a|9999=b|35=4|123=N|36=1000000000|";
 
-/// The fields of a block's message behind these, with this in the place of a tag, as a text.
-fn text_with(
-    alloc: Global,
-    block: &str,
-    front: &str,
-    changed: &str,
-    other: &str,
-) -> Result<String, AllocError> {
-    let (msg_type, _, groups) = head(block);
-    let tags = tags_with(alloc, block, changed, other)?;
-    format!(in alloc;
-        "{front}8=FIXT.1.1|9=100|10=000|49=E1|56=GIVEUP|34=2|52=x|9999=a|9999=b|35={msg_type}|{tags}{groups}"
-    )
-}
+/// Its forms.
+const SEQUENCE_RESET_FORMS: &str = "\
+|52=x| by |52=x| -> resets to 1000000000, fill false
+|52=x| by |52=x|{112=?|*2}{7=?|*2}{16=?|*2}{98=?|*2}{108=?|*2}{1137=?|*2}{141=?|*2}{571=?|*2}{487=?|*2}{856=?|*2}{880=?|*2}{55=?|*2}{32=?|*2}{31=?|*2}{75=?|*2}{552=?|*2}{70=?|*2}{71=?|*2}{53=?|*2}{124=?|*2}{78=?|*2}{755=?|*2}{87=?|*2}{710=?|*2}{724=?|*2}{1=?|*2} -> resets to 1000000000, fill false
+|123=N| by | -> resets to 1000000000, fill false
+|123=N| by |123=N|123=N| -> 123: 13
+|123=N| by |123=y| -> 123: 5
+|123=N| by |123=YN| -> 123: 5
+|36=1000000000| by | -> 36: 1
+|36=1000000000| by |36=1000000000|36=1000000000| -> 36: 13
+|36=1000000000| by |36=0| -> 36: 5
+|36=1000000000| by |36=1000000001| -> 36: 5
+|36=1000000000| by |36=1.0| -> 36: 6
+";
 
-/// The reason and the tag of the first fault of a text's fields, or `sound`.
-fn fault(alloc: Global, text: &str) -> Result<String, AllocError> {
-    let fields = fields_of(alloc, text)?;
-    match read(alloc, &fields) {
-        Ok(_) => format!(in alloc; "sound"),
-        Err(MsgFault::Rejected(fault)) => {
-            format!(in alloc; "{} at {}", fault.reason.number(), fault.tag)
-        }
-        Err(MsgFault::Memory) => Err(AllocError),
-    }
-}
+/// Logon (A): 98 (0), 108 (0 to 3,600), 1137 (9), [141] Y or N.
+const LOGON: &str =
+    "8=FIXT.1.1|9=100|10=000|49=E1|56=GIVEUP|34=2|52=x|9999=a|9999=b|35=A|98=00|108=3600|1137=09|141=Y|";
 
-/// The reason why a block's message with this in the place of a line's tag is at fault there, or `sound`.
-fn reason(alloc: Global, block: &str, row: &str, other: &str) -> Result<String, AllocError> {
-    let text = text_with(alloc, block, "", tag(row), other)?;
-    let fault = fault(alloc, &text)?;
-    match fault.as_str().split_once(" at ") {
-        Some((reason, at)) if at == tag(row) => String::from_str(alloc, reason),
-        _ => Ok(fault),
-    }
-}
+/// Its forms.
+const LOGON_FORMS: &str = "\
+|52=x| by |52=x| -> logs on, beats 3600, resets true
+|52=x| by |52=x|{112=?|*2}{7=?|*2}{16=?|*2}{123=?|*2}{36=?|*2}{571=?|*2}{487=?|*2}{856=?|*2}{880=?|*2}{55=?|*2}{32=?|*2}{31=?|*2}{75=?|*2}{552=?|*2}{70=?|*2}{71=?|*2}{53=?|*2}{124=?|*2}{78=?|*2}{755=?|*2}{87=?|*2}{710=?|*2}{724=?|*2}{1=?|*2} -> logs on, beats 3600, resets true
+|98=00| by | -> 98: 1
+|98=00| by |98=00|98=00| -> 98: 13
+|98=00| by |98=1| -> 98: 5
+|98=00| by |98=-0| -> 98: 6
+|108=3600| by | -> 108: 1
+|108=3600| by |108=3600|108=3600| -> 108: 13
+|108=3600| by |108=3601| -> 108: 5
+|108=3600| by |108=x| -> 108: 6
+|1137=09| by | -> 1137: 1
+|1137=09| by |1137=09|1137=09| -> 1137: 13
+|1137=09| by |1137=8| -> 1137: 5
+|1137=09| by |1137=10| -> 1137: 5
+|1137=09| by |1137=x| -> 1137: 6
+|141=Y| by | -> logs on, beats 3600, resets false
+|141=Y| by |141=Y|141=Y| -> 141: 13
+|141=Y| by |141=y| -> 141: 5
+|141=Y| by |141=YN| -> 141: 5
+";
 
-/// Asserts that with this in the place of its tag a line is told this reason, or `sound`.
-fn check_tag(rt: &impl Abort, alloc: Global, block: &str, row: &str, other: &str, expected: &str) {
-    let reason = reason(alloc, block, row, other).expect(rt, "memory");
-    assert_eq!(rt; reason.as_str(), expected, "{other} in {row}");
-}
+/// TradeCaptureReport (AE): 571 id, [487] (0), [856] (0), 880 id, 55 name, 32 lots, 31 price, [75] date, 552 (1).
+const TRADE_CAPTURE_REPORT: &str =
+    "8=FIXT.1.1|9=100|10=000|49=E1|56=GIVEUP|34=2|52=x|9999=a|9999=b|35=AE|571=R1|487=0|856=0|880=M1|55=XF6|32=1000000|31=-0.5|75=20260105|552=1|54=1|1=H1|";
 
-/// Asserts that a value is refused for the reason in front of it.
-fn check_wrong(rt: &impl Abort, alloc: Global, block: &str, row: &str, wrong: &str) {
-    let (reason, value) = first_word(wrong);
-    let other = format!(in alloc; "{}={value}|", tag(row)).expect(rt, "memory");
-    check_tag(rt, alloc, block, row, &other, reason);
-}
+/// Its forms.
+const TRADE_CAPTURE_REPORT_FORMS: &str = "\
+|52=x| by |52=x| -> E1 reports R1 of M1: H1 buys 1000000 XF6 at -500000 on (2026, 1, 5)
+|52=x| by |52=x|{112=?|*2}{7=?|*2}{16=?|*2}{123=?|*2}{36=?|*2}{98=?|*2}{108=?|*2}{1137=?|*2}{141=?|*2}{70=?|*2}{71=?|*2}{53=?|*2}{124=?|*2}{78=?|*2}{755=?|*2}{87=?|*2}{710=?|*2}{724=?|*2} -> E1 reports R1 of M1: H1 buys 1000000 XF6 at -500000 on (2026, 1, 5)
+|571=R1| by | -> 571: 1
+|571=R1| by |571=R1|571=R1| -> 571: 13
+|571=R1| by |571=R 1| -> 571: 5
+|571=R1| by |571=\x7f| -> 571: 5
+|487=0| by | -> E1 reports R1 of M1: H1 buys 1000000 XF6 at -500000 on (2026, 1, 5)
+|487=0| by |487=0|487=0| -> 487: 13
+|487=0| by |487=1| -> 487: 5
+|487=0| by |487=-0| -> 487: 6
+|856=0| by | -> E1 reports R1 of M1: H1 buys 1000000 XF6 at -500000 on (2026, 1, 5)
+|856=0| by |856=0|856=0| -> 856: 13
+|856=0| by |856=1| -> 856: 5
+|856=0| by |856=-0| -> 856: 6
+|880=M1| by | -> 880: 1
+|880=M1| by |880=M1|880=M1| -> 880: 13
+|880=M1| by |880=R 1| -> 880: 5
+|880=M1| by |880=\x7f| -> 880: 5
+|55=XF6| by | -> 55: 1
+|55=XF6| by |55=XF6|55=XF6| -> 55: 13
+|55=XF6| by |55=a| -> 55: 5
+|55=XF6| by |55=ABCDEFGHIJKLM| -> 55: 5
+|32=1000000| by | -> 32: 1
+|32=1000000| by |32=1000000|32=1000000| -> 32: 13
+|32=1000000| by |32=0| -> 32: 5
+|32=1000000| by |32=1000001| -> 32: 5
+|32=1000000| by |32=1.5| -> 32: 5
+|32=1000000| by |32=x| -> 32: 6
+|31=-0.5| by | -> 31: 1
+|31=-0.5| by |31=-0.5|31=-0.5| -> 31: 13
+|31=-0.5| by |31=1000000000| -> 31: 5
+|31=-0.5| by |31=0.0000001| -> 31: 5
+|31=-0.5| by |31=+1| -> 31: 6
+|75=20260105| by | -> E1 reports R1 of M1: H1 buys 1000000 XF6 at -500000 on the open day
+|75=20260105| by |75=20260105|75=20260105| -> 75: 13
+|75=20260105| by |75=20260230| -> 75: 5
+|75=20260105| by |75=2026010| -> 75: 6
+|552=1| by | -> 552: 1
+|552=1| by |552=1|552=1| -> 552: 13
+";
 
-/// Asserts that a line's tag is read as it says.
-fn check_row(rt: &impl Abort, alloc: Global, block: &str, row: &str) {
-    let right = right(alloc, row).expect(rt, "memory");
-    let twice = right.repeat(alloc, 2).expect(rt, "memory");
-    let missing = if row.starts_with('[') { "sound" } else { "1" };
-    check_tag(rt, alloc, block, row, &right, "sound");
-    check_tag(rt, alloc, block, row, "", missing);
-    check_tag(rt, alloc, block, row, &twice, "13");
-    for wrong in row.split(" -> ").skip(2) {
-        check_wrong(rt, alloc, block, row, wrong);
-    }
-}
+/// AllocationInstruction (J): 70 id, [71] (0), 53 lots, 124 (1), 78 (1 to 16).
+const ALLOCATION_INSTRUCTION: &str =
+    "8=FIXT.1.1|9=100|10=000|49=E1|56=GIVEUP|34=2|52=x|9999=a|9999=b|35=J|70=L1|71=0|53=10|124=1|17=R1|78=1|79=A1|80=10|";
 
-/// Whether a tag is one of a message's own, or of its groups.
-fn is_read(block: &str, other: &str) -> bool {
-    let (msg_type, _, _) = head(block);
-    let is_inner = matches!(
-        (msg_type, other),
-        ("AE", "54" | "1") | ("J", "17" | "79" | "80")
-    );
-    is_inner || rows(block).lines().any(|row| tag(row) == other)
-}
+/// Its forms.
+const ALLOCATION_INSTRUCTION_FORMS: &str = "\
+|52=x| by |52=x| -> E1 gives up L1 of R1, 10 lots: A1 10
+|52=x| by |52=x|{112=?|*2}{7=?|*2}{16=?|*2}{123=?|*2}{36=?|*2}{98=?|*2}{108=?|*2}{1137=?|*2}{141=?|*2}{571=?|*2}{487=?|*2}{856=?|*2}{880=?|*2}{55=?|*2}{32=?|*2}{31=?|*2}{75=?|*2}{552=?|*2}{755=?|*2}{87=?|*2}{710=?|*2}{724=?|*2}{1=?|*2} -> E1 gives up L1 of R1, 10 lots: A1 10
+|70=L1| by | -> 70: 1
+|70=L1| by |70=L1|70=L1| -> 70: 13
+|70=L1| by |70=R 1| -> 70: 5
+|70=L1| by |70=\x7f| -> 70: 5
+|71=0| by | -> E1 gives up L1 of R1, 10 lots: A1 10
+|71=0| by |71=0|71=0| -> 71: 13
+|71=0| by |71=1| -> 71: 5
+|71=0| by |71=-0| -> 71: 6
+|53=10| by | -> 53: 1
+|53=10| by |53=10|53=10| -> 53: 13
+|53=10| by |53=0| -> 53: 5
+|53=10| by |53=1000001| -> 53: 5
+|53=10| by |53=1.5| -> 53: 5
+|53=10| by |53=x| -> 53: 6
+|124=1|17=R1| by | -> 124: 1
+|124=1|17=R1| by |124=1|17=R1|124=1|17=R1| -> 124: 13
+|78=1| by | -> 78: 1
+|78=1| by |78=1|78=1| -> 78: 13
+";
 
-/// Asserts that a block's message skips a tag that isn't its own, though it stands twice.
-fn check_skipped(rt: &impl Abort, alloc: Global, block: &str, other: &str) {
-    if !is_read(block, other) {
-        let front = format!(in alloc; "{other}=?|{other}=?|").expect(rt, "memory");
-        let text = text_with(alloc, block, &front, "", "").expect(rt, "memory");
-        let fault = fault(alloc, &text).expect(rt, "memory");
-        assert_eq!(rt; fault.as_str(), "sound", "{other} in {block}");
-    }
-}
+/// AllocationReportAck (AT): 755 (1 to 16,000,000), 87 (0, 1, 2, 5, 6 or 7).
+const ALLOCATION_REPORT_ACK: &str =
+    "8=FIXT.1.1|9=100|10=000|49=E1|56=GIVEUP|34=2|52=x|9999=a|9999=b|35=AT|755=16000000|87=7|";
 
-/// Asserts that a block's message is read as the block says, and skips the tags of all others.
-fn check_block(rt: &impl Abort, alloc: Global, block: &str) {
-    let (_, expected, _) = head(block);
-    let cells = cells(alloc, block).expect(rt, "memory");
-    assert_eq!(rt; cells.as_str(), expected, "{block}");
-    for row in rows(block).lines() {
-        check_row(rt, alloc, block, row);
-    }
-    for other in MESSAGES.split("\n\n") {
-        for row in rows(other).lines() {
-            check_skipped(rt, alloc, block, tag(row));
-        }
-    }
-}
+/// Its forms.
+const ALLOCATION_REPORT_ACK_FORMS: &str = "\
+|52=x| by |52=x| -> E1 reverses 16000000
+|52=x| by |52=x|{112=?|*2}{7=?|*2}{16=?|*2}{123=?|*2}{36=?|*2}{98=?|*2}{108=?|*2}{1137=?|*2}{141=?|*2}{571=?|*2}{487=?|*2}{856=?|*2}{880=?|*2}{55=?|*2}{32=?|*2}{31=?|*2}{75=?|*2}{552=?|*2}{70=?|*2}{71=?|*2}{53=?|*2}{124=?|*2}{78=?|*2}{710=?|*2}{724=?|*2}{1=?|*2} -> E1 reverses 16000000
+|755=16000000| by | -> 755: 1
+|755=16000000| by |755=16000000|755=16000000| -> 755: 13
+|755=16000000| by |755=0| -> 755: 5
+|755=16000000| by |755=16000001| -> 755: 5
+|755=16000000| by |755=-5| -> 755: 6
+|87=7| by | -> 87: 1
+|87=7| by |87=7|87=7| -> 87: 13
+|87=7| by |87=3| -> 87: 5
+|87=7| by |87=4| -> 87: 5
+|87=7| by |87=8| -> 87: 5
+|87=7| by |87=x| -> 87: 6
+";
+
+/// RequestForPositions (AN): 710 id, 724 (0), 1 name.
+const REQUEST_FOR_POSITIONS: &str =
+    "8=FIXT.1.1|9=100|10=000|49=E1|56=GIVEUP|34=2|52=x|9999=a|9999=b|35=AN|710=Q1|724=0|1=A1|";
+
+/// Its forms.
+const REQUEST_FOR_POSITIONS_FORMS: &str = "\
+|52=x| by |52=x| -> E1 asks for the positions of A1
+|52=x| by |52=x|{112=?|*2}{7=?|*2}{16=?|*2}{123=?|*2}{36=?|*2}{98=?|*2}{108=?|*2}{1137=?|*2}{141=?|*2}{571=?|*2}{487=?|*2}{856=?|*2}{880=?|*2}{55=?|*2}{32=?|*2}{31=?|*2}{75=?|*2}{552=?|*2}{70=?|*2}{71=?|*2}{53=?|*2}{124=?|*2}{78=?|*2}{755=?|*2}{87=?|*2} -> E1 asks for the positions of A1
+|710=Q1| by | -> 710: 1
+|710=Q1| by |710=Q1|710=Q1| -> 710: 13
+|710=Q1| by |710=R 1| -> 710: 5
+|710=Q1| by |710=\x7f| -> 710: 5
+|724=0| by | -> 724: 1
+|724=0| by |724=0|724=0| -> 724: 13
+|724=0| by |724=1| -> 724: 5
+|724=0| by |724=-0| -> 724: 6
+|1=A1| by | -> 1: 1
+|1=A1| by |1=A1|1=A1| -> 1: 13
+|1=A1| by |1=a| -> 1: 5
+|1=A1| by |1=ABCDEFGHIJKLM| -> 1: 5
+";
 
 #[test]
 fn each_tag_is_read_as_the_table_of_messages_says(rt: HostRuntime) {
-    for block in MESSAGES.split("\n\n") {
-        check_block(&rt, rt.alloc(), block);
-    }
+    let alloc = rt.alloc();
+    check(&rt, alloc, Subject::Reading(HEARTBEAT), HEARTBEAT_FORMS);
+    check(
+        &rt,
+        alloc,
+        Subject::Reading(TEST_REQUEST),
+        TEST_REQUEST_FORMS,
+    );
+    check(
+        &rt,
+        alloc,
+        Subject::Reading(RESEND_REQUEST),
+        RESEND_REQUEST_FORMS,
+    );
+    check(&rt, alloc, Subject::Reading(REJECT), REJECT_FORMS);
+    check(
+        &rt,
+        alloc,
+        Subject::Reading(SEQUENCE_RESET),
+        SEQUENCE_RESET_FORMS,
+    );
+    check(&rt, alloc, Subject::Reading(LOGON), LOGON_FORMS);
+    check(
+        &rt,
+        alloc,
+        Subject::Reading(TRADE_CAPTURE_REPORT),
+        TRADE_CAPTURE_REPORT_FORMS,
+    );
+    check(
+        &rt,
+        alloc,
+        Subject::Reading(ALLOCATION_INSTRUCTION),
+        ALLOCATION_INSTRUCTION_FORMS,
+    );
+    check(
+        &rt,
+        alloc,
+        Subject::Reading(ALLOCATION_REPORT_ACK),
+        ALLOCATION_REPORT_ACK_FORMS,
+    );
+    check(
+        &rt,
+        alloc,
+        Subject::Reading(REQUEST_FOR_POSITIONS),
+        REQUEST_FOR_POSITIONS_FORMS,
+    );
 }

@@ -1,29 +1,45 @@
 //! Takes of many offers.
+use crate::rows::{Subject, check, number};
 use gu_terms::{OfferNo, Takes};
-use std::alloc::Global;
+use std::alloc::{AllocError, Global};
 
-/// How many takes were new of the offers from 1 to 4,096, the last one first where they fall.
-fn add_all(takes: &mut Takes, falls: bool) -> Option<usize> {
-    let mut added: usize = 0;
-    for place in 0..4_096 {
-        let offer = OfferNo::new(if falls { 4_096 - place } else { place + 1 })?;
-        if takes.add(offer, 1).ok()? {
+/// Adds a take of an offer, at the second try where the first is refused, and answers whether it was new.
+fn add(takes: &mut Takes, number: u64) -> Option<bool> {
+    let offer = OfferNo::new(number)?;
+    match takes.add(offer, 1) {
+        Ok(is_new) => Some(is_new),
+        Err(_) => takes.add(offer, 1).ok(),
+    }
+}
+
+/// How many takes were new of so many offers, the last one first where they fall.
+fn add_all(takes: &mut Takes, count: u64, falls: bool) -> u64 {
+    let mut added: u64 = 0;
+    for place in 0..count {
+        let number = if falls { count - place } else { place + 1 };
+        if add(takes, number) == Some(true) {
             added = added.saturating_add(1);
         }
     }
-    Some(added)
+    added
 }
 
 /// How many takes were new, how many were new of the same offers once more, and how many a copy has.
-fn counts(alloc: Global) -> Option<(usize, usize, usize)> {
+pub fn told(alloc: Global, count: &str) -> Result<String, AllocError> {
     let mut takes = Takes::new(alloc);
-    let first = add_all(&mut takes, true)?;
-    let again = add_all(&mut takes, false)?;
-    Some((first, again, takes.copy().ok()?.as_slice().len()))
+    let first = add_all(&mut takes, number(count), true);
+    let again = add_all(&mut takes, number(count), false);
+    let copy = takes.copy()?;
+    format!(in alloc; "{first} {again} {}", copy.as_slice().len())
 }
 
 /// A sweep looks at 4,096 offers at most.
+const COUNTS: &str = "\
+20 -> 20 0 20
+4096 -> 4096 0 4096
+";
+
 #[test]
 fn takes_of_4_096_offers_are_added_whatever_their_order(rt: HostRuntime) {
-    assert_eq!(rt; counts(rt.alloc()), Some((4_096, 0, 4_096)));
+    check(&rt, rt.alloc(), Subject::Takes, COUNTS);
 }

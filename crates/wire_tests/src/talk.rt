@@ -1,17 +1,18 @@
-//! A firm's conversation with its session, line by line. A line is one of these; `|` ends a field.
+//! A firm's conversations with its session, line by line. A line is one of these; `|` ends a field, and `{x*9}` is nine times x.
 //!
+//! - `new name`: another session begins, and another conversation, which shows what its name says
 //! - `now 09:00:30.000`: the clock, on 2026-01-05
 //! - `in T N fields`: a message of type T and number N comes from E1 to the house; `body fields`: one with these fields
 //! - `answer word`: the answer to what was handed out last; `notice matched`, `notice offered`; `tick`; `end`
-//! - `out T N fields`: the session sends a message of type T and number N to E1, now; `again N time T fields`: once more, first
-//!   sent at that time; `sent text`: these very bytes
+//! - `out T N fields`: the session sends a message of type T and number N to E1, now; `sent text`: these very bytes
 //! - `hand text`: it hands this out; `close`: it ends
 //! - `firm name`: this firm is logged on
-//! - `new`: another session begins
-use crate::bodies::{body_again, body_in, body_out, frame_of, message_of};
-use crate::messages::wire;
-use crate::words::{notice_of, outcome_of, request_text};
-use crate::writing::{Values, sample};
+//! - `each 2 9 lines`: the lines, which `; ` parts, for each number from 2 to 9 in the place of `#`
+use crate::bodies::{message_at, message_of};
+use crate::messages::{frame_in, shown};
+use crate::requests::request_text;
+use crate::rows::{first_word, number};
+use crate::words::{Values, notice_of, outcome_of, sample};
 use gu_session::{AskRef, Input, Output, Session};
 use gu_terms::{FirmId, Moment, Side};
 use std::alloc::{AllocError, Global};
@@ -43,55 +44,69 @@ impl Drop for Talk {
     }
 }
 
-/// The number that a part of a time writes.
-fn part(text: &str) -> u64 {
-    text.parse().unwrap_or(0)
-}
-
 /// The moment of a time of 2026-01-05.
 fn moment_of(time: &str) -> Option<Moment> {
     let (clock, millis) = time.split_once('.')?;
     let (hours, rest) = clock.split_once(':')?;
     let (minutes, seconds) = rest.split_once(':')?;
-    let minutes = part(hours).saturating_mul(60).saturating_add(part(minutes));
-    let seconds = minutes.saturating_mul(60).saturating_add(part(seconds));
-    let millis = seconds.saturating_mul(1000).saturating_add(part(millis));
+    let minutes = number(hours)
+        .saturating_mul(60)
+        .saturating_add(number(minutes));
+    let seconds = minutes.saturating_mul(60).saturating_add(number(seconds));
+    let millis = seconds.saturating_mul(1000).saturating_add(number(millis));
     Moment::new(millis.saturating_add(1_767_571_200_000))
 }
 
+/// A whole message as an input.
+fn framed(alloc: Global, message: String) -> Result<Option<Input>, AllocError> {
+    let frame = frame_in(alloc, message.as_str())?;
+    Ok(Some(Input::Frame(frame)))
+}
+
 impl Talk {
-    /// A conversation with a session in which these firms may log on.
-    fn new(alloc: Global, values: Values, other: FirmId) -> Result<Talk, AllocError> {
+    /// A conversation at nine in which E1 and E2 may log on.
+    fn new(alloc: Global) -> Result<Option<Talk>, AllocError> {
+        let (Some(values), Some(other)) = (sample(), FirmId::new(b"E2")) else {
+            return Ok(None);
+        };
         let firms = Vec::from_slice(alloc, &[other, values.firm])?;
-        Ok(Talk {
+        Ok(Some(Talk {
             session: Session::new(alloc, firms),
             values,
             time: "09:00:00.000",
             now: values.nine,
             given: Vec::new(alloc),
             asked: None,
-        })
+        }))
+    }
+
+    /// Sets the clock.
+    fn set_clock(&mut self, time: &'static str) {
+        if let Some(now) = moment_of(time) {
+            self.time = time;
+            self.now = now;
+        }
+    }
+
+    /// The answer to what was handed out last.
+    fn answer(&self, alloc: Global, text: &str) -> Result<Option<Input>, AllocError> {
+        let Some(reference) = self.asked else {
+            return Ok(None);
+        };
+        let outcome = outcome_of(alloc, &self.values, text)?;
+        Ok(Some(Input::Answer(reference, outcome)))
     }
 
     /// The input of a line, where it has one.
     fn input(&self, alloc: Global, word: &str, text: &str) -> Result<Option<Input>, AllocError> {
         match word {
-            "in" => {
-                let body = body_in(alloc, text)?;
-                Ok(Some(Input::Frame(frame_of(alloc, &body)?)))
-            }
-            "body" => Ok(Some(Input::Frame(frame_of(alloc, text)?))),
-            "notice" => {
-                let notice = notice_of(&self.values, Side::Buy, text);
-                Ok(notice.map(Input::Notice))
-            }
-            "answer" => {
-                let Some(reference) = self.asked else {
-                    return Ok(None);
-                };
-                let outcome = outcome_of(alloc, &self.values, text)?;
-                Ok(Some(Input::Answer(reference, outcome)))
-            }
+            "in" => framed(
+                alloc,
+                message_at(alloc, "49=E1|56=GIVEUP", "09:00:00", text)?,
+            ),
+            "body" => framed(alloc, message_of(alloc, text)?),
+            "notice" => Ok(notice_of(&self.values, Side::Buy, text).map(Input::Notice)),
+            "answer" => self.answer(alloc, text),
             "tick" => Ok(Some(Input::Tick)),
             "end" => Ok(Some(Input::End)),
             _ => Ok(None),
@@ -107,44 +122,33 @@ impl Talk {
         Ok(is_due)
     }
 
-    /// Whether the session sends this message next.
-    fn sends(&mut self, alloc: Global, body: &str) -> Result<bool, AllocError> {
-        let message = message_of(alloc, body)?;
-        self.sends_bytes(message.as_bytes())
-    }
-
-    /// Whether the session sends these bytes next.
-    fn sends_bytes(&mut self, bytes: &[u8]) -> Result<bool, AllocError> {
-        match self.given.pop() {
-            Some(Output::Send(given)) => Ok(given.as_slice() == bytes),
-            _ => Ok(false),
-        }
-    }
-
-    /// What the session hands out next, in words, and its reference.
-    fn handed(&self, alloc: Global) -> Result<Option<(String, AskRef)>, AllocError> {
+    /// What the session gives next, as a text.
+    fn told(&self, alloc: Global) -> Result<String, AllocError> {
         match self.given.last() {
-            Some(Output::Hand(asked)) => {
-                let text = request_text(alloc, &asked.what)?;
-                Ok(Some((text, asked.reference)))
-            }
-            _ => Ok(None),
+            Some(Output::Send(bytes)) => shown(alloc, bytes),
+            Some(Output::Hand(asked)) => request_text(alloc, &asked.what),
+            Some(Output::Close) => String::from_str(alloc, "the end"),
+            None => String::from_str(alloc, "nothing"),
         }
     }
 
-    /// Whether the session hands this out next.
-    fn hands(&mut self, alloc: Global, text: &str) -> Result<bool, AllocError> {
-        let Some((told, reference)) = self.handed(alloc)? else {
-            return Ok(false);
+    /// The same by what a line says.
+    fn expected(&self, alloc: Global, word: &str, text: &str) -> Result<String, AllocError> {
+        let text = match word {
+            "out" => return message_at(alloc, "49=GIVEUP|56=E1", self.time, text),
+            "sent" | "hand" => text,
+            "close" => "the end",
+            _ => "no such line",
         };
-        let _ = self.given.pop();
-        self.asked = Some(reference);
-        Ok(told.as_str() == text)
+        String::from_str(alloc, text)
     }
 
-    /// Whether the session ends next.
-    fn closes(&mut self) -> bool {
-        matches!(self.given.pop(), Some(Output::Close))
+    /// Passes over what the session gives next.
+    fn pass(&mut self) {
+        if let Some(Output::Hand(asked)) = self.given.last() {
+            self.asked = Some(asked.reference);
+        }
+        let _ = self.given.pop();
     }
 
     /// Whether this firm is logged on.
@@ -155,100 +159,81 @@ impl Talk {
         }
     }
 
-    /// Sets the clock.
-    fn set_clock(&mut self, time: &'static str) -> bool {
-        match moment_of(time) {
-            Some(now) => {
-                self.time = time;
-                self.now = now;
-                true
-            }
-            None => false,
-        }
+    /// Whether the session gives next what a line says.
+    fn gives(&mut self, alloc: Global, word: &str, text: &str) -> Result<bool, AllocError> {
+        let expected = self.expected(alloc, word, text)?;
+        let told = self.told(alloc)?;
+        self.pass();
+        Ok(told.as_str() == expected.as_str())
     }
 
-    /// Whether a line without an input is right.
-    fn is_right(
-        &mut self,
-        alloc: Global,
-        word: &str,
-        text: &'static str,
-    ) -> Result<bool, AllocError> {
+    /// Whether a line is right; behind `done` nothing is left that the session gave.
+    fn take(&mut self, alloc: Global, line: &str) -> Result<bool, AllocError> {
+        let (word, text) = first_word(line);
+        if let Some(input) = self.input(alloc, word, text)? {
+            return self.give(input);
+        }
         match word {
-            "now" => Ok(self.set_clock(text)),
-            "out" => {
-                let body = body_out(alloc, self.time, text)?;
-                self.sends(alloc, &body)
-            }
-            "again" => {
-                let body = body_again(alloc, self.time, text)?;
-                self.sends(alloc, &body)
-            }
-            "sent" => {
-                let bytes = wire(alloc, text)?;
-                self.sends_bytes(bytes.as_bytes())
-            }
-            "hand" => self.hands(alloc, text),
-            "close" => Ok(self.closes()),
             "firm" => Ok(self.is_firm(text)),
-            _ => Ok(false),
+            "done" => Ok(self.given.is_empty()),
+            _ => self.gives(alloc, word, text),
         }
-    }
-
-    /// Whether a line is right.
-    fn take(&mut self, alloc: Global, line: &'static str) -> Result<bool, AllocError> {
-        let (word, text) = line.split_once(' ').unwrap_or((line, ""));
-        match self.input(alloc, word, text)? {
-            Some(input) => self.give(input),
-            None => self.is_right(alloc, word, text),
-        }
-    }
-
-    /// Whether a line is right, at the second try where the first is refused memory.
-    fn take_again(&mut self, alloc: Global, line: &'static str) -> Result<bool, AllocError> {
-        match self.take(alloc, line) {
-            Ok(is_right) => Ok(is_right),
-            Err(_) => self.take(alloc, line),
-        }
-    }
-
-    /// Whether nothing that the session gave is left.
-    fn is_told(&self) -> bool {
-        self.given.is_empty()
     }
 }
 
-/// A conversation at nine in which E1 and E2 may log on.
-fn at_nine(rt: &impl Abort, alloc: Global) -> Result<Talk, AllocError> {
-    let values = sample().expect(rt, "a sample");
-    let other = FirmId::new(b"E2").expect(rt, "a firm");
-    Talk::new(alloc, values, other)
-}
-
-/// The same, at the second try where the first is refused memory.
+/// A conversation at nine, at the second try where the first is refused memory.
 fn begin(rt: &impl Abort, alloc: Global) -> Talk {
-    match at_nine(rt, alloc) {
+    let talk = match Talk::new(alloc) {
         Ok(talk) => talk,
-        Err(_) => at_nine(rt, alloc).expect(rt, "memory"),
-    }
+        Err(_) => Talk::new(alloc).expect(rt, "memory"),
+    };
+    talk.expect(rt, "a sample")
 }
 
 /// Asserts that a line is right. One that is refused memory is tried once more.
-fn check_line(rt: &impl Abort, alloc: Global, talk: &mut Talk, line: &'static str) {
-    let is_right = talk.take_again(alloc, line).expect(rt, "memory");
-    assert!(rt; is_right, "{line}");
+fn check_line(rt: &impl Abort, alloc: Global, talk: &mut Talk, name: &str, line: &str) {
+    let is_right = match talk.take(alloc, line) {
+        Ok(is_right) => is_right,
+        Err(_) => talk.take(alloc, line).expect(rt, "memory"),
+    };
+    assert!(rt; is_right, "{line} of: {name}");
 }
 
-/// Asserts that each line of conversations is right, and that nothing is left at the end of each.
-pub fn follow(rt: &impl Abort, alloc: Global, lines: &'static str) {
-    let mut talk = begin(rt, alloc);
-    for line in lines.lines() {
-        if line == "new" {
-            assert!(rt; talk.is_told(), "something is left");
-            talk = begin(rt, alloc);
-        } else {
-            check_line(rt, alloc, &mut talk, line);
+/// Lines with a number in the place of `#`.
+fn lines_with(alloc: Global, lines: &str, number: u64) -> Result<String, AllocError> {
+    let number = format!(in alloc; "{number}")?;
+    lines.replace(alloc, "#", number.as_str())
+}
+
+/// Asserts that lines are right for each of their numbers.
+fn check_each(rt: &impl Abort, alloc: Global, talk: &mut Talk, name: &str, text: &str) {
+    let (first, rest) = first_word(text);
+    let (last, lines) = first_word(rest);
+    for place in number(first)..number(last).saturating_add(1) {
+        let lines = lines_with(alloc, lines, place).expect(rt, "memory");
+        for line in lines.as_str().split("; ") {
+            check_line(rt, alloc, talk, name, line);
         }
     }
-    assert!(rt; talk.is_told(), "something is left");
+}
+
+/// Asserts that each line of a conversation is right behind its name, and that nothing is left at its end.
+fn follow_one(rt: &impl Abort, alloc: Global, talk: &'static str) {
+    let (name, lines) = talk.split_once('\n').unwrap_or((talk, ""));
+    let mut talk = begin(rt, alloc);
+    for line in lines.lines() {
+        match first_word(line) {
+            ("now", time) => talk.set_clock(time),
+            ("each", text) => check_each(rt, alloc, &mut talk, name, text),
+            _ => check_line(rt, alloc, &mut talk, name, line),
+        }
+    }
+    check_line(rt, alloc, &mut talk, name, "done");
+}
+
+/// Asserts that each line of conversations is right.
+pub fn follow(rt: &impl Abort, alloc: Global, talks: &'static str) {
+    for talk in talks.split("\nnew ") {
+        follow_one(rt, alloc, talk);
+    }
 }

@@ -1,35 +1,45 @@
-//! What a session hands out, in words, and outcomes and notices by theirs.
-use crate::rows::first_word;
-use crate::writing::Values;
-use gu_msgs::{Rejection, Request};
+//! The values that messages here say, and notices, replies, outcomes and positions by their words.
+use crate::rows::{first_word, number};
+use gu_msgs::Rejection;
 use gu_session::{Failure, Outcome};
 use gu_terms::{
-    AgreementId, AllocReject, Command, Day, Done, Group, LimitKey, Notice, OfferEvent, OfferNotice,
-    PositionRow, PositionRows, Query, Refusal, Reply, Report, Side,
+    AccountId, AgreementId, AllocReject, Day, Done, FirmId, Group, Id, LimitKey, Lots, Moment,
+    Notice, OfferEvent, OfferNo, OfferNotice, PositionRow, PositionRows, Price, Refusal, Reply,
+    Report, Side, Symbol,
 };
 use std::alloc::{AllocError, Global};
 
-/// What a command asks for, in words.
-fn command_text(alloc: Global, command: &Command) -> Result<String, AllocError> {
-    match command {
-        Command::ReportSide { .. } => String::from_str(alloc, "report"),
-        Command::GiveUp { .. } => String::from_str(alloc, "give-up"),
-        Command::Claim { offer, .. } => format!(in alloc; "claim {}", offer.get()),
-        Command::Refuse { offer, why, .. } => {
-            format!(in alloc; "refuse {} {}", offer.get(), why.number())
-        }
-        Command::Reverse { offer, .. } => format!(in alloc; "reverse {}", offer.get()),
-        _ => String::from_str(alloc, "another command"),
-    }
+/// The values that the messages here say.
+#[derive(Clone, Copy)]
+pub struct Values {
+    pub firm: FirmId,
+    pub nine: Moment,
+    pub id: Id,
+    pub match_id: Id,
+    pub account: AccountId,
+    pub symbol: Symbol,
+    pub lots: Lots,
+    pub price: Price,
+    pub day: Day,
+    pub offer: OfferNo,
+    pub group: Group,
 }
 
-/// What is asked for, in words.
-pub fn request_text(alloc: Global, request: &Request) -> Result<String, AllocError> {
-    match request {
-        Request::Enter(command) => command_text(alloc, command),
-        Request::Ask(Query::Positions { .. }) => String::from_str(alloc, "positions"),
-        Request::Ask(_) => String::from_str(alloc, "another question"),
-    }
+/// Firm E1, nine o'clock of 2026-01-05, id R1, match M1, account A1, ten lots of XF6 at 101.5, offer 1, and group G1.
+pub fn sample() -> Option<Values> {
+    Some(Values {
+        firm: FirmId::new(b"E1")?,
+        nine: Moment::new(1_767_603_600_000)?,
+        id: Id::new(b"R1")?,
+        match_id: Id::new(b"M1")?,
+        account: AccountId::new(b"A1")?,
+        symbol: Symbol::new(b"XF6")?,
+        lots: Lots::new(10)?,
+        price: Price::new(101_500_000)?,
+        day: Day::new(2026, 1, 5)?,
+        offer: OfferNo::new(1)?,
+        group: Group::new(b"G1")?,
+    })
 }
 
 /// A side by its word.
@@ -93,16 +103,18 @@ pub fn notice_of(w: &Values, side: Side, words: &str) -> Option<Notice> {
     Some(offered(w, side, event_of(words)?))
 }
 
-/// So many lots done, by the word of what was done.
-pub fn done_of(w: &Values, word: &str) -> Option<Done> {
-    let lots = w.lots;
+/// What was done, by its word; behind it stands how many offers or lots there are, ten lots where no number does.
+fn done_of(w: &Values, words: &str) -> Option<Done> {
+    let (word, count) = first_word(words);
+    let count = number(count);
+    let lots = Lots::new(count).unwrap_or(w.lots);
     match word {
         "open" => Some(Done::Reported { matched: false }),
         "matched" => Some(Done::Reported { matched: true }),
         "offered" => Some(Done::Offered {
-            group: Group::new(b"G1")?,
+            group: w.group,
             first: w.offer,
-            count: 1,
+            count,
         }),
         "claimed" => Some(Done::Claimed { lots }),
         "refused" => Some(Done::Refused { lots }),
@@ -144,6 +156,14 @@ fn refusal_of(w: &Values, words: &str) -> Option<Refusal> {
     }
 }
 
+/// A reply by its words.
+pub fn reply_of(w: &Values, words: &str) -> Option<Reply> {
+    match done_of(w, words) {
+        Some(done) => Some(Reply::Accepted(done)),
+        None => Some(Reply::Denied(refusal_of(w, words)?)),
+    }
+}
+
 /// Why something isn't in the book, by its words. Other words say that it is.
 pub fn rejection_of(w: &Values, words: &str) -> Option<Rejection> {
     match words {
@@ -153,37 +173,33 @@ pub fn rejection_of(w: &Values, words: &str) -> Option<Rejection> {
     }
 }
 
-/// Ten lots long on this day or on none, in so many instruments.
-pub fn rows_of(
-    alloc: Global,
-    w: &Values,
-    day: Option<Day>,
-    count: usize,
-) -> Result<PositionRows, AllocError> {
+/// Ten lots long in so many instruments, on an open day or a closed one, by their words. Other words are no answer.
+pub fn rows_of(alloc: Global, w: &Values, words: &str) -> Result<Option<PositionRows>, AllocError> {
+    let (word, count) = first_word(words);
+    let day = match word {
+        "rows" => Some(w.day),
+        "closed" => None,
+        _ => return Ok(None),
+    };
     let mut rows = Vec::new(alloc);
-    for _ in 0..count {
+    for _ in 0..number(count) {
         rows.push(PositionRow {
             symbol: w.symbol,
             long: w.lots.get(),
             short: 0,
         })?;
     }
-    Ok(PositionRows { day, rows })
+    Ok(Some(PositionRows { day, rows }))
 }
 
-/// An outcome by its word: what was done, why it wasn't, or positions.
-pub fn outcome_of(alloc: Global, w: &Values, word: &str) -> Result<Outcome, AllocError> {
-    if let Some(done) = done_of(w, word) {
-        return Ok(Outcome::Replied(Reply::Accepted(done)));
+/// An outcome by its words: what was done, why it wasn't, or positions.
+pub fn outcome_of(alloc: Global, w: &Values, words: &str) -> Result<Outcome, AllocError> {
+    if let Some(reply) = reply_of(w, words) {
+        return Ok(Outcome::Replied(reply));
     }
-    if let Some(refusal) = refusal_of(w, word) {
-        return Ok(Outcome::Replied(Reply::Denied(refusal)));
-    }
-    match word {
+    match words {
         "Memory" => Ok(Outcome::Failed(Failure::Memory)),
         "Full" => Ok(Outcome::Failed(Failure::Full)),
-        "rows" => Ok(Outcome::Positions(Some(rows_of(alloc, w, Some(w.day), 1)?))),
-        "empty" => Ok(Outcome::Positions(Some(rows_of(alloc, w, Some(w.day), 0)?))),
-        _ => Ok(Outcome::Positions(None)),
+        _ => Ok(Outcome::Positions(rows_of(alloc, w, words)?)),
     }
 }
