@@ -4,11 +4,16 @@ use Rattle.std.specs.Option.{option_and_then, option_map}
 use Rattle.std.specs.Prelude.{find, slice_get}
 use Rattle.std.proofs.lemmas.Option.{slice_get-map}
 use Rattle.std.specs.Prelude.{IfOk}
-use Rattle.clap.specs.Words.{AddsArg, AddsSubcommand, App, Row, Rule, Shape, Text, app_of, first_of, new_app, rule_of, shape_of, takes, with_rule, with_subcommand}
+use Rattle.clap.specs.Words.{AddsArg, AddsSubcommand, App, Row, Rule, Shape, Text, app_of, first_of, is_simple_and_free, new_app, rule_of, shape_of, takes, with_rule, with_subcommand}
 use Rattle.clap.specs.declared.builder.arg.Arg.{Arg}
 use Rattle.clap.specs.declared.builder.command.Command.{Command}
 use Rattle.clap.proofs.OnLiterals.{clap_on_literals}
 use Rattle.giveup.specs.ProgramWords.{Captures, Checks, Fixes, Replays, check_shape, fix_shape, needed, program, replay_shape, wanted_by, wanted_in, wanted_of_command, word_in}
+
+-- the program is one whose words clap tells in full
+pub simple-program : is_simple_and_free program ≡ true
+unfolding clap_on_literals
+simple-program = refl
 
 -- the program's name alone is taken
 pub takes-name : (name : List ℕ) → takes program (name ∷ []) ≡ true

@@ -1,17 +1,19 @@
 //! The program of the give-up clearing house.
 #![tactic(auto)]
 
-#[cfg(test)]
-mod capture_tests;
 mod capturing;
 #[cfg(test)]
 mod check_tests;
 mod checking;
 mod clock;
 mod connection;
+#[cfg(test)]
+mod engines;
 mod error;
 #[cfg(test)]
 mod error_tests;
+#[cfg(test)]
+mod exchanges;
 #[cfg(test)]
 mod fix_stream_tests;
 #[cfg(test)]
@@ -22,16 +24,18 @@ mod input;
 #[cfg(test)]
 mod largest_tests;
 mod laws;
+#[cfg(test)]
+mod memory_tests;
 mod position_lines;
 mod progress;
 #[cfg(test)]
 mod progress_tests;
 mod questions;
 #[cfg(test)]
-mod replay_stream_tests;
-#[cfg(test)]
 mod replay_tests;
 mod replaying;
+#[cfg(test)]
+mod rows;
 mod sample;
 #[cfg(test)]
 mod sample_tests;
@@ -41,9 +45,15 @@ mod serving;
 mod status;
 mod stepping;
 #[cfg(test)]
+mod stream_tests;
+#[cfg(test)]
 mod streams;
 #[cfg(test)]
 mod talks;
+#[cfg(test)]
+mod terms;
+#[cfg(test)]
+mod transcripts;
 #[cfg(test)]
 mod word_tests;
 mod words;
@@ -152,6 +162,15 @@ fn run_replay<R: Input + Print + Files + Alloc<A = Global>, T: Write + Drop>(
     Ok(Status::Done)
 }
 
+/// The file of a path.
+fn file_at<R: Files>(rt: &R, path: &str) -> Result<R::File, EngineError> {
+    match File::open(rt, path) {
+        Ok(file) => Ok(file),
+        Err(error) if error.kind() == io::ErrorKind::OutOfMemory => Err(EngineError::Memory),
+        Err(_) => Err(EngineError::Read),
+    }
+}
+
 /// The book that the script of a file leads to, or one without entries.
 fn book_behind<R: Files + Alloc<A = Global>>(
     rt: &R,
@@ -161,10 +180,12 @@ fn book_behind<R: Files + Alloc<A = Global>>(
     let Some(path) = script else {
         return Ok(Book::new(rt.alloc(), reference));
     };
-    match File::open(rt, path) {
+    match file_at(rt, path) {
         Ok(file) => played(rt.alloc(), reference, &mut CountedReads::new(file)),
-        Err(error) if error.kind() == io::ErrorKind::OutOfMemory => Err(EngineError::Memory),
-        Err(_) => Err(EngineError::Read),
+        Err(error) => {
+            drop(reference);
+            Err(error)
+        }
     }
 }
 
@@ -187,9 +208,9 @@ fn run_fix<R: Input + Print + Files + Clock + Alloc<A = Global>>(
 
 /// The reference of a file.
 fn reference_at<R: Files + Alloc<A = Global>>(rt: &R, path: &str) -> Result<Reference, RefFault> {
-    match File::open(rt, path) {
+    match file_at(rt, path) {
         Ok(file) => Reference::read(rt.alloc(), &mut CountedReads::new(file)),
-        Err(error) if error.kind() == io::ErrorKind::OutOfMemory => Err(RefFault::Memory),
+        Err(EngineError::Memory) => Err(RefFault::Memory),
         Err(_) => Err(RefFault::ReadFault),
     }
 }

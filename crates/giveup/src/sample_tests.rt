@@ -2,34 +2,29 @@
 
 use crate::sample::{ROWS, sample_day};
 
+/// Its rows, each with its end.
+const TYPED: &str = "\
+FIRM,E1
+FIRM,E2
+FIRM,C1
+FIRM,C2
+GROUP,G1
+GROUP,G2
+INSTRUMENT,XF6,G1
+INSTRUMENT,YF6,G2
+ACCOUNT,H1,E1
+ACCOUNT,H2,E2
+ACCOUNT,A1,C1
+ACCOUNT,A2,C1
+ACCOUNT,A3,C2
+AGREEMENT,P1,E1,A1
+AGREEMENT,P2,E1,A2
+AGREEMENT,P3,E2,A1
+AGREEMENT,P4,E2,A3
+";
+
 #[test]
 fn the_sample_is_seventeen_rows_and_a_monday(rt: HostRuntime) {
-    let rows = [
-        "FIRM,E1",
-        "FIRM,E2",
-        "FIRM,C1",
-        "FIRM,C2",
-        "GROUP,G1",
-        "GROUP,G2",
-        "INSTRUMENT,XF6,G1",
-        "INSTRUMENT,YF6,G2",
-        "ACCOUNT,H1,E1",
-        "ACCOUNT,H2,E2",
-        "ACCOUNT,A1,C1",
-        "ACCOUNT,A2,C1",
-        "ACCOUNT,A3,C2",
-        "AGREEMENT,P1,E1,A1",
-        "AGREEMENT,P2,E1,A2",
-        "AGREEMENT,P3,E2,A1",
-        "AGREEMENT,P4,E2,A3",
-    ];
-    let mut rest = ROWS;
-    for row in rows {
-        assert!(rt; rest.starts_with(row.as_bytes()), "{row}");
-        rest = rest.get(row.len()..).unwrap_or(&[]);
-        assert!(rt; rest.starts_with(b"\n"), "{row}");
-        rest = rest.get(1..).unwrap_or(&[]);
-    }
-    assert!(rt; rest.is_empty());
+    assert_eq!(rt; str::from_utf8(ROWS).unwrap_or("?"), TYPED);
     assert!(rt; sample_day().get() == (2026, 1, 5));
 }

@@ -80,16 +80,20 @@ impl Script {
     }
 
     /// Does what the line says that the rest was, which is done with it.
-    fn answer(&mut self, said: &Option<Line>, output: &mut Vec<u8>) -> Result<(), AllocError>
+    fn answer(&mut self, said: Option<Line>, output: &mut Vec<u8>) -> Result<(), AllocError>
         requires { self.old.count + 1 < 2 ^ 64 }
-        ensures told { OnOk result (TellsSaid self.old.state said.now output.old.items self.new.state output.new.items) }
+        ensures told { OnOk result (TellsSaid self.old.state said output.old.items self.new.state output.new.items) }
         ensures counted { self.new.count ≡ self.old.count + 1 }
         ensures done { self.new.rest ≡ [] }
     {
         self.count += 1;
         self.rest.clear();
         match said {
-            Some(said) => answer_line(&mut self.world, said, output),
+            Some(said) => {
+                let answered = answer_line(&mut self.world, &said, output);
+                drop(said);
+                answered
+            }
             None => Ok(()),
         }
     }
@@ -107,7 +111,7 @@ impl Script {
     {
         self.rest.extend_from_slice(front)?;
         let said = Line::read(self.alloc, without_return(&self.rest), self.count + 1)?;
-        self.answer(&said, output)?;
+        self.answer(said, output)?;
         Ok(())
     }
 
@@ -149,7 +153,7 @@ impl Script {
             return Ok(());
         }
         let said = Line::read(self.alloc, &self.rest, self.count + 1)?;
-        self.answer(&said, output)?;
+        self.answer(said, output)?;
         Ok(())
     }
 

@@ -3,26 +3,37 @@
 use std::alloc::{AllocError, Global};
 use std::io::{self, Read, Write};
 
-/// The bytes of a text.
-pub fn wire(alloc: Global, text: &str) -> Result<Vec<u8>, AllocError> {
-    let mut bytes = Vec::new(alloc);
-    for byte in text.bytes() {
-        bytes.push(match byte {
-            b'|' => 1,
-            b'/' => b'\n',
-            byte => byte,
-        })?;
-    }
-    Ok(bytes)
+/// What a text is on the wire.
+pub fn wire(alloc: Global, text: &str) -> Result<String, AllocError> {
+    text.replace(alloc, "|", "\x01")?.replace(alloc, "/", "\n")
 }
 
-/// Gives its bytes in a first piece and then in pieces of one size, and fails once it has no read left.
+/// What bytes on the wire are as a text.
+pub fn shown(alloc: Global, bytes: &[u8]) -> Result<String, AllocError> {
+    let text = str::from_utf8(bytes).unwrap_or("?");
+    text.replace(alloc, "\x01", "|")?.replace(alloc, "\n", "/")
+}
+
+/// Gives its bytes in pieces of these lengths, and the rest in pieces of one length; it fails once it has no read left.
 #[derive(Drop)]
 pub struct Source<'a> {
     pub bytes: &'a [u8],
-    pub first: usize,
-    pub piece: usize,
+    pub lengths: &'a [usize],
+    pub later: usize,
     pub reads: usize,
+}
+
+impl Source<'_> {
+    /// How many bytes the next read gives at most.
+    fn next_length(&mut self) -> usize {
+        match self.lengths {
+            [length, later @ ..] => {
+                self.lengths = later;
+                *length
+            }
+            [] => self.later,
+        }
+    }
 }
 
 impl Read for Source<'_> {
@@ -31,10 +42,10 @@ impl Read for Source<'_> {
             return Err(io::Error::from(io::ErrorKind::BrokenPipe));
         }
         self.reads -= 1;
-        let count = self.first.min(self.bytes.len()).min(buf.len());
+        let length = self.next_length();
+        let count = length.min(self.bytes.len()).min(buf.len());
         buf[..count].copy_from_slice(&self.bytes[..count]);
         self.bytes = &self.bytes[count..];
-        self.first = self.piece;
         Ok(count)
     }
 }

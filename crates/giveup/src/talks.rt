@@ -1,178 +1,178 @@
-//! A connection line by line, on 2026-01-05. A line is one of these; `|` ends a field.
+//! A firm's connection line by line, on 2026-01-05. A line is one of these; `|` ends a field.
 //!
 //! - `clock 09:00:30.000`: the time of the reads that follow; at first it is nine
-//! - `in T N fields`: a read of one message, of type T and number N, from the firm to the house; `in body fields`: of one with
-//!   these very fields
+//! - `in T N fields`: a read of one message, of type T and number N, from the firm to the house
 //! - `and T N fields`: a further message in the same read
 //! - `raw text`: a read of these bytes
-//! - `out T N fields`: a message of type T and number N is sent to the firm at the time of the read; `again N time T fields`: one
-//!   is sent once more that was first sent at that time; `sent text`: these very bytes are sent
+//! - `out T N fields`: a message of type T and number N is sent to the firm at the time of the read
+//! - `sent text`: these very bytes are sent
 //!
 //! Lengths and check sums are worked out here.
 
-use crate::streams::wire;
+use crate::rows::{joined, meant};
 use gu_terms::Moment;
 use std::alloc::{AllocError, Global};
-use std::io::{self, Read};
 
-/// Nine o'clock.
-const NINE: &str = "09:00:00.000";
+/// The name of the house in messages.
+const HOUSE: &str = "GIVEUP";
 
-/// The pieces that are read, the moment of each, and what is written behind each.
-#[derive(Drop)]
+/// What is read, piece by piece, at which moments, and what is to be written.
 pub struct Talk {
-    pub pieces: Vec<Vec<u8>>,
+    pub input: String,
+    /// How long each piece is.
+    pub lengths: Vec<usize>,
     pub moments: Vec<Moment>,
-    pub texts: Vec<Vec<u8>>,
+    pub output: String,
 }
 
-/// The number that a part of a time writes.
-fn part(text: &str) -> u64 {
-    text.parse().unwrap_or(0)
+// By hand, so that who holds a connection's lines lets them go by one call.
+impl Drop for Talk {
+    fn drop(self) {
+        let Talk {
+            input,
+            lengths,
+            moments,
+            output,
+        } = self;
+        drop(input);
+        drop(lengths);
+        drop(moments);
+        drop(output);
+    }
 }
+
+/// How many milliseconds each place of a time as `09:00:30.000` stands for.
+const PLACES: [u64; 12] = [
+    36_000_000, 3_600_000, 0, 600_000, 60_000, 0, 10_000, 1_000, 0, 100, 10, 1,
+];
 
 /// The moment of a time of 2026-01-05.
-pub fn moment_of(time: &str) -> Option<Moment> {
-    let (clock, millis) = time.split_once('.')?;
-    let (hours, rest) = clock.split_once(':')?;
-    let (minutes, seconds) = rest.split_once(':')?;
-    let minutes = part(hours).saturating_mul(60).saturating_add(part(minutes));
-    let seconds = minutes.saturating_mul(60).saturating_add(part(seconds));
-    let millis = seconds.saturating_mul(1000).saturating_add(part(millis));
-    Moment::new(millis.saturating_add(1_767_571_200_000))
+fn moment_of(time: &str) -> Option<Moment> {
+    let mut millis = 1_767_571_200_000_u64;
+    for (byte, place) in time.bytes().zip(PLACES) {
+        let digit = u64::from(byte.saturating_sub(b'0'));
+        millis = millis.saturating_add(digit.saturating_mul(place));
+    }
+    Moment::new(millis)
 }
 
-/// The whole message of a body: its front, and the sum of its bytes.
-pub fn message_of(alloc: Global, body: &str) -> Result<Vec<u8>, AllocError> {
-    let mut message = wire(
-        alloc,
-        format!(in alloc; "8=FIXT.1.1|9={}|{body}", body.len())?.as_str(),
-    )?;
+/// The sum of the bytes of a text on the wire.
+fn check_sum(text: &str) -> u8 {
     let mut sum = 0_u8;
-    for byte in &message {
-        sum = sum.wrapping_add(*byte);
+    for byte in text.bytes() {
+        sum = sum.wrapping_add(if byte == b'|' { 1 } else { byte });
     }
-    let end = format!(in alloc; "10={sum:03}|")?;
-    message.extend_from_slice(&wire(alloc, end.as_str())?)?;
-    Ok(message)
+    sum
 }
 
-/// A message from the firm.
-fn message_in(alloc: Global, firm: &str, text: &str) -> Result<Vec<u8>, AllocError> {
-    let (kind, rest) = text.split_once(' ').unwrap_or((text, ""));
-    if kind == "body" {
-        return message_of(alloc, rest);
-    }
-    let (number, fields) = rest.split_once(' ').unwrap_or((rest, ""));
-    let body = format!(in alloc;
-        "35={kind}|49={firm}|56=GIVEUP|34={number}|52=20260105-09:00:00|{fields}"
-    )?;
-    message_of(alloc, body.as_str())
+/// The message of a body.
+fn framed(alloc: Global, body: &str) -> Result<String, AllocError> {
+    let front = format!(in alloc; "8=FIXT.1.1|9={}|{body}", body.len())?;
+    let sum = check_sum(&front);
+    format!(in alloc; "{front}10={sum:03}|")
 }
 
-/// A message to the firm.
-fn message_out(alloc: Global, firm: &str, time: &str, text: &str) -> Result<Vec<u8>, AllocError> {
+/// The message of a line, from one side to the other, that is sent at this time.
+fn message(
+    alloc: Global,
+    from: &str,
+    to: &str,
+    time: &str,
+    text: &str,
+) -> Result<String, AllocError> {
     let (kind, rest) = text.split_once(' ').unwrap_or((text, ""));
     let (number, fields) = rest.split_once(' ').unwrap_or((rest, ""));
-    let body = format!(in alloc;
-        "35={kind}|49=GIVEUP|56={firm}|34={number}|52=20260105-{time}|{fields}"
-    )?;
-    message_of(alloc, body.as_str())
+    let parts = [
+        "35=",
+        kind,
+        "|49=",
+        from,
+        "|56=",
+        to,
+        "|34=",
+        number,
+        "|52=20260105-",
+        time,
+        "|",
+        fields,
+    ];
+    let body = joined(alloc, &parts)?;
+    framed(alloc, &body)
 }
 
-/// A message that is sent to the firm once more.
-fn message_again(alloc: Global, firm: &str, time: &str, text: &str) -> Result<Vec<u8>, AllocError> {
-    let (number, rest) = text.split_once(' ').unwrap_or((text, ""));
-    let (first, rest) = rest.split_once(' ').unwrap_or((rest, ""));
-    let (kind, fields) = rest.split_once(' ').unwrap_or((rest, ""));
-    let body = format!(in alloc;
-        "35={kind}|49=GIVEUP|56={firm}|34={number}|52=20260105-{time}|43=Y|122=20260105-{first}|{fields}"
-    )?;
-    message_of(alloc, body.as_str())
-}
-
-/// Appends bytes to the last of some texts.
-fn append(texts: &mut Vec<Vec<u8>>, bytes: &[u8]) -> Result<(), AllocError> {
-    match texts.last_mut() {
-        Some(text) => text.extend_from_slice(bytes),
-        None => Ok(()),
+/// The text of a line on the wire.
+fn text_of(
+    alloc: Global,
+    firm: &str,
+    time: &str,
+    word: &str,
+    text: &str,
+) -> Result<String, AllocError> {
+    match word {
+        "in" | "and" => message(alloc, firm, HOUSE, "09:00:00", text),
+        "out" => message(alloc, HOUSE, firm, time, text),
+        _ => String::from_str(alloc, text),
     }
 }
 
 impl Talk {
-    /// A further read of these bytes at this time.
-    fn read(&mut self, alloc: Global, bytes: Vec<u8>, time: &str) -> Result<(), AllocError> {
-        self.pieces.push(bytes)?;
+    /// A further piece, of this length at this time.
+    fn begin(&mut self, length: usize, time: &str) -> Result<(), AllocError> {
+        self.lengths.push(length)?;
         if let Some(now) = moment_of(time) {
             self.moments.push(now)?;
         }
-        self.texts.push(Vec::new(alloc))?;
         Ok(())
     }
 
+    /// Adds to the length of the last piece.
+    fn lengthen(&mut self, length: usize) {
+        if let Some(last) = self.lengths.last_mut() {
+            *last = last.saturating_add(length);
+        }
+    }
+
+    /// Takes the text of a line to what is read or written.
+    fn take(&mut self, word: &str, text: &str, time: &str) -> Result<(), AllocError> {
+        match word {
+            "in" | "raw" => self.begin(text.len(), time)?,
+            "and" => self.lengthen(text.len()),
+            _ => return self.output.push_str(text),
+        }
+        self.input.push_str(text)
+    }
+
     /// The connection of a firm that these lines say.
-    pub fn of(alloc: Global, firm: &str, lines: &[&'static str]) -> Result<Talk, AllocError> {
+    pub fn of(alloc: Global, firm: &str, lines: &str) -> Result<Talk, AllocError> {
+        let lines = meant(alloc, lines)?;
         let mut talk = Talk {
-            pieces: Vec::new(alloc),
+            input: String::new(alloc),
+            lengths: Vec::new(alloc),
             moments: Vec::new(alloc),
-            texts: Vec::new(alloc),
+            output: String::new(alloc),
         };
-        let mut time = NINE;
-        for line in lines {
+        let mut time = String::from_str(alloc, "09:00:00.000")?;
+        for line in lines.lines() {
             let (word, text) = line.split_once(' ').unwrap_or((line, ""));
-            match word {
-                "clock" => time = text,
-                "in" => talk.read(alloc, message_in(alloc, firm, text)?, time)?,
-                "raw" => talk.read(alloc, wire(alloc, text)?, time)?,
-                "and" => append(&mut talk.pieces, &message_in(alloc, firm, text)?)?,
-                "out" => append(&mut talk.texts, &message_out(alloc, firm, time, text)?)?,
-                "again" => append(&mut talk.texts, &message_again(alloc, firm, time, text)?)?,
-                _ => append(&mut talk.texts, &wire(alloc, text)?)?,
+            if word == "clock" {
+                time = String::from_str(alloc, text)?;
+            } else {
+                let text = text_of(alloc, firm, time.as_str(), word, text)?;
+                talk.take(word, text.as_str(), time.as_str())?;
             }
         }
         Ok(talk)
     }
 
-    /// What is written behind so many reads.
-    pub fn written(&self, alloc: Global, reads: usize) -> Result<Vec<u8>, AllocError> {
-        let mut written = Vec::new(alloc);
-        for text in self.texts.iter().take(reads) {
-            written.extend_from_slice(text)?;
-        }
-        Ok(written)
-    }
-
-    /// All that is read, in one piece.
-    pub fn input(&self, alloc: Global) -> Result<Vec<u8>, AllocError> {
-        let mut input = Vec::new(alloc);
-        for piece in &self.pieces {
-            input.extend_from_slice(piece)?;
-        }
-        Ok(input)
-    }
-}
-
-/// Gives pieces, one a read, and then nothing, and fails once it has no read left.
-#[derive(Drop)]
-pub struct Pieces<'a> {
-    pub pieces: &'a [Vec<u8>],
-    pub reads: usize,
-}
-
-impl Read for Pieces<'_> {
-    fn read(&mut self, buf: &mut [u8]) -> io::Result<usize> {
-        if self.reads == 0 {
-            return Err(io::Error::from(io::ErrorKind::BrokenPipe));
-        }
-        self.reads -= 1;
-        match self.pieces {
-            [piece, later @ ..] => {
-                let count = piece.len().min(buf.len());
-                buf[..count].copy_from_slice(&piece.as_slice()[..count]);
-                self.pieces = later;
-                Ok(count)
+    /// The same, in pieces of whatever length, all at nine.
+    pub fn cut(&mut self) -> Result<(), AllocError> {
+        self.lengths.clear();
+        self.moments.clear();
+        for _ in 0..1_000 {
+            if let Some(now) = moment_of("09:00:00.000") {
+                self.moments.push(now)?;
             }
-            [] => Ok(0),
         }
+        Ok(())
     }
 }

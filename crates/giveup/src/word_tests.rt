@@ -1,16 +1,17 @@
 //! Words of the command line, each with what it asks for.
 
-use crate::error::EngineError;
-use crate::status::Status;
+use crate::engines::end_text;
+use crate::rows::{check_told, columns};
 use crate::words::{Task, answer, firm_named, read};
-use clap::error::ErrorKind;
-use std::alloc::Global;
+use clap::Error;
+use std::alloc::{AllocError, Global};
 use std::cell::Cell;
 use std::fmt::Display;
 use std::io;
-use std::test::Fail;
+use std::process::Abort;
 
 /// A standard output and a standard error that count what they are given, or take nothing.
+#[derive(Drop)]
 struct Streams {
     alloc: Global,
     is_closed: bool,
@@ -58,149 +59,192 @@ impl Eprint for Streams {
     }
 }
 
-/// How words that ask for no task are answered, and how many bytes are shown on standard output and on standard error.
-fn answered(
-    alloc: Global,
-    words: &'static [&'static str],
-    is_closed: bool,
-) -> Option<(Result<Status, EngineError>, usize, usize)> {
-    let error = read(alloc, words).err()?;
+/// What is told of words that ask for no task.
+#[derive(Clone, Copy)]
+enum Telling {
+    /// The kind of their error, and the status that it gives.
+    Kind,
+    /// What is said of them.
+    Text,
+    /// How they are answered, and how many bytes are shown on standard output and on standard error.
+    Answer,
+    /// The same where neither takes anything.
+    AnswerToNobody,
+}
+
+/// How an error is answered, and how many bytes are shown on standard output and on standard error.
+fn answer_text(alloc: Global, error: &Error, is_closed: bool) -> Result<String, AllocError> {
     let streams = Streams {
         alloc,
         is_closed,
         out: Cell::new(0),
         err: Cell::new(0),
     };
-    let status = answer(&streams, &error);
-    let Streams {
-        alloc: _,
-        is_closed: _,
-        out,
-        err,
-    } = streams;
-    Some((status, out.get(), err.get()))
+    let end = end_text(alloc, answer(&streams, error))?;
+    format!(in alloc; "{end} {} {}", streams.out.get(), streams.err.get())
 }
 
-/// The task that these words ask for, or the kind of their error and the status that it gives.
-fn asked(alloc: Global, words: &'static [&'static str]) -> Result<Task<'static>, (ErrorKind, i32)> {
-    read(alloc, words).map_err(|error| (error.kind(), error.exit_code()))
-}
-
-/// What is said of words that ask for no task.
-fn said(alloc: Global, words: &'static [&'static str]) -> Result<String, Fail> {
-    match read(alloc, words) {
-        Ok(_) => Err(Fail::from("a task")),
-        Err(error) => Ok(format!(in alloc; "{error}")?),
+/// What is told of an error.
+fn error_text(alloc: Global, telling: Telling, error: &Error) -> Result<String, AllocError> {
+    match telling {
+        Telling::Kind => format!(in alloc; "{:?} {}", error.kind(), error.exit_code()),
+        Telling::Text => format!(in alloc; "{error}"),
+        Telling::Answer => answer_text(alloc, error, false),
+        Telling::AnswerToNobody => answer_text(alloc, error, true),
     }
 }
 
-#[test]
-fn words_ask_for_a_task(rt: HostRuntime) {
-    assert!(rt; asked(rt.alloc(), &["giveup"]) == Ok(Task::Capture));
-    assert!(rt; asked(rt.alloc(), &["giveup", "check"]) == Ok(Task::Check));
-    let replay = Task::Replay {
-        reference: "house.csv",
-    };
-    assert!(rt; asked(rt.alloc(), &["giveup", "replay", "house.csv"]) == Ok(replay));
-    let fix = Task::Fix {
-        firm: "E1",
-        reference: "house.csv",
-        script: None,
-    };
-    assert!(rt; asked(rt.alloc(), &["giveup", "fix", "E1", "house.csv"]) == Ok(fix));
-    let behind_a_script = Task::Fix {
-        firm: "E1",
-        reference: "house.csv",
-        script: Some("day"),
-    };
-    assert!(rt;
-        asked(
-            rt.alloc(),
-            &["giveup", "fix", "E1", "house.csv", "--script", "day"]
-        ) == Ok(behind_a_script)
-    );
+/// A task, with its words.
+fn task_text(alloc: Global, task: Task<'_>) -> Result<String, AllocError> {
+    match task {
+        Task::Capture => String::from_str(alloc, "capture"),
+        Task::Check => String::from_str(alloc, "check"),
+        Task::Replay { reference } => format!(in alloc; "replay {reference}"),
+        Task::Fix {
+            firm,
+            reference,
+            script,
+        } => {
+            let script = script.unwrap_or("no script");
+            format!(in alloc; "fix {firm} {reference}, {script}")
+        }
+    }
 }
 
-#[test]
-fn help_is_shown_with_status_0(rt: HostRuntime) {
-    let shown = Err((ErrorKind::DisplayHelp, 0));
-    assert!(rt; asked(rt.alloc(), &["giveup", "--help"]) == shown);
-    assert!(rt; asked(rt.alloc(), &["giveup", "-h"]) == shown);
-    assert!(rt; asked(rt.alloc(), &["giveup", "help"]) == shown);
-    assert!(rt; asked(rt.alloc(), &["giveup", "help", "check"]) == shown);
-    assert!(rt; asked(rt.alloc(), &["giveup", "check", "--help"]) == shown);
+/// The task that these words ask for, or what is told of them.
+fn told_of(alloc: Global, telling: Telling, words: &[&str]) -> Result<String, AllocError> {
+    match read(alloc, words) {
+        Ok(task) => task_text(alloc, task),
+        Err(error) => {
+            let told = error_text(alloc, telling, &error);
+            drop(error);
+            told
+        }
+    }
 }
 
+/// The same of the words of a row.
+fn told(alloc: Global, telling: Telling, row: &str) -> Result<String, AllocError> {
+    let mut words = Vec::new(alloc);
+    for word in row.split(' ') {
+        words.push(word)?;
+    }
+    told_of(alloc, telling, &words)
+}
+
+/// Asserts that this is told of the words of each row.
+fn check(rt: &impl Abort, alloc: Global, telling: Telling, table: &str) {
+    for row in table.lines() {
+        let (words, expected) = columns(row);
+        check_told(rt, row, told(alloc, telling, words), expected);
+    }
+}
+
+/// Words that ask for a task.
+const TASKS: &str = "\
+giveup -> capture
+giveup check -> check
+giveup replay house.csv -> replay house.csv
+giveup fix E1 house.csv -> fix E1 house.csv, no script
+giveup fix E1 house.csv --script day -> fix E1 house.csv, day
+";
+
+/// Words that ask for help.
+const HELP: &str = "\
+giveup --help -> DisplayHelp 0
+giveup -h -> DisplayHelp 0
+giveup help -> DisplayHelp 0
+giveup help check -> DisplayHelp 0
+giveup check --help -> DisplayHelp 0
+";
+
+/// Words that ask for nothing that there is.
+const OTHERS: &str = "\
+giveup sweep -> InvalidSubcommand 2
+giveup help sweep -> InvalidSubcommand 2
+giveup --sheet -> UnknownArgument 2
+giveup check sheet -> UnknownArgument 2
+giveup check check -> UnknownArgument 2
+giveup fix E1 house.csv E2 -> UnknownArgument 2
+giveup fix -> MissingRequiredArgument 2
+giveup fix E1 -> MissingRequiredArgument 2
+giveup replay -> MissingRequiredArgument 2
+giveup replay house.csv day -> UnknownArgument 2
+";
+
 #[test]
-fn other_words_are_refused_with_status_2(rt: HostRuntime) {
-    let subcommand = Err((ErrorKind::InvalidSubcommand, 2));
-    let argument = Err((ErrorKind::UnknownArgument, 2));
-    assert!(rt; asked(rt.alloc(), &["giveup", "sweep"]) == subcommand);
-    assert!(rt; asked(rt.alloc(), &["giveup", "help", "sweep"]) == subcommand);
-    assert!(rt; asked(rt.alloc(), &["giveup", "--sheet"]) == argument);
-    assert!(rt; asked(rt.alloc(), &["giveup", "check", "sheet"]) == argument);
-    assert!(rt; asked(rt.alloc(), &["giveup", "check", "check"]) == argument);
-    assert!(rt; asked(rt.alloc(), &["giveup", "fix", "E1", "house.csv", "E2"]) == argument);
-    let missing = Err((ErrorKind::MissingRequiredArgument, 2));
-    assert!(rt; asked(rt.alloc(), &["giveup", "fix"]) == missing);
-    assert!(rt; asked(rt.alloc(), &["giveup", "fix", "E1"]) == missing);
-    assert!(rt; asked(rt.alloc(), &["giveup", "replay"]) == missing);
-    assert!(rt; asked(rt.alloc(), &["giveup", "replay", "house.csv", "day"]) == argument);
+fn words_ask_for_a_task_or_for_help_with_status_0_or_are_refused_with_status_2(rt: HostRuntime) {
+    check(&rt, rt.alloc(), Telling::Kind, TASKS);
+    check(&rt, rt.alloc(), Telling::Kind, HELP);
+    check(&rt, rt.alloc(), Telling::Kind, OTHERS);
+}
+
+/// Words that name a firm, and that name none.
+const FIRMS: &str = "\
+E-1 -> E-1
+ -> InvalidValue 2
+e1 -> InvalidValue 2
+E 1 -> InvalidValue 2
+ABCDEFGHIJKLM -> InvalidValue 2
+";
+
+/// The firm of a name, or what is told of it.
+fn firm_told(alloc: Global, name: &str) -> Result<String, AllocError> {
+    match firm_named(alloc, name) {
+        Ok(firm) => String::from_str(alloc, str::from_utf8(firm.get()).unwrap_or("?")),
+        Err(error) => {
+            let told = error_text(alloc, Telling::Kind, &error);
+            drop(error);
+            told
+        }
+    }
 }
 
 #[test]
 fn a_word_that_names_no_firm_is_refused_with_status_2(rt: HostRuntime) {
-    for name in ["", "e1", "E 1", "ABCDEFGHIJKLM"] {
-        let refused = firm_named(rt.alloc(), name);
-        assert!(rt;
-            refused.is_err_and(|error| error.kind() == ErrorKind::InvalidValue
-                && error.exit_code() == 2),
-            "{name}"
-        );
+    for row in FIRMS.lines() {
+        let (name, expected) = columns(row);
+        check_told(&rt, row, firm_told(rt.alloc(), name), expected);
     }
-    assert!(rt; firm_named(rt.alloc(), "E-1").is_ok_and(|firm| firm.get() == b"E-1".as_slice()));
 }
 
-#[test]
-fn a_refusal_says_why_and_how_to_call(rt: HostRuntime) -> Result<(), Fail> {
-    let refused = said(rt.alloc(), &["giveup", "sweep"])?;
-    assert!(rt;
-        refused.as_str()
-            == "error: unrecognized subcommand 'sweep'\n\nUsage: giveup [COMMAND]\n\nFor more information, try '--help'.\n"
-    );
-    let unexpected = said(rt.alloc(), &["giveup", "check", "sheet"])?;
-    assert!(rt;
-        unexpected.as_str()
-            == "error: unexpected argument 'sheet' found\n\nUsage: giveup check\n\nFor more information, try '--help'.\n"
-    );
-    Ok(())
-}
+/// What is said of a word that is no command.
+const NO_COMMAND: &str =
+    "error: unrecognized subcommand 'sweep'\n\nUsage: giveup [COMMAND]\n\nFor more information, try '--help'.\n";
+
+/// What is said of a word that `check` doesn't take.
+const UNEXPECTED: &str =
+    "error: unexpected argument 'sheet' found\n\nUsage: giveup check\n\nFor more information, try '--help'.\n";
+
+/// What help says.
+const HELP_TEXT: &str =
+    "The desk of a clearing house. Without a command: trade capture on the sample, from standard input\n\nUsage: giveup [COMMAND]\n\nCommands:\n  check   Checks the sweep sheet on standard input: prints OK and its lots, or its first fault\n  fix     Serves one session of a firm over standard input and output\n  replay  Answers the script on standard input, line by line\n  help    Print this message or the help of the given subcommand(s)\n\nOptions:\n  -h, --help  Print help\n";
 
 #[test]
-fn help_names_each_task(rt: HostRuntime) -> Result<(), Fail> {
-    let help = said(rt.alloc(), &["giveup", "--help"])?;
-    assert!(rt;
-        help.as_str()
-            == "The desk of a clearing house. Without a command: trade capture on the sample, from standard input\n\nUsage: giveup [COMMAND]\n\nCommands:\n  check   Checks the sweep sheet on standard input: prints OK and its lots, or its first fault\n  fix     Serves one session of a firm over standard input and output\n  replay  Answers the script on standard input, line by line\n  help    Print this message or the help of the given subcommand(s)\n\nOptions:\n  -h, --help  Print help\n"
-    );
-    Ok(())
+fn a_refusal_says_why_and_how_to_call_and_help_names_each_task(rt: HostRuntime) {
+    let text = Telling::Text;
+    let said = told(rt.alloc(), text, "giveup sweep");
+    check_told(&rt, "a refusal", said, NO_COMMAND);
+    let said = told(rt.alloc(), text, "giveup check sheet");
+    check_told(&rt, "an argument", said, UNEXPECTED);
+    let said = told(rt.alloc(), text, "giveup --help");
+    check_told(&rt, "help", said, HELP_TEXT);
 }
 
+/// How many bytes of the texts above are shown on standard output and on standard error.
+const SHOWN: &str = "\
+giveup --help -> done 463 0
+giveup sweep -> refused 0 101
+";
+
+/// Help that can't be written is a fault; a refusal has its status all the same.
+const NOT_SHOWN: &str = "\
+giveup --help -> write fault 0 0
+giveup sweep -> refused 0 0
+";
+
 #[test]
-fn help_is_written_to_standard_output_and_a_refusal_to_standard_error(
-    rt: HostRuntime,
-) -> Result<(), Fail> {
-    let alloc = rt.alloc();
-    let help = said(alloc, &["giveup", "--help"])?.len();
-    let refusal = said(alloc, &["giveup", "sweep"])?.len();
-    assert!(rt; answered(alloc, &["giveup", "--help"], false) == Some((Ok(Status::Done), help, 0)));
-    assert!(rt;
-        answered(alloc, &["giveup", "sweep"], false) == Some((Ok(Status::Refused), 0, refusal))
-    );
-    // Help that can't be written is a fault; a refusal has its status all the same.
-    assert!(rt;
-        answered(alloc, &["giveup", "--help"], true) == Some((Err(EngineError::Write), 0, 0))
-    );
-    assert!(rt; answered(alloc, &["giveup", "sweep"], true) == Some((Ok(Status::Refused), 0, 0)));
-    Ok(())
+fn help_is_written_to_standard_output_and_a_refusal_to_standard_error(rt: HostRuntime) {
+    check(&rt, rt.alloc(), Telling::Answer, SHOWN);
+    check(&rt, rt.alloc(), Telling::AnswerToNobody, NOT_SHOWN);
 }

@@ -95,16 +95,26 @@ fn replay_command<'a>(alloc: Global) -> Result<Command<'a>, AllocError>
 fn with_fix<'a>(alloc: Global, command: Command<'a>) -> Result<Command<'a>, AllocError>
     ensures { IfOk result (λ with. app_of with ≡ with_subcommand (app_of command.entry) fix_shape) }
 {
-    let fix = fix_command(alloc)?;
-    command.subcommand(fix)
+    match fix_command(alloc) {
+        Ok(fix) => command.subcommand(fix),
+        Err(refused) => {
+            drop(command);
+            Err(refused)
+        }
+    }
 }
 
 /// A command, and `replay` behind it.
 fn with_replay<'a>(alloc: Global, command: Command<'a>) -> Result<Command<'a>, AllocError>
     ensures { IfOk result (λ with. app_of with ≡ with_subcommand (app_of command.entry) replay_shape) }
 {
-    let replay = replay_command(alloc)?;
-    command.subcommand(replay)
+    match replay_command(alloc) {
+        Ok(replay) => command.subcommand(replay),
+        Err(refused) => {
+            drop(command);
+            Err(refused)
+        }
+    }
 }
 
 /// The program's command, a subcommand for each task but trade capture. No command is held while another is made.

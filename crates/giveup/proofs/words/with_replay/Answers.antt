@@ -3,5 +3,5 @@ use Rattle.giveup.specs.ProgramWords.{replay_shape}
 use Rattle.giveup.proofs.WordLemmas.{last_command_added}
 use Rattle.giveup.proofs.words.with_replay.Goals as goal
 
-pub returns : goal.returns
-returns c = last_command_added c.subcommand.result c.args.command c.in_ok-replay.replay replay_shape refl c.in_ok-replay.ensures c.subcommand.ensures
+pub returns-in-Ok : goal.returns-in-Ok
+returns-in-Ok c = last_command_added c.subcommand.result c.args.command c.in-Ok.replay replay_shape refl c.in-Ok.ensures c.subcommand.ensures

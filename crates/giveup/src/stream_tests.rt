@@ -1,0 +1,247 @@
+//! Engines over streams that are cut, that fail, or that are long. A row of a table of terms is ` -> `, how the run ends, `: `, and how many bytes of
+//! the answer are written then.
+
+use crate::engines::{Engine, told};
+use crate::rows::{check, check_cuts, check_terms, check_told, front_told, told_of_text};
+use crate::streams::wire;
+use crate::terms::{AMPLE, Terms};
+use crate::transcripts::{answers_of, script_of, whole};
+use std::alloc::{AllocError, Global};
+use std::process::Abort;
+
+/// Two reports of one trade, of 141 and 136 bytes.
+const REPORTS: &str =
+    "8=FIXT.1.1|9=117|35=AE|49=E1|56=GIVEUP|34=1|52=20260105-09:00:00|571=R1|880=M1|55=XF6|32=0010.0|31=101.50|75=20260105|552=1|54=1|1=H1|10=222|8=FIXT.1.1|9=112|35=AE|49=E2|56=GIVEUP|34=1|52=20260105-09:00:00|571=R2|880=M1|55=XF6|32=10|31=101.5|75=20260105|552=1|54=2|1=H2|10=239|";
+
+/// Two acknowledgements of 95 bytes each, and the positions, of 42 bytes.
+const POSITIONS: &str =
+    "8=FIXT.1.1|9=72|35=AR|49=GIVEUP|56=E1|34=1|52=20260105-00:00:00.000|571=R1|880=M1|939=0|10=121|8=FIXT.1.1|9=72|35=AR|49=GIVEUP|56=E2|34=2|52=20260105-00:00:00.000|571=R2|880=M1|939=0|10=124|POSITION H1 XF6 10 0/POSITION H2 XF6 0 10/";
+
+/// Cut in one piece, byte by byte and in pieces of 100 bytes; in pieces of 64 bytes, where the reports end in the third and the fifth, and the sixth
+/// read finds the end; with at most 50 bytes a write: two writes for each acknowledgement, and one for the positions; with writes that take nothing.
+const CAPTURES: &str = "\
+first 277 -> done: 232
+piece 1 -> done: 232
+piece 100 -> done: 232
+piece 64, reads 0 -> read fault: 0
+piece 64, reads 1 -> read fault: 0
+piece 64, reads 2 -> read fault: 0
+piece 64, reads 3 -> read fault: 95
+piece 64, reads 4 -> read fault: 95
+piece 64, reads 5 -> read fault: 190
+piece 64, reads 6 -> done: 232
+piece 64, most 50, writes 0 -> write fault: 0
+piece 64, most 50, writes 1 -> write fault: 50
+piece 64, most 50, writes 2 -> write fault: 95
+piece 64, most 50, writes 3 -> write fault: 145
+piece 64, most 50, writes 4 -> write fault: 190
+piece 64, most 50, writes 5 -> done: 232
+most 0 -> write fault: 0
+";
+
+#[test]
+fn two_reports_make_a_trade_however_they_are_cut_and_what_was_answered_stays(rt: HostRuntime) {
+    let alloc = rt.alloc();
+    check_terms(&rt, alloc, Engine::Capture, REPORTS, POSITIONS, CAPTURES);
+    check_cuts(&rt, alloc, Engine::Capture, REPORTS, POSITIONS);
+}
+
+/// Bytes that begin no message, one a read, and then the two reports.
+fn told_behind_thousands(alloc: Global) -> Result<String, AllocError> {
+    let input = format!(in alloc; "(x*3000){REPORTS}")?;
+    told_of_text(alloc, Engine::Capture, &input, Terms::of("piece 1"))
+}
+
+#[test]
+fn reports_are_answered_after_thousands_of_reads(rt: HostRuntime) {
+    let expected = front_told(rt.alloc(), "done: 232", POSITIONS).expect(&rt, "memory");
+    check_told(
+        &rt,
+        "behind 3,000 bytes",
+        told_behind_thousands(rt.alloc()),
+        &expected,
+    );
+}
+
+/// A sheet without offers.
+const SHEET: &str = "SHEET G1 0/END/";
+
+/// Cut in pieces; in two of eight bytes, and the read that finds the end; with at most four bytes a write.
+const CHECKS: &str = "\
+piece 1 -> done: 5
+piece 2 -> done: 5
+piece 7 -> done: 5
+piece 15 -> done: 5
+piece 8, reads 0 -> read fault: 0
+piece 8, reads 1 -> read fault: 0
+piece 8, reads 2 -> read fault: 0
+piece 8, reads 3 -> done: 5
+most 4, writes 0 -> write fault: 0
+most 4, writes 1 -> write fault: 4
+most 4, writes 2 -> done: 5
+";
+
+#[test]
+fn a_sheet_may_come_in_pieces_and_a_failing_read_leaves_nothing_written(rt: HostRuntime) {
+    let alloc = rt.alloc();
+    check_terms(&rt, alloc, Engine::Check, SHEET, "OK 0/", CHECKS);
+    check_cuts(&rt, alloc, Engine::Check, SHEET, "OK 0/");
+}
+
+/// A script with comments, empty lines and a CR before an LF, and what answers it.
+const SPACED: &str = "\
+# A day is opened./
+@opened/
+/
+@trade_10/
+GIVEUP E1 L1 R1 A1 10/< 8 OK OFFERS 1 1/
+SWEEP G1/< 9 SWEPT G1 10/
+@sheet_of_10/
+POSITION A1 XF6\r/< POSITION A1 XF6 10 0/";
+
+/// Cut in pieces.
+const REPLAYS: &str = "\
+piece 1 -> done: all
+piece 2 -> done: all
+piece 7 -> done: all
+piece 64 -> done: all
+piece 4096 -> done: all
+";
+
+#[test]
+fn a_script_is_answered_alike_however_it_is_cut(rt: HostRuntime) {
+    let alloc = rt.alloc();
+    let transcript = whole(alloc, SPACED).expect(&rt, "memory");
+    let script = script_of(alloc, &transcript).expect(&rt, "memory");
+    let answers = answers_of(alloc, &transcript).expect(&rt, "memory");
+    check_terms(&rt, alloc, Engine::Replay(""), &script, &answers, REPLAYS);
+    check_cuts(&rt, alloc, Engine::Replay(""), &script, &answers);
+}
+
+/// Asserts that a script that comes byte by byte, and fails at one of these reads, is answered so.
+fn check_reads(
+    rt: &impl Abort,
+    alloc: Global,
+    script: &str,
+    from: usize,
+    to: usize,
+    answers: &str,
+) {
+    let expected = front_told(alloc, "read fault: all", answers).expect(rt, "memory");
+    for reads in from..to {
+        let terms = Terms {
+            first: 1,
+            piece: 1,
+            reads,
+            ..AMPLE
+        };
+        let told = told_of_text(alloc, Engine::Replay(""), script, terms).expect(rt, "memory");
+        assert_eq!(rt; told.as_str(), expected.as_str(), "{reads}");
+    }
+}
+
+#[test]
+fn the_lines_that_came_are_answered_where_the_reader_fails(rt: HostRuntime) {
+    let alloc = rt.alloc();
+    let transcript = whole(alloc, SPACED).expect(&rt, "memory");
+    let script = script_of(alloc, &transcript).expect(&rt, "memory");
+    let mut came: usize = 0;
+    let mut answers = String::new(alloc);
+    for line in transcript.split_inclusive('/') {
+        if let Some(text) = line.strip_prefix("< ") {
+            answers.push_str(text).expect(&rt, "memory");
+        } else {
+            let end = came.saturating_add(line.len());
+            check_reads(&rt, alloc, &script, came, end, &answers);
+            came = end;
+        }
+    }
+    assert_eq!(rt; came, script.len());
+}
+
+/// What is told of a script whose answers are taken in so many writes of at most sixteen bytes.
+fn told_in_writes(alloc: Global, script: &str, writes: usize) -> Result<String, AllocError> {
+    let terms = Terms {
+        most: 16,
+        writes,
+        ..AMPLE
+    };
+    told_of_text(alloc, Engine::Replay(""), script, terms)
+}
+
+/// What is to be told where so many writes are too few.
+fn front_in_writes(alloc: Global, answers: &str, writes: usize) -> Result<String, AllocError> {
+    let taken = format!(in alloc; "write fault: {}", writes.saturating_mul(16))?;
+    front_told(alloc, &taken, answers)
+}
+
+#[test]
+fn what_the_writer_took_is_a_front_of_the_text(rt: HostRuntime) {
+    let alloc = rt.alloc();
+    let transcript = whole(alloc, SPACED).expect(&rt, "memory");
+    let script = script_of(alloc, &transcript).expect(&rt, "memory");
+    let answers = answers_of(alloc, &transcript).expect(&rt, "memory");
+    // A text that is written at once.
+    let enough = answers.len().div_ceil(16);
+    for writes in 0..enough {
+        let expected = front_in_writes(alloc, &answers, writes).expect(&rt, "memory");
+        let told = told_in_writes(alloc, &script, writes).expect(&rt, "memory");
+        assert_eq!(rt; told.as_str(), expected.as_str(), "{writes}");
+    }
+    let expected = front_told(alloc, "done: all", &answers).expect(&rt, "memory");
+    let told = told_in_writes(alloc, &script, enough);
+    check_told(&rt, "enough writes", told, &expected);
+}
+
+/// Scripts whose last line lacks its end, or has a CR. Only the CR before an LF is dropped, and only one.
+const LAST_LINES: &str = "\
+DAY 20260105 -> done: 1 OK/
+ -> done: 
+//#/DAY 20260105 -> done: 1 OK/
+DAY 20260105\r/ -> done: 1 OK/
+DAY 20260105/\r/ -> done: 1 OK/
+DAY 20260105\r -> bad line 1: 
+DAY 20260105\r\r/ -> bad line 1: 
+DAY 20260105/\r -> bad line 2: 1 OK/
+#//DAY -> bad line 3: 
+#//\r/DAY/#/ -> bad line 4: 
+";
+
+#[test]
+fn the_last_line_may_lack_its_end(rt: HostRuntime) {
+    check(&rt, rt.alloc(), Engine::Replay(""), "", LAST_LINES);
+}
+
+/// A day, and behind it a comment of so many bytes.
+const COMMENTS: &str = "\
+DAY 20260105/(#*1024) -> done: 1 OK/
+DAY 20260105/(#*1024)\r/ -> done: 1 OK/
+DAY 20260105/(#*1025) -> bad line 2: 1 OK/
+DAY 20260105/(#*1025)\r/ -> bad line 2: 1 OK/
+";
+
+/// The same where the reader fails behind the comment: a line that may end well waits, and one that can't is refused.
+const COMMENTS_WITHOUT_END: &str = "\
+DAY 20260105/(#*1024) -> read fault: 1 OK/
+DAY 20260105/(#*1025) -> read fault: 1 OK/
+DAY 20260105/(#*1026) -> bad line 2: 1 OK/
+";
+
+/// And behind a longer one.
+const LONGER_COMMENT: &str = "DAY 20260105/(#*10000) -> bad line 2: 1 OK/";
+
+#[test]
+fn a_line_that_is_too_long_is_refused_before_it_ends(rt: HostRuntime) {
+    let alloc = rt.alloc();
+    let replay = Engine::Replay("");
+    check(&rt, alloc, replay, "", COMMENTS);
+    // In pieces of 512 bytes: three, and twenty.
+    check(
+        &rt,
+        alloc,
+        replay,
+        "piece 512, reads 3",
+        COMMENTS_WITHOUT_END,
+    );
+    check(&rt, alloc, replay, "piece 512, reads 20", LONGER_COMMENT);
+}
