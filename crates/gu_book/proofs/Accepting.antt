@@ -2,6 +2,7 @@
 use Rattle.std.proofs.Common.{◌≡◌, ℕ, zero, suc, ◌+◌, ◌*◌, ◌-◌, ◌<◌, ◌≤◌, ◌&&◌, ◌++◌, Bool, true, false, List, [], ◌∷◌, length, slice_index_or, Option, None, Some, unwrap_or, Result, Ok, Err, refl, sym, ap, ◌∙◌, arith, subst}
 use Rattle.std.specs.Result.{OnOk}
 use Rattle.std.specs.Option.{option_map}
+use Rattle.std.proofs.lemmas.Option.{none-some}
 use Rattle.gu_terms.proofs.SameNames.{same_account-own, same_group-own, same_symbol-own}
 use Rattle.gu_terms.specs.LimitKeys.{has_key, key_eq}
 use Rattle.gu_terms.proofs.KeyLemmas.{key_eq-refl}
@@ -92,9 +93,9 @@ own_place : (side : Side) (account : AccountId) (symbol : Symbol) (lots : ℕ) �
 own_place Buy account symbol lots = rw (same_account-own account, same_symbol-own symbol) refl
 own_place Sell account symbol lots = rw (same_account-own account, same_symbol-own symbol) refl
 
--- terms that are found are a report's
+-- terms that are found are a report's (a `cc` would look into each field of a report)
 pub some-terms : (found : Option Report) (terms : Terms) → Some terms ≡ option_map terms_of found → (report : Report) × (found ≡ Some report) × (terms_of report ≡ terms)
-some-terms None terms is = cc
+some-terms None terms is = absurd (none-some terms (sym is))
 some-terms (Some r) terms is = (r, refl, ap (λ (t : Option Terms). unwrap_or t terms) (sym is))
 
 -- an offer and the terms of its report, as they are found
