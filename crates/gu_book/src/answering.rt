@@ -168,7 +168,12 @@ fn given_up(
 fn has_unknown_account(reference: &Reference, lines: &[Line]) -> bool
     ensures { result ≡ has_unknown_account reference.now lines.now }
 {
-    lines.iter().any(|line| !reference.is_account(line.account))
+    for line in lines {
+        if !reference.is_account(line.account) {
+            return true;
+        }
+    }
+    false
 }
 
 /// The same, where it is told whether a firm lacks an agreement for one of the lines. If it has all, no account is looked up.
@@ -181,12 +186,15 @@ fn has_unknown_account_without(reference: &Reference, lines: &[Line], lacks: boo
 }
 
 /// Whether the firm has no agreement for the account of one of the lines.
-fn lacks_agreement(reference: &Reference, firm: FirmId, lines: &[Line]) -> bool
-    ensures { result ≡ lacks_agreement reference.now firm lines.now }
+fn lacks_agreement(reference: &Reference, firm: &FirmId, lines: &[Line]) -> bool
+    ensures { result ≡ lacks_agreement reference.now firm.now lines.now }
 {
-    lines
-        .iter()
-        .any(|line| reference.between(firm, line.account).is_none())
+    for line in lines {
+        if reference.between(*firm, line.account).is_none() {
+            return true;
+        }
+    }
+    false
 }
 
 /// Why lines of a firm's report can't be given up in its group, if they can't.
@@ -233,7 +241,7 @@ fn answer_to_give_up(
     if totals.today.is_none() {
         return Reply::Denied(Refusal::NoDay);
     }
-    let lacks = lacks_agreement(reference, *firm, lines.as_slice());
+    let lacks = lacks_agreement(reference, firm, lines.as_slice());
     if has_unknown_account_without(reference, lines.as_slice(), lacks) {
         return Reply::Denied(Refusal::UnknownAccount);
     }
