@@ -1,5 +1,5 @@
 -- Limits as they stand.
-use Rattle.std.proofs.Common.{◌≡◌, ℕ, ◌+◌, ◌-◌, ◌<◌, true, List, [], ◌∷◌, ◌++◌, Option, Some, None, is_some, length, take, get_or, unwrap_or, refl, sym, ap, ◌∙◌}
+use Rattle.std.proofs.Common.{◌≡◌, ℕ, ◌+◌, ◌-◌, ◌<◌, true, List, [], ◌∷◌, ◌++◌, Option, Some, None, is_some, length, take, get_or, unwrap_or, refl, sym, ap, append_assoc, ◌∙◌}
 use Rattle.std.specs.List.{filter_map}
 use Rattle.std.specs.Option.{option_to_list}
 use Rattle.std.proofs.lemmas.List.{take_more}
@@ -48,11 +48,9 @@ filter_map_next {X} given items i item within is =
     ap (filter_map given) (take_more items i item within ∙ ap (λ (x : X). take i items ++ x ∷ []) (sym is))
     ∙ filter_map-last given (take i items) item
 
--- what five lists give, one after another
-pub filter_map_five : {X Y : Type 0} (given : X → Option Y) (a b c d e : List X)
-    → filter_map given (a ++ b ++ c ++ d ++ e) ≡ filter_map given a ++ filter_map given b ++ filter_map given c ++ filter_map given d ++ filter_map given e
-filter_map_five {Y = Y} given a b c d e =
-    filter_map-append given (a ++ b ++ c ++ d) e
-    ∙ ap (λ (ys : List Y). ys ++ filter_map given e) (filter_map-append given (a ++ b ++ c) d)
-    ∙ ap (λ (ys : List Y). ys ++ filter_map given d ++ filter_map given e) (filter_map-append given (a ++ b) c)
-    ∙ ap (λ (ys : List Y). ys ++ filter_map given c ++ filter_map given d ++ filter_map given e) (filter_map-append given a b)
+-- what more items give stands behind what items before them gave
+pub filter_map_behind : {X Y : Type 0} (given : X → Option Y) (rows before after : List Y) (items more : List X) → before ≡ rows ++ filter_map given items → after ≡ before ++ filter_map given more
+    → after ≡ rows ++ filter_map given (items ++ more)
+filter_map_behind {Y = Y} given rows before after items more first then =
+    then ∙ ap (λ (ys : List Y). ys ++ filter_map given more) first ∙ append_assoc rows (filter_map given items) (filter_map given more)
+    ∙ ap (λ (ys : List Y). rows ++ ys) (sym (filter_map-append given items more))

@@ -96,9 +96,44 @@ fn guarantor_keys(alloc: Global, firms: &[FirmId]) -> Result<Vec<LimitKey>, Allo
         .collect(alloc)
 }
 
+/// Appends the limits that were set on these keys in a group, and lets the keys go.
+fn append_limits(
+    rows: &mut Vec<LimitRow>,
+    limits: &LimitTable,
+    group: &Group,
+    keys: Vec<LimitKey>,
+) -> Result<(), AllocError>
+    ensures { OnOk result (rows.new.items ≡ rows.old.items ++ filter_map (row_in limits.now group.now) keys.items) }
+{
+    let appended = append_rows(rows, limits, group, &keys);
+    drop(keys);
+    appended
+}
+
+/// Appends all limits that were set in a group.
+fn append_in_order(
+    rows: &mut Vec<LimitRow>,
+    alloc: Global,
+    reference: &Reference,
+    limits: &LimitTable,
+    group: &Group,
+) -> Result<(), AllocError>
+    ensures { OnOk result (rows.new.items ≡ rows.old.items ++ filter_map (row_in limits.now group.now) (keys_in_order reference.now)) }
+{
+    let executing = executing_keys(alloc, reference.firms())?;
+    append_limits(rows, limits, group, executing)?;
+    let agreements = agreement_keys(alloc, reference.agreements())?;
+    append_limits(rows, limits, group, agreements)?;
+    let accounts = account_keys(alloc, reference.accounts())?;
+    append_limits(rows, limits, group, accounts)?;
+    let carrying = carrying_keys(alloc, reference.firms())?;
+    append_limits(rows, limits, group, carrying)?;
+    let guarantors = guarantor_keys(alloc, reference.firms())?;
+    append_limits(rows, limits, group, guarantors)
+}
+
 /// The limits that were set in a group: executing firms, agreements, accounts, carrying firms, guarantors, each in the order of
 /// the reference.
-#[tactic(auto, using(crate::proofs::LimitLemmas::filter_map_five))]
 pub fn rows_in_order(
     alloc: Global,
     reference: &Reference,
@@ -108,15 +143,6 @@ pub fn rows_in_order(
     ensures { IfOk result (λ rows. rows.items ≡ filter_map (row_in limits.now group.now) (keys_in_order reference.now)) }
 {
     let mut rows = Vec::new(alloc);
-    let executing = executing_keys(alloc, reference.firms())?;
-    let agreements = agreement_keys(alloc, reference.agreements())?;
-    let accounts = account_keys(alloc, reference.accounts())?;
-    let carrying = carrying_keys(alloc, reference.firms())?;
-    let guarantors = guarantor_keys(alloc, reference.firms())?;
-    append_rows(&mut rows, limits, group, &executing)?;
-    append_rows(&mut rows, limits, group, &agreements)?;
-    append_rows(&mut rows, limits, group, &accounts)?;
-    append_rows(&mut rows, limits, group, &carrying)?;
-    append_rows(&mut rows, limits, group, &guarantors)?;
+    append_in_order(&mut rows, alloc, reference, limits, group)?;
     Ok(rows)
 }
