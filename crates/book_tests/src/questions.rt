@@ -7,8 +7,8 @@ use gu_terms::{
     AccountId, AgreementId, AllocReject, FirmId, Group, LimitKey, LimitRow, Notice, OfferEvent,
     OfferNotice, PositionRows, Report, Side, Symbol,
 };
-use gu_text::Line;
 use gu_text::texts::{append_last_number, append_last_word, append_number, append_word};
+use gu_text::{Line, TextError};
 use gu_view::{Offer, View};
 use std::alloc::{AllocError, Global};
 
@@ -180,6 +180,45 @@ fn tell_path(text: &mut Vec<u8>, keys: &[LimitKey]) -> Result<(), AllocError> {
     Ok(())
 }
 
+/// Tells the limits of a group, or how many there are.
+fn tell_limits_of(
+    text: &mut Vec<u8>,
+    book: &Book,
+    is_count: bool,
+    group: &Group,
+) -> Result<(), AllocError> {
+    let rows = book.limits(group)?;
+    let told = if is_count {
+        tell_count(text, &rows)
+    } else {
+        tell_limits(text, &rows)
+    };
+    drop(rows);
+    told
+}
+
+/// Tells the view of a group, or its extent.
+fn tell_view_of(
+    text: &mut Vec<u8>,
+    book: &Book,
+    is_whole: bool,
+    group: &Group,
+) -> Result<(), AllocError> {
+    match book.view(group) {
+        Ok(view) => {
+            let told = if is_whole {
+                tell_view(text, &view)
+            } else {
+                tell_extent(text, &view)
+            };
+            drop(view);
+            told
+        }
+        Err(LookError::UnknownGroup) => append_last_word(text, b"UNKNOWN GROUP"),
+        Err(LookError::Memory) => Err(AllocError),
+    }
+}
+
 /// Tells of the limits of a group, or of the view of a group.
 fn tell_of_group(
     text: &mut Vec<u8>,
@@ -187,14 +226,47 @@ fn tell_of_group(
     kind: &str,
     group: &Group,
 ) -> Result<(), AllocError> {
-    if kind == "COUNT" {
-        return tell_count(text, &book.limits(group)?);
+    match kind {
+        "COUNT" => tell_limits_of(text, book, true, group),
+        _ => tell_view_of(text, book, kind == "VIEW", group),
     }
-    match book.view(group) {
-        Ok(view) if kind == "VIEW" => tell_view(text, &view),
-        Ok(view) => tell_extent(text, &view),
-        Err(LookError::UnknownGroup) => append_last_word(text, b"UNKNOWN GROUP"),
-        Err(LookError::Memory) => Err(AllocError),
+}
+
+/// Tells the keys over an agreement, where it is known.
+fn tell_path_of(text: &mut Vec<u8>, book: &Book, agreement: AgreementId) -> Result<(), AllocError> {
+    match path(book.reference(), agreement) {
+        Some(path) => tell_path(text, path.keys()),
+        None => append_last_word(text, b"NONE"),
+    }
+}
+
+/// Tells what a firm is told of the entries from a number on.
+fn tell_notices_of(
+    text: &mut Vec<u8>,
+    book: &Book,
+    firm: FirmId,
+    from: u64,
+) -> Result<(), AllocError> {
+    let notices = book.notices(firm, from)?;
+    let told = tell_notices(text, notices.next, &notices.list);
+    drop(notices);
+    told
+}
+
+/// Tells what a firm is told that an account holds.
+fn tell_held_of(
+    text: &mut Vec<u8>,
+    book: &Book,
+    firm: FirmId,
+    account: AccountId,
+) -> Result<(), AllocError> {
+    match book.positions(firm, account)? {
+        Some(held) => {
+            let told = tell_held(text, &held);
+            drop(held);
+            told
+        }
+        None => append_last_word(text, b"NONE"),
     }
 }
 
@@ -203,41 +275,40 @@ fn tell_more(text: &mut Vec<u8>, book: &Book, line: &str) -> Option<()> {
     let name = word(line, 1).as_bytes();
     match word(line, 0) {
         "BOOK" => tell_book(text, book).ok(),
-        "PATH" => match path(book.reference(), AgreementId::new(name)?) {
-            Some(path) => tell_path(text, path.keys()).ok(),
-            None => append_last_word(text, b"NONE").ok(),
-        },
-        "NOTICES" => match book.notices(FirmId::new(name)?, number(line, 2)?) {
-            Ok(notices) => tell_notices(text, notices.next, &notices.list).ok(),
-            Err(_) => None,
-        },
-        "HELD" => match book.positions(
-            FirmId::new(name)?,
-            AccountId::new(word(line, 2).as_bytes())?,
-        ) {
-            Ok(Some(held)) => tell_held(text, &held).ok(),
-            Ok(None) => append_last_word(text, b"NONE").ok(),
-            Err(_) => None,
-        },
+        "PATH" => tell_path_of(text, book, AgreementId::new(name)?).ok(),
+        "NOTICES" => tell_notices_of(text, book, FirmId::new(name)?, number(line, 2)?).ok(),
+        "HELD" => {
+            let account = AccountId::new(word(line, 2).as_bytes())?;
+            tell_held_of(text, book, FirmId::new(name)?, account).ok()
+        }
         kind => tell_of_group(text, book, kind, &Group::new(name)?).ok(),
     }
 }
 
-/// Adds what a book tells of a question. Nothing is told where memory is refused.
-pub fn tell_of_book(text: &mut Vec<u8>, alloc: Global, book: &Book, line: &str) -> Option<()> {
-    let read = Line::read(alloc, line.as_bytes(), 0);
-    match &read {
+/// Adds what a book tells of what was read of a line.
+fn tell_read(
+    text: &mut Vec<u8>,
+    book: &Book,
+    line: &str,
+    read: &Result<Option<Line>, TextError>,
+) -> Option<()> {
+    match read {
         Ok(Some(Line::Position(account, symbol))) => {
             tell_position(text, book, *account, *symbol).ok()
         }
         Ok(Some(Line::Interest(symbol))) => {
             append_last_number(text, book.open_interest(*symbol)).ok()
         }
-        Ok(Some(Line::Limits(group))) => match book.limits(group) {
-            Ok(rows) => tell_limits(text, &rows).ok(),
-            Err(_) => None,
-        },
+        Ok(Some(Line::Limits(group))) => tell_limits_of(text, book, false, group).ok(),
         Ok(_) => None,
         Err(_) => tell_more(text, book, line),
     }
+}
+
+/// Adds what a book tells of a question. Nothing is told where memory is refused.
+pub fn tell_of_book(text: &mut Vec<u8>, alloc: Global, book: &Book, line: &str) -> Option<()> {
+    let read = Line::read(alloc, line.as_bytes(), 0);
+    let told = tell_read(text, book, line, &read);
+    drop(read);
+    told
 }

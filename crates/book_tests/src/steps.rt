@@ -34,38 +34,77 @@ fn report_on(command: &Command, on: Day) -> Option<Step> {
     }
 }
 
+/// The same, where a step enters one.
+fn step_on(step: &Step, on: Day) -> Option<Step> {
+    match step {
+        Step::Enter(command) => report_on(command, on),
+        _ => None,
+    }
+}
+
+/// The same, where a step was read of a line.
+fn read_on(read: &Result<Option<Line>, TextError>, on: Day) -> Option<Step> {
+    match read {
+        Ok(Some(Line::Step(step))) => step_on(step, on),
+        _ => None,
+    }
+}
+
 /// The step of a line as `20260105 REPORT E1 R1 M1 B XF6 10 101.5 H1`.
 fn dated(alloc: Global, line: &str) -> Option<Step> {
     let (date, report) = line.split_once(" ")?;
     let on = Day::read(date.as_bytes()).ok()?;
     let read = Line::read(alloc, report.as_bytes(), 0);
-    match &read {
-        Ok(Some(Line::Step(Step::Enter(command)))) => report_on(command, on),
-        _ => None,
-    }
+    let step = read_on(&read, on);
+    drop(read);
+    step
+}
+
+/// Takes a step.
+fn take_step(world: &mut World, step: Step) -> Option<()> {
+    world.step(step).ok()
 }
 
 /// Sweeps a group in one go.
 fn sweep(world: &mut World, group: Group) -> Option<()> {
     let worker = Worker::new(63)?;
-    world.step(Step::See(worker, group)).ok()?;
-    world.step(Step::Propose(worker)).ok()?;
-    world.step(Step::Commit(worker)).ok()
+    take_step(world, Step::See(worker, group))?;
+    take_step(world, Step::Propose(worker))?;
+    take_step(world, Step::Commit(worker))
+}
+
+/// Takes the steps that were read of a line, and says whether there are any.
+fn take_read(world: &mut World, line: Line) -> Option<bool> {
+    match line {
+        Line::Step(step) => take_step(world, step)?,
+        Line::Sweep(group) => sweep(world, group)?,
+        question => {
+            drop(question);
+            return Some(false);
+        }
+    }
+    Some(true)
+}
+
+/// Takes the step of a report that names its day, and says whether there is one.
+fn take_dated(alloc: Global, world: &mut World, line: &str) -> Option<bool> {
+    match dated(alloc, line) {
+        Some(step) => {
+            take_step(world, step)?;
+            Some(true)
+        }
+        None => Some(false),
+    }
 }
 
 /// Takes the steps that a line asks for, and says whether there are any. Nothing comes of it where memory is refused.
 pub fn take_steps(alloc: Global, world: &mut World, line: &str) -> Option<bool> {
-    let taken = match Line::read(alloc, line.as_bytes(), 0) {
-        Ok(Some(Line::Step(step))) => world.step(step).ok(),
-        Ok(Some(Line::Sweep(group))) => sweep(world, group),
-        Ok(_) => return Some(false),
+    match Line::read(alloc, line.as_bytes(), 0) {
+        Ok(Some(line)) => take_read(world, line),
+        Ok(None) => Some(false),
         Err(TextError::Memory) => None,
-        Err(TextError::BadLine(_)) => match dated(alloc, line) {
-            Some(step) => world.step(step).ok(),
-            None => return Some(false),
-        },
-    };
-    taken.map(|_| true)
+        Err(TextError::BadLine(_)) => take_dated(alloc, world, line),
+    }
 }
 
 /// Tells what a sweep takes, where that is something, and its cut.

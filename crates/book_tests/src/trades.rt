@@ -1,7 +1,7 @@
 //! Reports that `Trades` takes in one by one, telling what each makes. (The book takes them in by their terms, without that answer.)
 
 use gu_terms::{Command, Day, Report};
-use gu_text::Line;
+use gu_text::{Line, TextError};
 use gu_trades::{Matching, Trades};
 use gu_world::Step;
 use std::alloc::{AllocError, Global};
@@ -56,13 +56,28 @@ fn report_of(command: &Command) -> Option<Report> {
     }
 }
 
+/// The same, where a step enters it.
+fn report_entered(step: &Step) -> Option<Report> {
+    match step {
+        Step::Enter(command) => report_of(command),
+        _ => None,
+    }
+}
+
+/// The same, where a step was read of a line.
+fn report_in(read: &Result<Option<Line>, TextError>) -> Option<Report> {
+    match read {
+        Ok(Some(Line::Step(step))) => report_entered(step),
+        _ => None,
+    }
+}
+
 /// The report of a line.
 fn read_report(alloc: Global, line: &str) -> Option<Report> {
     let read = Line::read(alloc, line.as_bytes(), 0);
-    match &read {
-        Ok(Some(Line::Step(Step::Enter(command)))) => report_of(command),
-        _ => None,
-    }
+    let report = report_in(&read);
+    drop(read);
+    report
 }
 
 /// Takes in a report where it is new and fits, and tells what becomes of it.
