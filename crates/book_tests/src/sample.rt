@@ -79,17 +79,32 @@ fn rows_of(name: &str) -> &'static str {
     }
 }
 
+/// Adds a number.
+fn push_number(text: &mut String, n: u64) -> Result<(), AllocError> {
+    match write!(text, "{n}") {
+        Ok(()) => Ok(()),
+        Err(_) => Err(AllocError),
+    }
+}
+
+/// How much more than the number stands for a `#`, by the text behind it, and the rest of this text.
+fn more_behind(part: &str) -> (u64, &str) {
+    if let Some(rest) = part.strip_prefix("+1") {
+        return (1, rest);
+    }
+    match part.strip_prefix("+2") {
+        Some(rest) => (2, rest),
+        None => (0, part),
+    }
+}
+
 /// Adds a form with a number for each `#`, and the next ones for `#+1` and `#+2`.
 pub fn push_numbered(text: &mut String, form: &str, n: u64) -> Result<(), AllocError> {
-    for (place, part) in form.split("#").enumerate() {
-        let (more, rest) = match part.split_at_checked(2) {
-            Some(("+1", rest)) if place > 0 => (1, rest),
-            Some(("+2", rest)) if place > 0 => (2, rest),
-            _ => (0, part),
-        };
-        if place > 0 && write!(text, "{}", n.saturating_add(more)).is_err() {
-            return Err(AllocError);
-        }
+    let mut parts = form.split("#");
+    text.push_str(parts.next().unwrap_or(""))?;
+    for part in parts {
+        let (more, rest) = more_behind(part);
+        push_number(text, n.saturating_add(more))?;
         text.push_str(rest)?;
     }
     Ok(())
