@@ -2,7 +2,7 @@
 
 use crate::sample::reference_of;
 use gu_text::Line;
-use gu_world::{Outcome, Step, culprit, run};
+use gu_world::{Outcome, Step, World, culprit, run};
 use std::alloc::Global;
 use std::process::Abort;
 
@@ -59,16 +59,24 @@ fn blamed(alloc: Global, steps: &[Step], at: usize) -> Option<Option<u64>> {
     culprit(alloc, reference, steps, at).ok()
 }
 
+/// Whether the last step's commit was stale, by one entry.
+fn ends_stale(world: &World) -> bool {
+    matches!(
+        world.outcomes().last(),
+        Ok(Some(Outcome::Stale { seen: 6, now: 7 }))
+    )
+}
+
 /// Whether a run of these steps has one outcome each, the last stale, and nine entries.
 fn is_run(alloc: Global, steps: &[Step]) -> Option<bool> {
     let reference = reference_of(alloc, "", "").ok()?;
     let world = run(alloc, reference, steps).ok()?;
-    let is_stale = matches!(
-        world.outcomes().last(),
-        Ok(Some(Outcome::Stale { seen: 6, now: 7 }))
-    );
-    let count = world.outcomes().len();
-    Some(is_stale && count == steps.len() && world.into_book().history().len() == 9)
+    let is_stale = ends_stale(&world);
+    let outcomes = world.outcomes().len();
+    let book = world.into_book();
+    let entries = book.history().len();
+    drop(book);
+    Some((is_stale, outcomes, entries) == (true, steps.len(), 9))
 }
 
 /// Compares who is to blame for each step of a script, and what a run of them comes to.

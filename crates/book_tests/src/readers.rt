@@ -74,26 +74,36 @@ const FAILING: [(&str, &str); 3] = [
     ("FIRM,E1\nFIRM,E1\n", "Twice 2"),
 ];
 
+/// Reads a file of a reader that fails behind it, and compares what comes of it.
+fn fail(rt: &impl Abort, alloc: Global, file: &str, want: &str) {
+    let file = file.as_bytes();
+    let text = told(rt, alloc, Failing { file });
+    assert_eq!(rt; text.as_str(), want, "{file:?}");
+}
+
+/// Reads a file, and sees how it is asked for.
+fn ask(rt: &impl Abort, alloc: Global, file: &[u8]) {
+    let mut reader = Recording {
+        file,
+        greatest: 0,
+        reads: 0,
+    };
+    let text = told(rt, alloc, &mut reader);
+    assert_eq!(rt; text.as_str(), "OK");
+    assert_eq!(rt; reader.greatest, 4_096);
+    // The end may be asked for twice.
+    assert!(rt; reader.reads <= file.len().div_ceil(4_096) + 2);
+}
+
 #[test]
 fn a_reader_fails_has_no_end_or_is_asked_for_4096_bytes(rt: HostRuntime) {
     for (file, want) in FAILING {
-        let file = file.as_bytes();
-        let text = told(&rt, rt.alloc(), Failing { file });
-        assert_eq!(rt; text.as_str(), want, "{file:?}");
+        fail(&rt, rt.alloc(), file, want);
     }
     let text = told(&rt, rt.alloc(), Endless);
     assert_eq!(rt; text.as_str(), "ReadFault");
     let largest = file_of(rt.alloc(), "the largest", "")
         .ok()
         .expect(&rt, "the largest file");
-    let mut reader = Recording {
-        file: largest.as_bytes(),
-        greatest: 0,
-        reads: 0,
-    };
-    let text = told(&rt, rt.alloc(), &mut reader);
-    assert_eq!(rt; text.as_str(), "OK");
-    assert_eq!(rt; reader.greatest, 4_096);
-    // The end may be asked for twice.
-    assert!(rt; reader.reads <= largest.len().div_ceil(4_096) + 2);
+    ask(&rt, rt.alloc(), largest.as_bytes());
 }
