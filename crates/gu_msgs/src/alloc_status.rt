@@ -7,7 +7,7 @@ ghost use Rattle.gu_msgs.specs.declared.alloc_status.AllocStatus.{AllocStatus as
 use gu_terms::{AllocReject, OfferEvent};
 
 /// What became of an allocation (FIX: AllocStatus, tag 87).
-#[derive(Clone, Copy, Debug, PartialEq, Eq)]
+#[derive(Clone, Copy, Debug)]
 pub enum AllocStatus {
     /// It is taken: the carrying firm claims it.
     Accepted,

@@ -10,7 +10,7 @@ use crate::type_code::TypeCode;
 use gu_terms::{OfferEvent, OfferNo, Side};
 
 /// Why the house ends a session.
-#[derive(Clone, Copy, Debug, PartialEq, Eq)]
+#[derive(Clone, Copy, Debug)]
 pub enum LogoutReason {
     /// The number of a message is missing, or none.
     BadSeqNum,
@@ -65,7 +65,7 @@ impl BusinessRejectReason {
 }
 
 /// What an allocation report is for (FIX: AllocReportType, tag 794).
-#[derive(Clone, Copy, Debug, PartialEq, Eq)]
+#[derive(Clone, Copy, Debug)]
 pub enum AllocReportType {
     /// An offer goes out.
     RequestToIntermediary,
@@ -100,7 +100,7 @@ impl AllocReportType {
 }
 
 /// What becomes of a question for positions (FIX: PosReqResult, tag 728).
-#[derive(Clone, Copy, Debug, PartialEq, Eq)]
+#[derive(Clone, Copy, Debug)]
 pub enum PosReqResult {
     /// So many reports follow.
     ValidRequest(u64),

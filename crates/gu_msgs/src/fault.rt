@@ -5,14 +5,14 @@ use std::alloc::AllocError;
 use thiserror::Error;
 
 /// The tag at which a message is at fault, and why (FIX: RefTagID and SessionRejectReason).
-#[derive(Clone, Copy, Debug, PartialEq, Eq)]
+#[derive(Clone, Copy, Debug)]
 pub struct Fault {
     pub tag: u32,
     pub reason: SessionRejectReason,
 }
 
 /// Why fields are read as no message.
-#[derive(Clone, Copy, Debug, Error, PartialEq, Eq)]
+#[derive(Clone, Copy, Debug, Error)]
 pub enum MsgFault {
     /// A growth was refused.
     #[error("Memory")]

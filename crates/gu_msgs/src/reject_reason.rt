@@ -6,7 +6,7 @@ ghost use Rattle.gu_msgs.specs.RejectReasons.{number_of};
 use gu_fix::SessionRejectReason as FieldReason;
 
 /// Why a message is rejected (FIX: SessionRejectReason, tag 373).
-#[derive(Clone, Copy, Debug, PartialEq, Eq)]
+#[derive(Clone, Copy, Debug)]
 pub enum SessionRejectReason {
     InvalidTagNumber,
     RequiredTagMissing,

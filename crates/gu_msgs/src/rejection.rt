@@ -6,7 +6,7 @@ ghost use Rattle.gu_msgs.specs.Rejections.{reason_number, reason_of};
 use gu_terms::Refusal;
 
 /// Why a command of a firm's isn't in the book.
-#[derive(Clone, Copy, Debug, PartialEq, Eq)]
+#[derive(Clone, Copy, Debug)]
 pub enum Rejection {
     /// The house refused it.
     Refused(Refusal),
@@ -17,7 +17,7 @@ pub enum Rejection {
 }
 
 /// The kind of a rejection (FIX: TradeReportRejectReason, tag 751).
-#[derive(Clone, Copy, Debug, PartialEq, Eq)]
+#[derive(Clone, Copy, Debug)]
 pub enum TradeReportRejectReason {
     InvalidPartyInformation,
     UnknownInstrument,
