@@ -1,6 +1,6 @@
 //! What a plan leaves.
 
-ghost use Rattle.std.specs.Prelude.{◌≡◌, ◌≤◌, ◌<◌, ◌+◌, ◌++◌, ◌∷◌, [], Some, None, is_some, length, vec_len, vec_capacity, if◌then◌else◌, IfOk};
+ghost use Rattle.std.specs.Prelude.{◌≡◌, ◌≤◌, ◌<◌, ◌+◌, ◌++◌, ◌∷◌, [], Some, None, is_some, length, vec_len, vec_capacity, if◌then◌else◌, IfOk, OnOk};
 ghost use Rattle.std.specs.Option.{option_map, option_map_or, option_to_list};
 ghost use Rattle.circular_buffer.specs.Buffer.{buffer};
 ghost use Rattle.gu_msgs.specs.declared.inbound.ResendRequest.{ResendRequest as RequestOf};
@@ -29,22 +29,21 @@ pub fn is_over(next: u64, plan: &Plan) -> bool
     left < plan.messages.len() as u64
 }
 
-/// What is sent again, where anything is asked for.
-pub fn resent(
-    alloc: Global,
+/// Appends what is sent again, where anything is asked for.
+pub fn push_repeats(
+    messages: &mut Vec<Outbound>,
     firm: &FirmId,
     now: &Moment,
     kept: &Kept,
     next: u64,
     again: &Option<ResendRequest>,
-) -> Result<Vec<Outbound>, AllocError>
-    ensures { IfOk result (λ messages. messages.items ≡ option_map_or (λ (request : RequestOf). resent firm.now kept.now.items next now.now request) again.now []) }
+) -> Result<(), AllocError>
+    ensures { OnOk result (messages.new.items ≡ messages.old.items ++ option_map_or (λ (request : RequestOf). resent firm.now kept.now.items next now.now request) again.now []) }
 {
-    let mut messages = Vec::new(alloc);
-    if let Some(request) = again {
-        push_resent(&mut messages, firm, now, kept, next, request)?;
+    match again {
+        Some(request) => push_resent(messages, firm, now, kept, next, request),
+        None => Ok(()),
     }
-    Ok(messages)
 }
 
 /// What waits for its answer by what is handed out.
@@ -57,10 +56,17 @@ pub fn waiting_in(handed: &Option<Handed>) -> Option<Waiting>
     }
 }
 
-/// Room for what is to be kept, where a firm logs on.
-pub fn room_for(alloc: Global, at: &Option<Standing>) -> Result<Option<Kept>, AllocError>
-    ensures { IfOk result (λ room. room ≡ (if is_some at.now then None else Some (buffer [] 4096))) }
+/// Room for one more question, and for what is to be kept where a firm logs on.
+pub fn room_for(
+    alloc: Global,
+    at: &Option<Standing>,
+    waiting: &mut Vec<Waiting>,
+) -> Result<Option<Kept>, AllocError>
+    ensures room { IfOk result (λ room. room ≡ (if is_some at.now then None else Some (buffer [] 4096))) }
+    ensures place { OnOk result (vec_len waiting.new < vec_capacity waiting.new) }
+    ensures same { waiting.new.items ≡ waiting.old.items }
 {
+    waiting.reserve(1)?;
     match at {
         Some(_) => Ok(None),
         None => Ok(Some(Kept::with_room(alloc)?)),

@@ -5,7 +5,7 @@ use gu_fix::Frame;
 use gu_terms::{Notice, PositionRows, Reply};
 
 /// Why nothing was entered.
-#[derive(Clone, Copy, Debug, PartialEq, Eq)]
+#[derive(Clone, Copy, Debug)]
 pub enum Failure {
     /// There was no memory for it.
     Memory,

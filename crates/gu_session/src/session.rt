@@ -1,23 +1,24 @@
 //! A session.
 
-ghost use Rattle.std.specs.Prelude.{◌≡◌, [], List, IfOk, OnOk, OnErr, true};
+ghost use Rattle.std.specs.Prelude.{◌≡◌, [], List, IfOk, OnOk, OnErr, false, true};
 ghost use Rattle.std.specs.Option.{option_map};
 ghost use Rattle.gu_session.specs.Encoded.{AreOutputs, Response};
-ghost use Rattle.gu_session.specs.Sending.{closed};
+ghost use Rattle.gu_session.specs.Sending.{behind, closed, given_by, is_over};
 ghost use Rattle.gu_session.specs.States.{new_session};
 ghost use Rattle.gu_session.specs.Steps.{IsCourse, StepsWith, responses_of, session_behind};
 ghost use Rattle.gu_session.specs.declared.plan.Course.TheVariants.{Leave, Go};
 ghost use Rattle.gu_session.specs.declared.standing.Standing.{Standing as StandingOf};
 
-use crate::carrying::{is_over, keep, resent, room_for, sent_at_behind, settle, waiting_in};
+use crate::carrying::{is_over, keep, push_repeats, room_for, sent_at_behind, settle, waiting_in};
 use crate::course::{answer_course, frame_course, notice_course, tick_course};
 use crate::input::Input;
-use crate::kept::Kept;
+use crate::kept::{Kept, Sent};
 use crate::numbering::push_new;
 use crate::output::Output;
 use crate::plan::{Course, Plan};
 use crate::sending::{close, outputs};
 use crate::standing::{Standing, Waiting};
+use gu_msgs::Outbound;
 use gu_terms::{FirmId, Moment};
 use std::alloc::{AllocError, Global};
 use std::marker::Model;
@@ -132,15 +133,21 @@ impl Session {
         Ok(outputs)
     }
 
-    /// A plan is carried out, if its numbers suffice: all growths first, and then what changes.
-    fn carry_out(&mut self, plan: Plan, now: Moment) -> Result<Vec<Output>, AllocError>
-        ensures given { IfOk result (λ outputs. AreOutputs (responses_of self.old now (Go plan)) outputs.items) }
-        ensures behind { OnOk result (self.new ≡ session_behind self.old now (Go plan)) }
+    /// A plan whose numbers suffice is carried out, by empty lists that are lent: all growths first, and then what changes.
+    fn carry(
+        &mut self,
+        messages: &mut Vec<Outbound>,
+        sent: &mut Vec<Sent>,
+        plan: Plan,
+        now: Moment,
+    ) -> Result<Vec<Output>, AllocError>
+        requires within { is_over self.old.next plan ≡ false }
+        requires no_messages { messages.old.items ≡ [] }
+        requires none_sent { sent.old.items ≡ [] }
+        ensures given { IfOk result (λ outputs. AreOutputs (given_by self.old now plan) outputs.items) }
+        ensures behind { OnOk result (self.new ≡ behind self.old now plan) }
         ensures refused { OnErr result (self.new ≡ self.old) }
     {
-        if is_over(self.next, &plan) {
-            return self.end();
-        }
         let Plan {
             after,
             again,
@@ -150,27 +157,43 @@ impl Session {
             ends,
         } = plan;
         let count = bodies.len() as u64;
-        let mut sent = Vec::new(self.alloc);
-        let mut messages = resent(self.alloc, &after.firm, &now, &self.kept, self.next, &again)?;
+        push_repeats(messages, &after.firm, &now, &self.kept, self.next, &again)?;
         push_new(
-            &mut messages,
-            &mut sent,
+            messages,
+            sent,
             &after.firm,
             &now,
             self.next,
             bodies.into_vec(),
         )?;
         let waiting = waiting_in(&handed);
-        let outputs = outputs(self.alloc, &messages, handed, ends)?;
-        let room = room_for(self.alloc, &self.at)?;
-        self.waiting.reserve(1)?;
-        keep(&mut self.kept, room, &sent);
+        let outputs = outputs(self.alloc, messages, handed, ends)?;
+        let room = room_for(self.alloc, &self.at, &mut self.waiting)?;
+        keep(&mut self.kept, room, sent);
         settle(&mut self.waiting, waiting, answered);
         self.sent_at = sent_at_behind(self.sent_at, now, messages.len());
         self.next += count;
         self.at = Some(after);
         self.is_closed = ends;
         Ok(outputs)
+    }
+
+    /// A plan is carried out, if its numbers suffice.
+    fn carry_out(&mut self, plan: Plan, now: Moment) -> Result<Vec<Output>, AllocError>
+        ensures given { IfOk result (λ outputs. AreOutputs (responses_of self.old now (Go plan)) outputs.items) }
+        ensures behind { OnOk result (self.new ≡ session_behind self.old now (Go plan)) }
+        ensures refused { OnErr result (self.new ≡ self.old) }
+    {
+        if is_over(self.next, &plan) {
+            drop(plan);
+            return self.end();
+        }
+        let mut messages = Vec::new(self.alloc);
+        let mut sent = Vec::new(self.alloc);
+        let outputs = self.carry(&mut messages, &mut sent, plan, now);
+        drop(messages);
+        drop(sent);
+        outputs
     }
 
     /// Takes an input at a moment. A call that is refused memory leaves the session as it was.
