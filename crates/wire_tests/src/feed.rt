@@ -1,6 +1,6 @@
 //! What a feed gives.
-use crate::messages::{FIRST, SECOND, shown, wire};
-use crate::rows::{Subject, check, number};
+use crate::messages::{FIRST, SECOND, replaced, shown, wire};
+use crate::rows::{Subject, check, number, parts_at};
 use gu_fix::{Feed, Frame};
 use std::alloc::{AllocError, Global};
 
@@ -8,26 +8,37 @@ use std::alloc::{AllocError, Global};
 fn pushed(feed: &mut Feed, piece: &[u8]) -> Result<Vec<Frame>, AllocError> {
     match feed.push(piece) {
         Ok(frames) => Ok(frames),
-        Err(_) => feed.push(piece).ok().ok_or(AllocError),
+        Err(_) => feed.push(piece).map_err(|_| AllocError),
     }
 }
 
-/// The bytes of the messages that a new feed gives of a stream, one behind another.
-fn given_of(alloc: Global, stream: &[u8]) -> Result<Vec<u8>, AllocError> {
-    let mut feed = Feed::new(alloc);
+/// The bytes of messages, one behind another.
+fn joined(alloc: Global, frames: &[Frame]) -> Result<Vec<u8>, AllocError> {
     let mut bytes = Vec::new(alloc);
-    for frame in &pushed(&mut feed, stream)? {
+    for frame in frames {
         bytes.extend_from_slice(frame.bytes())?;
     }
     Ok(bytes)
 }
 
+/// The bytes of the messages that a feed gives of a stream, one behind another.
+fn given_of(alloc: Global, feed: &mut Feed, stream: &[u8]) -> Result<Vec<u8>, AllocError> {
+    let frames = pushed(feed, stream)?;
+    joined(alloc, &frames)
+}
+
+/// Two texts one behind another, on the wire.
+fn stream_of(alloc: Global, first: &str, second: &str) -> Result<String, AllocError> {
+    let text = format!(in alloc; "{first}{second}")?;
+    wire(alloc, text.as_str())
+}
+
 /// The messages that a new feed gives of a front and SECOND behind it, which is called by this name.
 pub fn told(alloc: Global, front: &str) -> Result<String, AllocError> {
-    let stream = format!(in alloc; "{front}{SECOND}")?;
-    let stream = wire(alloc, stream.as_str())?;
-    let given = given_of(alloc, stream.as_bytes())?;
-    shown(alloc, &given)?.replace(alloc, SECOND, "SECOND")
+    let stream = stream_of(alloc, front, SECOND)?;
+    let given = given_of(alloc, &mut Feed::new(alloc), stream.as_bytes())?;
+    let text = shown(alloc, &given)?;
+    replaced(alloc, text.as_str(), SECOND, "SECOND")
 }
 
 /// Fronts that a message may follow from.
@@ -95,20 +106,30 @@ fn given_in(feed: &mut Feed, stream: &[u8], size: usize) -> Result<(usize, usize
     Ok((count, bytes))
 }
 
-/// The same of one feed with sizes one after another, as a text.
-fn given_by(alloc: Global, stream: &[u8], sizes: &str) -> Result<String, AllocError> {
-    let mut feed = Feed::new(alloc);
-    let mut text = String::new(alloc);
+/// Tells the same of sizes one after another.
+fn tell_given(
+    text: &mut String,
+    feed: &mut Feed,
+    stream: &[u8],
+    sizes: &str,
+) -> Result<(), AllocError> {
     for size in sizes.split(' ') {
-        let given = given_in(&mut feed, stream, number(size) as usize)?;
+        let given = given_in(feed, stream, number(size) as usize)?;
         write!(text, "{given:?}")?;
     }
+    Ok(())
+}
+
+/// The same of a new feed, as a text.
+fn given_by(alloc: Global, stream: &[u8], sizes: &str) -> Result<String, AllocError> {
+    let mut text = String::new(alloc);
+    tell_given(&mut text, &mut Feed::new(alloc), stream, sizes)?;
     Ok(text)
 }
 
 /// The same of the stream and the sizes of a row.
 pub fn pieces_told(alloc: Global, asked: &str) -> Result<String, AllocError> {
-    let (stream, sizes) = asked.split_once(" by ").unwrap_or((asked, ""));
+    let (stream, sizes) = parts_at(asked, " by ");
     let stream = wire(alloc, stream)?;
     given_by(alloc, stream.as_bytes(), sizes)
 }
@@ -138,12 +159,21 @@ pub enum Change {
     Raise,
 }
 
+/// How many messages a feed gives with a piece.
+fn count_with(feed: &mut Feed, piece: &[u8]) -> Result<usize, AllocError> {
+    Ok(pushed(feed, piece)?.len())
+}
+
+/// How many messages a feed gives with a piece, and with the next.
+fn counts_of(feed: &mut Feed, front: &[u8], rest: &[u8]) -> Result<(usize, usize), AllocError> {
+    let before = count_with(feed, front)?;
+    Ok((before, count_with(feed, rest)?))
+}
+
 /// How many messages a new feed gives of a stream up to a cut, and behind it.
 fn counts_at(alloc: Global, stream: &[u8], cut: usize) -> Result<(usize, usize), AllocError> {
     let (front, rest) = stream.split_at(cut.min(stream.len()));
-    let mut feed = Feed::new(alloc);
-    let before = pushed(&mut feed, front)?.len();
-    Ok((before, pushed(&mut feed, rest)?.len()))
+    counts_of(&mut Feed::new(alloc), front, rest)
 }
 
 /// How many messages a new feed gives of a stream that is changed at a place: before a cut, and behind it.
@@ -181,8 +211,7 @@ fn places_in(alloc: Global, stream: &[u8], change: Change) -> Result<String, All
 
 /// The same of FIRST and SECOND.
 pub fn places_told(alloc: Global, change: Change) -> Result<String, AllocError> {
-    let stream = format!(in alloc; "{FIRST}{SECOND}")?;
-    let stream = wire(alloc, stream.as_str())?;
+    let stream = stream_of(alloc, FIRST, SECOND)?;
     places_in(alloc, stream.as_bytes(), change)
 }
 

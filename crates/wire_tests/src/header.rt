@@ -1,5 +1,5 @@
 //! The header of a message, whatever else is in it.
-use crate::messages::fields_of;
+use crate::messages::{fields_of, text_in};
 use crate::rows::{Subject, check};
 use gu_msgs::{Header, header};
 use std::alloc::{AllocError, Global};
@@ -17,7 +17,7 @@ pub const ROWS: &str = "\
 /// A part of a header.
 fn part_of(part: &Option<Vec<u8>>) -> &str {
     match part {
-        Some(bytes) => str::from_utf8(bytes).unwrap_or("?"),
+        Some(bytes) => text_in(bytes),
         None => "-",
     }
 }

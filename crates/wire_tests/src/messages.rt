@@ -30,24 +30,38 @@ pub fn meant(alloc: Global, text: &str) -> Result<String, AllocError> {
     Ok(meant)
 }
 
+/// Bytes that are a text.
+pub fn text_in(bytes: &[u8]) -> &str {
+    str::from_utf8(bytes).unwrap_or("?")
+}
+
+/// A text with another part wherever it has this one.
+pub fn replaced(alloc: Global, text: &str, part: &str, by: &str) -> Result<String, AllocError> {
+    text.replace(alloc, part, by)
+}
+
 /// What a text is on the wire.
 pub fn wire(alloc: Global, text: &str) -> Result<String, AllocError> {
-    meant(alloc, text)?.replace(alloc, "|", "\x01")
+    let text = meant(alloc, text)?;
+    replaced(alloc, text.as_str(), "|", "\x01")
 }
 
 /// What bytes on the wire are as a text: `|` ends a field, and a `|` on the wire is `!`.
 pub fn shown(alloc: Global, bytes: &[u8]) -> Result<String, AllocError> {
-    let text = str::from_utf8(bytes).unwrap_or("?");
-    text.replace(alloc, "|", "!")?.replace(alloc, "\x01", "|")
+    let text = replaced(alloc, text_in(bytes), "|", "!")?;
+    replaced(alloc, text.as_str(), "\x01", "|")
+}
+
+/// The last message that a feed gives with a piece.
+fn last_with(feed: &mut Feed, piece: &[u8]) -> Result<Frame, AllocError> {
+    let mut frames = feed.push(piece).map_err(|_| AllocError)?;
+    frames.pop().ok_or(AllocError)
 }
 
 /// The one message that a new feed gives of a text.
 pub fn frame_in(alloc: Global, text: &str) -> Result<Frame, AllocError> {
     let bytes = wire(alloc, text)?;
-    match Feed::new(alloc).push(bytes.as_bytes()) {
-        Ok(mut frames) => frames.pop().ok_or(AllocError),
-        Err(_) => Err(AllocError),
-    }
+    last_with(&mut Feed::new(alloc), bytes.as_bytes())
 }
 
 /// Appends the field of a part of a text, at the second try where the first is refused.
@@ -76,8 +90,7 @@ pub fn fields_of(alloc: Global, text: &str) -> Result<Fields, AllocError> {
 pub fn text_of(alloc: Global, fields: &Fields) -> Result<String, AllocError> {
     let mut text = String::new(alloc);
     for field in fields {
-        let value = str::from_utf8(field.value).unwrap_or("?");
-        write!(text, "{}={value}|", field.tag)?;
+        write!(text, "{}={}|", field.tag, text_in(field.value))?;
     }
     Ok(text)
 }

@@ -1,6 +1,6 @@
 //! What messages are read as.
-use crate::messages::fields_of;
-use crate::requests::{tell_request, text_in};
+use crate::messages::{fields_of, text_in};
+use crate::requests::tell_request;
 use crate::rows::{Subject, check};
 use gu_fix::Fields;
 use gu_msgs::{Inbound, MsgFault, read, sender};
@@ -215,7 +215,7 @@ fn joined(alloc: Global, front: &str, middle: &str, end: &str) -> Result<Fields,
 /// The message of which this stands behind a sound header.
 pub fn inbound_of(alloc: Global, text: &str) -> Result<Inbound, AllocError> {
     let fields = joined(alloc, SOUND, text, "")?;
-    read(alloc, &fields).ok().ok_or(AllocError)
+    read(alloc, &fields).map_err(|_| AllocError)
 }
 
 /// The fields of a message and a text behind it, or of a message with a part of it in another form.

@@ -1,7 +1,6 @@
 //! Firms' reports in each of their forms, and their acknowledgements. `|` ends a field.
-use crate::messages::{FIRST, shown};
+use crate::messages::{FIRST, shown, text_in};
 use crate::reading::{answer, fields_in};
-use crate::requests::text_in;
 use crate::rows::{Subject, check, first_word, number};
 use crate::words::{Values, rejection_of};
 use gu_fix::encode_onto;

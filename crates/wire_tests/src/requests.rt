@@ -1,14 +1,10 @@
 //! What a firm asks for, as a text.
+use crate::messages::text_in;
 use gu_msgs::Request;
 use gu_terms::{
     AccountId, Command, Day, FirmId, Id, Lines, Lots, OfferNo, Price, Query, Side, Symbol,
 };
 use std::alloc::{AllocError, Global};
-
-/// Bytes that are a text.
-pub fn text_in(bytes: &[u8]) -> &str {
-    str::from_utf8(bytes).unwrap_or("?")
-}
 
 /// Tells what a firm says of a trade, by what it does and the ids.
 fn tell_trade(

@@ -82,7 +82,7 @@ fn told(alloc: Global, w: &Values, subject: Subject, asked: &str) -> Result<Stri
 
 /// What is wrong with a row: an empty text where it is right.
 fn fault(alloc: Global, w: &Values, subject: Subject, row: &str) -> Result<String, AllocError> {
-    let (asked, expected) = row.split_once(" -> ").unwrap_or((row, ""));
+    let (asked, expected) = parts_at(row, " -> ");
     let expected = meant(alloc, expected)?;
     let found = told(alloc, w, subject, asked)?;
     if found.as_str() == expected.as_str() {
@@ -114,9 +114,14 @@ pub fn check(rt: &impl Abort, alloc: Global, subject: Subject, table: &str) {
     }
 }
 
+/// What stands in front of a mark in a text, and what stands behind it: the whole text, and nothing, where the mark isn't in it.
+pub fn parts_at<'a>(text: &'a str, mark: &str) -> (&'a str, &'a str) {
+    text.split_once(mark).unwrap_or((text, ""))
+}
+
 /// The first word of a text, and the rest behind the space.
 pub fn first_word(text: &str) -> (&str, &str) {
-    text.split_once(' ').unwrap_or((text, ""))
+    parts_at(text, " ")
 }
 
 /// The number that a word writes.

@@ -9,9 +9,9 @@
 //! - `firm name`: this firm is logged on
 //! - `each 2 9 lines`: the lines, which `; ` parts, for each number from 2 to 9 in the place of `#`
 use crate::bodies::{message_at, message_of};
-use crate::messages::{frame_in, shown};
+use crate::messages::{frame_in, replaced, shown};
 use crate::requests::request_text;
-use crate::rows::{first_word, number};
+use crate::rows::{first_word, number, parts_at};
 use crate::words::{Values, notice_of, outcome_of, sample};
 use gu_session::{AskRef, Input, Output, Session};
 use gu_terms::{FirmId, Moment, Side};
@@ -202,7 +202,7 @@ fn check_line(rt: &impl Abort, alloc: Global, talk: &mut Talk, name: &str, line:
 /// Lines with a number in the place of `#`.
 fn lines_with(alloc: Global, lines: &str, number: u64) -> Result<String, AllocError> {
     let number = format!(in alloc; "{number}")?;
-    lines.replace(alloc, "#", number.as_str())
+    replaced(alloc, lines, "#", number.as_str())
 }
 
 /// Asserts that lines are right for each of their numbers.
@@ -219,7 +219,7 @@ fn check_each(rt: &impl Abort, alloc: Global, talk: &mut Talk, name: &str, text:
 
 /// Asserts that each line of a conversation is right behind its name, and that nothing is left at its end.
 fn follow_one(rt: &impl Abort, alloc: Global, talk: &'static str) {
-    let (name, lines) = talk.split_once('\n').unwrap_or((talk, ""));
+    let (name, lines) = parts_at(talk, "\n");
     let mut talk = begin(rt, alloc);
     for line in lines.lines() {
         match first_word(line) {

@@ -1,5 +1,5 @@
 //! What messages are written as.
-use crate::messages::{fields_of, text_of};
+use crate::messages::{fields_of, replaced, text_of};
 use crate::rows::{Subject, check, first_word, number};
 use crate::words::Values;
 use gu_msgs::outbound::Body;
@@ -28,7 +28,8 @@ fn written(alloc: Global, message: &Outbound) -> Result<String, AllocError> {
 /// What a message that is sent at nine is written as, but for those parts of the header that each has, where it has them.
 pub fn text_at_nine(alloc: Global, w: &Values, body: Body) -> Result<String, AllocError> {
     let text = written(alloc, &at_nine(w, body))?;
-    text.replace(alloc, "49=GIVEUP|56=E1|34=3|52=20260105-09:00:00.000|", "")
+    let each = "49=GIVEUP|56=E1|34=3|52=20260105-09:00:00.000|";
+    replaced(alloc, text.as_str(), each, "")
 }
 
 /// A TestRequest, or a SequenceReset to a number, when it is sent, and when it was sent first; and what it is written as.
