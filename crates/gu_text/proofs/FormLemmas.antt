@@ -1,6 +1,6 @@
 -- Lines of a script, form by form.
 use Rattle.std.proofs.Common.{◌≡◌, ◌≢◌, ◌⊎◌, ◌++◌, ◌∷◌, [], ◌∙◌, ◌↔◌, ℕ, Bool, true, false, cond, List, Option, None, Some, IsTrue, IsSome, IfSome, MatchOption, refl, sym, ap, subst, inl, inr, append_assoc}
-use Rattle.std.specs.Prelude.{codes}
+use Rattle.std.specs.Prelude.{codes, ℤ}
 use Rattle.std.specs.List.{find, AllByRecursion}
 use Rattle.std.specs.Option.{option_and_then}
 use Rattle.std.specs.Str.{bytes_eq}
@@ -9,16 +9,20 @@ use Rattle.std.proofs.lemmas.Slice.Eq.{bytes_eq-Decides}
 use Rattle.gu_terms.specs.Days.{WritesDay}
 use Rattle.gu_terms.specs.LimitKeys.{key_of, keys_named, kind_of, name_of_key}
 use Rattle.gu_terms.specs.Lines.{AreLines}
-use Rattle.gu_terms.specs.Names.{is_name}
-use Rattle.gu_terms.specs.NumberText.{MeansLots}
-use Rattle.gu_terms.specs.declared.command.Command.TheVariants.{SetLimit}
+use Rattle.gu_terms.specs.Names.{IsId, is_name}
+use Rattle.gu_terms.specs.NumberText.{MeansLots, MeansPrice}
+use Rattle.gu_terms.specs.declared.account.AccountId.{AccountId}
+use Rattle.gu_terms.specs.declared.command.Command.TheVariants.{ReportSide, SetLimit}
 use Rattle.gu_terms.specs.declared.day.Day.{Day}
+use Rattle.gu_terms.specs.declared.firm.FirmId.{FirmId}
 use Rattle.gu_terms.specs.declared.group.Group.{Group}
 use Rattle.gu_terms.specs.declared.limit_key.LimitKey.{LimitKey}
 use Rattle.gu_terms.specs.declared.lines.Line.{Line as GiveUpLine}
+use Rattle.gu_terms.specs.declared.side.Side.{Side}
+use Rattle.gu_terms.specs.declared.symbol.Symbol.{Symbol}
 use Rattle.gu_world.specs.declared.step.Step.TheVariants.{Enter}
 use Rattle.gu_text.specs.ScriptForms.{ReadsLines, WriteNone, WritesLine, WritesNoLine}
-use Rattle.gu_text.specs.Scripts.{WriteLines, Writes}
+use Rattle.gu_text.specs.Scripts.{WriteLines, Writes, side_word}
 use Rattle.gu_text.specs.SheetLines.{key_said, name_of, number_of}
 use Rattle.gu_text.specs.declared.script_forms.Form.TheVariants as form
 use Rattle.gu_text.specs.declared.script_line.Line.TheVariants as line
@@ -68,6 +72,35 @@ limit_found words group group_word kind name text key lots words_are group_is ke
           ∙ ap (λ (n : List ℕ). codes "LIMIT" ∷ group.name ∷ kind_of key ∷ n ∷ text ∷ []) is.1,
       rw (is_group, named) refl,
       sym lots_are,
+    )
+
+-- a report is written
+pub report_found : (words rest behind : List (List ℕ)) (firm_word id_word match_word side_text symbol_word lots_text price_text account_word : List ℕ)
+    (firm : FirmId) (id match_id : List ℕ) (side : Side) (symbol : Symbol) (lots : ℕ) (price : ℤ) (account : AccountId)
+    → words ≡ firm_word ∷ id_word ∷ match_word ∷ rest → rest ≡ side_text ∷ symbol_word ∷ lots_text ∷ behind → behind ≡ price_text ∷ account_word ∷ []
+    → Some firm.name ≡ name_of firm_word → IsId id_word → id ≡ id_word → IsId match_word → match_id ≡ match_word → side_text ≡ side_word side
+    → Some symbol.name ≡ name_of symbol_word → MeansLots lots_text lots → MeansPrice price_text price → Some account.name ≡ name_of account_word
+    → Writes (codes "REPORT" ∷ words) (line.Step (Enter (ReportSide firm id match_id symbol lots price None side account)))
+report_found words rest behind firm_word id_word match_word side_text symbol_word lots_text price_text account_word firm id match_id side symbol lots price account words_are rest_are behind_are firm_is own own_is matching match_is side_is symbol_is means_lots means_price account_is =
+    let firmed = name_kept (is_name firm_word) firm_word firm.name (sym firm_is) in
+    let traded = name_kept (is_name symbol_word) symbol_word symbol.name (sym symbol_is) in
+    let held = name_kept (is_name account_word) account_word account.name (sym account_is) in
+    let is_firm : is_name firm.name ≡ true = ap is_name (sym firmed.1) ∙ firmed.0 in
+    let is_symbol : is_name symbol.name ≡ true = ap is_name (sym traded.1) ∙ traded.0 in
+    let is_account : is_name account.name ≡ true = ap is_name (sym held.1) ∙ held.0 in
+    let firm_same : firm_word ≡ firm.name = firmed.1 in
+    let symbol_same : symbol_word ≡ symbol.name = traded.1 in
+    let account_same : account_word ≡ account.name = held.1 in
+    let whole : words ≡ firm.name ∷ id ∷ match_id ∷ side_word side ∷ symbol.name ∷ lots_text ∷ price_text ∷ account.name ∷ [] = cc in (
+      lots_text,
+      price_text,
+      ap (λ (ws : List (List ℕ)). codes "REPORT" ∷ ws) whole,
+      rw (is_firm, is_symbol, is_account) refl,
+      subst IsId (sym own_is) own,
+      subst IsId (sym match_is) matching,
+      means_lots,
+      means_price,
+      refl,
     )
 
 -- a word that writes no day opens none
