@@ -22,7 +22,7 @@ const NOT_TEXT: &str = "invalid UTF-8 was detected in one or more arguments";
 const NO_FIRM: &str = "invalid value for '<FIRM>': a firm is 1 to 12 of A-Z, 0-9 and -";
 
 /// What the words ask for.
-#[derive(Clone, Copy, Debug, PartialEq, Eq)]
+#[derive(Clone, Copy, Debug)]
 pub enum Task<'a> {
     /// Trade capture on the sample.
     Capture,
@@ -131,7 +131,10 @@ fn program<'a>(alloc: Global) -> Result<Command<'a>, AllocError>
 
 /// The refusal of a word, for this reason, with how the program is called.
 fn refusal(alloc: Global, why: &str) -> Result<Error, AllocError> {
-    program(alloc)?.error(ErrorKind::InvalidValue, why)
+    let mut command = program(alloc)?;
+    let refused = command.error(ErrorKind::InvalidValue, why);
+    drop(command);
+    refused
 }
 
 /// The word that was given for a name.
@@ -169,7 +172,9 @@ pub fn read<'a, S: AsStr>(alloc: Global, words: &'a [S]) -> Result<Task<'a>, Err
     ensures check { (name : List ℕ) → map S.text words.now ≡ name ∷ codes "check" ∷ [] → Reads result Checks }
 {
     let matches = program(alloc)?.try_get_matches_from(words)?;
-    Ok(task_of(&matches))
+    let task = task_of(&matches);
+    drop(matches);
+    Ok(task)
 }
 
 /// The firm of a name; a word that is none is refused.

@@ -24,10 +24,10 @@ returns-clause-refused g c =
 
 pub returns-clause-capture : goal.returns-clause-capture
 returns-clause-capture g c name words =
-    let wanted : wanted_of c.task_of.result ≡ wanted_by (map g.S.AsStr.text c.args.words.now) = returns-clause-task g c in
+    let wanted : wanted_of c.task_of-task.result ≡ wanted_by (map g.S.AsStr.text c.args.words.now) = returns-clause-task g c in
     wanted ∙ ap wanted_by words ∙ wanted_by-name name
 
 pub returns-clause-check : goal.returns-clause-check
 returns-clause-check g c name words =
-    let wanted : wanted_of c.task_of.result ≡ wanted_by (map g.S.AsStr.text c.args.words.now) = returns-clause-task g c in
+    let wanted : wanted_of c.task_of-task.result ≡ wanted_by (map g.S.AsStr.text c.args.words.now) = returns-clause-task g c in
     wanted ∙ ap wanted_by words ∙ wanted_by-check name
