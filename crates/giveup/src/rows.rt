@@ -60,10 +60,27 @@ pub fn meant(alloc: Global, text: &str) -> Result<String, AllocError> {
     Ok(meant)
 }
 
+/// Asserts that a text is as a row says.
+pub fn check_text(rt: &impl Abort, row: &str, text: &str, expected: &str) {
+    assert_eq!(rt; text, expected, "{row}");
+}
+
 /// Asserts that a run tells what a row says.
 pub fn check_told(rt: &impl Abort, row: &str, told: Result<String, AllocError>, expected: &str) {
     let told = told.expect(rt, "memory");
-    assert_eq!(rt; told.as_str(), expected, "{row}");
+    check_text(rt, row, &told, expected);
+}
+
+/// Asserts that a run tells this, with a number in the place of a row.
+pub fn check_numbered(
+    rt: &impl Abort,
+    alloc: Global,
+    number: usize,
+    told: Result<String, AllocError>,
+    expected: &str,
+) {
+    let row = format!(in alloc; "{number}").expect(rt, "memory");
+    check_told(rt, &row, told, expected);
 }
 
 /// What a run on a text tells, as it is meant.
@@ -119,7 +136,7 @@ pub fn check_cuts(rt: &impl Abort, alloc: Global, engine: Engine, input: &str, o
     let expected = front_told(alloc, "done: all", output).expect(rt, "memory");
     for first in 1..input.len() {
         let terms = Terms { first, ..AMPLE };
-        let told = told_of_text(alloc, engine, input, terms).expect(rt, "memory");
-        assert_eq!(rt; told.as_str(), expected.as_str(), "cut at {first}");
+        let told = told_of_text(alloc, engine, input, terms);
+        check_numbered(rt, alloc, first, told, &expected);
     }
 }

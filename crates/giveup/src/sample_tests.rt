@@ -1,5 +1,6 @@
 //! The sample house.
 
+use crate::rows::check_text;
 use crate::sample::{ROWS, sample_day};
 
 /// Its rows, each with its end.
@@ -25,6 +26,7 @@ AGREEMENT,P4,E2,A3
 
 #[test]
 fn the_sample_is_seventeen_rows_and_a_monday(rt: HostRuntime) {
-    assert_eq!(rt; str::from_utf8(ROWS).unwrap_or("?"), TYPED);
+    let rows = str::from_utf8(ROWS).unwrap_or("?");
+    check_text(&rt, "the rows", rows, TYPED);
     assert!(rt; sample_day().get() == (2026, 1, 5));
 }

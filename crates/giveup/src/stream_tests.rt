@@ -2,7 +2,9 @@
 //! the answer are written then.
 
 use crate::engines::{Engine, told};
-use crate::rows::{check, check_cuts, check_terms, check_told, front_told, told_of_text};
+use crate::rows::{
+    check, check_cuts, check_numbered, check_terms, check_told, front_told, told_of_text,
+};
 use crate::streams::wire;
 use crate::terms::{AMPLE, Terms};
 use crate::transcripts::{answers_of, script_of, whole};
@@ -135,8 +137,8 @@ fn check_reads(
             reads,
             ..AMPLE
         };
-        let told = told_of_text(alloc, Engine::Replay(""), script, terms).expect(rt, "memory");
-        assert_eq!(rt; told.as_str(), expected.as_str(), "{reads}");
+        let told = told_of_text(alloc, Engine::Replay(""), script, terms);
+        check_numbered(rt, alloc, reads, told, &expected);
     }
 }
 
@@ -175,6 +177,20 @@ fn front_in_writes(alloc: Global, answers: &str, writes: usize) -> Result<String
     front_told(alloc, &taken, answers)
 }
 
+/// Asserts that what so few writes take is a front of the text.
+fn check_few(rt: &impl Abort, alloc: Global, script: &str, answers: &str, writes: usize) {
+    let expected = front_in_writes(alloc, answers, writes).expect(rt, "memory");
+    let told = told_in_writes(alloc, script, writes);
+    check_numbered(rt, alloc, writes, told, &expected);
+}
+
+/// Asserts that so many writes are enough.
+fn check_enough(rt: &impl Abort, alloc: Global, script: &str, answers: &str, writes: usize) {
+    let expected = front_told(alloc, "done: all", answers).expect(rt, "memory");
+    let told = told_in_writes(alloc, script, writes);
+    check_told(rt, "enough writes", told, &expected);
+}
+
 #[test]
 fn what_the_writer_took_is_a_front_of_the_text(rt: HostRuntime) {
     let alloc = rt.alloc();
@@ -184,13 +200,9 @@ fn what_the_writer_took_is_a_front_of_the_text(rt: HostRuntime) {
     // A text that is written at once.
     let enough = answers.len().div_ceil(16);
     for writes in 0..enough {
-        let expected = front_in_writes(alloc, &answers, writes).expect(&rt, "memory");
-        let told = told_in_writes(alloc, &script, writes).expect(&rt, "memory");
-        assert_eq!(rt; told.as_str(), expected.as_str(), "{writes}");
+        check_few(&rt, alloc, &script, &answers, writes);
     }
-    let expected = front_told(alloc, "done: all", &answers).expect(&rt, "memory");
-    let told = told_in_writes(alloc, &script, enough);
-    check_told(&rt, "enough writes", told, &expected);
+    check_enough(&rt, alloc, &script, &answers, enough);
 }
 
 /// Scripts whose last line lacks its end, or has a CR. Only the CR before an LF is dropped, and only one.
