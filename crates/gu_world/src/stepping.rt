@@ -10,7 +10,7 @@ use crate::looks::Looks;
 use crate::outcome::Outcome;
 use crate::worker::Worker;
 use gu_book::{Book, CommitError, EnterError, LookError};
-use gu_terms::{Command, Group};
+use gu_terms::{Command, Entry, Group, Receipt};
 use std::alloc::{AllocError, Global};
 
 /// Enters a command.
@@ -20,10 +20,12 @@ pub fn enter(book: &mut Book, command: Command) -> Result<Outcome, AllocError>
     ensures grows { Grows book.old book.new }
     ensures refused { OnErr result (book.new ≡ book.old) }
 {
-    match book.enter(command) {
-        Ok(receipt) => Ok(Outcome::Asked(receipt)),
-        Err(EnterError::Full) => Ok(Outcome::Full),
-        Err(EnterError::Memory) => Err(AllocError),
+    match ask(book, &command)? {
+        Some(Answered { number, reply }) => {
+            let entry = Entry::Asked { command, reply };
+            Ok(Outcome::Asked(Receipt { number, entry }))
+        }
+        None => Ok(Outcome::Full),
     }
 }
 
