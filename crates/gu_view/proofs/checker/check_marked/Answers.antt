@@ -1,4 +1,4 @@
-use Rattle.std.proofs.Common.{arith, ◌≡◌, ◌∙◌, sym, None}
+use Rattle.std.proofs.Common.{rules, arith, ◌≡◌, ◌∙◌, sym, None}
 use Rattle.gu_view.specs.Check.{over_offer}
 use Rattle.gu_view.proofs.Checked.{lots_small, keys_small, offers_small, known_ok, known_differs}
 use Rattle.gu_view.proofs.checker.check_marked.Goals as goal
@@ -24,6 +24,9 @@ overflow_add-room_in_keys c =
       keys_small c.args.view.now c.args.keys.now c.rooms.ensures.sound,
       offers_small c.args.view.now c.args.numbers.now c.rooms.ensures.sound,
     )
+
+pub returns-in-Some-first_uncovered : goal.returns-in-Some-first_uncovered
+returns-in-Some-first_uncovered c = search rules
 
 pub returns-then-lots-room_in_keys : goal.returns-then-lots-room_in_keys
 returns-then-lots-room_in_keys c lots cut marked =
