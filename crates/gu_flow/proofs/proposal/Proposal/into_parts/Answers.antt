@@ -1,5 +1,13 @@
+use Rattle.std.proofs.Common.{ap}
+use Rattle.gu_flow.specs.Proposals.{ProposedSweep}
 use Rattle.gu_view.proofs.Checked.{ok_from_right}
 use Rattle.gu_flow.proofs.proposal.Proposal.into_parts.Goals as goal
+
+pub returns-clause-lots : goal.returns-clause-lots
+returns-clause-lots c = ap (λ (s : ProposedSweep). s.lots) c.self.view_is
+
+pub returns-clause-sound : goal.returns-clause-sound
+returns-clause-sound c = c.self.invariant
 
 pub returns-clause-checked : goal.returns-clause-checked
 returns-clause-checked c =
