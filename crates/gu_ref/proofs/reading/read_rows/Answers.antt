@@ -53,6 +53,9 @@ returns-in_err-accept-in-Ok-clause-refused g c =
     passed_on bytes c.from_residual.result fault c.from_residual.ensures.1
     (refused_row g.R.Read.remaining c.loop-fields.fields-iterator.rdr c.next.new.self.rdr bytes c.loop-fields.reference (fields_of c.in-Ok.fields) fault inv.setup.config inv.so_far s.0 c.in_err-accept-in-Ok.ensures.err)
 
+pub returns-in-Err-clause-accepted : goal.returns-in-Err-clause-accepted
+returns-in-Err-clause-accepted g c = tt
+
 pub returns-in-Err-clause-refused : goal.returns-in-Err-clause-refused
 returns-in-Err-clause-refused g c = rw c.fault_of.ensures (refuses-failure (g.R.Read.remaining c.args.reader) (error_kind c.in-Err.error))
 
