@@ -75,14 +75,14 @@ const FAILING: [(&str, &str); 3] = [
 ];
 
 /// Reads a file of a reader that fails behind it, and compares what comes of it.
-fn fail(rt: &impl Abort, alloc: Global, file: &str, want: &str) {
+fn check_failing(rt: &impl Abort, alloc: Global, file: &str, want: &str) {
     let file = file.as_bytes();
     let text = told(rt, alloc, Failing { file });
     assert_eq!(rt; text.as_str(), want, "{file:?}");
 }
 
 /// Reads a file, and sees how it is asked for.
-fn ask(rt: &impl Abort, alloc: Global, file: &[u8]) {
+fn check_reads(rt: &impl Abort, alloc: Global, file: &[u8]) {
     let mut reader = Recording {
         file,
         greatest: 0,
@@ -98,12 +98,12 @@ fn ask(rt: &impl Abort, alloc: Global, file: &[u8]) {
 #[test]
 fn a_reader_fails_has_no_end_or_is_asked_for_4096_bytes(rt: HostRuntime) {
     for (file, want) in FAILING {
-        fail(&rt, rt.alloc(), file, want);
+        check_failing(&rt, rt.alloc(), file, want);
     }
     let text = told(&rt, rt.alloc(), Endless);
     assert_eq!(rt; text.as_str(), "ReadFault");
     let largest = file_of(rt.alloc(), "the largest", "")
         .ok()
         .expect(&rt, "the largest file");
-    ask(&rt, rt.alloc(), largest.as_bytes());
+    check_reads(&rt, rt.alloc(), largest.as_bytes());
 }
