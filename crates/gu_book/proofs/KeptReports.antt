@@ -18,7 +18,7 @@ use Rattle.gu_terms.specs.declared.symbol.Symbol.{Symbol}
 use Rattle.gu_terms.proofs.Lists.{along}
 use Rattle.gu_terms.proofs.SameValues.{both}
 use Rattle.gu_ref.specs.Tables.{Tables}
-use Rattle.gu_ref.proofs.Lookups.{is_some-find}
+use Rattle.gu_terms.proofs.Found.{is_some-find}
 use Rattle.gu_trades.specs.Matching.{conflicts, is_of_trade}
 use Rattle.gu_trades.specs.Reports.{has_report, is_by, report_by, with_match}
 use Rattle.gu_offers.specs.Rows.{Row, counted_of, counted_under, is_of_report}

@@ -10,7 +10,7 @@ use Rattle.gu_ref.specs.Accepted.{is_known}
 use Rattle.gu_ref.specs.Listed.{has_firm}
 use Rattle.gu_ref.specs.Tables.{Tables}
 use Rattle.gu_terms.specs.Same.{same_firm}
-use Rattle.gu_ref.proofs.Lookups.{by_name}
+use Rattle.gu_terms.proofs.Found.{by_name}
 
 -- rows of distinct names have distinct names
 distinct-map : {X K : Type 0} (same : K → K → Bool) (name : X → K) (rows : List X) → IsDistinct (λ a b. same (name a) (name b)) rows → IsDistinct same (map name rows)

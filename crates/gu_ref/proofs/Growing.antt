@@ -20,7 +20,7 @@ use Rattle.gu_ref.specs.Rules.{IsSound, IsOnce, IsWithinLimits, same_pair}
 use Rattle.gu_terms.specs.Same.{same_firm, same_group, same_account, same_agreement}
 use Rattle.gu_ref.specs.Tables.{Tables}
 use Rattle.gu_ref.proofs.FewGuarantors.{few_guarantors}
-use Rattle.gu_ref.proofs.Lookups.{is_some-find}
+use Rattle.gu_terms.proofs.Found.{distinct-push, is_some-find}
 
 tests : {F : Type 0} (p q r s : Bool) (a b c d : F)
     → (if not p then Some a else if q then Some b else if r then Some c else if s then Some d else None) ≡ None
@@ -97,18 +97,6 @@ foreign-more t _ (row.Guarantor g) k h = h
 all-one : {X : Type 0} (P : X → Type 0) (x : X) → P x → All P (x ∷ [])
 all-one P x p zero d h = p
 all-one P x p (suc k) d h = absurd (omega arith)
-
--- a row whose key is new stands once
-pub distinct-push : {X : Type 0} (same : X → X → Bool) (xs : List X) (x : X) → list_any (λ y. same y x) xs ≡ false → IsDistinct same xs → IsDistinct same (xs ++ x ∷ [])
-unfolding IsDistinct
-distinct-push same [] x h d = (tt, tt)
-distinct-push {X} same (y ∷ xs) x h d =
-    let p = neither (same y x) _ h in
-    (apart xs d.0, distinct-push same xs x p.1 d.1)
-  where
-    apart : (zs : List X) → AllByRecursion (λ z. same y z ≡ false) zs → AllByRecursion (λ z. same y z ≡ false) (zs ++ x ∷ [])
-    apart [] a = ((neither (same y x) _ h).0, tt)
-    apart (z ∷ zs) a = (a.0, apart zs a.1)
 
 -- what a search does not find is not among them
 none-found : {X : Type 0} (test : X → Bool) (xs : List X) → is_some (find test xs) ≡ false → list_any test xs ≡ false

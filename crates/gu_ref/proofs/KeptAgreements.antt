@@ -9,7 +9,8 @@ use Rattle.gu_ref.specs.declared.agreements.Pair.{Pair}
 use Rattle.gu_ref.specs.Kept.{IsKept, pair_of}
 use Rattle.gu_ref.specs.Listed.{agreement_in, agreement_for}
 use Rattle.gu_terms.specs.Same.{same_agreement, same_firm, same_account}
-use Rattle.gu_ref.proofs.Lookups.{by_name, by_names, pushed}
+use Rattle.gu_terms.proofs.Found.{by_name, by_names}
+use Rattle.gu_ref.proofs.Lookups.{pushed}
 
 -- one pair
 abbrev pub same_pair : Pair → Pair → Bool

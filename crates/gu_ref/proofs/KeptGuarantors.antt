@@ -12,7 +12,8 @@ use Rattle.gu_ref.specs.declared.guarantors.Guarantors.TheInside.{Inside}
 use Rattle.gu_ref.specs.Kept.{IsGuaranteed}
 use Rattle.gu_ref.specs.Listed.{has_firm, guarantor_for, is_guarantor_in}
 use Rattle.gu_terms.specs.Same.{same_firm}
-use Rattle.gu_ref.proofs.Lookups.{by_name, pushed}
+use Rattle.gu_terms.proofs.Found.{by_name}
+use Rattle.gu_ref.proofs.Lookups.{pushed}
 
 or-false : (b : Bool) → (b || false) ≡ b
 or-false true = refl

@@ -5,7 +5,6 @@ pub mod KeptAgreements
 pub mod KeptGuarantors
 pub mod Lookups
 pub mod OneAnswer
-pub mod OwnRow
 pub mod ReadSoFar
 pub mod RowReading
 pub mod StoppedReads

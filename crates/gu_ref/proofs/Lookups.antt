@@ -1,35 +1,12 @@
 -- A look-up by hash answers as a search of the list, and a new row goes last.
-use Rattle.std.proofs.Common.{◌≡◌, ◌∙◌, sym, refl, ap, Bool, true, false, cond, is_some, ◌||◌, if◌then◌else◌, ◌&&◌, ℕ, List, [], ◌∷◌, ◌++◌, map, None, Some}
+use Rattle.std.proofs.Common.{◌≡◌, ◌∙◌, sym, refl, ap, Bool, false, if◌then◌else◌, List, [], ◌∷◌, ◌++◌, map, None}
 use Rattle.std.proofs.lemmas.List.{map-append}
 use Rattle.std.specs.List.{find, list_any}
 use Rattle.std.specs.Map.{keys_of, values_of, lookup}
 use Rattle.std.specs.Cmp.{IsEquivalence}
-use Rattle.std.specs.Str.{bytes_eq}
-use Rattle.std.proofs.lemmas.Cmp.{nat_list_eq_equiv}
 use Rattle.indexmap.specs.IndexMap.{IndexMap, keys, values, get, insert_entry}
 use Rattle.indexmap.specs.IndexSet.{insert_key}
 use Rattle.indexmap.proofs.CallerLemmas.{insert_entry-new}
-
--- names are the same or not by their bytes
-pub by_name : {K : Type 0} (name : K → List ℕ) → IsEquivalence (λ (a b : K). bytes_eq (name a) (name b))
-by_name name = record {
-  refl = λ a. nat_list_eq_equiv.refl (name a);
-  symm = λ a b. nat_list_eq_equiv.symm (name a) (name b);
-  congr = λ a b c. nat_list_eq_equiv.congr (name a) (name b) (name c);
-}
-
-both-congr : (p q r s t u : Bool) → (p ≡ true → r ≡ s) → (q ≡ true → t ≡ u) → (p && q) ≡ true → (r && t) ≡ (s && u)
-both-congr true true r s t u f g h = rw (f refl, g refl) refl
-both-congr true false r s t u f g h = cc
-both-congr false q r s t u f g h = cc
-
--- two names are the same pair or not by both
-pub by_names : {K : Type 0} (one two : K → List ℕ) → IsEquivalence (λ (a b : K). bytes_eq (one a) (one b) && bytes_eq (two a) (two b))
-by_names one two = record {
-  refl = λ a. rw (nat_list_eq_equiv.refl (one a), nat_list_eq_equiv.refl (two a)) refl;
-  symm = λ a b. rw (nat_list_eq_equiv.symm (one a) (one b), nat_list_eq_equiv.symm (two a) (two b)) refl;
-  congr = λ a b c. both-congr _ _ _ _ _ _ (nat_list_eq_equiv.congr (one a) (one b) (one c)) (nat_list_eq_equiv.congr (two a) (two b) (two c));
-}
 
 module _ {K X : Type 0} (eq : K → K → Bool) (laws : IsEquivalence eq) (key : X → K) where
   -- where each row stands under its own key, the row under a key is the first one of that key
@@ -60,8 +37,3 @@ pub inserted : {K : Type 0} (eq : K → K → Bool) → IsEquivalence eq → (ke
 inserted eq laws kept rows k new view none is =
     let absent : list_any (eq k) kept ≡ false = (λ i. list_any (λ x. laws.symm k x i) kept) ∙ ap (list_any (λ x. eq x k)) view ∙ none in
     is ∙ ap (λ b. if b then kept else kept ++ k ∷ []) absent ∙ ap (λ l. l ++ k ∷ []) view
-
--- a search finds something where the list has it
-pub is_some-find : {X : Type 0} (test : X → Bool) (rows : List X) → is_some (find test rows) ≡ list_any test rows
-is_some-find test [] = refl
-is_some-find test (x ∷ rows) = elim (test x) as (λ b. is_some (cond b (Some x) (find test rows)) ≡ (b || list_any test rows)) [ true ↦ refl | false ↦ is_some-find test rows ]

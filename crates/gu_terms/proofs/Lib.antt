@@ -1,4 +1,5 @@
 pub mod FirstPlaces
+pub mod Found
 pub mod Gathered
 pub mod KeptLemmas
 pub mod KeyLemmas

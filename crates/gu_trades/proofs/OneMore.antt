@@ -4,7 +4,7 @@ use Rattle.std.specs.List.{IsDistinct}
 use Rattle.std.proofs.lemmas.Slice.Eq.{bytes_eq-Decides}
 use Rattle.gu_terms.specs.declared.id.Id.{Id}
 use Rattle.gu_terms.specs.declared.report.Report.{Report}
-use Rattle.gu_ref.proofs.Growing.{distinct-push}
+use Rattle.gu_terms.proofs.Found.{distinct-push}
 use Rattle.gu_trades.specs.Matching.{conflicts, is_other_side}
 use Rattle.gu_trades.specs.Reports.{has_report, with_match}
 use Rattle.gu_trades.specs.Rules.{IsSound, are_sides, same_report}

@@ -12,7 +12,7 @@ use Rattle.gu_terms.specs.declared.id.Id.{Id}
 use Rattle.gu_terms.specs.declared.report.Report.{Report}
 use Rattle.gu_terms.specs.declared.seed.Seed.{Seed}
 use Rattle.gu_trades.specs.declared.trades.Trades.TheInside.{Inside}
-use Rattle.gu_ref.proofs.Lookups.{is_some-find}
+use Rattle.gu_terms.proofs.Found.{is_some-find}
 use Rattle.gu_trades.specs.Counterparts.{counterpart_of, standing_in}
 use Rattle.gu_trades.specs.Kept.{ArePlaced, IsKept, id_number, is_by_at, is_with_at, match_number}
 use Rattle.gu_trades.specs.Matching.{conflicts, have_other_sides, is_of_trade, is_trade, matching_of}

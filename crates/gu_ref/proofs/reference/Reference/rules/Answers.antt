@@ -5,8 +5,7 @@ use Rattle.gu_ref.specs.declared.agreements.Agreement.{Agreement}
 use Rattle.gu_ref.specs.declared.guarantors.Guarantor.{Guarantor}
 use Rattle.gu_ref.specs.Rules.{same_pair}
 use Rattle.gu_terms.specs.Same.{same_account, same_firm}
-use Rattle.gu_ref.proofs.Lookups.{by_name, by_names}
-use Rattle.gu_ref.proofs.OwnRow.{found_by_own_name}
+use Rattle.gu_terms.proofs.Found.{by_name, by_names, found_by_own_name}
 use Rattle.gu_ref.proofs.reference.Reference.rules.Goals as goal
 
 pub returns : goal.returns

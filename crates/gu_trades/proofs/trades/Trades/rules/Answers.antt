@@ -1,6 +1,5 @@
 use Rattle.gu_terms.specs.declared.report.Report.{Report}
-use Rattle.gu_ref.proofs.Lookups.{by_names}
-use Rattle.gu_ref.proofs.OwnRow.{found_by_own_name}
+use Rattle.gu_terms.proofs.Found.{by_names, found_by_own_name}
 use Rattle.gu_trades.specs.Rules.{same_report}
 use Rattle.gu_trades.proofs.trades.Trades.rules.Goals as goal
 

@@ -1,5 +1,5 @@
 use Rattle.std.proofs.Common.{◌∙◌, sym, ap, is_some}
-use Rattle.gu_ref.proofs.Lookups.{is_some-find}
+use Rattle.gu_terms.proofs.Found.{is_some-find}
 use Rattle.gu_trades.specs.Reports.{is_by, report_by}
 use Rattle.gu_trades.proofs.ReportPlaces.{by-found, by-none, by-within}
 use Rattle.gu_trades.proofs.trades.Trades.side_of.Goals as goal
