@@ -19,7 +19,7 @@ mod versions;
 mod views;
 
 pub use book::Book;
-pub use error::{CommitError, EnterError, LookError};
+pub use error::{AskError, CommitError, EnterError};
 pub use laws::{
     an_entry_elsewhere_leaves_the_view, equal_versions_are_untouched, later_touches_come_behind,
     the_least_refusal_is_given,
