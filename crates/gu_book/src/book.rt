@@ -136,7 +136,7 @@ impl Book {
     }
 
     /// Enters a command with its answer, a refusal too, and tells the answer alone.
-    pub fn ask(&mut self, command: &Command) -> Result<Reply, EnterError>
+    pub fn reply_to(&mut self, command: &Command) -> Result<Reply, EnterError>
         ensures entered { IfOk result (λ reply. self.new.history ≡ self.old.history ++ Entry.Asked command.now reply ∷ []) }
         ensures reply { IfOk result (λ reply. reply ≡ answer self.old.reference self.old.history command.now) }
         ensures stands { IfOk result (λ reply. StandsLast self.old.reference (length self.old.history + 1) (Entry.Asked command.now reply)) }
@@ -164,7 +164,7 @@ impl Book {
         ensures reference { self.new.reference ≡ self.old.reference }
         ensures refused { OnErr result (self.new.history ≡ self.old.history) }
     {
-        let reply = self.ask(&command)?;
+        let reply = self.reply_to(&command)?;
         Ok(Receipt {
             number: self.history.len() as u64,
             entry: Entry::Asked { command, reply },

@@ -36,7 +36,7 @@ pub fn ask(book: &mut Book, command: &Command) -> Result<Option<Answered>, Alloc
     ensures grows { Grows book.old book.new }
     ensures refused { OnErr result (book.new ≡ book.old) }
 {
-    match book.ask(command) {
+    match book.reply_to(command) {
         Ok(reply) => {
             let number = book.history().len() as u64;
             Ok(Some(Answered { number, reply }))
