@@ -2,6 +2,7 @@
 #![tactic(auto)]
 
 mod answering;
+mod asking;
 mod book;
 mod current;
 mod error;
@@ -18,6 +19,7 @@ mod touching;
 mod versions;
 mod views;
 
+pub use asking::Answer;
 pub use book::Book;
 pub use error::{AskError, CommitError, EnterError};
 pub use laws::{
