@@ -1,7 +1,7 @@
 //! Questions to a book, and what it tells: line by line.
 
 use crate::words::{number, word};
-use gu_book::{Book, LookError};
+use gu_book::{AskError, Book};
 use gu_limits::path;
 use gu_terms::{
     AccountId, AgreementId, AllocReject, FirmId, Group, LimitKey, LimitRow, Notice, OfferEvent,
@@ -214,8 +214,8 @@ fn tell_view_of(
             drop(view);
             told
         }
-        Err(LookError::UnknownGroup) => append_last_word(text, b"UNKNOWN GROUP"),
-        Err(LookError::Memory) => Err(AllocError),
+        Err(AskError::UnknownGroup) => append_last_word(text, b"UNKNOWN GROUP"),
+        Err(AskError::Memory) => Err(AllocError),
     }
 }
 

@@ -70,7 +70,7 @@ impl Capturing {
         ensures rejection { IfOk result (λ rejection. rejection ≡ rejection_in self.old.book command.now) }
         ensures behind { OnOk result (self.new ≡ record self.old { book = book_behind self.old.book command.now }) }
     {
-        match self.book.ask(command) {
+        match self.book.reply_to(command) {
             Ok(reply) => Ok(Rejection::of_reply(reply)),
             Err(EnterError::Full) => Ok(Some(Rejection::Full)),
             Err(EnterError::Memory) => Err(AllocError),

@@ -15,6 +15,7 @@ pub mod Notices
 pub mod Offers
 pub mod Orderly
 pub mod Positions
+pub mod Questions
 pub mod Reports
 pub mod Shown
 pub mod Sweeps

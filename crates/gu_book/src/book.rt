@@ -16,7 +16,7 @@ ghost use Rattle.gu_view.specs.View.{IsNested};
 
 use crate::answering::answer_of;
 use crate::current::shows_all;
-use crate::error::{CommitError, EnterError, LookError};
+use crate::error::{AskError, CommitError, EnterError};
 use crate::limits::rows_in_order;
 use crate::met::{Met, MetRooms};
 use crate::notices::notices_of;
@@ -136,7 +136,7 @@ impl Book {
     }
 
     /// Enters a command with its answer, a refusal too, and tells the answer alone.
-    pub fn ask(&mut self, command: &Command) -> Result<Reply, EnterError>
+    pub fn reply_to(&mut self, command: &Command) -> Result<Reply, EnterError>
         ensures entered { IfOk result (λ reply. self.new.history ≡ self.old.history ++ Entry.Asked command.now reply ∷ []) }
         ensures reply { IfOk result (λ reply. reply ≡ answer self.old.reference self.old.history command.now) }
         ensures stands { IfOk result (λ reply. StandsLast self.old.reference (length self.old.history + 1) (Entry.Asked command.now reply)) }
@@ -164,7 +164,7 @@ impl Book {
         ensures reference { self.new.reference ≡ self.old.reference }
         ensures refused { OnErr result (self.new.history ≡ self.old.history) }
     {
-        let reply = self.ask(&command)?;
+        let reply = self.reply_to(&command)?;
         Ok(Receipt {
             number: self.history.len() as u64,
             entry: Entry::Asked { command, reply },
@@ -241,14 +241,14 @@ impl Book {
     }
 
     /// The view of a group as the book stands: its open offers, and the room of each key that they come under.
-    pub fn view(&self, group: &Group) -> Result<View, LookError>
+    pub fn view(&self, group: &Group) -> Result<View, AskError>
         ensures view { IfOk result (λ view. view ≡ group_view self.now.reference self.now.history group.now) }
         ensures nested { IfOk result (λ view. IsNested view) }
         ensures known { OnOk result (is_group self.now.reference group.now ≡ true) }
-        ensures unknown { IsErrOf result LookError.UnknownGroup ↔ (is_group self.now.reference group.now ≡ false) }
+        ensures unknown { IsErrOf result AskError.UnknownGroup ↔ (is_group self.now.reference group.now ≡ false) }
     {
         if !self.reference.group(*group) {
-            return Err(LookError::UnknownGroup);
+            return Err(AskError::UnknownGroup);
         }
         Ok(view_of(
             self.alloc,

@@ -26,9 +26,9 @@ impl From<AllocError> for EnterError {
     }
 }
 
-/// Why a group has no view.
+/// Why a question has no answer.
 #[derive(Debug, Drop, Clone, Copy, PartialEq, Eq, Error)]
-pub enum LookError {
+pub enum AskError {
     /// A growth was refused.
     #[error("Memory")]
     Memory,
@@ -37,13 +37,13 @@ pub enum LookError {
     UnknownGroup,
 }
 
-impl From<AllocError> for LookError {
-    ghost use Rattle.gu_book.specs.declared.error.LookError.{LookError};
+impl From<AllocError> for AskError {
+    ghost use Rattle.gu_book.specs.declared.error.AskError.{AskError};
 
-    ghost from_gives = { λ _ error. error ≡ LookError.Memory };
+    ghost from_gives = { λ _ error. error ≡ AskError.Memory };
 
     fn from(_: AllocError) -> Self {
-        LookError::Memory
+        AskError::Memory
     }
 }
 

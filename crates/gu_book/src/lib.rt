@@ -2,6 +2,7 @@
 #![tactic(auto)]
 
 mod answering;
+mod asking;
 mod book;
 mod current;
 mod error;
@@ -18,8 +19,9 @@ mod touching;
 mod versions;
 mod views;
 
+pub use asking::Answer;
 pub use book::Book;
-pub use error::{CommitError, EnterError, LookError};
+pub use error::{AskError, CommitError, EnterError};
 pub use laws::{
     an_entry_elsewhere_leaves_the_view, equal_versions_are_untouched, later_touches_come_behind,
     the_least_refusal_is_given,

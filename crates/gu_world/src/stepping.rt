@@ -9,7 +9,7 @@ use crate::held::{Held, Work};
 use crate::looks::Looks;
 use crate::outcome::Outcome;
 use crate::worker::Worker;
-use gu_book::{Book, CommitError, EnterError, LookError};
+use gu_book::{AskError, Book, CommitError, EnterError};
 use gu_terms::{Command, Entry, Group, Receipt};
 use std::alloc::{AllocError, Global};
 
@@ -36,7 +36,7 @@ pub fn ask(book: &mut Book, command: &Command) -> Result<Option<Answered>, Alloc
     ensures grows { Grows book.old book.new }
     ensures refused { OnErr result (book.new ≡ book.old) }
 {
-    match book.ask(command) {
+    match book.reply_to(command) {
         Ok(reply) => {
             let number = book.history().len() as u64;
             Ok(Some(Answered { number, reply }))
@@ -60,8 +60,8 @@ pub fn see(
 {
     let view = match book.view(&group) {
         Ok(view) => view,
-        Err(LookError::UnknownGroup) => return Ok(Outcome::NoGroup),
-        Err(LookError::Memory) => return Err(AllocError),
+        Err(AskError::UnknownGroup) => return Ok(Outcome::NoGroup),
+        Err(AskError::Memory) => return Err(AllocError),
     };
     looks.make()?;
     let version = view.version();

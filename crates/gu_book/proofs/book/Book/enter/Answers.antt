@@ -24,7 +24,7 @@ returns-clause-stands c =
     subst (λ n. StandsLast c.args.self.now.reference n (Asked c.args.command c.in_ok-reply.reply)) (sym (returns-clause-number c)) c.in_ok-reply.ensures.stands
 
 pub returns-clause-reference : goal.returns-clause-reference
-returns-clause-reference c = c.ask.ensures.reference
+returns-clause-reference c = c.reply_to.ensures.reference
 
 pub returns-clause-refused : goal.returns-clause-refused
 returns-clause-refused c = tt

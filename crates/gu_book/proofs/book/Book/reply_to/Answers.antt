@@ -1,6 +1,6 @@
 use Rattle.std.proofs.Common.{◌≤◌, length, refl, arith, subst}
 use Rattle.gu_book.specs.Kept.{Kept}
-use Rattle.gu_book.proofs.book.Book.ask.Goals as goal
+use Rattle.gu_book.proofs.book.Book.reply_to.Goals as goal
 
 pub returns-then-len-ge-MOST_ENTRIES-clause-full : goal.returns-then-len-ge-MOST_ENTRIES-clause-full
 returns-then-len-ge-MOST_ENTRIES-clause-full c =
