@@ -1,6 +1,6 @@
 -- A row without a fault keeps the rules of a reference.
 use Rattle.std.proofs.Common.{◌≡◌, ◌∙◌, sym, refl, Bool, true, false, not, cond, is_some, ◌&&◌, ◌||◌, ℕ, zero, suc, ◌≤◌, nat_le, List, [], ◌∷◌, ◌++◌, length, slice_index_or, subst, Option, None, Some, if◌then◌else◌, arith, rules, length-append}
-use Rattle.std.specs.List.{find, list_any, All, AllPass, AllByRecursion, IsDistinct}
+use Rattle.std.specs.List.{find, list_any, All, AllPass, IsDistinct}
 use Rattle.std.specs.Option.{option_map}
 use Rattle.std.proofs.lemmas.List.Elements.{All-append}
 use Rattle.std.proofs.lemmas.List.Folds.{list_any-append}

@@ -1,3 +1,4 @@
+pub mod Boards
 pub mod Check
 pub mod Cut
 pub mod Faults

@@ -1,6 +1,7 @@
 //! Views of groups, and the checker of cuts.
 #![tactic(auto)]
 
+mod board;
 mod checker;
 mod error;
 mod keyed_offers;
@@ -12,6 +13,7 @@ mod place_lists;
 mod takes;
 mod view;
 
+pub use board::{Board, ViewToken};
 pub use checker::check;
 pub use error::{CutFault, Unknown, ViewError};
 pub use keyed_offers::KeyedOffers;
