@@ -1,8 +1,8 @@
 // A firm's FIX engine (QuickFIX) that logs on to the desk, reports its side of a trade, loses what it was sent, asks for it again, and logs out.
 // It prints each message that it sends and receives, `|` for SOH.
 #include <quickfix/Application.h>
+#include <quickfix/FileStore.h>
 #include <quickfix/Log.h>
-#include <quickfix/MessageStore.h>
 #include <quickfix/Session.h>
 #include <quickfix/SessionSettings.h>
 #include <quickfix/SocketInitiator.h>
@@ -14,6 +14,7 @@
 #include <iostream>
 #include <mutex>
 #include <string>
+#include <thread>
 
 namespace {
 
@@ -89,6 +90,16 @@ int fail(const char *what) {
   return 1;
 }
 
+// The session expects this number next. QuickFIX counts a message only once fromApp has returned.
+bool expects(FIX::Session &session, int number) {
+  for (int turn = 0; turn < 20000; ++turn) {
+    if (session.getExpectedTargetNum() == number)
+      return true;
+    std::this_thread::sleep_for(std::chrono::milliseconds(1));
+  }
+  return false;
+}
+
 int talk(Firm &firm) {
   if (!firm.wait([](const Firm &f) { return f.is_on; }))
     return fail("logon");
@@ -98,13 +109,16 @@ int talk(Firm &firm) {
     return fail("acknowledgement");
 
   // It forgets the acknowledgement, as if it had been lost on its way. The next message shows the gap.
-  FIX::Session::lookupSession(firm.session)->setNextTargetMsgSeqNum(2);
+  FIX::Session *session = FIX::Session::lookupSession(firm.session);
+  if (!expects(*session, 3))
+    return fail("count of the acknowledgement");
+  session->setNextTargetMsgSeqNum(2);
   FIX::Message second = report("R2", "M2");
   FIX::Session::sendToTarget(second, firm.session);
   if (!firm.wait([](const Firm &f) { return f.again >= 1 && f.acknowledgements + f.again >= 3; }))
     return fail("message sent again");
 
-  FIX::Session::lookupSession(firm.session)->logout();
+  session->logout();
   if (!firm.wait([](const Firm &f) { return f.is_out; }))
     return fail("logout");
   std::cout << "logged on, acknowledged, sent again, logged out" << std::endl;
@@ -120,7 +134,7 @@ int main(int count, char **words) {
   }
   Firm firm;
   FIX::SessionSettings settings{std::string(words[1])};
-  FIX::MemoryStoreFactory store;
+  FIX::FileStoreFactory store(settings);
   FIX::SocketInitiator initiator(firm, store, settings);
   initiator.start();
   const int status = talk(firm);
