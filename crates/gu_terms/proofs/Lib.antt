@@ -1,3 +1,4 @@
+pub mod CutLemmas
 pub mod FirstPlaces
 pub mod Gathered
 pub mod KeptLemmas

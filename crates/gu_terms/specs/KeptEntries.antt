@@ -5,7 +5,7 @@ use Rattle.gu_terms.specs.Names.{IsId}
 use Rattle.gu_terms.specs.declared.command.Command.{Command}
 use Rattle.gu_terms.specs.declared.command.Command.TheVariants.{Claim, GiveUp, ReportSide}
 use Rattle.gu_terms.specs.declared.entry.Entry.{Entry}
-use Rattle.gu_terms.specs.declared.entry.Entry.TheVariants.{Asked}
+use Rattle.gu_terms.specs.declared.entry.Entry.TheVariants.{Asked, Swept}
 use Rattle.gu_terms.specs.declared.kept.Body.{Body}
 use Rattle.gu_terms.specs.declared.kept.Body.TheVariants as body
 use Rattle.gu_terms.specs.declared.kept.Ids.{Ids}
@@ -33,6 +33,7 @@ entry_by first second (body.OfferedOne firm group account number lots) =
 entry_by first second (body.Offered firm group number lines) =
     Asked (GiveUp firm first second lines) (Accepted (Offered group number (length lines)))
 entry_by first second (body.Claimed firm offer lots) = Asked (Claim firm offer) (Accepted (Claimed lots))
+entry_by first second (body.Swept sweep) = Swept sweep.value
 entry_by first second (body.Whole entry) = entry.value
 
 -- the entry that is kept so
@@ -53,6 +54,11 @@ AreIdsOf (body.Reported firm symbol account side matched day lots price) first s
 AreIdsOf (body.OfferedOne firm group account number lots) first second = IsId first × IsId second
 AreIdsOf (body.Offered firm group number lines) first second = IsId first × IsId second
 AreIdsOf other first second = Unit {0}
+
+-- a body is a report's
+abbrev pub IsReport : Body → Type 0
+IsReport (body.Reported firm symbol account side matched day lots price) = Unit {0}
+IsReport other = ⊥
 
 -- the ids of a command that has two, and else no bytes
 abbrev pub ids_of : Command → List ℕ × List ℕ

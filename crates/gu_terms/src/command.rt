@@ -71,7 +71,7 @@ pub enum Command {
 }
 
 /// Whether two reports name one day, or neither a day.
-fn is_same_day(day: Option<Day>, other: Option<Day>) -> bool
+pub(crate) fn is_same_day(day: Option<Day>, other: Option<Day>) -> bool
     ensures { IsTrue result ↔ (day ≡ other) }
 {
     match day {

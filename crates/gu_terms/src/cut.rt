@@ -35,6 +35,30 @@ impl Model for Cut {
     ghost view = { λ c. record { keys = c.keys.keys; offers = c.offers.keys } };
 }
 
+/// The set of these keys, in order.
+fn set_of_keys(alloc: Global, keys: &[LimitKey]) -> Result<IndexSet<LimitKey>, AllocError>
+    requires { IsDistinct ⟦<LimitKey as PartialEq>⟧.eq keys.now }
+    ensures { IfOk result (λ set. set.keys ≡ keys.now) }
+{
+    let mut set = IndexSet::with_capacity(alloc, keys.len())?;
+    for key in keys {
+        set.insert_full(*key)?;
+    }
+    Ok(set)
+}
+
+/// The set of these offers, in order.
+fn set_of_offers(alloc: Global, offers: &[OfferNo]) -> Result<IndexSet<OfferNo>, AllocError>
+    requires { IsDistinct ⟦<OfferNo as PartialEq>⟧.eq offers.now }
+    ensures { IfOk result (λ set. set.keys ≡ offers.now) }
+{
+    let mut set = IndexSet::with_capacity(alloc, offers.len())?;
+    for offer in offers {
+        set.insert_full(*offer)?;
+    }
+    Ok(set)
+}
+
 impl Cut {
     /// An empty cut.
     pub fn new(alloc: Global) -> Self
@@ -44,6 +68,17 @@ impl Cut {
             keys: IndexSet::new(alloc),
             offers: IndexSet::new(alloc),
         }
+    }
+
+    /// The cut of these keys and these offers, in order.
+    pub fn of(alloc: Global, keys: &[LimitKey], offers: &[OfferNo]) -> Result<Self, AllocError>
+        requires keys { IsDistinct ⟦<LimitKey as PartialEq>⟧.eq keys.now }
+        requires offers { IsDistinct ⟦<OfferNo as PartialEq>⟧.eq offers.now }
+        ensures { IfOk result (λ cut. cut ≡ record { keys = keys.now; offers = offers.now }) }
+    {
+        let keys = set_of_keys(alloc, keys)?;
+        let offers = set_of_offers(alloc, offers)?;
+        Ok(Cut { keys, offers })
     }
 
     /// Adds a key behind the others, and answers whether it was new.
@@ -100,11 +135,18 @@ impl Cut {
         Ok(Cut { keys, offers })
     }
 
+    /// Whether it is the cut of these keys and these offers, each made in this order.
+    pub(crate) fn is_of(&self, keys: &[LimitKey], offers: &[OfferNo]) -> bool
+        ensures { IsTrue result ↔ (self.now ≡ record { keys = keys.now; offers = offers.now }) }
+    {
+        self.keys() == keys && self.offers() == offers
+    }
+
     /// Whether two cuts are the same, each made in the same order.
     pub fn is_same(&self, other: &Cut) -> bool
         ensures { IsTrue result ↔ (self.now ≡ other.now) }
     {
-        self.keys() == other.keys() && self.offers() == other.offers()
+        self.is_of(other.keys(), other.offers())
     }
 
     /// Whether an offer is in the cut.

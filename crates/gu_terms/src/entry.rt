@@ -1,6 +1,7 @@
 //! Entries of the history.
 
 ghost use Rattle.std.specs.Prelude.{◌≡◌, ◌↔◌, IsTrue, IfOk};
+ghost use Rattle.gu_terms.specs.Histories.{swept_by};
 
 use crate::command::Command;
 use crate::cut::Cut;
@@ -72,22 +73,46 @@ impl Entry {
         }
     }
 
+    /// Whether it is this command with this reply.
+    pub(crate) fn is_asked(&self, command: &Command, reply: Reply) -> bool
+        ensures { IsTrue result ↔ (self.now ≡ Entry.Asked command.now reply) }
+    {
+        match self {
+            Entry::Asked {
+                command: own_command,
+                reply: own_reply,
+            } => own_command.is_same(command) && own_reply.is_same(reply),
+            Entry::Swept(_) => false,
+        }
+    }
+
+    /// Whether it is this sweep.
+    pub(crate) fn is_sweep(&self, sweep: &SweepEntry) -> bool
+        ensures { IsTrue result ↔ (self.now ≡ Entry.Swept sweep.now) }
+    {
+        match self {
+            Entry::Swept(own) => own.is_same(sweep),
+            Entry::Asked { .. } => false,
+        }
+    }
+
     /// Whether two entries are the same.
     pub fn is_same(&self, other: &Entry) -> bool
         ensures { IsTrue result ↔ (self.now ≡ other.now) }
     {
+        match other {
+            Entry::Asked { command, reply } => self.is_asked(command, *reply),
+            Entry::Swept(sweep) => self.is_sweep(sweep),
+        }
+    }
+
+    /// The lots that it swept.
+    pub(crate) fn lots_swept(&self) -> u64
+        ensures { result ≡ swept_by self.now }
+    {
         match self {
-            Entry::Asked { command, reply } => match other {
-                Entry::Asked {
-                    command: command_of_other,
-                    reply: reply_of_other,
-                } => command.is_same(command_of_other) && reply.is_same(*reply_of_other),
-                Entry::Swept(_) => false,
-            },
-            Entry::Swept(sweep) => match other {
-                Entry::Swept(sweep_of_other) => sweep.is_same(sweep_of_other),
-                Entry::Asked { .. } => false,
-            },
+            Entry::Swept(sweep) => sweep.lots,
+            Entry::Asked { .. } => 0,
         }
     }
 }

@@ -1,12 +1,14 @@
 //! The history: all that was entered, in order.
 
-ghost use Rattle.std.specs.Prelude.{◌≡◌, ◌+◌, ◌-◌, ◌^◌, ◌<◌, ◌∷◌, [], ◌++◌, ◌≤◌, length, map, slice_get, take, IfOk, OnOk, OnErr, Some};
-ghost use Rattle.gu_terms.specs.Histories.{entry_at};
+ghost use Rattle.std.specs.Prelude.{◌≡◌, ◌+◌, ◌-◌, ◌^◌, ◌<◌, ◌∷◌, [], ◌++◌, ◌≤◌, length, map, slice_get, take, is_some, ◌↔◌, IfOk, IfSome, IsTrue, OnOk, OnErr, Some};
+ghost use Rattle.std.specs.Option.{option_map};
+ghost use Rattle.gu_terms.specs.Histories.{entry_at, swept_by};
 ghost use Rattle.gu_terms.specs.KeptEntries.{end_of_last, entry_by, entry_of, AreIdsOf, AreKept};
 
 use crate::command::Command;
-use crate::entry::{Entry, SweepEntry};
+use crate::entry::Entry;
 use crate::kept::{Body, Ids, Kept, body_of, ids_of};
+use crate::kept_sweep::KeptSweep;
 use crate::reply::Reply;
 use std::alloc::{AllocError, Global};
 use std::marker::Model;
@@ -147,7 +149,36 @@ impl History {
         Ok(Some(self.at(number as usize - 1)?))
     }
 
-    /// Adds an entry behind the others, as it is.
+    /// Whether the entry of a number is this one. It takes no memory. None where there is no entry of this number.
+    pub fn is_entry(&self, number: u64, entry: &Entry) -> Option<bool>
+        ensures known { is_some result ≡ is_some (entry_at self.now number) }
+        ensures same { IfSome result (λ is. IsTrue is ↔ (entry_at self.now number ≡ Some entry.now)) }
+    {
+        if number == 0 || number > self.entries.len() as u64 {
+            return None;
+        }
+        Some(self.is_at(number as usize - 1, entry))
+    }
+
+    #[tactic(auto, using(crate::proofs::KeptLemmas::entry_there))]
+    /// Whether the entry at a place is this one.
+    fn is_at(&self, place: usize, entry: &Entry) -> bool
+        requires { place < length self.now }
+        ensures { IsTrue result ↔ (slice_get self.now place ≡ Some entry.now) }
+    {
+        self.entries[place].is_entry(&self.texts, entry)
+    }
+
+    #[tactic(auto, using(crate::proofs::KeptLemmas::entry_there))]
+    /// The lots that the entry at a place swept. It takes no memory.
+    pub fn lots_at(&self, place: usize) -> u64
+        requires { place < length self.now }
+        ensures { option_map swept_by (slice_get self.now place) ≡ Some result }
+    {
+        self.entries[place].lots_swept()
+    }
+
+    /// Adds a command with its reply behind the others, as they are.
     fn push_whole(&mut self, entry: Entry) -> Result<(), AllocError>
         ensures added { OnOk result (self.new ≡ self.old ++ entry ∷ []) }
         ensures refused { OnErr result (self.new ≡ self.old) }
@@ -180,11 +211,13 @@ impl History {
     }
 
     /// Adds a sweep behind the others.
-    pub fn push_swept(&mut self, sweep: SweepEntry) -> Result<(), AllocError>
+    pub fn push_swept(&mut self, sweep: KeptSweep) -> Result<(), AllocError>
         ensures added { OnOk result (self.new ≡ self.old ++ Entry.Swept sweep ∷ []) }
         ensures refused { OnErr result (self.new ≡ self.old) }
     {
-        self.push_whole(Entry::Swept(sweep))
+        let sweep = Box::new(self.alloc, sweep)?;
+        let body = Body::Swept(sweep);
+        add(&mut self.entries, &mut self.texts, &[], &[], body)
     }
 
     /// Keeps the first entries, so many of them. It takes no memory.

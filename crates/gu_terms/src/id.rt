@@ -64,4 +64,11 @@ impl Id {
     {
         self.text.get()
     }
+
+    /// Whether these are its bytes.
+    pub(crate) fn is_text(&self, text: &[u8]) -> bool
+        ensures { IsTrue result ↔ (text.now ≡ self.now) }
+    {
+        self.get() == text
+    }
 }

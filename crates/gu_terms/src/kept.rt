@@ -11,6 +11,7 @@ use crate::entry::Entry;
 use crate::firm::FirmId;
 use crate::group::Group;
 use crate::id::Id;
+use crate::kept_sweep::KeptSweep;
 use crate::lines::{Line, Lines};
 use crate::lots::Lots;
 use crate::offer_no::OfferNo;
@@ -64,7 +65,9 @@ pub(crate) enum Body {
         offer: OfferNo,
         lots: Lots,
     },
-    /// Any entry, as it is.
+    /// A sweep.
+    Swept(Box<KeptSweep>),
+    /// A command with its reply, as it is.
     Whole(Box<Entry>),
 }
 
@@ -204,6 +207,7 @@ impl Kept {
                 },
                 reply: Reply::Accepted(Done::Claimed { lots: *lots }),
             }),
+            Body::Swept(sweep) => Ok(Entry::Swept(sweep.entry(alloc)?)),
             Body::Whole(entry) => entry.copy(),
         }
     }

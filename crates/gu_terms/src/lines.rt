@@ -74,11 +74,18 @@ impl Lines {
         total
     }
 
+    /// Whether they are these lines.
+    pub(crate) fn are(&self, lines: &[Line]) -> bool
+        ensures { IsTrue result ↔ (self.now ≡ lines.now) }
+    {
+        self.as_slice() == lines
+    }
+
     /// Whether two lists of lines are the same.
     pub fn is_same(&self, other: &Lines) -> bool
         ensures { IsTrue result ↔ (self.now ≡ other.now) }
     {
-        self.as_slice() == other.as_slice()
+        self.are(other.as_slice())
     }
 
     /// A copy.

@@ -1,8 +1,12 @@
 //! Receipts.
 
 ghost use Rattle.std.specs.Prelude.{◌≡◌, IfOk};
+ghost use Rattle.gu_terms.specs.Histories.{offered_group};
 
+use crate::command::Command;
 use crate::entry::Entry;
+use crate::group::Group;
+use crate::reply::{Done, Reply};
 use std::alloc::AllocError;
 
 /// What was entered, and its number in the history.
@@ -13,6 +17,19 @@ pub struct Receipt {
 }
 
 impl Receipt {
+    /// The product group in which a give-up made offers, where this is the receipt of one that was accepted.
+    pub fn offered(&self) -> Option<Group>
+        ensures { result ≡ offered_group self.now.entry }
+    {
+        match &self.entry {
+            Entry::Asked {
+                command: Command::GiveUp { .. },
+                reply: Reply::Accepted(Done::Offered { group, .. }),
+            } => Some(*group),
+            _ => None,
+        }
+    }
+
     /// A copy.
     pub fn copy(&self) -> Result<Receipt, AllocError>
         ensures { IfOk result (λ receipt. receipt ≡ self.now) }

@@ -5,7 +5,7 @@ use Rattle.std.proofs.lemmas.Slice.Eq.{bytes_eq-Decides, slice_eq-Decides}
 use Rattle.gu_terms.specs.contracts.lines.LinePartialEq.TheImpl as line
 use Rattle.gu_terms.specs.declared.lines.Line.{Line}
 use Rattle.gu_terms.proofs.SameValues.{both}
-use Rattle.gu_terms.proofs.lines.Lines.is_same.Goals as goal
+use Rattle.gu_terms.proofs.lines.Lines.are.Goals as goal
 
 line_eq-Decides : (a b : Line) → Decides (line.eq-value.it a b) (a ≡ b)
 line_eq-Decides a b = (
@@ -19,6 +19,6 @@ line_eq-Decides a b = (
 
 pub returns : goal.returns
 returns c = let decides = slice_eq-Decides line_eq-Decides _ _ _ c.eq.ensures in (
-  λ same. sym c.as_slice.ensures.lines ∙ decides.0 same ∙ c.as_slice-2.ensures.lines,
-  λ same. decides.1 (c.as_slice.ensures.lines ∙ same ∙ sym c.as_slice-2.ensures.lines),
+  λ same. sym c.as_slice.ensures.lines ∙ decides.0 same,
+  λ same. decides.1 (c.as_slice.ensures.lines ∙ same),
 )
