@@ -195,7 +195,7 @@ swept reference history sweep ordered right =
 -- ---- all of it
 
 -- an entry that may follow
-follows : (reference : Tables) (before : List Entry) (entry : Entry) → length before < 1000000 → MayFollow reference before entry → IsOrdered reference before → IsOrdered reference (before ++ entry ∷ [])
+pub follows : (reference : Tables) (before : List Entry) (entry : Entry) → length before < 1000000 → MayFollow reference before entry → IsOrdered reference before → IsOrdered reference (before ++ entry ∷ [])
 follows reference before (Asked command (Denied why)) room may ordered = denied reference before command why ordered
 follows reference before (Asked command (Accepted done)) room may ordered =
     let is = is-accepted reference before command (Accepted done) room may refl in
@@ -203,7 +203,10 @@ follows reference before (Asked command (Accepted done)) room may ordered =
     (record { order = accepted reference before command ordered.order is; shown = shown-accepted reference before command ordered.order is ordered.shown })
 follows reference before (Swept sweep) room may ordered = swept reference before sweep ordered may.sweeps
 
+-- no entries
+pub none-ordered : (reference : Tables) → IsOrdered reference []
+none-ordered reference = record { order = in_order [] nothing-orderly; shown = record { few = λ group. omega arith; agreed = tt } }
+
 -- every legal history
 pub legal_ordered : (reference : Tables) (history : List Entry) → IsLegal reference history → IsOrdered reference history
-legal_ordered reference history legal =
-    each_legal reference (IsOrdered reference) (record { order = in_order [] nothing-orderly; shown = record { few = λ group. omega arith; agreed = tt } }) (follows reference) history legal
+legal_ordered reference history legal = each_legal reference (IsOrdered reference) (none-ordered reference) (follows reference) history legal

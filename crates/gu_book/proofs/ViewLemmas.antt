@@ -94,7 +94,7 @@ each-given {Y = Y} P f (x ∷ xs) h = by (f x) refl (each-given P f xs h)
     by None e rest = rest
     by (Some y) e rest = (h x y e, rest)
 
-few-given : {X Y : Type 0} (f : X → Option Y) (xs : List X) → length (filter_map f xs) ≤ length xs
+pub few-given : {X Y : Type 0} (f : X → Option Y) (xs : List X) → length (filter_map f xs) ≤ length xs
 few-given f [] = omega arith
 few-given {Y = Y} f (x ∷ xs) = by (f x) (few-given f xs)
   where

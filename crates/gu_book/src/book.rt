@@ -1,6 +1,7 @@
 //! The book.
 
 ghost use Rattle.std.specs.Prelude.{◌≡◌, ◌↔◌, ◌<◌, ◌≤◌, ◌+◌, ◌++◌, ◌∷◌, [], false, is_some, length, true, IfOk, IfErr, IfSome, MatchOption, OnOk, OnErr, IsErrOf};
+ghost use Rattle.gu_terms.specs.Histories.{lots_swept};
 ghost use Rattle.gu_ref.specs.Reference.{is_group};
 ghost use Rattle.gu_book.specs.Accepted.{accepts};
 ghost use Rattle.gu_book.specs.Answer.{answer};
@@ -21,7 +22,9 @@ use crate::limits::rows_in_order;
 use crate::met::{Met, MetRooms};
 use crate::notices::notices_of;
 use crate::positions::{is_of_firm, rows_of_account};
-use crate::sweeping::{make_ways, move_takes, sweep_from, sweep_of};
+use crate::sweeping::{
+    asks_for_a_sweep, kept_sweep, make_ways, move_takes, sum_swept, swept_receipt,
+};
 use crate::taking::take_in;
 use crate::totals::Totals;
 use crate::touching::{know, touch, touched_in};
@@ -30,8 +33,8 @@ use crate::views::view_of;
 use gu_flow::Proposal;
 use gu_ref::Reference;
 use gu_terms::{
-    AccountId, Command, Day, Entry, FirmId, Group, History, LimitRow, MOST_ENTRIES, Notices,
-    PositionRows, Receipt, Reply, Seed, Symbol,
+    AccountId, Command, Day, Entry, FirmId, Group, History, KeptSweep, LimitRow, MOST_ENTRIES,
+    Notices, PositionRows, Receipt, Reply, Seed, Symbol,
 };
 use gu_view::View;
 use std::alloc::{AllocError, Global};
@@ -285,19 +288,27 @@ impl Book {
         None
     }
 
-    /// Adds the sweep that a proposal asks for, and moves its lots.
-    fn append_sweep(&mut self, proposal: &Proposal, rooms: &MetRooms) -> Result<(), AllocError>
-        requires { IsCurrent self.old proposal.now.view }
+    /// Adds the sweep that a proposal asks for, as it is kept, and moves its lots.
+    fn append_sweep(
+        &mut self,
+        proposal: &Proposal,
+        kept: KeptSweep,
+        rooms: &MetRooms,
+    ) -> Result<(), AllocError>
+        requires current { IsCurrent self.old proposal.now.view }
+        requires kept { kept ≡ sweep_of proposal.now }
         ensures entered { OnOk result (self.new.history ≡ self.old.history ++ Entry.Swept (sweep_of proposal.now) ∷ []) }
         ensures stands { OnOk result (StandsLast self.old.reference (length self.old.history + 1) (Entry.Swept (sweep_of proposal.now))) }
         ensures reference { self.new.reference ≡ self.old.reference }
         ensures refused { OnErr result (self.new.history ≡ self.old.history) }
     {
-        let sweep = sweep_of(proposal)?;
-        let touched = Touched::Only(sweep.group);
+        // Shows the prover: a proposal asks for a sweep of its view.
+        asks_for_a_sweep(proposal);
+        let group = proposal.view().group();
+        let touched = Touched::Only(group);
         let place = know(&mut self.versions, &touched)?;
         make_ways(&mut self.totals, proposal.takes().as_slice())?;
-        self.history.push_swept(sweep)?;
+        self.history.push_swept(kept)?;
         move_takes(
             &mut self.totals,
             proposal.view(),
@@ -306,6 +317,30 @@ impl Book {
         );
         touch(&mut self.versions, &touched, place);
         Ok(())
+    }
+
+    /// Commits a proposal that is lent, whose sweep is made as it is kept: it is entered, and its takes are claimed, where the group still
+    /// stands as the proposal's view shows it. Tells the number of the entry.
+    pub fn enter_sweep(&mut self, proposal: &Proposal, kept: KeptSweep) -> Result<u64, CommitError>
+        requires { kept ≡ sweep_of proposal.now }
+        ensures entered { OnOk result (self.new.history ≡ self.old.history ++ Entry.Swept (sweep_of proposal.now) ∷ []) }
+        ensures number { IfOk result (λ number. number ≡ length self.old.history + 1) }
+        ensures stands { IfOk result (λ number. StandsLast self.old.reference number (Entry.Swept (sweep_of proposal.now))) }
+        ensures current { OnOk result (IsCurrent self.old proposal.now.view) }
+
+        // What each refusal says. The book is as it was.
+        ensures why { IfErr result (Refuses self.old proposal.now.view) }
+        ensures reference { self.new.reference ≡ self.old.reference }
+        ensures refused { OnErr result (self.new.history ≡ self.old.history) }
+    {
+        let mut rooms = self.no_rooms();
+        if let Some(why) = self.refusal(proposal.view(), &mut rooms) {
+            return Err(why);
+        }
+        if let Err(AllocError) = self.append_sweep(proposal, kept, &rooms) {
+            return Err(CommitError::Memory);
+        }
+        Ok(self.history.len() as u64)
     }
 
     /// Commits a proposal: its sweep is entered, and its takes are claimed, where the group still stands as the proposal's view shows it.
@@ -326,13 +361,22 @@ impl Book {
         if let Some(why) = self.refusal(proposal.view(), &mut rooms) {
             return Err((why, proposal));
         }
-        if let Err(AllocError) = self.append_sweep(&proposal, &rooms) {
+        let Ok(kept) = kept_sweep(self.alloc, &proposal) else {
+            return Err((CommitError::Memory, proposal));
+        };
+        if let Err(AllocError) = self.append_sweep(&proposal, kept, &rooms) {
             return Err((CommitError::Memory, proposal));
         }
-        Ok(Receipt {
-            number: self.history.len() as u64,
-            entry: Entry::Swept(sweep_from(proposal)),
-        })
+        Ok(swept_receipt(self.history.len() as u64, proposal))
+    }
+
+    /// The lots that all sweeps took, over the whole history. It takes no memory, and reads each entry.
+    pub fn lots_swept(&self) -> u64
+        ensures { result ≡ lots_swept self.now.history }
+    {
+        // Shows the prover: no offer has more than 1,000,000 lots.
+        self.totals.offers.rules();
+        sum_swept(&self.history)
     }
 
     /// The open day.

@@ -32,3 +32,4 @@ pub use laws_of_offers::{
     no_more_is_given_back_than_was_taken, no_more_is_given_up_than_was_traded,
     no_more_is_moved_than_an_offer_has, no_more_leaves_an_account_than_it_traded,
 };
+pub use sweeping::{kept_sweep, swept_receipt};

@@ -1,7 +1,8 @@
 //! Sweeps, as they are taken in.
 
-ghost use Rattle.std.specs.Prelude.{◌≡◌, ◌∷◌, [], IfOk, OnOk};
+ghost use Rattle.std.specs.Prelude.{◌≡◌, ◌<◌, ◌^◌, ◌∷◌, [], IfOk, OnOk};
 ghost use Rattle.std.specs.List.{AllByRecursion};
+ghost use Rattle.gu_terms.specs.Histories.{lots_swept};
 ghost use Rattle.gu_ref.specs.Tables.{Tables};
 ghost use Rattle.gu_book.specs.Beside.{IsAccounted};
 ghost use Rattle.gu_book.specs.Effects.{KeepsMade, SameAnswers};
@@ -13,40 +14,65 @@ use crate::met::MetRooms;
 use crate::totals::Totals;
 use gu_flow::Proposal;
 use gu_limits::Places;
-use gu_terms::{OfferNo, SweepEntry, Take};
+use gu_terms::{Entry, History, KeptSweep, OfferNo, Receipt, SweepEntry, Take};
 use gu_view::{Offer, View};
-use std::alloc::AllocError;
+use std::alloc::{AllocError, Global};
 
-/// The sweep that a proposal asks for.
-pub fn sweep_of(proposal: &Proposal) -> Result<SweepEntry, AllocError>
-    ensures sweep { IfOk result (λ sweep. sweep ≡ sweep_of proposal.now) }
-    ensures right { OnOk result (IsSweepOf proposal.now.view (sweep_of proposal.now)) }
+/// The sweep that a proposal asks for, as the history of a book keeps it: made before `Book::enter_sweep`, which then copies nothing.
+pub fn kept_sweep(alloc: Global, proposal: &Proposal) -> Result<KeptSweep, AllocError>
+    ensures { IfOk result (λ kept. kept ≡ sweep_of proposal.now) }
 {
-    let takes = proposal.takes();
-    let cut = proposal.cut();
-    // Lists that are read are known to be in order.
-    let _ = takes.as_slice();
-    let _ = cut.keys();
-    let _ = cut.offers();
-    Ok(SweepEntry {
-        group: proposal.view().group(),
-        takes: takes.copy()?,
-        cut: cut.copy()?,
-        lots: proposal.lots(),
-    })
+    let group = proposal.view().group();
+    KeptSweep::of(
+        alloc,
+        group,
+        proposal.takes(),
+        proposal.cut(),
+        proposal.lots(),
+    )
 }
 
-/// The same, of a proposal that is given up for it. It takes no memory.
-pub fn sweep_from(proposal: Proposal) -> SweepEntry
-    ensures { result ≡ sweep_of proposal }
+/// The receipt for a proposal whose sweep was entered as the entry of this number. It takes no memory, and the proposal's view is let go.
+pub fn swept_receipt(number: u64, proposal: Proposal) -> Receipt
+    ensures number { result.number ≡ number }
+    ensures entry { result.entry ≡ Entry.Swept (sweep_of proposal) }
 {
     let (view, takes, cut, lots) = proposal.into_parts();
-    SweepEntry {
+    let sweep = SweepEntry {
         group: view.group(),
         takes,
         cut,
         lots,
+    };
+    Receipt {
+        number,
+        entry: Entry::Swept(sweep),
     }
+}
+
+/// The lots that all sweeps of a history took.
+pub fn sum_swept(history: &History) -> u64
+    requires { lots_swept history.now < 2 ^ 64 }
+    ensures { result ≡ lots_swept history.now }
+{
+    let mut lots = 0;
+    for place in 0..history.len() {
+        lots += history.lots_at(place);
+    }
+    lots
+}
+
+/// A proposal asks for a sweep of its view.
+pub fn asks_for_a_sweep(proposal: &Proposal)
+    ensures { IsSweepOf proposal.now.view (sweep_of proposal.now) }
+{
+    let takes = proposal.takes();
+    let cut = proposal.cut();
+    let _ = proposal.lots();
+    // Lists that are read are known to be in order.
+    let _ = takes.as_slice();
+    let _ = cut.keys();
+    let _ = cut.offers();
 }
 
 /// Makes the rows of the accounts between which lots of an offer move. No answer changes.

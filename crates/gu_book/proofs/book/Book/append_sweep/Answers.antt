@@ -4,7 +4,9 @@ use Rattle.gu_terms.specs.Same.{same_group}
 use Rattle.gu_terms.specs.declared.entry.Entry.{Entry}
 use Rattle.gu_terms.specs.declared.entry.Entry.TheVariants.{Swept}
 use Rattle.gu_terms.specs.declared.entry.SweepEntry.{SweepEntry}
+use Rattle.gu_terms.specs.declared.group.Group.{Group}
 use Rattle.gu_terms.specs.declared.takes.Take.{Take}
+use Rattle.gu_view.specs.View.{GroupView}
 use Rattle.gu_book.specs.Beside.{IsKeptLegal}
 use Rattle.gu_book.specs.Commits.{IsCurrent, sweep_of}
 use Rattle.gu_book.specs.Counted.{version_in}
@@ -33,11 +35,11 @@ move_takes-requires c =
     let old = c.self.inside in
     let book : Kept = record { reference = old.reference; history = old.history } in
     let proposal = c.args.proposal.now in
-    let current = subst (λ (k : Kept). IsCurrent k proposal.view) (sym c.self.view_is) c.requires in
+    let current = subst (λ (k : Kept). IsCurrent k proposal.view) (sym c.self.view_is) c.requires.current in
     let made = subst (AllByRecursion (λ (t : Take). HasRows c.make_ways.new.totals t.offer)) (c.as_slice.ensures.takes ∙ c.takes.ensures.takes) c.in_ok-make_ways.ensures.rows in (
       old.reference,
-      may-move book proposal old.totals c.make_ways.new.totals old.versions c.view.result.now c.as_slice-2.result.now c.self.invariant current c.in_ok-sweep.ensures.right c.make_ways.ensures.same made
-          c.view.ensures.view (c.as_slice-2.ensures.takes ∙ c.takes-2.ensures.takes),
+      may-move book proposal old.totals c.make_ways.new.totals old.versions c.view-2.result.now c.as_slice-2.result.now c.self.invariant current c.asks_for_a_sweep.ensures c.make_ways.ensures.same made
+          c.view-2.ensures.view (c.as_slice-2.ensures.takes ∙ c.takes-2.ensures.takes),
     )
 
 pub touch-requires-clause-fits : goal.touch-requires-clause-fits
@@ -50,29 +52,30 @@ invariant_of-self-2 c =
     let old = c.self.inside in
     let book : Kept = record { reference = old.reference; history = old.history } in
     let proposal = c.args.proposal.now in
-    let current = subst (λ (k : Kept). IsCurrent k proposal.view) (sym c.self.view_is) c.requires in
+    let current = subst (λ (k : Kept). IsCurrent k proposal.view) (sym c.self.view_is) c.requires.current in
     let still =
     legal-still old.reference old.history old.totals c.make_ways.new.totals old.versions c.know.new.versions c.self.invariant c.make_ways.ensures.same (c.make_ways.ensures.known old.reference) c.know.ensures.days
     c.know.ensures.same in
     let made = subst (AllByRecursion (λ (t : Take). HasRows c.make_ways.new.totals t.offer)) (c.as_slice.ensures.takes ∙ c.takes.ensures.takes) c.in_ok-make_ways.ensures.rows in
     let takes = c.as_slice-2.ensures.takes ∙ c.takes-2.ensures.takes in
     let may =
-    may-move book proposal old.totals c.make_ways.new.totals old.versions c.view.result.now c.as_slice-2.result.now c.self.invariant current c.in_ok-sweep.ensures.right c.make_ways.ensures.same made
-    c.view.ensures.view takes in
+    may-move book proposal old.totals c.make_ways.new.totals old.versions c.view-2.result.now c.as_slice-2.result.now c.self.invariant current c.asks_for_a_sweep.ensures c.make_ways.ensures.same made
+    c.view-2.ensures.view takes in
     let moves = subst (MovesAll old.reference c.make_ways.new.totals c.move_takes.new.totals) takes (c.move_takes.ensures old.reference may) in
-    let is = c.in_ok-sweep.ensures.sweep in
+    let is = c.requires.kept in
     let pushed = c.in_ok-push_swept.ensures.added ∙ ap (λ (s : SweepEntry). old.history ++ Swept s ∷ []) is in
     subst (λ (history : List Entry). IsKeptLegal old.reference history c.move_takes.new.totals c.touch.new.versions) (sym pushed)
-    (legal-swept book proposal c.make_ways.new.totals c.move_takes.new.totals c.know.new.versions c.touch.new.versions still current c.in_ok-sweep.ensures.right moves c.touch.ensures.days
+    (legal-swept book proposal c.make_ways.new.totals c.move_takes.new.totals c.know.new.versions c.touch.new.versions still current c.asks_for_a_sweep.ensures moves c.touch.ensures.days
     (λ group.
     c.touch.ensures.touched group
-    ∙ ap (λ (s : SweepEntry). if same_group s.group group then version_in c.know.new.versions group + 1 else version_in c.know.new.versions group) is))
+    ∙ ap (λ (own : Group). if same_group own group then version_in c.know.new.versions group + 1 else version_in c.know.new.versions group)
+    (c.group-group.ensures ∙ ap (λ (v : GroupView). v.group) c.view.ensures.view)))
 
 pub returns-clause-stands : goal.returns-clause-stands
 returns-clause-stands c =
     let old = c.self.inside in
     let book : Kept = record { reference = old.reference; history = old.history } in
     let proposal = c.args.proposal.now in
-    let current = subst (λ (k : Kept). IsCurrent k proposal.view) (sym c.self.view_is) c.requires in
+    let current = subst (λ (k : Kept). IsCurrent k proposal.view) (sym c.self.view_is) c.requires.current in
     subst (λ (k : Kept). StandsLast k.reference (length k.history + 1) (Swept (sweep_of proposal))) c.self.view_is
-    (swept-last book proposal old.totals old.versions c.self.invariant current c.in_ok-sweep.ensures.right)
+    (swept-last book proposal old.totals old.versions c.self.invariant current c.asks_for_a_sweep.ensures)

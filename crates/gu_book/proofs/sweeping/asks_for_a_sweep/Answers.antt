@@ -5,7 +5,7 @@ use Rattle.gu_terms.specs.Cuts.{CutLists}
 use Rattle.gu_terms.specs.Takes.{IsAscending}
 use Rattle.gu_terms.specs.contracts.offer_no.OfferNoPartialEq.TheImpl as number
 use Rattle.gu_terms.specs.declared.limit_key.LimitKey.{LimitKey}
-use Rattle.gu_book.proofs.sweeping.sweep_of.Goals as goal
+use Rattle.gu_book.proofs.sweeping.asks_for_a_sweep.Goals as goal
 
 -- the `==` of numbers
 abbrev number_eq : ℕ → ℕ → Bool
@@ -14,8 +14,8 @@ number_eq = number.eq-value.it
 number_is : (m n : ℕ) → number_eq m n ≡ (m == n)
 number_is m n = refl
 
-pub returns-clause-right : goal.returns-clause-right
-returns-clause-right c =
+pub returns : goal.returns
+returns c =
     let sound = c.lots.ensures.sound in record {
       ascending = subst IsAscending c.takes-takes.ensures.takes c.as_slice.ensures.ascending;
       keys = subst (λ (same : LimitKey → LimitKey → Bool). IsDistinct same c.args.proposal.now.cut.keys) (λ i a b. eq_is a b i)

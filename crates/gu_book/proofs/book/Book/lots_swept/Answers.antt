@@ -1,0 +1,18 @@
+use Rattle.std.proofs.Common.{ap, ◌∙◌, arith, length, subst}
+use Rattle.std.specs.List.{AllByRecursion}
+use Rattle.std.proofs.lemmas.List.Elements.{recursion_from_All}
+use Rattle.gu_terms.specs.Histories.{lots_swept}
+use Rattle.gu_offers.specs.Rows.{IsSound, Row}
+use Rattle.gu_book.specs.Kept.{Kept}
+use Rattle.gu_book.proofs.SweptLots.{few-swept, sound-small}
+use Rattle.gu_book.proofs.book.Book.lots_swept.Goals as goal
+
+pub sum_swept-requires : goal.sum_swept-requires
+sum_swept-requires c =
+    let old = c.self.inside in
+    let sound : AllByRecursion IsSound old.totals.offers = recursion_from_All IsSound old.totals.offers c.rules.ensures.sound in
+    let small = sound-small old.history (subst (AllByRecursion IsSound) c.self.invariant.kept.beside.offers sound) in
+    omega (arith, few-swept old.reference old.history c.self.invariant.legal small, c.self.invariant.legal.within)
+
+pub returns : goal.returns
+returns c = c.sum_swept.ensures ∙ ap (λ (k : Kept). lots_swept k.history) c.self.view_is
