@@ -1,0 +1,103 @@
+//! Why a desk refused.
+
+ghost use Rattle.std.specs.Prelude.{◌≡◌};
+
+use gu_book::{AskError, CommitError};
+use std::alloc::AllocError;
+use thiserror::Error;
+
+/// Why a sweep was not entered. The seat is as it was.
+#[derive(Debug, Drop, Clone, Copy, PartialEq, Eq, Error)]
+pub enum SweepError {
+    /// An allocation failed.
+    #[error("Memory")]
+    Memory,
+    /// The reference has no such group.
+    #[error("UnknownGroup")]
+    UnknownGroup,
+    /// The book has 1,000,000 entries.
+    #[error("Full")]
+    Full,
+    /// Entries touched the group after it was seen: its version then, and its version at the commit.
+    #[error("Stale {seen} {now}")]
+    Stale { seen: u64, now: u64 },
+    /// The versions are equal, and yet the view isn't the book's.
+    #[error("Foreign")]
+    Foreign,
+}
+
+impl From<AllocError> for SweepError {
+    ghost use Rattle.gu_desk.specs.declared.error.SweepError.{SweepError};
+
+    ghost from_gives = { λ _ error. error ≡ SweepError.Memory };
+
+    fn from(_: AllocError) -> Self {
+        SweepError::Memory
+    }
+}
+
+impl From<AskError> for SweepError {
+    ghost use Rattle.gu_desk.specs.Refusals.{refusal_to_look};
+
+    ghost from_gives = { λ refusal error. error ≡ refusal_to_look refusal };
+
+    fn from(refusal: AskError) -> Self {
+        match refusal {
+            AskError::Memory => SweepError::Memory,
+            AskError::UnknownGroup => SweepError::UnknownGroup,
+        }
+    }
+}
+
+impl From<CommitError> for SweepError {
+    ghost use Rattle.gu_desk.specs.Refusals.{refusal_to_commit};
+
+    ghost from_gives = { λ refusal error. error ≡ refusal_to_commit refusal };
+
+    fn from(refusal: CommitError) -> Self {
+        match refusal {
+            CommitError::Memory => SweepError::Memory,
+            CommitError::Full => SweepError::Full,
+            CommitError::Stale { seen, now } => SweepError::Stale { seen, now },
+            CommitError::Foreign => SweepError::Foreign,
+        }
+    }
+}
+
+/// Why a desk was not closed. The desk and the seats are handed back.
+#[derive(Debug, Drop, Clone, Copy, PartialEq, Eq, Error)]
+pub enum CloseFault {
+    /// A seat of the desk isn't among those handed in.
+    #[error("SeatMissing")]
+    SeatMissing,
+}
+
+/// The first fault of receipts.
+#[derive(Debug, Drop, Clone, Copy, PartialEq, Eq, Error)]
+pub enum AuditFault {
+    /// An allocation failed.
+    #[error("Memory")]
+    Memory,
+    /// The book has no entry of this number.
+    #[error("Missing {0}")]
+    Missing(u64),
+    /// The entry of this number is another one.
+    #[error("Differs {0}")]
+    Differs(u64),
+    /// An earlier receipt has this number.
+    #[error("Twice {0}")]
+    Twice(u64),
+    /// No receipt has this number, the least of those that none has.
+    #[error("Unclaimed {0}")]
+    Unclaimed(u64),
+}
+
+impl From<AllocError> for AuditFault {
+    ghost use Rattle.gu_desk.specs.declared.error.AuditFault.{AuditFault};
+
+    ghost from_gives = { λ _ error. error ≡ AuditFault.Memory };
+
+    fn from(_: AllocError) -> Self {
+        AuditFault::Memory
+    }
+}

@@ -1,0 +1,28 @@
+//! Gates: what proposes a desk's sweeps.
+
+ghost use Rattle.std.specs.Prelude.{◌≡◌, IfErr, IfOk};
+ghost use Rattle.gu_flow.specs.Proposals.{IsSound};
+ghost use Rattle.gu_view.specs.View.{IsNested};
+
+use gu_flow::{Proposal, propose};
+use gu_view::View;
+use std::alloc::{AllocError, Global};
+
+/// Proposes sweeps of views, while no lock is held. It promises what `gu_flow::propose` does.
+pub trait Gate {
+    /// Proposes a greatest sweep of a nested view.
+    fn propose(&self, alloc: Global, view: View) -> Result<Proposal, (AllocError, View)>
+        requires { IsNested view }
+        ensures view { IfOk result (λ proposal. proposal.view ≡ view) }
+        ensures sound { IfOk result (λ proposal. IsSound proposal) }
+        ensures refused { IfErr result (λ e. e.1 ≡ view) };
+}
+
+/// The gate that proposes, and does nothing else.
+pub struct Direct;
+
+impl Gate for Direct {
+    fn propose(&self, alloc: Global, view: View) -> Result<Proposal, (AllocError, View)> {
+        propose(alloc, view)
+    }
+}
