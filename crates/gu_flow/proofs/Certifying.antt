@@ -1,11 +1,11 @@
 -- The shares of a greatest flow and the cut where its last search stops: right takes, a right cut, and no takes are greater.
 use Rattle.std.proofs.Common.{◌≡◌, ◌≢◌, ℕ, ◌+◌, ◌<◌, ◌≤◌, ◌==◌, ◌⊎◌, ◌&&◌, not, Bool, true, false, cond, List, [], ◌∷◌, suc, length, get_or, slice_get, Some, refl, sym, ◌∙◌, ap, subst, arith, inl, inr}
-use Rattle.std.specs.Prelude.{sum_by}
+use Rattle.std.specs.Prelude.{IsTrue, nat_lt, sum_by}
 use Rattle.std.specs.List.{AllByRecursion, list_any}
 use Rattle.std.proofs.Math.Bool.{and-true, and-false}
 use Rattle.std.proofs.lemmas.Bool.{cases_eq, cases_order, or_cases, or_left, or_right, eq-eqb, ne_eqb, eqb-true, lt-ltb, and_from}
 use Rattle.std.proofs.lemmas.List.{get_or_default}
-use Rattle.std.proofs.lemmas.List.Elements.{All-from_get_or, recursion_from_All}
+use Rattle.std.proofs.lemmas.List.Elements.{All-filter, All-from_get_or, recursion_from_All}
 use Rattle.std.proofs.lemmas.List.Folds.{list_any_at}
 use Rattle.std.proofs.lemmas.Option.{slice_get_within, get_or_from_slice_get}
 use Rattle.gu_terms.proofs.KeyLemmas.{key_eq-same}
@@ -17,7 +17,7 @@ use Rattle.gu_terms.specs.declared.limit_key.LimitKey.{LimitKey}
 use Rattle.gu_terms.specs.declared.limit_key.LimitKey.TheVariants.{Agr}
 use Rattle.gu_terms.specs.declared.takes.Take.{Take}
 use Rattle.gu_view.proofs.CutBounds.{greatest_by_cut}
-use Rattle.gu_view.specs.Check.{IsRight}
+use Rattle.gu_view.specs.Check.{has_offer, IsRight}
 use Rattle.gu_view.specs.Cut.{Covers, is_covered, room_of}
 use Rattle.gu_view.specs.Takes.{IsAdmissible, IsGreatest, IsOldestFirst, lots_under, total}
 use Rattle.gu_view.specs.View.{GroupView, IsView, IsNested, place_of}
@@ -28,13 +28,14 @@ use Rattle.gu_flow.specs.Flows.{places, sum_over, IsFlow, IsClosed}
 use Rattle.gu_flow.specs.Layouts.{node_at}
 use Rattle.gu_flow.specs.Networks.{no_room, room_at, no_offer, offer_at, way_of, IsOfferOf, AreArcs}
 use Rattle.gu_flow.specs.Proposals.{IsSound}
-use Rattle.gu_flow.specs.Shares.{agreement_place, agreement_lots, AreShares}
+use Rattle.gu_flow.specs.Shares.{above_zero, agreement_place, agreement_lots, AreAllShares}
 use Rattle.gu_flow.specs.declared.network.Arc.{Arc}
 use Rattle.gu_flow.proofs.ArcLists.{places_within, IsAgreement, kind_of, capacity-le}
 use Rattle.gu_flow.proofs.CutTotals.{walk_leads_out, total_is_cut}
 use Rattle.gu_flow.proofs.Loads.{agree, Sided}
 use Rattle.gu_flow.proofs.RoomPlaces.{goes_by_key, roomed}
-use Rattle.gu_flow.proofs.ShareLemmas.{share_taken, share_fits, shares_oldest_first, shares_together, shares_known}
+use Rattle.gu_flow.proofs.ShareLemmas.{share_taken, share_fits, shares_ascend, shares_oldest_first, shares_together, shares_known}
+use Rattle.gu_flow.proofs.SomeLots.{above_zero-all, above_zero-lots}
 use Rattle.gu_flow.proofs.Sides.{IsLaid, distance, stepped_at, walks_from, way_once, first_left, later_right}
 use Rattle.gu_terms.proofs.Lists.{sum_by-add, sum_by-swap, sum_by-agree}
 use Rattle.gu_flow.proofs.SumLemmas.{sum_by-by, sum_by_place, sum_places_by, sum_one_place, cond-sum, cond-swap}
@@ -59,7 +60,7 @@ any_key test key (k ∷ path) on passes = elim (or_cases (key_eq k key) (has_key
 
 module _ (view : GroupView) (sound : IsView view) (nested : IsNested view) (arcs : List Arc) (are : AreArcs view arcs) (flow : List ℕ) (is_flow : IsFlow arcs flow)
     (reached : ℕ → Bool) (from_source : reached 0 ≡ true) (not_to_sink : reached 1 ≡ false) (closed : IsClosed arcs flow reached)
-    (takes : List Take) (shares : AreShares view flow takes) (cut : CutLists) (cut_is : IsCutBy view reached arcs cut) where
+    (takes : List Take) (shares : AreAllShares view flow takes) (cut : CutLists) (cut_is : IsCutBy view reached arcs cut) where
   abbrev way : Offer → List ℕ
   way = way_of view.rooms
 
@@ -265,10 +266,28 @@ module _ (view : GroupView) (sound : IsView view) (nested : IsNested view) (arcs
   pub greatest : IsGreatest view (lots_of takes)
   greatest = greatest_by_cut view cut (lots_of takes) sound admissible covers (sym room_is_total)
 
-  -- the whole: takes and cut are right, and the takes are greatest
-  pub certified : (n : ℕ) → n ≡ total view.offers (lots_of takes) → IsSound (record { view = view; takes = takes; cut = cut; lots = n })
-  certified n is = record {
-    of_view = sound;
-    right = subst (IsRight view takes cut) (sym is) right;
-    greatest = greatest;
+  -- the takes above 0 take what all do
+  same : lots_of (above_zero takes) ≡ lots_of takes
+  same = above_zero-lots takes (shares_ascend view sound flow takes shares)
+
+  right_above_zero : IsRight view (above_zero takes) cut (total view.offers (lots_of takes))
+  right_above_zero = record {
+    takes_known = All-filter (λ t. nat_lt 0 t.lots) (λ t. IsTrue (has_offer view.offers t.offer)) takes right.takes_known;
+    keys_known = right.keys_known;
+    offers_known = right.offers_known;
+    admissible = subst (IsAdmissible view) (sym same) right.admissible;
+    oldest_first = subst (IsOldestFirst view) (sym same) right.oldest_first;
+    covers = right.covers;
+    taken = ap (total view.offers) same;
+    room = right.room;
   }
+
+  -- the whole: takes and cut are right, and the takes are greatest
+  pub certified : (named : List Take) → named ≡ above_zero takes → (n : ℕ) → n ≡ total view.offers (lots_of takes) → IsSound (record { view = view; takes = named; cut = cut; lots = n })
+  certified named are n is =
+      rw (are, is) (record {
+        of_view = sound;
+        right = right_above_zero;
+        named = above_zero-all takes;
+        greatest = subst (IsGreatest view) (sym same) greatest;
+      })

@@ -14,6 +14,7 @@ pub mod Sides
 pub mod RoomPlaces
 pub mod ArcLists
 pub mod ShareLemmas
+pub mod SomeLots
 pub mod CutMembers
 pub mod OfferWays
 pub mod Certifying

@@ -19,7 +19,7 @@ use Rattle.gu_view.specs.View.{GroupView, IsView, place_of}
 use Rattle.gu_view.specs.declared.view.Offer.{Offer}
 use Rattle.gu_flow.specs.Flows.{places}
 use Rattle.gu_flow.specs.Networks.{no_offer, offer_at}
-use Rattle.gu_flow.specs.Shares.{agreement_place, agreement_lots, share_of, no_take, take_at, AreSharesBefore, AreShares}
+use Rattle.gu_flow.specs.Shares.{agreement_place, agreement_lots, share_of, no_take, take_at, above_zero, AreSharesBefore, AreAllShares}
 use Rattle.gu_flow.proofs.SumLemmas.{sum_by_place, sum_places_by, at_set}
 
 module _ (view : GroupView) (flow : List ℕ) where
@@ -59,6 +59,12 @@ module _ (view : GroupView) (flow : List ℕ) where
             (λ p other. omega (arith, h.left p, so_far p, cond-false (agreement_place view.rooms o == p) o.lots 0 (ne_eqb (agreement_place view.rooms o) p (λ e. other (sym e ∙ sym at)))));
       }
 
+-- the takes so far are the shares above 0
+pub record IsSharingOut (view : GroupView) (flow : List ℕ) (takes : List Take) (rests : List ℕ) (i : ℕ) : Type 0 where
+  pub shares : List Take
+  pub sharing : IsSharing view flow shares rests i
+  pub named : takes ≡ above_zero shares
+
 -- the take of an offer is found by its number
 find_take : (takes : List Take) (k : ℕ) → k < length takes → IsAscending takes → find (λ (t : Take). t.offer == (take_at takes k).offer) takes ≡ Some (take_at takes k)
 find_take [] k k_in ascending = absurd (omega arith)
@@ -78,7 +84,7 @@ front (x ∷ xs) (suc i) (suc j) h = ap (λ ys. x ∷ ys) (front xs i j (omega a
 front-le : {X : Type 0} (f : X → ℕ) (xs : List X) (i j : ℕ) → i ≤ j → sum_by f (take i xs) ≤ sum_by f (take j xs)
 front-le f xs i j h = subst (λ ys. sum_by f ys ≤ sum_by f (take j xs)) (front xs i j h) (sum_by-take-le f (take j xs) i)
 
-module _ (view : GroupView) (sound : IsView view) (flow : List ℕ) (takes : List Take) (shares : AreShares view flow takes) where
+module _ (view : GroupView) (sound : IsView view) (flow : List ℕ) (takes : List Take) (shares : AreAllShares view flow takes) where
   abbrev share_at : ℕ → ℕ
   share_at i = share_of flow view.rooms (take i view.offers) (offer_at view.offers i)
 

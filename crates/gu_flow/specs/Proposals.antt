@@ -1,5 +1,5 @@
 -- Proposals: greatest takes of a view, oldest first, and a cut that has no more room.
-use Rattle.std.specs.Prelude.{ℕ, List}
+use Rattle.std.specs.Prelude.{ℕ, ◌<◌, All, List}
 use Rattle.gu_terms.specs.Cuts.{CutLists}
 use Rattle.gu_terms.specs.Takes.{lots_of}
 use Rattle.gu_terms.specs.declared.takes.Take.{Take}
@@ -14,8 +14,10 @@ pub record ProposedSweep : Type 0 where
   pub cut : CutLists
   pub lots : ℕ
 
--- what holds of every proposal: it is of a view, passes the check with its lots, and no admissible takes are greater
+-- what holds of every proposal: it is of a view, passes the check with its lots, names only offers of which it takes lots, and
+-- no admissible takes are greater
 pub record IsSound (sweep : ProposedSweep) : Type 0 where
   pub of_view : IsView sweep.view
   pub right : IsRight sweep.view sweep.takes sweep.cut sweep.lots
+  pub named : All (λ t. 0 < t.lots) sweep.takes
   pub greatest : IsGreatest sweep.view (lots_of sweep.takes)

@@ -1,5 +1,5 @@
 -- Machinery: what the offers of an agreement get of what flows through its arc: the oldest first.
-use Rattle.std.specs.Prelude.{◌≡◌, ℕ, ◌-◌, ◌<◌, ◌==◌, min, if◌then◌else◌, List, length, take, slice_index, slice_index_or, sum_by}
+use Rattle.std.specs.Prelude.{◌≡◌, ℕ, ◌-◌, ◌<◌, ◌==◌, nat_lt, min, if◌then◌else◌, List, filter, length, take, slice_index, slice_index_or, sum_by}
 use Rattle.gu_terms.specs.declared.limit_key.LimitKey.TheVariants.{Agr}
 use Rattle.gu_terms.specs.declared.takes.Take.{Take}
 use Rattle.gu_view.specs.View.{GroupView, place_of}
@@ -37,5 +37,15 @@ pub record AreSharesBefore (view : GroupView) (flow : List ℕ) (takes : List Ta
       }
 
 -- each offer takes its share
-abbrev pub AreShares : GroupView → List ℕ → List Take → Type 0
-AreShares view flow takes = AreSharesBefore view flow takes (length view.offers)
+abbrev pub AreAllShares : GroupView → List ℕ → List Take → Type 0
+AreAllShares view flow takes = AreSharesBefore view flow takes (length view.offers)
+
+-- the takes that take lots
+abbrev pub above_zero : List Take → List Take
+above_zero takes = filter (λ t. nat_lt 0 t.lots) takes
+
+-- each offer takes its share, and is named where that is more than 0
+pub record AreShares (view : GroupView) (flow : List ℕ) (takes : List Take) : Type 0 where
+  pub shares : List Take
+  pub all : AreAllShares view flow shares
+  pub named : takes ≡ above_zero shares

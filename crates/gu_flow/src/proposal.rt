@@ -1,6 +1,6 @@
 //! Proposals: a greatest claim sweep of a view, with the cut that proves it.
 
-ghost use Rattle.std.specs.Prelude.{◌≡◌, ◌<◌, ◌^◌, Ok, IfErr, IfOk, sum_by};
+ghost use Rattle.std.specs.Prelude.{◌≡◌, ◌<◌, ◌^◌, All, Ok, IfErr, IfOk, sum_by};
 ghost use Rattle.gu_flow.specs.Proposals.{IsSound};
 ghost use Rattle.gu_view.specs.Check.{verdict};
 ghost use Rattle.gu_view.specs.View.{IsNested};
@@ -57,7 +57,7 @@ impl Proposal {
         &self.view
     }
 
-    /// What is taken of each offer.
+    /// What is taken of the offers of which lots are taken.
     pub fn takes(&self) -> &Takes
         ensures takes { result.now ≡ self.now.takes }
         ensures sound { IsSound self.now }
@@ -143,6 +143,7 @@ pub fn propose(alloc: Global, view: View) -> Result<Proposal, (AllocError, View)
     requires { IsNested view }
     ensures view { IfOk result (λ proposal. proposal.view ≡ view) }
     ensures sound { IfOk result (λ proposal. IsSound proposal) }
+    ensures named { IfOk result (λ proposal. All (λ t. 0 < t.lots) proposal.takes) }
     ensures refused { IfErr result (λ e. e.1 ≡ view) }
 {
     match sweep(alloc, &view) {

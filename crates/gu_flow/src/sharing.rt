@@ -1,11 +1,21 @@
 //! What each offer gets of what flows through its agreement's arc.
 
-ghost use Rattle.std.specs.Prelude.{◌≡◌, IfOk, length};
-ghost use Rattle.gu_flow.specs.Shares.{AreShares};
+ghost use Rattle.std.specs.Prelude.{◌≡◌, ◌++◌, ◌∷◌, [], IfOk, OnOk, length};
+ghost use Rattle.gu_flow.specs.Shares.{above_zero, AreShares};
 
-use gu_terms::{Take, Takes};
+use gu_terms::{OfferNo, Take, Takes};
 use gu_view::View;
 use std::alloc::{AllocError, Global};
+
+/// Adds the take of these lots of an offer, where they are more than 0.
+fn add_take(takes: &mut Vec<Take>, offer: OfferNo, lots: u64) -> Result<(), AllocError>
+    ensures { OnOk result (takes.new.items ≡ takes.old.items ++ above_zero (record { offer = offer; lots = lots } ∷ [])) }
+{
+    if 0 < lots {
+        takes.push(Take { offer, lots })?;
+    }
+    Ok(())
+}
 
 /// Gives each offer what the older ones of its agreement leave of the flow, but no more than it has.
 pub(crate) fn share_out(alloc: Global, view: &View, flow: Vec<u64>) -> Result<Takes, AllocError>
@@ -13,15 +23,12 @@ pub(crate) fn share_out(alloc: Global, view: &View, flow: Vec<u64>) -> Result<Ta
     ensures { IfOk result (λ takes. AreShares view.now flow.items takes) }
 {
     let mut rests = flow;
-    let mut takes = Vec::with_capacity(alloc, view.offers().len())?;
+    let mut takes = Vec::new(alloc);
     for (number, offer) in view.offers().iter().enumerate() {
         let place = view.agreement_place(number);
         let lots = offer.lots.min(rests[place]);
         rests[place] -= lots;
-        takes.push(Take {
-            offer: offer.number,
-            lots,
-        })?;
+        add_take(&mut takes, offer.number, lots)?;
     }
     Ok(Takes::of(takes))
 }

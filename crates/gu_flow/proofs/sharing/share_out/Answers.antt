@@ -1,8 +1,12 @@
-use Rattle.std.proofs.Common.{◌≡◌, ◌<◌, ◌∙◌, ap, arith, subst, length, min, get_or}
+use Rattle.std.proofs.Common.{◌≡◌, ◌<◌, ◌∙◌, ◌++◌, ◌∷◌, [], ap, arith, subst, sym, length, min, get_or}
+use Rattle.std.specs.Prelude.{nat_lt}
+use Rattle.std.proofs.lemmas.List.Elements.{filter-append}
+use Rattle.gu_terms.specs.declared.takes.Take.{Take}
+use Rattle.gu_flow.proofs.SomeLots.{above_zero-ascend}
 use Rattle.std.proofs.lemmas.List.{get_or_default}
 use Rattle.gu_view.specs.declared.view.Offer.{Offer}
 use Rattle.gu_flow.specs.Networks.{no_offer, offer_at}
-use Rattle.gu_flow.specs.Shares.{AreSharesBefore}
+use Rattle.gu_flow.specs.Shares.{above_zero, AreSharesBefore}
 use Rattle.gu_flow.proofs.RoomPlaces.{agreement_read}
 use Rattle.gu_flow.proofs.ShareLemmas.{shares_ascend, one_more_share}
 use Rattle.gu_flow.proofs.sharing.share_out.Goals as goal
@@ -11,7 +15,8 @@ pub loop-number-preserved : goal.loop-number-preserved
 loop-number-preserved c =
     let view = c.args.view.now in
     let i = c.loop-number.number in
-    let h = c.loop-number.invariant in
+    let shares = c.loop-number.invariant.shares in
+    let h = c.loop-number.invariant.sharing in
     let offers = c.offers-offer-items.ensures.offers in
     let inside = rw offers at c.loop-number-test.true in
     let o = c.offer-item.result in
@@ -24,11 +29,36 @@ loop-number-preserved c =
     let read : c.index.result.now ≡ get_or rests place 0 = c.index.ensures ∙ get_or_default rests place c.index.result.now 0 within in
     let written : c.index_mut.result.now ≡ get_or rests place 0 = c.index_mut.ensures.value ∙ get_or_default rests place c.index_mut.result.now 0 within in
     let lots_are : lots ≡ min (offer_at view.offers i).lots (get_or rests place 0) = c.min-lots.ensures ∙ ap (min o.lots) read ∙ ap (λ (o : Offer). min o.lots (get_or rests place 0)) is in
-    rw (c.in_ok-push.ensures.items, number, written) (one_more_share view c.args.flow.items c.loop-number.takes.items rests i place lots inside h (agreement_read view i place inside c.agreement_place-place.ensures.place) within lots_are)
+    let t : Take = record { offer = (offer_at view.offers i).number; lots = lots } in
+    let taken : c.add_take.new.takes.items ≡ above_zero (shares ++ t ∷ []) =
+    c.in_ok-add_take.ensures
+    ∙ ap (λ n. c.loop-number.takes.items ++ above_zero (record { offer = n; lots = lots } ∷ [])) number
+    ∙ ap (λ takes. takes ++ above_zero (t ∷ [])) c.loop-number.invariant.named
+    ∙ sym (filter-append (λ (t : Take). nat_lt 0 t.lots) shares (t ∷ [])) in
+    record {
+      shares = shares ++ t ∷ [];
+      sharing = rw written (one_more_share view c.args.flow.items shares rests i place lots inside h (agreement_read view i place inside c.agreement_place-place.ensures.place) within lots_are);
+      named = taken;
+    }
 
 pub of-requires : goal.of-requires
 of-requires c =
     let view = c.args.view.now in
+    let flow = c.args.flow.items in
     let offers = c.offers-offer-items.ensures.offers in
     let end : c.loop-number.number ≡ length view.offers = omega (arith, rw offers at c.loop-number-test.false, rw offers at c.loop-number.auto.number-end) in
-    shares_ascend view c.offers.ensures.sound c.args.flow.items c.loop-number.takes.items (subst (AreSharesBefore view c.args.flow.items c.loop-number.takes.items) end c.loop-number.invariant.shares)
+    let shares = c.loop-number.invariant.shares in
+    let all = subst (AreSharesBefore view flow shares) end c.loop-number.invariant.sharing.shares in
+    rw c.loop-number.invariant.named (above_zero-ascend shares (shares_ascend view c.offers-offer-items.ensures.sound flow shares all))
+
+pub returns : goal.returns
+returns c =
+    let view = c.args.view.now in
+    let offers = c.offers-offer-items.ensures.offers in
+    let end : c.loop-number.number ≡ length view.offers = omega (arith, rw offers at c.loop-number-test.false, rw offers at c.loop-number.auto.number-end) in
+    let shares = c.loop-number.invariant.shares in
+    record {
+      shares = shares;
+      all = subst (AreSharesBefore view c.args.flow.items shares) end c.loop-number.invariant.sharing.shares;
+      named = c.of.ensures ∙ c.loop-number.invariant.named;
+    }
