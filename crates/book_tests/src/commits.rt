@@ -1,5 +1,5 @@
-//! Commits of proposals for views that somebody made, and of copies that are lent: the book is as it was where one is refused, and the proposal
-//! comes back.
+//! Commits of proposals for views that somebody made, and of copies that are lent: the book is as it
+//! was where one is refused, and the proposal comes back.
 
 use crate::beginnings::beginning;
 use crate::transcript::{Patience, follow, picture, world_of};
@@ -9,8 +9,9 @@ use gu_text::Sheet;
 use std::alloc::Global;
 use std::process::Abort;
 
-/// Views for which a proposal is made, each as a sheet behind what comes of a copy of the proposal that is lent and what comes of the
-/// proposal itself, in a book in which G1 has version 6 and offer 1 of seven lots.
+/// Views for which a proposal is made, each as a sheet behind what comes of a copy of the proposal
+/// that is lent and what comes of the proposal itself, in a book in which G1 has version 6 and offer
+/// 1 of seven lots.
 const VIEWS: &str = "\
 == foreign, foreign
 SHEET G1 6
@@ -75,8 +76,8 @@ fn commit_told(rt: &impl Abort, alloc: Global, book: &mut Book, proposal: Propos
     told.expect(rt, "memory")
 }
 
-/// What comes of a proposal that is lent with its sweep as it is kept: the number of its entry, for which its receipt is, or why it is
-/// refused.
+/// What comes of a proposal that is lent with its sweep as it is kept: the number of its entry, which
+/// is that of its receipt, or why it is refused.
 fn lent_told(rt: &impl Abort, alloc: Global, book: &mut Book, proposal: Proposal) -> String {
     let before = picture(rt, alloc, book);
     let swept = book.lots_swept().saturating_add(proposal.lots());
