@@ -1,16 +1,17 @@
-//! Commits of proposals for views that somebody made, and of copies: the book is as it was where one is refused, and the proposal
-//! comes back.
+//! Commits of proposals for views that somebody made, and of copies that are lent: the book is as it
+//! was where one is refused, and the proposal comes back.
 
 use crate::beginnings::beginning;
 use crate::transcript::{Patience, follow, picture, world_of};
-use gu_book::{Book, CommitError};
+use gu_book::{Book, CommitError, kept_sweep, swept_receipt};
 use gu_flow::{Proposal, propose};
 use gu_text::Sheet;
 use std::alloc::Global;
 use std::process::Abort;
 
-/// Views for which a proposal is made, each as a sheet behind what comes of a copy of the proposal and what comes of the proposal
-/// itself, in a book in which G1 has version 6 and offer 1 of seven lots.
+/// Views for which a proposal is made, each as a sheet behind what comes of a copy of the proposal
+/// that is lent and what comes of the proposal itself, in a book in which G1 has version 6 and offer
+/// 1 of seven lots.
 const VIEWS: &str = "\
 == foreign, foreign
 SHEET G1 6
@@ -75,11 +76,33 @@ fn commit_told(rt: &impl Abort, alloc: Global, book: &mut Book, proposal: Propos
     told.expect(rt, "memory")
 }
 
-/// Commits a copy of a proposal for the view of a sheet, and then the proposal.
+/// What comes of a proposal that is lent with its sweep as it is kept: the number of its entry, which
+/// is that of its receipt, or why it is refused.
+fn lent_told(rt: &impl Abort, alloc: Global, book: &mut Book, proposal: Proposal) -> String {
+    let before = picture(rt, alloc, book);
+    let swept = book.lots_swept().saturating_add(proposal.lots());
+    let kept = kept_sweep(alloc, &proposal).ok().expect(rt, "memory");
+    let told = match book.enter_sweep(&proposal, kept) {
+        Ok(number) => {
+            let receipt = swept_receipt(number, proposal);
+            let is_entry = book.history().is_entry(number, &receipt.entry);
+            assert_eq!(rt; is_entry, Some(true));
+            assert_eq!(rt; book.lots_swept(), swept);
+            format!(in alloc; "entry {}", receipt.number).ok()
+        }
+        Err(why) => {
+            assert!(rt; picture(rt, alloc, book) == before);
+            why_told(alloc, why)
+        }
+    };
+    told.expect(rt, "memory")
+}
+
+/// Commits a copy of a proposal for the view of a sheet, which is lent, and then the proposal.
 fn commit_twice(rt: &impl Abort, alloc: Global, book: &mut Book, want: &str, sheet: &str) {
     let proposal = proposal_for(alloc, sheet).expect(rt, "a proposal");
     let copy = proposal.copy().ok().expect(rt, "a copy");
-    let first = commit_told(rt, alloc, book, copy);
+    let first = lent_told(rt, alloc, book, copy);
     let second = commit_told(rt, alloc, book, proposal);
     let told = format!(in alloc; "{first}, {second}").ok();
     let told = told.expect(rt, "memory");

@@ -1,28 +1,16 @@
 //! Questions to a book, and what it tells: line by line.
 
 use crate::words::{number, word};
-use gu_book::{AskError, Book};
+use gu_book::{Answer, AskError, Book};
 use gu_limits::path;
 use gu_terms::{
     AccountId, AgreementId, AllocReject, FirmId, Group, LimitKey, LimitRow, Notice, OfferEvent,
-    OfferNotice, PositionRows, Report, Side, Symbol,
+    OfferNotice, PositionRows, Query, Report, Side,
 };
 use gu_text::texts::{append_last_number, append_last_word, append_number, append_word};
 use gu_text::{Line, TextError};
 use gu_view::{Offer, View};
 use std::alloc::{AllocError, Global};
-
-/// Tells what an account holds of an instrument: the lots long, and the lots short.
-fn tell_position(
-    text: &mut Vec<u8>,
-    book: &Book,
-    account: AccountId,
-    symbol: Symbol,
-) -> Result<(), AllocError> {
-    let (long, short) = book.position(account, symbol);
-    append_number(text, long)?;
-    append_last_number(text, short)
-}
 
 /// Ends a line whose last word has a blank behind it.
 pub fn end_line(text: &mut Vec<u8>) -> Result<(), AllocError> {
@@ -197,25 +185,50 @@ fn tell_limits_of(
     told
 }
 
-/// Tells the view of a group, or its extent.
-fn tell_view_of(
-    text: &mut Vec<u8>,
-    book: &Book,
-    is_whole: bool,
-    group: &Group,
-) -> Result<(), AllocError> {
+/// Tells an answer: of a position the lots long and the lots short, and of each other kind what is told of it.
+fn tell_answer(text: &mut Vec<u8>, answer: &Answer) -> Result<(), AllocError> {
+    match answer {
+        Answer::Position { long, short } => {
+            append_number(text, *long)?;
+            append_last_number(text, *short)
+        }
+        Answer::Interest { lots } => append_last_number(text, *lots),
+        Answer::Positions(Some(held)) => tell_held(text, held),
+        Answer::Positions(None) => append_last_word(text, b"NONE"),
+        Answer::Look(view) => tell_view(text, view),
+        Answer::Notices(notices) => tell_notices(text, notices.next, &notices.list),
+    }
+}
+
+/// Tells why there is no answer.
+fn tell_no_answer(text: &mut Vec<u8>, why: AskError) -> Result<(), AllocError> {
+    match why {
+        AskError::UnknownGroup => append_last_word(text, b"UNKNOWN GROUP"),
+        AskError::Memory => Err(AllocError),
+    }
+}
+
+/// Tells what the book answers to a query.
+fn tell_query(text: &mut Vec<u8>, book: &Book, query: Query) -> Result<(), AllocError> {
+    match book.answer(query) {
+        Ok(answer) => {
+            let told = tell_answer(text, &answer);
+            drop(answer);
+            told
+        }
+        Err(why) => tell_no_answer(text, why),
+    }
+}
+
+/// Tells the extent of the view of a group.
+fn tell_extent_of(text: &mut Vec<u8>, book: &Book, group: &Group) -> Result<(), AllocError> {
     match book.view(group) {
         Ok(view) => {
-            let told = if is_whole {
-                tell_view(text, &view)
-            } else {
-                tell_extent(text, &view)
-            };
+            let told = tell_extent(text, &view);
             drop(view);
             told
         }
-        Err(AskError::UnknownGroup) => append_last_word(text, b"UNKNOWN GROUP"),
-        Err(AskError::Memory) => Err(AllocError),
+        Err(why) => tell_no_answer(text, why),
     }
 }
 
@@ -228,7 +241,8 @@ fn tell_of_group(
 ) -> Result<(), AllocError> {
     match kind {
         "COUNT" => tell_limits_of(text, book, true, group),
-        _ => tell_view_of(text, book, kind == "VIEW", group),
+        "VIEW" => tell_query(text, book, Query::Look { group: *group }),
+        _ => tell_extent_of(text, book, group),
     }
 }
 
@@ -240,46 +254,21 @@ fn tell_path_of(text: &mut Vec<u8>, book: &Book, agreement: AgreementId) -> Resu
     }
 }
 
-/// Tells what a firm is told of the entries from a number on.
-fn tell_notices_of(
-    text: &mut Vec<u8>,
-    book: &Book,
-    firm: FirmId,
-    from: u64,
-) -> Result<(), AllocError> {
-    let notices = book.notices(firm, from)?;
-    let told = tell_notices(text, notices.next, &notices.list);
-    drop(notices);
-    told
-}
-
-/// Tells what a firm is told that an account holds.
-fn tell_held_of(
-    text: &mut Vec<u8>,
-    book: &Book,
-    firm: FirmId,
-    account: AccountId,
-) -> Result<(), AllocError> {
-    match book.positions(firm, account)? {
-        Some(held) => {
-            let told = tell_held(text, &held);
-            drop(held);
-            told
-        }
-        None => append_last_word(text, b"NONE"),
-    }
-}
-
 /// What a book tells of a question that no script has. Nothing is told where memory is refused.
 fn tell_more(text: &mut Vec<u8>, book: &Book, line: &str) -> Option<()> {
     let name = word(line, 1).as_bytes();
     match word(line, 0) {
         "BOOK" => tell_book(text, book).ok(),
         "PATH" => tell_path_of(text, book, AgreementId::new(name)?).ok(),
-        "NOTICES" => tell_notices_of(text, book, FirmId::new(name)?, number(line, 2)?).ok(),
+        "NOTICES" => {
+            let firm = FirmId::new(name)?;
+            let from = number(line, 2)?;
+            tell_query(text, book, Query::Notices { firm, from }).ok()
+        }
         "HELD" => {
+            let firm = FirmId::new(name)?;
             let account = AccountId::new(word(line, 2).as_bytes())?;
-            tell_held_of(text, book, FirmId::new(name)?, account).ok()
+            tell_query(text, book, Query::Positions { firm, account }).ok()
         }
         kind => tell_of_group(text, book, kind, &Group::new(name)?).ok(),
     }
@@ -294,10 +283,11 @@ fn tell_read(
 ) -> Option<()> {
     match read {
         Ok(Some(Line::Position(account, symbol))) => {
-            tell_position(text, book, *account, *symbol).ok()
+            let (account, symbol) = (*account, *symbol);
+            tell_query(text, book, Query::Position { account, symbol }).ok()
         }
         Ok(Some(Line::Interest(symbol))) => {
-            append_last_number(text, book.open_interest(*symbol)).ok()
+            tell_query(text, book, Query::Interest { symbol: *symbol }).ok()
         }
         Ok(Some(Line::Limits(group))) => tell_limits_of(text, book, false, group).ok(),
         Ok(_) => None,

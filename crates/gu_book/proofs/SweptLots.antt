@@ -1,6 +1,6 @@
 -- The lots that a legal history swept are few: each sweep takes of 4,096 offers at most, and of each no more than it has.
 use Rattle.std.proofs.Common.{◌≡◌, ℕ, zero, suc, ◌+◌, ◌-◌, ◌*◌, ◌≤◌, ◌<◌, ◌++◌, Bool, true, false, List, [], ◌∷◌, length, slice_get, take, Option, Some, None, if◌then◌else◌, refl, sym, ap, ◌∙◌, arith, length-append, subst}
-use Rattle.std.specs.List.{AllByRecursion, filter_map}
+use Rattle.std.specs.List.{AllByRecursion}
 use Rattle.std.specs.Option.{option_and_then, option_map}
 use Rattle.std.proofs.lemmas.List.Elements.{recursion_from_All}
 use Rattle.std.proofs.lemmas.List.Sums.{sum_by-append, sum_by-cons}
@@ -10,11 +10,10 @@ use Rattle.gu_terms.specs.declared.agreement.AgreementId.{AgreementId}
 use Rattle.gu_terms.specs.declared.entry.Entry.{Entry}
 use Rattle.gu_terms.specs.declared.entry.Entry.TheVariants.{Asked, Swept}
 use Rattle.gu_terms.specs.declared.entry.SweepEntry.{SweepEntry}
-use Rattle.gu_terms.specs.declared.group.Group.{Group}
 use Rattle.gu_terms.specs.declared.offer.Offer.{Offer}
 use Rattle.gu_ref.specs.Reference.{agreement_between}
 use Rattle.gu_ref.specs.Tables.{Tables}
-use Rattle.gu_offers.proofs.Listed.{all-at, all-imply}
+use Rattle.gu_offers.proofs.Listed.{all-at}
 use Rattle.gu_offers.specs.Rows.{IsSound, Row, left_of, open_numbers}
 use Rattle.gu_view.specs.Takes.{total}
 use Rattle.gu_view.specs.declared.view.Offer.{Offer as ShownOffer}

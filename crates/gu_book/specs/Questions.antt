@@ -12,8 +12,9 @@ use Rattle.gu_book.specs.Views.{group_view}
 use Rattle.gu_book.specs.declared.asking.Answer.{Answer}
 use Rattle.gu_book.specs.declared.asking.Answer.TheVariants as answered
 
--- what a book answers to a query: the lots that the account holds long and short; the open interest; all that the account holds, where
--- it is the firm's; the group's view; the notices from a number on, and the number after the last entry. No other kind of answer is one
+-- what a book answers to a query: the lots that the account holds long and short; the open
+-- interest; all that the account holds, where it is the firm's; the group's view; the notices from
+-- a number on, and the number after the last entry. To no query is there an answer of another kind
 abbrev pub IsAnswer : Kept → Query → Answer → Type 0
 IsAnswer book (asked.Position account symbol) (answered.Position long short) = (long ≡ long_of book.history account symbol) × (short ≡ short_of book.history account symbol)
 IsAnswer book (asked.Interest symbol) (answered.Interest lots) = lots ≡ open_interest_of book symbol

@@ -319,8 +319,9 @@ impl Book {
         Ok(())
     }
 
-    /// Commits a proposal that is lent, whose sweep is made as it is kept: it is entered, and its takes are claimed, where the group still
-    /// stands as the proposal's view shows it. Tells the number of the entry.
+    /// Commits a proposal that is lent, with its sweep as the history keeps it: the sweep is entered,
+    /// and its takes are claimed, where the group still stands as the proposal's view shows it.
+    /// Tells the number of the entry. No sweep is copied, and nothing of the proposal is let go.
     pub fn enter_sweep(&mut self, proposal: &Proposal, kept: KeptSweep) -> Result<u64, CommitError>
         requires { kept ≡ sweep_of proposal.now }
         ensures entered { OnOk result (self.new.history ≡ self.old.history ++ Entry.Swept (sweep_of proposal.now) ∷ []) }
@@ -370,7 +371,8 @@ impl Book {
         Ok(swept_receipt(self.history.len() as u64, proposal))
     }
 
-    /// The lots that all sweeps took, over the whole history. It takes no memory, and reads each entry.
+    /// The lots that all sweeps took, over the whole history. It takes no memory, and reads each
+    /// entry.
     pub fn lots_swept(&self) -> u64
         ensures { result ≡ lots_swept self.now.history }
     {

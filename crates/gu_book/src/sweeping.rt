@@ -18,7 +18,8 @@ use gu_terms::{Entry, History, KeptSweep, OfferNo, Receipt, SweepEntry, Take};
 use gu_view::{Offer, View};
 use std::alloc::{AllocError, Global};
 
-/// The sweep that a proposal asks for, as the history of a book keeps it: made before `Book::enter_sweep`, which then copies nothing.
+/// The sweep that a proposal asks for, as a history keeps it: made before `Book::enter_sweep`, which
+/// then copies none of it.
 pub fn kept_sweep(alloc: Global, proposal: &Proposal) -> Result<KeptSweep, AllocError>
     ensures { IfOk result (λ kept. kept ≡ sweep_of proposal.now) }
 {
@@ -32,7 +33,8 @@ pub fn kept_sweep(alloc: Global, proposal: &Proposal) -> Result<KeptSweep, Alloc
     )
 }
 
-/// The receipt for a proposal whose sweep was entered as the entry of this number. It takes no memory, and the proposal's view is let go.
+/// The receipt for a proposal whose sweep was entered as the entry of this number. It takes no
+/// memory. The proposal's view is let go here, and not where a book is held.
 pub fn swept_receipt(number: u64, proposal: Proposal) -> Receipt
     ensures number { result.number ≡ number }
     ensures entry { result.entry ≡ Entry.Swept (sweep_of proposal) }

@@ -1,8 +1,8 @@
-use Rattle.std.proofs.Common.{ap, ◌∙◌, arith, length, subst}
+use Rattle.std.proofs.Common.{ap, ◌∙◌, arith, subst}
 use Rattle.std.specs.List.{AllByRecursion}
 use Rattle.std.proofs.lemmas.List.Elements.{recursion_from_All}
 use Rattle.gu_terms.specs.Histories.{lots_swept}
-use Rattle.gu_offers.specs.Rows.{IsSound, Row}
+use Rattle.gu_offers.specs.Rows.{IsSound}
 use Rattle.gu_book.specs.Kept.{Kept}
 use Rattle.gu_book.proofs.SweptLots.{few-swept, sound-small}
 use Rattle.gu_book.proofs.book.Book.lots_swept.Goals as goal
