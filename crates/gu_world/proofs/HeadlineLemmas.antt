@@ -9,6 +9,7 @@ use Rattle.gu_terms.specs.declared.entry.Entry.TheVariants.{Swept as SweptEntry}
 use Rattle.gu_terms.specs.declared.entry.SweepEntry.{SweepEntry}
 use Rattle.gu_ref.specs.Reference.{is_group}
 use Rattle.gu_ref.specs.Tables.{Tables}
+use Rattle.gu_terms.specs.declared.side.Side.TheVariants.{Buy, Sell}
 use Rattle.gu_book.specs.Legal.{IsLegal}
 use Rattle.gu_book.specs.Offers.{standing_of}
 use Rattle.gu_book.specs.Orderly.{IsOrderly}
@@ -41,14 +42,18 @@ sweeps_are_greatest reference history legal k sweep at =
       oldest_first = right.oldest_first;
       taken = right.taken;
       greatest = λ others admissible. omega (arith, may.sweeps.greatest.greatest others admissible, right.taken);
+      keys = right.keys_known;
+      offers = right.offers_known;
       covers = right.covers;
       room = right.room;
     }
 
 -- each position of an orderly history is a sum
 pub positions_are_sums : (history : List Entry) → IsOrderly history → ArePositionsSums history
-positions_are_sums history orderly side account symbol =
-    omega (arith, moved_out-le-traded (reports_of history) (standing_of history) side account symbol orderly.covered orderly.within)
+positions_are_sums history orderly = record {
+  long = λ account symbol. omega (arith, moved_out-le-traded (reports_of history) (standing_of history) Buy account symbol orderly.covered orderly.within);
+  short = λ account symbol. omega (arith, moved_out-le-traded (reports_of history) (standing_of history) Sell account symbol orderly.covered orderly.within);
+}
 
 -- ---- no outcome is foreign
 

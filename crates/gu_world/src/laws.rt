@@ -55,8 +55,8 @@ pub fn equal_versions_are_equal_views()
         → group_view reference (take first history) group ≡ group_view reference history group }
 {}
 
-/// Each sweep of a legal history stays within every offer and limit of its group as the book stood just before it, takes as many lots as
-/// any admissible takes would, oldest first, and its cut's room is the lots taken.
+/// Each sweep of a legal history stays within every offer and limit of its group as the book was just before it, and takes as many lots as
+/// any admissible takes would, oldest first; its cut names keys and offers of the view, covers each offer, and has the lots taken as its room.
 pub fn each_committed_sweep_is_greatest()
     ensures { (reference : Tables) (history : List EntryOf) → IsLegal reference history → AreGreatestSweeps reference history }
 {}

@@ -29,12 +29,12 @@ pub fn run(alloc: Global, reference: Reference, steps: &[Step]) -> Result<World,
     ensures run { IfOk result (IsRunOf reference steps.now) }
     ensures legal { IfOk result (λ world. IsLegal reference world.state.book.history) }
 
-    // Each committed sweep stays within every offer and limit of its group as the book stood at its commit, takes as many lots as any
-    // admissible takes would, oldest first, and its cut's room is the lots taken.
+    // Each committed sweep stays within every offer and limit of its group as the book was at its commit, and takes as many lots as any
+    // admissible takes would, oldest first; its cut names keys and offers of the view, covers each offer, and has the lots taken as its room.
     ensures sweeps { IfOk result (λ world. AreGreatestSweeps reference world.state.book.history) }
 
-    // Each position is the sum of the account's trades, and of what claims and sweeps moved to it, less what they moved from it; and over
-    // the accounts, as many lots of each instrument are held long as short.
+    // What each account holds long, and what it holds short, is the sum of its trades and of what claims and sweeps moved to it, less what
+    // they moved from it; and over the accounts, as many lots of each instrument are held long as short.
     ensures positions { IfOk result (λ world. ArePositionsSums world.state.book.history) }
     ensures even { IfOk result (λ world. LongIsShort world.state.book) }
     ensures never_foreign { IfOk result (λ world. All (λ outcome. outcome ≢ Foreign) world.outcomes) }
