@@ -4,6 +4,7 @@ use Rattle.gu_terms.specs.declared.query.Query.{Query}
 use Rattle.gu_terms.specs.declared.query.Query.TheVariants as asked
 use Rattle.gu_ref.specs.Reference.{is_group}
 use Rattle.gu_ref.specs.Tables.{Tables}
+use Rattle.gu_view.specs.View.{IsNested}
 use Rattle.gu_book.specs.Kept.{Kept}
 use Rattle.gu_book.specs.Notices.{notices_of}
 use Rattle.gu_book.specs.Positions.{is_of_firm, long_of, open_interest_of, position_rows, short_of}
@@ -13,19 +14,22 @@ use Rattle.gu_book.specs.declared.asking.Answer.{Answer}
 use Rattle.gu_book.specs.declared.asking.Answer.TheVariants as answered
 
 -- what a book answers to a query: the lots that the account holds long and short; the open
--- interest; all that the account holds, where it is the firm's; the group's view; the notices from
--- a number on, and the number after the last entry. To no query is there an answer of another kind
+-- interest; all that the account holds, where it is the firm's; the group's view, which is nested;
+-- the notices from a number on, and the number after the last entry. An answer of another kind
+-- answers nothing
 abbrev pub IsAnswer : Kept → Query → Answer → Type 0
-IsAnswer book (asked.Position account symbol) (answered.Position long short) = (long ≡ long_of book.history account symbol) × (short ≡ short_of book.history account symbol)
+IsAnswer book (asked.Position account symbol) (answered.Position long short) =
+    (long ≡ long_of book.history account symbol) × (short ≡ short_of book.history account symbol)
 IsAnswer book (asked.Interest symbol) (answered.Interest lots) = lots ≡ open_interest_of book symbol
 IsAnswer book (asked.Positions firm account) (answered.Positions rows) =
     (is_some rows ≡ is_of_firm book.reference firm account)
     × IfSome rows (λ p. (p.day ≡ open_day book.history) × (p.rows.items ≡ position_rows book account))
-IsAnswer book (asked.Look group) (answered.Look view) = view ≡ group_view book.reference book.history group
-IsAnswer book (asked.Notices firm from) (answered.Notices notices) = (notices.next ≡ length book.history + 1) × (notices.list.items ≡ notices_of book firm from)
+IsAnswer book (asked.Look group) (answered.Look view) = (view ≡ group_view book.reference book.history group) × IsNested view
+IsAnswer book (asked.Notices firm from) (answered.Notices notices) =
+    (notices.next ≡ length book.history + 1) × (notices.list.items ≡ notices_of book firm from)
 IsAnswer book query answer = ⊥
 
--- the query names a group that isn't there
+-- the query is for the view of a group that the reference doesn't have
 abbrev pub IsUnknown : Tables → Query → Type 0
 IsUnknown reference (asked.Look group) = is_group reference group ≡ false
 IsUnknown reference query = ⊥

@@ -267,7 +267,8 @@ impl Book {
         MetRooms::none(self.alloc)
     }
 
-    /// Why a proposal for a view may not be committed, where it may not. It needs no memory; the places of the limits of its rooms are noted, where there is some.
+    /// Why a proposal for a view may not be committed, where it may not. It needs no memory; where there is some, the
+    /// places of the limits of its rooms are noted.
     fn refusal(&self, view: &View, rooms: &mut MetRooms) -> Option<CommitError>
         ensures { MatchOption result (IsCurrent self.now view.now) (λ why. Refuses self.now view.now why) }
     {

@@ -1,4 +1,4 @@
--- Receipts, one after another, and the numbers that they claim.
+-- Receipts, one after another, and the numbers that they have.
 use Rattle.std.proofs.Common.{◌≡◌, ◌≢◌, ℕ, suc, zero, ◌+◌, ◌-◌, ◌<◌, ◌==◌, ◌||◌, Bool, true, false, List, [], ◌∷◌, ◌++◌, length, take, Some, None, refl, sym, ap, subst, ◌∙◌, arith, set, ◌⊎◌, inl, inr}
 use Rattle.std.specs.Prelude.{slice_get}
 use Rattle.std.specs.List.{list_any}
@@ -11,8 +11,7 @@ use Rattle.gu_terms.specs.declared.entry.Entry.{Entry}
 use Rattle.gu_terms.specs.declared.receipt.Receipt.{Receipt}
 use Rattle.gu_desk.specs.declared.error.AuditFault.{AuditFault}
 use Rattle.gu_desk.specs.declared.error.AuditFault.TheVariants.{Memory, Missing, Differs, Twice, Unclaimed}
-use Rattle.gu_desk.specs.Audits.{is_claimed, IsNumber, IsReceiptOf, AreSound, IsFirstFault}
-use Rattle.gu_desk.specs.Faults.{IsFaultOf}
+use Rattle.gu_desk.specs.Audits.{has_receipt, IsNumber, IsReceiptOf, AreSound, IsFaultOf, IsFirstFault}
 
 -- where an entry stands at a number, there is an entry of that number
 pub entry_number : (history : List Entry) (number : ℕ) (entry : Entry) → entry_at history number ≡ Some entry → IsNumber history number
@@ -49,22 +48,18 @@ pub receipt_number : (h : List Entry) (r : Receipt) → IsReceiptOf h r → IsNu
 receipt_number h r stands = entry_number h r.number r.entry stands
 
 -- what a mark says of a number
-pub claimed_as : (rs : List Receipt) (marks : List Bool) (n : ℕ) (b : Bool)
-    → slice_get marks (n - 1) ≡ Some (is_claimed rs n) → slice_get marks (n - 1) ≡ Some b → is_claimed rs n ≡ b
-claimed_as rs marks n b marked is = let e = sym marked ∙ is in cc
+pub marked_as : (rs : List Receipt) (marks : List Bool) (n : ℕ) (b : Bool)
+    → slice_get marks (n - 1) ≡ Some (has_receipt rs n) → slice_get marks (n - 1) ≡ Some b → has_receipt rs n ≡ b
+marked_as rs marks n b marked is = let e = sym marked ∙ is in cc
 
 -- a fault of the receipt after those that are sound is the first fault
-pub fault_first : (h : List Entry) (rs : List Receipt) (marks : List Bool) (k : ℕ) (r : Receipt) (f : AuditFault)
-    → AreSound h rs k → slice_get rs k ≡ Some r
-    → ((number : ℕ) → IsNumber h number → slice_get marks (number - 1) ≡ Some (is_claimed (take k rs) number))
-    → IsFaultOf h marks r f → IsFirstFault h rs f
-fault_first h rs marks k r Memory sound at marked is = absurd is
-fault_first h rs marks k r (Missing n) sound at marked is = (k, r, record { sound = sound; here = at; number_is = is.0 }, is.1)
-fault_first h rs marks k r (Differs n) sound at marked is = (k, r, record { sound = sound; here = at; number_is = is.0 }, is.1, is.2)
-fault_first h rs marks k r (Twice n) sound at marked is =
-    let number : IsNumber h n = subst (IsNumber h) is.0 (receipt_number h r is.1) in
-    (k, r, record { sound = sound; here = at; number_is = is.0 }, is.1, claimed_as (take k rs) marks n true (marked n number) is.2)
-fault_first h rs marks k r (Unclaimed n) sound at marked is = absurd is
+pub fault_first : (h : List Entry) (rs : List Receipt) (k : ℕ) (r : Receipt) (f : AuditFault)
+    → AreSound h rs k → slice_get rs k ≡ Some r → IsFaultOf h (has_receipt (take k rs) r.number) r f → IsFirstFault h rs f
+fault_first h rs k r Memory sound at is = absurd is
+fault_first h rs k r (Missing n) sound at is = (k, r, record { sound = sound; here = at; is = is })
+fault_first h rs k r (Differs n) sound at is = (k, r, record { sound = sound; here = at; is = is })
+fault_first h rs k r (Twice n) sound at is = (k, r, record { sound = sound; here = at; is = is })
+fault_first h rs k r (Unclaimed n) sound at is = absurd is
 
 below_or_at : (j k : ℕ) → j < k + 1 → (j < k) ⊎ (j ≡ k)
 below_or_at zero zero less = inr refl
@@ -74,14 +69,14 @@ below_or_at (suc j) (suc k) less = elim (below_or_at j k (omega arith)) [ inl h 
 
 -- one receipt more is sound, where it stands and its number is new
 pub sound_more : (h : List Entry) (rs : List Receipt) (k : ℕ) (r : Receipt)
-    → AreSound h rs k → slice_get rs k ≡ Some r → IsReceiptOf h r → is_claimed (take k rs) r.number ≡ false → AreSound h rs (k + 1)
+    → AreSound h rs k → slice_get rs k ≡ Some r → IsReceiptOf h r → has_receipt (take k rs) r.number ≡ false → AreSound h rs (k + 1)
 sound_more h rs k r sound at stands new j s less here =
     elim (below_or_at j k less) [
       | inl before ↦ sound j s before here
       | inr is ↦
           let there : slice_get rs k ≡ Some s = ap (slice_get rs) (sym is) ∙ here in
           let same : r ≡ s = cc in
-          subst (λ (u : Receipt). IsReceiptOf h u × (is_claimed (take j rs) u.number ≡ false)) same (stands, ap (λ i. is_claimed (take i rs) r.number) is ∙ new)
+          subst (λ (u : Receipt). IsReceiptOf h u × (has_receipt (take j rs) u.number ≡ false)) same (stands, ap (λ i. has_receipt (take i rs) r.number) is ∙ new)
     ]
 
 get_set_same : {X : Type 0} (xs : List X) (i : ℕ) (x : X) → i < length xs → slice_get (set xs i x) i ≡ Some x
@@ -99,20 +94,20 @@ get_set_other (y ∷ ys) (suc i) (suc j) x apart = get_set_other ys i j x (λ e.
 -- the marks with that of one receipt more
 pub marked_more : (h : List Entry) (rs : List Receipt) (marks : List Bool) (k : ℕ) (r : Receipt)
     → length marks ≡ length h → slice_get rs k ≡ Some r → IsReceiptOf h r
-    → ((number : ℕ) → IsNumber h number → slice_get marks (number - 1) ≡ Some (is_claimed (take k rs) number))
-    → (number : ℕ) → IsNumber h number → slice_get (set marks (r.number - 1) true) (number - 1) ≡ Some (is_claimed (take (suc k) rs) number)
+    → ((number : ℕ) → IsNumber h number → slice_get marks (number - 1) ≡ Some (has_receipt (take k rs) number))
+    → (number : ℕ) → IsNumber h number → slice_get (set marks (r.number - 1) true) (number - 1) ≡ Some (has_receipt (take (suc k) rs) number)
 marked_more h rs marks k r sized at stands marked n number =
     let mine = receipt_number h r stands in
-    let is : is_claimed (take (suc k) rs) n ≡ (is_claimed (take k rs) n || (r.number == n)) =
-    ap (λ us. is_claimed us n) (take_at rs k r at) ∙ any_last (λ (u : Receipt). u.number == n) (take k rs) r in
+    let is : has_receipt (take (suc k) rs) n ≡ (has_receipt (take k rs) n || (r.number == n)) =
+    ap (λ us. has_receipt us n) (take_at rs k r at) ∙ any_last (λ (u : Receipt). u.number == n) (take k rs) r in
     elim (cases_Bool (r.number == n)) [
       | inl hit ↦
           let same : r.number ≡ n = grind (arith, nat_tests) in
           let here : slice_get (set marks (r.number - 1) true) (r.number - 1) ≡ Some true = get_set_same marks (r.number - 1) true (omega (arith, mine, sized)) in
-          let all : is_claimed (take (suc k) rs) n ≡ true = is ∙ ap (λ b. is_claimed (take k rs) n || b) hit ∙ or_true (is_claimed (take k rs) n) in
+          let all : has_receipt (take (suc k) rs) n ≡ true = is ∙ ap (λ b. has_receipt (take k rs) n || b) hit ∙ or_true (has_receipt (take k rs) n) in
           ap (λ m. slice_get (set marks (r.number - 1) true) (m - 1)) (sym same) ∙ here ∙ ap Some (sym all)
       | inr miss ↦
           let apart : (n - 1) ≢ (r.number - 1) = λ e. let same : r.number ≡ n = omega (arith, mine, number) in grind (arith, nat_tests) in
-          let all : is_claimed (take (suc k) rs) n ≡ is_claimed (take k rs) n = is ∙ ap (λ b. is_claimed (take k rs) n || b) miss ∙ or_false (is_claimed (take k rs) n) in
+          let all : has_receipt (take (suc k) rs) n ≡ has_receipt (take k rs) n = is ∙ ap (λ b. has_receipt (take k rs) n || b) miss ∙ or_false (has_receipt (take k rs) n) in
           get_set_other marks (r.number - 1) (n - 1) true apart ∙ marked n number ∙ ap Some (sym all)
     ]

@@ -16,41 +16,46 @@ abbrev pub IsReceiptOf : List Entry → Receipt → Type 0
 IsReceiptOf history receipt = entry_at history receipt.number ≡ Some receipt.entry
 
 -- one of the receipts has this number
-abbrev pub is_claimed : List Receipt → ℕ → Bool
-is_claimed receipts number = list_any (λ (r : Receipt). r.number == number) receipts
+abbrev pub has_receipt : List Receipt → ℕ → Bool
+has_receipt receipts number = list_any (λ (r : Receipt). r.number == number) receipts
 
--- each of the first receipts, so many of them, is of its entry, and no two of them have one number
+-- each of the first `count` receipts is of its entry, and no two of them have the same number
 abbrev pub AreSound : List Entry → List Receipt → ℕ → Type 0
 AreSound history receipts count =
     (place : ℕ) (receipt : Receipt)
     → place < count
     → slice_get receipts place ≡ Some receipt
-    → IsReceiptOf history receipt × (is_claimed (take place receipts) receipt.number ≡ false)
+    → IsReceiptOf history receipt × (has_receipt (take place receipts) receipt.number ≡ false)
 
 -- each entry has its receipt, once, and there are no other receipts
 pub record AreReceiptsOf (history : List Entry) (receipts : List Receipt) : Type 0 where
   pub sound : AreSound history receipts (length receipts)
-  pub all : (number : ℕ) → IsNumber history number → is_claimed receipts number ≡ true
+  pub all : (number : ℕ) → IsNumber history number → has_receipt receipts number ≡ true
 
--- the receipt at a place has this number, and all before it are sound
-pub record IsFirstUnsound (history : List Entry) (receipts : List Receipt) (place number : ℕ) (receipt : Receipt) : Type 0 where
+-- what is wrong with one receipt: no entry has its number, or another entry has, or an earlier receipt has its number, too
+abbrev pub IsFaultOf : List Entry → Bool → Receipt → AuditFault → Type 0
+IsFaultOf history has_earlier receipt (Missing number) = (receipt.number ≡ number) × ¬ IsNumber history number
+IsFaultOf history has_earlier receipt (Differs number) =
+    (receipt.number ≡ number) × IsNumber history number × ¬ IsReceiptOf history receipt
+IsFaultOf history has_earlier receipt (Twice number) = (receipt.number ≡ number) × IsReceiptOf history receipt × (has_earlier ≡ true)
+IsFaultOf history has_earlier receipt fault = ⊥
+
+-- the receipt at a place has this fault, and all before it are sound
+pub record IsFaultAt (history : List Entry) (receipts : List Receipt) (fault : AuditFault) (place : ℕ) (receipt : Receipt) : Type 0 where
   pub sound : AreSound history receipts place
   pub here : slice_get receipts place ≡ Some receipt
-  pub number_is : receipt.number ≡ number
+  pub is : IsFaultOf history (has_receipt (take place receipts) receipt.number) receipt fault
 
--- the first fault: the first receipt that has no entry, another entry, or the number of an earlier receipt; and where there is none, the
--- least number that no receipt has
+-- all receipts are sound, and this is the least number of an entry that has none
+pub record IsLeastWithout (history : List Entry) (receipts : List Receipt) (number : ℕ) : Type 0 where
+  pub sound : AreSound history receipts (length receipts)
+  pub entry : IsNumber history number
+  pub none : has_receipt receipts number ≡ false
+  pub least : (lesser : ℕ) → 1 ≤ lesser → lesser < number → has_receipt receipts lesser ≡ true
+
+-- the first fault: that of the first receipt that has one, and where none has, the least number without a receipt.
+-- (Of an audit for which there is no memory nothing is said.)
 abbrev pub IsFirstFault : List Entry → List Receipt → AuditFault → Type 0
 IsFirstFault history receipts Memory = Unit {0}
-IsFirstFault history receipts (Missing number) =
-    (place : ℕ) × (receipt : Receipt) × IsFirstUnsound history receipts place number receipt × ¬ IsNumber history number
-IsFirstFault history receipts (Differs number) =
-    (place : ℕ) × (receipt : Receipt) × IsFirstUnsound history receipts place number receipt × IsNumber history number × ¬ IsReceiptOf history receipt
-IsFirstFault history receipts (Twice number) =
-    (place : ℕ) × (receipt : Receipt) × IsFirstUnsound history receipts place number receipt
-    × IsReceiptOf history receipt × (is_claimed (take place receipts) number ≡ true)
-IsFirstFault history receipts (Unclaimed number) =
-    AreSound history receipts (length receipts)
-    × IsNumber history number
-    × (is_claimed receipts number ≡ false)
-    × ((lesser : ℕ) → 1 ≤ lesser → lesser < number → is_claimed receipts lesser ≡ true)
+IsFirstFault history receipts (Unclaimed number) = IsLeastWithout history receipts number
+IsFirstFault history receipts fault = (place : ℕ) × (receipt : Receipt) × IsFaultAt history receipts fault place receipt

@@ -1,6 +1,6 @@
 pub mod Audits
-pub mod Faults
 pub mod Holds
 pub mod Refusals
+pub mod Seating
 pub mod Sweeps
 pub mod Totals

@@ -1,19 +1,19 @@
--- Refusals of a sweep, by the hold that refused it.
+-- Machinery: how a sweep is refused, by the hold of the lock that refused it.
 use Rattle.gu_book.specs.declared.error.AskError.{AskError}
-use Rattle.gu_book.specs.declared.error.AskError.TheVariants as look
+use Rattle.gu_book.specs.declared.error.AskError.TheVariants as first
 use Rattle.gu_book.specs.declared.error.CommitError.{CommitError}
-use Rattle.gu_book.specs.declared.error.CommitError.TheVariants as commit
+use Rattle.gu_book.specs.declared.error.CommitError.TheVariants as second
 use Rattle.gu_desk.specs.declared.error.SweepError.{SweepError}
 use Rattle.gu_desk.specs.declared.error.SweepError.TheVariants as sweep
 
--- the group could not be looked at
-abbrev pub refusal_to_look : AskError → SweepError
-refusal_to_look look.Memory = sweep.Memory
-refusal_to_look look.UnknownGroup = sweep.UnknownGroup
+-- the refusal of a sweep whose view was not taken
+abbrev pub refusal_of_first_hold : AskError → SweepError
+refusal_of_first_hold first.Memory = sweep.Memory
+refusal_of_first_hold first.UnknownGroup = sweep.UnknownGroup
 
--- the proposal was not committed
-abbrev pub refusal_to_commit : CommitError → SweepError
-refusal_to_commit commit.Memory = sweep.Memory
-refusal_to_commit commit.Full = sweep.Full
-refusal_to_commit (commit.Stale seen now) = sweep.Stale seen now
-refusal_to_commit commit.Foreign = sweep.Foreign
+-- the refusal of a sweep whose proposal was not committed
+abbrev pub refusal_of_second_hold : CommitError → SweepError
+refusal_of_second_hold second.Memory = sweep.Memory
+refusal_of_second_hold second.Full = sweep.Full
+refusal_of_second_hold (second.Stale seen now) = sweep.Stale seen now
+refusal_of_second_hold second.Foreign = sweep.Foreign

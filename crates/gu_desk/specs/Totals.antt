@@ -1,7 +1,5 @@
 -- Totals: what was entered and swept from each seat.
-use Rattle.std.specs.Prelude.{◌≡◌, ℕ, ◌+◌, []}
-use Rattle.gu_ref.specs.Tables.{Tables}
-use Rattle.gu_view.specs.Boards.{Shelves}
+use Rattle.std.specs.Prelude.{◌≡◌, ℕ, ◌+◌}
 
 -- the shares of a seat: how many entries were made from it, and how many lots were swept from it
 pub record Shares : Type 0 where
@@ -16,15 +14,6 @@ IsEmpty shares = (shares.entries ≡ 0) × (shares.swept ≡ 0)
 abbrev pub with_entry : Shares → Shares
 with_entry shares = record { entries = shares.entries + 1; swept = shares.swept }
 
--- the shares after one more sweep, of so many lots
+-- the shares after one more sweep, of these lots
 abbrev pub with_sweep : Shares → ℕ → Shares
 with_sweep shares lots = record { entries = shares.entries + 1; swept = shares.swept + lots }
-
--- what a contract sees of a desk: how many seats it has, and its board
-pub record Seating : Type 0 where
-  pub seats : ℕ
-  pub board : Shelves
-
--- a reference without rows
-abbrev pub no_tables : Tables
-no_tables = record { firms = []; groups = []; instruments = []; accounts = []; agreements = []; guarantors = [] }

@@ -6,7 +6,8 @@ ghost use Rattle.gu_ref.specs.Reference.{is_group};
 ghost use Rattle.gu_book.specs.Commits.{sweep_of};
 ghost use Rattle.gu_book.specs.Questions.{IsUnknown};
 ghost use Rattle.gu_desk.specs.Holds.{IsAnswered, IsEntered, IsSeen};
-ghost use Rattle.gu_desk.specs.Sweeps.{CommitNamesTwoVersions};
+ghost use Rattle.gu_desk.specs.Refusals.{refusal_of_second_hold};
+ghost use Rattle.gu_desk.specs.Sweeps.{DiffersIfStale};
 ghost use Rattle.gu_desk.specs.Totals.{with_entry, with_sweep};
 
 use crate::ledger::{EntryLedger, LotLedger};
@@ -128,7 +129,7 @@ impl<E: EntryLedger, S: LotLedger> CountedBook<E, S> {
         ensures entered { IfOk result (λ number. IsEntered E.reference (E.opening + seat.old.entries)
             (record { number = number; entry = Entry.Swept (sweep_of proposal.now) })) }
         ensures counted { IfOk result (λ number. seat.new ≡ with_sweep seat.old proposal.now.lots) }
-        ensures stale { IfErr result CommitNamesTwoVersions }
+        ensures stale { IfErr result (λ e. DiffersIfStale (refusal_of_second_hold e)) }
         ensures refused { OnErr result (seat.new ≡ seat.old) }
     {
         let CountedBook {

@@ -1,13 +1,14 @@
 //! The desk.
 
 ghost use Rattle.std.specs.Prelude.{◌≡◌, ◌↔◌, ◌+◌, ◌<◌, ◌≤◌, false, All, length, sum_by, vec_len, IfErr, IfOk, IsErr, IsErrOf, OnErr};
-ghost use Rattle.gu_terms.specs.Histories.{lots_swept};
+ghost use Rattle.gu_terms.specs.Histories.{lots_swept, swept_by};
 ghost use Rattle.gu_ref.specs.Reference.{is_group};
 ghost use Rattle.gu_view.specs.Boards.{Shows};
 ghost use Rattle.gu_book.specs.Commits.{sweep_of};
 ghost use Rattle.gu_book.specs.Questions.{IsUnknown};
 ghost use Rattle.gu_desk.specs.Holds.{Asks, IsAnswered, IsEntered, IsSeen};
-ghost use Rattle.gu_desk.specs.Sweeps.{CommitNamesTwoVersions, NamesTwoVersions, Sweeps};
+ghost use Rattle.gu_desk.specs.Refusals.{refusal_of_second_hold};
+ghost use Rattle.gu_desk.specs.Sweeps.{DiffersIfStale, Sweeps};
 ghost use Rattle.gu_desk.specs.Totals.{with_entry, with_sweep, IsEmpty};
 
 use crate::counted_book::CountedBook;
@@ -50,7 +51,7 @@ impl<E: EntryLedger, S: LotLedger> Drop for Desk<E, S> {
 
 impl<E: EntryLedger, S: LotLedger> Model for Desk<E, S> {
     ghost use Rattle.std.specs.Prelude.{◌≡◌, ◌+◌};
-    ghost use Rattle.gu_desk.specs.Totals.{Seating};
+    ghost use Rattle.gu_desk.specs.Seating.{Seating};
 
     ghost Value = { Seating };
 
@@ -157,27 +158,8 @@ impl<E: EntryLedger, S: LotLedger> Desk<E, S> {
         self.locked.lock(rt).view(seat, group)
     }
 
-    /// Publishes the view of a group.
-    fn look_at<R: Wait>(
-        &self,
-        rt: &R,
-        seat: &mut Seat<E, S>,
-        group: &Group,
-    ) -> Result<ViewToken, AskError>
-        ensures here { IfOk result (λ token. Shows self.now.board token) }
-        ensures seen { IfOk result (λ token. IsSeen E.reference (E.opening + seat.old.entries) group.now token.value) }
-        ensures unknown { IsErrOf result AskError.UnknownGroup ↔ (is_group E.reference group.now ≡ false) }
-        ensures seat { seat.new ≡ seat.old }
-    {
-        let view = self.view(rt, seat, group)?;
-        match self.board.publish(rt, view) {
-            Ok(token) => Ok(token),
-            Err(_) => Err(AskError::Memory),
-        }
-    }
-
-    /// Looks at a group: its view is taken in one hold of the lock, for which it may wait, and published on the desk's board after the
-    /// hold. Where an allocation fails the board may have one view more.
+    /// Looks at a group: its view is taken in one hold of the lock, and published on the desk's board after it. It may wait for the lock
+    /// and to publish.
     pub fn look<R: Wait>(
         &self,
         rt: &R,
@@ -189,7 +171,11 @@ impl<E: EntryLedger, S: LotLedger> Desk<E, S> {
         ensures unknown { IsErrOf result AskError.UnknownGroup ↔ (is_group E.reference group ≡ false) }
         ensures seat { seat.new ≡ seat.old }
     {
-        self.look_at(rt, seat, &group)
+        let view = self.view(rt, seat, &group)?;
+        match self.board.publish(rt, view) {
+            Ok(token) => Ok(token),
+            Err(_) => Err(AskError::Memory),
+        }
     }
 
     /// The view that was published. It takes no lock and no memory, and doesn't wait.
@@ -212,27 +198,30 @@ impl<E: EntryLedger, S: LotLedger> Desk<E, S> {
         ensures entered { IfOk result (λ number. IsEntered E.reference (E.opening + seat.old.entries)
             (record { number = number; entry = Entry.Swept (sweep_of proposal.now) })) }
         ensures counted { IfOk result (λ number. seat.new ≡ with_sweep seat.old proposal.now.lots) }
-        ensures stale { IfErr result CommitNamesTwoVersions }
+        ensures stale { IfErr result (λ e. DiffersIfStale (refusal_of_second_hold e)) }
         ensures refused { OnErr result (seat.new ≡ seat.old) }
     {
         self.locked.lock(rt).commit(seat, proposal, kept)
     }
 
-    /// Sweeps a group once.
-    fn sweep<R: Wait, G: Gate>(
+    /// Sweeps a group: its view is taken in one hold of the lock and published, the gate proposes from a copy of it while no lock is
+    /// held, and the proposal is committed in a second hold. It may wait for the lock, before each hold, and to publish. A view that was
+    /// published stays on the board, though the sweep is refused.
+    pub fn sweep_once<R: Wait, G: Gate>(
         &self,
         rt: &R,
         seat: &mut Seat<E, S>,
-        group: &Group,
+        group: Group,
         gate: &G,
     ) -> Result<Receipt, SweepError>
-        ensures sweeps { IfOk result (λ r. Sweeps group.now seat.old seat.new r.entry) }
+        ensures sweeps { IfOk result (λ r. Sweeps group r.entry) }
         ensures entered { IfOk result (IsEntered E.reference (E.opening + seat.old.entries)) }
-        ensures unknown { IsErrOf result SweepError.UnknownGroup ↔ (is_group E.reference group.now ≡ false) }
-        ensures stale { IfErr result NamesTwoVersions }
+        ensures counted { IfOk result (λ r. seat.new ≡ with_sweep seat.old (swept_by r.entry)) }
+        ensures unknown { IsErrOf result SweepError.UnknownGroup ↔ (is_group E.reference group ≡ false) }
+        ensures stale { IfErr result DiffersIfStale }
         ensures refused { OnErr result (seat.new ≡ seat.old) }
     {
-        let token = self.look_at(rt, seat, group)?;
+        let token = self.look(rt, seat, group)?;
         let view = self.board.read(&token).copy()?;
         let Ok(proposal) = gate.propose(self.alloc, view) else {
             return Err(SweepError::Memory);
@@ -242,25 +231,7 @@ impl<E: EntryLedger, S: LotLedger> Desk<E, S> {
         Ok(swept_receipt(number, proposal))
     }
 
-    /// Sweeps a group: its view is taken in one hold of the lock and published, the gate proposes from a copy of it while no lock is
-    /// held, and the proposal is committed in a second hold. It may wait for the lock, before each hold.
-    pub fn sweep_once<R: Wait, G: Gate>(
-        &self,
-        rt: &R,
-        seat: &mut Seat<E, S>,
-        group: Group,
-        gate: &G,
-    ) -> Result<Receipt, SweepError>
-        ensures sweeps { IfOk result (λ r. Sweeps group seat.old seat.new r.entry) }
-        ensures entered { IfOk result (IsEntered E.reference (E.opening + seat.old.entries)) }
-        ensures unknown { IsErrOf result SweepError.UnknownGroup ↔ (is_group E.reference group ≡ false) }
-        ensures stale { IfErr result NamesTwoVersions }
-        ensures refused { OnErr result (seat.new ≡ seat.old) }
-    {
-        self.sweep(rt, seat, &group, gate)
-    }
-
-    /// Sweeps a group, and again while the answer is Stale, at most `tries` times in all. It may wait for the lock, before each hold.
+    /// Sweeps a group, and again while the answer is Stale, at most `tries` times in all. It may wait as `sweep_once` does.
     pub fn sweep_until<R: Wait, G: Gate>(
         &self,
         rt: &R,
@@ -270,20 +241,21 @@ impl<E: EntryLedger, S: LotLedger> Desk<E, S> {
         gate: &G,
     ) -> Result<Receipt, SweepError>
         requires { (1 ≤ tries) × (tries ≤ 1000) }
-        ensures sweeps { IfOk result (λ r. Sweeps group seat.old seat.new r.entry) }
+        ensures sweeps { IfOk result (λ r. Sweeps group r.entry) }
         ensures entered { IfOk result (IsEntered E.reference (E.opening + seat.old.entries)) }
+        ensures counted { IfOk result (λ r. seat.new ≡ with_sweep seat.old (swept_by r.entry)) }
         ensures unknown { IsErrOf result SweepError.UnknownGroup ↔ (is_group E.reference group ≡ false) }
-        ensures stale { IfErr result NamesTwoVersions }
+        ensures stale { IfErr result DiffersIfStale }
         ensures refused { OnErr result (seat.new ≡ seat.old) }
     {
         let group = &group;
         for _again in 1..tries {
-            match self.sweep(rt, seat, group, gate) {
+            match self.sweep_once(rt, seat, *group, gate) {
                 Err(SweepError::Stale { .. }) => {}
                 answer => return answer,
             }
         }
-        self.sweep(rt, seat, group, gate)
+        self.sweep_once(rt, seat, *group, gate)
     }
 
     /// The book, once all seats are back.

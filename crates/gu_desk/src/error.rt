@@ -37,9 +37,9 @@ impl From<AllocError> for SweepError {
 }
 
 impl From<AskError> for SweepError {
-    ghost use Rattle.gu_desk.specs.Refusals.{refusal_to_look};
+    ghost use Rattle.gu_desk.specs.Refusals.{refusal_of_first_hold};
 
-    ghost from_gives = { λ refusal error. error ≡ refusal_to_look refusal };
+    ghost from_gives = { λ refusal error. error ≡ refusal_of_first_hold refusal };
 
     fn from(refusal: AskError) -> Self {
         match refusal {
@@ -50,9 +50,9 @@ impl From<AskError> for SweepError {
 }
 
 impl From<CommitError> for SweepError {
-    ghost use Rattle.gu_desk.specs.Refusals.{refusal_to_commit};
+    ghost use Rattle.gu_desk.specs.Refusals.{refusal_of_second_hold};
 
-    ghost from_gives = { λ refusal error. error ≡ refusal_to_commit refusal };
+    ghost from_gives = { λ refusal error. error ≡ refusal_of_second_hold refusal };
 
     fn from(refusal: CommitError) -> Self {
         match refusal {

@@ -15,7 +15,7 @@ pub trait EntryLedger: Ledger {
 }
 
 impl EntryLedger for Brand {
-    ghost use Rattle.gu_desk.specs.Totals.{no_tables};
+    ghost use Rattle.gu_desk.specs.Seating.{no_tables};
 
     ghost reference = { no_tables };
 
