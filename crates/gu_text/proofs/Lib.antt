@@ -1,5 +1,7 @@
+mod CommittedSheets
 mod FirstBytes
 mod FormLemmas
+mod GroupViews
 mod JoinedWords
 pub mod LineFeedLaws
 mod LineLemmas

@@ -1,3 +1,4 @@
+pub mod CommittedSheets
 pub mod LineFeeds
 pub mod Lines
 pub mod Outcomes

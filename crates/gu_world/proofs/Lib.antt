@@ -3,6 +3,7 @@ pub mod Blaming
 pub mod CommitLemmas
 pub mod HeadlineLemmas
 pub mod Holding
+pub mod LegalRuns
 pub mod LookLemmas
 pub mod OutcomeLemmas
 pub mod RunLemmas

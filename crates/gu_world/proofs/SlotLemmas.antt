@@ -19,7 +19,7 @@ use Rattle.gu_world.specs.declared.outcome.Outcome.TheVariants.{Seen}
 -- ---- places in a list
 
 -- of nothing everywhere nothing is read, and nothing written there changes it
-index-nothing : {X : Type 0} (n place : ℕ) → slice_index_or (replicate {A = Option X} n None) place None ≡ None
+pub index-nothing : {X : Type 0} (n place : ℕ) → slice_index_or (replicate {A = Option X} n None) place None ≡ None
 index-nothing zero place = refl
 index-nothing (suc n) zero = refl
 index-nothing (suc n) (suc place) = index-nothing n place

@@ -17,9 +17,9 @@ use Rattle.gu_book.specs.Positions.{long_of, moved_into, moved_out, short_of, tr
 use Rattle.gu_book.specs.Reports.{reports_of}
 use Rattle.gu_book.specs.Views.{group_view}
 
--- a sweep of a view: it takes lots of the view's offers alone, no more of any offer than it has and no more under any key than its room, and
--- the oldest offers of an agreement first; no admissible takes have more lots; and its cut names keys and offers of the view alone, covers each
--- offer, and has the lots taken as its room
+-- a sweep of a view: it takes lots of the view's offers alone, no more of any offer than it has and no more under any key than its room,
+-- and the oldest offers of an agreement first; no admissible takes have more lots; and its cut names keys and offers of the view alone,
+-- covers each offer, and has the lots taken as its room
 pub record IsGreatestSweep (view : GroupView) (sweep : SweepEntry) : Type 0 where
   pub known : All (λ t. IsTrue (has_offer view.offers t.offer)) sweep.takes
   pub within : IsAdmissible view (lots_of sweep.takes)
@@ -36,8 +36,8 @@ abbrev pub AreGreatestSweeps : Tables → List Entry → Type 0
 AreGreatestSweeps reference history =
     (k : ℕ) (sweep : SweepEntry) → slice_get history k ≡ Some (Swept sweep) → IsGreatestSweep (group_view reference (take k history) sweep.group) sweep
 
--- what an account holds long of an instrument is what it bought in trades, and what claims and sweeps of buys moved to it, less what they moved
--- from it; what it holds short is the same of sells. (As sums on both sides, since a difference of numbers would be cut off at 0.)
+-- what an account holds long of an instrument is what it bought in trades, and what claims and sweeps of buys moved to it, less what they
+-- moved from it; what it holds short is the same of sells. (As sums on both sides, since a difference of numbers would be cut off at 0.)
 pub record ArePositionsSums (history : List Entry) : Type 0 where
   pub long : (account : AccountId) (symbol : Symbol)
       → long_of history account symbol + moved_out (reports_of history) (standing_of history) Buy account symbol

@@ -9,7 +9,7 @@ ghost use Rattle.gu_book.specs.Legal.{IsLegal};
 ghost use Rattle.gu_book.specs.Versions.{version_of};
 ghost use Rattle.gu_book.specs.Views.{group_view};
 ghost use Rattle.gu_world.specs.Headline.{AreGreatestSweeps};
-ghost use Rattle.gu_world.specs.Runs.{IsRun, blamed};
+ghost use Rattle.gu_world.specs.Runs.{Course, IsRun, IsRunOf, blamed};
 ghost use Rattle.gu_world.specs.Steps.{LeadsTo, Look, State, is_overtaken, look_of, seen_history, view_seen};
 ghost use Rattle.gu_world.specs.declared.outcome.Outcome.{Outcome as OutcomeOf};
 ghost use Rattle.gu_world.specs.declared.outcome.Outcome.TheVariants.{Stale, Swept};
@@ -22,6 +22,13 @@ pub fn runs_join()
         → IsRun old steps outcomes mid → IsRun mid more others new → IsRun old (steps ++ more) (outcomes ++ others) new }
     ensures one_each { (old new : State) (steps : List StepOf) (outcomes : List OutcomeOf)
         → IsRun old steps outcomes new → length outcomes ≡ length steps }
+{}
+
+/// The history that a run of steps leads to is legal.
+pub fn a_run_is_legal()
+    ensures { (reference : Tables) (steps : List StepOf) (course : Course)
+        → IsRunOf reference steps course
+        → IsLegal reference course.state.book.history }
 {}
 
 /// What a worker saw stays what it saw, whatever steps come.
@@ -56,7 +63,8 @@ pub fn equal_versions_are_equal_views()
 {}
 
 /// Each sweep of a legal history stays within every offer and limit of its group as the book was just before it, and takes as many lots as
-/// any admissible takes would, oldest first; its cut names keys and offers of the view, covers each offer, and has the lots taken as its room.
+/// any admissible takes would, oldest first; its cut names keys and offers of the view alone, covers each offer, and has the lots taken as
+/// its room.
 pub fn each_committed_sweep_is_greatest()
     ensures { (reference : Tables) (history : List EntryOf) → IsLegal reference history → AreGreatestSweeps reference history }
 {}

@@ -30,7 +30,8 @@ pub fn run(alloc: Global, reference: Reference, steps: &[Step]) -> Result<World,
     ensures legal { IfOk result (λ world. IsLegal reference world.state.book.history) }
 
     // Each committed sweep stays within every offer and limit of its group as the book was at its commit, and takes as many lots as any
-    // admissible takes would, oldest first; its cut names keys and offers of the view, covers each offer, and has the lots taken as its room.
+    // admissible takes would, oldest first; its cut names keys and offers of the view alone, covers each offer, and has the lots taken as
+    // its room.
     ensures sweeps { IfOk result (λ world. AreGreatestSweeps reference world.state.book.history) }
 
     // What each account holds long, and what it holds short, is the sum of its trades and of what claims and sweeps moved to it, less what

@@ -1,0 +1,54 @@
+-- Sheets of committed sweeps.
+use Rattle.std.specs.Prelude.{◌≡◌, ℕ, ◌&&◌, List, All, IsTrue, Ok, Some, slice_get, take}
+use Rattle.std.specs.List.{AllByRecursion}
+use Rattle.gu_terms.specs.Cuts.{has_number}
+use Rattle.gu_terms.specs.LimitKeys.{has_key}
+use Rattle.gu_terms.specs.Names.{is_name}
+use Rattle.gu_terms.specs.Numbers.{IsLots}
+use Rattle.gu_terms.specs.Takes.{lots_of}
+use Rattle.gu_terms.specs.declared.command.Command.TheVariants.{GiveUp}
+use Rattle.gu_terms.specs.declared.entry.Entry.{Entry}
+use Rattle.gu_terms.specs.declared.entry.Entry.TheVariants.{Asked, Swept}
+use Rattle.gu_terms.specs.declared.entry.SweepEntry.{SweepEntry}
+use Rattle.gu_terms.specs.declared.limit_key.LimitKey.{LimitKey}
+use Rattle.gu_ref.specs.Rules.{IsSound}
+use Rattle.gu_ref.specs.Tables.{Tables}
+use Rattle.gu_view.specs.Check.{verdict}
+use Rattle.gu_view.specs.View.{GroupView}
+use Rattle.gu_book.specs.Laws.{AreShort}
+use Rattle.gu_book.specs.Views.{group_view}
+use Rattle.gu_text.specs.SheetText.{sheet_text}
+use Rattle.gu_text.specs.Sheets.{IsSheet}
+use Rattle.gu_text.specs.WrittenSheets.{cut_of, sheet_of, takes_of}
+
+-- a sweep of a view prints a right sheet: its text is a sheet, of this view, a take of each of its offers and the cut in the view's order;
+-- what is read of it is OK, with the sweep's lots; and it takes of each offer what the sweep takes, and has the sweep's cut
+pub record PrintsRightSheet (view : GroupView) (sweep : SweepEntry) : Type 0 where
+  pub sheet : IsSheet (sheet_text view sweep.takes sweep.cut) (sheet_of view sweep.takes sweep.cut)
+  pub right : verdict view (takes_of view sweep.takes) (cut_of view sweep.cut) ≡ Ok sweep.lots
+  pub lots : (number : ℕ) → lots_of (takes_of view sweep.takes) number ≡ lots_of sweep.takes number
+  pub keys : (key : LimitKey) → has_key (cut_of view sweep.cut).keys key ≡ has_key sweep.cut.keys key
+  pub offers : (number : ℕ) → has_number (cut_of view sweep.cut).offers number ≡ has_number sweep.cut.offers number
+
+-- each committed sweep prints one, of its group's view as the book was just before the commit
+abbrev pub PrintRightSheets : Tables → List Entry → Type 0
+PrintRightSheets reference history =
+    (k : ℕ) (sweep : SweepEntry)
+    → slice_get history k ≡ Some (Swept sweep)
+    → PrintsRightSheet (group_view reference (take k history) sweep.group) sweep
+
+-- the lines of a give-up have 1 to 1,000,000 lots each
+abbrev pub HasLots : Entry → Type 0
+HasLots (Asked (GiveUp firm id report lines) reply) = AllByRecursion (λ l. IsLots l.lots) lines
+HasLots entry = Unit {0}
+
+-- what the types of a reference and of commands keep, and these tables and lists alone don't: the reference is sound and its names are
+-- names, and a give-up has at most sixteen lines, of 1 to 1,000,000 lots each
+pub record AreTyped (reference : Tables) (history : List Entry) : Type 0 where
+  pub sound : IsSound reference
+  pub groups : All (λ g. IsTrue (is_name g.name)) reference.groups
+  pub accounts : All (λ a. IsTrue (is_name a.firm.name)) reference.accounts
+  pub agreements : All (λ a. IsTrue (is_name a.id.name && is_name a.executing.name && is_name a.account.name)) reference.agreements
+  pub guarantors : All (λ g. IsTrue (is_name g.guarantor.name)) reference.guarantors
+  pub short : AreShort history
+  pub lots : AllByRecursion HasLots history
