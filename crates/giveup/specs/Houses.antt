@@ -1,10 +1,9 @@
 -- A house behind a connection: how it answers what is asked of it, and what it tells of its own accord.
 use Rattle.std.specs.Prelude.{◌≡◌, ◌<◌, ◌≤◌, ◌+◌, ◌++◌, ◌⊎◌, ℕ, List, [], ◌∷◌, length, Option, None, Some, is_some}
-use Rattle.std.specs.Prelude.{IfSome}
 use Rattle.gu_terms.specs.declared.account.AccountId.{AccountId}
 use Rattle.gu_terms.specs.declared.command.Command.{Command}
 use Rattle.gu_terms.specs.declared.entry.Entry.{Entry}
-use Rattle.gu_terms.specs.declared.entry.Entry.TheVariants.{Asked, Swept}
+use Rattle.gu_terms.specs.declared.entry.Entry.TheVariants.{Asked}
 use Rattle.gu_terms.specs.declared.firm.FirmId.{FirmId}
 use Rattle.gu_terms.specs.declared.notice.Notice.{Notice}
 use Rattle.gu_terms.specs.declared.query.PositionRows.{PositionRows}
@@ -20,8 +19,8 @@ use Rattle.gu_session.specs.declared.input.Outcome.TheVariants.{Replied, Positio
 use Rattle.gu_book.specs.Answer.{answer}
 use Rattle.gu_book.specs.Kept.{Kept}
 use Rattle.gu_book.specs.Notices.{notices_of}
-use Rattle.gu_book.specs.Positions.{is_of_firm, position_rows}
-use Rattle.gu_book.specs.Reports.{open_day}
+use Rattle.gu_book.specs.Questions.{IsAnswer}
+use Rattle.gu_book.specs.declared.asking.Answer.TheVariants as answered
 
 -- The rules of a house, by its states: which outcome a request may have, and what a firm is told of the entries from a number on,
 -- with the number from which to ask next; and the house behind each.
@@ -47,15 +46,10 @@ pub record IsLeftOut (old : Kept) (outcome : Outcome) (new : Kept) : Type 0 wher
   pub outcome_is : outcome ≡ Failed failure
   pub new_is : new ≡ old
 
--- what is told of an account's positions: all that it holds, where it is the firm's
-pub record ArePositionsOf (book : Kept) (firm : FirmId) (account : AccountId) (told : Option PositionRows) : Type 0 where
-  pub own : is_some told ≡ is_of_firm book.reference firm account
-  pub day : IfSome told (λ p. p.day ≡ open_day book.history)
-  pub rows : IfSome told (λ p. p.rows.items ≡ position_rows book account)
-
--- the outcome of a question: positions; a session asks nothing else, and is told nothing of it
+-- the outcome of a question: for positions what the book answers; a session asks nothing else, and is told nothing of it
 abbrev pub IsTold : Kept → Query → Outcome → Type 0
-IsTold book (query.Positions firm account) outcome = (told : Option PositionRows) × (outcome ≡ Positions told) × ArePositionsOf book firm account told
+IsTold book (query.Positions firm account) outcome =
+    (rows : Option PositionRows) × (outcome ≡ Positions rows) × IsAnswer book (query.Positions firm account) (answered.Positions rows)
 IsTold book _ outcome = outcome ≡ Positions None
 
 -- how the book answers: a command is entered or left out, and a question leaves it as it was
@@ -72,8 +66,3 @@ pub record BookTells (old : Kept) (firm : FirmId) (from : ℕ) (told : List Noti
 -- the book as a house
 abbrev pub rules_of_book : HouseRules Kept
 rules_of_book = record { serves = BookServes; tells = BookTells }
-
--- the reply in an entry, where it is a command's
-abbrev pub reply_in : Entry → Option Reply
-reply_in (Asked command reply) = Some reply
-reply_in (Swept sweep) = None

@@ -1,12 +1,12 @@
 //! What stands behind a connection: the house that answers its requests and tells it notices.
 
 ghost use Rattle.std.specs.Prelude.{◌≡◌, ◌⊎◌, IfOk};
-ghost use Rattle.giveup.specs.Houses.{IsEntered, IsLeftOut, reply_in};
+ghost use Rattle.giveup.specs.Houses.{IsEntered, IsLeftOut};
 
-use gu_book::{Book, EnterError};
+use gu_book::{Answer, AskError, Book, EnterError};
 use gu_msgs::Request;
 use gu_session::{Failure, Outcome};
-use gu_terms::{Command, Entry, FirmId, Notices, Query, Reply};
+use gu_terms::{Command, FirmId, Notices};
 use std::alloc::AllocError;
 
 /// What answers the requests of a connection, and tells it notices.
@@ -25,25 +25,12 @@ pub trait House {
         ensures { IfOk result (λ notices. rules.tells self.old firm from notices.list.items notices.next self.new) };
 }
 
-/// The reply in an entry.
-fn reply_in(entry: &Entry) -> Option<Reply>
-    ensures { result ≡ reply_in entry.now }
-{
-    match entry {
-        Entry::Asked { command: _, reply } => Some(*reply),
-        Entry::Swept(_) => None,
-    }
-}
-
 /// Enters a command, and says what became of it.
-fn enter(book: &mut Book, command: Command) -> Outcome
-    ensures { IsEntered book.old command result book.new ⊎ IsLeftOut book.old result book.new }
+fn enter(book: &mut Book, command: &Command) -> Outcome
+    ensures { IsEntered book.old command.now result book.new ⊎ IsLeftOut book.old result book.new }
 {
-    match book.enter(command) {
-        Ok(receipt) => match reply_in(&receipt.entry) {
-            Some(reply) => Outcome::Replied(reply),
-            None => unreachable!(),
-        },
+    match book.reply_to(command) {
+        Ok(reply) => Outcome::Replied(reply),
         Err(EnterError::Full) => Outcome::Failed(Failure::Full),
         Err(EnterError::Memory) => Outcome::Failed(Failure::Memory),
     }
@@ -56,16 +43,12 @@ impl House for Book {
 
     fn serve(&mut self, request: Request) -> Result<Outcome, AllocError> {
         match request {
-            Request::Enter(command) => Ok(enter(self, command)),
-            Request::Ask(Query::Positions { firm, account }) => {
-                Ok(Outcome::Positions(self.positions(firm, account)?))
-            }
-            Request::Ask(
-                Query::Position { .. }
-                | Query::Interest { .. }
-                | Query::Look { .. }
-                | Query::Notices { .. },
-            ) => Ok(Outcome::Positions(None)),
+            Request::Enter(command) => Ok(enter(self, &command)),
+            Request::Ask(query) => match self.answer(query) {
+                Ok(Answer::Positions(rows)) => Ok(Outcome::Positions(rows)),
+                Err(AskError::Memory) => Err(AllocError),
+                Ok(_) | Err(AskError::UnknownGroup) => Ok(Outcome::Positions(None)),
+            },
         }
     }
 
