@@ -1,15 +1,12 @@
 -- A house behind a connection: how it answers what is asked of it, and what it tells of its own accord.
-use Rattle.std.specs.Prelude.{◌≡◌, ◌<◌, ◌≤◌, ◌+◌, ◌++◌, ◌⊎◌, ℕ, List, [], ◌∷◌, length, Option, None, Some, is_some}
-use Rattle.gu_terms.specs.declared.account.AccountId.{AccountId}
+use Rattle.std.specs.Prelude.{◌≡◌, ◌<◌, ◌≤◌, ◌+◌, ◌++◌, ◌⊎◌, ℕ, List, [], ◌∷◌, length, Option, None}
 use Rattle.gu_terms.specs.declared.command.Command.{Command}
-use Rattle.gu_terms.specs.declared.entry.Entry.{Entry}
 use Rattle.gu_terms.specs.declared.entry.Entry.TheVariants.{Asked}
 use Rattle.gu_terms.specs.declared.firm.FirmId.{FirmId}
 use Rattle.gu_terms.specs.declared.notice.Notice.{Notice}
 use Rattle.gu_terms.specs.declared.query.PositionRows.{PositionRows}
 use Rattle.gu_terms.specs.declared.query.Query.{Query}
 use Rattle.gu_terms.specs.declared.query.Query.TheVariants as query
-use Rattle.gu_terms.specs.declared.reply.Reply.{Reply}
 use Rattle.gu_msgs.specs.declared.asking.Request.{Request}
 use Rattle.gu_msgs.specs.declared.asking.Request.TheVariants.{Enter, Ask}
 use Rattle.gu_session.specs.declared.input.Failure.{Failure}
