@@ -1,0 +1,103 @@
+//! Desks over books that have room for one entry.
+
+ghost use Rattle.std.specs.Prelude.{◌≡◌, length};
+ghost use Rattle.gu_terms.specs.Histories.{lots_swept};
+
+use crate::opening::opened;
+use crate::sample::{book_of, command_of};
+use crate::transcript::follow;
+use gu_book::Book;
+use gu_desk::{AuditFault, EntryLedger, LotLedger, audit};
+use std::alloc::Global;
+use std::marker::Brand;
+use std::process::Abort;
+use std::sync::Wait;
+use std::sync::ledger::Blank;
+
+/// A command is the last entry. Then nothing is entered, and queries are answered as before.
+const A_COMMAND_IS_LAST: &str = "\
+DAY 20260105 = 1000000 NO 2 WrongDay
+DAY 20260106 = Full
+CLAIM C1 1 = Full
+SWEEP G1 = Full
+SWEEP G9 = UnknownGroup
+VIEW G1 = VERSION 1
+SEE 0 G1 = VERSION 1
+NOTICES C1 1 = NOTICES 0 NEXT 1000001
+INTEREST XF6 = LOTS 0
+";
+
+/// A sweep is the last entry.
+const A_SWEEP_IS_LAST: &str = "\
+SWEEP G1 = 1000000 SWEPT 0
+SWEEP G1 = Full
+DAY 20260106 = Full
+VIEW G1 = VERSION 2
+";
+
+/// What is entered last.
+#[derive(Clone, Copy)]
+enum Last {
+    Command,
+    Sweep,
+}
+
+impl Last {
+    /// The lines that enter it, and what is answered then.
+    fn lines(self) -> &'static str {
+        match self {
+            Last::Command => A_COMMAND_IS_LAST,
+            Last::Sweep => A_SWEEP_IS_LAST,
+        }
+    }
+}
+
+/// A book with 999,999 entries: a day, and then the same day again and again.
+fn almost_full(rt: &impl Abort, alloc: Global) -> Book {
+    let mut book = book_of(alloc).expect(rt, "a book");
+    let day = command_of(alloc, "DAY 20260105").expect(rt, "a command");
+    for _ in 0..999_999 {
+        let _ = book.reply_to(&day);
+    }
+    assert_eq!(rt; book.history().len(), 999_999);
+    book
+}
+
+/// Sends lines to a desk over a book, and closes it with a million entries.
+fn fill_book<E: EntryLedger, S: LotLedger, R: Wait + Abort>(
+    rt: &R,
+    alloc: Global,
+    book: Book,
+    entries: Blank,
+    swept: Blank,
+    last: Last,
+)
+    requires reference { book.reference ≡ E.reference }
+    requires opening { (length book.history ≡ E.opening) × (lots_swept book.history ≡ S.opening) }
+    requires entries { (entries.name ≡ E.name) × (entries.parts ≡ E.parts) × (entries.parts ≡ 2) }
+    requires swept { (swept.name ≡ S.name) × (swept.parts ≡ S.parts) × (swept.parts ≡ 2) }
+{
+    let (desk, mut seats) = opened::<E, S, R>(rt, alloc, book, 1, entries, swept);
+    let mut seat = seats.pop().expect(rt, "a seat");
+    follow(rt, alloc, &desk, &mut seat, last.lines());
+    assert!(rt; seats.push(seat).is_ok());
+    let book = desk.close(seats).ok().expect(rt, "all seats");
+    assert_eq!(rt; book.history().len(), 1_000_000);
+    assert_eq!(rt; audit(alloc, &book, &[]), Err(AuditFault::Unclaimed(1)));
+}
+
+#[test]
+fn a_desk_over_a_full_book_enters_nothing(rt: HostRuntime) {
+    let alloc = rt.alloc();
+    for last in [Last::Command, Last::Sweep] {
+        let book = almost_full(&rt, alloc);
+        fill_book::<Brand, Brand, HostRuntime>(
+            &rt,
+            alloc,
+            book,
+            Blank::new(2),
+            Blank::new(2),
+            last,
+        );
+    }
+}
