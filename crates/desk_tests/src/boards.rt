@@ -43,7 +43,10 @@ fn published<R: Wait + Abort>(rt: &R, alloc: Global, board: &Board, lines: &str)
     enter_all(rt, alloc, &mut book, lines);
     let group = group_of("G1").expect(rt, "a group");
     let view = book.view(&group).ok().expect(rt, "a view");
-    board.publish(rt, view).ok().expect(rt, "a token")
+    let Ok(token) = board.publish(rt, view) else {
+        panic!(rt; "no token");
+    };
+    token
 }
 
 /// What a token reads.
