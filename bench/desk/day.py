@@ -1,14 +1,18 @@
 #!/usr/bin/env python3
-"""A reference, and a script with so many entries that leaves so many offers open in G1, each of an agreement of its own as far as there are as many.
+"""A reference, a script that leaves offers open in G1, and commands by their names.
 
     day.py rows > REFERENCE
-    day.py ENTRIES OPEN > SCRIPT
+    day.py script ENTRIES OPEN AGREEMENTS ROOM > SCRIPT
+    day.py commands SCRIPT > COMMANDS
 
-All else is in G2: trades, give-ups and claims, one after another. In G1 the carrying firms have no room.
+The OPEN offers are of AGREEMENTS agreements in turn (1 to 4,096), each with an account of its own, and of two lots; ROOM is what the limits
+of the carrying firms leave in G1. All else of the ENTRIES is in G2: trades, give-ups and claims, one after another.
 """
+import itertools
 import sys
 
-GIVERS, CARRIERS, ACCOUNTS = 20, 10, 4_096
+GIVERS, CARRIERS, ACCOUNTS, TURNS = 20, 10, 4_096, 201
+MOST = 1_000_000_000
 
 
 def rows():
@@ -20,12 +24,12 @@ def rows():
     yield from (f'AGREEMENT,P{n},E{n % GIVERS},A{n}' for n in range(ACCOUNTS))
 
 
-def limits(group, carrying):
-    yield from (f'LIMIT {group} EXEC E{n} 1000000000' for n in range(GIVERS))
-    yield from (f'LIMIT {group} CARRY C{n} {carrying}' for n in range(CARRIERS))
+def limits(group, room):
+    yield from (f'LIMIT {group} EXEC E{n} {MOST}' for n in range(GIVERS))
+    yield from (f'LIMIT {group} CARRY C{n} {room}' for n in range(CARRIERS))
     for n in range(ACCOUNTS):
-        yield f'LIMIT {group} AGR P{n} 1000000000'
-        yield f'LIMIT {group} ACCT A{n} 1000000000'
+        yield f'LIMIT {group} AGR P{n} {MOST}'
+        yield f'LIMIT {group} ACCT A{n} {MOST}'
 
 
 def trade(symbol, name, giver, lots):
@@ -33,40 +37,52 @@ def trade(symbol, name, giver, lots):
     yield f'REPORT E{giver} S{name} M{name} S {symbol} {lots} 101.5 H{giver}'
 
 
-def pending(count):
+def pending(count, agreements):
     """A trade of each firm in G1, and the offers of it that stay open."""
     for giver in range(GIVERS):
         yield from trade('XF6', f'X{giver}', giver, 1_000_000)
     for n in range(count):
-        yield f'GIVEUP E{n % GIVERS} L{n} BX{n % GIVERS} A{n % ACCOUNTS} 2'
+        account = n % agreements
+        giver = account % GIVERS
+        yield f'GIVEUP E{giver} L{n} BX{giver} A{account} 2'
 
 
 def settled(offers):
     """Rounds of four entries in G2: a trade, a give-up of it, and the claim of that."""
-    turn = 0
-    while True:
+    for turn in itertools.count():
         account = turn % ACCOUNTS
         giver = account % GIVERS
-        offers += 1
         yield from trade('YF6', f'Y{turn}', giver, 10)
         yield f'GIVEUP E{giver} K{turn} BY{turn} A{account} 2'
-        yield f'CLAIM C{account % CARRIERS} {offers}'
-        turn += 1
+        yield f'CLAIM C{account % CARRIERS} {offers + turn + 1}'
 
 
-def script(entries, count):
-    yield 'DAY 20260105'
-    yield from limits('G1', 0)
-    yield from limits('G2', 1_000_000_000)
-    yield from pending(count)
-    yield from settled(count)
+def script(entries, count, agreements, room):
+    lines = itertools.chain(['DAY 20260105'], limits('G1', room), limits('G2', MOST), pending(count, agreements), settled(count))
+    return itertools.islice(lines, entries)
+
+
+def commands(offers):
+    """Of each kind one in each turn: the claims are of the turn's own give-up, and of an offer without room."""
+    for turn in range(TURNS):
+        account = 17 * turn % ACCOUNTS
+        giver = account % GIVERS
+        first, second = trade('YF6', f'T{turn}', giver, 10)
+        yield f'submit: report, the first side\t{first}'
+        yield f'submit: report, the second side\t{second}'
+        yield f'submit: give-up of one line\tGIVEUP E{giver} KT{turn} BT{turn} A{account} 2'
+        yield f'submit: claim, accepted\tCLAIM C{account % CARRIERS} {offers + turn + 1}'
+        yield 'submit: claim, denied for its limits\tCLAIM C1 2'
+        yield f'submit: limit\tLIMIT G2 ACCT A{account} {MOST - 1}'
 
 
 if __name__ == '__main__':
-    if sys.argv[1:] == ['rows']:
-        print('\n'.join(rows()))
-    else:
-        entries, count = map(int, sys.argv[1:])
-        lines = script(entries, count)
-        for _ in range(entries):
-            print(next(lines))
+    match sys.argv[1:]:
+        case ['rows']:
+            lines = rows()
+        case ['script', *numbers]:
+            lines = script(*map(int, numbers))
+        case ['commands', name]:
+            with open(name) as said:
+                lines = list(commands(sum(line.startswith('GIVEUP') for line in said)))
+    sys.stdout.writelines(f'{line}\n' for line in lines)
