@@ -86,7 +86,7 @@ struct Row {
 }
 
 /// Each after a trade of ten lots that are given up, which are eight entries, six of which touch the group.
-const ROWS: [Row; 7] = [
+const ROWS: [Row; 9] = [
     Row {
         lines: "CLAIM C1 1",
         tries: Tries::Once,
@@ -101,6 +101,11 @@ const ROWS: [Row; 7] = [
         lines: "CLAIM C1 1",
         tries: Tries::Until(2),
         want: Ok((10, 0)),
+    },
+    Row {
+        lines: "CLAIM C1 1\nLIMIT G1 AGR P1 101",
+        tries: Tries::Until(2),
+        want: Err(SweepError::Stale { seen: 7, now: 8 }),
     },
     Row {
         lines: "REPORT E1 R3 M2 B XF6 1 100 H1",
@@ -121,6 +126,11 @@ const ROWS: [Row; 7] = [
         lines: "LIMIT G1 AGR P1 101\nLIMIT G1 AGR P1 102",
         tries: Tries::Until(3),
         want: Ok((11, 10)),
+    },
+    Row {
+        lines: "LIMIT G1 AGR P1 101\nLIMIT G1 AGR P1 102\nLIMIT G1 AGR P1 103\nLIMIT G1 AGR P1 104",
+        tries: Tries::Until(4),
+        want: Err(SweepError::Stale { seen: 9, now: 10 }),
     },
 ];
 

@@ -51,12 +51,18 @@ CLAIM C1 1 = 10 NO 14 OfferClosed
 SWEEP G1 = 11 SWEPT 0
 ";
 
-/// What is answered to a seat from which nothing was entered.
+/// What is answered to a seat from which nothing was entered yet.
 const FROM_ANOTHER_SEAT: &str = "\
 POSITION A1 XF6 = LONG 7 SHORT 0
 SEE 0 G1 = VERSION 8
 NOTICES C1 1 = NOTICES 2 NEXT 12
 DAY 20260105 = 12 NO 2 WrongDay
+REVERSE C1 1 = 13 OK LOTS 7
+POSITION A1 XF6 = LONG 0 SHORT 0
+GIVEUP E1 L2 R1 A1 7 = 14 OK OFFERS 2 2
+REFUSE C1 2 1 = 15 OK LOTS 7
+POSITION A1 XF6 = LONG 0 SHORT 0
+POSITION H1 XF6 = LONG 7 SHORT 0
 ";
 
 /// Sweeps between two reads of one token: what was published stays as it was.
@@ -111,7 +117,7 @@ fn lone<E: EntryLedger, S: LotLedger, R: Wait + Abort>(
     follow(rt, alloc, &desk, &mut other, FROM_ANOTHER_SEAT);
     assert!(rt; seats.push(other).is_ok());
     let book = close(rt, desk, seats, seat);
-    assert_eq!(rt; (book.history().len(), book.lots_swept()), (12, 7));
+    assert_eq!(rt; (book.history().len(), book.lots_swept()), (15, 7));
 }
 
 #[test]
