@@ -1,7 +1,8 @@
 //! Files of rows that are accepted and refused, and the texts of faults.
 
 use crate::sample::{SAMPLE, file_of, reference_of};
-use gu_ref::{CountedReads, RefFault, Reference};
+use gu_ref::{RefFault, Reference};
+use gu_streams::CountedReads;
 use std::alloc::{AllocError, Global};
 use std::io::Read;
 use std::process::Abort;

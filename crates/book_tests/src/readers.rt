@@ -2,7 +2,8 @@
 
 use crate::files::text_of;
 use crate::sample::file_of;
-use gu_ref::{CountedReads, Reference};
+use gu_ref::Reference;
+use gu_streams::CountedReads;
 use std::alloc::Global;
 use std::io;
 use std::io::Read;

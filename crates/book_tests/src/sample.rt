@@ -1,6 +1,7 @@
 //! Reference files: the sample, the house of the random histories, one with an account for each offer, and the largest.
 
-use gu_ref::{CountedReads, RefFault, Reference};
+use gu_ref::{RefFault, Reference};
+use gu_streams::CountedReads;
 use std::alloc::{AllocError, Global};
 use std::fmt::Write;
 

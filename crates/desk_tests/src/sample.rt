@@ -1,7 +1,8 @@
 //! The sample reference, and what is said to its book.
 
 use gu_book::Book;
-use gu_ref::{CountedReads, Reference};
+use gu_ref::Reference;
+use gu_streams::CountedReads;
 use gu_terms::{Command, Group};
 use gu_text::Line;
 use gu_world::Step;

@@ -7,4 +7,3 @@ pub mod Lookups
 pub mod OneAnswer
 pub mod ReadSoFar
 pub mod RowReading
-pub mod StoppedReads

@@ -5,7 +5,6 @@ pub mod Growth
 pub mod Kept
 pub mod Listed
 pub mod Made
-pub mod Reads
 pub mod Reference
 pub mod Rows
 pub mod Rules

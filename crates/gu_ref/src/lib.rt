@@ -4,7 +4,6 @@
 mod accepting;
 mod accounts;
 mod agreements;
-mod counted_reads;
 mod error;
 mod guarantors;
 mod instruments;
@@ -18,7 +17,6 @@ mod table;
 
 pub use accounts::Account;
 pub use agreements::Agreement;
-pub use counted_reads::{CountedReads, LONGEST_READ, MOST_READS};
 pub use error::RefFault;
 pub use guarantors::Guarantor;
 pub use instruments::Instrument;

@@ -4,12 +4,12 @@ ghost use Rattle.std.specs.Prelude.{◌≡◌, true, IfOk, IfErr, IsErrOf};
 ghost use Rattle.csv.specs.Reading.{error_kind, stops_reader};
 ghost use Rattle.gu_ref.specs.Faults.{failure_of};
 ghost use Rattle.gu_ref.specs.File.{IsReadFrom, Refuses};
-ghost use Rattle.gu_ref.specs.Reads.{bytes_left, has_failed, HasStopped};
+ghost use Rattle.gu_streams.specs.Reads.{bytes_left, has_failed, HasStopped};
 
-use crate::counted_reads::CountedReads;
 use crate::error::RefFault;
 use crate::reference::Reference;
 use csv::ReaderBuilder;
+use gu_streams::CountedReads;
 use std::alloc::Global;
 use std::io::Read;
 

@@ -59,7 +59,7 @@ pub use lines::{Line, Lines};
 pub use lots::{Lots, read_lots};
 pub use moment::Moment;
 pub use name::Name;
-pub use notice::{Notice, Notices, OfferEvent, OfferNotice};
+pub use notice::{Notice, Notices, OfferEvent, OfferNotice, Stretch};
 pub use number_text::{NumberError, are_digits, value_of};
 pub use offer::Offer;
 pub use offer_no::OfferNo;

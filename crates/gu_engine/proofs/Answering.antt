@@ -1,0 +1,130 @@
+-- What a turn brings, answered event by event.
+use Rattle.std.proofs.Common.{◌≡◌, ◌⊎◌, ℕ, Bool, true, false, not, List, [], ◌∷◌, ◌++◌, map, filter, Option, inl, inr, refl, sym, ap, subst, ◌∙◌, append_assoc}
+use Rattle.std.proofs.lemmas.List.{append-nil}
+use Rattle.gu_streams.specs.Written.{WrotePart}
+use Rattle.gu_streams.proofs.Writing.{wrote_none}
+use Rattle.gu_engine.specs.Running.{Answers, AnswersAll, AnswersEach, AnswersSome, Engine, brought_in, is_more}
+use Rattle.gu_engine.specs.Sends.{Gives, GivesPart, IsReady}
+use Rattle.gu_engine.specs.declared.event.Event.{Event}
+use Rattle.gu_engine.proofs.Holding.{wrote_after}
+use Rattle.gu_engine.proofs.InTurn.{each_one, each_then}
+
+-- what some events bring, and then others
+pub brought-append : (first others : List Event) → brought_in (first ++ others) ≡ brought_in first ++ brought_in others
+brought-append [] others = refl
+brought-append (event ∷ first) others = at (not (is_more event)) refl
+  where
+    at : (b : Bool) → not (is_more event) ≡ b → brought_in ((event ∷ first) ++ others) ≡ brought_in (event ∷ first) ++ brought_in others
+    at true e = rw e in ap (λ (es : List Event). event ∷ es) (brought-append first others)
+    at false e = rw e in brought-append first others
+
+module _ {S : Type 0} (engine : Engine S) (now : ℕ) where
+  -- nothing is answered
+  pub some_none : (old : S) (brought : List Event) → AnswersSome engine now old brought [] old
+  some_none old brought = record { events = []; others = brought; split = refl; answered = (refl, refl) }
+
+  -- one event
+  pub some_one : (old new : S) (event : Event) (text : List ℕ) → Answers engine now old event text new → AnswersSome engine now old (brought_in (event ∷ [])) text new
+  some_one old new event text step =
+      record { events = event ∷ []; others = []; split = sym (append-nil (brought_in (event ∷ []))); answered = each_one (Answers engine now) old new event text step }
+
+  -- nothing is answered where nothing is left to be done
+  none_done : (mid new : S) (events : List Event) (text : List ℕ) → engine.is_done mid ≡ true → AnswersEach (Answers engine now) mid events text new → (text ≡ []) × (new ≡ mid) × (events ≡ [])
+  none_done mid new [] text done each = (each.0, each.1, refl)
+  none_done mid new (event ∷ events) text done (first, rest, next, step, parts, later) = absurd (let e : true ≡ false = sym done ∙ step.goes_on in cc)
+
+  -- all of what was brought first, and then some of the others
+  pub some_then : (old mid new : S) (first others : List Event) (text more : List ℕ) → AnswersAll engine now old first text mid → AnswersSome engine now mid others more new → AnswersSome engine now old (first ++ others) (text ++ more) new
+  some_then old mid new first others text more all then =
+      elim all.all [
+        | inl (none, ready) ↦ record {
+          events = all.some.events ++ then.events;
+          others = then.others;
+          split =
+              ap (λ (es : List Event). es ++ others) (all.some.split ∙ ap (λ (es : List Event). brought_in all.some.events ++ es) none ∙ append-nil (brought_in all.some.events))
+              ∙ ap (λ (es : List Event). brought_in all.some.events ++ es) then.split
+              ∙ sym (append_assoc (brought_in all.some.events) (brought_in then.events) then.others)
+              ∙ ap (λ (es : List Event). es ++ then.others) (sym (brought-append all.some.events then.events));
+          answered = each_then (Answers engine now) old mid new all.some.events then.events text more all.some.answered then.answered;
+        }
+        | inr done ↦
+            let nothing = none_done mid new then.events more done then.answered in
+            record {
+              events = all.some.events;
+              others = all.some.others ++ others;
+              split = ap (λ (es : List Event). es ++ others) all.some.split ∙ append_assoc (brought_in all.some.events) all.some.others others;
+              answered =
+                  subst (λ (s : S). AnswersEach (Answers engine now) old all.some.events (text ++ more) s) (sym nothing.1)
+                  (subst (λ (t : List ℕ). AnswersEach (Answers engine now) old all.some.events t mid) (sym (append-nil text) ∙ ap (λ (t : List ℕ). text ++ t) (sym nothing.0)) all.some.answered);
+            }
+      ]
+
+  -- and all of them
+  pub all_then : (old mid new : S) (first others : List Event) (text more : List ℕ) → AnswersAll engine now old first text mid → AnswersAll engine now mid others more new → AnswersAll engine now old (first ++ others) (text ++ more) new
+  all_then old mid new first others text more all then =
+      elim then.all [
+        | inr done ↦ record { some = some_then old mid new first others text more all then.some; all = inr done }
+        | inl (none, ready) ↦
+            elim all.all [
+              | inl (nothing, before) ↦ record {
+                some = record {
+                  events = all.some.events ++ then.some.events;
+                  others = [];
+                  split =
+                      ap (λ (es : List Event). es ++ others) (all.some.split ∙ ap (λ (es : List Event). brought_in all.some.events ++ es) nothing ∙ append-nil (brought_in all.some.events))
+                      ∙ ap (λ (es : List Event). brought_in all.some.events ++ es) (then.some.split ∙ ap (λ (es : List Event). brought_in then.some.events ++ es) none)
+                      ∙ sym (append_assoc (brought_in all.some.events) (brought_in then.some.events) [])
+                      ∙ ap (λ (es : List Event). es ++ []) (sym (brought-append all.some.events then.some.events));
+                  answered = each_then (Answers engine now) old mid new all.some.events then.some.events text more all.some.answered then.some.answered;
+                };
+                all = inl (refl, ready);
+              }
+              | inr done ↦
+                  let same = none_done mid new then.some.events more done then.some.answered in
+                  record { some = some_then old mid new first others text more all then.some; all = inr (ap engine.is_done same.1 ∙ done) }
+            ]
+      ]
+
+  -- nothing was brought, and nothing is due
+  pub all_none : (old : S) → engine.is_due old ≡ false → AnswersAll engine now old [] [] old
+  all_none old ready = record { some = some_none old []; all = inl (refl, ready) }
+
+  -- nothing is left to be done
+  pub all_done : (old : S) (brought : List Event) → engine.is_done old ≡ true → AnswersAll engine now old brought [] old
+  all_done old brought done = record { some = some_none old brought; all = inr done }
+
+  -- after all of it the engine is ready for more
+  pub ready_after : (old new : S) (brought : List Event) (text : List ℕ) → AnswersAll engine now old brought text new → IsReady engine new
+  ready_after old new brought text all = elim all.all [ | inl some ↦ inl some.1 | inr done ↦ inr done ]
+
+  -- nothing was written
+  pub part_none : (old : S) (brought : List Event) (held : List ℕ) (o : Option (List ℕ)) → GivesPart engine now old brought held o o
+  part_none old brought held o = record { text = []; new = old; answered = some_none old brought; wrote = wrote_none (held ++ []) o }
+
+  -- an event is answered, and a prefix was written
+  pub part_one : (old new : S) (event : Event) (text held mid : List ℕ) (o p : Option (List ℕ)) → Answers engine now old event text new → mid ≡ held ++ text → WrotePart mid o p → GivesPart engine now old (brought_in (event ∷ [])) held o p
+  part_one old new event text held mid o p step is part =
+      record { text = text; new = new; answered = some_one old new event text step; wrote = subst (λ (t : List ℕ). WrotePart t o p) is part }
+
+  -- what was brought first is answered, and a prefix of the answers to the others was written
+  pub part_then : (old mid : S) (first others : List Event) (text held kept : List ℕ) (o p q : Option (List ℕ)) → AnswersAll engine now old first text mid → Gives text held kept o p
+      → GivesPart engine now mid others kept p q → GivesPart engine now old (first ++ others) held o q
+  part_then old mid first others text held kept o p q all gives part = record {
+    text = text ++ part.text;
+    new = part.new;
+    answered = some_then old mid part.new first others text part.text all part.answered;
+    wrote = wrote_after text part.text held kept o p q gives part.wrote;
+  }
+
+  -- some of what was brought is some of more
+  pub some_more : (old new : S) (brought more : List Event) (text : List ℕ) → AnswersSome engine now old brought text new → AnswersSome engine now old (brought ++ more) text new
+  some_more old new brought more text some = record {
+    events = some.events;
+    others = some.others ++ more;
+    split = ap (λ (es : List Event). es ++ more) some.split ∙ append_assoc (brought_in some.events) some.others more;
+    answered = some.answered;
+  }
+
+  -- and so of what was written
+  pub part_more : (old : S) (brought more : List Event) (held : List ℕ) (o p : Option (List ℕ)) → GivesPart engine now old brought held o p → GivesPart engine now old (brought ++ more) held o p
+  part_more old brought more held o p part = record { text = part.text; new = part.new; answered = some_more old part.new brought more part.text part.answered; wrote = part.wrote }

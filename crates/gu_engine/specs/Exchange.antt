@@ -1,0 +1,161 @@
+-- The exchange of one session with a house: what its input is answered by, turn by turn.
+use Rattle.std.specs.Prelude.{◌≡◌, ◌||◌, ◌&&◌, ◌∷◌, ◌++◌, ℕ, Bool, true, false, not, is_some, List, [], Option, None, Some}
+use Rattle.std.specs.List.{filter_map, flat_map, list_any}
+use Rattle.std.specs.Io.KnownBytes.{Consumes, Keeps}
+use Rattle.std.specs.Option.{option_map}
+use Rattle.gu_terms.specs.declared.firm.FirmId.{FirmId}
+use Rattle.gu_terms.specs.declared.notice.Notice.{Notice as NoticeOf}
+use Rattle.gu_terms.specs.declared.notice.Stretch.{Stretch}
+use Rattle.gu_session.specs.States.{SessionState, new_session}
+use Rattle.gu_session.specs.Steps.{StepsWith}
+use Rattle.gu_session.specs.declared.input.Input.{Input}
+use Rattle.gu_session.specs.declared.input.Input.TheVariants.{Frame, Notice, Answer, Tick, End}
+use Rattle.gu_session.specs.declared.input.Outcome.{Outcome}
+use Rattle.gu_session.specs.declared.output.Asked.{Asked}
+use Rattle.gu_session.specs.declared.output.Output.{Output}
+use Rattle.gu_session.specs.declared.output.Output.TheVariants.{Send, Hand, Close}
+use Rattle.gu_session.specs.declared.standing.Standing.{Standing}
+use Rattle.gu_engine.specs.Houses.{HouseRules}
+use Rattle.gu_engine.specs.Running.{AnswersEach, Engine, Served, ServedInPart, ServedSoFar, Streams}
+use Rattle.gu_engine.specs.declared.connection.Connection.{Connection}
+use Rattle.gu_engine.specs.declared.event.Event.{Event}
+use Rattle.gu_engine.specs.declared.event.Event.TheVariants as event
+
+-- the bytes that a session gives to be sent
+abbrev pub bytes_in : Output → List ℕ
+bytes_in (Send bytes) = bytes.items
+bytes_in (Hand asked) = []
+bytes_in Close = []
+
+-- what it hands out
+abbrev pub handed_in : Output → Option Asked
+handed_in (Send bytes) = None
+handed_in (Hand asked) = Some asked
+handed_in Close = None
+
+-- the close
+abbrev pub is_close : Output → Bool
+is_close (Send bytes) = false
+is_close (Hand asked) = false
+is_close Close = true
+
+-- the firm that is logged on
+abbrev pub firm_of : SessionState → Option FirmId
+firm_of session = option_map (λ (at : Standing). at.firm) session.at
+
+module _ {H C : Type 0} where
+  -- a connection before its first turn: one of these firms may log on, and its notices begin with the first entry
+  pub record IsNew (connection : Connection H C) (firms : List FirmId) (house : H) (clock : C) : Type 0 where
+    pub session : connection.session ≡ new_session firms
+    pub house_is : connection.house ≡ house
+    pub clock_is : connection.clock ≡ clock
+    pub first_entry : connection.next ≡ 1
+    pub nothing_due : connection.is_behind ≡ false
+    pub is_open : connection.is_over ≡ false
+
+  -- A session takes an input at a moment: this is handed out, and these bytes are sent. With a close the connection is over.
+  pub record TakesInput (old : Connection H C) (input : Input) (now : ℕ) (handed : List Asked) (text : List ℕ) (new : Connection H C) : Type 0 where
+    pub outputs : List Output
+    pub session : SessionState
+    pub steps : StepsWith old.session input now outputs session
+    pub handed_is : handed ≡ filter_map handed_in outputs
+    pub text_is : text ≡ flat_map bytes_in outputs
+    pub new_is : new ≡ record old { session = session; is_over = old.is_over || list_any is_close outputs }
+
+  -- what is handed out is answered by the house at once, and the session takes the answer
+  pub record AnswersAsked (rules : HouseRules H) (now : ℕ) (old : Connection H C) (asked : Asked) (text : List ℕ) (new : Connection H C) : Type 0 where
+    pub outcome : Outcome
+    pub house : H
+    pub answered : rules.answers old.house asked.what outcome house
+    pub handed : List Asked
+    pub taken : TakesInput (record old { house = house }) (Answer asked.reference outcome) now handed text new
+
+  -- A frame: what the session sends, and the answers to what it hands out. Then the firm is behind with its notices.
+  pub record AnswersFrame (rules : HouseRules H) (now : ℕ) (old : Connection H C) (frame text : List ℕ) (new : Connection H C) : Type 0 where
+    pub asked : List Asked
+    pub heard : Connection H C
+    pub answered : Connection H C
+    pub sent : List ℕ
+    pub answers : List ℕ
+    pub hears : TakesInput old (Frame frame) now asked sent heard
+    pub answers_each : AnswersEach (AnswersAsked rules now) heard asked answers answered
+    pub parts : text ≡ sent ++ answers
+    pub new_is : new ≡ record answered { is_behind = true }
+
+  -- the reader has nothing for now: the firm is behind with what others did
+  pub record Waits (old : Connection H C) (text : List ℕ) (new : Connection H C) : Type 0 where
+    pub text_is : text ≡ []
+    pub new_is : new ≡ record old { is_behind = true }
+
+  -- a notice is sent
+  pub record SendsNotice (now : ℕ) (old : Connection H C) (notice : NoticeOf) (text : List ℕ) (new : Connection H C) : Type 0 where
+    pub handed : List Asked
+    pub taken : TakesInput old (Notice notice) now handed text new
+
+  -- the firm that is logged on is sent a stretch of the notices that it hasn't had, and is behind until it has had the last
+  pub record TellsStretch (rules : HouseRules H) (now : ℕ) (old : Connection H C) (text : List ℕ) (new : Connection H C) : Type 0 where
+    pub firm : FirmId
+    pub logged_on : firm_of old.session ≡ Some firm
+    pub stretch : Stretch
+    pub house : H
+    pub told : rules.tells old.house firm old.next stretch house
+    pub sent : AnswersEach (SendsNotice now) (record old { house = house; next = stretch.notices.next; is_behind = not stretch.is_last })
+        stretch.notices.list.items text new
+
+  -- notices are due where a firm that is logged on is behind, unless the connection is over
+  abbrev pub is_due : Connection H C → Bool
+  is_due connection = connection.is_behind && not connection.is_over && is_some (firm_of connection.session)
+
+  -- a turn is over: time has passed
+  pub record Ticks (now : ℕ) (old : Connection H C) (text : List ℕ) (new : Connection H C) : Type 0 where
+    pub handed : List Asked
+    pub taken : TakesInput old Tick now handed text new
+
+  -- the session is told that nothing more comes, and sends nothing
+  pub record EndsSession (old new : Connection H C) : Type 0 where
+    pub now : ℕ
+    pub handed : List Asked
+    pub taken : TakesInput old End now handed [] new
+
+  -- a turn begins at the moment that the clock gives next
+  pub record BeginsAt (ahead : C → Option (List ℕ)) (old : Connection H C) (now : ℕ) (new : Connection H C) : Type 0 where
+    pub given : Consumes (ahead old.clock) (ahead new.clock) (now ∷ [])
+    pub new_is : new ≡ record old { clock = new.clock }
+
+  -- a turn can't begin, since the clock fails
+  pub record ClockFails (ahead : C → Option (List ℕ)) (has_failed : C → Bool) (old new : Connection H C) : Type 0 where
+    pub failed : has_failed new.clock ≡ true
+    pub kept : Keeps (ahead old.clock) (ahead new.clock)
+    pub new_is : new ≡ record old { clock = new.clock }
+
+  -- the answer to an event
+  abbrev pub AnswersEvent : HouseRules H → ℕ → Connection H C → Event → List ℕ → Connection H C → Type 0
+  AnswersEvent rules now old (event.Frame frame) text new = AnswersFrame rules now old frame text new
+  AnswersEvent rules now old event.Silence text new = Waits old text new
+  AnswersEvent rules now old event.More text new = TellsStretch rules now old text new
+  AnswersEvent rules now old event.Over text new = Ticks now old text new
+
+  -- the exchange as an engine: events are answered at the moment of their turn, the notices come after each frame, until the connection is over
+  abbrev pub exchange : HouseRules H → (C → Option (List ℕ)) → (C → Bool) → Engine (Connection H C)
+  exchange rules ahead has_failed = record {
+    begins = BeginsAt ahead;
+    answers = AnswersEvent rules;
+    stops = ClockFails ahead has_failed;
+    is_due = is_due;
+    is_done = λ (connection : Connection H C). connection.is_over;
+  }
+
+-- What the reader gave up to its end, or to the close of the session, is exchanged for what was written, turn by turn, and the session is ended.
+pub record Exchanged {H C : Type 0} (rules : HouseRules H) (ahead : C → Option (List ℕ)) (has_failed : C → Bool) (old new : Connection H C)
+    (streams : Streams) : Type 0 where
+  pub mid : Connection H C
+  pub served : Served (exchange rules ahead has_failed) old mid streams
+  pub ended : EndsSession mid new
+
+-- what was read is exchanged up to where the reader stopped or the clock failed, and exactly that was written
+abbrev pub ExchangedSoFar : {H C : Type 0} → HouseRules H → (C → Option (List ℕ)) → (C → Bool) → Connection H C → Connection H C → Streams → Type 0
+ExchangedSoFar rules ahead has_failed old new streams = ServedSoFar (exchange rules ahead has_failed) old new streams
+
+-- a prefix of the exchange of the first turns, and of the first of what one more brings, was written
+abbrev pub ExchangedInPart : {H C : Type 0} → HouseRules H → (C → Option (List ℕ)) → (C → Bool) → Connection H C → Streams → Type 0
+ExchangedInPart rules ahead has_failed old streams = ServedInPart (exchange rules ahead has_failed) old streams

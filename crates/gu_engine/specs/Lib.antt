@@ -1,0 +1,4 @@
+pub mod Exchange
+pub mod Houses
+pub mod Running
+pub mod Sends

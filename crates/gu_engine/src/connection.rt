@@ -1,0 +1,298 @@
+//! One connection of a firm: its session, the house behind it, and a clock.
+
+ghost use Rattle.std.specs.Prelude.{◌≡◌, ◌<◌, ◌++◌, ◌||◌, List, ℕ, true, IfOk, OnOk};
+ghost use Rattle.std.specs.List.{filter_map, flat_map, list_any};
+ghost use Rattle.std.specs.Option.{option_to_list};
+ghost use Rattle.gu_engine.specs.Exchange.{AnswersAsked, AnswersFrame, EndsSession, IsNew, SendsNotice, TakesInput, TellsStretch, Ticks, bytes_in, handed_in, is_close, is_due};
+ghost use Rattle.gu_engine.specs.Running.{AnswersEach};
+
+use crate::answerer::Answerer;
+use crate::clock::{Clock, ClockFault};
+use crate::event::Event;
+use crate::house::House;
+use gu_fix::Frame;
+use gu_session::{Asked, Input, Output, Session};
+use gu_terms::{FirmId, Moment, Notice, Stretch};
+use std::alloc::{AllocError, Global};
+
+/// One connection of a firm.
+pub struct Connection<H, C> {
+    alloc: Global,
+    house: H,
+    session: Session,
+    /// The first entry whose notices the firm hasn't had.
+    next: u64,
+    /// Whether there may be such notices.
+    is_behind: bool,
+    clock: C,
+    /// Whether the session gave the close.
+    is_over: bool,
+}
+
+impl<H: Drop, C: Drop> Drop for Connection<H, C> {
+    fn drop(self) {
+        let Connection {
+            alloc: _,
+            house,
+            session,
+            next: _,
+            is_behind: _,
+            clock,
+            is_over: _,
+        } = self;
+        drop(house);
+        drop(session);
+        drop(clock);
+    }
+}
+
+/// Takes one output of a session: its bytes are appended, what is handed out is collected, and a close is noted.
+fn part_one(
+    given: Output,
+    handed: &mut Vec<Asked>,
+    is_closed: &mut bool,
+    output: &mut Vec<u8>,
+) -> Result<(), AllocError>
+    ensures handed { OnOk result (handed.new.items ≡ handed.old.items ++ option_to_list (handed_in given)) }
+    ensures close { OnOk result (is_closed.new ≡ (is_closed.old || is_close given)) }
+    ensures bytes { OnOk result (output.new.items ≡ output.old.items ++ bytes_in given) }
+{
+    match given {
+        Output::Send(bytes) => output.extend_from_slice(&bytes)?,
+        Output::Hand(asked) => handed.push(asked)?,
+        Output::Close => *is_closed = true,
+    }
+    Ok(())
+}
+
+/// Parts what a session gave: bytes are appended, and what is handed out is returned, with whether there is a close.
+fn part(
+    alloc: Global,
+    outputs: Vec<Output>,
+    output: &mut Vec<u8>,
+) -> Result<(Vec<Asked>, bool), AllocError>
+    ensures handed { IfOk result (λ parted. parted.0.items ≡ filter_map handed_in outputs.items) }
+    ensures close { IfOk result (λ parted. parted.1 ≡ list_any is_close outputs.items) }
+    ensures bytes { OnOk result (output.new.items ≡ output.old.items ++ flat_map bytes_in outputs.items) }
+{
+    let mut handed = Vec::new(alloc);
+    let mut is_closed = false;
+    for given in outputs {
+        part_one(given, &mut handed, &mut is_closed, output)?;
+    }
+    Ok((handed, is_closed))
+}
+
+impl<H, C> Connection<H, C> {
+    /// A connection in which one of these firms may log on. Its notices begin with the first entry.
+    pub fn new(alloc: Global, firms: Vec<FirmId>, house: H, clock: C) -> Self
+        ensures { IsNew result firms.items house clock }
+    {
+        Connection {
+            alloc,
+            house,
+            session: Session::new(alloc, firms),
+            next: 1,
+            is_behind: false,
+            clock,
+            is_over: false,
+        }
+    }
+
+    /// The house behind it.
+    pub fn house(&self) -> &H
+        ensures { result.now ≡ self.now.house }
+    {
+        &self.house
+    }
+
+    /// The house behind it, which outlives it.
+    pub fn into_house(self) -> H
+    where
+        C: Drop,
+        ensures { result ≡ self.house }
+    {
+        let Connection {
+            alloc: _,
+            house,
+            session,
+            next: _,
+            is_behind: _,
+            clock,
+            is_over: _,
+        } = self;
+        drop(session);
+        drop(clock);
+        house
+    }
+
+    /// Gives the session an input, appends the bytes that it sends, and returns what it hands out.
+    fn take(
+        &mut self,
+        input: Input,
+        now: Moment,
+        output: &mut Vec<u8>,
+    ) -> Result<Vec<Asked>, AllocError>
+        ensures { IfOk result (λ handed. (text : List ℕ) × (output.new.items ≡ output.old.items ++ text)
+            × TakesInput self.old input now handed.items text self.new) }
+    {
+        let outputs = self.session.step(input, now)?;
+        let (handed, is_closed) = part(self.alloc, outputs, output)?;
+        self.is_over = self.is_over || is_closed;
+        Ok(handed)
+    }
+
+    /// Tells the session that nothing more comes. It sends nothing then, whatever the moment.
+    pub fn end(&mut self) -> Result<(), AllocError>
+        ensures { OnOk result (EndsSession self.old self.new) }
+    {
+        let mut output = Vec::new(self.alloc);
+        let now = Moment::new(0).unwrap();
+        let _ = self.take(Input::End, now, &mut output)?;
+        Ok(())
+    }
+}
+
+impl<H: House, C> Connection<H, C> {
+    /// Has the house answer what was handed out, and gives the session the answer.
+    fn answer_asked(
+        &mut self,
+        asked: Asked,
+        now: Moment,
+        output: &mut Vec<u8>,
+    ) -> Result<(), AllocError>
+        ensures { OnOk result ((text : List ℕ) × (output.new.items ≡ output.old.items ++ text)
+            × AnswersAsked H.rules now self.old asked text self.new) }
+    {
+        let Asked { what, reference } = asked;
+        let outcome = self.house.answer(what)?;
+        let _ = self.take(Input::Answer(reference, outcome), now, output)?;
+        Ok(())
+    }
+
+    /// Answers all that was handed out.
+    fn answer_all(
+        &mut self,
+        handed: Vec<Asked>,
+        now: Moment,
+        output: &mut Vec<u8>,
+    ) -> Result<(), AllocError>
+        ensures { OnOk result ((text : List ℕ) × (output.new.items ≡ output.old.items ++ text)
+            × AnswersEach (AnswersAsked H.rules now) self.old handed.items text self.new) }
+    {
+        for asked in handed {
+            self.answer_asked(asked, now, output)?;
+        }
+        Ok(())
+    }
+
+    /// Answers a frame.
+    fn answer_frame(
+        &mut self,
+        frame: Frame,
+        now: Moment,
+        output: &mut Vec<u8>,
+    ) -> Result<(), AllocError>
+        ensures { OnOk result ((text : List ℕ) × (output.new.items ≡ output.old.items ++ text)
+            × AnswersFrame H.rules now self.old frame text self.new) }
+    {
+        let handed = self.take(Input::Frame(frame), now, output)?;
+        self.answer_all(handed, now, output)?;
+        self.is_behind = true;
+        Ok(())
+    }
+
+    /// Sends a notice.
+    fn send_one(
+        &mut self,
+        notice: Notice,
+        now: Moment,
+        output: &mut Vec<u8>,
+    ) -> Result<(), AllocError>
+        ensures sent { OnOk result ((text : List ℕ) × (output.new.items ≡ output.old.items ++ text)
+            × SendsNotice now self.old notice text self.new) }
+    {
+        let _ = self.take(Input::Notice(notice), now, output)?;
+        Ok(())
+    }
+
+    /// Sends notices.
+    fn send_all(
+        &mut self,
+        notices: Vec<Notice>,
+        now: Moment,
+        output: &mut Vec<u8>,
+    ) -> Result<(), AllocError>
+        ensures sent { OnOk result ((text : List ℕ) × (output.new.items ≡ output.old.items ++ text)
+            × AnswersEach (SendsNotice now) self.old notices.items text self.new) }
+        ensures place { OnOk result ((self.new.next ≡ self.old.next) × (self.new.is_behind ≡ self.old.is_behind)) }
+    {
+        for notice in notices {
+            self.send_one(notice, now, output)?;
+        }
+        Ok(())
+    }
+
+    /// Sends the firm that is logged on a stretch of the notices that it hasn't had.
+    fn tell_stretch(&mut self, now: Moment, output: &mut Vec<u8>) -> Result<(), AllocError>
+        requires { is_due self.old ≡ true }
+        ensures told { OnOk result ((text : List ℕ) × (output.new.items ≡ output.old.items ++ text)
+            × TellsStretch H.rules now self.old text self.new) }
+        ensures onwards { OnOk result (self.new.is_behind ≡ true → self.old.next < self.new.next) }
+    {
+        let Some(firm) = self.session.firm() else {
+            return Ok(());
+        };
+        let Stretch { notices, is_last } = self.house.notices(&firm, self.next)?;
+        self.next = notices.next;
+        self.is_behind = !is_last;
+        self.send_all(notices.list, now, output)
+    }
+
+    /// Gives the session a tick.
+    fn tick(&mut self, now: Moment, output: &mut Vec<u8>) -> Result<(), AllocError>
+        ensures { OnOk result ((text : List ℕ) × (output.new.items ≡ output.old.items ++ text)
+            × Ticks now self.old text self.new) }
+    {
+        let _ = self.take(Input::Tick, now, output)?;
+        Ok(())
+    }
+}
+
+impl<H: House, C: Clock> Answerer for Connection<H, C> {
+    ghost use Rattle.std.specs.Prelude.{◌-◌, ◌^◌, if◌then◌else◌};
+    ghost use Rattle.gu_engine.specs.Exchange.{exchange, is_due};
+
+    ghost engine = { exchange H.rules C.ahead C.has_failed };
+
+    ghost parts_left = { λ connection. if is_due connection then 2 ^ 64 - connection.next else 0 };
+
+    fn is_done(&self) -> bool {
+        self.is_over
+    }
+
+    fn is_due(&self) -> bool {
+        self.is_behind && !self.is_over && self.session.firm().is_some()
+    }
+
+    fn begin_turn(&mut self) -> Result<Moment, ClockFault> {
+        self.clock.now()
+    }
+
+    fn answer(
+        &mut self,
+        event: Event,
+        now: Moment,
+        output: &mut Vec<u8>,
+    ) -> Result<(), AllocError> {
+        match event {
+            Event::Frame(frame) => self.answer_frame(frame, now, output),
+            Event::Silence => {
+                self.is_behind = true;
+                Ok(())
+            }
+            Event::More => self.tell_stretch(now, output),
+            Event::Over => self.tick(now, output),
+        }
+    }
+}

@@ -1,0 +1,18 @@
+//! The loop of an engine of messages: a reader, a feed, what answers, and a writer; and one connection of a firm as what answers.
+#![tactic(auto)]
+
+mod answerer;
+mod clock;
+mod connection;
+mod event;
+mod house;
+mod laws;
+mod running;
+
+pub use answerer::Answerer;
+pub use clock::{Clock, ClockFault, SystemClock};
+pub use connection::Connection;
+pub use event::Event;
+pub use house::House;
+pub use laws::{reads_alone, turns_go_on};
+pub use running::run;

@@ -1,4 +1,0 @@
-use Rattle.gu_ref.proofs.counted_reads.asked.Goals as goal
-
-pub returns : goal.returns
-returns c = c.min.ensures

@@ -1,0 +1,2 @@
+pub mod StoppedReads
+pub mod Writing

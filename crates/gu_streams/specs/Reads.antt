@@ -1,0 +1,63 @@
+-- Counted reads: what a reader has left, of bytes and of reads, and whether one of its reads failed.
+use Rattle.std.specs.Prelude.{◌≡◌, ◌<◌, ◌≤◌, ◌⊎◌, ℕ, ◌+◌, ◌==◌, Bool, true, List, Option, length, take}
+use Rattle.std.specs.Io.KnownBytes.{Consumes, IsAtEnd, Keeps}
+use Rattle.gu_streams.specs.declared.counted_reads.CountedReads.{CountedReads}
+use Rattle.gu_streams.specs.declared.turn.Turn.{Turn}
+use Rattle.gu_streams.specs.declared.turn.Turn.TheVariants as turn
+
+-- the reader whose reads are counted
+abbrev pub reader_under : {R : Type 0} → CountedReads R → R
+reader_under reads = reads.reader
+
+-- the bytes that it has left: those of the reader underneath, where they are known
+abbrev pub bytes_left : {R : Type 0} → (R → Option (List ℕ)) → CountedReads R → Option (List ℕ)
+bytes_left remaining reads = remaining (reader_under reads)
+
+-- how many reads are left
+abbrev pub reads_left : {R : Type 0} → CountedReads R → ℕ
+reads_left reads = reads.left
+
+-- no read is left
+abbrev pub is_spent : {R : Type 0} → CountedReads R → Bool
+is_spent reads = reads_left reads == 0
+
+-- the reader answered an error in one of its reads
+abbrev pub has_failed : {R : Type 0} → CountedReads R → Bool
+has_failed reads = reads.failed
+
+-- reading has stopped: the reader failed, or no read of it is left
+abbrev pub HasStopped : {R : Type 0} → CountedReads R → Type 0
+HasStopped reads = (has_failed reads ≡ true) ⊎ (is_spent reads ≡ true)
+
+-- how often the reader may still have nothing for now
+abbrev pub waits_left : {R : Type 0} → CountedReads R → ℕ
+waits_left reads = reads.waits
+
+-- a turn brought this many bytes: none at the end of the input alone
+pub record Took {R : Type 0} (remaining : R → Option (List ℕ)) (old new : CountedReads R) (buffer : List ℕ) (count : ℕ) : Type 0 where
+  pub within : count ≤ length buffer
+  pub short : count ≤ 4096
+  pub consumed : Consumes (bytes_left remaining old) (bytes_left remaining new) (take count buffer)
+  pub end : count ≡ 0 → 0 < length buffer → IsAtEnd (bytes_left remaining new)
+  pub counted : reads_left new + 1 ≡ reads_left old
+  pub waits : waits_left new ≡ waits_left old
+  pub failed : has_failed new ≡ has_failed old
+
+-- a turn brought nothing: no read is counted, and none failed
+pub record Waited {R : Type 0} (remaining : R → Option (List ℕ)) (old new : CountedReads R) : Type 0 where
+  pub kept : Keeps (bytes_left remaining old) (bytes_left remaining new)
+  pub counted : reads_left new ≡ reads_left old
+  pub waits : waits_left new + 1 ≡ waits_left old
+  pub failed : has_failed new ≡ has_failed old
+
+-- a turn brought nothing more: reading has stopped
+pub record Stopped {R : Type 0} (remaining : R → Option (List ℕ)) (old new : CountedReads R) : Type 0 where
+  pub kept : Keeps (bytes_left remaining old) (bytes_left remaining new)
+  pub waits : waits_left new ≡ waits_left old
+  pub stopped : HasStopped new
+
+-- what a turn brought
+abbrev pub IsTurn : {R : Type 0} → (R → Option (List ℕ)) → CountedReads R → CountedReads R → List ℕ → Turn → Type 0
+IsTurn remaining old new buffer (turn.Bytes count) = Took remaining old new buffer count
+IsTurn remaining old new buffer turn.Nothing = Waited remaining old new
+IsTurn remaining old new buffer turn.Stopped = Stopped remaining old new

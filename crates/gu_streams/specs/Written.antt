@@ -1,0 +1,14 @@
+-- Texts that are written whole or in part.
+use Rattle.std.specs.Prelude.{◌≡◌, ◌++◌, ℕ, List, Option}
+use Rattle.std.specs.Io.KnownBytes.{Appends}
+
+-- these bytes begin those
+pub record IsPrefixOf (prefix all : List ℕ) : Type 0 where
+  pub rest : List ℕ
+  pub parts : all ≡ prefix ++ rest
+
+-- some prefix of the text was written
+pub record WrotePart (text : List ℕ) (output_old output_new : Option (List ℕ)) : Type 0 where
+  pub written : List ℕ
+  pub appended : Appends output_old output_new written
+  pub prefix : IsPrefixOf written text
