@@ -56,3 +56,11 @@ pub struct Notices {
     /// The notices, in the order of their entries.
     pub list: Vec<Notice>,
 }
+
+/// A stretch of a firm's notices.
+#[derive(Drop)]
+pub struct Stretch {
+    pub notices: Notices,
+    /// Whether no entry comes after it.
+    pub is_last: bool,
+}
