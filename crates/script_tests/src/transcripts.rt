@@ -1,16 +1,14 @@
 //! Scripts and their texts: transcripts. In one `/` ends a line, and lines that begin with `< ` are what is answered; ends of lines of the
-//! transcript itself mean nothing, and `@opened/` stands for the part of this name.
+//! transcript itself mean nothing, and `@opened/` is the part of this name.
 
-use crate::engines::Engine;
-use crate::rows::{check_told, columns, joined, told_of_text};
-use crate::terms::AMPLE;
+use crate::plays;
+use crate::rows::{check_told, columns};
 use std::alloc::{AllocError, Global};
 use std::process::Abort;
 
 /// Parts of transcripts: a day with limits of 100 on each key of the first agreement (entries 1 to 5), trades of 10 and of 7 lots, the second
 /// given up, sheets of sweeps that take those, a claim, a claim of 6 and a proposal of 4, two offers of 5 lots under an agreement with room for 7, three
-/// offers that share an executing firm or an account by twos, two under a carrying firm with room for 13, whose takes are left open, and the view of
-/// three offers.
+/// offers that share an executing firm or an account by twos, and two under a carrying firm with room for 13, whose takes are left open.
 const PARTS: &str = "\
 @opened/
 DAY 20260105/< 1 OK/
@@ -90,11 +88,7 @@ LIMIT G1 CARRY C1 13/< 7 OK/
 REPORT E1 R1 M1 B XF6 20 101.5 H1/< 8 OK OPEN/
 REPORT E2 R2 M1 S XF6 20 101.5 H2/< 9 OK MATCHED/
 GIVEUP E1 L1 R1 A1 10 A2 10/< 10 OK OFFERS 1 2/
-SWEEP G1/< 11 SWEPT G1 13/< SHEET G1 8/< OFFER 1 10 P1 E1 A1 C1/< OFFER 2 10 P2 E1 A2 C1/< ROOM EXEC E1 100/< ROOM AGR P1 100/< ROOM ACCT A1 10/< ROOM CARRY C1 13/< ROOM AGR P2 100/< ROOM ACCT A2 10/< TAKE 1 @takes/< CUT CARRY C1/< END/
-
-@three_offers/
-SHEET G1 11/OFFER 1 10 P1 E1 A1 C1/OFFER 2 12 P2 E1 A2 C1/OFFER 3 15 P3 E2 A1 C1/
-ROOM EXEC E1 10/ROOM AGR P1 100/ROOM ACCT A1 10/ROOM CARRY C1 100/ROOM AGR P2 100/ROOM ACCT A2 20/ROOM EXEC E2 20/ROOM AGR P3 100/";
+SWEEP G1/< 11 SWEPT G1 13/< SHEET G1 8/< OFFER 1 10 P1 E1 A1 C1/< OFFER 2 10 P2 E1 A2 C1/< ROOM EXEC E1 100/< ROOM AGR P1 100/< ROOM ACCT A1 10/< ROOM CARRY C1 13/< ROOM AGR P2 100/< ROOM ACCT A2 10/< TAKE 1 @takes/< CUT CARRY C1/< END/";
 
 /// A transcript with its parts.
 pub fn whole(alloc: Global, transcript: &str) -> Result<String, AllocError> {
@@ -128,27 +122,27 @@ pub fn answers_of(alloc: Global, transcript: &str) -> Result<String, AllocError>
     Ok(answers)
 }
 
-/// What a run on a whole transcript's script tells.
-pub fn told(alloc: Global, engine: Engine, transcript: &str) -> Result<String, AllocError> {
+/// What the script of a whole transcript tells, on the sample with these rows more.
+pub fn told(alloc: Global, rows: &str, transcript: &str) -> Result<String, AllocError> {
     let script = script_of(alloc, transcript)?;
-    told_of_text(alloc, engine, &script, AMPLE)
+    plays::told(alloc, rows, &script, 4_096)
 }
 
 /// What it is to tell.
 pub fn expected(alloc: Global, end: &str, transcript: &str) -> Result<String, AllocError> {
     let answers = answers_of(alloc, transcript)?;
     let end = if end.is_empty() { "done" } else { end };
-    joined(alloc, &[end, ": ", answers.as_str()])
+    format!(in alloc; "{end}: {answers}")
 }
 
-/// Asserts that the script of each transcript of a table is answered so. The first line of each is its name, and how it ends, unless all is done. An
-/// empty line stands between them.
-pub fn check(rt: &impl Abort, alloc: Global, engine: Engine, table: &str) {
+/// Asserts that the script of each transcript of a table is answered so, on the sample with these rows more. The first line of each is its
+/// name, and how it ends, unless all is done. An empty line comes between them.
+pub fn check(rt: &impl Abort, alloc: Global, rows: &str, table: &str) {
     for block in table.split("\n\n") {
         let (head, transcript) = block.split_once('\n').unwrap_or((block, ""));
         let (name, end) = columns(head);
         let transcript = whole(alloc, transcript).expect(rt, "memory");
         let expected = expected(alloc, end, &transcript).expect(rt, "memory");
-        check_told(rt, name, told(alloc, engine, &transcript), &expected);
+        check_told(rt, name, told(alloc, rows, &transcript), &expected);
     }
 }
