@@ -18,11 +18,12 @@ use Rattle.gu_msgs.specs.declared.inbound.Inbound.{Inbound}
 use Rattle.gu_msgs.specs.declared.inbound.Inbound.TheVariants as inbound
 use Rattle.gu_msgs.specs.declared.inbound.TradeCaptureReport.{TradeCaptureReport}
 use Rattle.gu_msgs.proofs.OneReport.{one_report}
-use Rattle.giveup.specs.Capture.{Capture, IsReportOf, IsTextOf, Reports, PassesOver, AnswersFrame, Captured, CapturedFront, CapturedSoFar, acknowledgement, capture_behind, capture_at_start}
+use Rattle.giveup.specs.Capture.{Capture, IsReportOf, IsTextOf, Reports, PassesOver, AnswersFrame, Captured, CapturedInPart, CapturedSoFar, acknowledgement, capture_after, capture_at_start}
 use Rattle.giveup.specs.PositionText.{positions_text}
-use Rattle.giveup.specs.Serving.{WrotePart}
-use Rattle.giveup.proofs.Joining.{Answered, AnsweredAll, AnsweredFront}
-use Rattle.giveup.proofs.Writing.{wrote_all, wrote_then}
+use Rattle.gu_streams.specs.Streams.{Streams}
+use Rattle.gu_streams.specs.Written.{WrotePart}
+use Rattle.giveup.proofs.Joining.{Answered, AnsweredAll, AnsweredInPart}
+use Rattle.gu_streams.proofs.Writing.{wrote_all, wrote_then}
 
 -- a frame with a malformed field asks for nothing
 pub passes_faulty : (old : Capture) (frame : List ℕ) (fields : List TagValue) (fault : Option FieldFault) → HasFields frame fields fault → is_some fault ≡ true → PassesOver old frame [] old
@@ -58,7 +59,7 @@ passes_unsent old frame fields fault read unsent = record {
 -- a firm's report is answered, where its acknowledgement is appended
 pub acknowledged : {E : Type 0} (result : Result (Unit {0}) E) (old new : Capture) (frame : List ℕ) (fields : List TagValue) (fault : Option FieldFault) (firm : FirmId) (report : TradeCaptureReport) (before behind : List ℕ)
     → HasFields frame fields fault → is_some fault ≡ false → Says fields (inbound.TradeCaptureReport report) → IsSentBy fields firm
-    → OnOk result ((text : List ℕ) × IsTextOf (acknowledgement old firm report) text × (behind ≡ before ++ text)) → OnOk result (new ≡ capture_behind old (side_of firm report))
+    → OnOk result ((text : List ℕ) × IsTextOf (acknowledgement old firm report) text × (behind ≡ before ++ text)) → OnOk result (new ≡ capture_after old (side_of firm report))
     → OnOk result ((text : List ℕ) × (behind ≡ before ++ text) × AnswersFrame old frame text new)
 acknowledged (Ok _) old new frame fields None firm report before behind read none says sent text_is new_is = (
   text_is.0,
@@ -116,8 +117,9 @@ unsaid fields found all is = rw is at all
 
 module _ (reference : Tables) (day : Day) where
   -- nothing was read or written
-  pub nothing_captured : (input output : Option (List ℕ)) → CapturedFront reference day input input output output
-  nothing_captured input output = record {
+  pub nothing_captured : (input output : Option (List ℕ)) (waits : ℕ)
+      → CapturedInPart reference day (record { input_old = input; input_new = input; waits_old = waits; waits_new = waits; output_old = output; output_new = output })
+  nothing_captured input output waits = record {
     read = [];
     frames = [];
     first = [];
@@ -134,26 +136,26 @@ module _ (reference : Tables) (day : Day) where
   }
 
   -- the answers were written in part
-  pub captured_in_part : (i j o p : Option (List ℕ)) → AnsweredFront (capture_at_start reference day) i j o p → CapturedFront reference day i j o p
-  captured_in_part i j o p front = record {
-    read = front.read;
-    frames = front.frames;
-    first = front.first;
-    others = front.others;
-    text = front.text;
-    last = front.new;
+  pub captured_in_part : (streams : Streams) → AnsweredInPart (capture_at_start reference day) streams → CapturedInPart reference day streams
+  captured_in_part streams part = record {
+    read = part.read;
+    frames = part.frames;
+    first = part.first;
+    others = part.others;
+    text = part.text;
+    last = part.new;
     closing = [];
-    consumed = front.consumed;
-    are_frames = front.are_frames;
-    split = front.split;
-    answered = front.answered;
+    consumed = part.consumed;
+    are_frames = part.are_frames;
+    split = part.split;
+    answered = part.answered;
     closes = inl refl;
-    wrote = subst (λ (t : List ℕ). WrotePart t o p) (sym (append-nil front.text)) front.wrote;
+    wrote = subst (λ (t : List ℕ). WrotePart t streams.output_old streams.output_new) (sym (append-nil part.text)) part.wrote;
   }
 
   -- all that was read is answered
-  pub captured_so_far : (last : Capture) (i j o p : Option (List ℕ)) → Answered (capture_at_start reference day) last i j o p → CapturedSoFar reference day i j o p
-  captured_so_far last i j o p all = record {
+  pub captured_so_far : (last : Capture) (streams : Streams) → Answered (capture_at_start reference day) last streams → CapturedSoFar reference day streams
+  captured_so_far last streams all = record {
     read = all.read;
     frames = all.frames;
     text = all.text;
@@ -164,9 +166,10 @@ module _ (reference : Tables) (day : Day) where
     appended = all.appended;
   }
 
-  -- the answers were written, and a front of the lines
-  pub captured_but_lines : (last : Capture) (i j o p q : Option (List ℕ)) → AnsweredAll (capture_at_start reference day) last i j o p → WrotePart (positions_text last.book) p q → CapturedFront reference day i j o q
-  captured_but_lines last i j o p q served part = record {
+  -- the answers were written, and a prefix of the lines
+  pub captured_but_lines : (last : Capture) (streams : Streams) (output : Option (List ℕ)) → AnsweredAll (capture_at_start reference day) last streams → WrotePart (positions_text last.book) streams.output_new output
+      → CapturedInPart reference day (record streams { output_new = output })
+  captured_but_lines last streams output served part = record {
     read = served.all.read;
     frames = served.all.frames;
     first = served.all.frames;
@@ -179,12 +182,13 @@ module _ (reference : Tables) (day : Day) where
     split = sym (append-nil served.all.frames);
     answered = served.all.answered;
     closes = inr (refl, served.at_end, refl);
-    wrote = wrote_then served.all.text (positions_text last.book) o p q served.all.appended part;
+    wrote = wrote_then served.all.text (positions_text last.book) streams.output_old streams.output_new output served.all.appended part;
   }
 
   -- and all of them
-  pub captured_all : (last : Capture) (i j o p q : Option (List ℕ)) → AnsweredAll (capture_at_start reference day) last i j o p → Appends p q (positions_text last.book) → Captured reference day i j o q
-  captured_all last i j o p q served sent = record {
+  pub captured_all : (last : Capture) (streams : Streams) (output : Option (List ℕ)) → AnsweredAll (capture_at_start reference day) last streams → Appends streams.output_new output (positions_text last.book)
+      → Captured reference day (record streams { output_new = output })
+  captured_all last streams output served sent = record {
     read = served.all.read;
     frames = served.all.frames;
     text = served.all.text;
@@ -193,5 +197,5 @@ module _ (reference : Tables) (day : Day) where
     at_end = served.at_end;
     are_frames = served.all.are_frames;
     answered = served.all.answered;
-    appended = Appends-trans o p q served.all.text (positions_text last.book) served.all.appended sent;
+    appended = Appends-trans streams.output_old streams.output_new output served.all.text (positions_text last.book) served.all.appended sent;
   }

@@ -27,7 +27,11 @@ use Rattle.gu_msgs.specs.declared.rejection.Rejection.{Rejection}
 use Rattle.gu_msgs.specs.declared.rejection.Rejection.TheVariants.{Full}
 use Rattle.gu_ref.specs.Tables.{Tables}
 use Rattle.giveup.specs.PositionText.{positions_text}
-use Rattle.giveup.specs.Serving.{AnswersEach, Engine, WrotePart}
+use Rattle.gu_engine.specs.Running.{AnswersEach, Engine}
+use Rattle.gu_engine.specs.declared.event.Event.{Event}
+use Rattle.gu_engine.specs.declared.event.Event.TheVariants as event
+use Rattle.gu_streams.specs.Streams.{Streams}
+use Rattle.gu_streams.specs.Written.{WrotePart}
 
 -- what the engine has: its book, the moment at which its messages are sent, and the number of the next one
 pub record Capture : Type 0 where
@@ -50,9 +54,9 @@ pub record Reports (frame : List ℕ) (firm : FirmId) (report : TradeCaptureRepo
 abbrev pub ReportsNothing : List ℕ → Type 0
 ReportsNothing frame = (firm : FirmId) (report : TradeCaptureReport) → ¬ Reports frame firm report
 
--- the book behind a command: with the command and its answer as a further entry, or as it was where it is full
-abbrev pub book_behind : Kept → Command → Kept
-book_behind book command =
+-- the book after a command: with the command and its answer as a further entry, or as it was where it is full
+abbrev pub book_after : Kept → Command → Kept
+book_after book command =
     if nat_lt (length book.history) 1000000
     then record { reference = book.reference; history = book.history ++ Asked command (answer book.reference book.history command) ∷ [] }
     else book
@@ -64,9 +68,9 @@ rejection_in book command =
     then rejection_of (answer book.reference book.history command)
     else Some Full
 
--- the number behind a message's: one more, up to the last that a message can have
-abbrev pub number_behind : ℕ → ℕ
-number_behind number = min (number + 1) 1000000000
+-- the number after a message's: one more, up to the last that a message can have
+abbrev pub number_after : ℕ → ℕ
+number_after number = min (number + 1) 1000000000
 
 -- the message that answers a firm's report that was taken, or was rejected so
 abbrev pub message_to : Capture → FirmId → TradeCaptureReport → Option Rejection → Outbound
@@ -82,12 +86,12 @@ message_to capture firm report rejection = record {
 abbrev pub acknowledgement : Capture → FirmId → TradeCaptureReport → Outbound
 acknowledgement capture firm report = message_to capture firm report (rejection_in capture.book (side_of firm report))
 
--- the engine behind a command and its acknowledgement
-abbrev pub capture_behind : Capture → Command → Capture
-capture_behind capture command = record {
-  book = book_behind capture.book command;
+-- the engine after a command and its acknowledgement
+abbrev pub capture_after : Capture → Command → Capture
+capture_after capture command = record {
+  book = book_after capture.book command;
   sending_time = capture.sending_time;
-  next = number_behind capture.next;
+  next = number_after capture.next;
 }
 
 -- a text is that of a message's fields
@@ -102,7 +106,7 @@ pub record Acknowledges (old : Capture) (frame text : List ℕ) (new : Capture) 
   pub report : TradeCaptureReport
   pub reported : Reports frame firm report
   pub answered : IsTextOf (acknowledgement old firm report) text
-  pub new_is : new ≡ capture_behind old (side_of firm report)
+  pub new_is : new ≡ capture_after old (side_of firm report)
 
 -- anything else by nothing
 pub record PassesOver (old : Capture) (frame text : List ℕ) (new : Capture) : Type 0 where
@@ -114,14 +118,21 @@ pub record PassesOver (old : Capture) (frame text : List ℕ) (new : Capture) : 
 abbrev pub AnswersFrame : Capture → List ℕ → List ℕ → Capture → Type 0
 AnswersFrame old frame text new = Acknowledges old frame text new ⊎ PassesOver old frame text new
 
--- trade capture as an engine: all is done at the moment at which its messages are sent, a read has no end of its own, and there is
--- always more to be done
+-- the answer to an event: to a frame; and nothing where the reader has nothing, or a turn is over
+abbrev pub AnswersEvent : Capture → Event → List ℕ → Capture → Type 0
+AnswersEvent old (event.Frame frame) text new = AnswersFrame old frame text new
+AnswersEvent old event.Silence text new = (text ≡ []) × (new ≡ old)
+AnswersEvent old event.More text new = ⊥
+AnswersEvent old event.Over text new = (text ≡ []) × (new ≡ old)
+
+-- trade capture as an engine: all is done at the moment at which its messages are sent, nothing is ever due beside the answers to
+-- frames, and there is always more to be done
 abbrev pub capturing : Engine Capture
 capturing = record {
   begins = λ old now new. (now ≡ old.sending_time) × (new ≡ old);
-  answers = λ now. AnswersFrame;
-  ends = λ now old text new. (text ≡ []) × (new ≡ old);
+  answers = λ now. AnswersEvent;
   stops = λ old new. ⊥;
+  is_due = λ capture. false;
   is_done = λ capture. false;
 }
 
@@ -133,36 +144,36 @@ capture_at_start reference day = record {
   next = 1;
 }
 
--- all that the reader had is read, its frames are answered, and the lines of the positions are written behind the answers
-pub record Captured (reference : Tables) (day : Day) (input_old input_new output_old output_new : Option (List ℕ)) : Type 0 where
+-- all that the reader had is read, its frames are answered, and the lines of the positions are written after the answers
+pub record Captured (reference : Tables) (day : Day) (streams : Streams) : Type 0 where
   pub read : List ℕ
   pub frames : List (List ℕ)
   pub text : List ℕ
   pub last : Capture
-  pub consumed : Consumes input_old input_new read
-  pub at_end : IsAtEnd input_new
+  pub consumed : Consumes streams.input_old streams.input_new read
+  pub at_end : IsAtEnd streams.input_new
   pub are_frames : AreFrames read frames
   pub answered : AnswersEach AnswersFrame (capture_at_start reference day) frames text last
-  pub appended : Appends output_old output_new (text ++ positions_text last.book)
+  pub appended : Appends streams.output_old streams.output_new (text ++ positions_text last.book)
 
 -- the frames of what was read are answered, and exactly these answers were written
-pub record CapturedSoFar (reference : Tables) (day : Day) (input_old input_new output_old output_new : Option (List ℕ)) : Type 0 where
+pub record CapturedSoFar (reference : Tables) (day : Day) (streams : Streams) : Type 0 where
   pub read : List ℕ
   pub frames : List (List ℕ)
   pub text : List ℕ
   pub last : Capture
-  pub consumed : Consumes input_old input_new read
+  pub consumed : Consumes streams.input_old streams.input_new read
   pub are_frames : AreFrames read frames
   pub answered : AnswersEach AnswersFrame (capture_at_start reference day) frames text last
-  pub appended : Appends output_old output_new text
+  pub appended : Appends streams.output_old streams.output_new text
 
 -- the lines of the positions, where these are all the frames of what the reader had, and none of them before its end
 abbrev pub MayClose : List (List ℕ) → Option (List ℕ) → List ℕ → List ℕ → Type 0
 MayClose others input lines closing = (closing ≡ []) ⊎ ((others ≡ []) × IsAtEnd input × (closing ≡ lines))
 
--- What was written is a front of the answers to the first of the frames of what was read, behind which the lines of the
+-- What was written is a prefix of the answers to the first of the frames of what was read, after which the lines of the
 -- positions may come once all that the reader had is answered.
-pub record CapturedFront (reference : Tables) (day : Day) (input_old input_new output_old output_new : Option (List ℕ)) : Type 0 where
+pub record CapturedInPart (reference : Tables) (day : Day) (streams : Streams) : Type 0 where
   pub read : List ℕ
   pub frames : List (List ℕ)
   pub first : List (List ℕ)
@@ -170,9 +181,9 @@ pub record CapturedFront (reference : Tables) (day : Day) (input_old input_new o
   pub text : List ℕ
   pub last : Capture
   pub closing : List ℕ
-  pub consumed : Consumes input_old input_new read
+  pub consumed : Consumes streams.input_old streams.input_new read
   pub are_frames : AreFrames read frames
   pub split : frames ≡ first ++ others
   pub answered : AnswersEach AnswersFrame (capture_at_start reference day) first text last
-  pub closes : MayClose others input_new (positions_text last.book) closing
-  pub wrote : WrotePart (text ++ closing) output_old output_new
+  pub closes : MayClose others streams.input_new (positions_text last.book) closing
+  pub wrote : WrotePart (text ++ closing) streams.output_old streams.output_new

@@ -1,26 +1,25 @@
 //! Trade capture without a session.
 
-ghost use Rattle.std.specs.Prelude.{◌≡◌, ◌++◌, IfErr, IfOk, IsErrOf, List, MatchOption, None, OnErr, OnOk, ℕ};
+ghost use Rattle.std.specs.Prelude.{◌≡◌, ◌++◌, IfOk, IsErrOf, List, MatchOption, None, OnOk, ℕ};
 ghost use Rattle.gu_fix.specs.Encoding.{fault_of, message_of};
 ghost use Rattle.gu_fix.specs.WholeMessage.{IsWhole};
-ghost use Rattle.gu_ref.specs.Reads.{bytes_left, HasStopped};
+ghost use Rattle.gu_streams.specs.Reads.{HasStopped};
+ghost use Rattle.gu_streams.specs.Streams.{streams_of};
 ghost use Rattle.gu_msgs.specs.Asking.{side_of};
 ghost use Rattle.gu_msgs.specs.Messages.{Says};
 ghost use Rattle.gu_msgs.specs.Written.{IsWritten};
 ghost use Rattle.gu_msgs.specs.declared.inbound.Inbound.TheVariants as inbound;
 ghost use Rattle.gu_msgs.specs.declared.inbound.TradeCaptureReport.{TradeCaptureReport as ReportOf};
-ghost use Rattle.giveup.specs.Serving.{IsStreamFault};
-ghost use Rattle.giveup.specs.Capture.{Captured, CapturedFront, CapturedSoFar, IsTextOf, acknowledgement, message_to, number_behind, capture_behind, capture_at_start, rejection_in, book_behind};
+ghost use Rattle.giveup.specs.Capture.{AnswersFrame, Captured, CapturedInPart, CapturedSoFar, IsTextOf, acknowledgement, message_to, number_after, capture_after, capture_at_start, rejection_in, book_after};
 
-use crate::error::EngineError;
 use crate::position_lines::positions_text;
-use crate::sending::send;
-use crate::serving::{Answerer, serve};
 use gu_book::{Book, EnterError};
+use gu_engine::{Answerer, ClockFault, Event, run};
 use gu_fix::{Fields, Frame, encode_onto, into_fields};
 use gu_msgs::inbound::TradeCaptureReport;
 use gu_msgs::{MsgFault, Outbound, Rejection, answer_to, midnight_of, read, sender, write_over};
-use gu_ref::{CountedReads, Reference};
+use gu_ref::Reference;
+use gu_streams::{CountedReads, StreamError, send};
 use gu_terms::{Command, Day, FirmId, Moment};
 use std::alloc::{AllocError, Global};
 use std::io::{Read, Write};
@@ -68,7 +67,7 @@ impl Capturing {
     /// Enters a command, and says why it isn't in the book, if it isn't.
     fn enter(&mut self, command: &Command) -> Result<Option<Rejection>, AllocError>
         ensures rejection { IfOk result (λ rejection. rejection ≡ rejection_in self.old.book command.now) }
-        ensures behind { OnOk result (self.new ≡ record self.old { book = book_behind self.old.book command.now }) }
+        ensures after { OnOk result (self.new ≡ record self.old { book = book_after self.old.book command.now }) }
     {
         match self.book.reply_to(command) {
             Ok(reply) => Ok(Rejection::of_reply(reply)),
@@ -109,7 +108,7 @@ impl Capturing {
     ) -> Result<(), AllocError>
         ensures text { OnOk result ((text : List ℕ) × IsTextOf (message_to self.old firm.now report.now rejection) text
             × (output.new.items ≡ output.old.items ++ text)) }
-        ensures behind { OnOk result (self.new ≡ record self.old { next = number_behind self.old.next }) }
+        ensures after { OnOk result (self.new ≡ record self.old { next = number_after self.old.next }) }
     {
         let fields = self.ack_fields(room, firm, report, rejection)?;
         encode_onto(self.alloc, output, &fields)?;
@@ -127,7 +126,7 @@ impl Capturing {
     ) -> Result<(), AllocError>
         ensures text { OnOk result ((text : List ℕ) × IsTextOf (acknowledgement self.old firm.now report.now) text
             × (output.new.items ≡ output.old.items ++ text)) }
-        ensures behind { OnOk result (self.new ≡ capture_behind self.old (side_of firm.now report.now)) }
+        ensures after { OnOk result (self.new ≡ capture_after self.old (side_of firm.now report.now)) }
     {
         let command = report.side_of(*firm);
         match self.enter(&command) {
@@ -137,25 +136,12 @@ impl Capturing {
     }
 }
 
-impl Answerer for Capturing {
-    ghost use Rattle.giveup.specs.Capture.{capturing};
-
-    ghost engine = { capturing };
-
-    fn is_done(&self) -> bool {
-        false
-    }
-
-    fn begin_read(&mut self) -> Result<Moment, EngineError> {
-        Ok(self.sending_time)
-    }
-
-    fn answer(
-        &mut self,
-        frame: Frame,
-        _now: Moment,
-        output: &mut Vec<u8>,
-    ) -> Result<(), AllocError> {
+impl Capturing {
+    /// Appends the answer to a frame: the acknowledgement of a firm's report, and nothing to anything else.
+    fn answer_frame(&mut self, frame: Frame, output: &mut Vec<u8>) -> Result<(), AllocError>
+        ensures { OnOk result ((text : List ℕ) × (output.new.items ≡ output.old.items ++ text)
+            × AnswersFrame self.old frame text self.new) }
+    {
         let (fields, fault) = into_fields(self.alloc, frame)?;
         if fault.is_some() {
             return Ok(());
@@ -168,9 +154,37 @@ impl Answerer for Capturing {
             None => Ok(()),
         }
     }
+}
 
-    fn end_read(&mut self, _now: Moment, _output: &mut Vec<u8>) -> Result<(), AllocError> {
-        Ok(())
+impl Answerer for Capturing {
+    ghost use Rattle.giveup.specs.Capture.{capturing};
+
+    ghost engine = { capturing };
+
+    ghost parts_left = { λ capture. 0 };
+
+    fn is_done(&self) -> bool {
+        false
+    }
+
+    fn is_due(&self) -> bool {
+        false
+    }
+
+    fn begin_turn(&mut self) -> Result<Moment, ClockFault> {
+        Ok(self.sending_time)
+    }
+
+    fn answer(
+        &mut self,
+        event: Event,
+        _now: Moment,
+        output: &mut Vec<u8>,
+    ) -> Result<(), AllocError> {
+        match event {
+            Event::Frame(frame) => self.answer_frame(frame, output),
+            Event::Silence | Event::More | Event::Over => Ok(()),
+        }
     }
 }
 
@@ -197,22 +211,18 @@ pub fn capture<R: Read, W: Write>(
     day: Day,
     reads: &mut CountedReads<R>,
     writer: &mut W,
-) -> Result<(), EngineError>
-    ensures done { OnOk result (Captured reference day
-        (bytes_left R.remaining reads.old) (bytes_left R.remaining reads.new) (W.contents writer.old) (W.contents writer.new)) }
+) -> Result<(), StreamError>
+    ensures done { OnOk result (Captured reference day (streams_of R.remaining W.contents reads.old reads.new writer.old writer.new)) }
 
     // Where the reader failed, or no read was left, all that was read is answered, and exactly that was written.
-    ensures stopped { IsErrOf result EngineError.Read → HasStopped reads.new }
-    ensures answered { IsErrOf result EngineError.Read → CapturedSoFar reference day
-        (bytes_left R.remaining reads.old) (bytes_left R.remaining reads.new) (W.contents writer.old) (W.contents writer.new) }
-    ensures faults { IfErr result IsStreamFault }
+    ensures stopped { IsErrOf result StreamError.Read → HasStopped reads.new }
+    ensures answered { IsErrOf result StreamError.Read → CapturedSoFar reference day (streams_of R.remaining W.contents reads.old reads.new writer.old writer.new) }
 
-    // After any error.
-    ensures front { CapturedFront reference day
-        (bytes_left R.remaining reads.old) (bytes_left R.remaining reads.new) (W.contents writer.old) (W.contents writer.new) }
+    // In any case, and so after each error.
+    ensures part { CapturedInPart reference day (streams_of R.remaining W.contents reads.old reads.new writer.old writer.new) }
 {
     let mut capturing = opened(alloc, reference, day)?;
-    serve(alloc, reads, writer, &mut capturing)?;
+    run(alloc, reads, writer, &mut capturing)?;
     let lines = positions_text(alloc, &capturing.book)?;
     send(writer, &lines)
 }

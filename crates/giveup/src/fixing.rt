@@ -1,16 +1,12 @@
 //! The engine of one session.
 
-ghost use Rattle.std.specs.Prelude.{◌≡◌, ◌⊎◌, IfErr, IsErrOf, OnErr, OnOk, true};
-ghost use Rattle.gu_ref.specs.Reads.{bytes_left, HasStopped};
-ghost use Rattle.giveup.specs.Exchange.{Exchanged, ExchangedFront, ExchangedSoFar};
-ghost use Rattle.giveup.specs.Serving.{IsStreamFault};
+ghost use Rattle.std.specs.Prelude.{◌≡◌, ◌⊎◌, IsErrOf, OnErr, OnOk, true};
+ghost use Rattle.gu_streams.specs.Reads.{HasStopped};
+ghost use Rattle.gu_streams.specs.Streams.{streams_of};
+ghost use Rattle.gu_engine.specs.Exchange.{Exchanged, ExchangedInPart, ExchangedSoFar};
 
-use crate::clock::Clock;
-use crate::connection::Connection;
-use crate::error::EngineError;
-use crate::house::House;
-use crate::serving::serve;
-use gu_ref::CountedReads;
+use gu_engine::{Clock, Connection, House, run};
+use gu_streams::{CountedReads, StreamError};
 use std::alloc::Global;
 use std::io::{Read, Write};
 
@@ -20,21 +16,20 @@ pub fn fix<R: Read, W: Write, H: House, C: Clock>(
     connection: &mut Connection<H, C>,
     reads: &mut CountedReads<R>,
     writer: &mut W,
-) -> Result<(), EngineError>
+) -> Result<(), StreamError>
     ensures exchanged { OnOk result (Exchanged H.rules C.ahead C.has_failed connection.old connection.new
-        (bytes_left R.remaining reads.old) (bytes_left R.remaining reads.new) (W.contents writer.old) (W.contents writer.new)) }
+        (streams_of R.remaining W.contents reads.old reads.new writer.old writer.new)) }
 
     // Where the reader or the clock failed, or no read was left, all that was read before is exchanged, and exactly that was written.
-    ensures answered { IsErrOf result EngineError.Read → ExchangedSoFar H.rules C.ahead C.has_failed connection.old connection.new
-        (bytes_left R.remaining reads.old) (bytes_left R.remaining reads.new) (W.contents writer.old) (W.contents writer.new) }
-    ensures stopped { IsErrOf result EngineError.Read → HasStopped reads.new ⊎ (C.has_failed connection.new.clock ≡ true) }
-    ensures faults { IfErr result IsStreamFault }
+    ensures answered { IsErrOf result StreamError.Read → ExchangedSoFar H.rules C.ahead C.has_failed connection.old connection.new
+        (streams_of R.remaining W.contents reads.old reads.new writer.old writer.new) }
+    ensures stopped { IsErrOf result StreamError.Read → HasStopped reads.new ⊎ (C.has_failed connection.new.clock ≡ true) }
 
     // After any error.
-    ensures front { OnErr result (ExchangedFront H.rules C.ahead C.has_failed connection.old
-        (bytes_left R.remaining reads.old) (bytes_left R.remaining reads.new) (W.contents writer.old) (W.contents writer.new)) }
+    ensures part { OnErr result (ExchangedInPart H.rules C.ahead C.has_failed connection.old
+        (streams_of R.remaining W.contents reads.old reads.new writer.old writer.new)) }
 {
-    serve(alloc, reads, writer, connection)?;
+    run(alloc, reads, writer, connection)?;
     connection.end()?;
     Ok(())
 }

@@ -44,6 +44,7 @@ pub mod Spoken
 pub mod StandingLemmas
 pub mod Stepping
 pub mod StillShown
+pub mod StretchLemmas
 pub mod SweptLots
 pub mod SweptOffers
 pub mod TakenIn

@@ -1,10 +1,10 @@
 -- What is told, one thing after another.
-use Rattle.std.proofs.Common.{◌≡◌, ℕ, zero, suc, ◌+◌, ◌-◌, ◌<◌, ◌≤◌, ◌++◌, List, [], ◌∷◌, length, take, drop, max, min, map, filter, get_or, None, Some, Result, Ok, Err, refl, sym, ap, ◌∙◌, arith, append-nil, append_assoc, subst, nat_lt, inl, inr}
+use Rattle.std.proofs.Common.{◌≡◌, ℕ, zero, suc, ◌+◌, ◌-◌, ◌<◌, ◌≤◌, ◌++◌, List, [], ◌∷◌, length, take, drop, map, filter, get_or, None, Some, Result, Ok, Err, refl, sym, ap, ◌∙◌, arith, append-nil, append_assoc, subst, nat_lt, inl, inr}
 use Rattle.std.specs.List.{flat_map, range_with_len}
 use Rattle.std.specs.Option.{option_map}
 use Rattle.std.specs.Prelude.{slice_get}
 use Rattle.std.proofs.lemmas.Bool.{cases_Bool, ltb-false, ltb-true}
-use Rattle.std.proofs.lemmas.List.{get_or-drop, length-drop, length-take, map-append, take_all, take_more}
+use Rattle.std.proofs.lemmas.List.{get_or-drop, length-drop, length-take, map-append, take_more}
 use Rattle.std.proofs.lemmas.List.Concat.{flat_map-append}
 use Rattle.std.proofs.lemmas.List.Elements.{filter-append}
 use Rattle.std.proofs.lemmas.Option.{get_or_from_slice_get, slice_get_past, slice_get_within}
@@ -28,7 +28,7 @@ use Rattle.gu_book.specs.declared.notices.Mailbox.{Mailbox}
 use Rattle.gu_book.specs.declared.totals.Totals.{Totals}
 
 -- to a firm, of things told after others
-told_to-append : (firm : FirmId) (before after : List Told) → told_to firm (before ++ after) ≡ told_to firm before ++ told_to firm after
+pub told_to-append : (firm : FirmId) (before after : List Told) → told_to firm (before ++ after) ≡ told_to firm before ++ told_to firm after
 told_to-append firm before after =
     ap (map (λ (t : Told). t.notice)) (filter-append (λ (t : Told). same_firm t.firm firm) before after)
     ∙ map-append (λ (t : Told). t.notice) (filter (λ (t : Told). same_firm t.firm firm) before) (filter (λ (t : Told). same_firm t.firm firm) after)
@@ -40,6 +40,10 @@ IsToldSoFar old new told = IsTold {T = Unit {0}} {E = Unit {0}} old new (Ok tt) 
 -- nothing was
 pub told-none : (box : Mailbox) → IsToldSoFar box box []
 told-none box = record { firm = refl; list = sym (append-nil box.list.items) }
+
+-- where none were kept before, those of the firm are kept
+pub told-so-far : (old new : Mailbox) (told : List Told) → old.list.items ≡ [] → IsToldSoFar old new told → new.list.items ≡ told_to old.firm told
+told-so-far old new told none is = is.list ∙ ap (λ (list : List Notice). list ++ told_to old.firm told) none
 
 -- and then others
 pub told-then : {T E : Type 0} (old mid new : Mailbox) (result : Result T E) (before after : List Told) → IsToldSoFar old mid before → IsTold mid new result after → IsTold old new result (before ++ after)
@@ -133,62 +137,25 @@ told_from-next register first entries i {entry} within is =
         let size : length (take i entries) ≡ i = omega (arith, length-take i entries, within) in
         ap (λ (k : ℕ). told_from register first (take i entries) ++ told_by register (first + k) entry) size
 
--- behind its end a list has nothing
-past : (xs : List Entry) (n : ℕ) → length xs ≤ n → drop n xs ≡ []
-past [] zero h = refl
-past [] (suc n) h = refl
-past (x ∷ xs) zero h = absurd (omega (arith, h))
-past (x ∷ xs) (suc n) h = past xs n (omega (arith, h))
-
--- what the entries behind so many tell, and the next of them
-pub told_at : (register : Register) (first : ℕ) (history : List Entry) (place : ℕ) (entry : Entry) → 1 ≤ first → first - 1 ≤ place → slice_get history place ≡ Some entry
-    → told_from register first (take (place - (first - 1)) (drop (first - 1) history)) ++ told_by register (place + 1) entry
-    ≡ told_from register first (take (place + 1 - (first - 1)) (drop (first - 1) history))
-told_at register first history place entry some behind is =
-    let start : ℕ = first - 1 in
+-- what the entries from a place on tell, and the next of them
+pub told_at : (register : Register) (start : ℕ) (history : List Entry) (place : ℕ) (entry : Entry) → start ≤ place → slice_get history place ≡ Some entry
+    → told_from register (start + 1) (take (place - start) (drop start history)) ++ told_by register (place + 1) entry
+    ≡ told_from register (start + 1) (take (place + 1 - start) (drop start history))
+told_at register start history place entry behind is =
     let i : ℕ = place - start in
     let rest : List Entry = drop start history in
     let inside : place < length history = slice_get_within history place entry is in
     let there : entry ≡ get_or rest i entry =
     sym (get_or-drop start history i entry ∙ ap (λ (n : ℕ). get_or history n entry) (omega (arith, behind)) ∙ get_or_from_slice_get history place entry entry is) in
-    let number : place + 1 ≡ first + i = omega (arith, some, behind) in
+    let number : place + 1 ≡ start + 1 + i = omega (arith, behind) in
     let next : i + 1 ≡ place + 1 - start = omega (arith, behind) in
-    ap (λ (n : ℕ). told_from register first (take i rest) ++ told_by register n entry) number
-    ∙ told_from-next register first rest i (omega (arith, length-drop start history, inside, behind)) there
-    ∙ ap (λ (n : ℕ). told_from register first (take n rest)) next
+    ap (λ (n : ℕ). told_from register (start + 1) (take i rest) ++ told_by register n entry) number
+    ∙ told_from-next register (start + 1) rest i (omega (arith, length-drop start history, inside, behind)) there
+    ∙ ap (λ (n : ℕ). told_from register (start + 1) (take n rest)) next
 
 -- before the first of them nothing was told
-pub told-nothing : (box : Mailbox) (register : Register) (first : ℕ) (history : List Entry)
-    → IsToldSoFar box box (told_from register first (take (first - 1 - (first - 1)) (drop (first - 1) history)))
-told-nothing box register first history =
-    let none : first - 1 - (first - 1) ≡ 0 = omega arith in
+pub told-nothing : (box : Mailbox) (register : Register) (start : ℕ) (history : List Entry)
+    → IsToldSoFar box box (told_from register (start + 1) (take (start - start) (drop start history)))
+told-nothing box register start history =
+    let none : start - start ≡ 0 = omega arith in
     rw none (told-none box)
-
--- and behind the last one all was
-pub rest-is : (register : Register) (history : List Entry) (first place : ℕ) → first - 1 ≤ place → length history ≤ place
-    → told_from register first (take (place - (first - 1)) (drop (first - 1) history)) ≡ told_from register first (drop (first - 1) history)
-rest-is register history first place behind end =
-    ap (told_from register first) (take_all (place - (first - 1)) (drop (first - 1) history) (omega (arith, length-drop (first - 1) history, end, behind)))
-
--- where a number is asked from that no entry has, that is from the first on
-pub from-first : (register : Register) (from : ℕ) (history : List Entry)
-    → told_from register (max 1 from) (drop (max 1 from - 1) history) ≡ told_from register (max 1 from) (drop (from - 1) history)
-from-first register from history =
-    let same : max 1 from - 1 ≡ from - 1 = omega arith in
-    ap (λ (n : ℕ). told_from register (max 1 from) (drop n history)) same
-
--- beyond the last entry nothing is told, from whatever number on
-pub from-next : (register : Register) (history : List Entry) (from next : ℕ) → next ≡ length history + 1
-    → told_from register (max 1 (min from next)) (drop (min from next - 1) history) ≡ told_from register (max 1 from) (drop (from - 1) history)
-from-next register history from next is =
-    elim (cases_Bool (nat_lt next from)) [
-      | inl hit ↦
-          let far = ltb-true next from hit in
-          let all : drop (min from next - 1) history ≡ [] = past history (min from next - 1) (omega (arith, is, far)) in
-          let none : drop (from - 1) history ≡ [] = past history (from - 1) (omega (arith, is, far)) in
-          rw (all, none) refl
-      | inr miss ↦
-          let near = ltb-false next from miss in
-          let same : min from next ≡ from = omega (arith, near) in
-          ap (λ (n : ℕ). told_from register (max 1 n) (drop (n - 1) history)) same
-    ]

@@ -1,5 +1,5 @@
 -- Notices: what entries tell of their own accord, and whom.
-use Rattle.std.specs.Prelude.{ℕ, ◌+◌, ◌-◌, ◌++◌, ◌&&◌, nat_le, true, List, [], ◌∷◌, drop, filter, length, map, max, Option, if◌then◌else◌}
+use Rattle.std.specs.Prelude.{◌≡◌, ℕ, ◌+◌, ◌-◌, ◌<◌, ◌≤◌, ◌++◌, ◌&&◌, ◌⊎◌, ◌↔◌, IsTrue, nat_le, true, false, List, [], ◌∷◌, drop, filter, length, map, max, take, Option, if◌then◌else◌}
 use Rattle.std.specs.List.{flat_map, range_with_len}
 use Rattle.std.specs.Option.{option_map_or}
 use Rattle.gu_terms.specs.Same.{same_firm, same_side}
@@ -9,6 +9,7 @@ use Rattle.gu_terms.specs.declared.entry.Entry.TheVariants.{Asked, Swept}
 use Rattle.gu_terms.specs.declared.firm.FirmId.{FirmId}
 use Rattle.gu_terms.specs.declared.notice.Notice.{Notice}
 use Rattle.gu_terms.specs.declared.notice.Notice.TheVariants.{Matched, Offer as OfferOf}
+use Rattle.gu_terms.specs.declared.notice.Stretch.{Stretch}
 use Rattle.gu_terms.specs.declared.notice.OfferEvent.{OfferEvent}
 use Rattle.gu_terms.specs.declared.notice.OfferEvent.TheVariants.{Offered as IsOffered, Claimed as IsClaimed, Refused as IsRefused, Reversed as IsReversed}
 use Rattle.gu_terms.specs.declared.offer.Offer.{Offer}
@@ -102,3 +103,31 @@ told_to firm told = map (λ (t : Told). t.notice) (filter (λ (t : Told). same_f
 -- the notices to a firm of the entries from a number on
 abbrev pub notices_of : Kept → FirmId → ℕ → List Notice
 notices_of book firm from = told_to firm (told_from (register_of book) (max 1 from) (drop (from - 1) book.history))
+
+-- what is told to a firm of the entries from a number on up to another number, whose entry isn't among them
+abbrev pub told_between : Register → List Entry → FirmId → ℕ → ℕ → List Notice
+told_between register history firm from next = told_to firm (told_from register (max 1 from) (take (next - max 1 from) (drop (from - 1) history)))
+
+-- the notices to a firm of the entries from a number on up to another number, whose entry isn't among them
+abbrev pub notices_between : Kept → FirmId → ℕ → ℕ → List Notice
+notices_between book firm from next = told_between (register_of book) book.history firm from next
+
+-- a stretch of a firm's notices from a number on, which is 1 at least, by the entries that it looks at: those before `next`
+pub record IsStretchOf (register : Register) (history : List Entry) (firm : FirmId) (from : ℕ) (stretch : Stretch) : Type 0 where
+  -- it has all their notices
+  pub list : stretch.notices.list.items ≡ told_between register history firm from stretch.notices.next
+  -- it looks at 1,024 entries at most, and at none that isn't there
+  pub from_first : max 1 from ≤ stretch.notices.next
+  pub most : stretch.notices.next ≤ max 1 from + 1024
+  pub inside : stretch.notices.next ≤ max (max 1 from) (length history + 1)
+  -- it looks at no further entry once it has 1,024 notices
+  pub few : max 1 from < stretch.notices.next → length (told_between register history firm from (stretch.notices.next - 1)) < 1024
+  -- it is the last one exactly where no entry has number `next` or a greater one
+  pub last : IsTrue stretch.is_last ↔ (length history < stretch.notices.next)
+  -- any other leads on, and ends because it looked at 1,024 entries or has 1,024 notices
+  pub onwards : stretch.is_last ≡ false → max 1 from < stretch.notices.next
+  pub full : stretch.is_last ≡ false → (stretch.notices.next ≡ max 1 from + 1024) ⊎ (1024 ≤ length stretch.notices.list.items)
+
+-- a stretch of what a book tells a firm from a number on
+abbrev pub IsStretch : Kept → FirmId → ℕ → Stretch → Type 0
+IsStretch book firm from stretch = IsStretchOf (register_of book) book.history firm from stretch

@@ -1,10 +1,14 @@
 -- Machinery: notices, as they are kept for a firm.
-use Rattle.std.specs.Prelude.{◌≡◌, ◌++◌, List, Result, OnOk}
+use Rattle.std.specs.Prelude.{◌≡◌, ℕ, ◌+◌, ◌-◌, ◌<◌, ◌≤◌, ◌++◌, List, drop, length, take, Result, OnOk}
 use Rattle.std.specs.Option.{option_map}
+use Rattle.gu_terms.specs.declared.entry.Entry.{Entry}
+use Rattle.gu_terms.specs.declared.firm.FirmId.{FirmId}
+use Rattle.gu_terms.specs.declared.notice.Notice.{Notice}
 use Rattle.gu_ref.specs.Tables.{Tables}
 use Rattle.gu_offers.specs.Rows.{Row, row_at}
-use Rattle.gu_book.specs.Notices.{Register, Told, told_to}
+use Rattle.gu_book.specs.Notices.{Register, Told, told_from, told_to}
 use Rattle.gu_book.specs.declared.notices.Mailbox.{Mailbox}
+use Rattle.gu_book.specs.declared.span.Span.{Span}
 use Rattle.gu_book.specs.declared.totals.Totals.{Totals}
 
 -- what is kept, as notices are written by it
@@ -16,3 +20,16 @@ register_in reference totals =
 pub record IsTold {T E : Type 0} (old new : Mailbox) (result : Result T E) (told : List Told) : Type 0 where
   pub firm : new.firm ≡ old.firm
   pub list : OnOk result (new.list.items ≡ old.list.items ++ told_to old.firm told)
+
+-- what is told to a firm of the entries from a place on up to another place
+abbrev pub told_at_places : Register → List Entry → FirmId → ℕ → ℕ → List Notice
+told_at_places register history firm start place = told_to firm (told_from register (start + 1) (take (place - start) (drop start history)))
+
+-- the entries of a span were walked over up to a place, and gave these notices to a firm: it stopped at its end, or had more
+-- notices than the most, and before the last entry it had no more
+pub record IsWalked (register : Register) (history : List Entry) (firm : FirmId) (span : Span) (list : List Notice) (place : ℕ) : Type 0 where
+  pub start : span.start ≤ place
+  pub end : place ≤ span.end
+  pub told : list ≡ told_at_places register history firm span.start place
+  pub stopped : place < span.end → span.most < length list
+  pub before : span.start < place → length (told_at_places register history firm span.start (place - 1)) ≤ span.most

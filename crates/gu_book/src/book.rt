@@ -8,7 +8,7 @@ ghost use Rattle.gu_book.specs.Answer.{answer};
 ghost use Rattle.gu_book.specs.Commits.{IsCurrent, Refuses, sweep_of};
 ghost use Rattle.gu_book.specs.Legal.{IsLegal, MayFollow, StandsLast};
 ghost use Rattle.gu_book.specs.Limits.{limit_rows};
-ghost use Rattle.gu_book.specs.Notices.{notices_of};
+ghost use Rattle.gu_book.specs.Notices.{IsStretch, notices_of};
 ghost use Rattle.gu_book.specs.Orderly.{IsOrderly};
 ghost use Rattle.gu_book.specs.Positions.{LongIsShort, is_of_firm, long_of, open_interest_of, position_rows, short_of};
 ghost use Rattle.gu_book.specs.Reports.{open_day};
@@ -20,7 +20,7 @@ use crate::current::shows_all;
 use crate::error::{AskError, CommitError, EnterError};
 use crate::limits::rows_in_order;
 use crate::met::{Met, MetRooms};
-use crate::notices::notices_of;
+use crate::notices::{notices_of, stretch_of};
 use crate::positions::{is_of_firm, rows_of_account};
 use crate::sweeping::{
     asks_for_a_sweep, kept_sweep, make_ways, move_takes, sum_swept, swept_receipt,
@@ -34,7 +34,7 @@ use gu_flow::Proposal;
 use gu_ref::Reference;
 use gu_terms::{
     AccountId, Command, Day, Entry, FirmId, Group, History, KeptSweep, LimitRow, MOST_ENTRIES,
-    Notices, PositionRows, Receipt, Reply, Seed, Symbol,
+    Notices, PositionRows, Receipt, Reply, Seed, Stretch, Symbol,
 };
 use gu_view::View;
 use std::alloc::{AllocError, Global};
@@ -238,9 +238,24 @@ impl Book {
             &self.totals,
             &self.history,
             &firm,
-            from.min(next),
+            from,
         )?;
         Ok(Notices { next, list })
+    }
+
+    /// A stretch of what a firm is told of the entries from a number on. It looks at 1,024 entries at most, and at no further entry
+    /// once it has 1,024 notices.
+    pub fn stretch(&self, firm: FirmId, from: u64) -> Result<Stretch, AllocError>
+        ensures { IfOk result (IsStretch self.now firm from) }
+    {
+        stretch_of(
+            self.alloc,
+            &self.reference,
+            &self.totals,
+            &self.history,
+            &firm,
+            from,
+        )
     }
 
     /// The view of a group as the book stands: its open offers, and the room of each key that they come under.

@@ -1,15 +1,18 @@
 //! What follows from the definitions alone.
 
-ghost use Rattle.std.specs.Prelude.{◌≡◌, ◌≤◌, ◌↔◌, ◌++◌, ◌∷◌, [], ℕ, true, false, AllPairs, List, Some, slice_get, take};
+ghost use Rattle.std.specs.Prelude.{◌≡◌, ◌<◌, ◌≤◌, ◌↔◌, ◌++◌, ◌∷◌, [], ℕ, true, false, AllPairs, length, List, Some, slice_get, take};
 ghost use Rattle.gu_terms.specs.Refusals.{number_of};
 ghost use Rattle.gu_terms.specs.declared.command.Command.{Command as CommandOf};
 ghost use Rattle.gu_terms.specs.declared.entry.Entry.{Entry as EntryOf};
+ghost use Rattle.gu_terms.specs.declared.firm.FirmId.{FirmId as FirmOf};
 ghost use Rattle.gu_terms.specs.declared.group.Group.{Group as GroupOf};
 ghost use Rattle.gu_terms.specs.declared.refusal.Refusal.{Refusal as RefusalOf};
 ghost use Rattle.gu_terms.specs.declared.reply.Reply.TheVariants.{Denied};
 ghost use Rattle.gu_ref.specs.Tables.{Tables};
 ghost use Rattle.gu_book.specs.Answer.{State, answer_in, tests_of};
+ghost use Rattle.gu_book.specs.Kept.{Kept};
 ghost use Rattle.gu_book.specs.Legal.{MayFollow};
+ghost use Rattle.gu_book.specs.Notices.{notices_between, notices_of};
 ghost use Rattle.gu_book.specs.Versions.{touches, touching, touching_after, version_of};
 ghost use Rattle.gu_book.specs.Views.{group_view};
 
@@ -44,4 +47,15 @@ pub fn an_entry_elsewhere_leaves_the_view()
         → MayFollow reference history entry
         → touches history group entry ≡ false
         → group_view reference (history ++ entry ∷ []) group ≡ group_view reference history group }
+{}
+
+/// A firm's notices up to a number, with those from it on, are the whole: those of two stretches, of which the second begins where
+/// the first ends, and those of all entries.
+pub fn stretches_join_to_the_whole()
+    ensures between { (book : Kept) (firm : FirmOf) (from mid next : ℕ) → from ≤ mid → mid ≤ next
+        → notices_between book firm from mid ++ notices_between book firm mid next ≡ notices_between book firm from next }
+    ensures rest { (book : Kept) (firm : FirmOf) (from mid : ℕ) → from ≤ mid
+        → notices_between book firm from mid ++ notices_of book firm mid ≡ notices_of book firm from }
+    ensures whole { (book : Kept) (firm : FirmOf) (from next : ℕ) → length book.history < next
+        → notices_between book firm from next ≡ notices_of book firm from }
 {}

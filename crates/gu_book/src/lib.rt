@@ -12,6 +12,7 @@ mod limits;
 mod met;
 mod notices;
 mod positions;
+mod span;
 mod sweeping;
 mod taking;
 mod totals;
@@ -24,7 +25,7 @@ pub use book::Book;
 pub use error::{AskError, CommitError, EnterError};
 pub use laws::{
     an_entry_elsewhere_leaves_the_view, equal_versions_are_untouched, later_touches_come_behind,
-    the_least_refusal_is_given,
+    stretches_join_to_the_whole, the_least_refusal_is_given,
 };
 pub use laws_of_offers::{
     a_group_has_few_open_offers, an_entry_makes_few_offers, as_many_lots_are_held_long_as_short,
@@ -32,4 +33,5 @@ pub use laws_of_offers::{
     no_more_is_given_back_than_was_taken, no_more_is_given_up_than_was_traded,
     no_more_is_moved_than_an_offer_has, no_more_leaves_an_account_than_it_traded,
 };
+pub use span::LONGEST_STRETCH;
 pub use sweeping::{kept_sweep, swept_receipt};

@@ -4,14 +4,15 @@ ghost use Rattle.std.specs.Prelude.{◌≡◌, ◌+◌, ◌-◌, ◌<◌, ◌≤
 ghost use Rattle.std.specs.List.{flat_map, range_with_len};
 ghost use Rattle.gu_trades.specs.Reports.{with_match};
 ghost use Rattle.gu_trades.specs.Sides.{reports_in};
-ghost use Rattle.gu_book.specs.Notices.{offer_notice, to_both, to_carrier, told_by, told_from, told_of_event, told_of_line, told_of_take, told_of_trade, told_on, told_to};
-ghost use Rattle.gu_book.specs.Telling.{IsTold, register_in};
+ghost use Rattle.gu_book.specs.Notices.{IsStretchOf, offer_notice, to_both, to_carrier, told_by, told_from, told_of_event, told_of_line, told_of_take, told_of_trade, told_on, told_to};
+ghost use Rattle.gu_book.specs.Telling.{IsTold, IsWalked, register_in};
 
+use crate::span::Span;
 use crate::totals::Totals;
 use gu_ref::Reference;
 use gu_terms::{
-    Command, Done, Entry, FirmId, History, Id, Lots, Notice, Offer, OfferEvent, OfferNo,
-    OfferNotice, Reply, Report, Side, Take,
+    EntryEvent, EntryRef, FirmId, History, Id, Lots, Notice, Notices, Offer, OfferEvent, OfferNo,
+    OfferNotice, Report, Side, Stretch, Take,
 };
 use gu_trades::{Sides, Terms};
 use std::alloc::{AllocError, Global};
@@ -122,18 +123,18 @@ impl Mailbox {
         }
     }
 
-    /// Keeps what the lines of a give-up tell, so many from a number on.
+    /// Keeps what the lines of a give-up tell, which are offers from a number on.
     fn tell_lines(
         &mut self,
         reference: &Reference,
         totals: &Totals,
-        first: u64,
-        count: u64,
+        first: OfferNo,
+        count: u8,
     ) -> Result<(), AllocError>
-        requires { first + count < 2 ^ 64 }
         ensures { IsTold self.old self.new result (flat_map (told_of_line (register_in reference.now totals.now)) (range_with_len first count)) }
     {
-        for number in first..first + count {
+        let from = first.get();
+        for number in from..from + u64::from(count) {
             self.tell_line(reference, totals, number)?;
         }
         Ok(())
@@ -191,73 +192,57 @@ impl Mailbox {
         self.tell_side(number, Side::Sell, &sides)
     }
 
-    /// Keeps what a command tells that was accepted, and did this.
-    fn tell_done(
-        &mut self,
-        reference: &Reference,
-        totals: &Totals,
-        number: u64,
-        command: &Command,
-        done: Done,
-    ) -> Result<(), AllocError>
-        ensures { IsTold self.old self.new result (told_by (register_in reference.now totals.now) number (Entry.Asked command.now (Reply.Accepted done))) }
-    {
-        match (command, done) {
-            (Command::ReportSide { match_id, .. }, Done::Reported { matched: true }) => {
-                self.tell_trade(totals, number, match_id)
-            }
-            (Command::GiveUp { lines, .. }, Done::Offered { first, .. }) => {
-                let count = lines.as_slice().len() as u64;
-                self.tell_lines(reference, totals, first.get(), count)
-            }
-            (Command::Claim { offer, .. }, Done::Claimed { lots }) => {
-                self.tell_event(reference, totals, *offer, OfferEvent::Claimed, lots)
-            }
-            (Command::Refuse { offer, why, .. }, Done::Refused { lots }) => {
-                self.tell_event(reference, totals, *offer, OfferEvent::Refused(*why), lots)
-            }
-            (Command::Reverse { offer, .. }, Done::Reversed { lots }) => {
-                self.tell_event(reference, totals, *offer, OfferEvent::Reversed, lots)
-            }
-            _ => Ok(()),
-        }
-    }
-
     /// Keeps what the entry of a number tells.
     fn tell_entry(
         &mut self,
         reference: &Reference,
         totals: &Totals,
         number: u64,
-        entry: &Entry,
+        entry: &EntryRef,
     ) -> Result<(), AllocError>
         ensures { IsTold self.old self.new result (told_by (register_in reference.now totals.now) number entry.now) }
     {
-        match entry {
-            Entry::Asked { command, reply } => match *reply {
-                Reply::Accepted(done) => self.tell_done(reference, totals, number, command, done),
-                Reply::Denied(_) => Ok(()),
-            },
-            Entry::Swept(sweep) => self.tell_takes(reference, totals, sweep.takes.as_slice()),
+        match entry.event() {
+            EntryEvent::Matched { match_id } => self.tell_trade(totals, number, &match_id),
+            EntryEvent::Offered { first, count } => {
+                self.tell_lines(reference, totals, first, count)
+            }
+            EntryEvent::Claimed { offer, lots } => {
+                self.tell_event(reference, totals, offer, OfferEvent::Claimed, lots)
+            }
+            EntryEvent::Refused { offer, why, lots } => {
+                self.tell_event(reference, totals, offer, OfferEvent::Refused(why), lots)
+            }
+            EntryEvent::Reversed { offer, lots } => {
+                self.tell_event(reference, totals, offer, OfferEvent::Reversed, lots)
+            }
+            EntryEvent::Swept => self.tell_takes(reference, totals, entry.takes()),
+            EntryEvent::Other => Ok(()),
         }
     }
 
-    /// Keeps what the entries from a number on tell.
+    /// Keeps what the entries of a span tell, as far as it goes, and returns the place after the
+    /// last of them.
     fn tell_entries(
         &mut self,
         reference: &Reference,
         totals: &Totals,
         history: &History,
-        first: u64,
-    ) -> Result<(), AllocError>
-        requires { (1 ≤ first) × (length history.now < 2 ^ 63) }
-        ensures { IsTold self.old self.new result (told_from (register_in reference.now totals.now) first (drop (first - 1) history.now)) }
+        span: Span,
+    ) -> Result<usize, AllocError>
+        requires empty { self.old.list.items ≡ [] }
+        requires inside { span.end ≤ max span.start (length history.now) }
+        requires few { length history.now < 2 ^ 63 }
+        ensures walked { IfOk result (IsWalked (register_in reference.now totals.now) history.now self.old.firm span self.new.list.items) }
     {
-        for place in first as usize - 1..history.len() {
-            let entry = history.at(place)?;
+        for place in span.start..span.end {
+            if self.list.len() > span.most {
+                return Ok(place);
+            }
+            let entry = history.show(place);
             self.tell_entry(reference, totals, place as u64 + 1, &entry)?;
         }
-        Ok(())
+        Ok(span.end)
     }
 }
 
@@ -283,6 +268,29 @@ fn offer_notice(
     })
 }
 
+/// The notices to a firm of the entries of a span, as far as it goes, and the place after the last
+/// of them.
+fn walk(
+    alloc: Global,
+    reference: &Reference,
+    totals: &Totals,
+    history: &History,
+    firm: &FirmId,
+    span: Span,
+) -> Result<(Vec<Notice>, usize), AllocError>
+    requires inside { span.end ≤ max span.start (length history.now) }
+    requires few { length history.now ≤ 1000000 }
+    ensures { IfOk result (λ r. IsWalked (register_in reference.now totals.now) history.now firm.now span r.0.items r.1) }
+{
+    let mut mailbox = Mailbox {
+        firm: *firm,
+        list: Vec::new(alloc),
+    };
+    let place = mailbox.tell_entries(reference, totals, history, span)?;
+    let Mailbox { firm: _, list } = mailbox;
+    Ok((list, place))
+}
+
 /// The notices to a firm of the entries from a number on.
 pub fn notices_of(
     alloc: Global,
@@ -296,11 +304,28 @@ pub fn notices_of(
     ensures { IfOk result (λ list. list.items
         ≡ told_to firm.now (told_from (register_in reference.now totals.now) (max 1 from) (drop (from - 1) history.now))) }
 {
-    let mut mailbox = Mailbox {
-        firm: *firm,
-        list: Vec::new(alloc),
-    };
-    mailbox.tell_entries(reference, totals, history, from.max(1))?;
-    let Mailbox { firm: _, list } = mailbox;
+    let span = Span::rest(history.len(), from);
+    let (list, _) = walk(alloc, reference, totals, history, firm, span)?;
     Ok(list)
+}
+
+/// A stretch of the notices to a firm, from the entry of a number on.
+pub fn stretch_of(
+    alloc: Global,
+    reference: &Reference,
+    totals: &Totals,
+    history: &History,
+    firm: &FirmId,
+    from: u64,
+) -> Result<Stretch, AllocError>
+    requires few { length history.now ≤ 1000000 }
+    ensures { IfOk result (IsStretchOf (register_in reference.now totals.now) history.now firm.now from) }
+{
+    let span = Span::stretch(history.len(), from);
+    let (list, place) = walk(alloc, reference, totals, history, firm, span)?;
+    let next = place as u64 + 1;
+    Ok(Stretch {
+        notices: Notices { next, list },
+        is_last: history.len() <= place,
+    })
 }

@@ -3,6 +3,7 @@
 ghost use Rattle.std.specs.Prelude.{◌≡◌, ◌<◌, ◌≤◌, ◌+◌, ◌^◌, ◌++◌, ◌∷◌, [], true, false, All, Some, None, IfSome, OnOk, OnErr, length, map, unwrap_or};
 ghost use Rattle.std.specs.List.{IsDistinct};
 ghost use Rattle.std.specs.Option.{option_to_list};
+ghost use Rattle.indexmap.specs.IndexSet.{hasher_of};
 ghost use Rattle.gu_limits.specs.Limits.{room_in, used_in};
 ghost use Rattle.gu_offers.specs.Changes.{changed, closed, next_day, reversed, taken, with_lines};
 ghost use Rattle.gu_offers.specs.Rows.{left_in, row_at, today_in};
@@ -74,12 +75,13 @@ impl Drop for Totals {
 }
 
 impl Totals {
-    /// What no history comes to, with a seed by which ids are found.
+    /// The totals of an empty history; the seed is for the hash tables of ids that firms choose. What is answered doesn't depend on it.
     pub fn seeded(alloc: Global, seed: Seed) -> Self
         ensures today { result.today ≡ None }
         ensures trades { result.trades ≡ [] }
         ensures offers { result.offers ≡ [] }
         ensures give_ups { result.give_ups.keys ≡ [] }
+        ensures seed { hasher_of result.give_ups ≡ seed }
         ensures limits { result.limits ≡ [] }
         ensures positions { result.positions ≡ [] }
     {

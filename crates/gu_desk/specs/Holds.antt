@@ -3,7 +3,9 @@ use Rattle.std.specs.Prelude.{◌≡◌, ℕ, ◌<◌, ◌≤◌, length}
 use Rattle.gu_terms.specs.declared.command.Command.{Command}
 use Rattle.gu_terms.specs.declared.entry.Entry.{Entry}
 use Rattle.gu_terms.specs.declared.entry.Entry.TheVariants.{Asked}
+use Rattle.gu_terms.specs.declared.firm.FirmId.{FirmId}
 use Rattle.gu_terms.specs.declared.group.Group.{Group}
+use Rattle.gu_terms.specs.declared.notice.Stretch.{Stretch}
 use Rattle.gu_terms.specs.declared.query.Query.{Query}
 use Rattle.gu_terms.specs.declared.query.Query.TheVariants as query
 use Rattle.gu_terms.specs.declared.receipt.Receipt.{Receipt}
@@ -12,6 +14,7 @@ use Rattle.gu_ref.specs.Tables.{Tables}
 use Rattle.gu_view.specs.View.{GroupView}
 use Rattle.gu_book.specs.Kept.{Kept}
 use Rattle.gu_book.specs.Legal.{IsLegal, StandsLast}
+use Rattle.gu_book.specs.Notices.{IsStretch}
 use Rattle.gu_book.specs.Questions.{IsAnswer}
 use Rattle.gu_book.specs.declared.asking.Answer.{Answer}
 use Rattle.gu_book.specs.declared.asking.Answer.TheVariants as answer
@@ -36,3 +39,11 @@ pub record IsAnswered (reference : Tables) (least : ℕ) (query : Query) (answer
 -- the view is what such a book answers to a query for the view of its group
 abbrev pub IsSeen : Tables → ℕ → Group → GroupView → Type 0
 IsSeen reference least group view = IsAnswered reference least (query.Look group) (answer.Look view)
+
+-- the stretch is what some book of this reference, whose legal history has at least this many entries, tells the firm from a number on
+pub record IsTold (reference : Tables) (least : ℕ) (firm : FirmId) (from : ℕ) (stretch : Stretch) : Type 0 where
+  pub book : Kept
+  pub of_reference : book.reference ≡ reference
+  pub legal : IsLegal reference book.history
+  pub enough : least ≤ length book.history
+  pub stretch_is : IsStretch book firm from stretch

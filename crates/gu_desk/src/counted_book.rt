@@ -5,7 +5,7 @@ ghost use Rattle.gu_terms.specs.Histories.{lots_swept};
 ghost use Rattle.gu_ref.specs.Reference.{is_group};
 ghost use Rattle.gu_book.specs.Commits.{sweep_of};
 ghost use Rattle.gu_book.specs.Questions.{IsUnknown};
-ghost use Rattle.gu_desk.specs.Holds.{IsAnswered, IsEntered, IsSeen};
+ghost use Rattle.gu_desk.specs.Holds.{IsAnswered, IsEntered, IsSeen, IsTold};
 ghost use Rattle.gu_desk.specs.Refusals.{refusal_of_second_hold};
 ghost use Rattle.gu_desk.specs.Sweeps.{DiffersIfStale};
 ghost use Rattle.gu_desk.specs.Totals.{with_entry, with_sweep};
@@ -14,8 +14,9 @@ use crate::ledger::{EntryLedger, LotLedger};
 use crate::seat::Seat;
 use gu_book::{Answer, AskError, Book, CommitError, EnterError};
 use gu_flow::Proposal;
-use gu_terms::{Command, Entry, Group, KeptSweep, Query, Reply};
+use gu_terms::{Command, Entry, FirmId, Group, KeptSweep, Query, Reply, Stretch};
 use gu_view::View;
+use std::alloc::AllocError;
 use std::sync::ledger::{Book as LedgerBook, Share};
 
 /// The book, with the ledgers whose totals are the entries and the swept lots that came after the desk was opened. One part of each
@@ -103,6 +104,23 @@ impl<E: EntryLedger, S: LotLedger> CountedBook<E, S> {
         // Shows the prover: the history is legal.
         let _ = book.history();
         book.answer(query)
+    }
+
+    /// A stretch of what a firm is told of the entries from a number on. Nothing changes.
+    pub(crate) fn stretch(
+        &mut self,
+        seat: &mut Seat<E, S>,
+        firm: FirmId,
+        from: u64,
+    ) -> Result<Stretch, AllocError>
+        ensures told { IfOk result (IsTold E.reference (E.opening + seat.old.entries) firm from) }
+        ensures seat { seat.new ≡ seat.old }
+    {
+        let CountedBook { book, entries, .. } = self;
+        entries.audit(&mut seat.entries);
+        // Shows the prover: the history is legal.
+        let _ = book.history();
+        book.stretch(firm, from)
     }
 
     /// The view of a group. Nothing changes.

@@ -6,7 +6,7 @@ ghost use Rattle.gu_ref.specs.Reference.{is_group};
 ghost use Rattle.gu_view.specs.Boards.{Shows};
 ghost use Rattle.gu_book.specs.Commits.{sweep_of};
 ghost use Rattle.gu_book.specs.Questions.{IsUnknown};
-ghost use Rattle.gu_desk.specs.Holds.{Asks, IsAnswered, IsEntered, IsSeen};
+ghost use Rattle.gu_desk.specs.Holds.{Asks, IsAnswered, IsEntered, IsSeen, IsTold};
 ghost use Rattle.gu_desk.specs.Refusals.{refusal_of_second_hold};
 ghost use Rattle.gu_desk.specs.Sweeps.{DiffersIfStale, Sweeps};
 ghost use Rattle.gu_desk.specs.Totals.{with_entry, with_sweep, IsEmpty};
@@ -18,7 +18,7 @@ use crate::ledger::{EntryLedger, LotLedger};
 use crate::seat::Seat;
 use gu_book::{Answer, AskError, Book, CommitError, EnterError, kept_sweep, swept_receipt};
 use gu_flow::Proposal;
-use gu_terms::{Command, Entry, Group, KeptSweep, Query, Receipt, Reply};
+use gu_terms::{Command, Entry, FirmId, Group, KeptSweep, Query, Receipt, Reply, Stretch};
 use gu_view::{Board, View, ViewToken};
 use std::alloc::{AllocError, Global};
 use std::marker::Model;
@@ -147,6 +147,21 @@ impl<E: EntryLedger, S: LotLedger> Desk<E, S> {
         ensures seat { seat.new ≡ seat.old }
     {
         self.locked.lock(rt).ask(seat, query)
+    }
+
+    /// A stretch of what a firm is told of the entries from a number on. It may wait for the lock, which it holds once, while it
+    /// looks at 1,024 entries at most.
+    pub fn stretch<R: Wait>(
+        &self,
+        rt: &R,
+        seat: &mut Seat<E, S>,
+        firm: FirmId,
+        from: u64,
+    ) -> Result<Stretch, AllocError>
+        ensures told { IfOk result (IsTold E.reference (E.opening + seat.old.entries) firm from) }
+        ensures seat { seat.new ≡ seat.old }
+    {
+        self.locked.lock(rt).stretch(seat, firm, from)
     }
 
     /// The view of a group, in one hold of the lock, for which it may wait.

@@ -1,16 +1,15 @@
 -- The parts of an exchange.
-use Rattle.std.proofs.Common.{◌≡◌, ℕ, List, [], ◌∷◌, ◌++◌, Result, Ok, Err, inl, inr, refl, ap, subst, ◌∙◌, append_assoc}
-use Rattle.std.specs.Prelude.{OnOk}
+use Rattle.std.proofs.Common.{◌≡◌, ◌<◌, ◌-◌, ◌^◌, ◌&&◌, not, is_some, if◌then◌else◌, ℕ, Bool, true, false, List, [], ◌∷◌, inl, inr, refl, ap, subst, ◌∙◌, arith}
 use Rattle.std.specs.List.{flat_map}
 use Rattle.gu_session.specs.Encoded.{AreOutputs, Closes, Response}
 use Rattle.gu_session.specs.States.{SessionState}
 use Rattle.gu_session.specs.Steps.{StepsWith, responses_of}
-use Rattle.gu_session.specs.declared.input.Input.TheVariants.{Frame, End}
+use Rattle.gu_session.specs.declared.input.Input.TheVariants.{End}
 use Rattle.gu_session.specs.declared.output.Asked.{Asked}
 use Rattle.gu_session.specs.declared.output.Output.{Output}
 use Rattle.gu_session.specs.declared.output.Output.TheVariants.{Send, Hand, Close}
 use Rattle.gu_session.specs.declared.plan.Course.{Course}
-use Rattle.gu_engine.specs.Exchange.{EndsSession, TakesInput, bytes_in}
+use Rattle.gu_engine.specs.Exchange.{EndsSession, TakesInput, bytes_in, firm_of, is_due}
 use Rattle.gu_engine.specs.declared.connection.Connection.{Connection}
 
 -- nothing is sent where nothing is given
@@ -35,6 +34,17 @@ end_sends_nothing old new now outputs step =
           close_sent outputs (subst (λ (given : List Response). AreOutputs given outputs) leaves step.are_outputs)
     ]
 
+-- the first of two that hold
+and_first : (a b : Bool) → (a && b) ≡ true → a ≡ true
+and_first true b both = refl
+and_first false b both = both
+
+-- what is left before a number, where the later one is greater
+fewer : (before after : Bool) (m n : ℕ) → before ≡ true → (after ≡ true → m < n) → m < 2 ^ 64 → (if after then 2 ^ 64 - n else 0) < (if before then 2 ^ 64 - m else 0)
+fewer true true m n is onwards within = omega (arith, onwards refl, within)
+fewer true false m n is onwards within = omega (arith, within)
+fewer false after m n is onwards within = absurd (let e : false ≡ true = is in cc)
+
 module _ {H C : Type 0} where
   -- a connection ends
   pub ends_session : (old new : Connection H C) (now : ℕ) (handed : List Asked) (text : List ℕ) → TakesInput old End now handed text new → EndsSession old new
@@ -43,3 +53,9 @@ module _ {H C : Type 0} where
     handed = handed;
     taken = subst (λ (t : List ℕ). TakesInput old End now handed t new) (takes.text_is ∙ end_sends_nothing old.session takes.session now takes.outputs takes.steps) takes;
   }
+
+  -- after a stretch that isn't the last, fewer entries may come
+  pub fewer_parts : (old new : Connection H C) → is_due old ≡ true → (new.is_behind ≡ true → old.next < new.next) → old.next < 2 ^ 64
+      → (if is_due new then 2 ^ 64 - new.next else 0) < (if is_due old then 2 ^ 64 - old.next else 0)
+  fewer_parts old new due onwards within =
+      fewer (is_due old) (is_due new) old.next new.next due (λ e. onwards (and_first new.is_behind (not new.is_over) (and_first (new.is_behind && not new.is_over) (is_some (firm_of new.session)) e))) within

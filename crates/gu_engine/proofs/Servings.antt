@@ -1,5 +1,5 @@
 -- The turns of an engine.
-use Rattle.std.proofs.Common.{◌≡◌, ◌⊎◌, ◌<◌, ◌≤◌, ◌+◌, ℕ, true, false, List, [], ◌∷◌, ◌++◌, length, map, take, Option, None, Some, inl, inr, refl, sym, ap, subst, ◌∙◌, arith}
+use Rattle.std.proofs.Common.{◌≡◌, ◌<◌, ◌≤◌, ◌+◌, ℕ, true, false, List, [], ◌∷◌, ◌++◌, length, map, take, Option, None, Some, inl, inr, refl, sym, ap, subst, ◌∙◌, arith}
 use Rattle.std.specs.List.{concat}
 use Rattle.std.specs.Io.KnownBytes.{Consumes, Appends, Keeps, IsAtEnd}
 use Rattle.std.proofs.KnownBytes.{Appends-trans, Appends-nil, Consumes-trans, Consumes-nil, Consumes-kept}
@@ -7,11 +7,11 @@ use Rattle.std.proofs.lemmas.List.{append-nil, length-take, map-append}
 use Rattle.std.proofs.lemmas.List.Folds.{concat-append}
 use Rattle.gu_fix.specs.Stream.{TakesPiece}
 use Rattle.gu_streams.specs.Reads.{Stopped, Took, Waited, bytes_left, waits_left}
-use Rattle.gu_streams.specs.Written.{WrotePart}
+use Rattle.gu_streams.specs.Streams.{streams_of}
 use Rattle.gu_streams.specs.declared.counted_reads.CountedReads.{CountedReads}
 use Rattle.gu_streams.proofs.Writing.{wrote_all, wrote_then}
 use Rattle.gu_engine.specs.Running.{AnswersAll, AnswersPiece, AnswersPieces, Between, Brings, Engine, HasRead, HaveBytes, Piece, Served, ServedInPart, ServedSoFar, turns_of, wait_of, waits_in}
-use Rattle.gu_engine.specs.Sends.{GivesPart, streams_of}
+use Rattle.gu_engine.specs.Sends.{GivesPart}
 use Rattle.gu_engine.specs.declared.event.Event.{Event}
 use Rattle.gu_engine.specs.declared.event.Event.TheVariants.{Frame, Over}
 use Rattle.gu_engine.proofs.InTurn.{each_more}

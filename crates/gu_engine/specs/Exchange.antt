@@ -15,8 +15,9 @@ use Rattle.gu_session.specs.declared.output.Asked.{Asked}
 use Rattle.gu_session.specs.declared.output.Output.{Output}
 use Rattle.gu_session.specs.declared.output.Output.TheVariants.{Send, Hand, Close}
 use Rattle.gu_session.specs.declared.standing.Standing.{Standing}
+use Rattle.gu_streams.specs.Streams.{Streams}
 use Rattle.gu_engine.specs.Houses.{HouseRules}
-use Rattle.gu_engine.specs.Running.{AnswersEach, Engine, Served, ServedInPart, ServedSoFar, Streams}
+use Rattle.gu_engine.specs.Running.{AnswersEach, Engine, Served, ServedInPart, ServedSoFar}
 use Rattle.gu_engine.specs.declared.connection.Connection.{Connection}
 use Rattle.gu_engine.specs.declared.event.Event.{Event}
 use Rattle.gu_engine.specs.declared.event.Event.TheVariants as event

@@ -4,6 +4,7 @@ use Rattle.std.specs.Io.KnownBytes.{Consumes, Appends, IsAtEnd}
 use Rattle.std.specs.List.{concat}
 use Rattle.std.specs.Option.{option_to_list}
 use Rattle.gu_fix.specs.Stream.{TakesPiece}
+use Rattle.gu_streams.specs.Streams.{Streams}
 use Rattle.gu_streams.specs.Written.{WrotePart}
 use Rattle.gu_engine.specs.declared.event.Event.{Event}
 use Rattle.gu_engine.specs.declared.event.Event.TheVariants.{Frame, Silence, More, Over}
@@ -85,16 +86,6 @@ pub record AnswersPiece {S : Type 0} (engine : Engine S) (old : Between S) (piec
 -- turns one after another, from the first
 abbrev pub AnswersPieces : {S : Type 0} → Engine S → S → List Piece → List ℕ → Between S → Type 0
 AnswersPieces engine old pieces text new = AnswersEach (AnswersPiece engine) (record { state = old; kept = [] }) pieces text new
-
--- What an engine reads and writes, before and after: what its reader has left, how often that may have nothing for now, and what its
--- writer holds.
-pub record Streams : Type 0 where
-  pub input_old : Option (List ℕ)
-  pub input_new : Option (List ℕ)
-  pub waits_old : ℕ
-  pub waits_new : ℕ
-  pub output_old : Option (List ℕ)
-  pub output_new : Option (List ℕ)
 
 -- a turn that gave nothing is a wait
 abbrev pub wait_of : List ℕ → ℕ

@@ -1,12 +1,10 @@
 -- What is held of the answers to a turn before it is sent: the loop's own.
 use Rattle.std.specs.Prelude.{◌≡◌, ◌⊎◌, true, false, ℕ, List, [], ◌∷◌, ◌++◌, map, Option, None, Some}
 use Rattle.std.specs.Io.KnownBytes.{Appends}
-use Rattle.gu_streams.specs.Reads.{bytes_left, waits_left}
 use Rattle.gu_streams.specs.Written.{WrotePart}
-use Rattle.gu_streams.specs.declared.counted_reads.CountedReads.{CountedReads}
 use Rattle.gu_streams.specs.declared.error.StreamError.{StreamError}
 use Rattle.gu_streams.specs.declared.error.StreamError.TheVariants.{Memory, Write}
-use Rattle.gu_engine.specs.Running.{AnswersSome, Engine, Streams}
+use Rattle.gu_engine.specs.Running.{AnswersSome, Engine}
 use Rattle.gu_engine.specs.declared.event.Event.{Event}
 use Rattle.gu_engine.specs.declared.event.Event.TheVariants.{Frame, Silence}
 
@@ -31,17 +29,6 @@ IsReady engine state = (engine.is_due state ≡ false) ⊎ (engine.is_done state
 abbrev pub events_of : Option (List (List ℕ)) → List Event
 events_of (Some frames) = map Frame frames
 events_of None = Silence ∷ []
-
--- what is read and written between these
-abbrev pub streams_of : {R W : Type 0} → (R → Option (List ℕ)) → (W → Option (List ℕ)) → CountedReads R → CountedReads R → W → W → Streams
-streams_of remaining contents reads_old reads_new writer_old writer_new = record {
-  input_old = bytes_left remaining reads_old;
-  input_new = bytes_left remaining reads_new;
-  waits_old = waits_left reads_old;
-  waits_new = waits_left reads_new;
-  output_old = contents writer_old;
-  output_new = contents writer_new;
-}
 
 -- a fault of memory or of the writer
 abbrev pub IsAnswerFault : StreamError → Type 0

@@ -1,6 +1,6 @@
 //! One connection of a firm: its session, the house behind it, and a clock.
 
-ghost use Rattle.std.specs.Prelude.{◌≡◌, ◌<◌, ◌++◌, ◌||◌, List, ℕ, true, IfOk, OnOk};
+ghost use Rattle.std.specs.Prelude.{◌≡◌, ◌<◌, ◌^◌, ◌++◌, ◌||◌, List, ℕ, true, IfOk, OnOk};
 ghost use Rattle.std.specs.List.{filter_map, flat_map, list_any};
 ghost use Rattle.std.specs.Option.{option_to_list};
 ghost use Rattle.gu_engine.specs.Exchange.{AnswersAsked, AnswersFrame, EndsSession, IsNew, SendsNotice, TakesInput, TellsStretch, Ticks, bytes_in, handed_in, is_close, is_due};
@@ -239,6 +239,7 @@ impl<H: House, C> Connection<H, C> {
         ensures told { OnOk result ((text : List ℕ) × (output.new.items ≡ output.old.items ++ text)
             × TellsStretch H.rules now self.old text self.new) }
         ensures onwards { OnOk result (self.new.is_behind ≡ true → self.old.next < self.new.next) }
+        ensures within { OnOk result (self.old.next < 2 ^ 64) }
     {
         let Some(firm) = self.session.firm() else {
             return Ok(());
@@ -260,7 +261,7 @@ impl<H: House, C> Connection<H, C> {
 }
 
 impl<H: House, C: Clock> Answerer for Connection<H, C> {
-    ghost use Rattle.std.specs.Prelude.{◌-◌, ◌^◌, if◌then◌else◌};
+    ghost use Rattle.std.specs.Prelude.{◌-◌, if◌then◌else◌};
     ghost use Rattle.gu_engine.specs.Exchange.{exchange, is_due};
 
     ghost engine = { exchange H.rules C.ahead C.has_failed };

@@ -4,9 +4,10 @@ ghost use Rattle.std.specs.Prelude.{◌≡◌, ◌⊎◌, ◌≤◌, ◌++◌, �
 ghost use Rattle.std.specs.Io.KnownBytes.{Appends};
 ghost use Rattle.std.specs.Option.{option_map};
 ghost use Rattle.gu_streams.specs.Reads.{HasStopped};
+ghost use Rattle.gu_streams.specs.Streams.{streams_of};
 ghost use Rattle.gu_streams.specs.Written.{WrotePart};
 ghost use Rattle.gu_engine.specs.Running.{Answers, AnswersAll, FailsToBegin, Served, ServedInPart, ServedSoFar, brought_in, is_more};
-ghost use Rattle.gu_engine.specs.Sends.{Gives, GivesPart, IsAnswerFault, IsReady, events_of, streams_of};
+ghost use Rattle.gu_engine.specs.Sends.{Gives, GivesPart, IsAnswerFault, IsReady, events_of};
 ghost use Rattle.gu_engine.specs.declared.event.Event.TheVariants.{Frame as FrameOf, Over};
 
 use crate::answerer::Answerer;

@@ -1,7 +1,7 @@
 //! The lots of reports that offers hold.
 
 ghost use Rattle.std.specs.Prelude.{◌≡◌, ◌+◌, ◌-◌, ◌<◌, ◌≤◌, ◌^◌, ◌&&◌, OnOk, OnErr, Some, true, is_some, unwrap_or, if◌then◌else◌};
-ghost use Rattle.indexmap.specs.IndexMap.{get, Updates};
+ghost use Rattle.indexmap.specs.IndexMap.{get, hasher_of, Updates};
 ghost use Rattle.gu_terms.specs.declared.firm.FirmId.{FirmId as Firm};
 ghost use Rattle.gu_terms.specs.declared.id.Id.{Id as IdOf};
 ghost use Rattle.gu_terms.specs.Same.{same_firm, same_id};
@@ -43,7 +43,8 @@ impl Counts {
 
     /// No lots of any report, with a seed by which reports are found.
     pub(crate) fn seeded(alloc: Global, seed: Seed) -> Self
-        ensures { (firm : Firm) (id : IdOf) → lots_under result firm id ≡ 0 }
+        ensures none { (firm : Firm) (id : IdOf) → lots_under result firm id ≡ 0 }
+        ensures seed { hasher_of result.lots ≡ seed }
     {
         Counts {
             lots: IndexMap::with_hasher(alloc, seed),

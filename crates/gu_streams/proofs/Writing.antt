@@ -17,6 +17,11 @@ pub on_ok_then : {T E P Q : Type 0} (r : Result T E) → (P → Q) → OnOk r P 
 on_ok_then (Ok x) f h = f h
 on_ok_then (Err e) f h = tt
 
+-- what follows from two facts of a success
+pub on_ok_both : {T E P Q R : Type 0} (r : Result T E) → (P → Q → R) → OnOk r P → OnOk r Q → OnOk r R
+on_ok_both (Ok x) f h j = f h j
+on_ok_both (Err e) f h j = tt
+
 -- what follows from success and from an error alike
 pub either_way : {T E P Q R : Type 0} (r : Result T E) → (P → R) → (Q → R) → OnOk r P → OnErr r Q → R
 either_way (Ok x) f k h j = f h

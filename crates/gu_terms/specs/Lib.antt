@@ -1,6 +1,7 @@
 pub mod AllocRejects
 pub mod Cuts
 pub mod Days
+pub mod Events
 pub mod Histories
 pub mod KeptEntries
 pub mod LimitKeys

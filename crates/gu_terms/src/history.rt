@@ -7,6 +7,7 @@ ghost use Rattle.gu_terms.specs.KeptEntries.{end_of_last, entry_by, entry_of, Ar
 
 use crate::command::Command;
 use crate::entry::Entry;
+use crate::entry_ref::EntryRef;
 use crate::kept::{Body, Ids, Kept, body_of, ids_of};
 use crate::kept_sweep::KeptSweep;
 use crate::reply::Reply;
@@ -167,6 +168,15 @@ impl History {
         ensures { IsTrue result ↔ (slice_get self.now place ≡ Some entry.now) }
     {
         self.entries[place].is_entry(&self.texts, entry)
+    }
+
+    #[tactic(auto, using(crate::proofs::KeptLemmas::entry_there))]
+    /// The entry at a place, counted from 0, where it is kept. It takes no memory.
+    pub fn show(&self, place: usize) -> EntryRef<'_>
+        requires { place < length self.now }
+        ensures { slice_get self.now place ≡ Some result }
+    {
+        EntryRef::new(&self.entries[place], &self.texts)
     }
 
     #[tactic(auto, using(crate::proofs::KeptLemmas::entry_there))]

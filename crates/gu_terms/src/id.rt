@@ -57,6 +57,16 @@ impl Id {
         })
     }
 
+    /// The id with these bytes, which are known to be those of one.
+    pub(crate) fn known(bytes: &[u8]) -> Self
+        requires { IsId bytes.now }
+        ensures { result ≡ bytes.now }
+    {
+        Id {
+            text: Padded::new(bytes),
+        }
+    }
+
     /// Its bytes.
     pub fn get(&self) -> &[u8]
         ensures bytes { result.now ≡ self.now }

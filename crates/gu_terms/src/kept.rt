@@ -84,10 +84,7 @@ fn id_at(texts: &[u8], at: usize, len: usize) -> Id
     requires id { IsId (text_at texts.now at len) }
     ensures { result ≡ text_at texts.now at len }
 {
-    match Id::new(&texts[at..at + len]) {
-        Some(id) => id,
-        None => unreachable!(),
-    }
+    Id::known(&texts[at..at + len])
 }
 
 impl Ids {
@@ -101,7 +98,7 @@ impl Ids {
     }
 
     /// The second id.
-    fn second_id(self, texts: &[u8]) -> Id
+    pub(crate) fn second_id(self, texts: &[u8]) -> Id
         requires within { self.at + self.first + self.second ≤ length texts.now }
         requires id { IsId (second_id texts.now self) }
         ensures { result ≡ second_id texts.now self }

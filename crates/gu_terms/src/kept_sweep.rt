@@ -7,7 +7,7 @@ use crate::entry::SweepEntry;
 use crate::group::Group;
 use crate::limit_key::LimitKey;
 use crate::offer_no::OfferNo;
-use crate::takes::Takes;
+use crate::takes::{Take, Takes};
 use std::alloc::{AllocError, Global};
 use std::marker::Model;
 
@@ -74,6 +74,13 @@ impl KeptSweep {
             keys,
             offers,
         })
+    }
+
+    /// Its takes.
+    pub(crate) fn takes(&self) -> &[Take]
+        ensures { result.now ≡ self.now.takes }
+    {
+        self.takes.as_slice()
     }
 
     /// The lots that it takes.

@@ -62,6 +62,13 @@ impl Lines {
         self.list.as_slice()
     }
 
+    /// How many there are.
+    pub(crate) fn count(&self) -> u8
+        ensures { result ≡ length self.now }
+    {
+        self.as_slice().len() as u8
+    }
+
     /// The lots of all lines.
     pub fn lots(&self) -> u64
         ensures lots { result ≡ lots_in_all self.now }

@@ -1,9 +1,10 @@
-use Rattle.std.proofs.Common.{◌-◌, ◌≤◌, drop, take}
+use Rattle.std.proofs.Common.{◌+◌, ◌-◌, ◌<◌, ◌≤◌, drop, length, take}
 use Rattle.gu_book.specs.Notices.{told_from}
-use Rattle.gu_book.specs.Telling.{register_in}
+use Rattle.gu_book.specs.Telling.{register_in, told_at_places}
 use Rattle.gu_book.proofs.NoticeLemmas.{IsToldSoFar}
 use Rattle.gu_book.proofs.notices.Mailbox.tell_entries.Lts.Given as given
 
 pub record invariant-loop-place (l : given.Live-loop-place) : Type 0 where
-  pub behind : l.first - 1 ≤ l.place
-  pub told : IsToldSoFar l.fn.self l.self (told_from (register_in l.reference l.totals) l.first (take (l.place - (l.first - 1)) (drop (l.first - 1) l.history)))
+  pub start : l.span.start ≤ l.place
+  pub told : IsToldSoFar l.fn.self l.self (told_from (register_in l.reference l.totals) (l.span.start + 1) (take (l.place - l.span.start) (drop l.span.start l.history)))
+  pub before : l.span.start < l.place → length (told_at_places (register_in l.reference l.totals) l.history l.fn.self.firm l.span.start (l.place - 1)) ≤ l.span.most

@@ -8,7 +8,7 @@ use Rattle.gu_book.proofs.notices.Mailbox.tell_lines.Goals as goal
 pub loop-number-preserved : goal.loop-number-preserved
 loop-number-preserved c =
     let tell = told_of_line (register_in c.args.reference.now c.args.totals.now) in
-    let first = c.args.first in
+    let first = c.get-from.result in
     let n = c.loop-number.number - first in
     let here : c.loop-number.number ≡ first + n = omega (arith, c.loop-number.auto.number) in
     let next : suc n ≡ c.loop-number.number + 1 - first = omega (arith, c.loop-number.auto.number) in

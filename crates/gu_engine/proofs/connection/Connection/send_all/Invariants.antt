@@ -9,5 +9,7 @@ invariant-loop-notice g l = record {
   text : List ℕ;
   collected : l.output.items ≡ l.initial.output.items ++ text;
   answered : AnswersEach (SendsNotice l.now) l.initial.self l.yielded text l.self;
+  next : l.self.next ≡ l.initial.self.next;
+  behind : l.self.is_behind ≡ l.initial.self.is_behind;
   whole : l.fn.notices.items ≡ l.yielded ++ l.notice-iterator.rest.items;
 }

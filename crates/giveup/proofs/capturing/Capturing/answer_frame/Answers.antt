@@ -1,6 +1,6 @@
 use Rattle.std.proofs.Common.{[], inr, sym, append-nil}
 use Rattle.giveup.proofs.Capturings.{acknowledged, passes_faulty, passes_unsaid, passes_unsent, said, unsaid}
-use Rattle.giveup.proofs.capturing.CapturingAnswerer.answer.Goals as goal
+use Rattle.giveup.proofs.capturing.Capturing.answer_frame.Goals as goal
 
 pub returns-then-is_some : goal.returns-then-is_some
 returns-then-is_some c = ([], sym (append-nil c.args.output.now.items), inr (passes_faulty c.args.self.now c.args.frame _ _ c.in_ok-fields.ensures (sym c.if-is_some.ensures)))
@@ -14,4 +14,4 @@ returns-in-None c = ([], sym (append-nil c.args.output.now.items), inr (passes_u
 pub returns-in-Some-sender : goal.returns-in-Some-sender
 returns-in-Some-sender c =
     acknowledged c.acknowledge.result c.args.self.now c.acknowledge.new.self c.args.frame _ _ c.in-Some-sender.firm c.in-Some.report c.args.output.now.items c.acknowledge.new.output.items
-    c.in_ok-fields.ensures (sym c.if-is_some.ensures) (said _ c.in_ok-report.field-0 c.in-Some.report c.in_ok-report.ensures c.in-Some.is) c.in-Some-sender.ensures c.acknowledge.ensures.text c.acknowledge.ensures.behind
+    c.in_ok-fields.ensures (sym c.if-is_some.ensures) (said _ c.in_ok-report.field-0 c.in-Some.report c.in_ok-report.ensures c.in-Some.is) c.in-Some-sender.ensures c.acknowledge.ensures.text c.acknowledge.ensures.after

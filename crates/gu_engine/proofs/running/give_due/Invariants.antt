@@ -1,0 +1,15 @@
+use Rattle.std.proofs.Common.{[], ℕ, List}
+use Rattle.gu_engine.specs.Running.{AnswersSome}
+use Rattle.gu_engine.specs.Sends.{Gives}
+use Rattle.gu_engine.proofs.running.give_due.Given as goal
+
+-- some of what is due was given
+abbrev pub invariant-parts : goal.invariant-parts
+invariant-parts g l = record {
+  text : List ℕ;
+  some : AnswersSome g.A.Answerer.engine l.now l.initial.answerer [] text l.answerer;
+  gives : Gives text l.initial.output.items l.output.items (g.W.Write.contents l.initial.writer) (g.W.Write.contents l.writer);
+}
+
+abbrev pub decreases-parts : goal.decreases-parts
+decreases-parts g l = g.A.Answerer.parts_left l.answerer

@@ -1,0 +1,6 @@
+//! Houses that connections of firms talk to: a book of its own.
+#![tactic(auto)]
+
+mod over_book;
+
+pub use over_book::OverBook;

@@ -1,0 +1,88 @@
+//! A book as a house.
+
+ghost use Rattle.std.specs.Prelude.{◌≡◌, ◌⊎◌};
+ghost use Rattle.gu_houses.specs.BookHouse.{IsEntered, IsLeftOut};
+
+use gu_book::{Answer, AskError, Book, EnterError};
+use gu_engine::House;
+use gu_msgs::Request;
+use gu_session::{Failure, Outcome};
+use gu_terms::{Command, FirmId, Stretch};
+use std::alloc::AllocError;
+use std::marker::Model;
+
+/// A book as a house: whatever is asked of it is answered at once. To a contract it is the book.
+pub struct OverBook {
+    book: Book,
+}
+
+impl Drop for OverBook {
+    fn drop(self) {
+        let OverBook { book } = self;
+        drop(book);
+    }
+}
+
+impl Model for OverBook {
+    ghost use Rattle.gu_book.specs.Kept.{Kept};
+
+    ghost Value = { Kept };
+
+    ghost view = { λ house. house.book };
+}
+
+impl OverBook {
+    /// The house of a book.
+    pub fn new(book: Book) -> Self
+        ensures { result ≡ book }
+    {
+        OverBook { book }
+    }
+
+    /// Its book.
+    pub fn book(&self) -> &Book
+        ensures { result.now ≡ self.now }
+    {
+        &self.book
+    }
+
+    /// Its book, which outlives it.
+    pub fn into_book(self) -> Book
+        ensures { result ≡ self }
+    {
+        let OverBook { book } = self;
+        book
+    }
+
+    /// Enters a command, and says what became of it.
+    fn enter(&mut self, command: &Command) -> Outcome
+        ensures { IsEntered self.old command.now result self.new ⊎ IsLeftOut self.old result self.new }
+    {
+        match self.book.reply_to(command) {
+            Ok(reply) => Outcome::Replied(reply),
+            Err(EnterError::Full) => Outcome::Failed(Failure::Full),
+            Err(EnterError::Memory) => Outcome::Failed(Failure::Memory),
+        }
+    }
+}
+
+impl House for OverBook {
+    ghost use Rattle.gu_houses.specs.BookHouse.{rules_of_book};
+
+    ghost rules = { rules_of_book };
+
+    fn answer(&mut self, request: Request) -> Result<Outcome, AllocError> {
+        match request {
+            Request::Enter(command) => Ok(self.enter(&command)),
+            Request::Ask(query) => match self.book.answer(query) {
+                Ok(Answer::Positions(rows)) => Ok(Outcome::Positions(rows)),
+                Err(AskError::Memory) => Err(AllocError),
+                Ok(_) | Err(AskError::UnknownGroup) => Ok(Outcome::Positions(None)),
+            },
+        }
+    }
+
+    fn notices(&mut self, firm: &FirmId, from: u64) -> Result<Stretch, AllocError> {
+        self.book.stretch(*firm, from)
+    }
+}
