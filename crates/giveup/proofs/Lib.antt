@@ -1,16 +1,4 @@
 pub mod Capturings
 pub mod Checkings
-pub mod Exchanging
-pub mod Holding
-pub mod InTurn
 pub mod Joining
-pub mod Parting
-pub mod ReplayLooks
-pub mod ReplayPieces
-pub mod ReplayRuns
-pub mod ReplaySteps
-pub mod ReplayTexts
-pub mod ScriptLaws
-pub mod Servings
 pub mod WordLemmas
-pub mod Writing

@@ -1,26 +1,19 @@
 -- The check of a sweep sheet: the verdict on it as a line, or its first bad line.
 use Rattle.std.specs.Prelude.{◌≡◌, ℕ, ◌⊎◌, List, [], OnOk, Option, Result, Ok, Err}
 use Rattle.std.specs.Io.KnownBytes.{Consumes, Appends, Keeps, IsAtEnd}
+use Rattle.gu_streams.specs.Written.{WrotePart}
 use Rattle.gu_text.specs.Sheets.{IsSheet, Refuses}
 use Rattle.gu_text.specs.Verdicts.{verdict_text}
-use Rattle.gu_text.specs.declared.error.TextError.{TextError}
 use Rattle.gu_text.specs.declared.error.TextError.TheVariants as text_error
 use Rattle.gu_text.specs.declared.sheet.Sheet.{Sheet}
 use Rattle.gu_terms.specs.Takes.{lots_of}
 use Rattle.gu_view.specs.Check.{verdict}
 use Rattle.gu_view.specs.Takes.{IsGreatest}
 use Rattle.gu_view.specs.declared.error.CutFault.{CutFault}
+use Rattle.gu_script.specs.Streams.{Streams}
 use Rattle.giveup.specs.Input.{ReadsAll}
-use Rattle.giveup.specs.Serving.{WrotePart}
-use Rattle.giveup.specs.declared.error.EngineError.{EngineError}
-use Rattle.giveup.specs.declared.error.EngineError.TheVariants.{Memory, BadLine}
 use Rattle.giveup.specs.declared.status.Status.{Status}
 use Rattle.giveup.specs.declared.status.Status.TheVariants.{Done, Fault}
-
--- why the engine stops where a text is no sheet
-abbrev pub error_of : TextError → EngineError
-error_of text_error.Memory = Memory
-error_of (text_error.BadLine number) = BadLine number
 
 -- a text is a sheet, and this is the verdict on its takes and its cut; takes that are right are greatest
 pub record IsVerdictOn (text : List ℕ) (answer : Result ℕ CutFault) : Type 0 where
@@ -34,31 +27,31 @@ abbrev pub status_after : Result ℕ CutFault → Status
 status_after (Ok lots) = Done
 status_after (Err fault) = Fault
 
--- all that the reader had is a sheet, the line of the verdict on it was written, and the status tells of the verdict
-pub record Checked (status : Status) (input_old input_new output_old output_new : Option (List ℕ)) : Type 0 where
+-- all that the reader had is a sheet, the line of the verdict on it was written, and the status is the verdict's
+pub record Checked (status : Status) (streams : Streams) : Type 0 where
   pub read : List ℕ
   pub answer : Result ℕ CutFault
-  pub all : ReadsAll input_old input_new read
+  pub all : ReadsAll streams.input_old streams.input_new read
   pub on_sheet : IsVerdictOn read answer
-  pub appended : Appends output_old output_new (verdict_text answer)
+  pub appended : Appends streams.output_old streams.output_new (verdict_text answer)
   pub status_is : status ≡ status_after answer
 
 -- all that the reader had is no sheet, because of this line, and nothing was written
-pub record HasBadLine (number : ℕ) (input_old input_new output_old output_new : Option (List ℕ)) : Type 0 where
+pub record HasBadLine (number : ℕ) (streams : Streams) : Type 0 where
   pub read : List ℕ
-  pub all : ReadsAll input_old input_new read
+  pub all : ReadsAll streams.input_old streams.input_new read
   pub refused : Refuses read (text_error.BadLine number)
-  pub nothing : Keeps output_old output_new
+  pub nothing : Keeps streams.output_old streams.output_new
 
 -- a line says nothing, or it is the line of the verdict on what was read, where this is all that the reader had
 abbrev pub MaySay : List ℕ → Option (List ℕ) → List ℕ → Type 0
 MaySay read input line =
     (line ≡ []) ⊎ (IsAtEnd input × (answer : Result ℕ CutFault) × IsVerdictOn read answer × (line ≡ verdict_text answer))
 
--- what was written is a front of such a line
-pub record CheckedFront (input_old input_new output_old output_new : Option (List ℕ)) : Type 0 where
+-- what was written is a prefix of such a line
+pub record CheckedInPart (streams : Streams) : Type 0 where
   pub read : List ℕ
   pub line : List ℕ
-  pub consumed : Consumes input_old input_new read
-  pub says : MaySay read input_new line
-  pub wrote : WrotePart line output_old output_new
+  pub consumed : Consumes streams.input_old streams.input_new read
+  pub says : MaySay read streams.input_new line
+  pub wrote : WrotePart line streams.output_old streams.output_new

@@ -1,15 +1,8 @@
 pub mod Capture
 pub mod Checking
-pub mod Exchange
 pub mod Houses
 pub mod Input
 pub mod PositionText
 pub mod ProgramWords
-pub mod Replaying
 pub mod RunErrors
-pub mod ScriptPieces
-pub mod ScriptRuns
-pub mod ScriptSteps
-pub mod Sends
-pub mod Serving
 pub mod Statuses

@@ -1,13 +1,13 @@
 -- Why the program ends with status 1.
+use Rattle.gu_streams.specs.declared.error.StreamError.TheVariants.{Memory}
 use Rattle.gu_ref.specs.declared.error.RefFault.{RefFault}
 use Rattle.gu_ref.specs.declared.error.RefFault.TheVariants as fault
-use Rattle.giveup.specs.declared.error.EngineError.TheVariants.{Memory}
 use Rattle.giveup.specs.declared.error.RunError.{RunError}
-use Rattle.giveup.specs.declared.error.RunError.TheVariants.{Reference, Engine}
+use Rattle.giveup.specs.declared.error.RunError.TheVariants.{Reference, Stream}
 
 -- a reference that wasn't read for want of memory is a want of memory; any other fault is the reference's
 abbrev pub error_after : RefFault → RunError
-error_after fault.Memory = Engine Memory
+error_after fault.Memory = Stream Memory
 error_after (fault.BadRow line) = Reference (fault.BadRow line)
 error_after (fault.Unknown line) = Reference (fault.Unknown line)
 error_after (fault.Twice line) = Reference (fault.Twice line)

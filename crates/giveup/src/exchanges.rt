@@ -2,7 +2,7 @@
 
 use crate::clock::Moments;
 use crate::connection::Connection;
-use crate::engines::{book_behind, told_of};
+use crate::engines::{book_after, told_of};
 use crate::error::EngineError;
 use crate::fixing::fix;
 use crate::house::House;
@@ -127,7 +127,7 @@ fn check_case(rt: &impl Abort, alloc: Global, besides: &str, case: &str) {
     let (head, connections) = case.split_once("\nfirm ").unwrap_or((case, ""));
     let (name, rest) = head.split_once(": ").unwrap_or((head, ""));
     let (script, entries) = columns(rest);
-    let mut book = book_behind(alloc, script).expect(rt, "a book");
+    let mut book = book_after(alloc, script).expect(rt, "a book");
     for text in connections.split("\nfirm ") {
         let desk = Desk {
             alloc,
@@ -155,7 +155,7 @@ pub fn told_behind(
     talk: &Talk,
     terms: Terms,
 ) -> Result<String, AllocError> {
-    let Ok(mut book) = book_behind(alloc, script) else {
+    let Ok(mut book) = book_after(alloc, script) else {
         return Err(AllocError);
     };
     let desk = Desk {

@@ -4,7 +4,8 @@ ghost use Rattle.std.specs.Prelude.{◌≡◌, Some, IfOk};
 ghost use Rattle.gu_ref.specs.File.{IsReadFrom};
 ghost use Rattle.giveup.specs.declared.sample.TheConstants.{ROWS};
 
-use gu_ref::{CountedReads, RefFault, Reference};
+use gu_ref::{RefFault, Reference};
+use gu_streams::CountedReads;
 use gu_terms::Day;
 use std::alloc::Global;
 

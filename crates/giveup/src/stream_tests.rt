@@ -7,7 +7,6 @@ use crate::rows::{
 };
 use crate::streams::wire;
 use crate::terms::{AMPLE, Terms};
-use crate::transcripts::{answers_of, script_of, whole};
 use std::alloc::{AllocError, Global};
 use std::process::Abort;
 
@@ -49,7 +48,7 @@ fn two_reports_make_a_trade_however_they_are_cut_and_what_was_answered_stays(rt:
 }
 
 /// Bytes that begin no message, one a read, and then the two reports.
-fn told_behind_thousands(alloc: Global) -> Result<String, AllocError> {
+fn told_after_thousands(alloc: Global) -> Result<String, AllocError> {
     let input = format!(in alloc; "(x*3000){REPORTS}")?;
     told_of_text(alloc, Engine::Capture, &input, Terms::of("piece 1"))
 }
@@ -59,8 +58,8 @@ fn reports_are_answered_after_thousands_of_reads(rt: HostRuntime) {
     let expected = front_told(rt.alloc(), "done: 232", POSITIONS).expect(&rt, "memory");
     check_told(
         &rt,
-        "behind 3,000 bytes",
-        told_behind_thousands(rt.alloc()),
+        "after 3,000 bytes",
+        told_after_thousands(rt.alloc()),
         &expected,
     );
 }
@@ -90,16 +89,22 @@ fn a_sheet_may_come_in_pieces_and_a_failing_read_leaves_nothing_written(rt: Host
     check_cuts(&rt, alloc, Engine::Check, SHEET, "OK 0/");
 }
 
-/// A script with comments, empty lines and a CR before an LF, and what answers it.
-const SPACED: &str = "\
-# A day is opened./
-@opened/
-/
-@trade_10/
-GIVEUP E1 L1 R1 A1 10/< 8 OK OFFERS 1 1/
-SWEEP G1/< 9 SWEPT G1 10/
-@sheet_of_10/
-POSITION A1 XF6\r/< POSITION A1 XF6 10 0/";
+/// A script with comments, empty lines and a CR before an LF, and, on lines that begin with `< `, what answers it.
+const SPACED: &str =
+    "# A day is opened./DAY 20260105/< 1 OK/LIMIT G1 EXEC E1 100/< 2 OK/LIMIT G1 AGR P1 100/< 3 OK/LIMIT G1 ACCT A1 100/< 4 OK/LIMIT G1 CARRY C1 100/< 5 OK//REPORT E1 R1 M1 B XF6 10 101.5 H1/< 6 OK OPEN/REPORT E2 R2 M1 S XF6 10 101.5 H2/< 7 OK MATCHED/GIVEUP E1 L1 R1 A1 10/< 8 OK OFFERS 1 1/SWEEP G1/< 9 SWEPT G1 10/< SHEET G1 6/< OFFER 1 10 P1 E1 A1 C1/< ROOM EXEC E1 100/< ROOM AGR P1 100/< ROOM ACCT A1 100/< ROOM CARRY C1 100/< TAKE 1 10/< CUT OFFER 1/< END/POSITION A1 XF6\r/< POSITION A1 XF6 10 0/";
+
+/// The script of `SPACED`, and what answers it.
+fn spaced(alloc: Global) -> Result<(String, String), AllocError> {
+    let mut script = String::new(alloc);
+    let mut answers = String::new(alloc);
+    for line in SPACED.split_inclusive('/') {
+        match line.strip_prefix("< ") {
+            Some(text) => answers.push_str(text)?,
+            None => script.push_str(line)?,
+        }
+    }
+    Ok((script, answers))
+}
 
 /// Cut in pieces.
 const REPLAYS: &str = "\
@@ -113,11 +118,9 @@ piece 4096 -> done: all
 #[test]
 fn a_script_is_answered_alike_however_it_is_cut(rt: HostRuntime) {
     let alloc = rt.alloc();
-    let transcript = whole(alloc, SPACED).expect(&rt, "memory");
-    let script = script_of(alloc, &transcript).expect(&rt, "memory");
-    let answers = answers_of(alloc, &transcript).expect(&rt, "memory");
-    check_terms(&rt, alloc, Engine::Replay(""), &script, &answers, REPLAYS);
-    check_cuts(&rt, alloc, Engine::Replay(""), &script, &answers);
+    let (script, answers) = spaced(alloc).expect(&rt, "memory");
+    check_terms(&rt, alloc, Engine::Replay, &script, &answers, REPLAYS);
+    check_cuts(&rt, alloc, Engine::Replay, &script, &answers);
 }
 
 /// Asserts that a script that comes byte by byte, and fails at one of these reads, is answered so.
@@ -137,7 +140,7 @@ fn check_reads(
             reads,
             ..AMPLE
         };
-        let told = told_of_text(alloc, Engine::Replay(""), script, terms);
+        let told = told_of_text(alloc, Engine::Replay, script, terms);
         check_numbered(rt, alloc, reads, told, &expected);
     }
 }
@@ -145,11 +148,10 @@ fn check_reads(
 #[test]
 fn the_lines_that_came_are_answered_where_the_reader_fails(rt: HostRuntime) {
     let alloc = rt.alloc();
-    let transcript = whole(alloc, SPACED).expect(&rt, "memory");
-    let script = script_of(alloc, &transcript).expect(&rt, "memory");
+    let (script, _) = spaced(alloc).expect(&rt, "memory");
     let mut came: usize = 0;
     let mut answers = String::new(alloc);
-    for line in transcript.split_inclusive('/') {
+    for line in SPACED.split_inclusive('/') {
         if let Some(text) = line.strip_prefix("< ") {
             answers.push_str(text).expect(&rt, "memory");
         } else {
@@ -161,30 +163,30 @@ fn the_lines_that_came_are_answered_where_the_reader_fails(rt: HostRuntime) {
     assert_eq!(rt; came, script.len());
 }
 
-/// What is told of a script whose answers are taken in so many writes of at most sixteen bytes.
+/// What is told of a script whose answers are taken in this many writes of at most sixteen bytes.
 fn told_in_writes(alloc: Global, script: &str, writes: usize) -> Result<String, AllocError> {
     let terms = Terms {
         most: 16,
         writes,
         ..AMPLE
     };
-    told_of_text(alloc, Engine::Replay(""), script, terms)
+    told_of_text(alloc, Engine::Replay, script, terms)
 }
 
-/// What is to be told where so many writes are too few.
-fn front_in_writes(alloc: Global, answers: &str, writes: usize) -> Result<String, AllocError> {
+/// What is to be told where this many writes are too few.
+fn prefix_in_writes(alloc: Global, answers: &str, writes: usize) -> Result<String, AllocError> {
     let taken = format!(in alloc; "write fault: {}", writes.saturating_mul(16))?;
     front_told(alloc, &taken, answers)
 }
 
-/// Asserts that what so few writes take is a front of the text.
+/// Asserts that what too few writes take is a prefix of the text.
 fn check_few(rt: &impl Abort, alloc: Global, script: &str, answers: &str, writes: usize) {
-    let expected = front_in_writes(alloc, answers, writes).expect(rt, "memory");
+    let expected = prefix_in_writes(alloc, answers, writes).expect(rt, "memory");
     let told = told_in_writes(alloc, script, writes);
     check_numbered(rt, alloc, writes, told, &expected);
 }
 
-/// Asserts that so many writes are enough.
+/// Asserts that this many writes are enough.
 fn check_enough(rt: &impl Abort, alloc: Global, script: &str, answers: &str, writes: usize) {
     let expected = front_told(alloc, "done: all", answers).expect(rt, "memory");
     let told = told_in_writes(alloc, script, writes);
@@ -192,11 +194,9 @@ fn check_enough(rt: &impl Abort, alloc: Global, script: &str, answers: &str, wri
 }
 
 #[test]
-fn what_the_writer_took_is_a_front_of_the_text(rt: HostRuntime) {
+fn what_the_writer_took_is_a_prefix_of_the_text(rt: HostRuntime) {
     let alloc = rt.alloc();
-    let transcript = whole(alloc, SPACED).expect(&rt, "memory");
-    let script = script_of(alloc, &transcript).expect(&rt, "memory");
-    let answers = answers_of(alloc, &transcript).expect(&rt, "memory");
+    let (script, answers) = spaced(alloc).expect(&rt, "memory");
     // A text that is written at once.
     let enough = answers.len().div_ceil(16);
     for writes in 0..enough {
@@ -221,10 +221,10 @@ DAY 20260105/\r -> bad line 2: 1 OK/
 
 #[test]
 fn the_last_line_may_lack_its_end(rt: HostRuntime) {
-    check(&rt, rt.alloc(), Engine::Replay(""), "", LAST_LINES);
+    check(&rt, rt.alloc(), Engine::Replay, "", LAST_LINES);
 }
 
-/// A day, and behind it a comment of so many bytes.
+/// A day, and after it a comment of 1,024 bytes or more.
 const COMMENTS: &str = "\
 DAY 20260105/(#*1024) -> done: 1 OK/
 DAY 20260105/(#*1024)\r/ -> done: 1 OK/
@@ -232,20 +232,20 @@ DAY 20260105/(#*1025) -> bad line 2: 1 OK/
 DAY 20260105/(#*1025)\r/ -> bad line 2: 1 OK/
 ";
 
-/// The same where the reader fails behind the comment: a line that may end well waits, and one that can't is refused.
+/// The same where the reader fails after the comment: a line that may end well waits, and one that can't is refused.
 const COMMENTS_WITHOUT_END: &str = "\
 DAY 20260105/(#*1024) -> read fault: 1 OK/
 DAY 20260105/(#*1025) -> read fault: 1 OK/
 DAY 20260105/(#*1026) -> bad line 2: 1 OK/
 ";
 
-/// And behind a longer one.
+/// And after a longer one.
 const LONGER_COMMENT: &str = "DAY 20260105/(#*10000) -> bad line 2: 1 OK/";
 
 #[test]
 fn a_line_that_is_too_long_is_refused_before_it_ends(rt: HostRuntime) {
     let alloc = rt.alloc();
-    let replay = Engine::Replay("");
+    let replay = Engine::Replay;
     check(&rt, alloc, replay, "", COMMENTS);
     // In pieces of 512 bytes: three, and twenty.
     check(

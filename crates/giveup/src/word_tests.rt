@@ -1,6 +1,7 @@
 //! Words of the command line, each with what it asks for.
 
 use crate::engines::end_text;
+use crate::error::RunError;
 use crate::rows::{check_told, columns};
 use crate::words::{Task, answer, firm_named, read};
 use clap::Error;
@@ -80,7 +81,7 @@ fn answer_text(alloc: Global, error: &Error, is_closed: bool) -> Result<String, 
         out: Cell::new(0),
         err: Cell::new(0),
     };
-    let end = end_text(alloc, answer(&streams, error))?;
+    let end = end_text(alloc, answer(&streams, error).map_err(RunError::from))?;
     format!(in alloc; "{end} {} {}", streams.out.get(), streams.err.get())
 }
 

@@ -5,10 +5,10 @@ ghost use Rattle.clap.specs.Words.{FailsBy, app_of, fault_of, first_value, found
 ghost use Rattle.clap.specs.declared.error.kind.ErrorKind.TheVariants.{OutOfMemory};
 ghost use Rattle.giveup.specs.ProgramWords.{Captures, Checks, Reads, check_shape, fix_shape, needed, program, replay_shape, script_rule, status_of, wanted_by, wanted_in, wanted_of};
 
-use crate::error::EngineError;
 use crate::status::Status;
 use clap::error::ErrorKind;
 use clap::{Arg, ArgMatches, Command, Error};
+use gu_streams::StreamError;
 use gu_terms::FirmId;
 use std::alloc::{AllocError, Global};
 use std::convert::AsStr;
@@ -198,16 +198,16 @@ pub fn given<R: Env + Alloc<A = Global>>(rt: &R) -> Result<Vec<String>, Error> {
 }
 
 /// Says why the words ask for no task, or shows the help that they ask for, and gives the status.
-pub fn answer<R: Print + Eprint>(rt: &R, error: &Error) -> Result<Status, EngineError>
+pub fn answer<R: Print + Eprint>(rt: &R, error: &Error) -> Result<Status, StreamError>
     ensures status { IfOk result (λ status. status ≡ status_of (kind_of error.now)) }
-    ensures memory { kind_of error.now ≡ OutOfMemory → result ≡ Err EngineError.Memory }
+    ensures memory { kind_of error.now ≡ OutOfMemory → result ≡ Err StreamError.Memory }
 {
     if error.kind() == ErrorKind::OutOfMemory {
-        return Err(EngineError::Memory);
+        return Err(StreamError::Memory);
     }
-    // Where a refusal can't be written, the status alone tells of it.
+    // Where a refusal can't be written, the status alone shows it.
     if error.print(rt).is_err() && !error.use_stderr() {
-        return Err(EngineError::Write);
+        return Err(StreamError::Write);
     }
     Ok(if error.use_stderr() {
         Status::Refused

@@ -1,5 +1,5 @@
 use Rattle.std.proofs.KnownBytes.{Consumes-trans}
-use Rattle.giveup.proofs.Writing.{on_err_from}
+use Rattle.gu_streams.proofs.Writing.{on_err_from}
 use Rattle.giveup.proofs.input.read_all.Goals as goal
 
 pub returns-in_err-extend_from_slice-in-Ok-clause-part : goal.returns-in_err-extend_from_slice-in-Ok-clause-part

@@ -1,5 +1,5 @@
 use Rattle.std.specs.Io.KnownBytes.{Consumes}
-use Rattle.gu_ref.specs.Reads.{bytes_left, reads_left}
+use Rattle.gu_streams.specs.Reads.{bytes_left, reads_left}
 use Rattle.giveup.proofs.input.read_all.Given as goal
 
 abbrev pub invariant-reading : goal.invariant-reading

@@ -1,5 +1,0 @@
-use Rattle.giveup.proofs.ScriptLaws.{steps_are_a_run}
-use Rattle.giveup.proofs.laws.a_script_is_a_run.Goals as goal
-
-pub returns : goal.returns
-returns c = steps_are_a_run

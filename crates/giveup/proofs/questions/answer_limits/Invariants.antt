@@ -1,7 +1,0 @@
-use Rattle.std.proofs.Common.{◌≡◌, ◌++◌, take}
-use Rattle.std.specs.List.{flat_map}
-use Rattle.gu_text.specs.Rows.{limit_text}
-use Rattle.giveup.proofs.questions.answer_limits.Given as goal
-
-abbrev pub invariant-loop-row : goal.invariant-loop-row
-invariant-loop-row l = l.output.items ≡ l.initial.output.items ++ flat_map (limit_text l.group) (take l.row-index l.row-items)

@@ -1,0 +1,53 @@
+//! What the files of a run hold: a reference, and the world that a script leads to.
+
+use crate::error::RunError;
+use crate::replaying::played;
+use gu_book::Book;
+use gu_ref::{RefFault, Reference};
+use gu_streams::{CountedReads, StreamError};
+use std::alloc::Global;
+use std::fs::File;
+use std::io;
+use std::rt::Files;
+
+/// The file of a path.
+fn file_at<R: Files>(rt: &R, path: &str) -> Result<R::File, StreamError> {
+    match File::open(rt, path) {
+        Ok(file) => Ok(file),
+        Err(error) if error.kind() == io::ErrorKind::OutOfMemory => Err(StreamError::Memory),
+        Err(_) => Err(StreamError::Read),
+    }
+}
+
+/// The reference of a file.
+pub fn reference_at<R: Files + Alloc<A = Global>>(
+    rt: &R,
+    path: &str,
+) -> Result<Reference, RefFault> {
+    match file_at(rt, path) {
+        Ok(file) => Reference::read(rt.alloc(), &mut CountedReads::new(file)),
+        Err(StreamError::Memory) => Err(RefFault::Memory),
+        Err(_) => Err(RefFault::ReadFault),
+    }
+}
+
+/// The book that the script of a file leads to, or one without entries.
+pub fn book_after<R: Files + Alloc<A = Global>>(
+    rt: &R,
+    reference: Reference,
+    script: Option<&str>,
+) -> Result<Book, RunError> {
+    let Some(path) = script else {
+        return Ok(Book::new(rt.alloc(), reference));
+    };
+    match file_at(rt, path) {
+        Ok(file) => {
+            let world = played(rt.alloc(), reference, &mut CountedReads::new(file))?;
+            Ok(world.into_book())
+        }
+        Err(error) => {
+            drop(reference);
+            Err(RunError::from(error))
+        }
+    }
+}

@@ -1,0 +1,235 @@
+//! A machine of the tests' own: words, files, standard streams, and a clock at nine on 2026-01-05.
+
+use std::alloc::{Allocator, Global};
+use std::cell::Cell;
+use std::env::FillError;
+use std::fmt::Display;
+use std::fs::{Metadata, OpenFile, OpenOptions};
+use std::io::{self, BufRead, Error, ErrorKind, Lines, Read, Seek, SeekFrom, Write};
+use std::rt::{Clock, Env, Files};
+use std::time::Duration;
+
+/// What a machine is given, and what it is told.
+#[derive(Drop)]
+pub struct Machine<'a> {
+    pub alloc: Global,
+    pub words: &'a [&'a str],
+    /// What each file holds, by its path.
+    pub files: &'a [(&'a str, &'a [u8])],
+    pub input: &'a [u8],
+    /// Whether standard error takes nothing.
+    pub is_closed: bool,
+    pub out: Cell<Vec<u8>>,
+    pub err: Cell<Vec<u8>>,
+    /// The paths that were opened, each with a blank after it.
+    pub opened: Cell<Vec<u8>>,
+}
+
+/// Appends bytes to what a cell holds.
+fn append(alloc: Global, held: &Cell<Vec<u8>>, bytes: &[u8]) -> io::Result<()> {
+    let mut all = held.replace(Vec::new(alloc));
+    let appended = all.extend_from_slice(bytes);
+    drop(held.replace(all));
+    Ok(appended?)
+}
+
+/// What no run asks of a machine.
+fn unsupported<T>() -> io::Result<T> {
+    Err(Error::from(ErrorKind::Unsupported))
+}
+
+impl Machine<'_> {
+    /// Appends a value to standard error.
+    fn say<D: Display + Drop>(&self, value: D, end: &str) -> io::Result<()> {
+        if self.is_closed {
+            drop(value);
+            return Err(Error::from(ErrorKind::BrokenPipe));
+        }
+        let text = format!(in self.alloc; "{value}{end}")?;
+        append(self.alloc, &self.err, text.as_bytes())
+    }
+}
+
+impl Alloc for Machine<'_> {
+    type A = Global;
+
+    fn alloc(&self) -> Global {
+        self.alloc
+    }
+}
+
+impl Print for Machine<'_> {
+    fn print<D: Display + Drop>(&self, value: D) -> io::Result<()> {
+        let text = format!(in self.alloc; "{value}")?;
+        append(self.alloc, &self.out, text.as_bytes())
+    }
+
+    fn println<D: Display + Drop>(&self, value: D) -> io::Result<()> {
+        let text = format!(in self.alloc; "{value}\n")?;
+        append(self.alloc, &self.out, text.as_bytes())
+    }
+
+    fn write_all(&self, bytes: &[u8]) -> io::Result<()> {
+        append(self.alloc, &self.out, bytes)
+    }
+}
+
+impl Eprint for Machine<'_> {
+    fn eprint<D: Display + Drop>(&self, value: D) -> io::Result<()> {
+        self.say(value, "")
+    }
+
+    fn eprintln<D: Display + Drop>(&self, value: D) -> io::Result<()> {
+        self.say(value, "\n")
+    }
+}
+
+impl<'a> Input for Machine<'a> {
+    type Reader = &'a [u8];
+
+    fn read_line<A: Allocator + Clone>(&self, buf: &mut String<A>) -> io::Result<usize> {
+        self.reader().read_line(buf)
+    }
+
+    fn lines<A: Allocator>(&self, alloc: A) -> Lines<&'a [u8], A> {
+        self.reader().lines(alloc)
+    }
+
+    fn reader(&self) -> &'a [u8] {
+        self.input
+    }
+}
+
+impl Clock for Machine<'_> {
+    fn monotonic(&self) -> io::Result<Duration> {
+        unsupported()
+    }
+
+    fn since_1970(&self) -> io::Result<Duration> {
+        Ok(Duration::from_millis(1_767_603_600_000))
+    }
+}
+
+/// A text in the place of a value of the environment.
+fn fill(text: &str, buf: &mut [u8]) -> Result<usize, FillError> {
+    let bytes = text.as_bytes();
+    if bytes.len() > buf.len() {
+        return Err(FillError::TooLong);
+    }
+    buf[..bytes.len()].copy_from_slice(bytes);
+    Ok(bytes.len())
+}
+
+impl Env for Machine<'_> {
+    fn arg(&self, i: usize, buf: &mut [u8]) -> Result<usize, FillError> {
+        match self.words.get(i) {
+            Some(word) => fill(word, buf),
+            None => Err(FillError::NotPresent),
+        }
+    }
+
+    fn var(&self, _name: &str, _buf: &mut [u8]) -> Result<usize, FillError> {
+        Err(FillError::NotPresent)
+    }
+
+    fn var_at(&self, _i: usize, _buf: &mut [u8]) -> Result<usize, FillError> {
+        Err(FillError::NotPresent)
+    }
+}
+
+/// A file that is only read.
+#[derive(Drop)]
+pub struct Text<'a> {
+    bytes: &'a [u8],
+}
+
+impl Read for Text<'_> {
+    fn read(&mut self, buf: &mut [u8]) -> io::Result<usize> {
+        self.bytes.read(buf)
+    }
+}
+
+impl Write for Text<'_> {
+    fn write(&mut self, _buf: &[u8]) -> io::Result<usize> {
+        unsupported()
+    }
+
+    fn flush(&mut self) -> io::Result<()> {
+        unsupported()
+    }
+}
+
+impl Seek for Text<'_> {
+    fn seek(&mut self, _to: SeekFrom) -> io::Result<u64> {
+        unsupported()
+    }
+}
+
+impl OpenFile for Text<'_> {
+    fn metadata(&self) -> io::Result<Metadata> {
+        unsupported()
+    }
+
+    fn set_len(&self, _size: u64) -> io::Result<()> {
+        unsupported()
+    }
+
+    fn sync_all(&self) -> io::Result<()> {
+        unsupported()
+    }
+
+    fn sync_data(&self) -> io::Result<()> {
+        unsupported()
+    }
+}
+
+impl<'a> Files for Machine<'a> {
+    type File = Text<'a>;
+
+    type Dir = Text<'a>;
+
+    fn open_file(&self, _how: &OpenOptions, path: &str) -> io::Result<Text<'a>> {
+        append(self.alloc, &self.opened, path.as_bytes())?;
+        append(self.alloc, &self.opened, b" ")?;
+        match self.files.iter().find(|file| file.0 == path) {
+            Some(file) => Ok(Text { bytes: file.1 }),
+            None => Err(Error::from(ErrorKind::NotFound)),
+        }
+    }
+
+    fn open_dir(&self, _path: &str) -> io::Result<Text<'a>> {
+        unsupported()
+    }
+
+    fn metadata(&self, _path: &str) -> io::Result<Metadata> {
+        unsupported()
+    }
+
+    fn symlink_metadata(&self, _path: &str) -> io::Result<Metadata> {
+        unsupported()
+    }
+
+    fn copy(&self, _from: &str, _to: &str) -> io::Result<u64> {
+        unsupported()
+    }
+
+    fn rename(&self, _from: &str, _to: &str) -> io::Result<()> {
+        unsupported()
+    }
+
+    fn remove_file(&self, _path: &str) -> io::Result<()> {
+        unsupported()
+    }
+
+    fn create_dir(&self, _path: &str) -> io::Result<()> {
+        unsupported()
+    }
+
+    fn remove_dir(&self, _path: &str) -> io::Result<()> {
+        unsupported()
+    }
+
+    fn remove_dir_all<B: Allocator>(&self, _alloc: B, _path: &str) -> io::Result<()> {
+        unsupported()
+    }
+}

@@ -1,0 +1,117 @@
+//! Runs of the program: what joins its words, files and streams with its engines.
+
+use crate::capturing::capture;
+use crate::checking::check;
+use crate::error::RunError;
+use crate::files::{book_after, reference_at};
+use crate::fixing::fix;
+use crate::progress::Told;
+use crate::replaying::replay;
+use crate::sample::{sample_day, sample_reference};
+use crate::status::Status;
+use crate::words::{Task, answer, firm_named, given, read};
+use gu_engine::{Connection, SystemClock};
+use gu_streams::{CountedReads, StreamError};
+use gu_terms::FirmId;
+use std::alloc::Global;
+use std::io;
+use std::io::Write;
+use std::rt::{Clock, Env, Files};
+
+/// Trade capture on the sample, from standard input to standard output.
+fn run_capture<R: Input + Print + Alloc<A = Global>>(rt: &R) -> Result<Status, RunError> {
+    let alloc = rt.alloc();
+    let reference = sample_reference(alloc)?;
+    let mut reads = CountedReads::new(rt.reader());
+    let mut writer = io::writer(rt);
+    capture(alloc, reference, sample_day(), &mut reads, &mut writer)?;
+    Ok(Status::Done)
+}
+
+/// The check of a sheet, from standard input to standard output.
+fn run_check<R: Input + Print + Alloc<A = Global>>(rt: &R) -> Result<Status, RunError> {
+    let mut reads = CountedReads::new(rt.reader());
+    let mut writer = io::writer(rt);
+    Ok(check(rt.alloc(), &mut reads, &mut writer)?)
+}
+
+/// The script on standard input, answered on standard output, on the reference of a file.
+fn run_replay<R: Input + Print + Files + Alloc<A = Global>, T: Write + Drop>(
+    rt: &R,
+    path: &str,
+    terminal: Option<T>,
+) -> Result<Status, RunError> {
+    let reference = reference_at(rt, path)?;
+    let mut reads = CountedReads::new(Told::new(rt.reader(), terminal));
+    let mut writer = io::writer(rt);
+    replay(rt.alloc(), reference, &mut reads, &mut writer)?;
+    Ok(Status::Done)
+}
+
+/// One session of a firm, over standard input and output, on the reference of a file, after a script, where one is named.
+fn run_fix<R: Input + Print + Files + Clock + Alloc<A = Global>>(
+    rt: &R,
+    firm: FirmId,
+    path: &str,
+    script: Option<&str>,
+) -> Result<Status, RunError> {
+    let alloc = rt.alloc();
+    let book = book_after(rt, reference_at(rt, path)?, script)?;
+    let firms = Vec::from_slice(alloc, &[firm]).map_err(StreamError::from)?;
+    let mut connection = Connection::new(alloc, firms, book, SystemClock::new(rt));
+    let mut reads = CountedReads::new(rt.reader());
+    let mut writer = io::writer(rt);
+    fix(alloc, &mut connection, &mut reads, &mut writer)?;
+    Ok(Status::Done)
+}
+
+/// Does what these words ask for.
+fn perform<R: Input + Print + Eprint + Files + Clock + Alloc<A = Global>, T: Write + Drop>(
+    rt: &R,
+    words: &[String],
+    terminal: Option<T>,
+) -> Result<Status, RunError> {
+    match read(rt.alloc(), words) {
+        Ok(Task::Capture) => run_capture(rt),
+        Ok(Task::Check) => run_check(rt),
+        Ok(Task::Replay { reference }) => run_replay(rt, reference, terminal),
+        Ok(
+            Task::Fix {
+                firm,
+                reference,
+                script,
+            },
+        ) => match firm_named(rt.alloc(), firm) {
+            Ok(firm) => run_fix(rt, firm, reference, script),
+            Err(error) => answer(rt, &error).map_err(RunError::from),
+        },
+        Err(error) => answer(rt, &error).map_err(RunError::from),
+    }
+}
+
+/// Does what the words of this run ask for.
+fn run<R: Input + Print + Eprint + Env + Files + Clock + Alloc<A = Global>, T: Write + Drop>(
+    rt: &R,
+    terminal: Option<T>,
+) -> Result<Status, RunError> {
+    match given(rt) {
+        Ok(words) => perform(rt, words.as_slice(), terminal),
+        Err(error) => answer(rt, &error).map_err(RunError::from),
+    }
+}
+
+/// Does what the words of this run ask for, and gives its status; why it failed is said on standard error. The progress of a long
+/// script is noted at a terminal, where there is one.
+pub fn status_of<
+    R: Input + Print + Eprint + Env + Files + Clock + Alloc<A = Global>,
+    T: Write + Drop,
+>(rt: &R, terminal: Option<T>) -> Status {
+    match run(rt, terminal) {
+        Ok(status) => status,
+        Err(error) => {
+            // Where this can't be written, the status alone shows the fault.
+            let _ = eprintln!(rt; "giveup: {error}");
+            Status::Fault
+        }
+    }
+}

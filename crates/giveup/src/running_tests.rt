@@ -1,0 +1,97 @@
+//! Runs of the program on a machine of the tests' own. A row is the words, ` < ` and standard input; and, after ` -> `, the status, the paths
+//! that were opened, `; `, standard output, `; ` and standard error. `/` ends a line, and `|` is SOH. The file `house` is the sample, `bad` has
+//! an eighteenth row that is none, `day` opens a day, and the second line of `two` is bad.
+
+use crate::machine::Machine;
+use crate::rows::{check_told, columns};
+use crate::running::status_of;
+use crate::sample::ROWS;
+use crate::status::Status;
+use crate::streams::{shown, wire};
+use std::alloc::{AllocError, Global};
+use std::cell::Cell;
+use std::process::Abort;
+
+/// Each task, and each fault of one.
+const RUNS: &str = "\
+giveup < 8=FIXT.1.1|9=117|35=AE|49=E1|56=GIVEUP|34=1|52=20260105-09:00:00|571=R1|880=M1|55=XF6|32=0010.0|31=101.50|75=20260105|552=1|54=1|1=H1|10=222|8=FIXT.1.1|9=112|35=AE|49=E2|56=GIVEUP|34=1|52=20260105-09:00:00|571=R2|880=M1|55=XF6|32=10|31=101.5|75=20260105|552=1|54=2|1=H2|10=239| -> 0 ; 8=FIXT.1.1|9=72|35=AR|49=GIVEUP|56=E1|34=1|52=20260105-00:00:00.000|571=R1|880=M1|939=0|10=121|8=FIXT.1.1|9=72|35=AR|49=GIVEUP|56=E2|34=2|52=20260105-00:00:00.000|571=R2|880=M1|939=0|10=124|POSITION H1 XF6 10 0/POSITION H2 XF6 0 10/;
+giveup check < SHEET G1 0/END/ -> 0 ; OK 0/;
+giveup check < SHEET G1 6/OFFER 1 7 P1 E1 A1 C1/ROOM EXEC E1 100/ROOM AGR P1 100/ROOM ACCT A1 100/ROOM CARRY C1 100/TAKE 1 8/CUT OFFER 1/END/ -> 1 ; FAULT 1 OverOffer 1/;
+giveup check < SHEET G1 0/ -> 1 ; ; giveup: bad line 2/
+giveup replay house < DAY 20260105/ -> 0 house ; 1 OK/;
+giveup replay house < DAY 20260105/DAY/ -> 1 house ; 1 OK/; giveup: bad line 2/
+giveup replay gone < DAY 20260105/ -> 1 gone ; ; giveup: reference: ReadFault/
+giveup replay bad < DAY 20260105/ -> 1 bad ; ; giveup: reference: BadRow 18/
+giveup fix E1 house < 8=FIXT.1.1|9=66|35=A|49=E1|56=GIVEUP|34=1|52=20260105-09:00:00|98=0|108=30|1137=9|10=004| -> 0 house ; 8=FIXT.1.1|9=70|35=A|49=GIVEUP|56=E1|34=1|52=20260105-09:00:00.000|98=0|108=30|1137=9|10=189|;
+giveup fix E1 house --script day < 8=FIXT.1.1|9=66|35=A|49=E1|56=GIVEUP|34=1|52=20260105-09:00:00|98=0|108=30|1137=9|10=004|8=FIXT.1.1|9=112|35=AE|49=E1|56=GIVEUP|34=2|52=20260105-09:00:00|571=R1|880=M1|55=XF6|32=10|31=101.5|75=20260105|552=1|54=1|1=H1|10=236| -> 0 house day ; 8=FIXT.1.1|9=70|35=A|49=GIVEUP|56=E1|34=1|52=20260105-09:00:00.000|98=0|108=30|1137=9|10=189|8=FIXT.1.1|9=72|35=AR|49=GIVEUP|56=E1|34=2|52=20260105-09:00:00.000|571=R1|880=M1|939=0|10=131|;
+giveup fix E1 house --script gone < x -> 1 house gone ; ; giveup: read fault/
+giveup fix E1 house --script two < x -> 1 house two ; ; giveup: bad line 2/
+giveup fix E1 lost --script gone < x -> 1 lost ; ; giveup: reference: ReadFault/
+giveup fix e1 lost < x -> 2 ; ; error: invalid value for '<FIRM>': a firm is 1 to 12 of A-Z, 0-9 and -//Usage: giveup [COMMAND]//For more information, try '--help'./
+giveup check --help < x -> 0 ; Checks the sweep sheet on standard input: prints OK and its lots, or its first fault//Usage: giveup check//Options:/  -h, --help  Print help/;
+giveup sweep < x -> 2 ; ; error: unrecognized subcommand 'sweep'//Usage: giveup [COMMAND]//For more information, try '--help'./
+";
+
+/// The same where standard error takes nothing: the status alone shows the fault.
+const UNHEARD: &str = "\
+giveup check < SHEET G1 0/ -> 1 ; ;
+giveup sweep < x -> 2 ; ;
+";
+
+/// What a run on a machine did.
+fn run(machine: Machine<'_>) -> Result<String, AllocError> {
+    let alloc = machine.alloc;
+    let number = match status_of(&machine, None::<Vec<u8>>) {
+        Status::Done => 0,
+        Status::Fault => 1,
+        Status::Refused => 2,
+    };
+    let opened = shown(alloc, &machine.opened.replace(Vec::new(alloc)))?;
+    let out = shown(alloc, &machine.out.replace(Vec::new(alloc)))?;
+    let err = shown(alloc, &machine.err.replace(Vec::new(alloc)))?;
+    drop(machine);
+    format!(in alloc; "{number} {opened}; {out}; {err}")
+}
+
+/// What a run with these words and this input does.
+fn told(alloc: Global, row: &str, is_closed: bool) -> Result<String, AllocError> {
+    let (words, input) = row.split_once(" < ").unwrap_or((row, ""));
+    let words = Vec::from_iter(alloc, words.split(' '))?;
+    let input = wire(alloc, input)?;
+    let mut bad = Vec::from_slice(alloc, ROWS)?;
+    bad.extend_from_slice(b"FIRM\n")?;
+    run(Machine {
+        alloc,
+        words: &words,
+        files: &[
+            ("house", ROWS),
+            ("bad", &bad),
+            ("day", b"DAY 20260105\n"),
+            ("two", b"DAY 20260105\nDAY\n"),
+        ],
+        input: input.as_bytes(),
+        is_closed,
+        out: Cell::new(Vec::new(alloc)),
+        err: Cell::new(Vec::new(alloc)),
+        opened: Cell::new(Vec::new(alloc)),
+    })
+}
+
+/// Asserts that the run of each row does what the row says.
+fn check(rt: &impl Abort, alloc: Global, is_closed: bool, table: &str) {
+    for row in table.lines() {
+        let (run, expected) = columns(row);
+        let told = told(alloc, run, is_closed).expect(rt, "memory");
+        check_told(rt, row, String::from_str(alloc, told.trim_end()), expected);
+    }
+}
+
+#[test]
+fn each_task_has_its_status_its_output_and_its_fault_on_standard_error(rt: HostRuntime) {
+    check(&rt, rt.alloc(), false, RUNS);
+}
+
+#[test]
+fn a_fault_that_nobody_hears_has_its_status(rt: HostRuntime) {
+    check(&rt, rt.alloc(), true, UNHEARD);
+}

@@ -1,0 +1,6 @@
+pub mod ReplayLooks
+pub mod ReplayPieces
+pub mod ReplayRuns
+pub mod ReplaySteps
+pub mod ReplayTexts
+pub mod ScriptLaws

@@ -1,0 +1,13 @@
+use Rattle.std.proofs.Common.{sym, subst}
+use Rattle.gu_text.specs.declared.script_line.Line.{Line}
+use Rattle.gu_script.specs.ScriptSteps.{AnswersLine}
+use Rattle.gu_script.proofs.ReplaySteps.{line_of_step}
+use Rattle.gu_streams.proofs.Writing.{on_ok_then}
+use Rattle.gu_script.proofs.script.answer_line.Goals as goal
+
+pub returns-in-Step : goal.returns-in-Step
+returns-in-Step c =
+    on_ok_then c.answer_borrowed.result
+    (λ answers. subst (λ (said : Line). AnswersLine c.args.world.now said c.args.output.now.items c.answer_borrowed.new.world c.answer_borrowed.new.output.items) (sym c.in-Step.is)
+    (line_of_step c.args.world.now c.answer_borrowed.new.world c.in-Step.step c.args.output.now.items c.answer_borrowed.new.output.items answers))
+    c.answer_borrowed.ensures

@@ -1,0 +1,24 @@
+use Rattle.std.proofs.Common.{◌≡◌, ℕ, true, false, subst, rules}
+use Rattle.gu_ref.specs.Reference.{is_group}
+use Rattle.gu_world.specs.Runs.{GoesOn}
+use Rattle.gu_world.specs.declared.step.Step.TheVariants.{Commit}
+use Rattle.gu_script.specs.ScriptSteps.{AnswersStep}
+use Rattle.gu_script.proofs.ReplaySteps.{line_of_sweep, line_of_unknown}
+use Rattle.gu_streams.proofs.Writing.{on_ok_then}
+use Rattle.gu_script.proofs.stepping.answer_sweep.Goals as goal
+
+pub returns-then-is_known : goal.returns-then-is_known
+returns-then-is_known c =
+    let known : is_group c.args.world.now.state.book.reference c.args.group ≡ true = search rules in
+    on_ok_then c.answer_step.result
+    (λ answers. line_of_sweep c.args.world.now c.propose.new.world c.answer_step.new.world c.args.group c.args.output.now.items c.answer_step.new.output.items known c.in_ok-propose.ensures
+    (subst (λ (w : ℕ). AnswersStep c.propose.new.world (Commit w) c.args.output.now.items c.answer_step.new.world c.answer_step.new.output.items) c.sweeper.ensures answers))
+    c.answer_step.ensures
+
+pub returns : goal.returns
+returns c =
+    let unknown : is_group c.args.world.now.state.book.reference c.args.group ≡ false = search rules in
+    on_ok_then c.append_unknown_group.result
+    (λ answers. line_of_unknown c.args.world.now c.propose.new.world c.step.new.self c.args.group c.args.output.now.items c.append_unknown_group.new.output.items unknown
+    c.in_ok-propose.ensures (subst (λ (w : ℕ). GoesOn c.propose.new.world (Commit w) c.step.new.self) c.sweeper-2.ensures c.in_ok-step.ensures.stepped) answers)
+    c.append_unknown_group.ensures

@@ -1,0 +1,6 @@
+pub mod Faults
+pub mod Replaying
+pub mod ScriptPieces
+pub mod ScriptRuns
+pub mod ScriptSteps
+pub mod Streams

@@ -1,0 +1,172 @@
+//! A script that is read piece by piece, and answered line by line.
+
+ghost use Rattle.std.specs.Prelude.{◌≡◌, ◌+◌, ◌^◌, ◌<◌, ◌≤◌, ◌++◌, ◌∷◌, [], ℕ, length, OnOk, IsErrOf};
+ghost use Rattle.std.specs.Str.Lines.{strip_carriage_return};
+ghost use Rattle.gu_world.specs.Runs.{beginning};
+ghost use Rattle.gu_text.specs.LineFeeds.{HasNoLineFeed, IsTooLong};
+ghost use Rattle.gu_text.specs.Scripts.{IsBad};
+ghost use Rattle.gu_script.specs.ScriptPieces.{AnswersEnd, AnswersPiece};
+ghost use Rattle.gu_script.specs.ScriptSteps.{AnswersLine, AnswersLines, AnswersSaid};
+
+use crate::questions::{answer_interest, answer_limits, answer_position};
+use crate::stepping::{answer_borrowed, answer_sweep};
+use gu_ref::Reference;
+use gu_text::{Line, TextError, is_too_long, split_at_line_feed, without_return};
+use gu_world::World;
+use std::alloc::{AllocError, Global};
+use std::marker::Model;
+
+/// Does what a line says, and appends its text.
+fn answer_line(world: &mut World, said: &Line, output: &mut Vec<u8>) -> Result<(), AllocError>
+    ensures { OnOk result (AnswersLine world.old said.now output.old.items world.new output.new.items) }
+{
+    match said {
+        Line::Step(step) => answer_borrowed(world, step, output),
+        Line::Sweep(group) => answer_sweep(world, *group, output),
+        Line::Position(account, symbol) => answer_position(world.book(), *account, *symbol, output),
+        Line::Interest(symbol) => answer_interest(world.book(), *symbol, output),
+        Line::Limits(group) => answer_limits(world.book(), *group, output),
+    }
+}
+
+/// A script that is being read: what its lines led to so far, and what waits for more.
+/// To a contract it is a place in a script.
+pub struct Script {
+    alloc: Global,
+    world: World,
+    /// How many lines are done, silent ones too.
+    count: u64,
+    /// The bytes after the last LF.
+    rest: Vec<u8>,
+}
+
+impl Model for Script {
+    ghost use Rattle.gu_text.specs.LineFeeds.{HasNoLineFeed};
+    ghost use Rattle.gu_script.specs.ScriptPieces.{Place};
+
+    ghost Value = { Place };
+
+    ghost view = { λ s. record { course = s.world; count = s.count; rest = s.rest.items } };
+
+    ghost invariant = { λ s. HasNoLineFeed s.rest.items };
+}
+
+// By hand, so that a script is dropped by one call.
+impl Drop for Script {
+    fn drop(self) {
+        let Script {
+            alloc: _,
+            world,
+            count: _,
+            rest,
+        } = self;
+        drop(world);
+        drop(rest);
+    }
+}
+
+impl Script {
+    /// Before the first line, with a book without entries.
+    pub fn new(alloc: Global, reference: Reference) -> Self
+        ensures { result ≡ record { course = beginning reference; count = 0; rest = [] } }
+    {
+        Script {
+            alloc,
+            world: World::new(alloc, reference),
+            count: 0,
+            rest: Vec::new(alloc),
+        }
+    }
+
+    /// Does what the line says that the rest was, which is done with it.
+    fn answer(&mut self, said: Option<Line>, output: &mut Vec<u8>) -> Result<(), AllocError>
+        requires { self.old.count + 1 < 2 ^ 64 }
+        ensures answered { OnOk result (AnswersSaid self.old.course said output.old.items self.new.course output.new.items) }
+        ensures counted { self.new.count ≡ self.old.count + 1 }
+        ensures done { self.new.rest ≡ [] }
+    {
+        self.count += 1;
+        self.rest.clear();
+        match said {
+            Some(said) => {
+                let answered = answer_line(&mut self.world, &said, output);
+                drop(said);
+                answered
+            }
+            None => Ok(()),
+        }
+    }
+
+    /// Answers a line that an LF ends: the rest, and what comes before the LF.
+    fn end_line(&mut self, part: &[u8], output: &mut Vec<u8>) -> Result<(), TextError>
+        requires room { self.old.count + 1 < 2 ^ 64 }
+        requires none { HasNoLineFeed part.now }
+        ensures answered { OnOk result (AnswersLines self.old.course (strip_carriage_return (self.old.rest ++ part.now) ∷ [])
+            output.old.items self.new.course output.new.items) }
+        ensures counted { OnOk result (self.new.count ≡ self.old.count + 1) }
+        ensures done { OnOk result (self.new.rest ≡ []) }
+        ensures bad { (n : ℕ) → IsErrOf result (TextError.BadLine n)
+            → (n ≡ self.old.count + 1) × IsBad (strip_carriage_return (self.old.rest ++ part.now)) × (output.new.items ≡ output.old.items) }
+    {
+        self.rest.extend_from_slice(part)?;
+        let said = Line::read(self.alloc, without_return(&self.rest), self.count + 1)?;
+        self.answer(said, output)?;
+        Ok(())
+    }
+
+    /// Keeps what comes after the last LF, unless it is longer than any good line.
+    fn keep(&mut self, bytes: &[u8]) -> Result<(), TextError>
+        requires room { self.old.count + 1 < 2 ^ 64 }
+        requires none { HasNoLineFeed bytes.now }
+        ensures kept { OnOk result (self.new ≡ record self.old { rest = self.old.rest ++ bytes.now }) }
+        ensures bad { (n : ℕ) → IsErrOf result (TextError.BadLine n) → (n ≡ self.old.count + 1) × IsTooLong (self.old.rest ++ bytes.now) }
+    {
+        self.rest.extend_from_slice(bytes)?;
+        if is_too_long(&self.rest) {
+            return Err(TextError::BadLine(self.count + 1));
+        }
+        Ok(())
+    }
+
+    /// Answers the lines that a piece ends, and keeps what comes after the last LF.
+    pub fn take(&mut self, piece: &[u8], output: &mut Vec<u8>) -> Result<(), TextError>
+        requires { self.old.count + length piece.now + 1 < 2 ^ 64 }
+        ensures answered { AnswersPiece result self.old piece.now output.old.items self.new output.new.items }
+        ensures counted { OnOk result (self.new.count ≤ self.old.count + length piece.now) }
+    {
+        let _waiting = self.rest.len();
+        let mut left = piece;
+        'lines: while let Some((part, after)) = split_at_line_feed(left) {
+            self.end_line(part, output)?;
+            left = after;
+        }
+        self.keep(left)
+    }
+
+    /// Answers what came after the last LF, where nothing more comes.
+    pub fn end(&mut self, output: &mut Vec<u8>) -> Result<(), TextError>
+        requires { self.old.count + 1 < 2 ^ 64 }
+        ensures answered { AnswersEnd result self.old output.old.items self.new.course output.new.items }
+    {
+        if self.rest.is_empty() {
+            return Ok(());
+        }
+        let said = Line::read(self.alloc, &self.rest, self.count + 1)?;
+        self.answer(said, output)?;
+        Ok(())
+    }
+
+    /// The world that the lines led to.
+    pub fn into_world(self) -> World
+        ensures { result ≡ self.course }
+    {
+        let Script {
+            alloc: _,
+            world,
+            count: _,
+            rest,
+        } = self;
+        drop(rest);
+        world
+    }
+}

@@ -1,0 +1,131 @@
+//! Steps of a script, and their texts.
+
+ghost use Rattle.std.specs.Prelude.{◌≡◌, ◌++◌, IfOk, None, OnOk};
+ghost use Rattle.gu_world.specs.declared.outcome.Outcome.TheVariants.{NoGroup};
+ghost use Rattle.gu_world.specs.declared.step.Step.TheVariants.{Enter};
+ghost use Rattle.gu_text.specs.Outcomes.{outcome_text};
+ghost use Rattle.gu_text.specs.declared.script_line.Line.TheVariants as line;
+ghost use Rattle.gu_script.specs.Replaying.{looked, sweeper};
+ghost use Rattle.gu_script.specs.ScriptSteps.{Proposes, ShowsFor, ShowsLook, AnswersLine, AnswersStep};
+
+use gu_terms::{Command, Group};
+use gu_text::texts::{append_last_word, append_word};
+use gu_text::{append_outcome, append_reply};
+use gu_view::View;
+use gu_world::{Answered, Step, Worker, World};
+use std::alloc::AllocError;
+
+/// The group that a step looks at.
+fn looked(step: &Step) -> Option<Group>
+    ensures { result ≡ looked step.now }
+{
+    match step {
+        Step::See(_, group) => Some(*group),
+        _ => None,
+    }
+}
+
+/// The worker that sweeps; no line names it.
+fn sweeper() -> Worker
+    ensures { result ≡ sweeper }
+{
+    match Worker::new(63) {
+        Some(worker) => worker,
+        None => unreachable!(),
+    }
+}
+
+/// A copy of the view that a worker saw.
+fn view_seen(world: &World, worker: Worker) -> Result<Option<View>, AllocError>
+    ensures { IfOk result (λ view. ShowsLook world.now.state worker view) }
+{
+    match world.look(worker) {
+        Some(view) => Ok(Some(view.copy()?)),
+        None => Ok(None),
+    }
+}
+
+/// The view that a sheet shows, should the step commit a sweep.
+fn view_for(world: &World, step: &Step) -> Result<Option<View>, AllocError>
+    ensures { IfOk result (λ view. ShowsFor world.now.state step.now view) }
+{
+    match step {
+        Step::Commit(worker) => view_seen(world, *worker),
+        _ => Ok(None),
+    }
+}
+
+/// Takes a step, and appends what came of it.
+pub fn answer_step(world: &mut World, step: Step, output: &mut Vec<u8>) -> Result<(), AllocError>
+    ensures { OnOk result (AnswersStep world.old step output.old.items world.new output.new.items) }
+{
+    let before = view_for(world, &step)?;
+    let looked = looked(&step);
+    let _steps = world.outcomes().len();
+    let outcome = world.take(step)?;
+    let appended = append_outcome(output, before.as_ref(), looked, &outcome);
+    drop(outcome);
+    appended
+}
+
+/// Enters a command, and appends its reply.
+fn answer_command(
+    world: &mut World,
+    command: &Command,
+    output: &mut Vec<u8>,
+) -> Result<(), AllocError>
+    ensures { OnOk result (AnswersStep world.old (Enter command.now) output.old.items world.new output.new.items) }
+{
+    let _steps = world.outcomes().len();
+    let answered = world.enter(command)?;
+    match answered {
+        Some(Answered { number, reply }) => append_reply(output, number, &reply),
+        None => append_last_word(output, b"FULL"),
+    }
+}
+
+/// Takes a borrowed step, and appends what came of it. Only a step without a command is copied.
+pub fn answer_borrowed(
+    world: &mut World,
+    step: &Step,
+    output: &mut Vec<u8>,
+) -> Result<(), AllocError>
+    ensures { OnOk result (AnswersStep world.old step.now output.old.items world.new output.new.items) }
+{
+    match step {
+        Step::Enter(command) => answer_command(world, command, output),
+        _ => {
+            let step = step.copy()?;
+            answer_step(world, step, output)
+        }
+    }
+}
+
+/// Has the sweeper look at a group and propose for what it saw.
+fn propose(world: &mut World, group: &Group) -> Result<(), AllocError>
+    ensures { OnOk result (Proposes world.old group.now world.new) }
+{
+    world.step(Step::See(sweeper(), *group))?;
+    world.step(Step::Propose(sweeper()))
+}
+
+/// Appends that a group is unknown.
+fn append_unknown_group(output: &mut Vec<u8>) -> Result<(), AllocError>
+    ensures { OnOk result (output.new.items ≡ output.old.items ++ outcome_text None None NoGroup) }
+{
+    append_word(output, b"UNKNOWN")?;
+    append_last_word(output, b"GROUP")
+}
+
+/// Sweeps a group, and appends what came of it.
+pub fn answer_sweep(world: &mut World, group: Group, output: &mut Vec<u8>) -> Result<(), AllocError>
+    ensures { OnOk result (AnswersLine world.old (line.Sweep group) output.old.items world.new output.new.items) }
+{
+    let is_known = world.book().reference().group(group);
+    propose(world, &group)?;
+    if is_known {
+        return answer_step(world, Step::Commit(sweeper()), output);
+    }
+    world.step(Step::Commit(sweeper()))?;
+    append_unknown_group(output)
+}

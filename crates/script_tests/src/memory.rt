@@ -1,0 +1,31 @@
+//! A script in which each allocation fails in turn (`rt try --test --fail-alloc N`). A failure outside the script shows nothing of it.
+
+use crate::plays::told;
+use std::alloc::{AllocError, Global};
+
+/// A short script.
+const SHORT: &str =
+    "DAY 20260105/LIMIT G1 EXEC E1 100/LIMIT G1 AGR P1 100/LIMIT G1 ACCT A1 100/LIMIT G1 CARRY C1 100/REPORT E1 R1 M1 B XF6 7 101.5 H1/REPORT E2 R2 M1 S XF6 7 101.5 H2/GIVEUP E1 L1 R1 A1 7/SWEEP G1/";
+
+/// And what answers it.
+const SHORT_TEXT: &str =
+    "1 OK/2 OK/3 OK/4 OK/5 OK/6 OK OPEN/7 OK MATCHED/8 OK OFFERS 1 1/9 SWEPT G1 7/SHEET G1 6/OFFER 1 7 P1 E1 A1 C1/ROOM EXEC E1 100/ROOM AGR P1 100/ROOM ACCT A1 100/ROOM CARRY C1 100/TAKE 1 7/CUT OFFER 1/END/";
+
+/// Whether the short script, a line or two at a time, is answered, or ends after a prefix of the text. (The output grows too, so that its
+/// writer may fail.)
+fn is_played_or_stops(alloc: Global) -> Result<bool, AllocError> {
+    let told = told(alloc, "", SHORT, 32)?;
+    let (end, text) = told.split_once(": ").unwrap_or((told.as_str(), ""));
+    Ok(match end {
+        "done" => text == SHORT_TEXT,
+        "out of memory" | "write fault" => SHORT_TEXT.starts_with(text),
+        _ => false,
+    })
+}
+
+#[test]
+fn a_failed_allocation_ends_a_script_after_a_prefix_of_the_text(rt: HostRuntime) {
+    for _ in 0..2 {
+        assert!(rt; is_played_or_stops(rt.alloc()).unwrap_or(true));
+    }
+}
