@@ -18,7 +18,6 @@ mod fix_stream_tests;
 #[cfg(test)]
 mod fix_tests;
 mod fixing;
-mod house;
 mod input;
 #[cfg(test)]
 mod largest_tests;
