@@ -11,6 +11,7 @@ use crate::sample::{sample_day, sample_reference};
 use crate::status::Status;
 use crate::words::{Task, answer, firm_named, given, read};
 use gu_engine::{Connection, SystemClock};
+use gu_houses::OverBook;
 use gu_streams::{CountedReads, StreamError};
 use gu_terms::FirmId;
 use std::alloc::Global;
@@ -56,9 +57,9 @@ fn run_fix<R: Input + Print + Files + Clock + Alloc<A = Global>>(
     script: Option<&str>,
 ) -> Result<Status, RunError> {
     let alloc = rt.alloc();
-    let book = book_after(rt, reference_at(rt, path)?, script)?;
+    let house = OverBook::new(book_after(rt, reference_at(rt, path)?, script)?);
     let firms = Vec::from_slice(alloc, &[firm]).map_err(StreamError::from)?;
-    let mut connection = Connection::new(alloc, firms, book, SystemClock::new(rt));
+    let mut connection = Connection::new(alloc, firms, house, SystemClock::new(rt));
     let mut reads = CountedReads::new(rt.reader());
     let mut writer = io::writer(rt);
     fix(alloc, &mut connection, &mut reads, &mut writer)?;
