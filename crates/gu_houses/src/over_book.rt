@@ -83,6 +83,7 @@ impl House for OverBook {
     }
 
     fn notices(&mut self, firm: &FirmId, from: u64) -> Result<Stretch, AllocError> {
-        self.book.stretch(*firm, from)
+        let stretch = self.book.stretch(*firm, from)?;
+        Ok(stretch)
     }
 }
