@@ -1,18 +1,24 @@
 -- What a check wrote.
-use Rattle.std.proofs.Common.{◌≡◌, ℕ, List, [], Option, Result, refl, subst, inl, inr}
+use Rattle.std.proofs.Common.{◌≡◌, ℕ, List, [], Option, Result, refl, sym, subst, inl, inr}
 use Rattle.std.specs.Io.KnownBytes.{Appends}
 use Rattle.gu_streams.specs.Written.{WrotePart}
 use Rattle.gu_streams.proofs.Writing.{wrote_none}
 use Rattle.gu_text.specs.Verdicts.{verdict_text}
 use Rattle.gu_view.specs.declared.error.CutFault.{CutFault}
-use Rattle.gu_script.specs.Streams.{Streams}
+use Rattle.gu_streams.specs.Streams.{Streams}
 use Rattle.giveup.specs.Checking.{Checked, CheckedInPart, IsVerdictOn, status_after}
 use Rattle.giveup.specs.Input.{ReadsAll, ReadsPart}
 use Rattle.giveup.specs.declared.status.Status.{Status}
 
 -- nothing was written
-pub checked_nothing : (i j o : Option (List ℕ)) → ReadsPart i j → CheckedInPart (record { input_old = i; input_new = j; output_old = o; output_new = o })
-checked_nothing i j o part = record { read = part.read; line = []; consumed = part.consumed; says = inl refl; wrote = wrote_none [] o }
+pub checked_nothing : (streams : Streams) → ReadsPart streams.input_old streams.input_new → streams.output_new ≡ streams.output_old → CheckedInPart streams
+checked_nothing streams part same = record {
+  read = part.read;
+  line = [];
+  consumed = part.consumed;
+  says = inl refl;
+  wrote = subst (WrotePart [] streams.output_old) (sym same) (wrote_none [] streams.output_old);
+}
 
 -- a prefix of the verdict's line was written
 pub checked_part : (streams : Streams) (read line : List ℕ) (answer : Result ℕ CutFault) → ReadsAll streams.input_old streams.input_new read → IsVerdictOn read answer → line ≡ verdict_text answer

@@ -10,7 +10,7 @@ use Rattle.gu_terms.specs.Takes.{lots_of}
 use Rattle.gu_view.specs.Check.{verdict}
 use Rattle.gu_view.specs.Takes.{IsGreatest}
 use Rattle.gu_view.specs.declared.error.CutFault.{CutFault}
-use Rattle.gu_script.specs.Streams.{Streams}
+use Rattle.gu_streams.specs.Streams.{Streams}
 use Rattle.giveup.specs.Input.{ReadsAll}
 use Rattle.giveup.specs.declared.status.Status.{Status}
 use Rattle.giveup.specs.declared.status.Status.TheVariants.{Done, Fault}

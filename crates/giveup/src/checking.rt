@@ -5,7 +5,7 @@ ghost use Rattle.std.specs.Io.KnownBytes.{Keeps};
 ghost use Rattle.gu_streams.specs.Reads.{HasStopped};
 ghost use Rattle.gu_text.specs.Sheets.{Refuses};
 ghost use Rattle.gu_text.specs.declared.error.TextError.TheVariants as text_error;
-ghost use Rattle.gu_script.specs.Streams.{streams_of};
+ghost use Rattle.gu_streams.specs.Streams.{streams_of};
 ghost use Rattle.giveup.specs.Checking.{Checked, CheckedInPart, HasBadLine, IsVerdictOn, status_after};
 
 use crate::input::read_all;

@@ -1,6 +1,6 @@
 //! A connection over streams: cut into pieces, with a reader, a writer or a clock that fails, and a long one.
 
-use crate::exchanges::told_behind;
+use crate::exchanges::told_after;
 use crate::rows::{check_told, columns, front_told};
 use crate::talks::Talk;
 use crate::terms::Terms;
@@ -51,7 +51,7 @@ fn check(rt: &impl Abort, alloc: Global, script: &str, talk: &Talk, table: &str)
     for row in table.lines() {
         let (terms, expected) = columns(row);
         let expected = front_told(alloc, expected, &talk.output).expect(rt, "memory");
-        let told = told_behind(alloc, script, talk, Terms::of(terms));
+        let told = told_after(alloc, script, talk, Terms::of(terms));
         check_told(rt, row, told, &expected);
     }
 }

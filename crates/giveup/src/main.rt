@@ -25,6 +25,8 @@ mod largest_tests;
 mod machine;
 #[cfg(test)]
 mod memory_tests;
+#[cfg(test)]
+mod moments;
 mod position_lines;
 mod progress;
 #[cfg(test)]
@@ -56,11 +58,6 @@ use std::io::IsTerminal;
 use std::process::ExitCode;
 
 fn main(rt: HostRuntime) -> ExitCode {
-    let stderr = rt.stderr();
-    let terminal = if stderr.is_terminal() {
-        Some(stderr)
-    } else {
-        None
-    };
+    let terminal = Some(rt.stderr()).filter(|stderr| stderr.is_terminal());
     ExitCode::from(status_of(&rt, terminal))
 }

@@ -1,6 +1,6 @@
 //! A connection in which each allocation fails in turn. A failure outside the engine shows nothing of it.
 
-use crate::exchanges::told_behind;
+use crate::exchanges::told_after;
 use crate::talks::Talk;
 use crate::terms::AMPLE;
 use std::alloc::{AllocError, Global};
@@ -35,7 +35,7 @@ out AR 3 571=R1|880=M1|939=0|";
 fn is_answered_or_stops(alloc: Global) -> Result<bool, AllocError> {
     let twice = Talk::of(alloc, "E1", COMES_TWICE)?;
     let left_out = Talk::of(alloc, "E1", IS_LEFT_OUT)?;
-    let told = told_behind(alloc, "DAY 20260105/", &twice, AMPLE)?;
+    let told = told_after(alloc, "DAY 20260105/", &twice, AMPLE)?;
     let is_left_out = told.strip_prefix("2 entries, done: ") == Some(left_out.output.as_str());
     Ok(is_left_out || is_all_or_prefix(&told, "3 entries, done", &twice.output))
 }

@@ -4,7 +4,7 @@ ghost use Rattle.std.specs.Prelude.{◌≡◌, ℕ, List, IfOk, OnOk, IsErrOf};
 ghost use Rattle.gu_streams.specs.Reads.{bytes_left, HasStopped};
 ghost use Rattle.gu_world.specs.Runs.{Course, beginning};
 ghost use Rattle.gu_script.specs.ScriptRuns.{HasBadLine, Played, Replayed, ReplayedInPart, ReplayedSoFar, StopsAtBadLine};
-ghost use Rattle.gu_script.specs.Streams.{streams_of};
+ghost use Rattle.gu_streams.specs.Streams.{streams_of};
 
 use gu_ref::Reference;
 use gu_script::{ScriptError, play};

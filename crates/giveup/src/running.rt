@@ -57,9 +57,8 @@ fn run_fix<R: Input + Print + Files + Clock + Alloc<A = Global>>(
     script: Option<&str>,
 ) -> Result<Status, RunError> {
     let alloc = rt.alloc();
-    let book = book_after(rt, reference_at(rt, path)?, script)?;
+    let house = OverBook::new(book_after(rt, reference_at(rt, path)?, script)?);
     let firms = Vec::from_slice(alloc, &[firm]).map_err(StreamError::from)?;
-    let house = OverBook::new(book);
     let mut connection = Connection::new(alloc, firms, house, SystemClock::new(rt));
     let mut reads = CountedReads::patient(rt.reader());
     let mut writer = io::writer(rt);

@@ -13,21 +13,12 @@ use Rattle.gu_text.proofs.LineFeedLaws.{leaves_all, leaves_on, leaves_with, line
 use Rattle.gu_script.specs.Replaying.{IsTextOfLines}
 use Rattle.gu_script.specs.ScriptPieces.{AnswersEnd, AnswersPiece, Ended, Gives, Place, StopsInPiece, TakesPiece}
 use Rattle.gu_script.specs.ScriptRuns.{Replayed, ReplayedInPart, ReplayedSoFar, StopsAtBadLine}
-use Rattle.gu_script.specs.Streams.{Streams}
+use Rattle.gu_streams.specs.Streams.{Streams}
 use Rattle.gu_streams.specs.Written.{WrotePart}
 use Rattle.gu_script.specs.declared.error.ScriptError.{ScriptError}
 use Rattle.gu_script.specs.declared.error.ScriptError.TheVariants.{Memory, Read, Write, BadLine}
 use Rattle.gu_script.proofs.ReplayTexts.{lines_none, lines_then}
 use Rattle.gu_streams.proofs.Writing.{wrote_all, wrote_then}
-
--- what was read and written between these
-abbrev between : (input_old input_new output_old output_new : Option (List ℕ)) → Streams
-between input_old input_new output_old output_new = record {
-  input_old = input_old;
-  input_new = input_new;
-  output_old = output_old;
-  output_new = output_new;
-}
 
 module _ (old : Course) where
   -- so far the ended lines of what was read are answered, and their text was written
@@ -84,8 +75,20 @@ module _ (old : Course) where
     appended = run.appended;
   }
 
+module _ (old : Course) (waits_old waits_new : ℕ) where
+  -- what was read and written between these
+  abbrev between : (input_old input_new output_old output_new : Option (List ℕ)) → Streams
+  between input_old input_new output_old output_new = record {
+    input_old = input_old;
+    input_new = input_new;
+    waits_old = waits_old;
+    waits_new = waits_new;
+    output_old = output_old;
+    output_new = output_new;
+  }
+
   -- what is answered is that of the ended lines
-  pub played_so_far : (place : Place) (i j o p : Option (List ℕ)) → Playing place i j o p → ReplayedSoFar old (between i j o p)
+  pub played_so_far : (place : Place) (i j o p : Option (List ℕ)) → Playing old place i j o p → ReplayedSoFar old (between i j o p)
   played_so_far place i j o p run = record {
     read = run.read;
     text = run.text;
@@ -98,7 +101,7 @@ module _ (old : Course) where
   -- ---- prefixes
 
   -- a piece was read, and isn't answered
-  pub in_part_unanswered : (place : Place) (i j k o p : Option (List ℕ)) (piece : List ℕ) → Playing place i j o p → Consumes j k piece → ReplayedInPart old (between i k o p)
+  pub in_part_unanswered : (place : Place) (i j k o p : Option (List ℕ)) (piece : List ℕ) → Playing old place i j o p → Consumes j k piece → ReplayedInPart old (between i k o p)
   in_part_unanswered place i j k o p piece run consumed = record {
     read = run.read ++ piece;
     first = run.ended;
@@ -111,7 +114,7 @@ module _ (old : Course) where
   }
 
   -- all that was read is answered
-  pub in_part_now : (place : Place) (i j o p : Option (List ℕ)) → Playing place i j o p → ReplayedInPart old (between i j o p)
+  pub in_part_now : (place : Place) (i j o p : Option (List ℕ)) → Playing old place i j o p → ReplayedInPart old (between i j o p)
   in_part_now place i j o p run = record {
     read = run.read;
     first = run.ended;
@@ -124,9 +127,9 @@ module _ (old : Course) where
   }
 
   -- a piece was read, lines of it are answered, and a prefix of their text was written
-  in_part_part : (mid : Place) (last : Course) (left : List ℕ) (more_ended : List (List ℕ)) (i j k o p q : Option (List ℕ)) (piece more : List ℕ) → Playing mid i j o p → Consumes j k piece
+  in_part_more : (mid : Place) (last : Course) (left : List ℕ) (more_ended : List (List ℕ)) (i j k o p q : Option (List ℕ)) (piece more : List ℕ) → Playing old mid i j o p → Consumes j k piece
       → LeavesOpen (mid.rest ++ piece) more_ended left → IsTextOfLines mid.course more_ended more last → WrotePart more p q → ReplayedInPart old (between i k o q)
-  in_part_part mid last left more_ended i j k o p q piece more run consumed leaves of_lines part =
+  in_part_more mid last left more_ended i j k o p q piece more run consumed leaves of_lines part =
       let all = leaves_on (run.read ++ piece) (mid.rest ++ piece) left run.ended more_ended (leaves_with run.read piece mid.rest run.ended run.leaves) leaves in
       record {
         read = run.read ++ piece;
@@ -142,7 +145,7 @@ module _ (old : Course) where
   -- ---- bad lines
 
   -- a bad line came with a piece, and the text of the lines before it was written
-  stops_in_piece : (mid : Place) (i j k o p q : Option (List ℕ)) (piece more : List ℕ) (number : ℕ) → Playing mid i j o p → Consumes j k piece → StopsInPiece mid piece more number → Appends p q more
+  stops_in_piece : (mid : Place) (i j k o p q : Option (List ℕ)) (piece more : List ℕ) (number : ℕ) → Playing old mid i j o p → Consumes j k piece → StopsInPiece mid piece more number → Appends p q more
       → StopsAtBadLine old number (between i k o q)
   stops_in_piece mid i j k o p q piece more number run consumed stops sent =
       let all = leaves_on (run.read ++ piece) (mid.rest ++ piece) stops.left run.ended stops.before (leaves_with run.read piece mid.rest run.ended run.leaves) stops.leaves in
@@ -198,34 +201,34 @@ module _ (old : Course) where
   }
 
   -- a piece is answered and given
-  gave_piece : (mid new : Place) (answered : Result (Unit {0}) TextError) (given : Unit {0}) (i j k o p q : Option (List ℕ)) (piece after : List ℕ) → Playing mid i j o p → Consumes j k piece
-      → AnswersPiece answered mid piece [] new after → Gives answered (Ok given) after p q → Playing new i k o q
+  gave_piece : (mid new : Place) (answered : Result (Unit {0}) TextError) (given : Unit {0}) (i j k o p q : Option (List ℕ)) (piece after : List ℕ) → Playing old mid i j o p → Consumes j k piece
+      → AnswersPiece answered mid piece [] new after → Gives answered (Ok given) after p q → Playing old new i k o q
   gave_piece mid new (Ok _) given i j k o p q piece after run consumed (text, appended, takes) sent =
-      playing_more mid new i j k o p q piece text run consumed takes (subst (Appends p q) appended sent)
+      playing_more old mid new i j k o p q piece text run consumed takes (subst (Appends p q) appended sent)
   gave_piece mid new (Err text_error.Memory) given i j k o p q piece after run consumed answers gives = absurd gives
   gave_piece mid new (Err (text_error.BadLine number)) given i j k o p q piece after run consumed answers gives = absurd gives
 
   -- or an error is
-  gave_error : (mid new : Place) (answered : Result (Unit {0}) TextError) (error : ScriptError) (i j k o p q : Option (List ℕ)) (piece after : List ℕ) → Playing mid i j o p → Consumes j k piece
+  gave_error : (mid new : Place) (answered : Result (Unit {0}) TextError) (error : ScriptError) (i j k o p q : Option (List ℕ)) (piece after : List ℕ) → Playing old mid i j o p → Consumes j k piece
       → AnswersPiece answered mid piece [] new after → Gives answered (Err error) after p q → Stopped error i k o q
   gave_error mid new (Ok _) error i j k o p q piece after run consumed (text, appended, takes) (is, part) =
       stopped_by_write i k o q error
-      (in_part_part mid new.course new.rest takes.answers.ended i j k o p q piece text run consumed takes.answers.leaves takes.answers.of_lines (subst (λ (t : List ℕ). WrotePart t p q) appended part)) is
+      (in_part_more mid new.course new.rest takes.answers.ended i j k o p q piece text run consumed takes.answers.leaves takes.answers.of_lines (subst (λ (t : List ℕ). WrotePart t p q) appended part)) is
   gave_error mid new (Err text_error.Memory) error i j k o p q piece after run consumed answers (is, same) =
       stopped_by_memory i k o q error (subst (λ (w : Option (List ℕ)). ReplayedInPart old (between i k o w)) (sym same) (in_part_unanswered mid i j k o p piece run consumed)) is
   gave_error mid new (Err (text_error.BadLine number)) error i j k o p q piece after run consumed (text, appended, stops) (inl (is, sent)) =
       let sent_text = subst (Appends p q) appended sent in
       stopped_at i k o q number error
-      (in_part_part mid stops.last stops.left stops.before i j k o p q piece text run consumed stops.leaves stops.of_lines (wrote_all text p q sent_text))
+      (in_part_more mid stops.last stops.left stops.before i j k o p q piece text run consumed stops.leaves stops.of_lines (wrote_all text p q sent_text))
       (stops_in_piece mid i j k o p q piece text number run consumed stops sent_text) is
   gave_error mid new (Err (text_error.BadLine number)) error i j k o p q piece after run consumed (text, appended, stops) (inr (is, part)) =
       stopped_by_write i k o q error
-      (in_part_part mid stops.last stops.left stops.before i j k o p q piece text run consumed stops.leaves stops.of_lines (subst (λ (t : List ℕ). WrotePart t p q) appended part)) is
+      (in_part_more mid stops.last stops.left stops.before i j k o p q piece text run consumed stops.leaves stops.of_lines (subst (λ (t : List ℕ). WrotePart t p q) appended part)) is
 
   -- ---- the end
 
   -- the reader is at its end: all of the lines are those that were ended and the last
-  in_part_of_all : (place : Place) (last : Course) (i j k o p q : Option (List ℕ)) (more : List ℕ) → Playing place i j o p → Consumes j k [] → IsAtEnd k → IsTextOfLines place.course (lines place.rest) more last
+  in_part_of_all : (place : Place) (last : Course) (i j k o p q : Option (List ℕ)) (more : List ℕ) → Playing old place i j o p → Consumes j k [] → IsAtEnd k → IsTextOfLines place.course (lines place.rest) more last
       → WrotePart more p q → ReplayedInPart old (between i k o q)
   in_part_of_all place last i j k o p q more run consumed end of_lines part = record {
     read = run.read ++ [];
@@ -238,7 +241,7 @@ module _ (old : Course) where
     wrote = wrote_then run.text more o p q run.appended part;
   }
 
-  ended_well : (place : Place) (last : Course) (given : Unit {0}) (i j k o p q : Option (List ℕ)) → Playing place i j o p → Consumes j k [] → IsAtEnd k → Ended (Ok given) place last p q → Replayed old last (between i k o q)
+  ended_well : (place : Place) (last : Course) (given : Unit {0}) (i j k o p q : Option (List ℕ)) → Playing old place i j o p → Consumes j k [] → IsAtEnd k → Ended (Ok given) place last p q → Replayed old last (between i k o q)
   ended_well place last given i j k o p q run consumed end ended = by ended.answered ended.answers ended.gives
     where
       by : (answered : Result (Unit {0}) TextError) → AnswersEnd answered place [] last ended.text → Gives answered (Ok given) ended.text p q → Replayed old last (between i k o q)
@@ -257,14 +260,14 @@ module _ (old : Course) where
       by (Err text_error.Memory) ends sent = absurd sent
       by (Err (text_error.BadLine number)) ends sent = absurd sent
 
-  ended_badly : (place : Place) (last : Course) (error : ScriptError) (i j k o p q : Option (List ℕ)) → Playing place i j o p → Consumes j k [] → IsAtEnd k → Ended (Err error) place last p q → Stopped error i k o q
+  ended_badly : (place : Place) (last : Course) (error : ScriptError) (i j k o p q : Option (List ℕ)) → Playing old place i j o p → Consumes j k [] → IsAtEnd k → Ended (Err error) place last p q → Stopped error i k o q
   ended_badly place last error i j k o p q run consumed end ended = by ended.answered ended.answers ended.gives
     where
       here : ReplayedInPart old (between i k o p)
       here = in_part_unanswered place i j k o p [] run consumed
 
       in_part_with : WrotePart [] p q → ReplayedInPart old (between i k o q)
-      in_part_with part = in_part_part place place.course (place.rest ++ []) [] i j k o p q [] [] run consumed (leaves_all (place.rest ++ [])) (lines_none place.course) part
+      in_part_with part = in_part_more place place.course (place.rest ++ []) [] i j k o p q [] [] run consumed (leaves_all (place.rest ++ [])) (lines_none place.course) part
 
       by : (answered : Result (Unit {0}) TextError) → AnswersEnd answered place [] last ended.text → Gives answered (Err error) ended.text p q → Stopped error i k o q
       by (Ok _) ends (is, part) =
@@ -299,11 +302,11 @@ module _ (old : Course) where
 
   -- after a piece
   abbrev pub AfterPiece : Result (Unit {0}) ScriptError → Place → Option (List ℕ) → Option (List ℕ) → Option (List ℕ) → Option (List ℕ) → Type 0
-  AfterPiece (Ok _) new i k o q = Playing new i k o q
+  AfterPiece (Ok _) new i k o q = Playing old new i k o q
   AfterPiece (Err error) new i k o q = Stopped error i k o q
 
   pub piece_given : (result : Result (Unit {0}) ScriptError) (mid new : Place) (answered : Result (Unit {0}) TextError) (i j k o p q : Option (List ℕ)) (piece before after text : List ℕ) → before ≡ [] → text ≡ after
-      → Playing mid i j o p → Consumes j k piece → AnswersPiece answered mid piece before new after → Gives answered result text p q → AfterPiece result new i k o q
+      → Playing old mid i j o p → Consumes j k piece → AnswersPiece answered mid piece before new after → Gives answered result text p q → AfterPiece result new i k o q
   piece_given (Ok given) mid new answered i j k o p q piece before after text none same run consumed answers gives =
       gave_piece mid new answered given i j k o p q piece after run consumed
       (subst (λ (b : List ℕ). AnswersPiece answered mid piece b new after) none answers) (subst (λ (t : List ℕ). Gives answered (Ok given) t p q) same gives)
@@ -316,7 +319,7 @@ module _ (old : Course) where
   AfterEnd (Ok _) last i k o q = Replayed old last (between i k o q)
   AfterEnd (Err error) last i k o q = Stopped error i k o q
 
-  pub end_given : (result : Result (Unit {0}) ScriptError) (place : Place) (last : Course) (i j k o p q : Option (List ℕ)) (n : ℕ) (buffer : List ℕ) → n ≡ 0 → Playing place i j o p → Consumes j k (take n buffer) → IsAtEnd k
+  pub end_given : (result : Result (Unit {0}) ScriptError) (place : Place) (last : Course) (i j k o p q : Option (List ℕ)) (n : ℕ) (buffer : List ℕ) → n ≡ 0 → Playing old place i j o p → Consumes j k (take n buffer) → IsAtEnd k
       → Ended result place last p q → AfterEnd result last i k o q
   end_given (Ok given) place last i j k o p q n buffer zero run consumed end ended =
       ended_well place last given i j k o p q run (subst (λ (m : ℕ). Consumes j k (take m buffer)) zero consumed) end ended

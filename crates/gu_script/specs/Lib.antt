@@ -3,4 +3,3 @@ pub mod Replaying
 pub mod ScriptPieces
 pub mod ScriptRuns
 pub mod ScriptSteps
-pub mod Streams

@@ -7,7 +7,7 @@ use Rattle.gu_world.specs.Runs.{Course}
 use Rattle.gu_text.specs.LineFeeds.{ended_lines}
 use Rattle.gu_text.specs.Scripts.{IsBad}
 use Rattle.gu_script.specs.Replaying.{IsTextOfLines}
-use Rattle.gu_script.specs.Streams.{Streams}
+use Rattle.gu_streams.specs.Streams.{Streams}
 
 -- all that the reader had is a script that leads from a course to another, with this text
 pub record IsPlayed (old : Course) (text : List ℕ) (new : Course) (input_old input_new : Option (List ℕ)) : Type 0 where

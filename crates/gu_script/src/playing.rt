@@ -5,7 +5,7 @@ ghost use Rattle.gu_streams.specs.Reads.{HasStopped};
 ghost use Rattle.gu_world.specs.Runs.{beginning};
 ghost use Rattle.gu_script.specs.ScriptPieces.{Ended, Gives};
 ghost use Rattle.gu_script.specs.ScriptRuns.{Replayed, ReplayedInPart, ReplayedSoFar, StopsAtBadLine};
-ghost use Rattle.gu_script.specs.Streams.{streams_of};
+ghost use Rattle.gu_streams.specs.Streams.{streams_of};
 
 use crate::error::ScriptError;
 use crate::script::Script;

@@ -1,10 +1,10 @@
-use Rattle.std.proofs.Common.{rules}
+use Rattle.std.proofs.Common.{refl, rules}
 use Rattle.gu_streams.proofs.Writing.{wrote_all}
 use Rattle.giveup.proofs.Checkings.{checked_done, checked_nothing, checked_part}
 use Rattle.giveup.proofs.checking.check.Goals as goal
 
 pub returns-in_err-text-clause-part : goal.returns-in_err-text-clause-part
-returns-in_err-text-clause-part g c = checked_nothing _ _ _ c.in_err-text.ensures.part
+returns-in_err-text-clause-part g c = checked_nothing _ c.in_err-text.ensures.part refl
 
 pub returns-clause-part : goal.returns-clause-part
 returns-clause-part g c =

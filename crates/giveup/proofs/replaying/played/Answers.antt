@@ -2,7 +2,7 @@ use Rattle.std.proofs.Common.{Result, Ok, Err}
 use Rattle.std.specs.Prelude.{IfOk}
 use Rattle.gu_world.specs.Runs.{Course, beginning}
 use Rattle.gu_script.specs.ScriptRuns.{Played, Replayed}
-use Rattle.gu_script.specs.Streams.{Streams}
+use Rattle.gu_streams.specs.Streams.{Streams}
 use Rattle.gu_script.specs.declared.error.ScriptError.{ScriptError}
 use Rattle.giveup.proofs.replaying.played.Goals as goal
 

@@ -2,7 +2,7 @@ use Rattle.std.proofs.Common.{◌≡◌, ap, subst, sym}
 use Rattle.gu_world.specs.Runs.{Course, beginning}
 use Rattle.gu_script.specs.ScriptPieces.{Place}
 use Rattle.gu_script.specs.ScriptRuns.{Replayed, ReplayedInPart, ReplayedSoFar, StopsAtBadLine}
-use Rattle.gu_script.specs.Streams.{streams_of}
+use Rattle.gu_streams.specs.Streams.{streams_of}
 use Rattle.gu_script.specs.declared.error.ScriptError.TheVariants.{BadLine, Read}
 use Rattle.gu_script.proofs.ReplayRuns.{error_moved}
 use Rattle.gu_script.proofs.playing.play.Goals as goal
