@@ -53,7 +53,8 @@ pub fn played<R: Read>(
     reference: Reference,
     reads: &mut CountedReads<R>,
 ) -> Result<World, ScriptError>
-    ensures done { IfOk result (λ world. Played (beginning reference) world (bytes_left R.remaining reads.old) (bytes_left R.remaining reads.new)) }
+    ensures done { IfOk result (λ world. Played (beginning reference) world
+        (bytes_left R.remaining reads.old) (bytes_left R.remaining reads.new)) }
 
     // A line is bad whatever may follow what was read.
     ensures bad_line { (n : ℕ) → IsErrOf result (ScriptError.BadLine n) → (text : List ℕ)

@@ -1,6 +1,6 @@
-//! Runs of the program on a machine of the tests' own. A row is the words, ` < ` and standard input; and, after ` -> `, the status, the paths
-//! that were opened, `; `, standard output, `; ` and standard error. `/` ends a line, and `|` is SOH. The file `house` is the sample, `bad` has
-//! an eighteenth row that is none, `day` opens a day, and the second line of `two` is bad.
+//! Runs of the program on a machine of the tests' own. A row is the words, ` < ` and standard input; and, after ` -> `, the status, the
+//! paths that were opened, `; `, standard output, `; ` and standard error. `/` ends a line, and `|` is SOH. The file `house` is the
+//! sample, `bad` has an eighteenth row that is none, `day` opens a day, and the second line of `two` is bad.
 
 use crate::machine::Machine;
 use crate::rows::{check_told, columns};

@@ -70,7 +70,8 @@ position_answer book account symbol =
 
 -- the open interest of an instrument
 abbrev pub interest_answer : Kept → Symbol → List ℕ
-interest_answer book symbol = if is_instrument book.reference symbol then interest_text symbol (open_interest_of book symbol) else unknown_text
+interest_answer book symbol =
+    if is_instrument book.reference symbol then interest_text symbol (open_interest_of book symbol) else unknown_text
 
 -- the limits that are set in a group, with what is used of them and what is left
 abbrev pub limits_answer : Kept → Group → List ℕ
@@ -103,7 +104,8 @@ pub record HasLineText (old : Course) (said : Line) (text : List ℕ) (new : Cou
 abbrev pub HasText : Course → List Line → List ℕ → Course → Type 0
 HasText old [] text new = (text ≡ []) × (new ≡ old)
 HasText old (said ∷ others) text new =
-    (first : List ℕ) × (rest : List ℕ) × (mid : Course) × HasLineText old said first mid × (text ≡ first ++ rest) × HasText mid others rest new
+    (first : List ℕ) × (rest : List ℕ) × (mid : Course)
+    × HasLineText old said first mid × (text ≡ first ++ rest) × HasText mid others rest new
 
 -- a text of lines from a course to a course: they say steps, sweeps and questions, and it is the text of these
 pub record IsTextOfLines (old : Course) (texts : List (List ℕ)) (text : List ℕ) (new : Course) : Type 0 where

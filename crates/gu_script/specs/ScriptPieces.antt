@@ -51,7 +51,8 @@ pub record StopsInPiece (old : Place) (piece text : List ℕ) (number : ℕ) : T
 -- what became of a piece, and of the output
 abbrev pub AnswersPiece : Result (Unit {0}) TextError → Place → List ℕ → List ℕ → Place → List ℕ → Type 0
 AnswersPiece (Ok _) old piece before new after = (text : List ℕ) × (after ≡ before ++ text) × TakesPiece old piece text new
-AnswersPiece (Err (text_error.BadLine number)) old piece before new after = (text : List ℕ) × (after ≡ before ++ text) × StopsInPiece old piece text number
+AnswersPiece (Err (text_error.BadLine number)) old piece before new after =
+    (text : List ℕ) × (after ≡ before ++ text) × StopsInPiece old piece text number
 AnswersPiece (Err text_error.Memory) old piece before new after = Unit {0}
 
 -- the last line is bad: it is the rest, and nothing more comes
@@ -77,7 +78,8 @@ Gives (Err (text_error.BadLine number)) (Err error) text old new =
     ((error ≡ BadLine number) × Appends old new text) ⊎ ((error ≡ Write) × WrotePart text old new)
 
 -- what came after the last LF is answered, and that was given
-pub record Ended (result : Result (Unit {0}) ScriptError) (old : Place) (new : Course) (output_old output_new : Option (List ℕ)) : Type 0 where
+pub record Ended (result : Result (Unit {0}) ScriptError) (old : Place) (new : Course)
+    (output_old output_new : Option (List ℕ)) : Type 0 where
   pub answered : Result (Unit {0}) TextError
   pub text : List ℕ
   pub answers : AnswersEnd answered old [] new text

@@ -60,7 +60,8 @@ fn answer_all<R: Read, W: Write>(
 ) -> Result<(), ScriptError>
     requires count { script.old.count ≡ 0 }
     requires rest { script.old.rest ≡ [] }
-    ensures done { OnOk result (Replayed script.old.course script.new.course (streams_of R.remaining W.contents reads.old reads.new writer.old writer.new)) }
+    ensures done { OnOk result (Replayed script.old.course script.new.course
+        (streams_of R.remaining W.contents reads.old reads.new writer.old writer.new)) }
     ensures bad_line { (n : ℕ) → IsErrOf result (ScriptError.BadLine n)
         → StopsAtBadLine script.old.course n (streams_of R.remaining W.contents reads.old reads.new writer.old writer.new) }
     ensures answered { IsErrOf result ScriptError.Read
