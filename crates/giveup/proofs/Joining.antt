@@ -45,7 +45,7 @@ pub record AnsweredInPart (old : Capture) (streams : Streams) : Type 0 where
   pub wrote : WrotePart text streams.output_old streams.output_new
 
 -- the frames among events
-frames_in : List Event → List (List ℕ)
+abbrev frames_in : List Event → List (List ℕ)
 frames_in [] = []
 frames_in (Frame frame ∷ events) = frame ∷ frames_in events
 frames_in (Silence ∷ events) = frames_in events
@@ -201,7 +201,7 @@ answered_so_far old new streams served =
       frames = stream.frames;
       text = served.text;
       consumed =
-          subst (Consumes streams.input_old streams.input_new) (ap (λ (f : Option (List ℕ)). concat (turns ++ option_to_list f)) still.0 ∙ ap (concat {A = ℕ}) (append-nil turns)) served.read.consumed;
+          subst (Consumes streams.input_old streams.input_new) (ap (λ (f : Option (List ℕ)). concat (turns ++ option_to_list f)) still.0 ∙ ap (λ (ts : List (List ℕ)). concat ts) (append-nil turns)) served.read.consumed;
       are_frames = stream.are_frames;
       answered = subst (λ (s : Capture). AnswersEach AnswersFrame old stream.frames served.text s) (sym still.1) stream.answered;
       appended = served.appended;
