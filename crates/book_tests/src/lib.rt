@@ -12,6 +12,8 @@ mod claims;
 #[cfg(test)]
 mod commits;
 #[cfg(test)]
+mod extents;
+#[cfg(test)]
 mod files;
 #[cfg(test)]
 mod give_ups;
@@ -36,7 +38,11 @@ mod reversals;
 #[cfg(test)]
 mod sample;
 #[cfg(test)]
+mod seeds;
+#[cfg(test)]
 mod steps;
+#[cfg(test)]
+mod stretches;
 #[cfg(test)]
 mod sweeps;
 #[cfg(test)]

@@ -1,5 +1,6 @@
 //! Questions to a book, and what it tells: line by line.
 
+use crate::extents::tell_extent_of;
 use crate::words::{number, word};
 use gu_book::{Answer, AskError, Book};
 use gu_limits::path;
@@ -221,7 +222,7 @@ fn tell_query(text: &mut Vec<u8>, book: &Book, query: Query) -> Result<(), Alloc
 }
 
 /// Tells the extent of the view of a group.
-fn tell_extent_of(text: &mut Vec<u8>, book: &Book, group: &Group) -> Result<(), AllocError> {
+fn tell_extent_of_view(text: &mut Vec<u8>, book: &Book, group: &Group) -> Result<(), AllocError> {
     match book.view(group) {
         Ok(view) => {
             let told = tell_extent(text, &view);
@@ -242,7 +243,7 @@ fn tell_of_group(
     match kind {
         "COUNT" => tell_limits_of(text, book, true, group),
         "VIEW" => tell_query(text, book, Query::Look { group: *group }),
-        _ => tell_extent_of(text, book, group),
+        _ => tell_extent_of_view(text, book, group),
     }
 }
 
@@ -265,6 +266,7 @@ fn tell_more(text: &mut Vec<u8>, book: &Book, line: &str) -> Option<()> {
             let from = number(line, 2)?;
             tell_query(text, book, Query::Notices { firm, from }).ok()
         }
+        "STRETCH" | "STRETCHES" | "ENTRIES" | "ROWS" => tell_extent_of(text, book, line),
         "HELD" => {
             let firm = FirmId::new(name)?;
             let account = AccountId::new(word(line, 2).as_bytes())?;

@@ -50,6 +50,18 @@ GIVEUP E1 X1 R1 A1 984001 = 80008 NO 11 TooManyLots
 GIVEUP E1 X1 R1 A1 984000 = 80009 OK OFFERS 48001 48001
 CLAIM C1 48001            = 80010 OK LOTS 984000
 POSITION A1 XF6           = 1000000 0
+STRETCHES C1 1            = 110 112002
+STRETCHES E1 1            = 79 64002
+STRETCHES C2 1            = 79 0
+== an account holds a thousand instruments
+FILE the largest
+DAY 20260105              = 1 OK
+EACH 0 1000 1: REPORT N0 B# M# B N# 3 101.5 N5; REPORT N0 S# M# S N# 3 101.5 N6 = OK
+ROWS N0 N5                = 1000 3000 0
+ROWS N0 N6                = 1000 0 3000
+ROWS N0 N7                = 0 0 0
+ROWS N1 N5                = NONE
+STRETCHES N0 1            = 2 2000
 ";
 
 #[test]

@@ -10,6 +10,11 @@
 //! - `HELD E1 H1`: what a firm is told that an account holds
 //! - `PATH P1`: the keys over an agreement
 //! - `NOTICES E1 7`: what a firm is told of the entries from a number on
+//! - `STRETCH E1 7`: of the stretch from a number on whether it is the last one, the number from which to ask next, and how many
+//!   notices it has
+//! - `STRETCHES E1 7`: how many stretches there are from a number on, and how many notices they have: those of `NOTICES E1 7`
+//! - `ROWS E1 H1`: how many instruments an account holds, and the lots of all, long and short
+//! - `ENTRIES`: how many entries are found by their numbers
 //! - `EACH 10 40 3: line; line`: these lines for each third number from 10 up to 40, which stands for `#`, and the next two for
 //!   `#+1` and `#+2`; what is told to each has in it what stands behind ` = `
 //!

@@ -94,7 +94,7 @@ impl Capturing {
             orig_sending_time: None,
             body: answer_to(report, rejection),
         };
-        write_over(self.alloc, room, &message)
+        write_over(self.alloc, room, &message.as_ref())
     }
 
     /// Appends the message that says to a firm what became of its report.

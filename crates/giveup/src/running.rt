@@ -60,7 +60,7 @@ fn run_fix<R: Input + Print + Files + Clock + Alloc<A = Global>>(
     let house = OverBook::new(book_after(rt, reference_at(rt, path)?, script)?);
     let firms = Vec::from_slice(alloc, &[firm]).map_err(StreamError::from)?;
     let mut connection = Connection::new(alloc, firms, house, SystemClock::new(rt));
-    let mut reads = CountedReads::new(rt.reader());
+    let mut reads = CountedReads::patient(rt.reader());
     let mut writer = io::writer(rt);
     fix(alloc, &mut connection, &mut reads, &mut writer)?;
     Ok(Status::Done)

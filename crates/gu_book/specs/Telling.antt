@@ -1,10 +1,14 @@
 -- Machinery: notices, as they are kept for a firm.
-use Rattle.std.specs.Prelude.{◌≡◌, ℕ, ◌+◌, ◌-◌, ◌<◌, ◌≤◌, ◌++◌, List, drop, length, take, Result, OnOk}
-use Rattle.std.specs.Option.{option_map}
+use Rattle.std.specs.Prelude.{◌≡◌, ℕ, ◌+◌, ◌-◌, ◌<◌, ◌≤◌, ◌++◌, ◌||◌, Bool, false, List, drop, length, take, Result, OnOk}
+use Rattle.std.specs.Option.{option_map, option_map_or}
+use Rattle.gu_terms.specs.Same.{same_firm}
 use Rattle.gu_terms.specs.declared.entry.Entry.{Entry}
 use Rattle.gu_terms.specs.declared.firm.FirmId.{FirmId}
 use Rattle.gu_terms.specs.declared.notice.Notice.{Notice}
+use Rattle.gu_terms.specs.declared.offer.Offer.{Offer}
+use Rattle.gu_ref.specs.Reference.{account_row}
 use Rattle.gu_ref.specs.Tables.{Tables}
+use Rattle.gu_ref.specs.declared.accounts.Account.{Account}
 use Rattle.gu_offers.specs.Rows.{Row, row_at}
 use Rattle.gu_book.specs.Notices.{Register, Told, told_from, told_to}
 use Rattle.gu_book.specs.declared.notices.Mailbox.{Mailbox}
@@ -15,6 +19,14 @@ use Rattle.gu_book.specs.declared.totals.Totals.{Totals}
 abbrev pub register_in : Tables → Totals → Register
 register_in reference totals =
     record { reference = reference; reports = totals.trades; offer = λ n. option_map (λ (r : Row). r.offer) (row_at totals.offers n) }
+
+-- a firm gives an offer up, or carries its account
+abbrev pub is_party : Tables → FirmId → Offer → Bool
+is_party reference firm o = same_firm o.firm firm || option_map_or (λ (a : Account). same_firm a.firm firm) (account_row reference o.account) false
+
+-- and so it is with the offer of a number: of no other offer the firm gets a notice
+abbrev pub is_party_to : Register → FirmId → ℕ → Bool
+is_party_to register firm n = option_map_or (is_party register.reference firm) (register.offer n) false
 
 -- once these were told without a refused growth, the firm's are kept behind those before
 pub record IsTold {T E : Type 0} (old new : Mailbox) (result : Result T E) (told : List Told) : Type 0 where

@@ -5,7 +5,7 @@ ghost use Rattle.std.specs.List.{flat_map, range_with_len};
 ghost use Rattle.gu_trades.specs.Reports.{with_match};
 ghost use Rattle.gu_trades.specs.Sides.{reports_in};
 ghost use Rattle.gu_book.specs.Notices.{IsStretchOf, offer_notice, to_both, to_carrier, told_by, told_from, told_of_event, told_of_line, told_of_take, told_of_trade, told_on, told_to};
-ghost use Rattle.gu_book.specs.Telling.{IsTold, IsWalked, register_in};
+ghost use Rattle.gu_book.specs.Telling.{IsTold, IsWalked, is_party, is_party_to, register_in};
 
 use crate::span::Span;
 use crate::totals::Totals;
@@ -63,6 +63,29 @@ impl Mailbox {
         self.tell_carrier(reference, offer, notice)
     }
 
+    /// Whether the firm gives an offer up, or carries its account.
+    fn is_party(&self, reference: &Reference, offer: &Offer) -> bool
+        ensures { result ≡ is_party reference.now self.now.firm offer.now }
+    {
+        if offer.firm == self.firm {
+            return true;
+        }
+        match reference.account(offer.account) {
+            Some(account) => account.firm == self.firm,
+            None => false,
+        }
+    }
+
+    /// Whether the firm is a party to the offer of a number: of no other offer it gets a notice.
+    fn is_party_to(&self, reference: &Reference, totals: &Totals, number: OfferNo) -> bool
+        ensures { result ≡ is_party_to (register_in reference.now totals.now) self.now.firm number }
+    {
+        match totals.offers.get(number) {
+            Some(offer) => self.is_party(reference, &offer),
+            None => false,
+        }
+    }
+
     /// Keeps what an offer's line tells.
     fn tell_line(
         &mut self,
@@ -77,6 +100,9 @@ impl Mailbox {
         let Some(number) = OfferNo::new(number) else {
             return Ok(());
         };
+        if !self.is_party_to(reference, totals, number) {
+            return Ok(());
+        }
         match totals.given(number) {
             Some((offer, report)) => {
                 let notice = offer_notice(number, OfferEvent::Offered, offer.lots, &offer, &report);
@@ -97,6 +123,9 @@ impl Mailbox {
     ) -> Result<(), AllocError>
         ensures { IsTold self.old self.new result (told_of_event (register_in reference.now totals.now) number event lots) }
     {
+        if !self.is_party_to(reference, totals, number) {
+            return Ok(());
+        }
         match totals.given(number) {
             Some((offer, report)) => {
                 let notice = offer_notice(number, event, lots, &offer, &report);

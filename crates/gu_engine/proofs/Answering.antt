@@ -108,7 +108,7 @@ module _ {S : Type 0} (engine : Engine S) (now : ℕ) where
   pub all_none : (old : S) → IsReady engine old → AnswersAll engine now old [] [] old
   all_none old ready = record {
     some = record { events = []; others = []; split = refl; answered = (refl, refl) };
-    all = elim ready [ | inl ready ↦ inl (refl, ready) | inr done ↦ inr done ];
+    all = elim ready [ inl ready ↦ inl (refl, ready) | inr done ↦ inr done ];
   }
 
   -- nothing is left to be done
@@ -143,17 +143,17 @@ module _ {S : Type 0} (engine : Engine S) (now : ℕ) where
 
   -- all that is due
   pub due_all : (old new : S) (text : List ℕ) → AnswersSome engine now old [] text new → IsReady engine new → AnswersAll engine now old [] text new
-  due_all old new text some ready = record { some = some; all = elim ready [ | inl idle ↦ inl ((none_other old new text some).1, idle) | inr done ↦ inr done ] }
+  due_all old new text some ready = record { some = some; all = elim ready [ inl idle ↦ inl ((none_other old new text some).1, idle) | inr done ↦ inr done ] }
 
   -- an event is answered, and then what is due
   pub event_all : (old mid new : S) (event : Event) (text more : List ℕ) → is_more event ≡ false → Answers engine now old event text mid → AnswersAll engine now mid [] more new → AnswersAll engine now old (event ∷ []) (text ++ more) new
   event_all old mid new event text more is step all =
       let both = some_due old mid new (event ∷ []) text more (event_some old mid event text is step).0 (event_some old mid event text is step).1 all.some in
-      record { some = both.0; all = elim all.all [ | inl ready ↦ inl (both.1, ready.1) | inr done ↦ inr done ] }
+      record { some = both.0; all = elim all.all [ inl ready ↦ inl (both.1, ready.1) | inr done ↦ inr done ] }
 
   -- after all of it the engine is ready for more
   pub ready_after : (old new : S) (brought : List Event) (text : List ℕ) → AnswersAll engine now old brought text new → IsReady engine new
-  ready_after old new brought text all = elim all.all [ | inl some ↦ inl some.1 | inr done ↦ inr done ]
+  ready_after old new brought text all = elim all.all [ inl some ↦ inl some.1 | inr done ↦ inr done ]
 
   -- nothing was written
   pub part_none : (old : S) (brought : List Event) (held : List ℕ) (o : Option (List ℕ)) → GivesPart engine now old brought held o o

@@ -1,7 +1,8 @@
 -- The parts of an exchange.
-use Rattle.std.proofs.Common.{◌≡◌, ◌<◌, ◌-◌, ◌^◌, ◌&&◌, not, is_some, if◌then◌else◌, ℕ, Bool, true, false, List, [], ◌∷◌, inl, inr, refl, ap, subst, ◌∙◌, arith}
+use Rattle.std.proofs.Common.{◌≡◌, ◌<◌, ◌-◌, ◌^◌, ◌&&◌, not, is_some, if◌then◌else◌, ℕ, Bool, Option, true, false, List, [], ◌∷◌, inl, inr, refl, ap, subst, ◌∙◌, arith}
 use Rattle.std.specs.List.{flat_map}
 use Rattle.gu_session.specs.Encoded.{AreOutputs, Closes, Response}
+use Rattle.gu_session.specs.Outputs.{bytes_in}
 use Rattle.gu_session.specs.States.{SessionState}
 use Rattle.gu_session.specs.Steps.{StepsWith, responses_of}
 use Rattle.gu_session.specs.declared.input.Input.TheVariants.{End}
@@ -9,7 +10,7 @@ use Rattle.gu_session.specs.declared.output.Asked.{Asked}
 use Rattle.gu_session.specs.declared.output.Output.{Output}
 use Rattle.gu_session.specs.declared.output.Output.TheVariants.{Send, Hand, Close}
 use Rattle.gu_session.specs.declared.plan.Course.{Course}
-use Rattle.gu_engine.specs.Exchange.{EndsSession, TakesInput, bytes_in, firm_of, is_due}
+use Rattle.gu_engine.specs.Exchange.{EndsSession, TakesInput, firm_of, is_due}
 use Rattle.gu_engine.specs.declared.connection.Connection.{Connection}
 
 -- nothing is sent where nothing is given
@@ -47,11 +48,11 @@ fewer false after m n is onwards within = absurd (let e : false ≡ true = is in
 
 module _ {H C : Type 0} where
   -- a connection ends
-  pub ends_session : (old new : Connection H C) (now : ℕ) (handed : List Asked) (text : List ℕ) → TakesInput old End now handed text new → EndsSession old new
-  ends_session old new now handed text takes = record {
+  pub ends_session : (old new : Connection H C) (now : ℕ) (asked : Option Asked) (text : List ℕ) → TakesInput old End now asked text new → EndsSession old new
+  ends_session old new now asked text takes = record {
     now = now;
-    handed = handed;
-    taken = subst (λ (t : List ℕ). TakesInput old End now handed t new) (takes.text_is ∙ end_sends_nothing old.session takes.session now takes.outputs takes.steps) takes;
+    asked = asked;
+    taken = subst (λ (t : List ℕ). TakesInput old End now asked t new) (takes.text_is ∙ end_sends_nothing old.session takes.session now takes.outputs takes.steps) takes;
   }
 
   -- after a stretch that isn't the last, fewer entries may come

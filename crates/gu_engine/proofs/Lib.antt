@@ -2,5 +2,4 @@ pub mod Answering
 pub mod Exchanging
 pub mod Holding
 pub mod InTurn
-pub mod Parting
 pub mod Servings

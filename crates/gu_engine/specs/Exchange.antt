@@ -2,10 +2,11 @@
 use Rattle.std.specs.Prelude.{◌≡◌, ◌||◌, ◌&&◌, ◌∷◌, ◌++◌, ℕ, Bool, true, false, not, is_some, List, [], Option, None, Some}
 use Rattle.std.specs.List.{filter_map, flat_map, list_any}
 use Rattle.std.specs.Io.KnownBytes.{Consumes, Keeps}
-use Rattle.std.specs.Option.{option_map}
+use Rattle.std.specs.Option.{option_map, option_to_list}
 use Rattle.gu_terms.specs.declared.firm.FirmId.{FirmId}
 use Rattle.gu_terms.specs.declared.notice.Notice.{Notice as NoticeOf}
 use Rattle.gu_terms.specs.declared.notice.Stretch.{Stretch}
+use Rattle.gu_session.specs.Outputs.{bytes_in, handed_in, is_close}
 use Rattle.gu_session.specs.States.{SessionState, new_session}
 use Rattle.gu_session.specs.Steps.{StepsWith}
 use Rattle.gu_session.specs.declared.input.Input.{Input}
@@ -13,7 +14,6 @@ use Rattle.gu_session.specs.declared.input.Input.TheVariants.{Frame, Notice, Ans
 use Rattle.gu_session.specs.declared.input.Outcome.{Outcome}
 use Rattle.gu_session.specs.declared.output.Asked.{Asked}
 use Rattle.gu_session.specs.declared.output.Output.{Output}
-use Rattle.gu_session.specs.declared.output.Output.TheVariants.{Send, Hand, Close}
 use Rattle.gu_session.specs.declared.standing.Standing.{Standing}
 use Rattle.gu_streams.specs.Streams.{Streams}
 use Rattle.gu_engine.specs.Houses.{HouseRules}
@@ -21,24 +21,6 @@ use Rattle.gu_engine.specs.Running.{AnswersEach, Engine, Served, ServedInPart, S
 use Rattle.gu_engine.specs.declared.connection.Connection.{Connection}
 use Rattle.gu_engine.specs.declared.event.Event.{Event}
 use Rattle.gu_engine.specs.declared.event.Event.TheVariants as event
-
--- the bytes that a session gives to be sent
-abbrev pub bytes_in : Output → List ℕ
-bytes_in (Send bytes) = bytes.items
-bytes_in (Hand asked) = []
-bytes_in Close = []
-
--- what it hands out
-abbrev pub handed_in : Output → Option Asked
-handed_in (Send bytes) = None
-handed_in (Hand asked) = Some asked
-handed_in Close = None
-
--- the close
-abbrev pub is_close : Output → Bool
-is_close (Send bytes) = false
-is_close (Hand asked) = false
-is_close Close = true
 
 -- the firm that is logged on
 abbrev pub firm_of : SessionState → Option FirmId
@@ -54,33 +36,38 @@ module _ {H C : Type 0} where
     pub nothing_due : connection.is_behind ≡ false
     pub is_open : connection.is_over ≡ false
 
-  -- A session takes an input at a moment: this is handed out, and these bytes are sent. With a close the connection is over.
-  pub record TakesInput (old : Connection H C) (input : Input) (now : ℕ) (handed : List Asked) (text : List ℕ) (new : Connection H C) : Type 0 where
+  -- A session takes an input at a moment: this is asked of the house, and these bytes are sent. With a close the connection is over.
+  pub record TakesInput (old : Connection H C) (input : Input) (now : ℕ) (asked : Option Asked) (text : List ℕ) (new : Connection H C) : Type 0 where
     pub outputs : List Output
     pub session : SessionState
     pub steps : StepsWith old.session input now outputs session
-    pub handed_is : handed ≡ filter_map handed_in outputs
+    pub asked_is : option_to_list asked ≡ filter_map handed_in outputs
     pub text_is : text ≡ flat_map bytes_in outputs
     pub new_is : new ≡ record old { session = session; is_over = old.is_over || list_any is_close outputs }
 
-  -- what is handed out is answered by the house at once, and the session takes the answer
+  -- what is asked of the house is answered at once, and the session takes the answer
   pub record AnswersAsked (rules : HouseRules H) (now : ℕ) (old : Connection H C) (asked : Asked) (text : List ℕ) (new : Connection H C) : Type 0 where
     pub outcome : Outcome
     pub house : H
     pub answered : rules.answers old.house asked.what outcome house
-    pub handed : List Asked
-    pub taken : TakesInput (record old { house = house }) (Answer asked.reference outcome) now handed text new
+    pub further : Option Asked
+    pub taken : TakesInput (record old { house = house }) (Answer asked.reference outcome) now further text new
 
-  -- A frame: what the session sends, and the answers to what it hands out. Then the firm is behind with its notices.
+  -- where nothing is asked, nothing is sent
+  abbrev pub AnswersAny : HouseRules H → ℕ → Connection H C → Option Asked → List ℕ → Connection H C → Type 0
+  AnswersAny rules now old None text new = (text ≡ []) × (new ≡ old)
+  AnswersAny rules now old (Some asked) text new = AnswersAsked rules now old asked text new
+
+  -- A frame: what the session sends, and the answer to what it asks. Then the firm is behind with its notices.
   pub record AnswersFrame (rules : HouseRules H) (now : ℕ) (old : Connection H C) (frame text : List ℕ) (new : Connection H C) : Type 0 where
-    pub asked : List Asked
+    pub asked : Option Asked
     pub heard : Connection H C
     pub answered : Connection H C
     pub sent : List ℕ
-    pub answers : List ℕ
+    pub answer : List ℕ
     pub hears : TakesInput old (Frame frame) now asked sent heard
-    pub answers_each : AnswersEach (AnswersAsked rules now) heard asked answers answered
-    pub parts : text ≡ sent ++ answers
+    pub answers : AnswersAny rules now heard asked answer answered
+    pub parts : text ≡ sent ++ answer
     pub new_is : new ≡ record answered { is_behind = true }
 
   -- the reader has nothing for now: the firm is behind with what others did
@@ -90,8 +77,8 @@ module _ {H C : Type 0} where
 
   -- a notice is sent
   pub record SendsNotice (now : ℕ) (old : Connection H C) (notice : NoticeOf) (text : List ℕ) (new : Connection H C) : Type 0 where
-    pub handed : List Asked
-    pub taken : TakesInput old (Notice notice) now handed text new
+    pub asked : Option Asked
+    pub taken : TakesInput old (Notice notice) now asked text new
 
   -- the firm that is logged on is sent a stretch of the notices that it hasn't had, and is behind until it has had the last
   pub record TellsStretch (rules : HouseRules H) (now : ℕ) (old : Connection H C) (text : List ℕ) (new : Connection H C) : Type 0 where
@@ -109,14 +96,14 @@ module _ {H C : Type 0} where
 
   -- a turn is over: time has passed
   pub record Ticks (now : ℕ) (old : Connection H C) (text : List ℕ) (new : Connection H C) : Type 0 where
-    pub handed : List Asked
-    pub taken : TakesInput old Tick now handed text new
+    pub asked : Option Asked
+    pub taken : TakesInput old Tick now asked text new
 
   -- the session is told that nothing more comes, and sends nothing
   pub record EndsSession (old new : Connection H C) : Type 0 where
     pub now : ℕ
-    pub handed : List Asked
-    pub taken : TakesInput old End now handed [] new
+    pub asked : Option Asked
+    pub taken : TakesInput old End now asked [] new
 
   -- a turn begins at the moment that the clock gives next
   pub record BeginsAt (ahead : C → Option (List ℕ)) (old : Connection H C) (now : ℕ) (new : Connection H C) : Type 0 where

@@ -1,9 +1,7 @@
 //! One connection of a firm: its session, the house behind it, and a clock.
 
 ghost use Rattle.std.specs.Prelude.{◌≡◌, ◌<◌, ◌^◌, ◌++◌, ◌||◌, List, ℕ, true, IfOk, OnOk};
-ghost use Rattle.std.specs.List.{filter_map, flat_map, list_any};
-ghost use Rattle.std.specs.Option.{option_to_list};
-ghost use Rattle.gu_engine.specs.Exchange.{AnswersAsked, AnswersFrame, EndsSession, IsNew, SendsNotice, TakesInput, TellsStretch, Ticks, bytes_in, handed_in, is_close, is_due};
+ghost use Rattle.gu_engine.specs.Exchange.{AnswersAny, AnswersAsked, AnswersFrame, EndsSession, IsNew, SendsNotice, TakesInput, TellsStretch, Ticks, is_due};
 ghost use Rattle.gu_engine.specs.Running.{AnswersEach};
 
 use crate::answerer::Answerer;
@@ -11,7 +9,7 @@ use crate::clock::{Clock, ClockFault};
 use crate::event::Event;
 use crate::house::House;
 use gu_fix::Frame;
-use gu_session::{Asked, Input, Output, Session};
+use gu_session::{Asked, Input, Session, Taken};
 use gu_terms::{FirmId, Moment, Notice, Stretch};
 use std::alloc::{AllocError, Global};
 
@@ -44,43 +42,6 @@ impl<H: Drop, C: Drop> Drop for Connection<H, C> {
         drop(session);
         drop(clock);
     }
-}
-
-/// Takes one output of a session: its bytes are appended, what is handed out is collected, and a close is noted.
-fn part_one(
-    given: Output,
-    handed: &mut Vec<Asked>,
-    is_closed: &mut bool,
-    output: &mut Vec<u8>,
-) -> Result<(), AllocError>
-    ensures handed { OnOk result (handed.new.items ≡ handed.old.items ++ option_to_list (handed_in given)) }
-    ensures close { OnOk result (is_closed.new ≡ (is_closed.old || is_close given)) }
-    ensures bytes { OnOk result (output.new.items ≡ output.old.items ++ bytes_in given) }
-{
-    match given {
-        Output::Send(bytes) => output.extend_from_slice(&bytes)?,
-        Output::Hand(asked) => handed.push(asked)?,
-        Output::Close => *is_closed = true,
-    }
-    Ok(())
-}
-
-/// Parts what a session gave: bytes are appended, and what is handed out is returned, with whether there is a close.
-fn part(
-    alloc: Global,
-    outputs: Vec<Output>,
-    output: &mut Vec<u8>,
-) -> Result<(Vec<Asked>, bool), AllocError>
-    ensures handed { IfOk result (λ parted. parted.0.items ≡ filter_map handed_in outputs.items) }
-    ensures close { IfOk result (λ parted. parted.1 ≡ list_any is_close outputs.items) }
-    ensures bytes { OnOk result (output.new.items ≡ output.old.items ++ flat_map bytes_in outputs.items) }
-{
-    let mut handed = Vec::new(alloc);
-    let mut is_closed = false;
-    for given in outputs {
-        part_one(given, &mut handed, &mut is_closed, output)?;
-    }
-    Ok((handed, is_closed))
 }
 
 impl<H, C> Connection<H, C> {
@@ -126,18 +87,17 @@ impl<H, C> Connection<H, C> {
         house
     }
 
-    /// Gives the session an input, appends the bytes that it sends, and returns what it hands out.
+    /// Gives the session an input, appends the bytes that it sends, and returns what it asks of the house.
     fn take(
         &mut self,
         input: Input,
         now: Moment,
         output: &mut Vec<u8>,
-    ) -> Result<Vec<Asked>, AllocError>
-        ensures { IfOk result (λ handed. (text : List ℕ) × (output.new.items ≡ output.old.items ++ text)
-            × TakesInput self.old input now handed.items text self.new) }
+    ) -> Result<Option<Asked>, AllocError>
+        ensures { IfOk result (λ asked. (text : List ℕ) × (output.new.items ≡ output.old.items ++ text)
+            × TakesInput self.old input now asked text self.new) }
     {
-        let outputs = self.session.step(input, now)?;
-        let (handed, is_closed) = part(self.alloc, outputs, output)?;
+        let Taken { handed, is_closed } = self.session.step_onto(input, now, output)?;
         self.is_over = self.is_over || is_closed;
         Ok(handed)
     }
@@ -154,7 +114,7 @@ impl<H, C> Connection<H, C> {
 }
 
 impl<H: House, C> Connection<H, C> {
-    /// Has the house answer what was handed out, and gives the session the answer.
+    /// Has the house answer what was asked, and gives the session the answer.
     fn answer_asked(
         &mut self,
         asked: Asked,
@@ -170,20 +130,20 @@ impl<H: House, C> Connection<H, C> {
         Ok(())
     }
 
-    /// Answers all that was handed out.
-    fn answer_all(
+    /// Answers what was asked, if anything was.
+    fn answer_any(
         &mut self,
-        handed: Vec<Asked>,
+        asked: Option<Asked>,
         now: Moment,
         output: &mut Vec<u8>,
     ) -> Result<(), AllocError>
         ensures { OnOk result ((text : List ℕ) × (output.new.items ≡ output.old.items ++ text)
-            × AnswersEach (AnswersAsked H.rules now) self.old handed.items text self.new) }
+            × AnswersAny H.rules now self.old asked text self.new) }
     {
-        for asked in handed {
-            self.answer_asked(asked, now, output)?;
+        match asked {
+            Some(asked) => self.answer_asked(asked, now, output),
+            None => Ok(()),
         }
-        Ok(())
     }
 
     /// Answers a frame.
@@ -196,8 +156,8 @@ impl<H: House, C> Connection<H, C> {
         ensures { OnOk result ((text : List ℕ) × (output.new.items ≡ output.old.items ++ text)
             × AnswersFrame H.rules now self.old frame text self.new) }
     {
-        let handed = self.take(Input::Frame(frame), now, output)?;
-        self.answer_all(handed, now, output)?;
+        let asked = self.take(Input::Frame(frame), now, output)?;
+        self.answer_any(asked, now, output)?;
         self.is_behind = true;
         Ok(())
     }

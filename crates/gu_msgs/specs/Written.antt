@@ -8,8 +8,19 @@ use Rattle.gu_msgs.specs.ValueTexts.{WritesMoment}
 use Rattle.gu_msgs.specs.declared.outbound.Body.{Body}
 use Rattle.gu_msgs.specs.declared.outbound.Body.TheVariants as body
 use Rattle.gu_msgs.specs.declared.outbound.Outbound.{Outbound}
+use Rattle.gu_msgs.specs.declared.outbound.OutboundRef.{OutboundRef}
 use Rattle.gu_msgs.specs.declared.tags.TheConstants.{BEGIN_SEQ_NO, END_SEQ_NO, GAP_FILL_FLAG, MSG_SEQ_NUM, NEW_SEQ_NO, ORIG_SENDING_TIME, POSS_DUP_FLAG, SENDER_COMP_ID, SENDING_TIME, TARGET_COMP_ID, TEST_REQ_ID, TEXT}
 use Rattle.gu_msgs.specs.WrittenBodies.{number_field, optional_field, logon_fields, reject_fields, business_fields, report_ack_fields, instruction_ack_fields, report_fields, allocation_fields, request_ack_fields, position_fields}
+
+-- the message, where what it says lies elsewhere
+abbrev pub outbound_of : OutboundRef → Outbound
+outbound_of m = record {
+  firm = m.firm;
+  msg_seq_num = m.msg_seq_num;
+  sending_time = m.sending_time;
+  orig_sending_time = m.orig_sending_time;
+  body = m.body.now;
+}
 
 -- the code of a message's type
 abbrev pub body_code : Body → List ℕ

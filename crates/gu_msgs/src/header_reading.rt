@@ -1,12 +1,12 @@
 //! The header of a message, read whatever else is in it.
 
 ghost use Rattle.std.specs.Prelude.{◌≡◌, IfOk};
-ghost use Rattle.gu_msgs.specs.StandardHeader.{IsHeader};
+ghost use Rattle.gu_msgs.specs.StandardHeader.{IsHeader, IsHeaderIn};
 ghost use Rattle.std.specs.Option.{option_map};
 
 use crate::field_values::{first_value, only_value};
 use crate::run::Run;
-use crate::standard_header::Header;
+use crate::standard_header::{Header, HeaderRef};
 use crate::tags::{MSG_SEQ_NUM, POSS_DUP_FLAG, SENDER_COMP_ID, TARGET_COMP_ID};
 use gu_fix::{Fields, MSG_TYPE};
 use std::alloc::{AllocError, Global};
@@ -21,16 +21,30 @@ fn bytes_of(alloc: Global, value: Option<&[u8]>) -> Result<Option<Vec<u8>>, Allo
     }
 }
 
-/// The header of a message: the first MsgType, and of the others each that stands exactly once.
+/// The header of a message, where it lies: the first MsgType, and of the others each that stands exactly once.
+pub fn header_in(fields: &Fields) -> HeaderRef<'_>
+    ensures { IsHeaderIn fields.now result }
+{
+    let all = Run::of(fields);
+    HeaderRef {
+        msg_type: first_value(&all, MSG_TYPE),
+        sender_comp_id: only_value(&all, SENDER_COMP_ID),
+        target_comp_id: only_value(&all, TARGET_COMP_ID),
+        msg_seq_num: only_value(&all, MSG_SEQ_NUM),
+        poss_dup_flag: only_value(&all, POSS_DUP_FLAG),
+    }
+}
+
+/// The same in buffers of their own.
 pub fn header(alloc: Global, fields: &Fields) -> Result<Header, AllocError>
     ensures { IfOk result (λ header. IsHeader fields.now header) }
 {
-    let all = Run::of(fields);
-    let msg_type = bytes_of(alloc, first_value(&all, MSG_TYPE))?;
-    let sender_comp_id = bytes_of(alloc, only_value(&all, SENDER_COMP_ID))?;
-    let target_comp_id = bytes_of(alloc, only_value(&all, TARGET_COMP_ID))?;
-    let msg_seq_num = bytes_of(alloc, only_value(&all, MSG_SEQ_NUM))?;
-    let poss_dup_flag = bytes_of(alloc, only_value(&all, POSS_DUP_FLAG))?;
+    let parts = header_in(fields);
+    let msg_type = bytes_of(alloc, parts.msg_type)?;
+    let sender_comp_id = bytes_of(alloc, parts.sender_comp_id)?;
+    let target_comp_id = bytes_of(alloc, parts.target_comp_id)?;
+    let msg_seq_num = bytes_of(alloc, parts.msg_seq_num)?;
+    let poss_dup_flag = bytes_of(alloc, parts.poss_dup_flag)?;
     Ok(Header {
         msg_type,
         sender_comp_id,

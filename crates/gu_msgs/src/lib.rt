@@ -51,19 +51,19 @@ pub use answering::{answer_to, notice_body, positions_answer};
 pub use asking::{Question, Request};
 pub use coded_values::{AllocReportType, BusinessRejectReason, LogoutReason, PosReqResult};
 pub use fault::{Fault, MsgFault};
-pub use header_reading::header;
+pub use header_reading::{header, header_in};
 pub use inbound::Inbound;
 pub use laws::{
     a_message_or_a_fault, one_first_fault, one_message, the_leftmost_second_standing_is_named,
     what_is_read_has_no_fault,
 };
 pub use midnight::midnight_of;
-pub use outbound::Outbound;
+pub use outbound::{Outbound, OutboundRef};
 pub use reading::read;
 pub use reject_reason::SessionRejectReason;
 pub use rejection::{Rejection, TradeReportRejectReason};
 pub use sending_firm::sender;
-pub use standard_header::Header;
+pub use standard_header::{Header, HeaderRef};
 pub use tags::{NEW_SEQ_NO, SENDER_COMP_ID, TARGET_COMP_ID};
 pub use test_req_id::TestReqId;
 pub use type_code::TypeCode;

@@ -1,5 +1,7 @@
 //! Messages that are written, each with what it says.
 
+ghost use Rattle.std.specs.Prelude.{◌≡◌};
+
 use crate::coded_values::{BusinessRejectReason, LogoutReason, PosReqResult};
 use crate::reject_reason::SessionRejectReason;
 use crate::rejection::Rejection;
@@ -128,4 +130,32 @@ pub struct Outbound {
     /// When it was sent first, where it is sent again.
     pub orig_sending_time: Option<Moment>,
     pub body: Body,
+}
+
+/// A message to a firm that says what lies elsewhere.
+#[derive(Clone, Copy)]
+pub struct OutboundRef<'a> {
+    pub firm: FirmId,
+    pub msg_seq_num: u64,
+    pub sending_time: Moment,
+    /// When it was sent first, where it is sent again.
+    pub orig_sending_time: Option<Moment>,
+    pub body: &'a Body,
+}
+
+impl Outbound {
+    ghost use Rattle.gu_msgs.specs.Written.{outbound_of};
+
+    /// The same message, borrowed.
+    pub fn as_ref(&self) -> OutboundRef<'_>
+        ensures { outbound_of result ≡ self.now }
+    {
+        OutboundRef {
+            firm: self.firm,
+            msg_seq_num: self.msg_seq_num,
+            sending_time: self.sending_time,
+            orig_sending_time: self.orig_sending_time,
+            body: &self.body,
+        }
+    }
 }

@@ -10,3 +10,14 @@ pub struct Header {
     pub msg_seq_num: Option<Vec<u8>>,
     pub poss_dup_flag: Option<Vec<u8>>,
 }
+
+/// The same, where its parts lie in the message.
+#[derive(Clone, Copy)]
+pub struct HeaderRef<'a> {
+    /// The type: the first that stands.
+    pub msg_type: Option<&'a [u8]>,
+    pub sender_comp_id: Option<&'a [u8]>,
+    pub target_comp_id: Option<&'a [u8]>,
+    pub msg_seq_num: Option<&'a [u8]>,
+    pub poss_dup_flag: Option<&'a [u8]>,
+}

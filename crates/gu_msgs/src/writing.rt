@@ -7,14 +7,14 @@ ghost use Rattle.gu_fix.specs.TagValue.{TagValue, tag_value};
 ghost use Rattle.gu_fix.specs.WholeMessage.{IsWhole};
 ghost use Rattle.gu_msgs.specs.Encodable.{ArePlain, is_plain};
 ghost use Rattle.gu_msgs.specs.WrittenBodies.{number_field};
-ghost use Rattle.gu_msgs.specs.Written.{IsWritten, MarksResend, body_code, body_fields};
+ghost use Rattle.gu_msgs.specs.Written.{IsWritten, MarksResend, body_code, body_fields, outbound_of};
 
 use crate::answer_fields::{
     push_instruction_ack, push_position, push_report_ack, push_request_ack,
 };
 use crate::draft::Draft;
 use crate::notice_fields::{push_allocation, push_report};
-use crate::outbound::{Body, Outbound};
+use crate::outbound::{Body, Outbound, OutboundRef};
 use crate::session_fields::{push_business_reject, push_logon, push_reject};
 use crate::tags::{
     BEGIN_SEQ_NO, END_SEQ_NO, GAP_FILL_FLAG, MSG_SEQ_NUM, NEW_SEQ_NO, ORIG_SENDING_TIME,
@@ -107,9 +107,9 @@ fn push_marks(draft: &mut Draft, first: Option<Moment>) -> Result<(), AllocError
 
 /// Appends the fields of a message to none, in order.
 #[inline(always)]
-fn push_message(draft: &mut Draft, message: &Outbound) -> Result<(), AllocError>
+fn push_message(draft: &mut Draft, message: &OutboundRef<'_>) -> Result<(), AllocError>
     requires { draft.old ≡ [] }
-    ensures { OnOk result (IsWritten message.now draft.new) }
+    ensures { OnOk result (IsWritten (outbound_of message.now) draft.new) }
 {
     draft.push(MSG_TYPE, message.body.code().as_bytes())?;
     draft.push(SENDER_COMP_ID, HOUSE)?;
@@ -117,14 +117,14 @@ fn push_message(draft: &mut Draft, message: &Outbound) -> Result<(), AllocError>
     draft.push_number(MSG_SEQ_NUM, message.msg_seq_num)?;
     draft.push_moment(SENDING_TIME, message.sending_time)?;
     push_marks(draft, message.orig_sending_time)?;
-    push_body(draft, &message.body)
+    push_body(draft, message.body)
 }
 
 /// The fields of a message in the room of a draft without fields, each with a value that can be encoded.
 #[inline(always)]
-fn fields_of(mut draft: Draft, message: &Outbound) -> Result<Fields, AllocError>
+fn fields_of(mut draft: Draft, message: &OutboundRef<'_>) -> Result<Fields, AllocError>
     requires { draft ≡ [] }
-    ensures written { IfOk result (λ fields. IsWritten message.now fields) }
+    ensures written { IfOk result (λ fields. IsWritten (outbound_of message.now) fields) }
     ensures plain { IfOk result ArePlain }
 {
     push_message(&mut draft, message)?;
@@ -133,9 +133,9 @@ fn fields_of(mut draft: Draft, message: &Outbound) -> Result<Fields, AllocError>
 
 /// The fields of a message in the room of a draft without fields. They can be encoded as a whole message, and are read back.
 #[inline(always)]
-fn written_in(draft: Draft, message: &Outbound) -> Result<Fields, AllocError>
+fn written_in(draft: Draft, message: &OutboundRef<'_>) -> Result<Fields, AllocError>
     requires { draft ≡ [] }
-    ensures written { IfOk result (λ fields. IsWritten message.now fields) }
+    ensures written { IfOk result (λ fields. IsWritten (outbound_of message.now) fields) }
     ensures encodable { IfOk result (λ fields. fault_of fields ≡ None) }
     ensures whole { IfOk result (λ fields. IsWhole (message_of fields)) }
     ensures read_back { IfOk result (λ fields. HasFields (message_of fields) (fields_of_message fields) None) }
@@ -151,12 +151,16 @@ pub fn write(alloc: Global, message: &Outbound) -> Result<Fields, AllocError>
     ensures read_back { IfOk result (λ fields. HasFields (message_of fields) (fields_of_message fields) None) }
 {
     let draft = Draft::new(alloc)?;
-    written_in(draft, message)
+    written_in(draft, &message.as_ref())
 }
 
-/// The same, in the room of fields that aren't used any more.
-pub fn write_over(alloc: Global, fields: Fields, message: &Outbound) -> Result<Fields, AllocError>
-    ensures written { IfOk result (λ fields. IsWritten message.now fields) }
+/// The same of a borrowed message, in the room of fields that aren't used any more.
+pub fn write_over(
+    alloc: Global,
+    fields: Fields,
+    message: &OutboundRef<'_>,
+) -> Result<Fields, AllocError>
+    ensures written { IfOk result (λ fields. IsWritten (outbound_of message.now) fields) }
     ensures encodable { IfOk result (λ fields. fault_of fields ≡ None) }
     ensures whole { IfOk result (λ fields. IsWhole (message_of fields)) }
     ensures read_back { IfOk result (λ fields. HasFields (message_of fields) (fields_of_message fields) None) }

@@ -7,7 +7,7 @@ use Rattle.gu_session.specs.Resending.{sent_within}
 use Rattle.gu_session.specs.Sending.{numbered, sent_in}
 use Rattle.gu_session.specs.declared.application.Application.{Application}
 use Rattle.gu_session.specs.declared.kept.Sent.{Sent}
-use Rattle.gu_session.proofs.Covering.{AreWithin}
+use Rattle.gu_session.specs.Ascending.{AreWithin}
 
 -- from an earlier number on
 pub within-lower : (low from to : ℕ) (kept : List Sent) → low ≤ from → AreWithin from to kept → AreWithin low to kept

@@ -4,6 +4,7 @@ use Rattle.std.proofs.lemmas.List.{append-nil}
 use Rattle.gu_terms.specs.declared.firm.FirmId.{FirmId}
 use Rattle.gu_msgs.specs.declared.outbound.Outbound.{Outbound}
 use Rattle.gu_session.specs.Applications.{application_of, body_of}
+use Rattle.gu_session.specs.Ascending.{AreWithin}
 use Rattle.gu_session.specs.Laws.{Covers, HasLongestRuns}
 use Rattle.gu_session.specs.Resending.{again, gap, gap_fill, with_gaps}
 use Rattle.gu_session.specs.declared.application.Application.{Application}
@@ -19,11 +20,6 @@ is_application (application.TradeCaptureReport m) = refl
 is_application (application.AllocationReport m) = refl
 is_application (application.RequestForPositionsAck m) = refl
 is_application (application.PositionReport m) = refl
-
--- messages with ascending numbers from one up to another
-abbrev pub AreWithin : ℕ → ℕ → List Sent → Type 0
-AreWithin from to [] = from ≤ to
-AreWithin from to (sent ∷ later) = (from ≤ sent.number) × AreWithin (sent.number + 1) to later
 
 -- a gap fill, and what covers the numbers behind it
 pub gap_then : (firm : FirmId) (now from mid to : ℕ) (messages : List Outbound) → from ≤ mid → Covers mid to messages → Covers from to (gap firm now from mid ++ messages)

@@ -8,6 +8,9 @@ mod GoingOn
 mod KeepingOn
 mod Covering
 mod Ascending
+mod Places
+mod KeptLemmas
+mod OntoLemmas
 mod Serving
 mod Ending
 mod InOrder

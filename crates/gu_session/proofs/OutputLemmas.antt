@@ -1,9 +1,11 @@
 -- How what a session gives is given, part by part.
-use Rattle.std.proofs.Common.{◌≡◌, ◌<◌, ◌+◌, ℕ, Bool, true, false, List, [], ◌∷◌, ◌++◌, Option, None, Some, map, length, take, get_or, refl}
+use Rattle.std.proofs.Common.{◌≡◌, ◌<◌, ◌+◌, ◌^◌, ℕ, Bool, true, false, List, [], ◌∷◌, ◌++◌, Option, None, Some, Vec, map, length, take, get_or, slice_get, refl, arith}
 use Rattle.std.proofs.lemmas.List.{map_more}
+use Rattle.std.proofs.lemmas.Option.{get_or_from_slice_get, slice_get_within}
+use Rattle.std.specs.declared.alloc.Global.{Global}
 use Rattle.gu_msgs.specs.declared.outbound.Outbound.{Outbound}
-use Rattle.gu_session.specs.Encoded.{AreOutputs, IsOutput, Response, Sends}
-use Rattle.gu_session.specs.Given.{end_outputs, handed_outputs}
+use Rattle.gu_session.specs.Encoded.{AreOutputs, Response, Sends}
+use Rattle.gu_session.specs.Given.{asked_in, end_outputs, handed_outputs}
 use Rattle.gu_session.specs.Sending.{ending_of}
 use Rattle.gu_session.specs.declared.output.Output.{Output}
 use Rattle.gu_session.specs.declared.plan.Handed.{Handed}
@@ -18,15 +20,22 @@ AreOutputs-append (response ∷ responses) more (output ∷ outputs) others firs
     (first.0, AreOutputs-append responses more outputs others first.1 second)
 
 -- what is handed out and the end
-pub ending_is_given : (handed : Option Handed) (ends : Bool) → AreOutputs (ending_of handed ends) (handed_outputs handed ++ end_outputs ends)
+pub ending_is_given : (handed : Option Handed) (ends : Bool) → AreOutputs (ending_of handed ends) (handed_outputs (asked_in handed) ++ end_outputs ends)
 ending_is_given None true = (tt, tt)
 ending_is_given None false = tt
 ending_is_given (Some handed) true = (refl, (tt, tt))
 ending_is_given (Some handed) false = (refl, tt)
 
 -- one message more
-pub one_more : (messages : List Outbound) (place : ℕ) (message : Outbound) (outputs : List Output) (output : Output) → place < length messages →
-    message ≡ get_or messages place message → AreOutputs (map Sends (take place messages)) outputs → IsOutput (Sends message) output →
+pub one_more : (messages : List Outbound) (place : ℕ) (message : Outbound) (outputs : List Output) (output : Output) → slice_get messages place ≡ Some message →
+    AreOutputs (map Sends (take place messages)) outputs → AreOutputs (Sends message ∷ []) (output ∷ []) →
     AreOutputs (map Sends (take (place + 1) messages)) (outputs ++ output ∷ [])
-one_more messages place message outputs output within here so_far is =
-    rw (map_more Sends messages place message within, ← here) (AreOutputs-append (map Sends (take place messages)) (Sends message ∷ []) outputs (output ∷ []) so_far (is, tt))
+one_more messages place message outputs output here so_far is =
+    let within : place < length messages = slice_get_within messages place message here in
+    let there : get_or messages place message ≡ message = get_or_from_slice_get messages place message message here in
+    rw (map_more Sends messages place message within, there) (AreOutputs-append (map Sends (take place messages)) (Sends message ∷ []) outputs (output ∷ []) so_far is)
+
+-- bytes in a buffer of their own
+abbrev pub buffer_of : Vec ℕ Global → (bytes : List ℕ) → length bytes < 2 ^ 63 → Vec ℕ Global
+buffer_of v bytes short =
+    record { ptr = v.ptr; len = length bytes; cap = length bytes; alloc = v.alloc; items = bytes; ok = (refl, omega arith); small = short }

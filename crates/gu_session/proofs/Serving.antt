@@ -15,7 +15,8 @@ use Rattle.gu_session.specs.declared.plan.Course.{Course}
 use Rattle.gu_session.specs.declared.plan.Course.TheVariants.{Stay, Leave, Go}
 use Rattle.gu_session.specs.declared.plan.Plan.{Plan}
 use Rattle.gu_session.proofs.Ascending.{within-append, within-drop, within-numbered, within-range}
-use Rattle.gu_session.proofs.Covering.{AreWithin, covers_with_gaps, longest_with_gaps}
+use Rattle.gu_session.proofs.Covering.{covers_with_gaps, longest_with_gaps}
+use Rattle.gu_session.specs.Ascending.{AreWithin}
 
 -- what is kept ascends below the next number
 abbrev pub IsAscending : SessionState → Type 0

@@ -1,13 +1,19 @@
--- Machinery: what stands behind the messages that a session gives. No other crate names this file.
+-- Machinery: what a session gives besides its messages. No other crate names this file.
 use Rattle.std.specs.Prelude.{Bool, List, [], ◌∷◌, Option, None, Some, if◌then◌else◌}
+use Rattle.std.specs.Option.{option_map}
+use Rattle.gu_session.specs.declared.output.Asked.{Asked}
 use Rattle.gu_session.specs.declared.output.Output.{Output}
 use Rattle.gu_session.specs.declared.output.Output.TheVariants.{Hand, Close}
 use Rattle.gu_session.specs.declared.plan.Handed.{Handed}
 
+-- what is asked of the house
+abbrev pub asked_in : Option Handed → Option Asked
+asked_in handed = option_map (λ (handed : Handed). record { what = handed.request; reference = handed.waiting.reference }) handed
+
 -- what is handed out
-abbrev pub handed_outputs : Option Handed → List Output
+abbrev pub handed_outputs : Option Asked → List Output
 handed_outputs None = []
-handed_outputs (Some handed) = Hand (record { what = handed.request; reference = handed.waiting.reference }) ∷ []
+handed_outputs (Some asked) = Hand asked ∷ []
 
 -- the end, if it is reached
 abbrev pub end_outputs : Bool → List Output

@@ -11,9 +11,13 @@ pub mod Walks
 pub mod Encoded
 pub mod Given
 pub mod States
+pub mod Ascending
 pub mod Sound
 pub mod Sending
 pub mod Steps
+pub mod Readiness
+pub mod Outputs
+pub mod Appending
 pub mod Runs
 pub mod Laws
 pub mod Orders

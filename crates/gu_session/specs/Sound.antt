@@ -1,6 +1,7 @@
 -- Machinery: what holds of the fields of a session. No other crate names this file.
-use Rattle.std.specs.Prelude.{◌≡◌, ◌≤◌, ℕ, List, [], ◌++◌, Option, None, Some}
+use Rattle.std.specs.Prelude.{◌≡◌, ◌≤◌, ℕ, List, [], ◌++◌, length, Option, None, Some}
 use Rattle.circular_buffer.specs.Buffer.{Buffer, buffer, keep_last}
+use Rattle.gu_session.specs.Ascending.{AreWithin}
 use Rattle.gu_session.specs.declared.kept.Sent.{Sent}
 use Rattle.gu_session.specs.declared.standing.Standing.{Standing}
 
@@ -9,11 +10,13 @@ abbrev pub HasRoom : Option Standing → Buffer Sent → Type 0
 HasRoom None kept = kept.items ≡ []
 HasRoom (Some at) kept = kept.capacity ≡ 4096
 
--- the next number is one that a message can have, or the one behind the greatest
+-- the next number is one that a message can have, or the one behind the greatest, and what is kept ascends below it
 pub record IsSound (at : Option Standing) (next : ℕ) (kept : Buffer Sent) : Type 0 where
   pub some : 1 ≤ next
   pub most : next ≤ 1000000001
   pub room : HasRoom at kept
+  pub few : length kept.items ≤ kept.capacity
+  pub ascending : AreWithin 1 next kept.items
 
 -- what was kept, and these messages behind it, the last that there is room for
 abbrev pub extended : Buffer Sent → List Sent → Buffer Sent

@@ -1,18 +1,20 @@
 //! What a plan leaves.
 
-ghost use Rattle.std.specs.Prelude.{◌≡◌, ◌≤◌, ◌<◌, ◌+◌, ◌++◌, ◌∷◌, [], Some, None, is_some, length, vec_len, vec_capacity, if◌then◌else◌, IfOk, OnOk};
+ghost use Rattle.std.specs.Prelude.{◌≡◌, ◌≤◌, ◌<◌, ◌+◌, ◌++◌, ◌∷◌, [], Some, None, is_some, length, vec_len, vec_capacity, if◌then◌else◌, IfOk};
+ghost use Rattle.std.specs.List.{filter_map};
 ghost use Rattle.std.specs.Option.{option_map, option_map_or, option_to_list};
 ghost use Rattle.circular_buffer.specs.Buffer.{buffer};
 ghost use Rattle.gu_msgs.specs.declared.inbound.ResendRequest.{ResendRequest as RequestOf};
+ghost use Rattle.gu_session.specs.Ascending.{IsAscending};
 ghost use Rattle.gu_session.specs.Resending.{resent};
-ghost use Rattle.gu_session.specs.Sending.{is_over, sent_at_behind, unanswered};
+ghost use Rattle.gu_session.specs.Sending.{is_over, numbered, sent_at_behind, sent_in, unanswered};
 ghost use Rattle.gu_session.specs.Sound.{extended};
 ghost use Rattle.gu_session.specs.declared.plan.Handed.{Handed as HandedOf};
 
 use crate::ask_ref::AskRef;
-use crate::kept::{Kept, Sent};
+use crate::kept::Kept;
 use crate::plan::{Handed, Plan};
-use crate::resending::push_resent;
+use crate::resending::resent;
 use crate::seq_num::GREATEST;
 use crate::standing::{Standing, Waiting};
 use gu_msgs::inbound::ResendRequest;
@@ -29,20 +31,21 @@ pub fn is_over(next: u64, plan: &Plan) -> bool
     left < plan.messages.len() as u64
 }
 
-/// Appends what is sent again, where anything is asked for.
-pub fn push_repeats(
-    messages: &mut Vec<Outbound>,
+/// What is sent again, where anything is asked for.
+pub fn repeats(
+    alloc: Global,
     firm: &FirmId,
     now: &Moment,
     kept: &Kept,
     next: u64,
     again: &Option<ResendRequest>,
-) -> Result<(), AllocError>
-    ensures { OnOk result (messages.new.items ≡ messages.old.items ++ option_map_or (λ (request : RequestOf). resent firm.now kept.now.items next now.now request) again.now []) }
+) -> Result<Vec<Outbound>, AllocError>
+    requires { IsAscending kept.now.items }
+    ensures { IfOk result (λ messages. messages.items ≡ option_map_or (λ (request : RequestOf). resent firm.now kept.now.items next now.now request) again.now []) }
 {
     match again {
-        Some(request) => push_resent(messages, firm, now, kept, next, request),
-        None => Ok(()),
+        Some(request) => resent(alloc, firm, now, kept, next, request),
+        None => Ok(Vec::new(alloc)),
     }
 }
 
@@ -56,31 +59,35 @@ pub fn waiting_in(handed: &Option<Handed>) -> Option<Waiting>
     }
 }
 
-/// Room for one more question, and for what is to be kept where a firm logs on.
-pub fn room_for(
-    alloc: Global,
-    at: &Option<Standing>,
-    waiting: &mut Vec<Waiting>,
-) -> Result<Option<Kept>, AllocError>
-    ensures room { IfOk result (λ room. room ≡ (if is_some at.now then None else Some (buffer [] 4096))) }
-    ensures place { OnOk result (vec_len waiting.new < vec_capacity waiting.new) }
-    ensures same { waiting.new.items ≡ waiting.old.items }
+/// Room for what is to be kept, where a firm logs on.
+pub fn room_for(alloc: Global, at: &Option<Standing>) -> Result<Option<Kept>, AllocError>
+    ensures { IfOk result (λ room. room ≡ (if is_some at.now then None else Some (buffer [] 4096))) }
 {
-    waiting.reserve(1)?;
     match at {
         Some(_) => Ok(None),
         None => Ok(Some(Kept::with_room(alloc)?)),
     }
 }
 
-/// Keeps these behind the others, or in new room.
-pub fn keep(kept: &mut Kept, room: Option<Kept>, sent: &[Sent])
-    ensures { kept.new ≡ extended (option_map_or (λ room. room) room kept.old) sent.now }
+/// Moves to new room, where there is some.
+pub fn move_to(kept: &mut Kept, room: Option<Kept>)
+    ensures { kept.new ≡ option_map_or (λ room. room) room kept.old }
 {
     if let Some(room) = room {
         *kept = room;
     }
-    kept.extend(sent);
+}
+
+/// Keeps the new messages of a plan after the others; the first of them has this number.
+pub fn keep(kept: &mut Kept, plan: &Plan, first: u64, now: Moment)
+    requires some { 1 ≤ first }
+    requires most { first + length plan.now.messages ≤ 1000000001 }
+    requires few { length kept.old.items ≤ kept.old.capacity }
+    ensures { kept.new ≡ extended kept.old (filter_map sent_in (numbered plan.now.after.firm now first plan.now.messages)) }
+{
+    for place in 0..plan.messages.len() {
+        kept.keep(&plan.new_message(first, now, place));
+    }
 }
 
 /// Takes out what was answered.

@@ -44,21 +44,15 @@ fn wrong_party(firm: &FirmId, heading: &Heading) -> Option<u32>
 }
 
 /// A gap fill up to a number.
-fn on_gap_fill(
-    alloc: Global,
-    at: &Standing,
-    heading: &Heading,
-    number: SeqNum,
-    to: u64,
-) -> Result<Plan, AllocError>
-    ensures { IfOk result (λ plan. plan ≡ on_gap_fill at.now heading.now number to) }
+fn on_gap_fill(alloc: Global, at: &Standing, heading: &Heading, number: SeqNum, to: u64) -> Plan
+    ensures { result ≡ on_gap_fill at.now heading.now number to }
 {
     if number.get() < to {
         let after = Standing {
             expected: to,
             ..*at
         };
-        return Ok(Plan::quiet(alloc, &after));
+        return Plan::quiet(alloc, &after);
     }
     let reason = SessionRejectReason::ValueIsIncorrect;
     Plan::says(alloc, at, reject(heading, number, NEW_SEQ_NO, reason))
@@ -97,13 +91,13 @@ fn on_message(
     heading: &Heading,
     number: SeqNum,
     message: Inbound,
-) -> Result<Plan, AllocError>
-    ensures { IfOk result (λ plan. plan ≡ on_message at.now heading.now number message) }
+) -> Plan
+    ensures { result ≡ on_message at.now heading.now number message }
 {
     match message {
-        Inbound::Heartbeat | Inbound::Reject => Ok(Plan::quiet(alloc, at)),
+        Inbound::Heartbeat | Inbound::Reject => Plan::quiet(alloc, at),
         Inbound::TestRequest(m) => { Plan::says(alloc, at, Body::Heartbeat(Some(m.test_req_id))) }
-        Inbound::ResendRequest(m) => Ok(Plan::repeats(at, Some(m), Messages::none(alloc))),
+        Inbound::ResendRequest(m) => Plan::repeats(at, Some(m), Messages::none(alloc)),
         Inbound::SequenceReset(m) => on_gap_fill(alloc, at, heading, number, m.new_seq_no),
         Inbound::Logout => Plan::leaves_with(alloc, at, Body::Logout(None)),
         Inbound::Logon(_) => {
@@ -112,7 +106,7 @@ fn on_message(
         Inbound::Unread(code) => Plan::says(alloc, at, unsupported(number, code)),
         message => {
             let question = message.question();
-            Ok(on_request(alloc, at, number, message.request(at.firm), question))
+            on_request(alloc, at, number, message.request(at.firm), question)
         }
     }
 }
@@ -124,8 +118,8 @@ fn on_content(
     heading: &Heading,
     number: SeqNum,
     content: Result<Inbound, Fault>,
-) -> Result<Plan, AllocError>
-    ensures { IfOk result (λ plan. plan ≡ on_content at.now heading.now number content) }
+) -> Plan
+    ensures { result ≡ on_content at.now heading.now number content }
 {
     match content {
         Ok(message) => on_message(alloc, at, heading, number, message),
@@ -144,7 +138,7 @@ pub fn as_expected(
 {
     let Heard { heading, content } = heard;
     let Some(tag) = wrong_party(&at.firm, &heading) else {
-        return on_content(alloc, at, &heading, number, content);
+        return Ok(on_content(alloc, at, &heading, number, content));
     };
     let first = reject(&heading, number, tag, SessionRejectReason::CompIdProblem);
     let second = Body::Logout(Some(LogoutReason::CompId));

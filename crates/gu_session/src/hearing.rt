@@ -2,15 +2,13 @@
 
 ghost use Rattle.std.specs.Prelude.{◌≡◌, codes, IfOk, option_and_then};
 ghost use Rattle.std.specs.Option.{option_map};
-ghost use Rattle.gu_msgs.specs.StandardHeader.{IsHeader};
 ghost use Rattle.gu_session.specs.Hearing.{Hears, IsContent, IsFirmIn, IsHeading, IsNumberIn, code_in, is_given};
 
 use crate::heard::{Heading, Heard};
 use crate::seq_num::SeqNum;
-use gu_fix::{FieldFault, Fields, Frame, fields};
+use gu_fix::{FieldFault, Fields, Frame, into_fields};
 use gu_msgs::{
-    Fault, Header, Inbound, MsgFault, SessionRejectReason, TypeCode, header, is_numeral, number_of,
-    read,
+    Fault, Inbound, MsgFault, SessionRejectReason, TypeCode, header_in, is_numeral, number_of, read,
 };
 use gu_terms::FirmId;
 use std::alloc::{AllocError, Global};
@@ -19,8 +17,8 @@ use std::alloc::{AllocError, Global};
 const HOUSE: &[u8] = b"GIVEUP";
 
 /// The number that a text writes, where a message can have it.
-fn number_in(text: &Option<Vec<u8>>) -> Option<SeqNum>
-    ensures { IsNumberIn (option_map (λ bytes. bytes.items) text.now) result }
+fn number_in(text: Option<&[u8]>) -> Option<SeqNum>
+    ensures { IsNumberIn (option_map (λ bytes. bytes.now) text.entry) result }
 {
     let Some(text) = text else {
         return None;
@@ -35,8 +33,8 @@ fn number_in(text: &Option<Vec<u8>>) -> Option<SeqNum>
 }
 
 /// The firm with this name.
-fn firm_in(name: &Option<Vec<u8>>) -> Option<FirmId>
-    ensures { IsFirmIn (option_map (λ bytes. bytes.items) name.now) result }
+fn firm_in(name: Option<&[u8]>) -> Option<FirmId>
+    ensures { IsFirmIn (option_map (λ bytes. bytes.now) name.entry) result }
 {
     match name {
         Some(name) => FirmId::new(name),
@@ -45,8 +43,8 @@ fn firm_in(name: &Option<Vec<u8>>) -> Option<FirmId>
 }
 
 /// The code of a type, where it has the form of one.
-fn code_in(text: &Option<Vec<u8>>) -> Option<TypeCode>
-    ensures { result ≡ option_and_then code_in (option_map (λ bytes. bytes.items) text.now) }
+fn code_in(text: Option<&[u8]>) -> Option<TypeCode>
+    ensures { result ≡ option_and_then code_in (option_map (λ bytes. bytes.now) text.entry) }
 {
     match text {
         Some(text) => TypeCode::new(text),
@@ -55,37 +53,37 @@ fn code_in(text: &Option<Vec<u8>>) -> Option<TypeCode>
 }
 
 /// Whether a value is given and is the house's name.
-fn is_house(value: &Option<Vec<u8>>) -> bool
-    ensures { result ≡ is_given (codes "GIVEUP") (option_map (λ bytes. bytes.items) value.now) }
+fn is_house(value: Option<&[u8]>) -> bool
+    ensures { result ≡ is_given (codes "GIVEUP") (option_map (λ bytes. bytes.now) value.entry) }
 {
     match value {
-        Some(value) => value.as_slice() == HOUSE,
+        Some(value) => value == HOUSE,
         None => false,
     }
 }
 
 /// Whether a value is given and is yes.
-fn is_yes(value: &Option<Vec<u8>>) -> bool
-    ensures { result ≡ is_given (codes "Y") (option_map (λ bytes. bytes.items) value.now) }
+fn is_yes(value: Option<&[u8]>) -> bool
+    ensures { result ≡ is_given (codes "Y") (option_map (λ bytes. bytes.now) value.entry) }
 {
     match value {
-        Some(value) => value.as_slice() == b"Y".as_slice(),
+        Some(value) => value == b"Y".as_slice(),
         None => false,
     }
 }
 
 /// What the header of these fields says.
-fn read_heading(alloc: Global, fields: &Fields) -> Result<Heading, AllocError>
-    ensures { IfOk result (IsHeading fields.now) }
+fn read_heading(fields: &Fields) -> Heading
+    ensures { IsHeading fields.now result }
 {
-    let header = header(alloc, fields)?;
-    Ok(Heading {
-        number: number_in(&header.msg_seq_num),
-        msg_type: code_in(&header.msg_type),
-        sender: firm_in(&header.sender_comp_id),
-        is_to_house: is_house(&header.target_comp_id),
-        is_poss_dup: is_yes(&header.poss_dup_flag),
-    })
+    let header = header_in(fields);
+    Heading {
+        number: number_in(header.msg_seq_num),
+        msg_type: code_in(header.msg_type),
+        sender: firm_in(header.sender_comp_id),
+        is_to_house: is_house(header.target_comp_id),
+        is_poss_dup: is_yes(header.poss_dup_flag),
+    }
 }
 
 /// What these fields say, or what is wrong with them; a malformed one comes first.
@@ -111,11 +109,11 @@ fn read_content(
 }
 
 /// What a frame says.
-pub fn hear(alloc: Global, frame: &Frame) -> Result<Heard, AllocError>
-    ensures { IfOk result (Hears frame.now) }
+pub fn hear(alloc: Global, frame: Frame) -> Result<Heard, AllocError>
+    ensures { IfOk result (Hears frame) }
 {
-    let (fields, malformed) = fields(alloc, frame)?;
-    let heading = read_heading(alloc, &fields)?;
+    let (fields, malformed) = into_fields(alloc, frame)?;
+    let heading = read_heading(&fields);
     let content = read_content(alloc, &fields, malformed)?;
     Ok(Heard { heading, content })
 }

@@ -1,15 +1,18 @@
 //! What is kept of what was sent.
 
-ghost use Rattle.std.specs.Prelude.{◌≡◌, [], ◌++◌, length, slice_get, IfOk, OnOk};
-ghost use Rattle.std.specs.Option.{option_to_list};
-ghost use Rattle.circular_buffer.specs.Buffer.{buffer, keep_last};
+ghost use Rattle.std.specs.Prelude.{◌≡◌, ◌≤◌, [], ◌∷◌, length, slice_get, take, drop, IfOk};
+ghost use Rattle.std.specs.Option.{option_copied, option_to_list};
+ghost use Rattle.circular_buffer.specs.Buffer.{buffer};
+ghost use Rattle.gu_msgs.specs.Written.{outbound_of};
 ghost use Rattle.gu_session.specs.Sending.{sent_in};
 ghost use Rattle.gu_session.specs.SeqNums.{IsSeqNum};
+ghost use Rattle.gu_session.specs.Ascending.{AreBelow, AreFrom, IsAscending};
+ghost use Rattle.gu_session.specs.Sound.{extended};
 
 use crate::application::Application;
 use crate::seq_num::SeqNum;
 use circular_buffer::HeapCircularBuffer;
-use gu_msgs::Outbound;
+use gu_msgs::OutboundRef;
 use gu_terms::Moment;
 use std::alloc::{AllocError, Global};
 use std::marker::Model;
@@ -75,46 +78,64 @@ impl Kept {
     }
 
     /// The message at a place, the oldest at 0.
-    pub fn get(&self, place: usize) -> Option<Sent>
-        ensures { result ≡ slice_get self.now.items place }
+    pub fn get(&self, place: usize) -> Option<&Sent>
+        ensures { option_copied result ≡ slice_get self.now.items place }
     {
         match &self.ring {
-            Some(ring) => ring.get(place).copied(),
+            Some(ring) => ring.get(place),
             None => None,
         }
     }
 
-    /// Keeps these behind the others, the last that there is room for.
-    pub fn extend(&mut self, sent: &[Sent])
-        ensures { self.new ≡ buffer (keep_last self.old.capacity (self.old.items ++ sent.now)) self.old.capacity }
+    /// How many messages have a number below this one. Numbers ascend.
+    pub fn place_of(&self, number: u64) -> usize
+        requires { IsAscending self.now.items }
+        ensures below { AreBelow number (take result self.now.items) }
+        ensures above { AreFrom number (drop result self.now.items) }
+    {
+        let mut low = 0;
+        let mut high = self.len();
+        while low < high {
+            let middle = low + (high - low) / 2;
+            match self.get(middle) {
+                Some(sent) if sent.number.get() < number => low = middle + 1,
+                _ => high = middle,
+            }
+        }
+        low
+    }
+
+    /// Keeps a message after the others. Where there is no room the first of them goes.
+    fn push(&mut self, sent: Sent)
+        ensures { self.new ≡ extended self.old (sent ∷ []) }
     {
         if let Some(ring) = &mut self.ring {
-            ring.extend_from_slice(sent);
+            ring.extend_from_slice(&[sent]);
+        }
+    }
+
+    /// Keeps what is to be kept of a message that is sent.
+    pub fn keep(&mut self, message: &OutboundRef<'_>)
+        requires number { IsSeqNum message.now.msg_seq_num }
+        requires few { length self.old.items ≤ self.old.capacity }
+        ensures { self.new ≡ extended self.old (option_to_list (sent_in (outbound_of message.now))) }
+    {
+        if let Some(sent) = sent_in(message) {
+            self.push(sent);
         }
     }
 }
 
 /// A message as it is kept.
-fn sent_in(message: &Outbound) -> Option<Sent>
+fn sent_in(message: &OutboundRef<'_>) -> Option<Sent>
     requires { IsSeqNum message.now.msg_seq_num }
-    ensures { result ≡ sent_in message.now }
+    ensures { result ≡ sent_in (outbound_of message.now) }
 {
-    let application = Application::of(&message.body)?;
+    let application = Application::of(message.body)?;
     let number = SeqNum::new(message.msg_seq_num)?;
     Some(Sent {
         number,
         time: message.sending_time,
         message: application,
     })
-}
-
-/// Appends what is to be kept of a message.
-pub fn push_sent(sent: &mut Vec<Sent>, message: &Outbound) -> Result<(), AllocError>
-    requires { IsSeqNum message.now.msg_seq_num }
-    ensures { OnOk result (sent.new.items ≡ sent.old.items ++ option_to_list (sent_in message.now)) }
-{
-    match sent_in(message) {
-        Some(one) => sent.extend_from_slice(&[one]),
-        None => Ok(()),
-    }
 }

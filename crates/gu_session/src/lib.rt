@@ -15,9 +15,9 @@ mod kept;
 mod laws;
 mod logon;
 mod messages;
-mod numbering;
 mod output;
 mod plan;
+mod ready;
 mod rejecting;
 mod resending;
 mod sending;
@@ -25,6 +25,7 @@ mod seq_num;
 mod sequence;
 mod session;
 mod standing;
+mod state;
 
 pub use ask_ref::AskRef;
 pub use input::{Failure, Input, Outcome};
@@ -33,5 +34,5 @@ pub use laws::{
     keeps_the_last_sent, nothing_before_the_logon, numbers_go_up_by_one, one_answer, one_step,
     references_go_up, resends_what_was_sent, serves_what_is_asked,
 };
-pub use output::{Asked, Output};
+pub use output::{Asked, Output, Taken};
 pub use session::Session;

@@ -1,25 +1,27 @@
 //! Messages in order.
 
-ghost use Rattle.std.specs.Prelude.{◌≡◌, ◌∷◌, [], length, IfOk};
+ghost use Rattle.std.specs.Prelude.{◌≡◌, ◌+◌, ◌<◌, ◌^◌, ◌∷◌, [], length, slice_get, Some, IfOk};
 ghost use Rattle.std.specs.Option.{option_to_list};
 
 use gu_msgs::outbound::Body;
 use std::alloc::{AllocError, Global};
 use std::marker::Model;
 
-/// Messages, in the order in which they are to be sent. To a contract they are their list.
+/// Messages, in the order in which they are to be sent. Of one message none takes memory. To a contract they are their list.
 #[derive(Drop)]
 pub struct Messages {
-    bodies: Vec<Body>,
+    first: Option<Body>,
+    others: Vec<Body>,
 }
 
 impl Model for Messages {
-    ghost use Rattle.std.specs.Prelude.{List};
+    ghost use Rattle.std.specs.Prelude.{List, ◌++◌};
+    ghost use Rattle.std.specs.Option.{option_to_list};
     ghost use Rattle.gu_msgs.specs.declared.outbound.Body.{Body};
 
     ghost Value = { List Body };
 
-    ghost view = { λ m. m.bodies.items };
+    ghost view = { λ m. option_to_list m.first ++ m.others.items };
 }
 
 impl Messages {
@@ -27,59 +29,68 @@ impl Messages {
     pub fn none(alloc: Global) -> Self
         ensures { result ≡ [] }
     {
-        Messages {
-            bodies: Vec::new(alloc),
-        }
+        Messages::of_option(alloc, None)
     }
 
     /// One message.
-    pub fn one(alloc: Global, body: Body) -> Result<Self, AllocError>
-        ensures { IfOk result (λ messages. messages ≡ body ∷ []) }
+    pub fn one(alloc: Global, body: Body) -> Self
+        ensures { result ≡ body ∷ [] }
     {
-        let mut bodies = Vec::with_capacity(alloc, 1)?;
-        bodies.push(body)?;
-        Ok(Messages { bodies })
+        Messages::of_option(alloc, Some(body))
+    }
+
+    /// The message, if there is one.
+    pub fn of_option(alloc: Global, body: Option<Body>) -> Self
+        ensures { result ≡ option_to_list body }
+    {
+        Messages {
+            first: body,
+            others: Vec::new(alloc),
+        }
     }
 
     /// Two messages.
     pub fn two(alloc: Global, first: Body, second: Body) -> Result<Self, AllocError>
         ensures { IfOk result (λ messages. messages ≡ first ∷ second ∷ []) }
     {
-        let mut bodies = Vec::with_capacity(alloc, 2)?;
-        bodies.push(first)?;
-        bodies.push(second)?;
-        Ok(Messages { bodies })
+        let mut others = Vec::with_capacity(alloc, 1)?;
+        others.push(second)?;
+        Ok(Messages {
+            first: Some(first),
+            others,
+        })
     }
 
     /// These messages.
     pub fn of(bodies: Vec<Body>) -> Self
         ensures { result ≡ bodies.items }
     {
-        Messages { bodies }
-    }
-
-    /// The message, if there is one.
-    pub fn of_option(alloc: Global, body: Option<Body>) -> Result<Self, AllocError>
-        ensures { IfOk result (λ messages. messages ≡ option_to_list body) }
-    {
-        match body {
-            Some(body) => Messages::one(alloc, body),
-            None => Ok(Messages::none(alloc)),
+        Messages {
+            first: None,
+            others: bodies,
         }
     }
 
     /// How many there are.
     pub fn len(&self) -> usize
-        ensures { result ≡ length self.now }
+        ensures len { result ≡ length self.now }
+        ensures few { result < 2 ^ 63 + 1 }
     {
-        self.bodies.len()
+        match &self.first {
+            Some(_) => self.others.len() + 1,
+            None => self.others.len(),
+        }
     }
 
-    /// The messages in a buffer of their own.
-    pub fn into_vec(self) -> Vec<Body>
-        ensures { result.items ≡ self }
+    /// The message at a place.
+    pub fn get(&self, place: usize) -> &Body
+        requires { place < length self.now }
+        ensures { slice_get self.now place ≡ Some result.now }
     {
-        let Messages { bodies } = self;
-        bodies
+        match &self.first {
+            Some(first) if place == 0 => first,
+            Some(_) => &self.others[place - 1],
+            None => &self.others[place],
+        }
     }
 }

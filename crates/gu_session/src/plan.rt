@@ -1,7 +1,9 @@
 //! What a step does, before numbers are given.
 
-ghost use Rattle.std.specs.Prelude.{◌≡◌, ◌∷◌, [], IfOk};
+ghost use Rattle.std.specs.Prelude.{◌≡◌, ◌+◌, ◌<◌, ◌≤◌, ◌∷◌, [], length, slice_get, Some};
+ghost use Rattle.gu_msgs.specs.Written.{outbound_of};
 ghost use Rattle.gu_session.specs.Plans.{answers, hands, leaves, quiet, repeats, says};
+ghost use Rattle.gu_session.specs.Sending.{numbered};
 
 use crate::ask_ref::AskRef;
 use crate::messages::Messages;
@@ -9,8 +11,9 @@ use crate::seq_num::SeqNum;
 use crate::standing::{Standing, Waiting};
 use gu_msgs::inbound::ResendRequest;
 use gu_msgs::outbound::Body;
-use gu_msgs::{Question, Request};
-use std::alloc::{AllocError, Global};
+use gu_msgs::{OutboundRef, Question, Request};
+use gu_terms::Moment;
+use std::alloc::Global;
 
 /// What is handed out, with what its answer needs.
 #[derive(Drop)]
@@ -63,18 +66,17 @@ impl Plan {
     }
 
     /// A new message.
-    pub fn says(alloc: Global, at: &Standing, body: Body) -> Result<Self, AllocError>
-        ensures { IfOk result (λ plan. plan ≡ says at.now (body ∷ [])) }
+    pub fn says(alloc: Global, at: &Standing, body: Body) -> Self
+        ensures { result ≡ says at.now (body ∷ []) }
     {
-        let messages = Messages::one(alloc, body)?;
-        Ok(Plan {
+        Plan {
             after: *at,
             again: None,
-            messages,
+            messages: Messages::one(alloc, body),
             handed: None,
             answered: None,
             ends: false,
-        })
+        }
     }
 
     /// New messages, and the end.
@@ -92,11 +94,10 @@ impl Plan {
     }
 
     /// A Logout or the like, and the end.
-    pub fn leaves_with(alloc: Global, at: &Standing, body: Body) -> Result<Self, AllocError>
-        ensures { IfOk result (λ plan. plan ≡ leaves at.now (body ∷ [])) }
+    pub fn leaves_with(alloc: Global, at: &Standing, body: Body) -> Self
+        ensures { result ≡ leaves at.now (body ∷ []) }
     {
-        let messages = Messages::one(alloc, body)?;
-        Ok(Plan::leaves(at, messages))
+        Plan::leaves(at, Messages::one(alloc, body))
     }
 
     /// What was asked for again, then new messages.
@@ -151,6 +152,22 @@ impl Plan {
             handed: None,
             answered: Some(reference),
             ends: false,
+        }
+    }
+
+    /// The new message at a place, where the first of them has this number.
+    pub fn new_message(&self, first: u64, now: Moment, place: usize) -> OutboundRef<'_>
+        requires place { place < length self.now.messages }
+        requires most { first + length self.now.messages ≤ 1000000001 }
+        ensures message { slice_get (numbered self.now.after.firm now first self.now.messages) place ≡ Some (outbound_of result) }
+        ensures number { result.msg_seq_num ≡ first + place }
+    {
+        OutboundRef {
+            firm: self.after.firm,
+            msg_seq_num: first + place as u64,
+            sending_time: now,
+            orig_sending_time: None,
+            body: self.messages.get(place),
         }
     }
 }

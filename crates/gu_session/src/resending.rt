@@ -1,6 +1,7 @@
 //! What is sent again.
 
 ghost use Rattle.std.specs.Prelude.{◌≡◌, ◌+◌, ◌&&◌, ◌++◌, ◌∷◌, [], nat_le, nat_lt, OnOk, IfOk};
+ghost use Rattle.gu_session.specs.Ascending.{IsAscending};
 ghost use Rattle.gu_session.specs.Resending.{again, behind_last, gap, gap_fill, resent, sent_within, with_gaps};
 ghost use Rattle.gu_session.specs.Walks.{asked_now, at_behind};
 
@@ -114,26 +115,29 @@ fn push_asked(
     }
 }
 
-/// Appends what is sent again for a request.
-pub fn push_resent(
-    messages: &mut Vec<Outbound>,
+/// What is sent again for a request. Numbers ascend, so only the messages that are asked for are looked at.
+pub fn resent(
+    alloc: Global,
     firm: &FirmId,
     now: &Moment,
     kept: &Kept,
     next: u64,
     request: &ResendRequest,
-) -> Result<(), AllocError>
-    ensures { OnOk result (messages.new.items ≡ messages.old.items ++ resent firm.now kept.now.items next now.now request.now) }
+) -> Result<Vec<Outbound>, AllocError>
+    requires { IsAscending kept.now.items }
+    ensures { IfOk result (λ messages. messages.items ≡ resent firm.now kept.now.items next now.now request.now) }
 {
     let range = Range {
         from: request.begin_seq_no,
         to: behind_last(next, request.end_seq_no),
     };
+    let mut messages = Vec::new(alloc);
     let mut at = range.from;
-    for place in 0..kept.len() {
+    for place in kept.place_of(range.from)..kept.place_of(range.to) {
         if let Some(sent) = kept.get(place) {
-            at = push_asked(messages, firm, now, &range, at, &sent)?;
+            at = push_asked(&mut messages, firm, now, &range, at, sent)?;
         }
     }
-    push_gap(messages, firm, now, at, range.to)
+    push_gap(&mut messages, firm, now, at, range.to)?;
+    Ok(messages)
 }

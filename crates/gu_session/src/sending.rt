@@ -1,75 +1,134 @@
 //! What a session gives.
 
-ghost use Rattle.std.specs.Prelude.{◌≡◌, ◌∷◌, ◌++◌, [], map, IfOk, OnOk};
-ghost use Rattle.gu_session.specs.Encoded.{AreOutputs, Closes, IsEncoded, Response, Sends};
-ghost use Rattle.gu_session.specs.Sending.{ending_of};
+ghost use Rattle.std.specs.Prelude.{◌≡◌, ◌+◌, ◌≤◌, ◌∷◌, ◌++◌, [], List, ℕ, length, map, vec_len, vec_capacity, IfOk, OnOk, OnErr};
+ghost use Rattle.gu_msgs.specs.Written.{outbound_of};
+ghost use Rattle.gu_session.specs.Appending.{FollowText, FollowsText};
+ghost use Rattle.gu_session.specs.Encoded.{AreOutputs, Closes, Sends};
 ghost use Rattle.gu_session.specs.Given.{end_outputs, handed_outputs};
+ghost use Rattle.gu_session.specs.Readiness.{sent_with};
 
-use crate::output::{Asked, Output};
-use crate::plan::Handed;
-use gu_fix::encode;
-use gu_msgs::{Outbound, write};
+use crate::output::{Output, Taken};
+use crate::ready::Ready;
+use gu_fix::{Fields, encode_onto};
+use gu_msgs::{OutboundRef, write_over};
+use gu_terms::Moment;
 use std::alloc::{AllocError, Global};
+use std::mem;
 
-/// The bytes of a message.
-fn encode_message(alloc: Global, message: &Outbound) -> Result<Vec<u8>, AllocError>
-    ensures { IfOk result (λ bytes. IsEncoded message.now bytes.items) }
-{
-    let fields = write(alloc, message)?;
-    match encode(alloc, &fields) {
-        Ok(bytes) => Ok(bytes),
-        Err(_) => Err(AllocError),
-    }
-}
-
-/// Messages as bytes, in order.
-fn sends(alloc: Global, messages: &[Outbound]) -> Result<Vec<Output>, AllocError>
-    ensures { IfOk result (λ outputs. AreOutputs (map Sends messages.now) outputs.items) }
-{
-    let mut outputs = Vec::new(alloc);
-    for message in messages {
-        let bytes = encode_message(alloc, message)?;
-        outputs.push(Output::Send(bytes))?;
-    }
-    Ok(outputs)
-}
-
-/// Appends what is handed out.
-fn push_handed(outputs: &mut Vec<Output>, handed: Option<Handed>) -> Result<(), AllocError>
-    ensures { OnOk result (outputs.new.items ≡ outputs.old.items ++ handed_outputs handed) }
-{
-    if let Some(handed) = handed {
-        outputs.push(Output::Hand(Asked {
-            what: handed.request,
-            reference: handed.waiting.reference,
-        }))?;
-    }
-    Ok(())
-}
-
-/// Appends the end, if it is reached.
-fn push_end(outputs: &mut Vec<Output>, ends: bool) -> Result<(), AllocError>
-    ensures { OnOk result (outputs.new.items ≡ outputs.old.items ++ end_outputs ends) }
-{
-    if ends {
-        outputs.push(Output::Close)?;
-    }
-    Ok(())
-}
-
-/// Messages as bytes, what is handed out, and the end.
-pub fn outputs(
+/// Writes messages, all in the same room for their fields.
+pub struct Pen {
     alloc: Global,
-    messages: &[Outbound],
-    handed: Option<Handed>,
-    ends: bool,
-) -> Result<Vec<Output>, AllocError>
-    ensures { IfOk result (λ outputs. AreOutputs (map Sends messages.now ++ ending_of handed ends) outputs.items) }
+    room: Fields,
+}
+
+impl Drop for Pen {
+    fn drop(self) {
+        let Pen { alloc: _, room } = self;
+        drop(room);
+    }
+}
+
+impl Pen {
+    /// A pen without room as yet.
+    pub fn new(alloc: Global) -> Self {
+        Pen {
+            alloc,
+            room: Fields::new(alloc),
+        }
+    }
+
+    /// Appends a message.
+    fn push(&mut self, output: &mut Vec<u8>, message: &OutboundRef<'_>) -> Result<(), AllocError>
+        ensures pushed { OnOk result (FollowsText (outbound_of message.now) output.old.items output.new.items) }
+        ensures refused { OnErr result (output.new.items ≡ output.old.items) }
+    {
+        let room = mem::replace(&mut self.room, Fields::new(self.alloc));
+        let fields = write_over(self.alloc, room, message)?;
+        encode_onto(self.alloc, output, &fields)?;
+        self.room = fields;
+        Ok(())
+    }
+
+    /// Appends all messages of a plan that is ready, where the first new one has this number, or the first of them.
+    fn push_all(
+        &mut self,
+        output: &mut Vec<u8>,
+        ready: &Ready,
+        first: u64,
+        now: Moment,
+    ) -> Result<(), AllocError>
+        requires { first + length ready.now.plan.messages ≤ 1000000001 }
+        ensures pushed { OnOk result (FollowText (sent_with ready.now first now) output.old.items output.new.items) }
+        ensures refused { OnErr result ((tail : List ℕ) × (output.new.items ≡ output.old.items ++ tail)) }
+    {
+        for place in 0..ready.len() {
+            self.push(output, &ready.message(first, now, place))?;
+        }
+        Ok(())
+    }
+
+    /// Appends all messages of a plan that is ready, where the first new one has this number, or nothing.
+    pub fn append(
+        &mut self,
+        output: &mut Vec<u8>,
+        ready: &Ready,
+        first: u64,
+        now: Moment,
+    ) -> Result<(), AllocError>
+        requires { first + length ready.now.plan.messages ≤ 1000000001 }
+        ensures pushed { OnOk result (FollowText (sent_with ready.now first now) output.old.items output.new.items) }
+        ensures refused { OnErr result (output.new.items ≡ output.old.items) }
+    {
+        let start = output.len();
+        let pushed = self.push_all(output, ready, first, now);
+        if pushed.is_err() {
+            output.truncate(start);
+        }
+        pushed
+    }
+
+    /// A message as an output.
+    fn output(&mut self, message: &OutboundRef<'_>) -> Result<Output, AllocError>
+        ensures { IfOk result (λ output. AreOutputs (Sends (outbound_of message.now) ∷ []) (output ∷ [])) }
+    {
+        let mut bytes = Vec::new(self.alloc);
+        self.push(&mut bytes, message)?;
+        Ok(Output::Send(bytes))
+    }
+
+    /// All messages of a plan that is ready as outputs, where the first new one has this number, with room for two outputs more.
+    pub fn outputs(
+        &mut self,
+        ready: &Ready,
+        first: u64,
+        now: Moment,
+    ) -> Result<Vec<Output>, AllocError>
+        requires { first + length ready.now.plan.messages ≤ 1000000001 }
+        ensures outputs { IfOk result (λ outputs. AreOutputs (map Sends (sent_with ready.now first now)) outputs.items) }
+        ensures room { IfOk result (λ outputs. vec_len outputs + 2 ≤ vec_capacity outputs) }
+    {
+        let mut outputs = Vec::new(self.alloc);
+        for place in 0..ready.len() {
+            let output = self.output(&ready.message(first, now, place))?;
+            outputs.push(output)?;
+        }
+        outputs.reserve(2)?;
+        Ok(outputs)
+    }
+}
+
+/// Appends what a step gives besides its messages, in the room that is there.
+pub fn push_taken(outputs: &mut Vec<Output>, taken: Taken)
+    requires { vec_len outputs.old + 2 ≤ vec_capacity outputs.old }
+    ensures { outputs.new.items ≡ (outputs.old.items ++ handed_outputs taken.handed) ++ end_outputs taken.is_closed }
 {
-    let mut outputs = sends(alloc, messages)?;
-    push_handed(&mut outputs, handed)?;
-    push_end(&mut outputs, ends)?;
-    Ok(outputs)
+    let Taken { handed, is_closed } = taken;
+    if let Some(asked) = handed {
+        outputs.push_reserved(Output::Hand(asked));
+    }
+    if is_closed {
+        outputs.push_reserved(Output::Close);
+    }
 }
 
 /// The end alone.

@@ -19,7 +19,7 @@ use crate::stepping::{ask, enter, see};
 use crate::worker::Worker;
 use gu_book::Book;
 use gu_ref::Reference;
-use gu_terms::{Command, Group};
+use gu_terms::{Command, Group, Seed};
 use gu_view::View;
 use std::alloc::{AllocError, Global};
 use std::marker::Model;
@@ -83,12 +83,20 @@ impl Drop for World {
 }
 
 impl World {
-    /// A book without entries, whose workers haven't looked.
+    /// A book without entries, whose workers haven't looked, for runs that serve no peers: its tables have a fixed seed.
     pub fn new(alloc: Global, reference: Reference) -> Self
         ensures { result ≡ beginning reference }
     {
+        World::seeded(alloc, reference, Seed::new(0))
+    }
+
+    /// A book without entries, whose tables of ids that firms choose have this seed, and whose workers haven't looked. No step's
+    /// outcome depends on the seed.
+    pub fn seeded(alloc: Global, reference: Reference, seed: Seed) -> Self
+        ensures { result ≡ beginning reference }
+    {
         World {
-            book: Book::new(alloc, reference),
+            book: Book::seeded(alloc, reference, seed),
             looks: Looks::new(alloc),
             outcomes: Vec::new(alloc),
             alloc,

@@ -21,7 +21,7 @@ fn at_nine(w: &Values, body: Body) -> Outbound {
 /// The fields of a message that is written in the room of longer ones, as a text.
 fn written(alloc: Global, message: &Outbound) -> Result<String, AllocError> {
     let room = fields_of(alloc, "{58=a longer text than any other|*30}")?;
-    let fields = write_over(alloc, room, message)?;
+    let fields = write_over(alloc, room, &message.as_ref())?;
     text_of(alloc, &fields)
 }
 

@@ -3,18 +3,18 @@ use Rattle.gu_engine.proofs.connection.Connection.answer_frame.Goals as goal
 
 pub returns : goal.returns
 returns g c =
-    let hears = c.in_ok-handed.ensures in
-    let each = c.in_ok-answer_all.ensures in (
+    let hears = c.in_ok-asked.ensures in
+    let each = c.in_ok-answer_any.ensures in (
       hears.0 ++ each.0,
       each.1 ∙ ap (λ (t : List ℕ). t ++ each.0) hears.1 ∙ append_assoc c.args.output.now.items hears.0 each.0,
       record {
-        asked = c.in_ok-handed.handed.items;
+        asked = c.in_ok-asked.asked;
         heard = c.take.new.self;
-        answered = c.answer_all.new.self;
+        answered = c.answer_any.new.self;
         sent = hears.0;
-        answers = each.0;
+        answer = each.0;
         hears = hears.2;
-        answers_each = each.2;
+        answers = each.2;
         parts = refl;
         new_is = refl;
       },

@@ -1,0 +1,94 @@
+-- What is kept behind new messages.
+use Rattle.std.proofs.Common.{◌≡◌, ℕ, ◌+◌, ◌-◌, ◌≤◌, ◌<◌, List, [], ◌∷◌, ◌++◌, Option, None, Some, length, take, drop, slice_get, get_or, refl, ap, sym, ◌∙◌, append_assoc, add-one, arith}
+use Rattle.std.specs.List.{filter_map}
+use Rattle.std.specs.Option.{option_map_or, option_to_list}
+use Rattle.std.specs.Prelude.{is_some, if◌then◌else◌}
+use Rattle.std.proofs.Math.Seq.{take-suc}
+use Rattle.std.proofs.lemmas.List.{append-nil, length-append, length-drop}
+use Rattle.std.proofs.lemmas.List.Elements.{filter_map-append}
+use Rattle.std.proofs.lemmas.Option.{get_or_from_slice_get, slice_get_within}
+use Rattle.circular_buffer.specs.Buffer.{Buffer, buffer, keep_last}
+use Rattle.gu_msgs.specs.declared.outbound.Outbound.{Outbound}
+use Rattle.gu_session.specs.Readiness.{IsReady, IsSoundState, seen}
+use Rattle.gu_session.specs.Sending.{new_of, sent_by, sent_in}
+use Rattle.gu_session.specs.Sound.{HasRoom, IsSound, extended}
+use Rattle.gu_session.specs.States.{SessionState}
+use Rattle.gu_session.specs.declared.kept.Sent.{Sent}
+use Rattle.gu_session.specs.declared.ready.Ready.{Ready}
+use Rattle.gu_session.specs.declared.standing.Standing.{Standing}
+use Rattle.gu_session.specs.declared.state.State.{State}
+use Rattle.gu_session.proofs.Ascending.{within-append, within-drop, within-numbered}
+use Rattle.gu_session.proofs.KeepingOn.{keep_last-append}
+use Rattle.gu_session.proofs.NumberLemmas.{length-numbered}
+
+-- the first so many and the one at their end
+pub take-more : (messages : List Outbound) (place : ℕ) (message : Outbound) → slice_get messages place ≡ Some message →
+    take (place + 1) messages ≡ take place messages ++ message ∷ []
+take-more messages place message here =
+    let within : place < length messages = slice_get_within messages place message here in
+    let there : get_or messages place message ≡ message = get_or_from_slice_get messages place message message here in
+    rw (add-one, take-suc messages place message, there) refl
+
+-- with nothing more
+pub extended-none : (kept : Buffer Sent) → length kept.items ≤ kept.capacity → extended kept [] ≡ kept
+extended-none kept few =
+    let none : length kept.items - kept.capacity ≡ 0 = omega (arith, few) in
+    ap (λ (xs : List Sent). buffer (keep_last kept.capacity xs) kept.capacity) (append-nil kept.items)
+    ∙ ap (λ (n : ℕ). buffer (drop n kept.items) kept.capacity) none
+
+-- with some, and then with others
+pub extended-twice : (kept : Buffer Sent) (xs ys : List Sent) → extended (extended kept xs) ys ≡ extended kept (xs ++ ys)
+extended-twice kept xs ys =
+    ap (λ (zs : List Sent). buffer zs kept.capacity)
+    (keep_last-append kept.capacity (kept.items ++ xs) ys ∙ ap (keep_last kept.capacity) (append_assoc kept.items xs ys))
+
+-- there are never more than there is room for
+pub extended-few : (kept : Buffer Sent) (xs : List Sent) → length (extended kept xs).items ≤ (extended kept xs).capacity
+extended-few kept xs = omega (arith, length-drop (length (kept.items ++ xs) - kept.capacity) (kept.items ++ xs))
+
+-- what is to be kept of one message
+pub filter_map-one : (message : Outbound) (found : Option Sent) → sent_in message ≡ found → filter_map sent_in (message ∷ []) ≡ option_to_list (sent_in message)
+filter_map-one message None is = rw is refl
+filter_map-one message (Some one) is = rw is refl
+
+-- one message more is kept
+pub extended-more : (before kept : Buffer Sent) (messages : List Outbound) (place : ℕ) (message : Outbound) → slice_get messages place ≡ Some message →
+    kept ≡ extended before (filter_map sent_in (take place messages)) →
+    extended kept (option_to_list (sent_in message)) ≡ extended before (filter_map sent_in (take (place + 1) messages))
+extended-more before kept messages place message here so_far =
+    let first = filter_map sent_in (take place messages) in
+    ap (λ (k : Buffer Sent). extended k (option_to_list (sent_in message))) so_far
+    ∙ extended-twice before first (option_to_list (sent_in message))
+    ∙ ap (λ (xs : List Sent). extended before (first ++ xs)) (sym (filter_map-one message (sent_in message) refl))
+    ∙ ap (extended before) (sym (filter_map-append sent_in (take place messages) (message ∷ [])))
+    ∙ ap (λ (ms : List Outbound). extended before (filter_map sent_in ms)) (sym (take-more messages place message here))
+
+-- in the room that there is once a firm is logged on
+pub kept_in_room : (at : Option Standing) (kept : Buffer Sent) (room : Option (Buffer Sent)) (sent : List Sent) → HasRoom at kept →
+    room ≡ (if is_some at then None else Some (buffer [] 4096)) →
+    extended (option_map_or (λ (room : Buffer Sent). room) room kept) sent ≡ buffer (keep_last 4096 (kept.items ++ sent)) 4096
+kept_in_room None kept room sent has is = rw (is, has) refl
+kept_in_room (Some at) kept room sent has is = rw (is, has) refl
+
+-- as many messages as are ready are those that a plan sends
+pub committed_sent : (s : SessionState) (now : ℕ) (ready : Ready) → IsReady s now ready →
+    length ready.again.items + length ready.plan.messages ≡ length (sent_by s now ready.plan)
+committed_sent s now ready is =
+    rw (← is.again)
+    (sym (length-append ready.again.items (new_of s now ready.plan)
+    ∙ ap (λ (n : ℕ). length ready.again.items + n) (length-numbered ready.plan.after.firm now s.next ready.plan.messages)))
+
+-- a session is sound behind a plan
+pub committed_sound : (s : State) (now : ℕ) (ready : Ready) → IsReady (seen s) now ready → IsSoundState s →
+    IsSound (Some ready.plan.after) (s.next + length ready.plan.messages)
+    (buffer (keep_last 4096 (s.kept.items ++ filter_map sent_in (new_of (seen s) now ready.plan))) 4096)
+committed_sound s now ready is sound =
+    let sent = filter_map sent_in (new_of (seen s) now ready.plan) in
+    record {
+      some = omega (arith, sound.some);
+      most = is.most;
+      room = refl;
+      few = omega (arith, length-drop (length (s.kept.items ++ sent) - 4096) (s.kept.items ++ sent));
+      ascending = within-drop (length (s.kept.items ++ sent) - 4096) 1 (s.next + length ready.plan.messages) (s.kept.items ++ sent)
+          (within-append 1 s.next (s.next + length ready.plan.messages) s.kept.items sent sound.ascending (within-numbered ready.plan.after.firm now s.next ready.plan.messages));
+    }

@@ -1,0 +1,142 @@
+-- Messages behind a text.
+use Rattle.std.proofs.Common.{◌≡◌, ◌<◌, ◌+◌, ◌^◌, ◌||◌, ℕ, Bool, true, false, List, [], ◌∷◌, ◌++◌, Option, None, Some, Result, Ok, Err, Vec, map, length, take, slice_get, refl, ap, sym, ◌∙◌, append_assoc, arith}
+use Rattle.std.specs.Prelude.{OnErr}
+use Rattle.std.specs.List.{filter_map, flat_map, list_any}
+use Rattle.std.specs.Option.{option_to_list}
+use Rattle.std.specs.declared.alloc.Global.{Global}
+use Rattle.std.proofs.lemmas.Grind.{flat_map-append}
+use Rattle.std.proofs.lemmas.List.{append-nil, length-append}
+use Rattle.std.proofs.lemmas.List.Elements.{filter_map-append}
+use Rattle.std.proofs.lemmas.List.Folds.{list_any-append}
+use Rattle.gu_msgs.specs.declared.outbound.Outbound.{Outbound}
+use Rattle.gu_session.specs.Appending.{FollowText, FollowsText}
+use Rattle.gu_session.specs.Encoded.{AreOutputs, Closes, Sends}
+use Rattle.gu_session.specs.Given.{asked_in, end_outputs, handed_outputs}
+use Rattle.gu_session.specs.Outputs.{StepsOnto, bytes_in, handed_in, is_close}
+use Rattle.gu_session.specs.Readiness.{IsStep, sent_with}
+use Rattle.gu_session.specs.Sending.{behind, closed, ending_of, given_by, new_of, numbered}
+use Rattle.gu_session.specs.States.{SessionState}
+use Rattle.gu_session.specs.Steps.{Steps, StepsWith}
+use Rattle.gu_session.specs.declared.input.Input.{Input}
+use Rattle.gu_session.specs.declared.output.Asked.{Asked}
+use Rattle.gu_session.specs.declared.output.Output.{Output}
+use Rattle.gu_session.specs.declared.output.Output.TheVariants.{Send, Hand, Close}
+use Rattle.gu_session.specs.declared.output.Taken.{Taken}
+use Rattle.gu_session.specs.declared.ready.Ready.{Ready}
+use Rattle.gu_session.proofs.NumberLemmas.{length-numbered}
+use Rattle.gu_session.proofs.OutputLemmas.{AreOutputs-append, buffer_of, ending_is_given, one_more}
+
+-- a fact that holds whatever came of a call
+pub on_err_from : {T E P : Type 0} (r : Result T E) → P → OnErr r P
+on_err_from (Ok value) here = tt
+on_err_from (Err error) here = here
+
+-- how many messages a plan that is ready sends
+pub length-sent_with : (ready : Ready) (first now : ℕ) → length (sent_with ready first now) ≡ length ready.again.items + length ready.plan.messages
+length-sent_with ready first now =
+    length-append ready.again.items (numbered ready.plan.after.firm now first ready.plan.messages)
+    ∙ ap (λ (n : ℕ). length ready.again.items + n) (length-numbered ready.plan.after.firm now first ready.plan.messages)
+
+-- no message follows at first
+pub follow-none : (text : List ℕ) → FollowText [] text text
+follow-none text = record { outputs = []; are_outputs = tt; text = sym (append-nil text) }
+
+-- one message more follows
+pub follow-more : (v : Vec ℕ Global) (messages : List Outbound) (place : ℕ) (message : Outbound) (before mid : List ℕ) → slice_get messages place ≡ Some message →
+    FollowText (take place messages) before mid → FollowsText message mid v.items → FollowText (take (place + 1) messages) before v.items
+follow-more v messages place message before mid here so_far one =
+    let short : length one.bytes < 2 ^ 63 = omega (arith, v.ok.0, v.ok.1, v.small, length-append mid one.bytes, ap length one.text) in
+    let last : Output = Send (buffer_of v one.bytes short) in
+    record {
+      outputs = so_far.outputs ++ last ∷ [];
+      are_outputs = one_more messages place message so_far.outputs last here so_far.are_outputs (one.encoded, tt);
+      text = one.text ∙ ap (λ (t : List ℕ). t ++ one.bytes) so_far.text ∙ append_assoc before (flat_map bytes_in so_far.outputs) one.bytes
+          ∙ ap (λ (t : List ℕ). before ++ (flat_map bytes_in so_far.outputs ++ t)) (sym (append-nil one.bytes))
+          ∙ ap (λ (t : List ℕ). before ++ t) (sym (flat_map-append bytes_in so_far.outputs (last ∷ [])));
+    }
+
+-- messages hand nothing out
+pub none_handed : (messages : List Outbound) (outputs : List Output) → AreOutputs (map Sends messages) outputs → filter_map handed_in outputs ≡ []
+none_handed [] [] are = refl
+none_handed [] (output ∷ outputs) are = absurd are
+none_handed (message ∷ messages) [] are = absurd are
+none_handed (message ∷ messages) (Send bytes ∷ outputs) (one, rest) = none_handed messages outputs rest
+none_handed (message ∷ messages) (Hand asked ∷ outputs) (one, rest) = absurd one
+none_handed (message ∷ messages) (Close ∷ outputs) (one, rest) = absurd one
+
+-- nor do they close
+pub none_closes : (messages : List Outbound) (outputs : List Output) → AreOutputs (map Sends messages) outputs → list_any is_close outputs ≡ false
+none_closes [] [] are = refl
+none_closes [] (output ∷ outputs) are = absurd are
+none_closes (message ∷ messages) [] are = absurd are
+none_closes (message ∷ messages) (Send bytes ∷ outputs) (one, rest) = none_closes messages outputs rest
+none_closes (message ∷ messages) (Hand asked ∷ outputs) (one, rest) = absurd one
+none_closes (message ∷ messages) (Close ∷ outputs) (one, rest) = absurd one
+
+-- what follows the messages has no bytes
+pub ending_bytes : (handed : Option Asked) (ends : Bool) → flat_map bytes_in (handed_outputs handed ++ end_outputs ends) ≡ []
+ending_bytes None true = refl
+ending_bytes None false = refl
+ending_bytes (Some asked) true = refl
+ending_bytes (Some asked) false = refl
+
+pub ending_handed : (handed : Option Asked) (ends : Bool) → filter_map handed_in (handed_outputs handed ++ end_outputs ends) ≡ option_to_list handed
+ending_handed None true = refl
+ending_handed None false = refl
+ending_handed (Some asked) true = refl
+ending_handed (Some asked) false = refl
+
+pub ending_closes : (handed : Option Asked) (ends : Bool) → list_any is_close (handed_outputs handed ++ end_outputs ends) ≡ ends
+ending_closes None true = refl
+ending_closes None false = refl
+ending_closes (Some asked) true = refl
+ending_closes (Some asked) false = refl
+
+-- the outputs of a plan that is carried out
+pub plan_outputs : (s : SessionState) (input : Input) (now : ℕ) (ready : Ready) (outputs : List Output) (taken : Taken) → IsStep s input now ready →
+    AreOutputs (map Sends (sent_with ready s.next now)) outputs → taken.handed ≡ asked_in ready.plan.handed → taken.is_closed ≡ ready.plan.ends →
+    AreOutputs (given_by s now ready.plan) (outputs ++ (handed_outputs taken.handed ++ end_outputs taken.is_closed))
+plan_outputs s input now ready outputs taken is are handed ends =
+    let sent = ap (λ (ms : List Outbound). ms ++ new_of s now ready.plan) is.is_ready.again in
+    rw (← sent, handed, ends)
+    (AreOutputs-append (map Sends (sent_with ready s.next now)) (ending_of ready.plan.handed ready.plan.ends) outputs _ are (ending_is_given ready.plan.handed ready.plan.ends))
+
+-- a plan is carried out, one output after another
+pub plan_steps : (old new : SessionState) (input : Input) (now : ℕ) (ready : Ready) (outputs : List Output) (taken : Taken) → IsStep old input now ready →
+    AreOutputs (map Sends (sent_with ready old.next now)) outputs → taken.handed ≡ asked_in ready.plan.handed → taken.is_closed ≡ ready.plan.ends →
+    new ≡ behind old now ready.plan → StepsWith old input now (outputs ++ (handed_outputs taken.handed ++ end_outputs taken.is_closed)) new
+plan_steps old new input now ready outputs taken is are handed ends behind_is = record {
+  given = given_by old now ready.plan;
+  steps = rw behind_is is.steps;
+  are_outputs = plan_outputs old input now ready outputs taken is are handed ends;
+}
+
+-- a plan is carried out, with its messages behind a text
+pub plan_steps_onto : (old new : SessionState) (input : Input) (now : ℕ) (ready : Ready) (before after : List ℕ) (taken : Taken) → IsStep old input now ready →
+    FollowText (sent_with ready old.next now) before after → taken.handed ≡ asked_in ready.plan.handed → taken.is_closed ≡ ready.plan.ends →
+    new ≡ behind old now ready.plan → StepsOnto old input now before after taken new
+plan_steps_onto old new input now ready before after taken is follow handed ends behind_is =
+    let ending = handed_outputs taken.handed ++ end_outputs taken.is_closed in
+    let messages = sent_with ready old.next now in
+    record {
+      outputs = follow.outputs ++ ending;
+      steps = plan_steps old new input now ready follow.outputs taken is follow.are_outputs handed ends behind_is;
+      text = follow.text ∙ ap (λ (t : List ℕ). before ++ t)
+          (sym (append-nil (flat_map bytes_in follow.outputs)) ∙ ap (λ (t : List ℕ). flat_map bytes_in follow.outputs ++ t) (sym (ending_bytes taken.handed taken.is_closed))
+          ∙ sym (flat_map-append bytes_in follow.outputs ending));
+      handed = sym (filter_map-append handed_in follow.outputs ending ∙ ap (λ (xs : List Asked). xs ++ filter_map handed_in ending) (none_handed messages follow.outputs follow.are_outputs)
+          ∙ ending_handed taken.handed taken.is_closed);
+      close = sym (list_any-append is_close follow.outputs ending ∙ ap (λ (b : Bool). b || list_any is_close ending) (none_closes messages follow.outputs follow.are_outputs)
+          ∙ ending_closes taken.handed taken.is_closed);
+    }
+
+-- a session that leaves closes, and no bytes follow
+pub leaving_onto : (old new : SessionState) (input : Input) (now : ℕ) (text : List ℕ) (taken : Taken) → Steps old input now (Closes ∷ []) (closed old) →
+    new ≡ closed old → taken.handed ≡ None → taken.is_closed ≡ true → StepsOnto old input now text text taken new
+leaving_onto old new input now text taken is leaves handed close = record {
+  outputs = Close ∷ [];
+  steps = record { given = Closes ∷ []; steps = rw leaves is; are_outputs = (tt, tt) };
+  text = sym (append-nil text);
+  handed = ap (λ (asked : Option Asked). option_to_list asked) handed;
+  close = close;
+}

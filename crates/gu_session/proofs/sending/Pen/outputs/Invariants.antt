@@ -1,0 +1,8 @@
+use Rattle.std.proofs.Common.{map, take}
+use Rattle.gu_session.specs.Encoded.{AreOutputs, Sends}
+use Rattle.gu_session.specs.Readiness.{sent_with}
+use Rattle.gu_session.proofs.sending.Pen.outputs.Given as goal
+
+-- the messages so far
+abbrev pub invariant-loop-place : goal.invariant-loop-place
+invariant-loop-place l = AreOutputs (map Sends (take l.place (sent_with l.ready l.first l.now))) l.outputs.items

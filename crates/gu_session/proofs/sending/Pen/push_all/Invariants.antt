@@ -1,0 +1,8 @@
+use Rattle.std.proofs.Common.{take}
+use Rattle.gu_session.specs.Appending.{FollowText}
+use Rattle.gu_session.specs.Readiness.{sent_with}
+use Rattle.gu_session.proofs.sending.Pen.push_all.Given as goal
+
+-- the messages so far
+abbrev pub invariant-loop-place : goal.invariant-loop-place
+invariant-loop-place l = FollowText (take l.place (sent_with l.ready l.first l.now)) l.initial.output.items l.output.items

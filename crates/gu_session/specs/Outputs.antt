@@ -1,0 +1,37 @@
+-- What is seen of what a session gives, and a step whose messages are appended to a text.
+use Rattle.std.specs.Prelude.{◌≡◌, ◌++◌, ℕ, Bool, true, false, List, [], Option, None, Some}
+use Rattle.std.specs.List.{filter_map, flat_map, list_any}
+use Rattle.std.specs.Option.{option_to_list}
+use Rattle.gu_session.specs.States.{SessionState}
+use Rattle.gu_session.specs.Steps.{StepsWith}
+use Rattle.gu_session.specs.declared.input.Input.{Input}
+use Rattle.gu_session.specs.declared.output.Asked.{Asked}
+use Rattle.gu_session.specs.declared.output.Output.{Output}
+use Rattle.gu_session.specs.declared.output.Output.TheVariants.{Send, Hand, Close}
+use Rattle.gu_session.specs.declared.output.Taken.{Taken}
+
+-- the bytes that a session gives to be sent
+abbrev pub bytes_in : Output → List ℕ
+bytes_in (Send bytes) = bytes.items
+bytes_in (Hand asked) = []
+bytes_in Close = []
+
+-- what it hands out
+abbrev pub handed_in : Output → Option Asked
+handed_in (Send bytes) = None
+handed_in (Hand asked) = Some asked
+handed_in Close = None
+
+-- the close
+abbrev pub is_close : Output → Bool
+is_close (Send bytes) = false
+is_close (Hand asked) = false
+is_close Close = true
+
+-- a step of which all bytes follow a text, in order; what it hands out, and whether it closes, is taken
+pub record StepsOnto (old : SessionState) (input : Input) (now : ℕ) (before after : List ℕ) (taken : Taken) (new : SessionState) : Type 0 where
+  pub outputs : List Output
+  pub steps : StepsWith old input now outputs new
+  pub text : after ≡ before ++ flat_map bytes_in outputs
+  pub handed : option_to_list taken.handed ≡ filter_map handed_in outputs
+  pub close : taken.is_closed ≡ list_any is_close outputs

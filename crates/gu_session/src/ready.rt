@@ -1,0 +1,52 @@
+//! Plans that are ready to be carried out.
+
+ghost use Rattle.std.specs.Prelude.{◌≡◌, ◌+◌, ◌<◌, ◌≤◌, length, slice_get, Some};
+ghost use Rattle.gu_msgs.specs.Written.{outbound_of};
+ghost use Rattle.gu_session.specs.Readiness.{sent_with};
+
+use crate::kept::Kept;
+use crate::plan::Plan;
+use gu_msgs::{Outbound, OutboundRef};
+use gu_terms::Moment;
+
+/// A plan with all that takes memory to carry it out.
+#[derive(Drop)]
+pub struct Ready {
+    pub plan: Plan,
+    /// What is sent again.
+    pub again: Vec<Outbound>,
+    /// Room for what is to be kept, where a firm logs on.
+    pub room: Option<Kept>,
+}
+
+/// What is to be done on an input.
+#[derive(Drop)]
+pub enum Prepared {
+    /// Nothing.
+    Stay,
+    /// The session ends without a byte.
+    Leave,
+    /// A plan is carried out.
+    Go(Ready),
+}
+
+impl Ready {
+    /// How many messages are sent.
+    pub fn len(&self) -> usize
+        ensures { result ≡ length self.now.again.items + length self.now.plan.messages }
+    {
+        self.again.len() + self.plan.messages.len()
+    }
+
+    /// The message at a place of all that are sent, where the first new one has this number.
+    pub fn message(&self, first: u64, now: Moment, place: usize) -> OutboundRef<'_>
+        requires place { place < length self.now.again.items + length self.now.plan.messages }
+        requires most { first + length self.now.plan.messages ≤ 1000000001 }
+        ensures { slice_get (sent_with self.now first now) place ≡ Some (outbound_of result) }
+    {
+        if place < self.again.len() {
+            return self.again[place].as_ref();
+        }
+        self.plan.new_message(first, now, place - self.again.len())
+    }
+}

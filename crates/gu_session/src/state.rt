@@ -1,0 +1,172 @@
+//! What a session is between its inputs.
+
+ghost use Rattle.std.specs.Prelude.{◌≡◌, ◌<◌, [], true, false, None, vec_len, vec_capacity, IfOk};
+ghost use Rattle.gu_session.specs.Given.{asked_in};
+ghost use Rattle.gu_session.specs.Readiness.{IsPrepared, IsReady, IsSoundState, seen};
+ghost use Rattle.gu_session.specs.Sending.{behind, closed, is_over};
+ghost use Rattle.gu_session.specs.States.{new_session};
+ghost use Rattle.gu_session.specs.Steps.{IsCourse};
+
+use crate::carrying::{is_over, keep, move_to, repeats, room_for, sent_at_behind, settle, waiting_in};
+use crate::course::{answer_course, frame_course, notice_course, tick_course};
+use crate::input::Input;
+use crate::kept::Kept;
+use crate::output::{Asked, Taken};
+use crate::plan::{Course, Handed, Plan};
+use crate::ready::{Prepared, Ready};
+use crate::standing::{Standing, Waiting};
+use gu_terms::{FirmId, Moment};
+use std::alloc::{AllocError, Global};
+
+/// What a session is between its inputs.
+pub struct State {
+    pub firms: Vec<FirmId>,
+    pub at: Option<Standing>,
+    pub next: u64,
+    pub sent_at: Moment,
+    pub kept: Kept,
+    pub waiting: Vec<Waiting>,
+    pub is_closed: bool,
+}
+
+impl Drop for State {
+    fn drop(self) {
+        let State {
+            firms,
+            at: _,
+            next: _,
+            sent_at: _,
+            kept,
+            waiting,
+            is_closed: _,
+        } = self;
+        drop(firms);
+        drop(kept);
+        drop(waiting);
+    }
+}
+
+/// The beginning of time.
+fn beginning() -> Moment
+    ensures { result ≡ 0 }
+{
+    Moment::new(0).unwrap()
+}
+
+/// What is asked of the house.
+fn asked_in(handed: Option<Handed>) -> Option<Asked>
+    ensures { result ≡ asked_in handed }
+{
+    let Handed { request, waiting } = handed?;
+    Some(Asked {
+        what: request,
+        reference: waiting.reference,
+    })
+}
+
+impl State {
+    /// Before the first input, where one of these firms may log on.
+    pub fn new(alloc: Global, firms: Vec<FirmId>) -> Self
+        ensures seen { seen result ≡ new_session firms.items }
+        ensures sound { IsSoundState result }
+    {
+        State {
+            firms,
+            at: None,
+            next: 1,
+            sent_at: beginning(),
+            kept: Kept::new(),
+            waiting: Vec::new(alloc),
+            is_closed: false,
+        }
+    }
+
+    /// What is done on an input.
+    fn course(&self, alloc: Global, input: Input, now: Moment) -> Result<Course, AllocError>
+        ensures { IfOk result (IsCourse (seen self.now) input now) }
+    {
+        match input {
+            Input::Frame(frame) => frame_course(alloc, &self.firms, &self.at, frame, now),
+            Input::Notice(notice) => Ok(notice_course(alloc, &self.at, &notice)),
+            Input::Answer(reference, outcome) => {
+                answer_course(alloc, &self.at, &self.waiting, reference, &outcome)
+            }
+            Input::Tick => Ok(tick_course(alloc, &self.at, self.sent_at, now)),
+            Input::End => Ok(Course::Leave),
+        }
+    }
+
+    /// A plan whose numbers suffice with all that takes memory to carry it out.
+    fn ready(&self, alloc: Global, plan: Plan, now: Moment) -> Result<Ready, AllocError>
+        requires within { is_over self.now.next plan ≡ false }
+        requires sound { IsSoundState self.now }
+        ensures plan { IfOk result (λ ready. ready.plan ≡ plan) }
+        ensures ready { IfOk result (IsReady (seen self.now) now) }
+    {
+        let firm = &plan.after.firm;
+        let again = repeats(alloc, firm, &now, &self.kept, self.next, &plan.again)?;
+        let room = room_for(alloc, &self.at)?;
+        Ok(Ready { plan, again, room })
+    }
+
+    /// What is to be done on an input, with all that takes memory.
+    pub fn prepare(&self, alloc: Global, input: Input, now: Moment) -> Result<Prepared, AllocError>
+        requires open { self.now.is_closed ≡ false }
+        requires sound { IsSoundState self.now }
+        ensures { IfOk result (IsPrepared (seen self.now) input now) }
+    {
+        match self.course(alloc, input, now)? {
+            Course::Stay => Ok(Prepared::Stay),
+            Course::Leave => Ok(Prepared::Leave),
+            Course::Go(plan) if is_over(self.next, &plan) => {
+                drop(plan);
+                Ok(Prepared::Leave)
+            }
+            Course::Go(plan) => Ok(Prepared::Go(self.ready(alloc, plan, now)?)),
+        }
+    }
+
+    /// The session ends.
+    pub fn close(&mut self) -> Taken
+        ensures closed { seen self.new ≡ closed (seen self.old) }
+        ensures sound { IsSoundState self.old → IsSoundState self.new }
+        ensures handed { result.handed ≡ None }
+        ensures close { result.is_closed ≡ true }
+    {
+        self.is_closed = true;
+        Taken::end()
+    }
+
+    /// A plan that is ready is carried out. This takes no memory.
+    pub fn commit(&mut self, ready: Ready, now: Moment) -> Taken
+        requires ready { IsReady (seen self.old) now ready }
+        requires place { vec_len self.old.waiting < vec_capacity self.old.waiting }
+        requires sound { IsSoundState self.old }
+        ensures behind { seen self.new ≡ behind (seen self.old) now ready.plan }
+        ensures sound { IsSoundState self.new }
+        ensures handed { result.handed ≡ asked_in ready.plan.handed }
+        ensures close { result.is_closed ≡ ready.plan.ends }
+    {
+        self.sent_at = sent_at_behind(self.sent_at, now, ready.len());
+        let Ready { plan, again, room } = ready;
+        drop(again);
+        move_to(&mut self.kept, room);
+        keep(&mut self.kept, &plan, self.next, now);
+        let Plan {
+            after,
+            again: _,
+            messages,
+            handed,
+            answered,
+            ends,
+        } = plan;
+        settle(&mut self.waiting, waiting_in(&handed), answered);
+        self.next += messages.len() as u64;
+        self.at = Some(after);
+        self.is_closed = ends;
+        Taken {
+            handed: asked_in(handed),
+            is_closed: ends,
+        }
+    }
+}
