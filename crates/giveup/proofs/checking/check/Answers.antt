@@ -7,7 +7,7 @@ pub returns-in_err-text-clause-part : goal.returns-in_err-text-clause-part
 returns-in_err-text-clause-part g c = checked_nothing _ c.in_err-text.ensures.part refl
 
 pub returns-in_err-verdict-clause-part : goal.returns-in_err-verdict-clause-part
-returns-in_err-verdict-clause-part g c = checked_nothing _ (record { read = _; consumed = c.in_ok-text.ensures.all.consumed }) refl
+returns-in_err-verdict-clause-part g c = checked_nothing _ (record { read = c.in_ok-text.text.items; consumed = c.in_ok-text.ensures.all.consumed }) refl
 
 pub returns-clause-part : goal.returns-clause-part
 returns-clause-part g c =
