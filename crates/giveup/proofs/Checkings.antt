@@ -1,5 +1,5 @@
 -- What a check wrote.
-use Rattle.std.proofs.Common.{◌≡◌, ℕ, List, [], Option, Result, refl, sym, subst, inl, inr}
+use Rattle.std.proofs.Common.{◌≡◌, ℕ, List, [], Result, refl, sym, subst, inl, inr}
 use Rattle.std.specs.Io.KnownBytes.{Appends}
 use Rattle.gu_streams.specs.Written.{WrotePart}
 use Rattle.gu_streams.proofs.Writing.{wrote_none}

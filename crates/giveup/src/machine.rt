@@ -110,22 +110,17 @@ impl Clock for Machine<'_> {
     }
 }
 
-/// A text in the place of a value of the environment.
-fn fill(text: &str, buf: &mut [u8]) -> Result<usize, FillError> {
-    let bytes = text.as_bytes();
-    if bytes.len() > buf.len() {
-        return Err(FillError::TooLong);
-    }
-    buf[..bytes.len()].copy_from_slice(bytes);
-    Ok(bytes.len())
-}
-
 impl Env for Machine<'_> {
     fn arg(&self, i: usize, buf: &mut [u8]) -> Result<usize, FillError> {
-        match self.words.get(i) {
-            Some(word) => fill(word, buf),
-            None => Err(FillError::NotPresent),
+        let Some(word) = self.words.get(i) else {
+            return Err(FillError::NotPresent);
+        };
+        let bytes = word.as_bytes();
+        if bytes.len() > buf.len() {
+            return Err(FillError::TooLong);
         }
+        buf[..bytes.len()].copy_from_slice(bytes);
+        Ok(bytes.len())
     }
 
     fn var(&self, _name: &str, _buf: &mut [u8]) -> Result<usize, FillError> {
@@ -151,7 +146,7 @@ impl Read for Text<'_> {
 
 impl Write for Text<'_> {
     fn write(&mut self, _buf: &[u8]) -> io::Result<usize> {
-        unsupported()
+        Err(Error::from(ErrorKind::Unsupported))
     }
 
     fn flush(&mut self) -> io::Result<()> {
