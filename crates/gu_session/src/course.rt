@@ -65,12 +65,16 @@ pub fn frame_course(
 }
 
 /// What is done on a notice.
-pub fn notice_course(alloc: Global, at: &Option<Standing>, notice: &Notice) -> Course
-    ensures { result ≡ option_map_or (λ (at : StandingOf). on_notice at notice.now) at.now Stay }
+pub fn notice_course(
+    alloc: Global,
+    at: &Option<Standing>,
+    notice: &Notice,
+) -> Result<Course, AllocError>
+    ensures { IfOk result (λ course. course ≡ option_map_or (λ (at : StandingOf). on_notice at notice.now) at.now Stay) }
 {
     match at {
         Some(at) => on_notice(alloc, at, notice),
-        None => Course::Stay,
+        None => Ok(Course::Stay),
     }
 }
 
@@ -91,11 +95,16 @@ pub fn answer_course(
 }
 
 /// What is done as time passes.
-pub fn tick_course(alloc: Global, at: &Option<Standing>, sent_at: Moment, now: Moment) -> Course
-    ensures { result ≡ option_map_or (λ (at : StandingOf). on_tick at sent_at now) at.now Stay }
+pub fn tick_course(
+    alloc: Global,
+    at: &Option<Standing>,
+    sent_at: Moment,
+    now: Moment,
+) -> Result<Course, AllocError>
+    ensures { IfOk result (λ course. course ≡ option_map_or (λ (at : StandingOf). on_tick at sent_at now) at.now Stay) }
 {
     match at {
         Some(at) => on_tick(alloc, at, sent_at, now),
-        None => Course::Stay,
+        None => Ok(Course::Stay),
     }
 }
