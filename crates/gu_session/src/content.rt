@@ -18,6 +18,7 @@ use gu_msgs::{
 };
 use gu_terms::FirmId;
 use std::alloc::{AllocError, Global};
+use std::mem;
 
 /// Whether this firm is the sender.
 pub fn is_sender(firm: &FirmId, sender: &Option<FirmId>) -> bool
@@ -137,16 +138,17 @@ fn on_content(
 pub fn as_expected(
     alloc: Global,
     at: &Standing,
-    heard: Heard,
+    heard: &mut Heard,
     number: SeqNum,
 ) -> Result<Plan, AllocError>
-    ensures { IfOk result (λ plan. plan ≡ as_expected at.now heard number) }
+    ensures { IfOk result (λ plan. plan ≡ as_expected at.now heard.old number) }
 {
-    let Heard { heading, content } = heard;
-    let Some(tag) = wrong_party(&at.firm, &heading) else {
-        return on_content(alloc, at, &heading, number, content);
+    let heading = &heard.heading;
+    let Some(tag) = wrong_party(&at.firm, heading) else {
+        let content = mem::replace(&mut heard.content, Ok(Inbound::Heartbeat));
+        return on_content(alloc, at, heading, number, content);
     };
-    let first = reject(&heading, number, tag, SessionRejectReason::CompIdProblem);
+    let first = reject(heading, number, tag, SessionRejectReason::CompIdProblem);
     let second = Body::Logout(Some(LogoutReason::CompId));
     let messages = Messages::two(alloc, first, second)?;
     Ok(Plan::leaves(at, messages))

@@ -39,14 +39,14 @@ fn heard_course(
     alloc: Global,
     firms: &[FirmId],
     at: &Option<Standing>,
-    heard: Heard,
+    heard: &mut Heard,
     now: Moment,
 ) -> Result<Course, AllocError>
-    ensures { IfOk result (λ course. course ≡ frame_course firms.now at.now heard now) }
+    ensures { IfOk result (λ course. course ≡ frame_course firms.now at.now heard.old now) }
 {
     match at {
         Some(at) => Ok(Course::Go(frame_plan(alloc, &at_frame(at, now), heard)?)),
-        None => logon_course(alloc, firms, &heard, now),
+        None => logon_course(alloc, firms, heard, now),
     }
 }
 
@@ -60,8 +60,8 @@ pub fn frame_course(
 ) -> Result<Course, AllocError>
     ensures { IfOk result (IsFrameCourse firms.now at.now frame now) }
 {
-    let heard = hear(alloc, frame)?;
-    heard_course(alloc, firms, at, heard, now)
+    let mut heard = hear(alloc, frame)?;
+    heard_course(alloc, firms, at, &mut heard, now)
 }
 
 /// What is done on a notice.
