@@ -93,7 +93,7 @@ frames_split now old new brought text some =
 -- all frames of a turn are answered
 turn_joined : (now : ℕ) (old new : Capture) (brought : List Event) (text : List ℕ) → AnswersAll capturing now old brought text new → AnswersEach AnswersFrame old (frames_in brought) text new
 turn_joined now old new brought text all =
-    let none : all.some.others ≡ [] = elim all.all [ | inl some ↦ some.0 | inr done ↦ absurd (let e : false ≡ true = done in cc) ] in
+    let none : all.some.others ≡ [] = elim all.all [ inl some ↦ some.0 | inr done ↦ absurd (let e : false ≡ true = done in cc) ] in
     let whole : frames_in all.some.events ≡ frames_in brought =
     sym (append-nil (frames_in all.some.events)) ∙ ap (λ (es : List Event). frames_in all.some.events ++ frames_in es) (sym none) ∙ sym (frames_split now old new brought text all.some) in
     subst (λ (fs : List (List ℕ)). AnswersEach AnswersFrame old fs text new) whole (answers_frames now old new all.some.events text all.some.answered)
