@@ -3,6 +3,7 @@ use Rattle.std.proofs.Common.{◌≡◌, ℕ, List, [], ◌∷◌, ◌++◌, Res
 use Rattle.std.specs.Prelude.{OnOk}
 use Rattle.std.specs.List.{flat_map}
 use Rattle.gu_session.specs.Encoded.{AreOutputs, Closes, Response}
+use Rattle.gu_session.specs.Outputs.{bytes_in}
 use Rattle.gu_session.specs.States.{SessionState}
 use Rattle.gu_session.specs.Steps.{StepsWith, responses_of}
 use Rattle.gu_session.specs.declared.input.Input.TheVariants.{Frame, End}
@@ -10,7 +11,7 @@ use Rattle.gu_session.specs.declared.output.Asked.{Asked}
 use Rattle.gu_session.specs.declared.output.Output.{Output}
 use Rattle.gu_session.specs.declared.output.Output.TheVariants.{Send, Hand, Close}
 use Rattle.gu_session.specs.declared.plan.Course.{Course}
-use Rattle.giveup.specs.Exchange.{AnswersAsked, AnswersFrame, EndsSession, TakesInput, Tells, bytes_in}
+use Rattle.giveup.specs.Exchange.{AnswersAsked, AnswersFrame, EndsSession, TakesInput, Tells}
 use Rattle.giveup.specs.Houses.{HouseRules}
 use Rattle.giveup.specs.Serving.{AnswersEach}
 use Rattle.giveup.specs.declared.connection.Connection.{Connection}

@@ -4,7 +4,6 @@ pub mod Exchanging
 pub mod Holding
 pub mod InTurn
 pub mod Joining
-pub mod Parting
 pub mod ReplayLooks
 pub mod ReplayPieces
 pub mod ReplayRuns

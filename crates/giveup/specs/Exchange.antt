@@ -5,6 +5,7 @@ use Rattle.std.specs.Io.KnownBytes.{Consumes, Keeps}
 use Rattle.std.specs.Option.{option_map}
 use Rattle.gu_terms.specs.declared.firm.FirmId.{FirmId}
 use Rattle.gu_terms.specs.declared.notice.Notice.{Notice as NoticeOf}
+use Rattle.gu_session.specs.Outputs.{bytes_in, handed_in, is_close}
 use Rattle.gu_session.specs.States.{SessionState, new_session}
 use Rattle.gu_session.specs.Steps.{StepsWith}
 use Rattle.gu_session.specs.declared.input.Input.{Input}
@@ -12,29 +13,10 @@ use Rattle.gu_session.specs.declared.input.Input.TheVariants.{Frame, Notice, Ans
 use Rattle.gu_session.specs.declared.input.Outcome.{Outcome}
 use Rattle.gu_session.specs.declared.output.Asked.{Asked}
 use Rattle.gu_session.specs.declared.output.Output.{Output}
-use Rattle.gu_session.specs.declared.output.Output.TheVariants.{Send, Hand, Close}
 use Rattle.gu_session.specs.declared.standing.Standing.{Standing}
 use Rattle.giveup.specs.Houses.{HouseRules}
 use Rattle.giveup.specs.Serving.{AnswersEach, Engine, Served, ServedFront, ServedSoFar}
 use Rattle.giveup.specs.declared.connection.Connection.{Connection}
-
--- the bytes that a session gives to be sent
-abbrev pub bytes_in : Output → List ℕ
-bytes_in (Send bytes) = bytes.items
-bytes_in (Hand asked) = []
-bytes_in Close = []
-
--- what it hands out
-abbrev pub handed_in : Output → Option Asked
-handed_in (Send bytes) = None
-handed_in (Hand asked) = Some asked
-handed_in Close = None
-
--- the close
-abbrev pub is_close : Output → Bool
-is_close (Send bytes) = false
-is_close (Hand asked) = false
-is_close Close = true
 
 -- the firm that is logged on
 abbrev pub firm_of : SessionState → Option FirmId

@@ -1,9 +1,8 @@
 //! One connection of a firm: its session, the house behind it, and a clock.
 
-ghost use Rattle.std.specs.Prelude.{◌≡◌, ◌++◌, ◌||◌, [], List, ℕ, IfOk, OnOk, OnErr};
-ghost use Rattle.std.specs.List.{filter_map, flat_map, list_any};
+ghost use Rattle.std.specs.Prelude.{◌≡◌, ◌++◌, List, ℕ, IfOk, OnOk};
 ghost use Rattle.std.specs.Option.{option_to_list};
-ghost use Rattle.giveup.specs.Exchange.{AnswersAsked, EndsSession, IsNew, SendsNotice, TakesInput, Tells, TellsFirm, bytes_in, handed_in, is_close};
+ghost use Rattle.giveup.specs.Exchange.{AnswersAsked, EndsSession, IsNew, SendsNotice, TakesInput, Tells, TellsFirm};
 ghost use Rattle.giveup.specs.Serving.{AnswersEach};
 
 use crate::clock::Clock;
@@ -11,7 +10,7 @@ use crate::error::EngineError;
 use crate::house::House;
 use crate::serving::Answerer;
 use gu_fix::Frame;
-use gu_session::{Asked, Input, Output, Session};
+use gu_session::{Asked, Input, Session, Taken};
 use gu_terms::{FirmId, Moment, Notice};
 use std::alloc::{AllocError, Global};
 
@@ -41,43 +40,6 @@ impl<H: Drop, C: Drop> Drop for Connection<H, C> {
         drop(session);
         drop(clock);
     }
-}
-
-/// Takes one output of a session: its bytes are appended, what is handed out is collected, and a close is noted.
-fn part_one(
-    given: Output,
-    handed: &mut Vec<Asked>,
-    is_closed: &mut bool,
-    output: &mut Vec<u8>,
-) -> Result<(), AllocError>
-    ensures handed { OnOk result (handed.new.items ≡ handed.old.items ++ option_to_list (handed_in given)) }
-    ensures close { OnOk result (is_closed.new ≡ (is_closed.old || is_close given)) }
-    ensures bytes { OnOk result (output.new.items ≡ output.old.items ++ bytes_in given) }
-{
-    match given {
-        Output::Send(bytes) => output.extend_from_slice(&bytes)?,
-        Output::Hand(asked) => handed.push(asked)?,
-        Output::Close => *is_closed = true,
-    }
-    Ok(())
-}
-
-/// Parts what a session gave: bytes are appended, and what is handed out is returned, with whether there is a close.
-fn part(
-    alloc: Global,
-    outputs: Vec<Output>,
-    output: &mut Vec<u8>,
-) -> Result<(Vec<Asked>, bool), AllocError>
-    ensures handed { IfOk result (λ parted. parted.0.items ≡ filter_map handed_in outputs.items) }
-    ensures close { IfOk result (λ parted. parted.1 ≡ list_any is_close outputs.items) }
-    ensures bytes { OnOk result (output.new.items ≡ output.old.items ++ flat_map bytes_in outputs.items) }
-{
-    let mut handed = Vec::new(alloc);
-    let mut is_closed = false;
-    for given in outputs {
-        part_one(given, &mut handed, &mut is_closed, output)?;
-    }
-    Ok((handed, is_closed))
 }
 
 impl<H, C> Connection<H, C> {
@@ -127,12 +89,11 @@ impl<H, C> Connection<H, C> {
         input: Input,
         now: Moment,
         output: &mut Vec<u8>,
-    ) -> Result<Vec<Asked>, AllocError>
+    ) -> Result<Option<Asked>, AllocError>
         ensures { IfOk result (λ handed. (text : List ℕ) × (output.new.items ≡ output.old.items ++ text)
-            × TakesInput self.old input now handed.items text self.new) }
+            × TakesInput self.old input now (option_to_list handed) text self.new) }
     {
-        let outputs = self.session.step(input, now)?;
-        let (handed, is_closed) = part(self.alloc, outputs, output)?;
+        let Taken { handed, is_closed } = self.session.step_onto(input, now, output)?;
         self.is_over = self.is_over || is_closed;
         Ok(handed)
     }
@@ -165,20 +126,20 @@ impl<H: House, C> Connection<H, C> {
         Ok(())
     }
 
-    /// Answers all that was handed out.
+    /// Answers what was handed out.
     fn answer_all(
         &mut self,
-        handed: Vec<Asked>,
+        handed: Option<Asked>,
         now: Moment,
         output: &mut Vec<u8>,
     ) -> Result<(), AllocError>
         ensures { OnOk result ((text : List ℕ) × (output.new.items ≡ output.old.items ++ text)
-            × AnswersEach (AnswersAsked H.rules now) self.old handed.items text self.new) }
+            × AnswersEach (AnswersAsked H.rules now) self.old (option_to_list handed) text self.new) }
     {
-        for asked in handed {
-            self.answer_asked(asked, now, output)?;
+        match handed {
+            Some(asked) => self.answer_asked(asked, now, output),
+            None => Ok(()),
         }
-        Ok(())
     }
 
     /// Sends a notice.

@@ -1,4 +1,5 @@
+use Rattle.std.specs.Option.{option_to_list}
 use Rattle.giveup.proofs.connection.ConnectionAnswerer.end_read.Goals as goal
 
 pub returns : goal.returns
-returns g c = let taken = c.in_ok-take.ensures in (taken.0, taken.1, record { handed = c.in_ok-take.field-0.items; taken = taken.2 })
+returns g c = let taken = c.in_ok-take.ensures in (taken.0, taken.1, record { handed = option_to_list c.in_ok-take.field-0; taken = taken.2 })
