@@ -8,6 +8,7 @@ use crate::sample::{A_TRADE, book_of, command_of, group_of};
 use crate::transcript::follow;
 use gu_book::Book;
 use gu_desk::{Desk, Direct, EntryLedger, LotLedger, Seat};
+use gu_terms::FirmId;
 use std::alloc::{AllocError, Global};
 use std::marker::Brand;
 use std::process::Abort;
@@ -25,6 +26,10 @@ const SWEPT: &str = "\
 SWEEP G1 = 266 SWEPT 100
 SWEEP G1 = 267 SWEPT 0
 POSITION A1 XF6 = LONG 100 SHORT 0
+STRETCH C1 1 = NOTICES 1024 NEXT 74 MORE
+STRETCH C1 202 = NOTICES 1024 NEXT 266 MORE
+STRETCH C1 266 = NOTICES 100 NEXT 268 LAST
+STRETCH E1 1 = NOTICES 102 NEXT 268 LAST
 ";
 
 /// Enters a line. False where it isn't entered.
@@ -60,16 +65,18 @@ fn book_with_offers(rt: &impl Abort, alloc: Global) -> Book {
     book
 }
 
-/// Looks at the group and sweeps it, 1,500 times each.
+/// Looks at a group without offers, sweeps it, and asks for a stretch of notices, 1,500 times each.
 fn look_and_sweep<E: EntryLedger, S: LotLedger, R: Wait + Abort>(
     rt: &R,
     desk: &Desk<E, S>,
     seat: &mut Seat<E, S>,
 ) {
     let group = &group_of("G2").expect(rt, "a group");
+    let firm = &FirmId::new(b"C1").expect(rt, "a firm");
     for _ in 0..1_500 {
         assert!(rt; desk.look(rt, seat, *group).is_ok());
         assert!(rt; desk.sweep_once(rt, seat, *group, &Direct).is_ok());
+        assert!(rt; desk.stretch(rt, seat, *firm, 1).is_ok());
     }
 }
 

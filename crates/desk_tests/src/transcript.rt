@@ -2,9 +2,10 @@
 //!
 //! - `SWEEP G1`: one sweep; `SEE 0 G1`: a look, and what is then read
 //! - `POSITION A1 XF6`, `INTEREST XF6`: asked of the desk; `VIEW G1`, `HELD C1 A1`, `NOTICES C1 1`: the other queries
+//! - `STRETCH C1 1`: a stretch of a firm's notices
 
 use gu_desk::{Answer, Desk, Direct, EntryLedger, LotLedger, Seat};
-use gu_terms::{AccountId, Command, Entry, FirmId, Group, Query, Receipt};
+use gu_terms::{AccountId, Command, Entry, FirmId, Group, Notices, Query, Receipt, Stretch};
 use gu_text::{Line, reply_text};
 use gu_view::View;
 use gu_world::Step;
@@ -50,6 +51,13 @@ fn answer_text(alloc: Global, answer: &Answer) -> Result<String, AllocError> {
     }
 }
 
+/// A stretch of notices.
+fn stretch_text(alloc: Global, stretch: &Stretch) -> Result<String, AllocError> {
+    let Notices { next, list } = &stretch.notices;
+    let end = if stretch.is_last { "LAST" } else { "MORE" };
+    format!(in alloc; "NOTICES {} NEXT {next} {end}", list.len())
+}
+
 /// A word of a line.
 fn word(line: &str, place: usize) -> &str {
     line.split(' ').nth(place).unwrap_or("")
@@ -72,6 +80,28 @@ fn query_of(line: &str) -> Option<Query> {
         }),
         _ => None,
     }
+}
+
+/// The firm and the number of a line that asks for a stretch.
+fn stretch_of(line: &str) -> Option<(FirmId, u64)> {
+    if word(line, 0) != "STRETCH" {
+        return None;
+    }
+    let firm = FirmId::new(word(line, 1).as_bytes())?;
+    Some((firm, word(line, 2).parse().ok()?))
+}
+
+/// What is answered to a question for a stretch.
+fn answer_to_stretch<E: EntryLedger, S: LotLedger, R: Wait>(
+    rt: &R,
+    alloc: Global,
+    desk: &Desk<E, S>,
+    seat: &mut Seat<E, S>,
+    firm: FirmId,
+    from: u64,
+) -> Result<String, AllocError> {
+    let stretch = desk.stretch(rt, seat, firm, from)?;
+    stretch_text(alloc, &stretch)
 }
 
 /// What is answered to a command.
@@ -138,6 +168,9 @@ fn answer_to<E: EntryLedger, S: LotLedger, R: Wait>(
     seat: &mut Seat<E, S>,
     line: &str,
 ) -> Result<String, AllocError> {
+    if let Some((firm, from)) = stretch_of(line) {
+        return answer_to_stretch(rt, alloc, desk, seat, firm, from);
+    }
     if let Some(query) = query_of(line) {
         return answer_to_query(rt, alloc, desk, seat, query);
     }

@@ -45,7 +45,7 @@ pub record AnsweredInPart (old : Capture) (streams : Streams) : Type 0 where
   pub wrote : WrotePart text streams.output_old streams.output_new
 
 -- the frames among events
-frames_in : List Event → List (List ℕ)
+abbrev frames_in : List Event → List (List ℕ)
 frames_in [] = []
 frames_in (Frame frame ∷ events) = frame ∷ frames_in events
 frames_in (Silence ∷ events) = frames_in events
@@ -93,7 +93,7 @@ frames_split now old new brought text some =
 -- all frames of a turn are answered
 turn_joined : (now : ℕ) (old new : Capture) (brought : List Event) (text : List ℕ) → AnswersAll capturing now old brought text new → AnswersEach AnswersFrame old (frames_in brought) text new
 turn_joined now old new brought text all =
-    let none : all.some.others ≡ [] = elim all.all [ | inl some ↦ some.0 | inr done ↦ absurd (let e : false ≡ true = done in cc) ] in
+    let none : all.some.others ≡ [] = elim all.all [ inl some ↦ some.0 | inr done ↦ absurd (let e : false ≡ true = done in cc) ] in
     let whole : frames_in all.some.events ≡ frames_in brought =
     sym (append-nil (frames_in all.some.events)) ∙ ap (λ (es : List Event). frames_in all.some.events ++ frames_in es) (sym none) ∙ sym (frames_split now old new brought text all.some) in
     subst (λ (fs : List (List ℕ)). AnswersEach AnswersFrame old fs text new) whole (answers_frames now old new all.some.events text all.some.answered)
@@ -201,7 +201,7 @@ answered_so_far old new streams served =
       frames = stream.frames;
       text = served.text;
       consumed =
-          subst (Consumes streams.input_old streams.input_new) (ap (λ (f : Option (List ℕ)). concat (turns ++ option_to_list f)) still.0 ∙ ap (concat {A = ℕ}) (append-nil turns)) served.read.consumed;
+          subst (Consumes streams.input_old streams.input_new) (ap (λ (f : Option (List ℕ)). concat (turns ++ option_to_list f)) still.0 ∙ ap (λ (ts : List (List ℕ)). concat ts) (append-nil turns)) served.read.consumed;
       are_frames = stream.are_frames;
       answered = subst (λ (s : Capture). AnswersEach AnswersFrame old stream.frames served.text s) (sym still.1) stream.answered;
       appended = served.appended;

@@ -20,7 +20,7 @@ use gu_msgs::inbound::TradeCaptureReport;
 use gu_msgs::{MsgFault, Outbound, Rejection, answer_to, midnight_of, read, sender, write_over};
 use gu_ref::Reference;
 use gu_streams::{CountedReads, StreamError, send};
-use gu_terms::{Command, Day, FirmId, Moment};
+use gu_terms::{Command, Day, FirmId, Moment, Seed};
 use std::alloc::{AllocError, Global};
 use std::io::{Read, Write};
 use std::marker::Model;
@@ -189,10 +189,15 @@ impl Answerer for Capturing {
 }
 
 /// The engine at its start: a book in which the day is open.
-fn opened(alloc: Global, reference: Reference, day: Day) -> Result<Capturing, AllocError>
+fn opened(
+    alloc: Global,
+    reference: Reference,
+    day: Day,
+    seed: Seed,
+) -> Result<Capturing, AllocError>
     ensures { IfOk result (λ capturing. capturing ≡ capture_at_start reference day) }
 {
-    let mut book = Book::new(alloc, reference);
+    let mut book = Book::seeded(alloc, reference, seed);
     match book.enter(Command::OpenDay { day }) {
         Ok(_) => Ok(Capturing {
             alloc,
@@ -204,11 +209,13 @@ fn opened(alloc: Global, reference: Reference, day: Day) -> Result<Capturing, Al
     }
 }
 
-/// Answers each sound report of a stream of messages on a book in which the day is open, and then writes the positions.
+/// Answers each sound report of a stream of messages on a book in which the day is open, and then writes the positions. The seed is
+/// that of the book's tables of ids; nothing that is written depends on it.
 pub fn capture<R: Read, W: Write>(
     alloc: Global,
     reference: Reference,
     day: Day,
+    seed: Seed,
     reads: &mut CountedReads<R>,
     writer: &mut W,
 ) -> Result<(), StreamError>
@@ -221,7 +228,7 @@ pub fn capture<R: Read, W: Write>(
     // In any case, and so after each error.
     ensures part { CapturedInPart reference day (streams_of R.remaining W.contents reads.old reads.new writer.old writer.new) }
 {
-    let mut capturing = opened(alloc, reference, day)?;
+    let mut capturing = opened(alloc, reference, day, seed)?;
     run(alloc, reads, writer, &mut capturing)?;
     let lines = positions_text(alloc, &capturing.book)?;
     send(writer, &lines)

@@ -11,6 +11,7 @@ use crate::streams::{Sink, Source, shown, wire};
 use crate::terms::Terms;
 use gu_book::Book;
 use gu_streams::CountedReads;
+use gu_terms::Seed;
 use std::alloc::{AllocError, Global};
 
 /// What runs, but for connections, which want more (`talks`).
@@ -28,7 +29,12 @@ pub enum Engine {
 pub fn book_after(alloc: Global, script: &str) -> Result<Book, RunError> {
     let script = wire(alloc, script).map_err(gu_streams::StreamError::from)?;
     let reference = sample_reference(alloc)?;
-    let world = played(alloc, reference, &mut CountedReads::new(script.as_bytes()))?;
+    let world = played(
+        alloc,
+        reference,
+        Seed::new(0),
+        &mut CountedReads::new(script.as_bytes()),
+    )?;
     Ok(world.into_book())
 }
 
@@ -41,12 +47,19 @@ fn ended(
 ) -> Result<Status, RunError> {
     match engine {
         Engine::Capture => {
-            capture(alloc, sample_reference(alloc)?, sample_day(), reads, sink)?;
+            capture(
+                alloc,
+                sample_reference(alloc)?,
+                sample_day(),
+                Seed::new(0),
+                reads,
+                sink,
+            )?;
             Ok(Status::Done)
         }
         Engine::Check => Ok(check(alloc, reads, sink)?),
         Engine::Replay => {
-            replay(alloc, sample_reference(alloc)?, reads, sink)?;
+            replay(alloc, sample_reference(alloc)?, Seed::new(0), reads, sink)?;
             Ok(Status::Done)
         }
     }

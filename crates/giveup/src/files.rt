@@ -5,6 +5,7 @@ use crate::replaying::played;
 use gu_book::Book;
 use gu_ref::{RefFault, Reference};
 use gu_streams::{CountedReads, StreamError};
+use gu_terms::Seed;
 use std::alloc::Global;
 use std::fs::File;
 use std::io;
@@ -36,13 +37,14 @@ pub fn book_after<R: Files + Alloc<A = Global>>(
     rt: &R,
     reference: Reference,
     script: Option<&str>,
+    seed: Seed,
 ) -> Result<Book, RunError> {
     let Some(path) = script else {
-        return Ok(Book::new(rt.alloc(), reference));
+        return Ok(Book::seeded(rt.alloc(), reference, seed));
     };
     match file_at(rt, path) {
         Ok(file) => {
-            let world = played(rt.alloc(), reference, &mut CountedReads::new(file))?;
+            let world = played(rt.alloc(), reference, seed, &mut CountedReads::new(file))?;
             Ok(world.into_book())
         }
         Err(error) => {

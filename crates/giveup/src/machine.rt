@@ -6,8 +6,19 @@ use std::env::FillError;
 use std::fmt::Display;
 use std::fs::{Metadata, OpenFile, OpenOptions};
 use std::io::{self, BufRead, Error, ErrorKind, Lines, Read, Seek, SeekFrom, Write};
+use std::random::RandomSource;
 use std::rt::{Clock, Env, Files};
 use std::time::Duration;
+
+/// What a machine may lack.
+#[derive(Clone, Copy, PartialEq, Eq)]
+pub enum Lack {
+    Nothing,
+    /// It has no random bytes.
+    Randomness,
+    /// Its standard error takes nothing.
+    StandardError,
+}
 
 /// What a machine is given, and what it is told.
 #[derive(Drop)]
@@ -17,8 +28,7 @@ pub struct Machine<'a> {
     /// What each file holds, by its path.
     pub files: &'a [(&'a str, &'a [u8])],
     pub input: &'a [u8],
-    /// Whether standard error takes nothing.
-    pub is_closed: bool,
+    pub lack: Lack,
     pub out: Cell<Vec<u8>>,
     pub err: Cell<Vec<u8>>,
     /// The paths that were opened, each with a blank after it.
@@ -41,7 +51,7 @@ fn unsupported<T>() -> io::Result<T> {
 impl Machine<'_> {
     /// Appends a value to standard error.
     fn say<D: Display + Drop>(&self, value: D, end: &str) -> io::Result<()> {
-        if self.is_closed {
+        if self.lack == Lack::StandardError {
             drop(value);
             return Err(Error::from(ErrorKind::BrokenPipe));
         }
@@ -107,6 +117,16 @@ impl Clock for Machine<'_> {
 
     fn since_1970(&self) -> io::Result<Duration> {
         Ok(Duration::from_millis(1_767_603_600_000))
+    }
+}
+
+impl RandomSource for Machine<'_> {
+    fn fill_bytes(&self, buf: &mut [u8]) -> io::Result<()> {
+        if self.lack == Lack::Randomness {
+            return unsupported();
+        }
+        buf.fill(7);
+        Ok(())
     }
 }
 

@@ -9,16 +9,18 @@ ghost use Rattle.gu_streams.specs.Streams.{streams_of};
 use gu_ref::Reference;
 use gu_script::{ScriptError, play};
 use gu_streams::CountedReads;
+use gu_terms::Seed;
 use gu_world::World;
 use std::alloc::Global;
 use std::io;
 use std::io::{Read, Write};
 
-/// Plays a script from a book without entries, and writes the text of its lines. The whole lines of a read are answered before the
+/// Plays a script from a book without entries, whose tables of ids have a seed, and writes the text of its lines. The whole lines of a read are answered before the
 /// next read.
 pub fn replay<R: Read, W: Write>(
     alloc: Global,
     reference: Reference,
+    seed: Seed,
     reads: &mut CountedReads<R>,
     writer: &mut W,
 ) -> Result<(), ScriptError>
@@ -37,7 +39,7 @@ pub fn replay<R: Read, W: Write>(
     // In any case, and so after each error: what was written is a prefix of the text of the first lines.
     ensures part { ReplayedInPart (beginning reference) (streams_of R.remaining W.contents reads.old reads.new writer.old writer.new) }
 {
-    match play(alloc, reference, reads, writer) {
+    match play(alloc, reference, seed, reads, writer) {
         Ok(world) => {
             drop(world);
             Ok(())
@@ -51,6 +53,7 @@ pub fn replay<R: Read, W: Write>(
 pub fn played<R: Read>(
     alloc: Global,
     reference: Reference,
+    seed: Seed,
     reads: &mut CountedReads<R>,
 ) -> Result<World, ScriptError>
     ensures done { IfOk result (λ world. Played (beginning reference) world
@@ -61,5 +64,5 @@ pub fn played<R: Read>(
         × HasBadLine (beginning reference) text n (bytes_left R.remaining reads.old) (bytes_left R.remaining reads.new) }
     ensures stopped { IsErrOf result ScriptError.Read → HasStopped reads.new }
 {
-    play(alloc, reference, reads, &mut io::sink())
+    play(alloc, reference, seed, reads, &mut io::sink())
 }

@@ -13,19 +13,39 @@ use crate::words::{Task, answer, firm_named, given, read};
 use gu_engine::{Connection, SystemClock};
 use gu_houses::OverBook;
 use gu_streams::{CountedReads, StreamError};
-use gu_terms::FirmId;
+use gu_terms::{FirmId, Seed};
 use std::alloc::Global;
 use std::io;
 use std::io::Write;
+use std::random::RandomSource;
 use std::rt::{Clock, Env, Files};
 
+/// A seed from the system, for tables of ids that firms choose. Where there is none, nothing is read.
+fn seed_from<R: RandomSource>(rt: &R) -> Result<Seed, StreamError> {
+    let mut bytes = [0; 8];
+    match rt.fill_bytes(&mut bytes) {
+        Ok(()) => Ok(Seed::new(u64::from_le_bytes(bytes))),
+        Err(_) => Err(StreamError::Read),
+    }
+}
+
 /// Trade capture on the sample, from standard input to standard output.
-fn run_capture<R: Input + Print + Alloc<A = Global>>(rt: &R) -> Result<Status, RunError> {
+fn run_capture<R: Input + Print + RandomSource + Alloc<A = Global>>(
+    rt: &R,
+) -> Result<Status, RunError> {
     let alloc = rt.alloc();
+    let seed = seed_from(rt)?;
     let reference = sample_reference(alloc)?;
     let mut reads = CountedReads::new(rt.reader());
     let mut writer = io::writer(rt);
-    capture(alloc, reference, sample_day(), &mut reads, &mut writer)?;
+    capture(
+        alloc,
+        reference,
+        sample_day(),
+        seed,
+        &mut reads,
+        &mut writer,
+    )?;
     Ok(Status::Done)
 }
 
@@ -37,27 +57,29 @@ fn run_check<R: Input + Print + Alloc<A = Global>>(rt: &R) -> Result<Status, Run
 }
 
 /// The script on standard input, answered on standard output, on the reference of a file.
-fn run_replay<R: Input + Print + Files + Alloc<A = Global>, T: Write + Drop>(
+fn run_replay<R: Input + Print + Files + RandomSource + Alloc<A = Global>, T: Write + Drop>(
     rt: &R,
     path: &str,
     terminal: Option<T>,
 ) -> Result<Status, RunError> {
+    let seed = seed_from(rt)?;
     let reference = reference_at(rt, path)?;
     let mut reads = CountedReads::new(Told::new(rt.reader(), terminal));
     let mut writer = io::writer(rt);
-    replay(rt.alloc(), reference, &mut reads, &mut writer)?;
+    replay(rt.alloc(), reference, seed, &mut reads, &mut writer)?;
     Ok(Status::Done)
 }
 
 /// One session of a firm, over standard input and output, on the reference of a file, after a script, where one is named.
-fn run_fix<R: Input + Print + Files + Clock + Alloc<A = Global>>(
+fn run_fix<R: Input + Print + Files + Clock + RandomSource + Alloc<A = Global>>(
     rt: &R,
     firm: FirmId,
     path: &str,
     script: Option<&str>,
 ) -> Result<Status, RunError> {
     let alloc = rt.alloc();
-    let house = OverBook::new(book_after(rt, reference_at(rt, path)?, script)?);
+    let seed = seed_from(rt)?;
+    let house = OverBook::new(book_after(rt, reference_at(rt, path)?, script, seed)?);
     let firms = Vec::from_slice(alloc, &[firm]).map_err(StreamError::from)?;
     let mut connection = Connection::new(alloc, firms, house, SystemClock::new(rt));
     let mut reads = CountedReads::patient(rt.reader());
@@ -67,11 +89,10 @@ fn run_fix<R: Input + Print + Files + Clock + Alloc<A = Global>>(
 }
 
 /// Does what these words ask for.
-fn perform<R: Input + Print + Eprint + Files + Clock + Alloc<A = Global>, T: Write + Drop>(
-    rt: &R,
-    words: &[String],
-    terminal: Option<T>,
-) -> Result<Status, RunError> {
+fn perform<
+    R: Input + Print + Eprint + Files + Clock + RandomSource + Alloc<A = Global>,
+    T: Write + Drop,
+>(rt: &R, words: &[String], terminal: Option<T>) -> Result<Status, RunError> {
     match read(rt.alloc(), words) {
         Ok(Task::Capture) => run_capture(rt),
         Ok(Task::Check) => run_check(rt),
@@ -91,10 +112,10 @@ fn perform<R: Input + Print + Eprint + Files + Clock + Alloc<A = Global>, T: Wri
 }
 
 /// Does what the words of this run ask for.
-fn run<R: Input + Print + Eprint + Env + Files + Clock + Alloc<A = Global>, T: Write + Drop>(
-    rt: &R,
-    terminal: Option<T>,
-) -> Result<Status, RunError> {
+fn run<
+    R: Input + Print + Eprint + Env + Files + Clock + RandomSource + Alloc<A = Global>,
+    T: Write + Drop,
+>(rt: &R, terminal: Option<T>) -> Result<Status, RunError> {
     match given(rt) {
         Ok(words) => perform(rt, words.as_slice(), terminal),
         Err(error) => answer(rt, &error).map_err(RunError::from),
@@ -104,7 +125,7 @@ fn run<R: Input + Print + Eprint + Env + Files + Clock + Alloc<A = Global>, T: W
 /// Does what the words of this run ask for, and gives its status; why it failed is said on standard error. The progress of a long
 /// script is noted at a terminal, where there is one.
 pub fn status_of<
-    R: Input + Print + Eprint + Env + Files + Clock + Alloc<A = Global>,
+    R: Input + Print + Eprint + Env + Files + Clock + RandomSource + Alloc<A = Global>,
     T: Write + Drop,
 >(rt: &R, terminal: Option<T>) -> Status {
     match run(rt, terminal) {

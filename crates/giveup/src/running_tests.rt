@@ -2,7 +2,7 @@
 //! paths that were opened, `; `, standard output, `; ` and standard error. `/` ends a line, and `|` is SOH. The file `house` is the
 //! sample, `bad` has an eighteenth row that is none, `day` opens a day, and the second line of `two` is bad.
 
-use crate::machine::Machine;
+use crate::machine::{Lack, Machine};
 use crate::rows::{check_told, columns};
 use crate::running::status_of;
 use crate::sample::ROWS;
@@ -38,6 +38,14 @@ giveup check < SHEET G1 0/ -> 1 ; ;
 giveup sweep < x -> 2 ; ;
 ";
 
+/// The same where there are no random bytes: tables of ids would have no seed, so nothing is opened or read but a sheet.
+const UNSEEDED: &str = "\
+giveup < x -> 1 ; ; giveup: read fault/
+giveup replay house < DAY 20260105/ -> 1 ; ; giveup: read fault/
+giveup fix E1 house < x -> 1 ; ; giveup: read fault/
+giveup check < SHEET G1 0/END/ -> 0 ; OK 0/;
+";
+
 /// What a run on a machine did.
 fn run(machine: Machine<'_>) -> Result<String, AllocError> {
     let alloc = machine.alloc;
@@ -54,7 +62,7 @@ fn run(machine: Machine<'_>) -> Result<String, AllocError> {
 }
 
 /// What a run with these words and this input does.
-fn told(alloc: Global, row: &str, is_closed: bool) -> Result<String, AllocError> {
+fn told(alloc: Global, row: &str, lack: Lack) -> Result<String, AllocError> {
     let (words, input) = row.split_once(" < ").unwrap_or((row, ""));
     let words = Vec::from_iter(alloc, words.split(' '))?;
     let input = wire(alloc, input)?;
@@ -70,7 +78,7 @@ fn told(alloc: Global, row: &str, is_closed: bool) -> Result<String, AllocError>
             ("two", b"DAY 20260105\nDAY\n"),
         ],
         input: input.as_bytes(),
-        is_closed,
+        lack,
         out: Cell::new(Vec::new(alloc)),
         err: Cell::new(Vec::new(alloc)),
         opened: Cell::new(Vec::new(alloc)),
@@ -78,20 +86,25 @@ fn told(alloc: Global, row: &str, is_closed: bool) -> Result<String, AllocError>
 }
 
 /// Asserts that the run of each row does what the row says.
-fn check(rt: &impl Abort, alloc: Global, is_closed: bool, table: &str) {
+fn check(rt: &impl Abort, alloc: Global, lack: Lack, table: &str) {
     for row in table.lines() {
         let (run, expected) = columns(row);
-        let told = told(alloc, run, is_closed).expect(rt, "memory");
+        let told = told(alloc, run, lack).expect(rt, "memory");
         check_told(rt, row, String::from_str(alloc, told.trim_end()), expected);
     }
 }
 
 #[test]
 fn each_task_has_its_status_its_output_and_its_fault_on_standard_error(rt: HostRuntime) {
-    check(&rt, rt.alloc(), false, RUNS);
+    check(&rt, rt.alloc(), Lack::Nothing, RUNS);
 }
 
 #[test]
 fn a_fault_that_nobody_hears_has_its_status(rt: HostRuntime) {
-    check(&rt, rt.alloc(), true, UNHEARD);
+    check(&rt, rt.alloc(), Lack::StandardError, UNHEARD);
+}
+
+#[test]
+fn without_random_bytes_nothing_is_opened(rt: HostRuntime) {
+    check(&rt, rt.alloc(), Lack::Randomness, UNSEEDED);
 }

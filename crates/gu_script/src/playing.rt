@@ -11,6 +11,7 @@ use crate::error::ScriptError;
 use crate::script::Script;
 use gu_ref::Reference;
 use gu_streams::{CountedReads, LONGEST_READ, send};
+use gu_terms::Seed;
 use gu_text::TextError;
 use gu_world::World;
 use std::alloc::Global;
@@ -56,6 +57,7 @@ fn answer_end<W: Write>(
 pub fn play<R: Read, W: Write>(
     alloc: Global,
     reference: Reference,
+    seed: Seed,
     reads: &mut CountedReads<R>,
     writer: &mut W,
 ) -> Result<World, ScriptError>
@@ -74,7 +76,7 @@ pub fn play<R: Read, W: Write>(
     // In any case, and so after each error: what was written is a prefix of the text of the first lines.
     ensures part { ReplayedInPart (beginning reference) (streams_of R.remaining W.contents reads.old reads.new writer.old writer.new) }
 {
-    let mut script = Script::new(alloc, reference);
+    let mut script = Script::new(alloc, reference, seed);
     let mut output = Vec::new(alloc);
     let mut buffer = [0; LONGEST_READ];
     'reading: while !reads.is_spent() {

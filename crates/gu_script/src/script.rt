@@ -11,6 +11,7 @@ ghost use Rattle.gu_script.specs.ScriptSteps.{AnswersLine, AnswersLines, Answers
 use crate::questions::{answer_interest, answer_limits, answer_position};
 use crate::stepping::{answer_borrowed, answer_sweep};
 use gu_ref::Reference;
+use gu_terms::Seed;
 use gu_text::{Line, TextError, is_too_long, split_at_line_feed, without_return};
 use gu_world::World;
 use std::alloc::{AllocError, Global};
@@ -66,13 +67,13 @@ impl Drop for Script {
 }
 
 impl Script {
-    /// Before the first line, with a book without entries.
-    pub fn new(alloc: Global, reference: Reference) -> Self
+    /// Before the first line, with a book without entries, whose tables of ids have this seed. No answer depends on it.
+    pub fn new(alloc: Global, reference: Reference, seed: Seed) -> Self
         ensures { result ≡ record { course = beginning reference; count = 0; rest = [] } }
     {
         Script {
             alloc,
-            world: World::new(alloc, reference),
+            world: World::seeded(alloc, reference, seed),
             count: 0,
             rest: Vec::new(alloc),
         }

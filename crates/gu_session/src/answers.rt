@@ -44,14 +44,16 @@ fn entered(question: Question, outcome: &Outcome) -> Option<Option<Rejection>>
 /// The answer to a command that the message with this number asked for.
 fn command_messages(
     alloc: Global,
-    question: &Question,
+    question: Question,
     number: u64,
     outcome: &Outcome,
-) -> Option<Messages>
-    ensures { result ≡ command_messages question.now number outcome.now }
+) -> Result<Option<Messages>, AllocError>
+    ensures { IfOk result (λ messages. messages ≡ command_messages question number outcome.now) }
 {
-    let why = entered(*question, outcome)?;
-    Some(Messages::of_option(alloc, question.answer(number, why)))
+    let Some(why) = entered(question, outcome) else {
+        return Ok(None);
+    };
+    Ok(Some(Messages::of_option(alloc, question.answer(number, why))?))
 }
 
 /// The answer to what the message with this number asked for, where the outcome is of its kind.
@@ -64,7 +66,7 @@ fn answer_messages(
     ensures { IfOk result (λ messages. messages ≡ answer_messages question number outcome.now) }
 {
     let Question::Positions(request) = question else {
-        return Ok(command_messages(alloc, &question, number, outcome));
+        return command_messages(alloc, question, number, outcome);
     };
     match outcome {
         Outcome::Positions(rows) => {
@@ -106,8 +108,8 @@ pub fn on_answer(
 }
 
 /// What is done on a notice.
-pub fn on_notice(alloc: Global, at: &Standing, notice: &Notice) -> Course
-    ensures { result ≡ on_notice at.now notice.now }
+pub fn on_notice(alloc: Global, at: &Standing, notice: &Notice) -> Result<Course, AllocError>
+    ensures { IfOk result (λ course. course ≡ on_notice at.now notice.now) }
 {
-    Course::Go(Plan::says(alloc, at, notice_body(notice)))
+    Ok(Course::Go(Plan::says(alloc, at, notice_body(notice))?))
 }

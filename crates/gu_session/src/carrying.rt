@@ -13,7 +13,7 @@ ghost use Rattle.gu_session.specs.declared.plan.Handed.{Handed as HandedOf};
 
 use crate::ask_ref::AskRef;
 use crate::kept::Kept;
-use crate::plan::{Handed, Plan};
+use crate::plan::{Handing, Plan};
 use crate::resending::resent;
 use crate::seq_num::GREATEST;
 use crate::standing::{Standing, Waiting};
@@ -50,11 +50,11 @@ pub fn repeats(
 }
 
 /// What waits for its answer by what is handed out.
-pub fn waiting_in(handed: &Option<Handed>) -> Option<Waiting>
+pub fn waiting_in(handed: &Option<Handing>) -> Option<Waiting>
     ensures { result ≡ option_map (λ (handed : HandedOf). handed.waiting) handed.now }
 {
     match handed {
-        Some(handed) => Some(handed.waiting),
+        Some(handed) => Some(handed.waiting()),
         None => None,
     }
 }

@@ -18,6 +18,7 @@ use gu_msgs::{
 };
 use gu_terms::FirmId;
 use std::alloc::{AllocError, Global};
+use std::mem;
 
 /// Whether this firm is the sender.
 pub fn is_sender(firm: &FirmId, sender: &Option<FirmId>) -> bool
@@ -44,15 +45,21 @@ fn wrong_party(firm: &FirmId, heading: &Heading) -> Option<u32>
 }
 
 /// A gap fill up to a number.
-fn on_gap_fill(alloc: Global, at: &Standing, heading: &Heading, number: SeqNum, to: u64) -> Plan
-    ensures { result ≡ on_gap_fill at.now heading.now number to }
+fn on_gap_fill(
+    alloc: Global,
+    at: &Standing,
+    heading: &Heading,
+    number: SeqNum,
+    to: u64,
+) -> Result<Plan, AllocError>
+    ensures { IfOk result (λ plan. plan ≡ on_gap_fill at.now heading.now number to) }
 {
     if number.get() < to {
         let after = Standing {
             expected: to,
             ..*at
         };
-        return Plan::quiet(alloc, &after);
+        return Ok(Plan::quiet(alloc, &after));
     }
     let reason = SessionRejectReason::ValueIsIncorrect;
     Plan::says(alloc, at, reject(heading, number, NEW_SEQ_NO, reason))
@@ -65,12 +72,12 @@ fn on_request(
     number: SeqNum,
     request: Option<Request>,
     question: Option<Question>,
-) -> Plan
-    ensures { result ≡ on_request at.now number request question }
+) -> Result<Plan, AllocError>
+    ensures { IfOk result (λ plan. plan ≡ on_request at.now number request question) }
 {
     match (request, question) {
         (Some(request), Some(question)) => Plan::hands(alloc, at, number, request, question),
-        _ => Plan::quiet(alloc, at),
+        _ => Ok(Plan::quiet(alloc, at)),
     }
 }
 
@@ -91,13 +98,13 @@ fn on_message(
     heading: &Heading,
     number: SeqNum,
     message: Inbound,
-) -> Plan
-    ensures { result ≡ on_message at.now heading.now number message }
+) -> Result<Plan, AllocError>
+    ensures { IfOk result (λ plan. plan ≡ on_message at.now heading.now number message) }
 {
     match message {
-        Inbound::Heartbeat | Inbound::Reject => Plan::quiet(alloc, at),
+        Inbound::Heartbeat | Inbound::Reject => Ok(Plan::quiet(alloc, at)),
         Inbound::TestRequest(m) => { Plan::says(alloc, at, Body::Heartbeat(Some(m.test_req_id))) }
-        Inbound::ResendRequest(m) => Plan::repeats(at, Some(m), Messages::none(alloc)),
+        Inbound::ResendRequest(m) => Ok(Plan::repeats(at, Some(m), Messages::none(alloc))),
         Inbound::SequenceReset(m) => on_gap_fill(alloc, at, heading, number, m.new_seq_no),
         Inbound::Logout => Plan::leaves_with(alloc, at, Body::Logout(None)),
         Inbound::Logon(_) => {
@@ -118,8 +125,8 @@ fn on_content(
     heading: &Heading,
     number: SeqNum,
     content: Result<Inbound, Fault>,
-) -> Plan
-    ensures { result ≡ on_content at.now heading.now number content }
+) -> Result<Plan, AllocError>
+    ensures { IfOk result (λ plan. plan ≡ on_content at.now heading.now number content) }
 {
     match content {
         Ok(message) => on_message(alloc, at, heading, number, message),
@@ -131,16 +138,17 @@ fn on_content(
 pub fn as_expected(
     alloc: Global,
     at: &Standing,
-    heard: Heard,
+    heard: &mut Heard,
     number: SeqNum,
 ) -> Result<Plan, AllocError>
-    ensures { IfOk result (λ plan. plan ≡ as_expected at.now heard number) }
+    ensures { IfOk result (λ plan. plan ≡ as_expected at.now heard.old number) }
 {
-    let Heard { heading, content } = heard;
-    let Some(tag) = wrong_party(&at.firm, &heading) else {
-        return Ok(on_content(alloc, at, &heading, number, content));
+    let heading = &heard.heading;
+    let Some(tag) = wrong_party(&at.firm, heading) else {
+        let content = mem::replace(&mut heard.content, Ok(Inbound::Heartbeat));
+        return on_content(alloc, at, heading, number, content);
     };
-    let first = reject(&heading, number, tag, SessionRejectReason::CompIdProblem);
+    let first = reject(heading, number, tag, SessionRejectReason::CompIdProblem);
     let second = Body::Logout(Some(LogoutReason::CompId));
     let messages = Messages::two(alloc, first, second)?;
     Ok(Plan::leaves(at, messages))

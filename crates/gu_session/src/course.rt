@@ -39,14 +39,14 @@ fn heard_course(
     alloc: Global,
     firms: &[FirmId],
     at: &Option<Standing>,
-    heard: Heard,
+    heard: &mut Heard,
     now: Moment,
 ) -> Result<Course, AllocError>
-    ensures { IfOk result (λ course. course ≡ frame_course firms.now at.now heard now) }
+    ensures { IfOk result (λ course. course ≡ frame_course firms.now at.now heard.old now) }
 {
     match at {
         Some(at) => Ok(Course::Go(frame_plan(alloc, &at_frame(at, now), heard)?)),
-        None => logon_course(alloc, firms, &heard, now),
+        None => logon_course(alloc, firms, heard, now),
     }
 }
 
@@ -60,17 +60,21 @@ pub fn frame_course(
 ) -> Result<Course, AllocError>
     ensures { IfOk result (IsFrameCourse firms.now at.now frame now) }
 {
-    let heard = hear(alloc, frame)?;
-    heard_course(alloc, firms, at, heard, now)
+    let mut heard = hear(alloc, frame)?;
+    heard_course(alloc, firms, at, &mut heard, now)
 }
 
 /// What is done on a notice.
-pub fn notice_course(alloc: Global, at: &Option<Standing>, notice: &Notice) -> Course
-    ensures { result ≡ option_map_or (λ (at : StandingOf). on_notice at notice.now) at.now Stay }
+pub fn notice_course(
+    alloc: Global,
+    at: &Option<Standing>,
+    notice: &Notice,
+) -> Result<Course, AllocError>
+    ensures { IfOk result (λ course. course ≡ option_map_or (λ (at : StandingOf). on_notice at notice.now) at.now Stay) }
 {
     match at {
         Some(at) => on_notice(alloc, at, notice),
-        None => Course::Stay,
+        None => Ok(Course::Stay),
     }
 }
 
@@ -91,11 +95,16 @@ pub fn answer_course(
 }
 
 /// What is done as time passes.
-pub fn tick_course(alloc: Global, at: &Option<Standing>, sent_at: Moment, now: Moment) -> Course
-    ensures { result ≡ option_map_or (λ (at : StandingOf). on_tick at sent_at now) at.now Stay }
+pub fn tick_course(
+    alloc: Global,
+    at: &Option<Standing>,
+    sent_at: Moment,
+    now: Moment,
+) -> Result<Course, AllocError>
+    ensures { IfOk result (λ course. course ≡ option_map_or (λ (at : StandingOf). on_tick at sent_at now) at.now Stay) }
 {
     match at {
         Some(at) => on_tick(alloc, at, sent_at, now),
-        None => Course::Stay,
+        None => Ok(Course::Stay),
     }
 }

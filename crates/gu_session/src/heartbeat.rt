@@ -1,6 +1,6 @@
 //! Heartbeats, and silence.
 
-ghost use Rattle.std.specs.Prelude.{◌≡◌, ◌≤◌};
+ghost use Rattle.std.specs.Prelude.{◌≡◌, ◌≤◌, IfOk};
 ghost use Rattle.gu_session.specs.TimeRules.{have_passed, on_tick};
 
 use crate::plan::{Course, Plan};
@@ -8,7 +8,7 @@ use crate::standing::Standing;
 use gu_msgs::LogoutReason;
 use gu_msgs::outbound::Body;
 use gu_terms::Moment;
-use std::alloc::Global;
+use std::alloc::{AllocError, Global};
 
 /// The milliseconds of a second.
 const SECOND: u64 = 1000;
@@ -26,25 +26,30 @@ fn have_passed(count: u64, at: &Standing, from: Moment, now: Moment) -> bool
 }
 
 /// What is done as time passes.
-pub fn on_tick(alloc: Global, at: &Standing, sent_at: Moment, now: Moment) -> Course
-    ensures { result ≡ on_tick at.now sent_at now }
+pub fn on_tick(
+    alloc: Global,
+    at: &Standing,
+    sent_at: Moment,
+    now: Moment,
+) -> Result<Course, AllocError>
+    ensures { IfOk result (λ course. course ≡ on_tick at.now sent_at now) }
 {
     if at.heart_bt_int == 0 {
-        return Course::Stay;
+        return Ok(Course::Stay);
     }
     if have_passed(3, at, at.heard_at, now) {
         let body = Body::Logout(Some(LogoutReason::Silent));
-        return Course::Go(Plan::leaves_with(alloc, at, body));
+        return Ok(Course::Go(Plan::leaves_with(alloc, at, body)?));
     }
     if have_passed(2, at, at.heard_at, now) && !at.is_tested {
         let after = Standing {
             is_tested: true,
             ..*at
         };
-        return Course::Go(Plan::says(alloc, &after, Body::TestRequest));
+        return Ok(Course::Go(Plan::says(alloc, &after, Body::TestRequest)?));
     }
     if have_passed(1, at, sent_at, now) {
-        return Course::Go(Plan::says(alloc, at, Body::Heartbeat(None)));
+        return Ok(Course::Go(Plan::says(alloc, at, Body::Heartbeat(None))?));
     }
-    Course::Stay
+    Ok(Course::Stay)
 }

@@ -79,7 +79,7 @@ fn logged_on(
         is_tested: false,
     };
     if number.get() == 1 {
-        return Ok(Plan::says(alloc, &after, answer(logon)));
+        return Plan::says(alloc, &after, answer(logon));
     }
     after.expected = 1;
     let messages = Messages::two(alloc, answer(logon), Body::ResendRequest(1))?;

@@ -1,6 +1,6 @@
 //! What a step does, before numbers are given.
 
-ghost use Rattle.std.specs.Prelude.{◌≡◌, ◌+◌, ◌<◌, ◌≤◌, ◌∷◌, [], length, slice_get, Some};
+ghost use Rattle.std.specs.Prelude.{◌≡◌, ◌+◌, ◌<◌, ◌≤◌, ◌∷◌, [], length, slice_get, Some, IfOk};
 ghost use Rattle.gu_msgs.specs.Written.{outbound_of};
 ghost use Rattle.gu_session.specs.Plans.{answers, hands, leaves, quiet, repeats, says};
 ghost use Rattle.gu_session.specs.Sending.{numbered};
@@ -13,13 +13,52 @@ use gu_msgs::inbound::ResendRequest;
 use gu_msgs::outbound::Body;
 use gu_msgs::{OutboundRef, Question, Request};
 use gu_terms::Moment;
-use std::alloc::Global;
+use std::alloc::{AllocError, Global};
+use std::marker::Model;
 
 /// What is handed out, with what its answer needs.
 #[derive(Drop)]
 pub struct Handed {
     pub request: Request,
     pub waiting: Waiting,
+}
+
+/// The same in a box, since it is large beside all else of a plan. To a contract it is what is in there.
+#[derive(Drop)]
+pub struct Handing {
+    boxed: Box<Handed>,
+}
+
+impl Model for Handing {
+    ghost use Rattle.gu_session.specs.declared.plan.Handed.{Handed};
+
+    ghost Value = { Handed };
+
+    ghost view = { λ h. h.boxed.value };
+}
+
+impl Handing {
+    /// What is handed out, boxed.
+    pub fn new(alloc: Global, handed: Handed) -> Result<Self, AllocError>
+        ensures { IfOk result (λ handing. handing ≡ handed) }
+    {
+        let boxed = Box::new(alloc, handed)?;
+        Ok(Handing { boxed })
+    }
+
+    /// What its answer needs.
+    pub fn waiting(&self) -> Waiting
+        ensures { result ≡ self.now.waiting }
+    {
+        self.boxed.waiting
+    }
+
+    /// What is handed out.
+    pub fn into_handed(self) -> Handed
+        ensures { result ≡ self }
+    {
+        Box::into_inner(self.boxed)
+    }
 }
 
 /// What is done in a step of a session in which a firm is logged on.
@@ -32,7 +71,7 @@ pub struct Plan {
     /// New messages, which get the next numbers.
     pub messages: Messages,
     /// What is handed out then.
-    pub handed: Option<Handed>,
+    pub handed: Option<Handing>,
     /// What is answered by it.
     pub answered: Option<AskRef>,
     /// Whether the session ends.
@@ -66,17 +105,18 @@ impl Plan {
     }
 
     /// A new message.
-    pub fn says(alloc: Global, at: &Standing, body: Body) -> Self
-        ensures { result ≡ says at.now (body ∷ []) }
+    pub fn says(alloc: Global, at: &Standing, body: Body) -> Result<Self, AllocError>
+        ensures { IfOk result (λ plan. plan ≡ says at.now (body ∷ [])) }
     {
-        Plan {
+        let messages = Messages::one(alloc, body)?;
+        Ok(Plan {
             after: *at,
             again: None,
-            messages: Messages::one(alloc, body),
+            messages,
             handed: None,
             answered: None,
             ends: false,
-        }
+        })
     }
 
     /// New messages, and the end.
@@ -94,10 +134,11 @@ impl Plan {
     }
 
     /// A Logout or the like, and the end.
-    pub fn leaves_with(alloc: Global, at: &Standing, body: Body) -> Self
-        ensures { result ≡ leaves at.now (body ∷ []) }
+    pub fn leaves_with(alloc: Global, at: &Standing, body: Body) -> Result<Self, AllocError>
+        ensures { IfOk result (λ plan. plan ≡ leaves at.now (body ∷ [])) }
     {
-        Plan::leaves(at, Messages::one(alloc, body))
+        let messages = Messages::one(alloc, body)?;
+        Ok(Plan::leaves(at, messages))
     }
 
     /// What was asked for again, then new messages.
@@ -121,24 +162,23 @@ impl Plan {
         number: SeqNum,
         request: Request,
         question: Question,
-    ) -> Self
-        ensures { result ≡ hands at.now number request question }
+    ) -> Result<Self, AllocError>
+        ensures { IfOk result (λ plan. plan ≡ hands at.now number request question) }
     {
         let reference = AskRef::new(number);
-        Plan {
+        let waiting = Waiting {
+            reference,
+            question,
+        };
+        let handed = Handing::new(alloc, Handed { request, waiting })?;
+        Ok(Plan {
             after: *at,
             again: None,
             messages: Messages::none(alloc),
-            handed: Some(Handed {
-                request,
-                waiting: Waiting {
-                    reference,
-                    question,
-                },
-            }),
+            handed: Some(handed),
             answered: None,
             ends: false,
-        }
+        })
     }
 
     /// The messages that answer a question.

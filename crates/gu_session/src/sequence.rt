@@ -47,51 +47,62 @@ fn again_in(content: &Result<Inbound, Fault>) -> Option<ResendRequest>
 }
 
 /// A reset to a number.
-fn on_reset(alloc: Global, at: &Standing, heading: &Heading, number: SeqNum, to: u64) -> Plan
-    ensures { result ≡ on_reset at.now heading.now number to }
+fn on_reset(
+    alloc: Global,
+    at: &Standing,
+    heading: &Heading,
+    number: SeqNum,
+    to: u64,
+) -> Result<Plan, AllocError>
+    ensures { IfOk result (λ plan. plan ≡ on_reset at.now heading.now number to) }
 {
     if at.expected <= to {
         let after = Standing {
             expected: to,
             ..*at
         };
-        return Plan::quiet(alloc, &after);
+        return Ok(Plan::quiet(alloc, &after));
     }
     let reason = SessionRejectReason::ValueIsIncorrect;
     Plan::says(alloc, at, reject(heading, number, NEW_SEQ_NO, reason))
 }
 
 /// Messages are missing before this frame.
-fn too_high(alloc: Global, at: &Standing, heard: &Heard) -> Plan
-    ensures { result ≡ too_high at.now heard.now }
+fn too_high(alloc: Global, at: &Standing, heard: &Heard) -> Result<Plan, AllocError>
+    ensures { IfOk result (λ plan. plan ≡ too_high at.now heard.now) }
 {
     if is_logout(&heard.heading.msg_type) {
         return Plan::leaves_with(alloc, at, Body::Logout(None));
     }
-    let messages = Messages::one(alloc, Body::ResendRequest(at.expected));
-    Plan::repeats(at, again_in(&heard.content), messages)
+    let messages = Messages::one(alloc, Body::ResendRequest(at.expected))?;
+    Ok(Plan::repeats(at, again_in(&heard.content), messages))
 }
 
 /// The number was used already.
-fn too_low(alloc: Global, at: &Standing, heading: &Heading) -> Plan
-    ensures { result ≡ too_low at.now heading.now }
+fn too_low(alloc: Global, at: &Standing, heading: &Heading) -> Result<Plan, AllocError>
+    ensures { IfOk result (λ plan. plan ≡ too_low at.now heading.now) }
 {
     if heading.is_poss_dup {
-        return Plan::quiet(alloc, at);
+        return Ok(Plan::quiet(alloc, at));
     }
     Plan::leaves_with(alloc, at, Body::Logout(Some(LogoutReason::SeqTooLow)))
 }
 
 /// A frame that is no reset.
-fn by_number(alloc: Global, at: &Standing, heard: Heard, number: SeqNum) -> Result<Plan, AllocError>
-    ensures { IfOk result (λ plan. plan ≡ by_number at.now heard number) }
+fn by_number(
+    alloc: Global,
+    at: &Standing,
+    heard: &mut Heard,
+    number: SeqNum,
+) -> Result<Plan, AllocError>
+    ensures { IfOk result (λ plan. plan ≡ by_number at.now heard.old number) }
 {
     let place = number.get();
     if at.expected < place {
-        return Ok(too_high(alloc, at, &heard));
+        return too_high(alloc, at, heard);
     }
     if place < at.expected {
-        return Ok(too_low(alloc, at, &heard.heading));
+        return too_low(alloc, at, &heard.heading);
     }
     let after = Standing {
         expected: place + 1,
@@ -101,24 +112,26 @@ fn by_number(alloc: Global, at: &Standing, heard: Heard, number: SeqNum) -> Resu
 }
 
 /// A frame with a number.
-fn on_number(alloc: Global, at: &Standing, heard: Heard, number: SeqNum) -> Result<Plan, AllocError>
-    ensures { IfOk result (λ plan. plan ≡ on_number at.now heard number) }
+fn on_number(
+    alloc: Global,
+    at: &Standing,
+    heard: &mut Heard,
+    number: SeqNum,
+) -> Result<Plan, AllocError>
+    ensures { IfOk result (λ plan. plan ≡ on_number at.now heard.old number) }
 {
     match reset_to(&heard.content) {
-        Some(to) => Ok(on_reset(alloc, at, &heard.heading, number, to)),
+        Some(to) => on_reset(alloc, at, &heard.heading, number, to),
         None => by_number(alloc, at, heard, number),
     }
 }
 
-/// What is done on a frame.
-pub fn frame_plan(alloc: Global, at: &Standing, heard: Heard) -> Result<Plan, AllocError>
-    ensures { IfOk result (λ plan. plan ≡ frame_plan at.now heard) }
+/// What is done on a frame. What it says may be taken out.
+pub fn frame_plan(alloc: Global, at: &Standing, heard: &mut Heard) -> Result<Plan, AllocError>
+    ensures { IfOk result (λ plan. plan ≡ frame_plan at.now heard.old) }
 {
     match heard.heading.number {
         Some(number) => on_number(alloc, at, heard, number),
-        None => {
-            let body = Body::Logout(Some(LogoutReason::BadSeqNum));
-            Ok(Plan::leaves_with(alloc, at, body))
-        }
+        None => Plan::leaves_with(alloc, at, Body::Logout(Some(LogoutReason::BadSeqNum))),
     }
 }

@@ -7,12 +7,14 @@ ghost use Rattle.gu_session.specs.Sending.{behind, closed, is_over};
 ghost use Rattle.gu_session.specs.States.{new_session};
 ghost use Rattle.gu_session.specs.Steps.{IsCourse};
 
-use crate::carrying::{is_over, keep, move_to, repeats, room_for, sent_at_behind, settle, waiting_in};
+use crate::carrying::{
+    is_over, keep, move_to, repeats, room_for, sent_at_behind, settle, waiting_in,
+};
 use crate::course::{answer_course, frame_course, notice_course, tick_course};
 use crate::input::Input;
 use crate::kept::Kept;
 use crate::output::{Asked, Taken};
-use crate::plan::{Course, Handed, Plan};
+use crate::plan::{Course, Handed, Handing, Plan};
 use crate::ready::{Prepared, Ready};
 use crate::standing::{Standing, Waiting};
 use gu_terms::{FirmId, Moment};
@@ -54,10 +56,10 @@ fn beginning() -> Moment
 }
 
 /// What is asked of the house.
-fn asked_in(handed: Option<Handed>) -> Option<Asked>
+fn asked_in(handed: Option<Handing>) -> Option<Asked>
     ensures { result ≡ asked_in handed }
 {
-    let Handed { request, waiting } = handed?;
+    let Handed { request, waiting } = handed?.into_handed();
     Some(Asked {
         what: request,
         reference: waiting.reference,
@@ -87,11 +89,11 @@ impl State {
     {
         match input {
             Input::Frame(frame) => frame_course(alloc, &self.firms, &self.at, frame, now),
-            Input::Notice(notice) => Ok(notice_course(alloc, &self.at, &notice)),
+            Input::Notice(notice) => notice_course(alloc, &self.at, &notice),
             Input::Answer(reference, outcome) => {
                 answer_course(alloc, &self.at, &self.waiting, reference, &outcome)
             }
-            Input::Tick => Ok(tick_course(alloc, &self.at, self.sent_at, now)),
+            Input::Tick => tick_course(alloc, &self.at, self.sent_at, now),
             Input::End => Ok(Course::Leave),
         }
     }

@@ -3,6 +3,7 @@
 use gu_ref::Reference;
 use gu_script::{ScriptError, play};
 use gu_streams::CountedReads;
+use gu_terms::Seed;
 use gu_world::World;
 use std::alloc::{AllocError, Global};
 use std::io::{self, Read, Write};
@@ -62,7 +63,7 @@ pub fn played<W: Write>(
     writer: &mut W,
 ) -> Result<World, ScriptError> {
     let reference = reference_with(alloc, rows)?;
-    play(alloc, reference, &mut CountedReads::new(script), writer)
+    play(alloc, reference, Seed::new(0), &mut CountedReads::new(script), writer)
 }
 
 /// How a run ends, in words.

@@ -79,6 +79,12 @@ close
 new ends where a number is used again
 in A 1 98=0|108=30|1137=9|
 out A 1 98=0|108=30|1137=9|
+in 0 1 43=YX|
+out 5 2 58=SeqTooLow|
+close
+new ends where a number is used again
+in A 1 98=0|108=30|1137=9|
+out A 1 98=0|108=30|1137=9|
 in 5 1
 out 5 2 58=SeqTooLow|
 close

@@ -13,13 +13,25 @@ use crate::messages::{frame_in, replaced, shown};
 use crate::requests::request_text;
 use crate::rows::{first_word, number, parts_at};
 use crate::words::{Values, notice_of, outcome_of, sample};
-use gu_session::{AskRef, Input, Output, Session};
+use gu_fix::Feed;
+use gu_session::{AskRef, Input, Output, Session, Taken};
 use gu_terms::{FirmId, Moment, Side};
 use std::alloc::{AllocError, Global};
 use std::process::Abort;
 
+/// The call by which a session takes its inputs.
+#[derive(Clone, Copy)]
+enum Call {
+    Step,
+    StepOnto,
+}
+
+/// What an output has before a session appends to it.
+const BEFORE: &[u8] = b"what was there ";
+
 /// What a conversation has come to.
 struct Talk {
+    call: Call,
     session: Session,
     values: Values,
     time: &'static str,
@@ -32,6 +44,7 @@ struct Talk {
 impl Drop for Talk {
     fn drop(self) {
         let Talk {
+            call: _,
             session,
             values: _,
             time: _,
@@ -63,14 +76,55 @@ fn framed(alloc: Global, message: String) -> Result<Option<Input>, AllocError> {
     Ok(Some(Input::Frame(frame)))
 }
 
+/// The messages that follow what was there, if nothing else does.
+fn messages_in(alloc: Global, text: &[u8]) -> Result<Option<Vec<Output>>, AllocError> {
+    let Some(rest) = text.strip_prefix(BEFORE) else {
+        return Ok(None);
+    };
+    let frames = Feed::new(alloc).push(rest).map_err(|_| AllocError)?;
+    let mut left = rest.len();
+    let mut given = Vec::with_capacity(alloc, 2)?;
+    for frame in frames {
+        left = left.saturating_sub(frame.bytes().len());
+        given.push(Output::Send(Vec::from_slice(alloc, frame.bytes())?))?;
+    }
+    Ok(if left == 0 { Some(given) } else { None })
+}
+
+/// What a session gives that appends its messages, one output after another.
+fn step_onto(
+    alloc: Global,
+    session: &mut Session,
+    input: Input,
+    now: Moment,
+) -> Result<Option<Vec<Output>>, AllocError> {
+    let mut text = Vec::from_slice(alloc, BEFORE)?;
+    let Taken { handed, is_closed } = session.step_onto(input, now, &mut text)?;
+    let found = match messages_in(alloc, &text) {
+        Ok(found) => found,
+        Err(_) => messages_in(alloc, &text)?,
+    };
+    let Some(mut given) = found else {
+        return Ok(None);
+    };
+    if let Some(asked) = handed {
+        given.push(Output::Hand(asked))?;
+    }
+    if is_closed {
+        given.push(Output::Close)?;
+    }
+    Ok(Some(given))
+}
+
 impl Talk {
     /// A conversation at nine in which E1 and E2 may log on.
-    fn new(alloc: Global) -> Result<Option<Talk>, AllocError> {
+    fn new(alloc: Global, call: Call) -> Result<Option<Talk>, AllocError> {
         let (Some(values), Some(other)) = (sample(), FirmId::new(b"E2")) else {
             return Ok(None);
         };
         let firms = Vec::from_slice(alloc, &[other, values.firm])?;
         Ok(Some(Talk {
+            call,
             session: Session::new(alloc, firms),
             values,
             time: "09:00:00.000",
@@ -113,10 +167,20 @@ impl Talk {
         }
     }
 
+    /// What the session gives for an input, unless it spoils what was there.
+    fn step(&mut self, alloc: Global, input: Input) -> Result<Option<Vec<Output>>, AllocError> {
+        match self.call {
+            Call::Step => Ok(Some(self.session.step(input, self.now)?)),
+            Call::StepOnto => step_onto(alloc, &mut self.session, input, self.now),
+        }
+    }
+
     /// Gives an input to the session. Nothing that it gave before may be left.
-    fn give(&mut self, input: Input) -> Result<bool, AllocError> {
+    fn give(&mut self, alloc: Global, input: Input) -> Result<bool, AllocError> {
         let is_due = self.given.is_empty();
-        let mut given = self.session.step(input, self.now)?;
+        let Some(mut given) = self.step(alloc, input)? else {
+            return Ok(false);
+        };
         given.reverse();
         self.given = given;
         Ok(is_due)
@@ -171,7 +235,7 @@ impl Talk {
     fn take(&mut self, alloc: Global, line: &str) -> Result<bool, AllocError> {
         let (word, text) = first_word(line);
         if let Some(input) = self.input(alloc, word, text)? {
-            return self.give(input);
+            return self.give(alloc, input);
         }
         match word {
             "firm" => Ok(self.is_firm(text)),
@@ -182,10 +246,10 @@ impl Talk {
 }
 
 /// A conversation at nine, at the second try where the first is refused memory.
-fn begin(rt: &impl Abort, alloc: Global) -> Talk {
-    let talk = match Talk::new(alloc) {
+fn begin(rt: &impl Abort, alloc: Global, call: Call) -> Talk {
+    let talk = match Talk::new(alloc, call) {
         Ok(talk) => talk,
-        Err(_) => Talk::new(alloc).expect(rt, "memory"),
+        Err(_) => Talk::new(alloc, call).expect(rt, "memory"),
     };
     talk.expect(rt, "a sample")
 }
@@ -218,9 +282,9 @@ fn check_each(rt: &impl Abort, alloc: Global, talk: &mut Talk, name: &str, text:
 }
 
 /// Asserts that each line of a conversation is right behind its name, and that nothing is left at its end.
-fn follow_one(rt: &impl Abort, alloc: Global, talk: &'static str) {
+fn follow_one(rt: &impl Abort, alloc: Global, talk: &'static str, call: Call) {
     let (name, lines) = parts_at(talk, "\n");
-    let mut talk = begin(rt, alloc);
+    let mut talk = begin(rt, alloc, call);
     for line in lines.lines() {
         match first_word(line) {
             ("now", time) => talk.set_clock(time),
@@ -231,9 +295,10 @@ fn follow_one(rt: &impl Abort, alloc: Global, talk: &'static str) {
     check_line(rt, alloc, &mut talk, name, "done");
 }
 
-/// Asserts that each line of conversations is right.
+/// Asserts that each line of conversations is right, by either call.
 pub fn follow(rt: &impl Abort, alloc: Global, talks: &'static str) {
     for talk in talks.split("\nnew ") {
-        follow_one(rt, alloc, talk);
+        follow_one(rt, alloc, talk, Call::Step);
+        follow_one(rt, alloc, talk, Call::StepOnto);
     }
 }

@@ -1,3 +1,7 @@
+use Rattle.std.proofs.Common.{◌≡◌, subst}
+use Rattle.std.specs.Prelude.{IfOk}
+use Rattle.gu_session.specs.FrameRules.{on_message, on_request}
+use Rattle.gu_session.specs.declared.plan.Plan.{Plan}
 use Rattle.gu_session.proofs.RequestLemmas.{on_message-other}
 use Rattle.gu_session.proofs.content.on_message.Goals as goal
 
@@ -13,4 +17,6 @@ returns-in_default c =
       logon = c.in_default.not-Logon;
       unread = c.in_default.not-Unread;
     }) in
-    rw (c.on_request.ensures, c.request.ensures, c.question-question.ensures) other
+    let same : on_request c.args.at.now c.args.number c.request.result c.question-question.result ≡ on_message c.args.at.now c.args.heading.now c.args.number c.args.message =
+    rw (c.request.ensures, c.question-question.ensures) other in
+    subst (λ (plan : Plan). IfOk c.on_request.result (λ found. found ≡ plan)) same c.on_request.ensures
