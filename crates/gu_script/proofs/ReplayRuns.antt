@@ -1,5 +1,5 @@
 -- A script while it is played: what was read, what waits, and what was written.
-use Rattle.std.proofs.Common.{◌≡◌, ◌≢◌, ◌∙◌, ℕ, ◌+◌, ◌-◌, ◌*◌, ◌<◌, ◌≤◌, List, [], ◌++◌, length, take, Option, Result, Ok, Err, refl, sym, ap, subst, append-nil, length-append, arith, inl, inr}
+use Rattle.std.proofs.Common.{◌==◌, Bool, true, false, zero, suc, ◌≡◌, ◌≢◌, ◌∙◌, ℕ, ◌+◌, ◌-◌, ◌*◌, ◌<◌, ◌≤◌, List, [], ◌++◌, length, take, Option, Result, Ok, Err, refl, sym, ap, subst, append-nil, length-append, arith, inl, inr}
 use Rattle.std.specs.Str.Lines.{lines}
 use Rattle.std.specs.Io.KnownBytes.{Consumes, Appends, Keeps, IsAtEnd}
 use Rattle.std.proofs.KnownBytes.{Appends-trans, Appends-nil, Consumes-trans, Consumes-nil, Consumes-kept}
@@ -321,21 +321,10 @@ module _ (old : Course) (waits_old waits_new : ℕ) where
 
   pub end_given : (result : Result (Unit {0}) ScriptError) (place : Place) (last : Course) (i j k o p q : Option (List ℕ)) (n : ℕ) (buffer : List ℕ) → n ≡ 0 → Playing old place i j o p → Consumes j k (take n buffer) → IsAtEnd k
       → Ended result place last p q → AfterEnd result last i k o q
-  end_given (Ok given) place last i j k o p q n buffer zero run consumed end ended =
-      ended_well place last given i j k o p q run (subst (λ (m : ℕ). Consumes j k (take m buffer)) zero consumed) end ended
-  end_given (Err error) place last i j k o p q n buffer zero run consumed end ended =
-      ended_badly place last error i j k o p q run (subst (λ (m : ℕ). Consumes j k (take m buffer)) zero consumed) end ended
-
-  pub end_done : (result : Result (Unit {0}) ScriptError) (last : Course) (i k o q : Option (List ℕ)) → AfterEnd result last i k o q → OnOk result (Replayed old last (between i k o q))
-  end_done (Ok given) last i k o q h = h
-  end_done (Err error) last i k o q h = tt
-
-  pub end_bad : (result : Result (Unit {0}) ScriptError) (last : Course) (i k o q : Option (List ℕ)) (number : ℕ) → AfterEnd result last i k o q → IsErrOf result (BadLine number) → StopsAtBadLine old number (between i k o q)
-  end_bad (Ok given) last i k o q number h is = absurd (let both : Ok given ≡ Err (BadLine number) = is in cc)
-  end_bad (Err error) last i k o q number h is = h.bad_line number (error_in error (BadLine number) is)
-    where
-      error_in : (a b : ScriptError) → IsErrOf {T = Unit {0}} {E = ScriptError} (Err a) b → a ≡ b
-      error_in a b e = cc
+  end_given (Ok given) place last i j k o p q n buffer none run consumed end ended =
+      ended_well place last given i j k o p q run (subst (λ (m : ℕ). Consumes j k (take m buffer)) none consumed) end ended
+  end_given (Err error) place last i j k o p q n buffer none run consumed end ended =
+      ended_badly place last error i j k o p q run (subst (λ (m : ℕ). Consumes j k (take m buffer)) none consumed) end ended
 
   pub end_in_part : (result : Result (Unit {0}) ScriptError) (last : Course) (i k o q : Option (List ℕ)) → AfterEnd result last i k o q → ReplayedInPart old (between i k o q)
   end_in_part (Ok given) last i k o q h = record {
@@ -367,3 +356,8 @@ given_counted P (Err (text_error.BadLine number)) given text p q gives h = absur
 -- no more lines than bytes, and 4,096 bytes a read at most
 pub room_more : (count new piece n left next all : ℕ) → count + 4096 * left ≤ all → new ≤ count + piece → piece ≤ n → n ≤ 4096 → next ≡ left - 1 → 0 < left → new + 4096 * next ≤ all
 room_more count new piece n left next all room counted within short next_is some = omega (arith, room, counted, within, short, next_is, some)
+
+-- a reader that isn't spent has a read left
+pub some_left : (left : ℕ) (spent : Bool) → spent ≡ (left == 0) → spent ≡ false → 0 < left
+some_left zero spent is not = let both : true ≡ false = sym is ∙ not in absurd (cc)
+some_left (suc n) spent is not = omega arith

@@ -1,6 +1,6 @@
 //! Scripts that are read, done and answered.
 
-ghost use Rattle.std.specs.Prelude.{◌≡◌, ◌+◌, ◌^◌, ◌<◌, ℕ, [], IfOk, OnOk, IsErrOf};
+ghost use Rattle.std.specs.Prelude.{◌+◌, ◌^◌, ◌<◌, ℕ, IfOk, IsErrOf};
 ghost use Rattle.gu_streams.specs.Reads.{HasStopped};
 ghost use Rattle.gu_world.specs.Runs.{beginning};
 ghost use Rattle.gu_script.specs.ScriptPieces.{Ended, Gives};
@@ -52,39 +52,6 @@ fn answer_end<W: Write>(
     give(answered, output, writer)
 }
 
-/// Answers a script from its first line on, the lines of each read before the next read.
-fn answer_all<R: Read, W: Write>(
-    alloc: Global,
-    script: &mut Script,
-    reads: &mut CountedReads<R>,
-    writer: &mut W,
-) -> Result<(), ScriptError>
-    requires count { script.old.count ≡ 0 }
-    requires rest { script.old.rest ≡ [] }
-    ensures done { OnOk result (Replayed script.old.course script.new.course
-        (streams_of R.remaining W.contents reads.old reads.new writer.old writer.new)) }
-    ensures bad_line { (n : ℕ) → IsErrOf result (ScriptError.BadLine n)
-        → StopsAtBadLine script.old.course n (streams_of R.remaining W.contents reads.old reads.new writer.old writer.new) }
-    ensures answered { IsErrOf result ScriptError.Read
-        → ReplayedSoFar script.old.course (streams_of R.remaining W.contents reads.old reads.new writer.old writer.new) }
-    ensures stopped { IsErrOf result ScriptError.Read → HasStopped reads.new }
-    ensures part { ReplayedInPart script.old.course (streams_of R.remaining W.contents reads.old reads.new writer.old writer.new) }
-{
-    let mut output = Vec::new(alloc);
-    let mut buffer = [0; LONGEST_READ];
-    'reading: while !reads.is_spent() {
-        let count = match reads.read(&mut buffer) {
-            Ok(0) => return answer_end(script, &mut output, writer),
-            Ok(count) => count,
-            Err(_) => return Err(ScriptError::Read),
-        };
-        output.clear();
-        let answered = script.take(&buffer[..count], &mut output);
-        give(answered, &output, writer)?;
-    }
-    Err(ScriptError::Read)
-}
-
 /// Plays a script from a book without entries, writes the text of its lines, and gives the world that they led to: its book, and the
 /// outcome of each step. The whole lines of a read are answered before the next read.
 pub fn play<R: Read, W: Write>(
@@ -110,8 +77,20 @@ pub fn play<R: Read, W: Write>(
     ensures part { ReplayedInPart (beginning reference) (streams_of R.remaining W.contents reads.old reads.new writer.old writer.new) }
 {
     let mut script = Script::new(alloc, reference, seed);
-    match answer_all(alloc, &mut script, reads, writer) {
-        Ok(()) => Ok(script.into_world()),
-        Err(error) => Err(error),
+    let mut output = Vec::new(alloc);
+    let mut buffer = [0; LONGEST_READ];
+    'reading: while !reads.is_spent() {
+        let count = match reads.read(&mut buffer) {
+            Ok(0) => {
+                answer_end(&mut script, &mut output, writer)?;
+                return Ok(script.into_world());
+            }
+            Ok(count) => count,
+            Err(_) => return Err(ScriptError::Read),
+        };
+        output.clear();
+        let answered = script.take(&buffer[..count], &mut output);
+        give(answered, &output, writer)?;
     }
+    Err(ScriptError::Read)
 }

@@ -1,11 +1,12 @@
 use Rattle.std.proofs.Common.{◌+◌, ◌*◌, ◌≤◌}
 use Rattle.gu_streams.specs.Reads.{bytes_left, reads_left}
+use Rattle.gu_world.specs.Runs.{beginning}
 use Rattle.gu_script.proofs.ReplayRuns.{Playing}
-use Rattle.gu_script.proofs.playing.answer_all.Given as goal
+use Rattle.gu_script.proofs.playing.play.Given as goal
 
 abbrev pub invariant-reading : goal.invariant-reading
 invariant-reading g l = record {
-  playing : Playing (l.initial.script).course l.script (bytes_left g.R.Read.remaining l.initial.reads) (bytes_left g.R.Read.remaining l.reads) (g.W.Write.contents l.initial.writer) (g.W.Write.contents l.writer);
+  playing : Playing (beginning l.fn.reference) l.script (bytes_left g.R.Read.remaining l.initial.reads) (bytes_left g.R.Read.remaining l.reads) (g.W.Write.contents l.initial.writer) (g.W.Write.contents l.writer);
   room : (l.script).count + 4096 * reads_left l.reads ≤ 4096 * reads_left l.initial.reads;
 }
 
