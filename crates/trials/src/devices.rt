@@ -45,7 +45,7 @@ impl Read for Source<'_> {
         let Some(length) = self.next_length() else {
             return Err(io::Error::from(io::ErrorKind::TimedOut));
         };
-        self.reads -= 1;
+        self.reads = self.reads.saturating_sub(1);
         let count = length.min(self.bytes.len()).min(buf.len());
         buf[..count].copy_from_slice(&self.bytes[..count]);
         self.bytes = &self.bytes[count..];
