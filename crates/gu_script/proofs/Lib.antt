@@ -1,3 +1,5 @@
+mod CommittedSheets
+mod GroupViews
 pub mod ReplayLooks
 pub mod ReplayPieces
 pub mod ReplayRuns

@@ -1,3 +1,4 @@
+pub mod CommittedSheets
 pub mod Faults
 pub mod Replaying
 pub mod ScriptPieces

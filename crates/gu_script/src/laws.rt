@@ -1,8 +1,28 @@
-//! What holds of every script.
+//! What holds of every script, and of the sheets of committed sweeps.
 
+ghost use Rattle.std.specs.Prelude.{List};
+ghost use Rattle.gu_terms.specs.declared.entry.Entry.{Entry as EntryOf};
+ghost use Rattle.gu_ref.specs.Tables.{Tables};
+ghost use Rattle.gu_book.specs.Legal.{IsLegal};
+ghost use Rattle.gu_world.specs.Runs.{Course, IsRunOf};
+ghost use Rattle.gu_world.specs.declared.step.Step.{Step as StepOf};
+ghost use Rattle.gu_script.specs.CommittedSheets.{AreTyped, PrintRightSheets};
 ghost use Rattle.gu_script.specs.Replaying.{StepsAreARun};
 
 /// A script is one run of the steps of its lines. So what holds of every run holds of a script.
 pub fn a_script_is_a_run()
     ensures { StepsAreARun }
+{}
+
+/// Each committed sweep prints a right sheet: the text of its takes and its cut, in the view of its group as the book was just before the
+/// commit, is a sheet, is read back as these takes and this cut, and is OK with the sweep's lots.
+pub fn a_committed_sweep_prints_a_right_sheet()
+    ensures legal { (reference : Tables) (history : List EntryOf)
+        → AreTyped reference history
+        → IsLegal reference history
+        → PrintRightSheets reference history }
+    ensures runs { (reference : Tables) (steps : List StepOf) (course : Course)
+        → AreTyped reference course.state.book.history
+        → IsRunOf reference steps course
+        → PrintRightSheets reference course.state.book.history }
 {}

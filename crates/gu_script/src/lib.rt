@@ -9,5 +9,5 @@ mod script;
 mod stepping;
 
 pub use error::ScriptError;
-pub use laws::a_script_is_a_run;
+pub use laws::{a_committed_sweep_prints_a_right_sheet, a_script_is_a_run};
 pub use playing::play;

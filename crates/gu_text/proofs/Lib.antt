@@ -1,7 +1,5 @@
-mod CommittedSheets
 mod FirstBytes
 mod FormLemmas
-mod GroupViews
 mod JoinedWords
 pub mod LineFeedLaws
 mod LineLemmas

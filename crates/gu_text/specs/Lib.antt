@@ -1,4 +1,3 @@
-pub mod CommittedSheets
 pub mod LineFeeds
 pub mod Lines
 pub mod Outcomes

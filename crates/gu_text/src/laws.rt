@@ -1,15 +1,12 @@
 //! Laws of scripts, and of what is written.
 
 ghost use Rattle.std.specs.Prelude.{◌≡◌, ◌<◌, ◌^◌, ℕ, List, All, IsTrue};
-ghost use Rattle.gu_text.specs.CommittedSheets.{AreTyped, PrintRightSheets};
 ghost use Rattle.gu_text.specs.ReadBack.{AreWords, HasLines, IsReadAsWritten, IsReadBack, IsWritable};
 ghost use Rattle.gu_terms.specs.Cuts.{CutLists, has_number};
 ghost use Rattle.gu_terms.specs.LimitKeys.{has_key};
 ghost use Rattle.gu_terms.specs.Takes.{lots_of};
-ghost use Rattle.gu_terms.specs.declared.entry.Entry.{Entry as EntryOf};
 ghost use Rattle.gu_terms.specs.declared.limit_key.LimitKey.{LimitKey as KeyOf};
 ghost use Rattle.gu_terms.specs.declared.takes.Take.{Take};
-ghost use Rattle.gu_ref.specs.Tables.{Tables};
 ghost use Rattle.gu_text.specs.Scripts.{Says};
 ghost use Rattle.gu_text.specs.SheetText.{sheet_text};
 ghost use Rattle.gu_text.specs.Sheets.{IsSheet, Refuses};
@@ -20,9 +17,6 @@ ghost use Rattle.gu_text.specs.declared.script_line.Line.{Line as LineOf};
 ghost use Rattle.gu_text.specs.declared.sheet.Sheet.{Sheet as SheetOf};
 ghost use Rattle.gu_view.specs.Check.{IsRight, has_offer, has_room};
 ghost use Rattle.gu_view.specs.View.{GroupView, IsNested, IsView};
-ghost use Rattle.gu_book.specs.Legal.{IsLegal};
-ghost use Rattle.gu_world.specs.Runs.{Course, IsRunOf};
-ghost use Rattle.gu_world.specs.declared.step.Step.{Step as StepOf};
 
 /// A line of a script says one thing at most.
 pub fn a_line_says_one_thing()
@@ -71,17 +65,4 @@ pub fn a_written_sheet_is_read_back()
         → view.version < 10 ^ 12
         → IsRight view takes cut lots
         → IsWritable view takes }
-{}
-
-/// Each committed sweep prints a right sheet: the text of its takes and its cut, in the view of its group as the book was just before the
-/// commit, is a sheet, is read back as these takes and this cut, and is OK with the sweep's lots.
-pub fn a_committed_sweep_prints_a_right_sheet()
-    ensures legal { (reference : Tables) (history : List EntryOf)
-        → AreTyped reference history
-        → IsLegal reference history
-        → PrintRightSheets reference history }
-    ensures runs { (reference : Tables) (steps : List StepOf) (course : Course)
-        → AreTyped reference course.state.book.history
-        → IsRunOf reference steps course
-        → PrintRightSheets reference course.state.book.history }
 {}

@@ -64,7 +64,7 @@ use Rattle.gu_book.proofs.Onward.{each_legal}
 use Rattle.gu_book.proofs.Passing.{none_stands}
 use Rattle.gu_book.proofs.VersionLemmas.{version-le}
 use Rattle.gu_book.proofs.ViewLemmas.{HasPath, have_paths, none_bad_offer, none_differs, offers-are, shows_offer}
-use Rattle.gu_text.specs.CommittedSheets.{AreTyped, HasLots}
+use Rattle.gu_script.specs.CommittedSheets.{AreTyped, HasLots}
 use Rattle.gu_text.specs.WrittenSheets.{IsNamed}
 
 -- ---- lots of offers

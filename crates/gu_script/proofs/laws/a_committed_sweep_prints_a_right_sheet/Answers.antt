@@ -1,6 +1,6 @@
 use Rattle.gu_world.proofs.LegalRuns.{run_legal}
-use Rattle.gu_text.proofs.CommittedSheets.{prints_right}
-use Rattle.gu_text.proofs.laws.a_committed_sweep_prints_a_right_sheet.Goals as goal
+use Rattle.gu_script.proofs.CommittedSheets.{prints_right}
+use Rattle.gu_script.proofs.laws.a_committed_sweep_prints_a_right_sheet.Goals as goal
 
 pub returns : goal.returns
 returns c = record {

@@ -11,9 +11,9 @@ use Rattle.gu_view.proofs.Checked.{ok_from_right}
 use Rattle.gu_book.specs.Laws.{IsShort}
 use Rattle.gu_book.specs.Legal.{IsLegal, MayFollow}
 use Rattle.gu_book.specs.Views.{group_view}
-use Rattle.gu_text.specs.CommittedSheets.{AreTyped, HasLots, PrintRightSheets}
+use Rattle.gu_script.specs.CommittedSheets.{AreTyped, HasLots, PrintRightSheets}
 use Rattle.gu_text.specs.WrittenSheets.{cut_of, takes_of}
-use Rattle.gu_text.proofs.GroupViews.{few_touches, is_view, named, nested}
+use Rattle.gu_script.proofs.GroupViews.{few_touches, is_view, named, nested}
 use Rattle.gu_text.proofs.SheetAgain.{written_sheet}
 use Rattle.gu_text.proofs.Writable.{right_writable}
 use Rattle.gu_text.proofs.WrittenTakes.{right_again, same_key, same_lots, same_number}
