@@ -3,18 +3,15 @@
 use crate::capturing::capture;
 use crate::checking::check;
 use crate::error::RunError;
-use crate::replaying::{played, replay};
-use crate::rows::joined;
+use crate::replaying::replay;
 use crate::sample::{sample_day, sample_reference};
 use crate::status::Status;
-use crate::streams::{Sink, Source, shown, wire};
-use crate::terms::Terms;
-use gu_book::Book;
 use gu_streams::CountedReads;
 use gu_terms::Seed;
 use std::alloc::{AllocError, Global};
+use trials::{Sink, Source, Terms, joined, shown};
 
-/// What runs, but for connections, which want more (`talks`).
+/// What runs, but for connections (`engine_tests`).
 #[derive(Clone, Copy)]
 pub enum Engine {
     /// Trade capture on the sample.
@@ -23,19 +20,6 @@ pub enum Engine {
     Check,
     /// A script, on the sample.
     Replay,
-}
-
-/// The book of the sample after a script.
-pub fn book_after(alloc: Global, script: &str) -> Result<Book, RunError> {
-    let script = wire(alloc, script).map_err(gu_streams::StreamError::from)?;
-    let reference = sample_reference(alloc)?;
-    let world = played(
-        alloc,
-        reference,
-        Seed::new(0),
-        &mut CountedReads::new(script.as_bytes()),
-    )?;
-    Ok(world.into_book())
 }
 
 /// How a run of an engine ends.
@@ -76,7 +60,7 @@ pub fn end_text(alloc: Global, end: Result<Status, RunError>) -> Result<String, 
 }
 
 /// What a run tells that ended so and wrote this.
-pub fn told_of(
+fn told_of(
     alloc: Global,
     end: Result<Status, RunError>,
     written: &[u8],
@@ -93,18 +77,14 @@ pub fn told(
     input: &[u8],
     terms: Terms,
 ) -> Result<String, AllocError> {
-    let lengths = [terms.first];
+    let lengths = [Some(terms.first)];
     let mut reads = CountedReads::new(Source {
         bytes: input,
         lengths: &lengths,
         later: terms.piece,
         reads: terms.reads,
     });
-    let mut sink = Sink {
-        held: Vec::new(alloc),
-        most: terms.most,
-        writes: terms.writes,
-    };
+    let mut sink = Sink::new(alloc, terms.most, terms.writes);
     let end = ended(alloc, engine, &mut reads, &mut sink);
     told_of(alloc, end, &sink.held)
 }

@@ -10,23 +10,13 @@ mod engines;
 mod error;
 #[cfg(test)]
 mod error_tests;
-#[cfg(test)]
-mod exchanges;
 mod files;
-#[cfg(test)]
-mod fix_stream_tests;
-#[cfg(test)]
-mod fix_tests;
 mod fixing;
 mod input;
 #[cfg(test)]
 mod largest_tests;
 #[cfg(test)]
 mod machine;
-#[cfg(test)]
-mod memory_tests;
-#[cfg(test)]
-mod moments;
 mod position_lines;
 mod progress;
 #[cfg(test)]
@@ -43,12 +33,6 @@ mod sample_tests;
 mod status;
 #[cfg(test)]
 mod stream_tests;
-#[cfg(test)]
-mod streams;
-#[cfg(test)]
-mod talks;
-#[cfg(test)]
-mod terms;
 #[cfg(test)]
 mod word_tests;
 mod words;

@@ -3,14 +3,13 @@
 //! sample, `bad` has an eighteenth row that is none, `day` opens a day, and the second line of `two` is bad.
 
 use crate::machine::{Lack, Machine};
-use crate::rows::{check_told, columns};
 use crate::running::status_of;
 use crate::sample::ROWS;
 use crate::status::Status;
-use crate::streams::{shown, wire};
 use std::alloc::{AllocError, Global};
 use std::cell::Cell;
 use std::process::Abort;
+use trials::{check_told, columns, shown, wire};
 
 /// Each task, and each fault of one.
 const RUNS: &str = "\

@@ -2,7 +2,6 @@
 
 use crate::engines::end_text;
 use crate::error::RunError;
-use crate::rows::{check_told, columns};
 use crate::words::{Task, answer, firm_named, read};
 use clap::Error;
 use std::alloc::{AllocError, Global};
@@ -10,6 +9,7 @@ use std::cell::Cell;
 use std::fmt::Display;
 use std::io;
 use std::process::Abort;
+use trials::{check_told, columns};
 
 /// A standard output and a standard error that count what they are given, or take nothing.
 #[derive(Drop)]

@@ -4,6 +4,7 @@
 //! - `in T N fields`: a read of one message, of type T and number N, from the firm to the house
 //! - `and T N fields`: a further message in the same read
 //! - `raw text`: a read of these bytes
+//! - `silence`: a turn in which the firm has nothing for now
 //! - `out T N fields`: a message of type T and number N is sent to the firm at the time of the read
 //! - `sent text`: these very bytes are sent
 //!
@@ -19,8 +20,8 @@ const HOUSE: &str = "GIVEUP";
 /// What is read, piece by piece, at which moments, and what is to be written.
 pub struct Talk {
     pub input: String,
-    /// How long each piece is.
-    pub lengths: Vec<usize>,
+    /// How long each piece is; None where there is nothing for now.
+    pub lengths: Vec<Option<usize>>,
     pub moments: Vec<Moment>,
     pub output: String,
 }
@@ -117,7 +118,7 @@ fn text_of(
 
 impl Talk {
     /// A further piece, of this length at this time.
-    fn begin(&mut self, length: usize, time: &str) -> Result<(), AllocError> {
+    fn begin(&mut self, length: Option<usize>, time: &str) -> Result<(), AllocError> {
         self.lengths.push(length)?;
         if let Some(now) = moment_of(time) {
             self.moments.push(now)?;
@@ -127,7 +128,7 @@ impl Talk {
 
     /// Adds to the length of the last piece.
     fn lengthen(&mut self, length: usize) {
-        if let Some(last) = self.lengths.last_mut() {
+        if let Some(Some(last)) = self.lengths.last_mut() {
             *last = last.saturating_add(length);
         }
     }
@@ -135,7 +136,8 @@ impl Talk {
     /// Takes the text of a line to what is read or written.
     fn take(&mut self, word: &str, text: &str, time: &str) -> Result<(), AllocError> {
         match word {
-            "in" | "raw" => self.begin(text.len(), time)?,
+            "silence" => self.begin(None, time)?,
+            "in" | "raw" => self.begin(Some(text.len()), time)?,
             "and" => self.lengthen(text.len()),
             _ => return self.output.push_str(text),
         }

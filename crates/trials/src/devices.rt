@@ -14,24 +14,25 @@ pub fn shown(alloc: Global, bytes: &[u8]) -> Result<String, AllocError> {
     text.replace(alloc, "\x01", "|")?.replace(alloc, "\n", "/")
 }
 
-/// Gives its bytes in pieces of these lengths, and the rest in pieces of one length; it fails once it has no read left.
+/// Gives its bytes in pieces of these lengths, and the rest in pieces of one length; it fails once it has no read left. Where a length
+/// is None it has nothing for now, once, which is no read.
 #[derive(Drop)]
 pub struct Source<'a> {
     pub bytes: &'a [u8],
-    pub lengths: &'a [usize],
+    pub lengths: &'a [Option<usize>],
     pub later: usize,
     pub reads: usize,
 }
 
 impl Source<'_> {
-    /// How many bytes the next read gives at most.
-    fn next_length(&mut self) -> usize {
+    /// How many bytes the next read gives at most, if it gives any.
+    fn next_length(&mut self) -> Option<usize> {
         match self.lengths {
             [length, later @ ..] => {
                 self.lengths = later;
                 *length
             }
-            [] => self.later,
+            [] => Some(self.later),
         }
     }
 }
@@ -41,8 +42,10 @@ impl Read for Source<'_> {
         if self.reads == 0 {
             return Err(io::Error::from(io::ErrorKind::BrokenPipe));
         }
+        let Some(length) = self.next_length() else {
+            return Err(io::Error::from(io::ErrorKind::TimedOut));
+        };
         self.reads -= 1;
-        let length = self.next_length();
         let count = length.min(self.bytes.len()).min(buf.len());
         buf[..count].copy_from_slice(&self.bytes[..count]);
         self.bytes = &self.bytes[count..];
@@ -50,12 +53,26 @@ impl Read for Source<'_> {
     }
 }
 
-/// Takes so many bytes a write, and fails once it has no write left.
+/// Takes at most this many bytes a write, and fails once it has no write left.
 #[derive(Drop)]
 pub struct Sink {
     pub held: Vec<u8>,
     pub most: usize,
     pub writes: usize,
+    /// The longest text that it was asked to write at once.
+    pub longest: usize,
+}
+
+impl Sink {
+    /// A writer that has taken nothing.
+    pub fn new(alloc: Global, most: usize, writes: usize) -> Self {
+        Sink {
+            held: Vec::new(alloc),
+            most,
+            writes,
+            longest: 0,
+        }
+    }
 }
 
 impl Write for Sink {
@@ -64,6 +81,7 @@ impl Write for Sink {
             return Err(io::Error::from(io::ErrorKind::BrokenPipe));
         }
         self.writes -= 1;
+        self.longest = self.longest.max(buf.len());
         let count = self.most.min(buf.len());
         self.held.extend_from_slice(&buf[..count])?;
         Ok(count)

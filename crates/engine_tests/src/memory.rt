@@ -1,9 +1,8 @@
 //! A connection in which each allocation fails in turn. A failure outside the engine shows nothing of it.
 
 use crate::exchanges::told_after;
-use crate::talks::Talk;
-use crate::terms::AMPLE;
 use std::alloc::{AllocError, Global};
+use trials::{AMPLE, Talk};
 
 /// Whether a run did all and told all, or stopped after a prefix of it. (The output grows too, so that its writer may fail.)
 fn is_all_or_prefix(told: &str, done: &str, all: &str) -> bool {

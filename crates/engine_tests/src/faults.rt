@@ -1,11 +1,9 @@
 //! A connection over streams: cut into pieces, with a reader, a writer or a clock that fails, and a long one.
 
 use crate::exchanges::told_after;
-use crate::rows::{check_told, columns, front_told};
-use crate::talks::Talk;
-use crate::terms::Terms;
 use std::alloc::Global;
 use std::process::Abort;
+use trials::{Talk, Terms, check_told, columns, front_told};
 
 /// A report above the gap is asked for, one at its number is entered, and the same again is not. The answers end at 93, 176, 271 and 358 bytes.
 const ENTERED_ONCE: &str = "\

@@ -1,15 +1,7 @@
 //! Connections of firms to a book, as their lines say (`talks`).
 
-use crate::engines::{book_after, told_of};
-use crate::error::RunError;
-use crate::fixing::fix;
-use crate::moments::Moments;
-use crate::rows::{check_told, columns};
-use crate::status::Status;
-use crate::streams::{Sink, Source, wire};
-use crate::talks::Talk;
-use crate::terms::{AMPLE, Terms};
-use gu_engine::{Connection, House};
+use crate::books::book_after;
+use gu_engine::{Connection, House, run};
 use gu_houses::OverBook;
 use gu_msgs::Request;
 use gu_session::{Failure, Outcome};
@@ -19,6 +11,7 @@ use gu_text::{Line, TextError};
 use gu_world::Step;
 use std::alloc::{AllocError, Global};
 use std::process::Abort;
+use trials::{AMPLE, Moments, Sink, Source, Talk, Terms, check_told, columns, shown, wire};
 
 /// The house of a connection, and what happens besides, once: `Memory` or `Full` leaves the first command out, and a command is
 /// entered as soon as a firm was given its notices.
@@ -81,17 +74,32 @@ fn exchanged(
     talk: &Talk,
     terms: Terms,
     sink: &mut Sink,
-) -> Result<Status, RunError> {
+) -> Result<(), StreamError> {
     let alloc = desk.alloc;
-    let firms = Vec::from_slice(alloc, FirmId::new(firm.as_bytes()).as_slice()).map_err(
-        StreamError::from,
-    )?;
+    let firms = Vec::from_slice(alloc, FirmId::new(firm.as_bytes()).as_slice())?;
     let moments = talk.moments.get(..terms.clock).unwrap_or(&talk.moments);
     let mut connection = Connection::new(alloc, firms, desk, Moments::new(moments));
-    let end = fix(alloc, &mut connection, &mut CountedReads::new(source), sink);
+    let end = run(
+        alloc,
+        &mut CountedReads::patient(source),
+        sink,
+        &mut connection,
+    );
     drop(connection);
-    end?;
-    Ok(Status::Done)
+    end
+}
+
+/// How an exchange ended, `: `, and what it wrote, where `|` is SOH.
+fn told_of(
+    alloc: Global,
+    end: Result<(), StreamError>,
+    written: &[u8],
+) -> Result<String, AllocError> {
+    let written = shown(alloc, written)?;
+    match end {
+        Ok(()) => format!(in alloc; "done: {written}"),
+        Err(error) => format!(in alloc; "{error}: {written}"),
+    }
 }
 
 /// What the exchange of a firm's connection tells.
@@ -104,13 +112,35 @@ pub fn told(desk: Desk<'_>, firm: &str, talk: &Talk, terms: Terms) -> Result<Str
         later: terms.piece,
         reads: terms.reads,
     };
-    let mut sink = Sink {
-        held: Vec::new(alloc),
-        most: terms.most,
-        writes: terms.writes,
-    };
+    let mut sink = Sink::new(alloc, terms.most, terms.writes);
     let end = exchanged(desk, firm, source, talk, terms, &mut sink);
     told_of(alloc, end, &sink.held)
+}
+
+/// The longest text that a connection of a firm writes at once, and how much it writes in all.
+pub fn longest_write(
+    house: &mut OverBook,
+    alloc: Global,
+    firm: &str,
+    talk: &Talk,
+) -> Result<(usize, usize), AllocError> {
+    let input = wire(alloc, &talk.input)?;
+    let source = Source {
+        bytes: input.as_bytes(),
+        lengths: &talk.lengths,
+        later: AMPLE.piece,
+        reads: AMPLE.reads,
+    };
+    let mut sink = Sink::new(alloc, usize::MAX, AMPLE.writes);
+    let desk = Desk {
+        alloc,
+        house,
+        besides: "",
+    };
+    match exchanged(desk, firm, source, talk, AMPLE, &mut sink) {
+        Ok(()) => Ok((sink.longest, sink.held.len())),
+        Err(_) => Err(AllocError),
+    }
 }
 
 /// Asserts that the exchange of a connection, whose firm comes before its lines, ends with the input, and writes what its lines say.

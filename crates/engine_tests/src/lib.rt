@@ -1,0 +1,23 @@
+//! Tests of readers that are counted, of the loop of an engine, and of connections of firms to a book.
+#![tactic(auto)]
+
+#[cfg(test)]
+mod books;
+#[cfg(test)]
+mod clocks;
+#[cfg(test)]
+mod conversations;
+#[cfg(test)]
+mod exchanges;
+#[cfg(test)]
+mod faults;
+#[cfg(test)]
+mod full;
+#[cfg(test)]
+mod memory;
+#[cfg(test)]
+mod silence;
+#[cfg(test)]
+mod turns;
+#[cfg(test)]
+mod writes;

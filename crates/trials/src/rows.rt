@@ -1,0 +1,79 @@
+//! Tables of tests: texts whose lines are rows. A row is what a run is given and, after ` -> `, what it is to tell. In a text
+//! `(x*9)` is nine times x, and `(x% *2..9)` is `x2 x3 ..` up to `x9 `.
+
+use std::alloc::{AllocError, Global};
+use std::process::Abort;
+
+/// What comes before the ` -> ` of a row, and what comes after it.
+pub fn columns(row: &str) -> (&str, &str) {
+    row.split_once(" -> ").unwrap_or((row, ""))
+}
+
+/// Parts of a text, one after another.
+pub fn joined(alloc: Global, parts: &[&str]) -> Result<String, AllocError> {
+    let mut text = String::new(alloc);
+    for part in parts {
+        text.push_str(part)?;
+    }
+    Ok(text)
+}
+
+/// A text with a number in the place of each `%`.
+fn with_number(alloc: Global, text: &str, number: u64) -> Result<String, AllocError> {
+    let digits = format!(in alloc; "{number}")?;
+    text.replace(alloc, "%", &digits)
+}
+
+/// Appends a text once for each number from a first to a last.
+fn push_each(
+    alloc: Global,
+    meant: &mut String,
+    text: &str,
+    first: u64,
+    last: u64,
+) -> Result<(), AllocError> {
+    for number in first..=last {
+        let one = with_number(alloc, text, number)?;
+        meant.push_str(&one)?;
+    }
+    Ok(())
+}
+
+/// The number that a word writes.
+fn number(word: &str) -> u64 {
+    word.parse().unwrap_or(0)
+}
+
+/// A text as it is meant.
+pub fn meant(alloc: Global, text: &str) -> Result<String, AllocError> {
+    let mut meant = String::new(alloc);
+    for part in text.split('(') {
+        let (repeated, rest) = part.split_once(')').unwrap_or(("", part));
+        let (unit, range) = repeated.rsplit_once('*').unwrap_or(("", "0"));
+        let (first, last) = range.split_once("..").unwrap_or(("1", range));
+        push_each(alloc, &mut meant, unit, number(first), number(last))?;
+        meant.push_str(rest)?;
+    }
+    Ok(meant)
+}
+
+/// Asserts that a text is as a row says.
+pub fn check_text(rt: &impl Abort, row: &str, text: &str, expected: &str) {
+    assert_eq!(rt; text, expected, "{row}");
+}
+
+/// Asserts that a run tells what a row says.
+pub fn check_told(rt: &impl Abort, row: &str, told: Result<String, AllocError>, expected: &str) {
+    let told = told.expect(rt, "memory");
+    check_text(rt, row, &told, expected);
+}
+
+/// What is to be told where a row says `end: count`: so many bytes of an output, or all of it.
+pub fn front_told(alloc: Global, expected: &str, output: &str) -> Result<String, AllocError> {
+    let (end, count) = expected.split_once(": ").unwrap_or((expected, ""));
+    let count = count.parse().unwrap_or(output.len());
+    match output.split_at_checked(count) {
+        Some((front, _)) => joined(alloc, &[end, ": ", front]),
+        None => joined(alloc, &[end, ": more than ", output]),
+    }
+}
