@@ -63,7 +63,13 @@ pub fn played<W: Write>(
     writer: &mut W,
 ) -> Result<World, ScriptError> {
     let reference = reference_with(alloc, rows)?;
-    play(alloc, reference, Seed::new(0), &mut CountedReads::new(script), writer)
+    play(
+        alloc,
+        reference,
+        Seed::new(0),
+        &mut CountedReads::new(script),
+        writer,
+    )
 }
 
 /// How a run ends, in words.
