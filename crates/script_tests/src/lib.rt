@@ -10,8 +10,6 @@ mod memory;
 #[cfg(test)]
 mod plays;
 #[cfg(test)]
-mod rows;
-#[cfg(test)]
 mod sheets;
 #[cfg(test)]
 mod sweeps;
