@@ -1,6 +1,7 @@
 //! Connections of firms to a book, as their lines say (`talks`).
 
 use crate::books::book_after;
+use crate::rows::check_told;
 use gu_engine::{Connection, House, run};
 use gu_houses::OverBook;
 use gu_msgs::Request;
@@ -11,7 +12,7 @@ use gu_text::{Line, TextError};
 use gu_world::Step;
 use std::alloc::{AllocError, Global};
 use std::process::Abort;
-use trials::{AMPLE, Moments, Sink, Source, Talk, Terms, check_told, columns, shown, wire};
+use trials::{AMPLE, Moments, Sink, Source, Talk, Terms, columns, shown, wire};
 
 /// The house of a connection, and what happens besides, once: `Memory` or `Full` leaves the first command out, and a command is
 /// entered as soon as a firm was given its notices.

@@ -1,9 +1,10 @@
 //! A connection over streams: cut into pieces, with a reader, a writer or a clock that fails, and a long one.
 
 use crate::exchanges::told_after;
+use crate::rows::check_told;
 use std::alloc::Global;
 use std::process::Abort;
-use trials::{Talk, Terms, check_told, columns, front_told};
+use trials::{Talk, Terms, columns, front_told};
 
 /// A report above the gap is asked for, one at its number is entered, and the same again is not. The answers end at 93, 176, 271 and 358 bytes.
 const ENTERED_ONCE: &str = "\

@@ -2,12 +2,13 @@
 
 use crate::books::sample;
 use crate::exchanges::{Desk, told};
+use crate::rows::check_told;
 use gu_book::Book;
 use gu_houses::OverBook;
 use gu_terms::{Command, Day};
 use std::alloc::Global;
 use std::process::Abort;
-use trials::{AMPLE, Talk, check_told};
+use trials::{AMPLE, Talk};
 
 /// A report, and a claim of an offer that there isn't.
 const REPORT: &str = "\

@@ -16,6 +16,8 @@ mod full;
 #[cfg(test)]
 mod memory;
 #[cfg(test)]
+mod rows;
+#[cfg(test)]
 mod silence;
 #[cfg(test)]
 mod turns;

@@ -2,10 +2,10 @@
 //! empty line comes between two cases, and other ends of lines mean nothing.
 
 use crate::engines::Engine;
-use crate::rows::told_of_text;
+use crate::rows::{check_told, told_of_text};
 use std::alloc::{AllocError, Global};
 use std::process::Abort;
-use trials::{AMPLE, check_told, columns, joined};
+use trials::{AMPLE, columns, joined};
 
 /// The view of three offers that share an executing firm or an account by twos.
 const VIEW: &str =

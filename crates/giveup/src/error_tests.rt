@@ -1,12 +1,12 @@
 //! What is said on standard error.
 
 use crate::error::RunError;
+use crate::rows::check_told;
 use gu_ref::RefFault;
 use gu_script::ScriptError;
 use gu_streams::StreamError;
 use std::alloc::Global;
 use std::process::Abort;
-use trials::check_told;
 
 /// Asserts that an error is said so.
 fn check<E>(rt: &impl Abort, alloc: Global, error: E, text: &str)

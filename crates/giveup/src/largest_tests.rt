@@ -1,8 +1,8 @@
 //! Engines at their largest: thousands of reports, and a sheet of as many offers as a view may have.
 
 use crate::engines::Engine;
-use crate::rows::{check, told_of_text};
-use trials::{AMPLE, Talk, check_told, front_told};
+use crate::rows::{check, check_told, told_of_text};
+use trials::{AMPLE, Talk, front_told};
 
 /// Reports of a trade each, and their acknowledgements. Nothing is held in the end.
 const REPORTS: &str = "\

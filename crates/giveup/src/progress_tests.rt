@@ -1,9 +1,10 @@
 //! What is told of the progress of a long input.
 
 use crate::progress::Told;
+use crate::rows::check_told;
 use std::alloc::{AllocError, Global};
 use std::io::Read;
-use trials::{check_told, shown};
+use trials::shown;
 
 /// Reads all in pieces of 4,096 bytes, and tells how many bytes came.
 fn read_through<R: Read>(reader: &mut R) -> usize {

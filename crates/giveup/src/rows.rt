@@ -3,7 +3,18 @@
 use crate::engines::{Engine, told};
 use std::alloc::{AllocError, Global};
 use std::process::Abort;
-use trials::{AMPLE, Terms, check_told, columns, front_told, meant, wire};
+use trials::{AMPLE, Terms, columns, front_told, meant, wire};
+
+/// Asserts that a text is as a row says.
+pub fn check_text(rt: &impl Abort, row: &str, text: &str, expected: &str) {
+    assert_eq!(rt; text, expected, "{row}");
+}
+
+/// Asserts that a run tells what a row says.
+pub fn check_told(rt: &impl Abort, row: &str, told: Result<String, AllocError>, expected: &str) {
+    let told = told.expect(rt, "memory");
+    check_text(rt, row, &told, expected);
+}
 
 /// Asserts that a run tells this, with a number in the place of a row.
 pub fn check_numbered(

@@ -3,13 +3,14 @@
 //! sample, `bad` has an eighteenth row that is none, `day` opens a day, and the second line of `two` is bad.
 
 use crate::machine::{Lack, Machine};
+use crate::rows::check_told;
 use crate::running::status_of;
 use crate::sample::ROWS;
 use crate::status::Status;
 use std::alloc::{AllocError, Global};
 use std::cell::Cell;
 use std::process::Abort;
-use trials::{check_told, columns, shown, wire};
+use trials::{columns, shown, wire};
 
 /// Each task, and each fault of one.
 const RUNS: &str = "\

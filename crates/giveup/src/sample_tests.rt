@@ -1,7 +1,7 @@
 //! The sample house.
 
+use crate::rows::check_text;
 use crate::sample::{ROWS, sample_day};
-use trials::check_text;
 
 /// Its rows, each with its end.
 const TYPED: &str = "\

@@ -2,10 +2,10 @@
 //! the answer are written then.
 
 use crate::engines::{Engine, told};
-use crate::rows::{check, check_cuts, check_numbered, check_terms, told_of_text};
+use crate::rows::{check, check_cuts, check_numbered, check_terms, check_told, told_of_text};
 use std::alloc::{AllocError, Global};
 use std::process::Abort;
-use trials::{AMPLE, Terms, check_told, front_told, wire};
+use trials::{AMPLE, Terms, front_told, wire};
 
 /// Two reports of one trade, of 141 and 136 bytes.
 const REPORTS: &str =

@@ -2,6 +2,7 @@
 
 use crate::engines::end_text;
 use crate::error::RunError;
+use crate::rows::check_told;
 use crate::words::{Task, answer, firm_named, read};
 use clap::Error;
 use std::alloc::{AllocError, Global};
@@ -9,7 +10,7 @@ use std::cell::Cell;
 use std::fmt::Display;
 use std::io;
 use std::process::Abort;
-use trials::{check_told, columns};
+use trials::columns;
 
 /// A standard output and a standard error that count what they are given, or take nothing.
 #[derive(Drop)]

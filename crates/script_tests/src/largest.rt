@@ -1,9 +1,10 @@
 //! Long scripts, a group with as many open offers as it may have, and a script that fills a book.
 
 use crate::plays::told;
+use crate::rows::check_told;
 use std::alloc::{AllocError, Global};
 use std::fmt::Write;
-use trials::{check_told, columns, meant};
+use trials::{columns, meant};
 
 /// What a script tells, as it is meant.
 fn told_of(alloc: Global, script: &str) -> Result<String, AllocError> {

@@ -10,6 +10,8 @@ mod memory;
 #[cfg(test)]
 mod plays;
 #[cfg(test)]
+mod rows;
+#[cfg(test)]
 mod sheets;
 #[cfg(test)]
 mod sweeps;

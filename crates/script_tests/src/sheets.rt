@@ -1,10 +1,11 @@
 //! Sheets that scripts write, and what a check of them says.
 
+use crate::rows::check_told;
 use crate::transcripts::{told, whole};
 use gu_text::{Sheet, TextError, verdict_text};
 use gu_view::check;
 use std::alloc::Global;
-use trials::{check_told, columns};
+use trials::columns;
 
 /// Transcripts that end with a sheet, and the line of its check.
 const SHEETS: &str = "\

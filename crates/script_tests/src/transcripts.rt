@@ -2,9 +2,10 @@
 //! transcript itself mean nothing, and `@opened/` is the part of this name.
 
 use crate::plays;
+use crate::rows::check_told;
 use std::alloc::{AllocError, Global};
 use std::process::Abort;
-use trials::{check_told, columns};
+use trials::columns;
 
 /// Parts of transcripts: a day with limits of 100 on each key of the first agreement (entries 1 to 5), trades of 10 and of 7 lots, the second
 /// given up, sheets of sweeps that take those, a claim, a claim of 6 and a proposal of 4, two offers of 5 lots under an agreement with room for 7, three

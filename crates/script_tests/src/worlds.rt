@@ -1,13 +1,13 @@
 //! The world that a script leads to: its book, and the receipts of its entries.
 
 use crate::plays::{Pieces, played};
+use crate::rows::check_told;
 use crate::transcripts::{script_of, whole};
 use gu_script::ScriptError;
 use gu_terms::{AccountId, Symbol};
 use gu_world::{Outcome, Outcomes};
 use std::alloc::{AllocError, Global};
 use std::io;
-use trials::check_told;
 
 /// The sum of the numbers of the receipts.
 fn numbers_of(outcomes: &Outcomes<'_>) -> Result<u64, AllocError> {

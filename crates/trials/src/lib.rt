@@ -9,6 +9,6 @@ mod terms;
 
 pub use devices::{Sink, Source, shown, wire};
 pub use moments::Moments;
-pub use rows::{check_text, check_told, columns, front_told, joined, meant};
+pub use rows::{columns, front_told, joined, meant};
 pub use talks::Talk;
 pub use terms::{AMPLE, Terms};

@@ -2,7 +2,6 @@
 //! `(x*9)` is nine times x, and `(x% *2..9)` is `x2 x3 ..` up to `x9 `.
 
 use std::alloc::{AllocError, Global};
-use std::process::Abort;
 
 /// What comes before the ` -> ` of a row, and what comes after it.
 pub fn columns(row: &str) -> (&str, &str) {
@@ -55,17 +54,6 @@ pub fn meant(alloc: Global, text: &str) -> Result<String, AllocError> {
         meant.push_str(rest)?;
     }
     Ok(meant)
-}
-
-/// Asserts that a text is as a row says.
-pub fn check_text(rt: &impl Abort, row: &str, text: &str, expected: &str) {
-    assert_eq!(rt; text, expected, "{row}");
-}
-
-/// Asserts that a run tells what a row says.
-pub fn check_told(rt: &impl Abort, row: &str, told: Result<String, AllocError>, expected: &str) {
-    let told = told.expect(rt, "memory");
-    check_text(rt, row, &told, expected);
 }
 
 /// What is to be told where a row says `end: count`: so many bytes of an output, or all of it.
