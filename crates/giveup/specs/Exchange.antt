@@ -13,14 +13,14 @@ use Rattle.gu_session.specs.declared.input.Input.TheVariants.{Frame, Notice, Ans
 use Rattle.gu_session.specs.declared.input.Outcome.{Outcome}
 use Rattle.gu_session.specs.declared.output.Asked.{Asked}
 use Rattle.gu_session.specs.declared.output.Output.{Output}
-use Rattle.gu_session.specs.declared.standing.Standing.{Standing}
+use Rattle.gu_session.specs.declared.logged_on.LoggedOn.{LoggedOn}
 use Rattle.giveup.specs.Houses.{HouseRules}
 use Rattle.giveup.specs.Serving.{AnswersEach, Engine, Served, ServedFront, ServedSoFar}
 use Rattle.giveup.specs.declared.connection.Connection.{Connection}
 
 -- the firm that is logged on
 abbrev pub firm_of : SessionState → Option FirmId
-firm_of session = option_map (λ (at : Standing). at.firm) session.at
+firm_of session = option_map (λ (at : LoggedOn). at.firm) session.at
 
 module _ {H C : Type 0} where
   -- a connection before its first read: one of these firms may log on, and its notices begin with the first entry

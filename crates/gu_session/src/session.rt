@@ -5,7 +5,7 @@ ghost use Rattle.std.specs.Option.{option_map};
 ghost use Rattle.gu_session.specs.Outputs.{StepsOnto};
 ghost use Rattle.gu_session.specs.States.{new_session};
 ghost use Rattle.gu_session.specs.Steps.{StepsWith};
-ghost use Rattle.gu_session.specs.declared.standing.Standing.{Standing as StandingOf};
+ghost use Rattle.gu_session.specs.declared.logged_on.LoggedOn.{LoggedOn as LoggedOnOf};
 
 use crate::input::Input;
 use crate::output::{Output, Taken};
@@ -61,7 +61,7 @@ impl Session {
 
     /// The firm that logged on.
     pub fn firm(&self) -> Option<FirmId>
-        ensures { result ≡ option_map (λ (at : StandingOf). at.firm) self.now.at }
+        ensures { result ≡ option_map (λ (at : LoggedOnOf). at.firm) self.now.at }
     {
         match &self.state.at {
             Some(at) => Some(at.firm),
