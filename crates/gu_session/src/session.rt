@@ -69,7 +69,7 @@ impl Session {
         }
     }
 
-    /// Takes an input at a moment. A call that is refused memory leaves the session as it was.
+    /// Takes an input at a moment. Where an allocation fails the session stays as it was.
     pub fn step(&mut self, input: Input, now: Moment) -> Result<Vec<Output>, AllocError>
         ensures steps { IfOk result (λ outputs. StepsWith self.old input now outputs.items self.new) }
         ensures refused { OnErr result (self.new ≡ self.old) }
@@ -93,8 +93,8 @@ impl Session {
         }
     }
 
-    /// Takes an input at a moment as `step` does, and appends the bytes that are sent. A call that is refused memory leaves the session and the
-    /// output as they were.
+    /// Takes an input at a moment as `step` does, and appends the bytes that are sent. Where an allocation fails the session
+    /// and the output stay as they were.
     pub fn step_onto(
         &mut self,
         input: Input,
