@@ -12,9 +12,9 @@ use Rattle.gu_session.specs.Steps.{StepsWith}
 use Rattle.gu_session.specs.declared.input.Input.{Input}
 use Rattle.gu_session.specs.declared.input.Input.TheVariants.{Frame, Notice, Answer, Tick, End}
 use Rattle.gu_session.specs.declared.input.Outcome.{Outcome}
+use Rattle.gu_session.specs.declared.logged_on.LoggedOn.{LoggedOn}
 use Rattle.gu_session.specs.declared.output.Asked.{Asked}
 use Rattle.gu_session.specs.declared.output.Output.{Output}
-use Rattle.gu_session.specs.declared.standing.Standing.{Standing}
 use Rattle.gu_streams.specs.Streams.{Streams}
 use Rattle.gu_engine.specs.Houses.{HouseRules}
 use Rattle.gu_engine.specs.Running.{AnswersEach, Engine, Served, ServedInPart, ServedSoFar}
@@ -24,7 +24,7 @@ use Rattle.gu_engine.specs.declared.event.Event.TheVariants as event
 
 -- the firm that is logged on
 abbrev pub firm_of : SessionState → Option FirmId
-firm_of session = option_map (λ (at : Standing). at.firm) session.at
+firm_of session = option_map (λ (at : LoggedOn). at.firm) session.at
 
 module _ {H C : Type 0} where
   -- a connection before its first turn: one of these firms may log on, and its notices begin with the first entry

@@ -16,17 +16,17 @@ use Rattle.gu_session.specs.declared.input.Outcome.{Outcome}
 use Rattle.gu_session.specs.declared.plan.Course.{Course}
 use Rattle.gu_session.specs.declared.plan.Course.TheVariants.{Stay, Leave, Go}
 use Rattle.gu_session.specs.declared.plan.Plan.{Plan}
-use Rattle.gu_session.specs.declared.standing.Standing.{Standing}
-use Rattle.gu_session.specs.declared.standing.Waiting.{Waiting}
+use Rattle.gu_session.specs.declared.logged_on.LoggedOn.{LoggedOn}
+use Rattle.gu_session.specs.declared.logged_on.Waiting.{Waiting}
 use Rattle.gu_session.proofs.HandingOut.{Takes, in_order, takes-course}
 
 -- the least number that may still be handed out
-abbrev pub least_of : Option Standing → ℕ
+abbrev pub least_of : Option LoggedOn → ℕ
 least_of None = 1
 least_of (Some at) = at.expected
 
 -- it never falls
-pub plan_rises : (s : SessionState) (now : ℕ) (plan : Plan) (over : Bool) (at : Option Standing) → is_over s.next plan ≡ over → s.at ≡ at → Takes at (Go plan) →
+pub plan_rises : (s : SessionState) (now : ℕ) (plan : Plan) (over : Bool) (at : Option LoggedOn) → is_over s.next plan ≡ over → s.at ≡ at → Takes at (Go plan) →
     least_of at ≤ least_of (session_behind s now (Go plan)).at
 plan_rises s now plan true at over stood takes = rw (over, stood) (omega arith)
 plan_rises s now plan false None over stood takes = rw over takes.1
@@ -50,7 +50,7 @@ ascends-lower low from [] below each = tt
 ascends-lower low from (reference ∷ references) below each = (omega (arith, each.0, below), each.1)
 
 -- what a step hands out, before what is handed out later
-pub ascends-next : (old new : Option Standing) (references later : List ℕ) → AreNext old new references → least_of old ≤ least_of new → AscendsFrom (least_of new) later →
+pub ascends-next : (old new : Option LoggedOn) (references later : List ℕ) → AreNext old new references → least_of old ≤ least_of new → AscendsFrom (least_of new) later →
     AscendsFrom (least_of old) (references ++ later)
 ascends-next old new [] later next up each = ascends-lower (least_of old) (least_of new) later up each
 ascends-next old new (reference ∷ others) later next up each =
@@ -82,21 +82,21 @@ none_asked reference (one ∷ waiting) =
     ] refl
 
 -- an answer that is sent
-pub settled_over : (s : SessionState) (now reference : ℕ) (at : Standing) (messages : List Body) (over : Bool) → is_over s.next (answers at reference messages) ≡ over →
+pub settled_over : (s : SessionState) (now reference : ℕ) (at : LoggedOn) (messages : List Body) (over : Bool) → is_over s.next (answers at reference messages) ≡ over →
     (responses_of s now (Go (answers at reference messages)) ≡ []) ⊎ (asked_by reference (session_behind s now (Go (answers at reference messages))).waiting ≡ None)
     ⊎ ((session_behind s now (Go (answers at reference messages))).is_closed ≡ true)
 settled_over s now reference at messages true over = rw over (inr (inr refl))
 settled_over s now reference at messages false over = rw over (inr (inl (none_asked reference (s.waiting ++ []))))
 
 -- what is done on an answer, by what waits
-pub settled_by : (s : SessionState) (now reference : ℕ) (at : Standing) (messages : Option (List Body)) →
+pub settled_by : (s : SessionState) (now reference : ℕ) (at : LoggedOn) (messages : Option (List Body)) →
     let course = option_map_or (λ (messages : List Body). Go (answers at reference messages)) messages Stay in
     (responses_of s now course ≡ []) ⊎ (asked_by reference (session_behind s now course).waiting ≡ None) ⊎ ((session_behind s now course).is_closed ≡ true)
 settled_by s now reference at None = inl refl
 settled_by s now reference at (Some messages) = settled_over s now reference at messages (is_over s.next (answers at reference messages)) refl
 
-pub answered_at : (s : SessionState) (now reference : ℕ) (outcome : Outcome) (stands : Option Standing) →
-    let course = option_map_or (λ (at : Standing). on_answer at s.waiting reference outcome) stands Stay in
+pub answered_at : (s : SessionState) (now reference : ℕ) (outcome : Outcome) (stands : Option LoggedOn) →
+    let course = option_map_or (λ (at : LoggedOn). on_answer at s.waiting reference outcome) stands Stay in
     IsAnswered s (session_behind s now course) reference (responses_of s now course)
 answered_at s now reference outcome None = record { unasked = λ none. refl; settled = inl refl }
 answered_at s now reference outcome (Some at) = record {

@@ -9,7 +9,7 @@ use Rattle.gu_session.specs.Laws.{Covers, HasLongestRuns}
 use Rattle.gu_session.specs.Resending.{again, gap, gap_fill, with_gaps}
 use Rattle.gu_session.specs.declared.application.Application.{Application}
 use Rattle.gu_session.specs.declared.application.Application.TheVariants as application
-use Rattle.gu_session.specs.declared.kept.Sent.{Sent}
+use Rattle.gu_session.specs.declared.sent_ring.Sent.{Sent}
 
 -- what was kept is an application message
 pub is_application : (message : Application) → is_some (application_of (body_of message)) ≡ true

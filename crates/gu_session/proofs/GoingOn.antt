@@ -15,7 +15,7 @@ use Rattle.gu_session.specs.SeqNums.{greatest}
 use Rattle.gu_session.specs.States.{SessionState, new_session}
 use Rattle.gu_session.specs.Steps.{Steps, responses_of, session_behind}
 use Rattle.gu_session.specs.declared.input.Input.{Input}
-use Rattle.gu_session.specs.declared.kept.Sent.{Sent}
+use Rattle.gu_session.specs.declared.sent_ring.Sent.{Sent}
 use Rattle.gu_session.specs.declared.plan.Course.{Course}
 use Rattle.gu_session.specs.declared.plan.Course.TheVariants.{Stay, Leave, Go}
 use Rattle.gu_session.specs.declared.plan.Handed.{Handed}

@@ -26,41 +26,41 @@ use Rattle.gu_session.specs.declared.plan.Course.{Course}
 use Rattle.gu_session.specs.declared.plan.Course.TheVariants.{Stay, Leave, Go}
 use Rattle.gu_session.specs.declared.plan.Handed.{Handed}
 use Rattle.gu_session.specs.declared.plan.Plan.{Plan}
-use Rattle.gu_session.specs.declared.standing.Standing.{Standing}
-use Rattle.gu_session.specs.declared.standing.Waiting.{Waiting}
+use Rattle.gu_session.specs.declared.logged_on.LoggedOn.{LoggedOn}
+use Rattle.gu_session.specs.declared.logged_on.Waiting.{Waiting}
 use Rattle.gu_session.proofs.InOrder.{HandsNext, IsInOrder, frame_in_order}
 
 -- what is done where a session stands so: nothing is handed out before a firm is logged on, and then in order
-abbrev pub Takes : Option Standing → Course → Type 0
+abbrev pub Takes : Option LoggedOn → Course → Type 0
 Takes at Stay = Unit {0}
 Takes at Leave = Unit {0}
 Takes None (Go plan) = (plan.handed ≡ None) × (1 ≤ plan.after.expected)
 Takes (Some at) (Go plan) = IsInOrder at.expected plan
 
 -- a choice of courses
-pub takes-if : (at : Option Standing) (test : Bool) (x y : Course) → Takes at x → Takes at y → Takes at (cond test x y)
+pub takes-if : (at : Option LoggedOn) (test : Bool) (x y : Course) → Takes at x → Takes at y → Takes at (cond test x y)
 takes-if at true x y first second = first
 takes-if at false x y first second = second
 
 -- notices
-pub takes-notice : (at : Option Standing) (notice : Notice) → Takes at (option_map_or (λ (at : Standing). on_notice at notice) at Stay)
+pub takes-notice : (at : Option LoggedOn) (notice : Notice) → Takes at (option_map_or (λ (at : LoggedOn). on_notice at notice) at Stay)
 takes-notice None notice = tt
 takes-notice (Some at) notice = record { hands = tt; on = omega arith }
 
 -- answers
-pub takes-messages : (at : Standing) (reference : ℕ) (messages : Option (List Body)) →
+pub takes-messages : (at : LoggedOn) (reference : ℕ) (messages : Option (List Body)) →
     Takes (Some at) (option_map_or (λ (messages : List Body). Go (answers at reference messages)) messages Stay)
 takes-messages at reference None = tt
 takes-messages at reference (Some messages) = record { hands = tt; on = omega arith }
 
-pub takes-answer : (at : Option Standing) (waiting : List Waiting) (reference : ℕ) (outcome : Outcome) →
-    Takes at (option_map_or (λ (at : Standing). on_answer at waiting reference outcome) at Stay)
+pub takes-answer : (at : Option LoggedOn) (waiting : List Waiting) (reference : ℕ) (outcome : Outcome) →
+    Takes at (option_map_or (λ (at : LoggedOn). on_answer at waiting reference outcome) at Stay)
 takes-answer None waiting reference outcome = tt
 takes-answer (Some at) waiting reference outcome =
     takes-messages at reference (option_and_then (λ (one : Waiting). answer_messages one.question one.reference outcome) (asked_by reference waiting))
 
 -- time
-pub takes-tick : (at : Option Standing) (sent_at now : ℕ) → Takes at (option_map_or (λ (at : Standing). on_tick at sent_at now) at Stay)
+pub takes-tick : (at : Option LoggedOn) (sent_at now : ℕ) → Takes at (option_map_or (λ (at : LoggedOn). on_tick at sent_at now) at Stay)
 takes-tick None sent_at now = tt
 takes-tick (Some at) sent_at now =
     takes-if (Some at) (at.heart_bt_int == 0) Stay _ tt
@@ -81,7 +81,7 @@ takes-logon now (Some number) None m = tt
 takes-logon now None firm m = tt
 
 -- frames
-pub takes-frame : (firms : List FirmId) (at : Option Standing) (heard : Heard) (now : ℕ) → Takes at (frame_course firms at heard now)
+pub takes-frame : (firms : List FirmId) (at : Option LoggedOn) (heard : Heard) (now : ℕ) → Takes at (frame_course firms at heard now)
 takes-frame firms None heard now = takes-logon now heard.heading.number (caller firms heard.heading) (logon_in heard.content)
 takes-frame firms (Some at) heard now =
     let frame = frame_in_order (at_frame at now) heard in
@@ -101,7 +101,7 @@ no_references-sends [] given = refl
 no_references-sends (message ∷ messages) given = no_references-sends messages given
 
 -- where a session stood so, what is handed out is the next one
-pub next-one : (old : Option Standing) (after : Standing) (handed : Option Handed) (ends : Bool) (at : Standing) → old ≡ Some at → HandsNext at.expected handed after →
+pub next-one : (old : Option LoggedOn) (after : LoggedOn) (handed : Option Handed) (ends : Bool) (at : LoggedOn) → old ≡ Some at → HandsNext at.expected handed after →
     AreNext old (Some after) (filter_map handed_reference (ending_of handed ends))
 next-one old after None true at stood hands = tt
 next-one old after None false at stood hands = tt
@@ -111,12 +111,12 @@ next-one old after (Some handed) false at stood hands =
     (record { at = at; after = after; stood = stood; stands = refl; expected = hands.0; used = hands.1 }, refl)
 
 -- before a firm is logged on there is none
-pub next-none : (after : Standing) (handed : Option Handed) (ends : Bool) → handed ≡ None → AreNext None (Some after) (filter_map handed_reference (ending_of handed ends))
+pub next-none : (after : LoggedOn) (handed : Option Handed) (ends : Bool) → handed ≡ None → AreNext None (Some after) (filter_map handed_reference (ending_of handed ends))
 next-none after None true none = tt
 next-none after None false none = tt
 next-none after (Some handed) ends none = absurd (cc)
 
-pub plan_next : (at : Option Standing) (plan : Plan) → Takes at (Go plan) → AreNext at (Some plan.after) (filter_map handed_reference (ending_of plan.handed plan.ends))
+pub plan_next : (at : Option LoggedOn) (plan : Plan) → Takes at (Go plan) → AreNext at (Some plan.after) (filter_map handed_reference (ending_of plan.handed plan.ends))
 plan_next None plan takes = next-none plan.after plan.handed plan.ends takes.0
 plan_next (Some at) plan takes = next-one (Some at) plan.after plan.handed plan.ends at refl takes.hands
 
@@ -139,14 +139,14 @@ in_order old new given_input now given steps =
     ]
 
 -- the number that is expected behind a plan
-pub plan_on : (s : SessionState) (now : ℕ) (plan : Plan) (over : Bool) (at after : Standing) → is_over s.next plan ≡ over → s.at ≡ Some at → IsInOrder at.expected plan →
+pub plan_on : (s : SessionState) (now : ℕ) (plan : Plan) (over : Bool) (at after : LoggedOn) → is_over s.next plan ≡ over → s.at ≡ Some at → IsInOrder at.expected plan →
     (session_behind s now (Go plan)).at ≡ Some after → at.expected ≤ after.expected
 plan_on s now plan true at after over stood takes stands =
     let same : s.at ≡ Some after = rw over at stands in let one : at ≡ after = cc in rw one (omega arith)
 plan_on s now plan false at after over stood takes stands =
     let same : Some plan.after ≡ Some after = rw over at stands in let one : plan.after ≡ after = cc in rw (← one) takes.on
 
-pub course_on : (s : SessionState) (now : ℕ) (course : Course) (at after : Standing) → s.at ≡ Some at → Takes (Some at) course →
+pub course_on : (s : SessionState) (now : ℕ) (course : Course) (at after : LoggedOn) → s.at ≡ Some at → Takes (Some at) course →
     (session_behind s now course).at ≡ Some after → at.expected ≤ after.expected
 course_on s now Stay at after stood takes stands = let one : at ≡ after = cc in rw one (omega arith)
 course_on s now Leave at after stood takes stands = let one : at ≡ after = cc in rw one (omega arith)
@@ -159,6 +159,6 @@ never_falls old new given_input now given at after steps stood stands =
           let same : old.at ≡ Some after = sym (ap (λ (s : SessionState). s.at) closed.leaves) ∙ stands in
           let one : at ≡ after = cc in rw one (omega arith)
       | inr other ↦
-          course_on old now other.course at after stood (subst (λ (o : Option Standing). Takes o other.course) stood (takes-course old given_input now other.course other.is_course))
+          course_on old now other.course at after stood (subst (λ (o : Option LoggedOn). Takes o other.course) stood (takes-course old given_input now other.course other.is_course))
           (sym (ap (λ (s : SessionState). s.at) other.leaves) ∙ stands)
     ]

@@ -18,10 +18,10 @@ use Rattle.gu_session.specs.declared.heard.Heading.{Heading}
 use Rattle.gu_session.specs.declared.heard.Heard.{Heard}
 use Rattle.gu_session.specs.declared.plan.Handed.{Handed}
 use Rattle.gu_session.specs.declared.plan.Plan.{Plan}
-use Rattle.gu_session.specs.declared.standing.Standing.{Standing}
+use Rattle.gu_session.specs.declared.logged_on.LoggedOn.{LoggedOn}
 
 -- what is handed out has this number, and the next one is expected behind it
-abbrev pub HandsNext : ℕ → Option Handed → Standing → Type 0
+abbrev pub HandsNext : ℕ → Option Handed → LoggedOn → Type 0
 HandsNext expected None after = Unit {0}
 HandsNext expected (Some handed) after = (expected ≡ handed.waiting.reference) × (after.expected ≡ handed.waiting.reference + 1)
 
@@ -46,18 +46,18 @@ in_order-option expected rule (Some a) other some none = some a
 pub nothing_handed : (expected : ℕ) (plan : Plan) → plan.handed ≡ None → expected ≤ plan.after.expected → IsInOrder expected plan
 nothing_handed expected plan none on = record { hands = rw none tt; on = on }
 
-pub request_in_order : (at : Standing) (number : ℕ) (request : Option Request) (question : Option Question) → at.expected ≡ number + 1 →
+pub request_in_order : (at : LoggedOn) (number : ℕ) (request : Option Request) (question : Option Question) → at.expected ≡ number + 1 →
     IsInOrder number (on_request at number request question)
 request_in_order at number (Some request) (Some question) used = record { hands = (refl, used); on = omega (arith, used) }
 request_in_order at number (Some request) None used = record { hands = tt; on = omega (arith, used) }
 request_in_order at number None question used = record { hands = tt; on = omega (arith, used) }
 
-pub gap_fill_in_order : (at : Standing) (heading : Heading) (number to : ℕ) → at.expected ≡ number + 1 → IsInOrder number (on_gap_fill at heading number to)
+pub gap_fill_in_order : (at : LoggedOn) (heading : Heading) (number to : ℕ) → at.expected ≡ number + 1 → IsInOrder number (on_gap_fill at heading number to)
 gap_fill_in_order at heading number to used =
     in_order-if number (nat_lt number to) (quiet (record at { expected = to })) (says at (reject heading number NEW_SEQ_NO ValueIsIncorrect ∷ []))
     (λ above. record { hands = tt; on = grind (arith, above) }) (λ below. record { hands = tt; on = omega (arith, used) })
 
-pub message_in_order : (at : Standing) (heading : Heading) (number : ℕ) (message : Inbound) → at.expected ≡ number + 1 → IsInOrder number (on_message at heading number message)
+pub message_in_order : (at : LoggedOn) (heading : Heading) (number : ℕ) (message : Inbound) → at.expected ≡ number + 1 → IsInOrder number (on_message at heading number message)
 message_in_order at heading number inbound.Heartbeat used = record { hands = tt; on = omega (arith, used) }
 message_in_order at heading number inbound.Reject used = record { hands = tt; on = omega (arith, used) }
 message_in_order at heading number (inbound.TestRequest m) used = record { hands = tt; on = omega (arith, used) }
@@ -75,30 +75,30 @@ message_in_order at heading number (inbound.AllocationReportAck m) used =
 message_in_order at heading number (inbound.RequestForPositions m) used =
     request_in_order at number (request_of at.firm (inbound.RequestForPositions m)) (question_in (inbound.RequestForPositions m)) used
 
-pub content_in_order : (at : Standing) (heading : Heading) (number : ℕ) (content : Result Inbound Fault) → at.expected ≡ number + 1 → IsInOrder number (on_content at heading number content)
+pub content_in_order : (at : LoggedOn) (heading : Heading) (number : ℕ) (content : Result Inbound Fault) → at.expected ≡ number + 1 → IsInOrder number (on_content at heading number content)
 content_in_order at heading number (Ok message) used = message_in_order at heading number message used
 content_in_order at heading number (Err fault) used = record { hands = tt; on = omega (arith, used) }
 
-pub expected_in_order : (at : Standing) (heard : Heard) (number : ℕ) → at.expected ≡ number + 1 → IsInOrder number (as_expected at heard number)
+pub expected_in_order : (at : LoggedOn) (heard : Heard) (number : ℕ) → at.expected ≡ number + 1 → IsInOrder number (as_expected at heard number)
 expected_in_order at heard number used =
     in_order-option number (λ tag. leaves at (reject heard.heading number tag CompIdProblem ∷ body.Logout (Some CompId) ∷ [])) (wrong_party at.firm heard.heading)
     (on_content at heard.heading number heard.content) (λ tag. record { hands = tt; on = omega (arith, used) }) (content_in_order at heard.heading number heard.content used)
 
-pub high_in_order : (at : Standing) (heard : Heard) → IsInOrder at.expected (too_high at heard)
+pub high_in_order : (at : LoggedOn) (heard : Heard) → IsInOrder at.expected (too_high at heard)
 high_in_order at heard =
     in_order-if at.expected (is_given (codes "5") heard.heading.msg_type) (leaves at (body.Logout None ∷ [])) (repeats at (again_in heard.content) (body.ResendRequest at.expected ∷ []))
     (λ is. record { hands = tt; on = omega arith }) (λ is. record { hands = tt; on = omega arith })
 
-pub low_in_order : (at : Standing) (heading : Heading) → IsInOrder at.expected (too_low at heading)
+pub low_in_order : (at : LoggedOn) (heading : Heading) → IsInOrder at.expected (too_low at heading)
 low_in_order at heading =
     in_order-if at.expected heading.is_poss_dup (quiet at) (leaves at (body.Logout (Some SeqTooLow) ∷ []))
     (λ is. record { hands = tt; on = omega arith }) (λ is. record { hands = tt; on = omega arith })
 
 -- the number that was expected is the frame's own where it is neither above nor below
-pub met_in_order : (at : Standing) (heard : Heard) (number : ℕ) → at.expected ≡ number → IsInOrder at.expected (as_expected (record at { expected = number + 1 }) heard number)
+pub met_in_order : (at : LoggedOn) (heard : Heard) (number : ℕ) → at.expected ≡ number → IsInOrder at.expected (as_expected (record at { expected = number + 1 }) heard number)
 met_in_order at heard number met = rw met (expected_in_order (record at { expected = number + 1 }) heard number refl)
 
-pub number_in_order : (at : Standing) (heard : Heard) (number : ℕ) → IsInOrder at.expected (by_number at heard number)
+pub number_in_order : (at : LoggedOn) (heard : Heard) (number : ℕ) → IsInOrder at.expected (by_number at heard number)
 number_in_order at heard number =
     in_order-if at.expected (nat_lt at.expected number) (too_high at heard)
     (cond (nat_lt number at.expected) (too_low at heard.heading) (as_expected (record at { expected = number + 1 }) heard number))
@@ -106,12 +106,12 @@ number_in_order at heard number =
     (λ not_above. in_order-if at.expected (nat_lt number at.expected) (too_low at heard.heading) (as_expected (record at { expected = number + 1 }) heard number)
     (λ below. low_in_order at heard.heading) (λ not_below. met_in_order at heard number (grind (arith, not_above, not_below))))
 
-pub reset_in_order : (at : Standing) (heading : Heading) (number to : ℕ) → IsInOrder at.expected (on_reset at heading number to)
+pub reset_in_order : (at : LoggedOn) (heading : Heading) (number to : ℕ) → IsInOrder at.expected (on_reset at heading number to)
 reset_in_order at heading number to =
     in_order-if at.expected (nat_le at.expected to) (quiet (record at { expected = to })) (says at (reject heading number NEW_SEQ_NO ValueIsIncorrect ∷ []))
     (λ up. record { hands = tt; on = grind (arith, up) }) (λ down. record { hands = tt; on = omega arith })
 
-pub frame_in_order : (at : Standing) (heard : Heard) → IsInOrder at.expected (frame_plan at heard)
+pub frame_in_order : (at : LoggedOn) (heard : Heard) → IsInOrder at.expected (frame_plan at heard)
 frame_in_order at heard =
     in_order-option at.expected (on_number at heard) heard.heading.number (leaves at (body.Logout (Some BadSeqNum) ∷ []))
     (λ number. in_order-option at.expected (on_reset at heard.heading number) (reset_to heard.content) (by_number at heard number)

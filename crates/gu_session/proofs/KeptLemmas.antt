@@ -13,9 +13,9 @@ use Rattle.gu_session.specs.Readiness.{IsReady, IsSoundState, seen}
 use Rattle.gu_session.specs.Sending.{new_of, sent_by, sent_in}
 use Rattle.gu_session.specs.Sound.{HasRoom, IsSound, extended}
 use Rattle.gu_session.specs.States.{SessionState}
-use Rattle.gu_session.specs.declared.kept.Sent.{Sent}
+use Rattle.gu_session.specs.declared.sent_ring.Sent.{Sent}
 use Rattle.gu_session.specs.declared.ready.Ready.{Ready}
-use Rattle.gu_session.specs.declared.standing.Standing.{Standing}
+use Rattle.gu_session.specs.declared.logged_on.LoggedOn.{LoggedOn}
 use Rattle.gu_session.specs.declared.state.State.{State}
 use Rattle.gu_session.proofs.Ascending.{within-append, within-drop, within-numbered}
 use Rattle.gu_session.proofs.KeepingOn.{keep_last-append}
@@ -64,7 +64,7 @@ extended-more before kept messages place message here so_far =
     ∙ ap (λ (ms : List Outbound). extended before (filter_map sent_in ms)) (sym (take-more messages place message here))
 
 -- in the room that there is once a firm is logged on
-pub kept_in_room : (at : Option Standing) (kept : Buffer Sent) (room : Option (Buffer Sent)) (sent : List Sent) → HasRoom at kept →
+pub kept_in_room : (at : Option LoggedOn) (kept : Buffer Sent) (room : Option (Buffer Sent)) (sent : List Sent) → HasRoom at kept →
     room ≡ (if is_some at then None else Some (buffer [] 4096)) →
     extended (option_map_or (λ (room : Buffer Sent). room) room kept) sent ≡ buffer (keep_last 4096 (kept.items ++ sent)) 4096
 kept_in_room None kept room sent has is = rw (is, has) refl

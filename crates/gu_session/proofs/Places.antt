@@ -4,7 +4,7 @@ use Rattle.std.proofs.lemmas.List.{take-append-drop}
 use Rattle.std.proofs.lemmas.List.Elements.{filter-append}
 use Rattle.gu_session.specs.Ascending.{AreBelow, AreFrom, AreWithin}
 use Rattle.gu_session.specs.Resending.{sent_within}
-use Rattle.gu_session.specs.declared.kept.Sent.{Sent}
+use Rattle.gu_session.specs.declared.sent_ring.Sent.{Sent}
 
 -- a message that is there has a number of the range
 pub within-get : (from to : ℕ) (kept : List Sent) (place : ℕ) (sent : Sent) → AreWithin from to kept → slice_get kept place ≡ Some sent → from ≤ sent.number

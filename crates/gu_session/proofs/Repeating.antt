@@ -17,7 +17,7 @@ use Rattle.gu_session.specs.Sending.{ending_of, given_by, is_over, new_of, numbe
 use Rattle.gu_session.specs.States.{SessionState}
 use Rattle.gu_session.specs.Steps.{responses_of}
 use Rattle.gu_session.specs.declared.application.Application.{Application}
-use Rattle.gu_session.specs.declared.kept.Sent.{Sent}
+use Rattle.gu_session.specs.declared.sent_ring.Sent.{Sent}
 use Rattle.gu_session.specs.declared.plan.Course.{Course}
 use Rattle.gu_session.specs.declared.plan.Course.TheVariants.{Stay, Leave, Go}
 use Rattle.gu_session.specs.declared.plan.Handed.{Handed}

@@ -9,7 +9,7 @@ use Rattle.gu_msgs.specs.declared.inbound.SequenceReset.{SequenceReset}
 use Rattle.gu_msgs.specs.declared.inbound.TestRequest.{TestRequest}
 use Rattle.gu_session.specs.FrameRules.{on_message, on_request}
 use Rattle.gu_session.specs.declared.heard.Heading.{Heading}
-use Rattle.gu_session.specs.declared.standing.Standing.{Standing}
+use Rattle.gu_session.specs.declared.logged_on.LoggedOn.{LoggedOn}
 
 -- the message is none of those that another rule is about
 pub record IsOther (message : Inbound) : Type 0 where
@@ -23,7 +23,7 @@ pub record IsOther (message : Inbound) : Type 0 where
   pub unread : (code : List ℕ) → message ≡ inbound.Unread code → ⊥
 
 -- what it asks for is handed out
-pub on_message-other : (at : Standing) (heading : Heading) (number : ℕ) (message : Inbound) → IsOther message →
+pub on_message-other : (at : LoggedOn) (heading : Heading) (number : ℕ) (message : Inbound) → IsOther message →
     on_request at number (request_of at.firm message) (question_in message) ≡ on_message at heading number message
 on_message-other at heading number inbound.Heartbeat other = absurd (other.heartbeat refl)
 on_message-other at heading number (inbound.TestRequest m) other = absurd (other.test m refl)

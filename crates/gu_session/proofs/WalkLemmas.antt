@@ -4,7 +4,7 @@ use Rattle.gu_terms.specs.declared.firm.FirmId.{FirmId}
 use Rattle.gu_msgs.specs.declared.outbound.Outbound.{Outbound}
 use Rattle.gu_session.specs.Resending.{again, gap, sent_within, with_gaps}
 use Rattle.gu_session.specs.Walks.{asked_now, at_behind}
-use Rattle.gu_session.specs.declared.kept.Sent.{Sent}
+use Rattle.gu_session.specs.declared.sent_ring.Sent.{Sent}
 
 -- the message at a place is the first of those from there on
 pub drop-at : (items : List Sent) (place : ℕ) (sent : Sent) → slice_get items place ≡ Some sent → drop place items ≡ sent ∷ drop (suc place) items

@@ -15,8 +15,8 @@ use Rattle.gu_session.specs.declared.input.Outcome.{Outcome}
 use Rattle.gu_session.specs.declared.input.Outcome.TheVariants.{Replied, Positions, Failed}
 use Rattle.gu_session.specs.declared.plan.Course.{Course}
 use Rattle.gu_session.specs.declared.plan.Course.TheVariants.{Stay, Go}
-use Rattle.gu_session.specs.declared.standing.Standing.{Standing}
-use Rattle.gu_session.specs.declared.standing.Waiting.{Waiting}
+use Rattle.gu_session.specs.declared.logged_on.LoggedOn.{LoggedOn}
+use Rattle.gu_session.specs.declared.logged_on.Waiting.{Waiting}
 
 -- what became of a command: it was done, or why not; none where the outcome isn't of the kind that was asked for
 abbrev pub entered : Question → Outcome → Option (Option Rejection)
@@ -42,11 +42,11 @@ abbrev pub asked_by : ℕ → List Waiting → Option Waiting
 asked_by reference waiting = find (λ (one : Waiting). one.reference == reference) waiting
 
 -- an answer of its kind to a question that waits is sent, and any other gives nothing
-abbrev pub on_answer : Standing → List Waiting → ℕ → Outcome → Course
+abbrev pub on_answer : LoggedOn → List Waiting → ℕ → Outcome → Course
 on_answer at waiting reference outcome =
     option_map_or (λ messages. Go (answers at reference messages))
     (option_and_then (λ (one : Waiting). answer_messages one.question one.reference outcome) (asked_by reference waiting)) Stay
 
 -- a notice is sent as its message
-abbrev pub on_notice : Standing → Notice → Course
+abbrev pub on_notice : LoggedOn → Notice → Course
 on_notice at notice = Go (says at (notice_body notice ∷ []))

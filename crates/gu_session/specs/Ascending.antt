@@ -1,6 +1,6 @@
 -- Machinery: messages whose numbers ascend. No other crate names this file.
 use Rattle.std.specs.Prelude.{ℕ, ◌+◌, ◌≤◌, ◌<◌, List, [], ◌∷◌, ⊤}
-use Rattle.gu_session.specs.declared.kept.Sent.{Sent}
+use Rattle.gu_session.specs.declared.sent_ring.Sent.{Sent}
 
 -- messages with ascending numbers from one up to another
 abbrev pub AreWithin : ℕ → ℕ → List Sent → Type 0

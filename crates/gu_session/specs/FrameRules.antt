@@ -7,7 +7,7 @@ use Rattle.gu_msgs.specs.Asking.{question_in, request_of}
 use Rattle.gu_msgs.specs.declared.asking.Question.{Question}
 use Rattle.gu_msgs.specs.declared.asking.Request.{Request}
 use Rattle.gu_msgs.specs.declared.coded_values.BusinessRejectReason.TheVariants.{UnsupportedMessageType}
-use Rattle.gu_msgs.specs.declared.coded_values.LogoutReason.TheVariants.{BadSeqNum, SeqTooLow, CompId, LoggedOn}
+use Rattle.gu_msgs.specs.declared.coded_values.LogoutReason.TheVariants as logout
 use Rattle.gu_msgs.specs.declared.fault.Fault.{Fault}
 use Rattle.gu_msgs.specs.declared.inbound.Inbound.{Inbound}
 use Rattle.gu_msgs.specs.declared.inbound.Inbound.TheVariants as inbound
@@ -22,7 +22,7 @@ use Rattle.gu_session.specs.Plans.{hands, leaves, quiet, repeats, says}
 use Rattle.gu_session.specs.declared.heard.Heading.{Heading}
 use Rattle.gu_session.specs.declared.heard.Heard.{Heard}
 use Rattle.gu_session.specs.declared.plan.Plan.{Plan}
-use Rattle.gu_session.specs.declared.standing.Standing.{Standing}
+use Rattle.gu_session.specs.declared.logged_on.LoggedOn.{LoggedOn}
 
 -- a Reject of the message with this header and number: the tag at fault, and why
 abbrev pub reject : Heading → ℕ → ℕ → SessionRejectReason → Body
@@ -35,7 +35,7 @@ reset_to (Ok (inbound.SequenceReset m)) = if m.is_gap_fill then None else Some m
 reset_to _ = None
 
 -- a reset sets the number that is expected; one below it is rejected, and nothing changes
-abbrev pub on_reset : Standing → Heading → ℕ → ℕ → Plan
+abbrev pub on_reset : LoggedOn → Heading → ℕ → ℕ → Plan
 on_reset at heading number to =
     if nat_le at.expected to then quiet (record at { expected = to })
     else says at (reject heading number NEW_SEQ_NO ValueIsIncorrect ∷ [])
@@ -47,14 +47,14 @@ again_in _ = None
 
 -- the number is too high: messages are missing, and are asked for each time; a ResendRequest is served first, and a Logout, sound or
 -- not, ends the session
-abbrev pub too_high : Standing → Heard → Plan
+abbrev pub too_high : LoggedOn → Heard → Plan
 too_high at heard =
     if is_given (codes "5") heard.heading.msg_type then leaves at (body.Logout None ∷ [])
     else repeats at (again_in heard.content) (body.ResendRequest at.expected ∷ [])
 
 -- the number is too low: a message that is marked as sent again gives nothing, any other ends the session
-abbrev pub too_low : Standing → Heading → Plan
-too_low at heading = if heading.is_poss_dup then quiet at else leaves at (body.Logout (Some SeqTooLow) ∷ [])
+abbrev pub too_low : LoggedOn → Heading → Plan
+too_low at heading = if heading.is_poss_dup then quiet at else leaves at (body.Logout (Some logout.SeqTooLow) ∷ [])
 
 -- this firm is the sender
 abbrev pub is_sender : FirmId → Option FirmId → Bool
@@ -67,51 +67,51 @@ wrong_party firm heading =
     else (if heading.is_to_house then None else Some TARGET_COMP_ID)
 
 -- a gap fill sets the number that is expected, to one above its own
-abbrev pub on_gap_fill : Standing → Heading → ℕ → ℕ → Plan
+abbrev pub on_gap_fill : LoggedOn → Heading → ℕ → ℕ → Plan
 on_gap_fill at heading number to =
     if nat_lt number to then quiet (record at { expected = to })
     else says at (reject heading number NEW_SEQ_NO ValueIsIncorrect ∷ [])
 
 -- a message of another type is handed out, if it asks for anything
-abbrev pub on_request : Standing → ℕ → Option Request → Option Question → Plan
+abbrev pub on_request : LoggedOn → ℕ → Option Request → Option Question → Plan
 on_request at number (Some request) (Some question) = hands at number request question
 on_request at number _ _ = quiet at
 
 -- a sound message with the number that was expected
-abbrev pub on_message : Standing → Heading → ℕ → Inbound → Plan
+abbrev pub on_message : LoggedOn → Heading → ℕ → Inbound → Plan
 on_message at heading number inbound.Heartbeat = quiet at
 on_message at heading number inbound.Reject = quiet at
 on_message at heading number (inbound.TestRequest m) = says at (body.Heartbeat (Some m.test_req_id) ∷ [])
 on_message at heading number (inbound.ResendRequest m) = repeats at (Some m) []
 on_message at heading number (inbound.SequenceReset m) = on_gap_fill at heading number m.new_seq_no
 on_message at heading number inbound.Logout = leaves at (body.Logout None ∷ [])
-on_message at heading number (inbound.Logon m) = leaves at (body.Logout (Some LoggedOn) ∷ [])
+on_message at heading number (inbound.Logon m) = leaves at (body.Logout (Some logout.LoggedOn) ∷ [])
 on_message at heading number (inbound.Unread code) =
     says at (body.BusinessMessageReject (record { ref_seq_num = number; reason = UnsupportedMessageType code }) ∷ [])
 on_message at heading number message = on_request at number (request_of at.firm message) (question_in message)
 
 -- a message of the right parties, or its fault
-abbrev pub on_content : Standing → Heading → ℕ → Result Inbound Fault → Plan
+abbrev pub on_content : LoggedOn → Heading → ℕ → Result Inbound Fault → Plan
 on_content at heading number (Err fault) = says at (reject heading number fault.tag fault.reason ∷ [])
 on_content at heading number (Ok message) = on_message at heading number message
 
 -- the number was expected: the parties come first, then the message
-abbrev pub as_expected : Standing → Heard → ℕ → Plan
+abbrev pub as_expected : LoggedOn → Heard → ℕ → Plan
 as_expected at heard number =
-    option_map_or (λ tag. leaves at (reject heard.heading number tag CompIdProblem ∷ body.Logout (Some CompId) ∷ []))
+    option_map_or (λ tag. leaves at (reject heard.heading number tag CompIdProblem ∷ body.Logout (Some logout.CompId) ∷ []))
     (wrong_party at.firm heard.heading) (on_content at heard.heading number heard.content)
 
 -- by the number that is expected; one that is met is used up before anything else
-abbrev pub by_number : Standing → Heard → ℕ → Plan
+abbrev pub by_number : LoggedOn → Heard → ℕ → Plan
 by_number at heard number =
     if nat_lt at.expected number then too_high at heard
     else (if nat_lt number at.expected then too_low at heard.heading
     else as_expected (record at { expected = number + 1 }) heard number)
 
 -- a reset comes before any rule on numbers
-abbrev pub on_number : Standing → Heard → ℕ → Plan
+abbrev pub on_number : LoggedOn → Heard → ℕ → Plan
 on_number at heard number = option_map_or (on_reset at heard.heading number) (reset_to heard.content) (by_number at heard number)
 
 -- a frame without a number that can be one ends the session
-abbrev pub frame_plan : Standing → Heard → Plan
-frame_plan at heard = option_map_or (on_number at heard) heard.heading.number (leaves at (body.Logout (Some BadSeqNum) ∷ []))
+abbrev pub frame_plan : LoggedOn → Heard → Plan
+frame_plan at heard = option_map_or (on_number at heard) heard.heading.number (leaves at (body.Logout (Some logout.BadSeqNum) ∷ []))

@@ -18,7 +18,7 @@ use Rattle.gu_session.specs.States.{SessionState, new_session}
 use Rattle.gu_session.specs.Steps.{Steps}
 use Rattle.gu_session.specs.declared.heard.Heard.{Heard}
 use Rattle.gu_session.specs.declared.input.Input.{Input}
-use Rattle.gu_session.specs.declared.standing.Standing.{Standing}
+use Rattle.gu_session.specs.declared.logged_on.LoggedOn.{LoggedOn}
 
 -- a session that was reached from its beginning, with all that it gave
 pub record IsReached (firms : List FirmId) (given : List Response) (s : SessionState) : Type 0 where
@@ -47,7 +47,7 @@ ClosedForGood = (old new : SessionState) (inputs : List (Input × ℕ)) (given :
 
 -- a frame above the number that is expected is answered by a request for all from that one on, each time, unless it is a reset or a Logout
 abbrev pub AsksForTheGap : Type 0
-AsksForTheGap = (at : Standing) (heard : Heard) (number : ℕ) → at.expected < number →
+AsksForTheGap = (at : LoggedOn) (heard : Heard) (number : ℕ) → at.expected < number →
     reset_to heard.content ≡ None → is_given (codes "5") heard.heading.msg_type ≡ false →
     (by_number at heard number).messages ≡ body.ResendRequest at.expected ∷ []
 

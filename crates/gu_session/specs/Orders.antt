@@ -11,7 +11,7 @@ use Rattle.gu_session.specs.Steps.{Steps}
 use Rattle.gu_session.specs.declared.input.Input.{Input}
 use Rattle.gu_session.specs.declared.input.Input.TheVariants.{Answer}
 use Rattle.gu_session.specs.declared.input.Outcome.{Outcome}
-use Rattle.gu_session.specs.declared.standing.Standing.{Standing}
+use Rattle.gu_session.specs.declared.logged_on.LoggedOn.{LoggedOn}
 
 -- nothing stands behind an end
 abbrev pub EndsLast : List Response → Type 0
@@ -33,16 +33,16 @@ abbrev pub NothingBeforeTheLogon : Type 0
 NothingBeforeTheLogon = (firms : List FirmId) (given : List Response) (s : SessionState) → IsReached firms given s → s.at ≡ None → IsSilent given
 
 -- what is handed out has the number that was expected, which is used up with it
-pub record IsNextOne (old : Option Standing) (new : Option Standing) (reference : ℕ) : Type 0 where
-  pub at : Standing
-  pub after : Standing
+pub record IsNextOne (old : Option LoggedOn) (new : Option LoggedOn) (reference : ℕ) : Type 0 where
+  pub at : LoggedOn
+  pub after : LoggedOn
   pub stood : old ≡ Some at
   pub stands : new ≡ Some after
   pub expected : at.expected ≡ reference
   pub used : after.expected ≡ reference + 1
 
 -- of these references there is none, or one, which is the next one
-abbrev pub AreNext : Option Standing → Option Standing → List ℕ → Type 0
+abbrev pub AreNext : Option LoggedOn → Option LoggedOn → List ℕ → Type 0
 AreNext old new [] = ⊤
 AreNext old new (reference ∷ others) = IsNextOne old new reference × (others ≡ [])
 
@@ -53,7 +53,7 @@ HandsOutInOrder = (old new : SessionState) (input : Input) (now : ℕ) (given : 
 
 -- once a firm is logged on the number that is expected never falls
 abbrev pub ExpectedNeverFalls : Type 0
-ExpectedNeverFalls = (old new : SessionState) (input : Input) (now : ℕ) (given : List Response) (at after : Standing) → Steps old input now given new →
+ExpectedNeverFalls = (old new : SessionState) (input : Input) (now : ℕ) (given : List Response) (at after : LoggedOn) → Steps old input now given new →
     old.at ≡ Some at → new.at ≡ Some after → at.expected ≤ after.expected
 
 -- references go up, from this one on

@@ -5,26 +5,26 @@ use Rattle.gu_msgs.specs.declared.asking.Request.{Request}
 use Rattle.gu_msgs.specs.declared.inbound.ResendRequest.{ResendRequest}
 use Rattle.gu_msgs.specs.declared.outbound.Body.{Body}
 use Rattle.gu_session.specs.declared.plan.Plan.{Plan}
-use Rattle.gu_session.specs.declared.standing.Standing.{Standing}
+use Rattle.gu_session.specs.declared.logged_on.LoggedOn.{LoggedOn}
 
 -- nothing is sent
-abbrev pub quiet : Standing → Plan
+abbrev pub quiet : LoggedOn → Plan
 quiet at = record { after = at; again = None; messages = []; handed = None; answered = None; ends = false }
 
 -- new messages
-abbrev pub says : Standing → List Body → Plan
+abbrev pub says : LoggedOn → List Body → Plan
 says at messages = record { after = at; again = None; messages = messages; handed = None; answered = None; ends = false }
 
 -- new messages, and the end
-abbrev pub leaves : Standing → List Body → Plan
+abbrev pub leaves : LoggedOn → List Body → Plan
 leaves at messages = record { after = at; again = None; messages = messages; handed = None; answered = None; ends = true }
 
 -- what was asked for again, then new messages
-abbrev pub repeats : Standing → Option ResendRequest → List Body → Plan
+abbrev pub repeats : LoggedOn → Option ResendRequest → List Body → Plan
 repeats at again messages = record { after = at; again = again; messages = messages; handed = None; answered = None; ends = false }
 
 -- what a message of this number asks for is handed out
-abbrev pub hands : Standing → ℕ → Request → Question → Plan
+abbrev pub hands : LoggedOn → ℕ → Request → Question → Plan
 hands at number request question = record {
   after = at;
   again = None;
@@ -35,5 +35,5 @@ hands at number request question = record {
 }
 
 -- the messages that answer a question
-abbrev pub answers : Standing → ℕ → List Body → Plan
+abbrev pub answers : LoggedOn → ℕ → List Body → Plan
 answers at reference messages = record { after = at; again = None; messages = messages; handed = None; answered = Some reference; ends = false }

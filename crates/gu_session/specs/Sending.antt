@@ -13,10 +13,10 @@ use Rattle.gu_session.specs.Resending.{resent}
 use Rattle.gu_session.specs.SeqNums.{greatest}
 use Rattle.gu_session.specs.States.{SessionState}
 use Rattle.gu_session.specs.declared.application.Application.{Application}
-use Rattle.gu_session.specs.declared.kept.Sent.{Sent}
+use Rattle.gu_session.specs.declared.sent_ring.Sent.{Sent}
 use Rattle.gu_session.specs.declared.plan.Handed.{Handed}
 use Rattle.gu_session.specs.declared.plan.Plan.{Plan}
-use Rattle.gu_session.specs.declared.standing.Waiting.{Waiting}
+use Rattle.gu_session.specs.declared.logged_on.Waiting.{Waiting}
 
 -- new messages of a firm, with the numbers from this one on
 abbrev pub numbered : FirmId → ℕ → ℕ → List Body → List Outbound

@@ -2,16 +2,16 @@
 use Rattle.std.specs.Prelude.{◌≡◌, ◌≤◌, ℕ, List, [], ◌++◌, length, Option, None, Some}
 use Rattle.circular_buffer.specs.Buffer.{Buffer, buffer, keep_last}
 use Rattle.gu_session.specs.Ascending.{AreWithin}
-use Rattle.gu_session.specs.declared.kept.Sent.{Sent}
-use Rattle.gu_session.specs.declared.standing.Standing.{Standing}
+use Rattle.gu_session.specs.declared.sent_ring.Sent.{Sent}
+use Rattle.gu_session.specs.declared.logged_on.LoggedOn.{LoggedOn}
 
 -- nothing is kept before a firm is logged on, and there is room for 4,096 messages once it is
-abbrev pub HasRoom : Option Standing → Buffer Sent → Type 0
+abbrev pub HasRoom : Option LoggedOn → Buffer Sent → Type 0
 HasRoom None kept = kept.items ≡ []
 HasRoom (Some at) kept = kept.capacity ≡ 4096
 
 -- the next number is one that a message can have, or the one behind the greatest, and what is kept ascends below it
-pub record IsSound (at : Option Standing) (next : ℕ) (kept : Buffer Sent) : Type 0 where
+pub record IsSound (at : Option LoggedOn) (next : ℕ) (kept : Buffer Sent) : Type 0 where
   pub some : 1 ≤ next
   pub most : next ≤ 1000000001
   pub room : HasRoom at kept

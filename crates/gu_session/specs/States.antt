@@ -1,15 +1,15 @@
 -- How a session stands between its inputs.
 use Rattle.std.specs.Prelude.{ℕ, Bool, false, List, [], Option, None}
 use Rattle.gu_terms.specs.declared.firm.FirmId.{FirmId}
-use Rattle.gu_session.specs.declared.kept.Sent.{Sent}
-use Rattle.gu_session.specs.declared.standing.Standing.{Standing}
-use Rattle.gu_session.specs.declared.standing.Waiting.{Waiting}
+use Rattle.gu_session.specs.declared.sent_ring.Sent.{Sent}
+use Rattle.gu_session.specs.declared.logged_on.LoggedOn.{LoggedOn}
+use Rattle.gu_session.specs.declared.logged_on.Waiting.{Waiting}
 
 -- a session: the firms that may log on, how it stands once one has, and what sending, handing out and closing change: the next number to
 -- send, the moment of the last sending, the last application messages that were sent, what isn't answered, and whether it is closed
 pub record SessionState : Type 0 where
   pub firms : List FirmId
-  pub at : Option Standing
+  pub at : Option LoggedOn
   pub next : ℕ
   pub sent_at : ℕ
   pub kept : List Sent

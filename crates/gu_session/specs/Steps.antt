@@ -16,19 +16,19 @@ use Rattle.gu_session.specs.declared.input.Input.TheVariants.{Frame, Notice, Ans
 use Rattle.gu_session.specs.declared.output.Output.{Output}
 use Rattle.gu_session.specs.declared.plan.Course.{Course}
 use Rattle.gu_session.specs.declared.plan.Course.TheVariants.{Stay, Leave, Go}
-use Rattle.gu_session.specs.declared.standing.Standing.{Standing}
+use Rattle.gu_session.specs.declared.logged_on.LoggedOn.{LoggedOn}
 
 -- how a session stands once a frame is heard, whatever it says
-abbrev pub at_frame : Standing → ℕ → Standing
+abbrev pub at_frame : LoggedOn → ℕ → LoggedOn
 at_frame at now = record at { heard_at = now; is_tested = false }
 
 -- what is done on a frame
-abbrev pub frame_course : List FirmId → Option Standing → Heard → ℕ → Course
+abbrev pub frame_course : List FirmId → Option LoggedOn → Heard → ℕ → Course
 frame_course firms None heard now = logon_course firms heard now
 frame_course firms (Some at) heard now = Go (frame_plan (at_frame at now) heard)
 
 -- what is done on a frame: what its bytes say decides
-pub record IsFrameCourse (firms : List FirmId) (at : Option Standing) (bytes : List ℕ) (now : ℕ) (course : Course) : Type 0 where
+pub record IsFrameCourse (firms : List FirmId) (at : Option LoggedOn) (bytes : List ℕ) (now : ℕ) (course : Course) : Type 0 where
   pub heard : Heard
   pub hears : Hears bytes heard
   pub course_is : course ≡ frame_course firms at heard now

@@ -5,14 +5,14 @@ use Rattle.gu_msgs.specs.declared.outbound.Body.TheVariants as body
 use Rattle.gu_session.specs.Plans.{leaves, says}
 use Rattle.gu_session.specs.declared.plan.Course.{Course}
 use Rattle.gu_session.specs.declared.plan.Course.TheVariants.{Stay, Go}
-use Rattle.gu_session.specs.declared.standing.Standing.{Standing}
+use Rattle.gu_session.specs.declared.logged_on.LoggedOn.{LoggedOn}
 
 -- so many intervals of a session have passed from one moment to another, in milliseconds; none has where a clock goes back
-abbrev pub have_passed : ℕ → Standing → ℕ → ℕ → Bool
+abbrev pub have_passed : ℕ → LoggedOn → ℕ → ℕ → Bool
 have_passed count at from now = nat_le (count * (1000 * at.heart_bt_int)) (now - from)
 
 -- three intervals of silence end the session; after two a TestRequest is sent once; and a Heartbeat where nothing was sent for one
-abbrev pub on_tick : Standing → ℕ → ℕ → Course
+abbrev pub on_tick : LoggedOn → ℕ → ℕ → Course
 on_tick at sent_at now =
     if at.heart_bt_int == 0 then Stay
     else (if have_passed 3 at at.heard_at now then Go (leaves at (body.Logout (Some Silent) ∷ []))

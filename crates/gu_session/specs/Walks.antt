@@ -4,7 +4,7 @@ use Rattle.gu_terms.specs.declared.firm.FirmId.{FirmId}
 use Rattle.gu_msgs.specs.declared.outbound.Body.{Body}
 use Rattle.gu_msgs.specs.declared.outbound.Outbound.{Outbound}
 use Rattle.gu_session.specs.Resending.{again, gap}
-use Rattle.gu_session.specs.declared.kept.Sent.{Sent}
+use Rattle.gu_session.specs.declared.sent_ring.Sent.{Sent}
 
 -- what a message adds, where what comes before this number was sent: itself and the run before it, if it is asked for
 abbrev pub asked_now : FirmId → ℕ → ℕ → ℕ → ℕ → Sent → List Outbound

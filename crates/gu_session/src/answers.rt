@@ -6,9 +6,9 @@ ghost use Rattle.gu_session.specs.declared.input.Outcome.TheVariants.{Replied};
 
 use crate::ask_ref::AskRef;
 use crate::input::{Failure, Outcome};
+use crate::logged_on::{LoggedOn, Waiting};
 use crate::messages::Messages;
 use crate::plan::{Course, Plan};
-use crate::standing::{Standing, Waiting};
 use gu_msgs::{Question, Rejection, notice_body, positions_answer};
 use gu_terms::{Notice, Reply};
 use std::alloc::{AllocError, Global};
@@ -91,7 +91,7 @@ fn asked_by(reference: AskRef, waiting: &[Waiting]) -> Option<Waiting>
 /// What is done on an answer.
 pub fn on_answer(
     alloc: Global,
-    at: &Standing,
+    at: &LoggedOn,
     waiting: &[Waiting],
     reference: AskRef,
     outcome: &Outcome,
@@ -108,7 +108,7 @@ pub fn on_answer(
 }
 
 /// What is done on a notice.
-pub fn on_notice(alloc: Global, at: &Standing, notice: &Notice) -> Result<Course, AllocError>
+pub fn on_notice(alloc: Global, at: &LoggedOn, notice: &Notice) -> Result<Course, AllocError>
     ensures { IfOk result (λ course. course ≡ on_notice at.now notice.now) }
 {
     Ok(Course::Go(Plan::says(alloc, at, notice_body(notice))?))

@@ -12,11 +12,11 @@ ghost use Rattle.gu_session.specs.Sound.{extended};
 ghost use Rattle.gu_session.specs.declared.plan.Handed.{Handed as HandedOf};
 
 use crate::ask_ref::AskRef;
-use crate::kept::Kept;
+use crate::logged_on::{LoggedOn, Waiting};
 use crate::plan::{Handing, Plan};
 use crate::resending::resent;
+use crate::sent_ring::SentRing;
 use crate::seq_num::GREATEST;
-use crate::standing::{Standing, Waiting};
 use gu_msgs::inbound::ResendRequest;
 use gu_msgs::{Outbound, Question};
 use gu_terms::{FirmId, Moment};
@@ -36,7 +36,7 @@ pub fn repeats(
     alloc: Global,
     firm: &FirmId,
     now: &Moment,
-    kept: &Kept,
+    kept: &SentRing,
     next: u64,
     again: &Option<ResendRequest>,
 ) -> Result<Vec<Outbound>, AllocError>
@@ -60,17 +60,17 @@ pub fn waiting_in(handed: &Option<Handing>) -> Option<Waiting>
 }
 
 /// Room for what is to be kept, where a firm logs on.
-pub fn room_for(alloc: Global, at: &Option<Standing>) -> Result<Option<Kept>, AllocError>
+pub fn room_for(alloc: Global, at: &Option<LoggedOn>) -> Result<Option<SentRing>, AllocError>
     ensures { IfOk result (λ room. room ≡ (if is_some at.now then None else Some (buffer [] 4096))) }
 {
     match at {
         Some(_) => Ok(None),
-        None => Ok(Some(Kept::with_room(alloc)?)),
+        None => Ok(Some(SentRing::with_room(alloc)?)),
     }
 }
 
 /// Moves to new room, where there is some.
-pub fn move_to(kept: &mut Kept, room: Option<Kept>)
+pub fn move_to(kept: &mut SentRing, room: Option<SentRing>)
     ensures { kept.new ≡ option_map_or (λ room. room) room kept.old }
 {
     if let Some(room) = room {
@@ -79,7 +79,7 @@ pub fn move_to(kept: &mut Kept, room: Option<Kept>)
 }
 
 /// Keeps the new messages of a plan after the others; the first of them has this number.
-pub fn keep(kept: &mut Kept, plan: &Plan, first: u64, now: Moment)
+pub fn keep(kept: &mut SentRing, plan: &Plan, first: u64, now: Moment)
     requires some { 1 ≤ first }
     requires most { first + length plan.now.messages ≤ 1000000001 }
     requires few { length kept.old.items ≤ kept.old.capacity }

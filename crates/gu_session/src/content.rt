@@ -6,11 +6,11 @@ ghost use Rattle.gu_msgs.specs.declared.outbound.Body.TheVariants as body;
 ghost use Rattle.gu_session.specs.FrameRules.{as_expected, is_sender, on_content, on_gap_fill, on_message, on_request, wrong_party};
 
 use crate::heard::{Heading, Heard};
+use crate::logged_on::LoggedOn;
 use crate::messages::Messages;
 use crate::plan::Plan;
 use crate::rejecting::reject;
 use crate::seq_num::SeqNum;
-use crate::standing::Standing;
 use gu_msgs::outbound::{Body, BusinessMessageReject};
 use gu_msgs::{
     BusinessRejectReason, Fault, Inbound, LogoutReason, NEW_SEQ_NO, Question, Request,
@@ -47,7 +47,7 @@ fn wrong_party(firm: &FirmId, heading: &Heading) -> Option<u32>
 /// A gap fill up to a number.
 fn on_gap_fill(
     alloc: Global,
-    at: &Standing,
+    at: &LoggedOn,
     heading: &Heading,
     number: SeqNum,
     to: u64,
@@ -55,7 +55,7 @@ fn on_gap_fill(
     ensures { IfOk result (λ plan. plan ≡ on_gap_fill at.now heading.now number to) }
 {
     if number.get() < to {
-        let after = Standing {
+        let after = LoggedOn {
             expected: to,
             ..*at
         };
@@ -68,7 +68,7 @@ fn on_gap_fill(
 /// What a message asks for is handed out.
 fn on_request(
     alloc: Global,
-    at: &Standing,
+    at: &LoggedOn,
     number: SeqNum,
     request: Option<Request>,
     question: Option<Question>,
@@ -94,7 +94,7 @@ fn unsupported(number: SeqNum, code: TypeCode) -> Body
 /// A sound message.
 fn on_message(
     alloc: Global,
-    at: &Standing,
+    at: &LoggedOn,
     heading: &Heading,
     number: SeqNum,
     message: Inbound,
@@ -121,7 +121,7 @@ fn on_message(
 /// A message of the right parties, or its fault.
 fn on_content(
     alloc: Global,
-    at: &Standing,
+    at: &LoggedOn,
     heading: &Heading,
     number: SeqNum,
     content: Result<Inbound, Fault>,
@@ -137,7 +137,7 @@ fn on_content(
 /// What is done on a frame whose number was expected.
 pub fn as_expected(
     alloc: Global,
-    at: &Standing,
+    at: &LoggedOn,
     heard: &mut Heard,
     number: SeqNum,
 ) -> Result<Plan, AllocError>

@@ -7,7 +7,7 @@ ghost use Rattle.gu_session.specs.Hearing.{Hears};
 ghost use Rattle.gu_session.specs.Steps.{IsFrameCourse, at_frame, frame_course};
 ghost use Rattle.gu_session.specs.TimeRules.{on_tick};
 ghost use Rattle.gu_session.specs.declared.plan.Course.TheVariants.{Stay};
-ghost use Rattle.gu_session.specs.declared.standing.Standing.{Standing as StandingOf};
+ghost use Rattle.gu_session.specs.declared.logged_on.LoggedOn.{LoggedOn as LoggedOnOf};
 
 use crate::answers::{on_answer, on_notice};
 use crate::ask_ref::AskRef;
@@ -15,19 +15,19 @@ use crate::heard::Heard;
 use crate::hearing::hear;
 use crate::heartbeat::on_tick;
 use crate::input::Outcome;
+use crate::logged_on::{LoggedOn, Waiting};
 use crate::logon::logon_course;
 use crate::plan::Course;
 use crate::sequence::frame_plan;
-use crate::standing::{Standing, Waiting};
 use gu_fix::Frame;
 use gu_terms::{FirmId, Moment, Notice};
 use std::alloc::{AllocError, Global};
 
 /// How a session stands once it hears a frame.
-fn at_frame(at: &Standing, now: Moment) -> Standing
+fn at_frame(at: &LoggedOn, now: Moment) -> LoggedOn
     ensures { result ≡ at_frame at.now now }
 {
-    Standing {
+    LoggedOn {
         heard_at: now,
         is_tested: false,
         ..*at
@@ -38,7 +38,7 @@ fn at_frame(at: &Standing, now: Moment) -> Standing
 fn heard_course(
     alloc: Global,
     firms: &[FirmId],
-    at: &Option<Standing>,
+    at: &Option<LoggedOn>,
     heard: &mut Heard,
     now: Moment,
 ) -> Result<Course, AllocError>
@@ -54,7 +54,7 @@ fn heard_course(
 pub fn frame_course(
     alloc: Global,
     firms: &[FirmId],
-    at: &Option<Standing>,
+    at: &Option<LoggedOn>,
     frame: Frame,
     now: Moment,
 ) -> Result<Course, AllocError>
@@ -67,10 +67,10 @@ pub fn frame_course(
 /// What is done on a notice.
 pub fn notice_course(
     alloc: Global,
-    at: &Option<Standing>,
+    at: &Option<LoggedOn>,
     notice: &Notice,
 ) -> Result<Course, AllocError>
-    ensures { IfOk result (λ course. course ≡ option_map_or (λ (at : StandingOf). on_notice at notice.now) at.now Stay) }
+    ensures { IfOk result (λ course. course ≡ option_map_or (λ (at : LoggedOnOf). on_notice at notice.now) at.now Stay) }
 {
     match at {
         Some(at) => on_notice(alloc, at, notice),
@@ -81,12 +81,12 @@ pub fn notice_course(
 /// What is done on an answer.
 pub fn answer_course(
     alloc: Global,
-    at: &Option<Standing>,
+    at: &Option<LoggedOn>,
     waiting: &[Waiting],
     reference: AskRef,
     outcome: &Outcome,
 ) -> Result<Course, AllocError>
-    ensures { IfOk result (λ course. course ≡ option_map_or (λ (at : StandingOf). on_answer at waiting.now reference outcome.now) at.now Stay) }
+    ensures { IfOk result (λ course. course ≡ option_map_or (λ (at : LoggedOnOf). on_answer at waiting.now reference outcome.now) at.now Stay) }
 {
     match at {
         Some(at) => on_answer(alloc, at, waiting, reference, outcome),
@@ -97,11 +97,11 @@ pub fn answer_course(
 /// What is done as time passes.
 pub fn tick_course(
     alloc: Global,
-    at: &Option<Standing>,
+    at: &Option<LoggedOn>,
     sent_at: Moment,
     now: Moment,
 ) -> Result<Course, AllocError>
-    ensures { IfOk result (λ course. course ≡ option_map_or (λ (at : StandingOf). on_tick at sent_at now) at.now Stay) }
+    ensures { IfOk result (λ course. course ≡ option_map_or (λ (at : LoggedOnOf). on_tick at sent_at now) at.now Stay) }
 {
     match at {
         Some(at) => on_tick(alloc, at, sent_at, now),

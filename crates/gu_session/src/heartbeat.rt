@@ -3,8 +3,8 @@
 ghost use Rattle.std.specs.Prelude.{◌≡◌, ◌≤◌, IfOk};
 ghost use Rattle.gu_session.specs.TimeRules.{have_passed, on_tick};
 
+use crate::logged_on::LoggedOn;
 use crate::plan::{Course, Plan};
-use crate::standing::Standing;
 use gu_msgs::LogoutReason;
 use gu_msgs::outbound::Body;
 use gu_terms::Moment;
@@ -14,7 +14,7 @@ use std::alloc::{AllocError, Global};
 const SECOND: u64 = 1000;
 
 /// Whether so many intervals have passed.
-fn have_passed(count: u64, at: &Standing, from: Moment, now: Moment) -> bool
+fn have_passed(count: u64, at: &LoggedOn, from: Moment, now: Moment) -> bool
     requires { count ≤ 3 }
     ensures { result ≡ have_passed count at.now from now }
 {
@@ -28,7 +28,7 @@ fn have_passed(count: u64, at: &Standing, from: Moment, now: Moment) -> bool
 /// What is done as time passes.
 pub fn on_tick(
     alloc: Global,
-    at: &Standing,
+    at: &LoggedOn,
     sent_at: Moment,
     now: Moment,
 ) -> Result<Course, AllocError>
@@ -42,7 +42,7 @@ pub fn on_tick(
         return Ok(Course::Go(Plan::leaves_with(alloc, at, body)?));
     }
     if have_passed(2, at, at.heard_at, now) && !at.is_tested {
-        let after = Standing {
+        let after = LoggedOn {
             is_tested: true,
             ..*at
         };

@@ -8,10 +8,10 @@ ghost use Rattle.gu_session.specs.Logons.{caller, logged_on, logon_course, logon
 
 use crate::content::is_sender;
 use crate::heard::{Heading, Heard};
+use crate::logged_on::LoggedOn;
 use crate::messages::Messages;
 use crate::plan::{Course, Plan};
 use crate::seq_num::SeqNum;
-use crate::standing::Standing;
 use gu_msgs::inbound::Logon;
 use gu_msgs::outbound::Body;
 use gu_msgs::{Fault, Inbound};
@@ -71,7 +71,7 @@ fn logged_on(
 ) -> Result<Plan, AllocError>
     ensures { IfOk result (λ plan. plan ≡ logged_on firm number logon.now now) }
 {
-    let mut after = Standing {
+    let mut after = LoggedOn {
         firm,
         heart_bt_int: logon.heart_bt_int,
         expected: 2,

@@ -6,9 +6,9 @@ ghost use Rattle.gu_session.specs.Plans.{answers, hands, leaves, quiet, repeats,
 ghost use Rattle.gu_session.specs.Sending.{numbered};
 
 use crate::ask_ref::AskRef;
+use crate::logged_on::{LoggedOn, Waiting};
 use crate::messages::Messages;
 use crate::seq_num::SeqNum;
-use crate::standing::{Standing, Waiting};
 use gu_msgs::inbound::ResendRequest;
 use gu_msgs::outbound::Body;
 use gu_msgs::{OutboundRef, Question, Request};
@@ -65,7 +65,7 @@ impl Handing {
 #[derive(Drop)]
 pub struct Plan {
     /// How the session stands behind it.
-    pub after: Standing,
+    pub after: LoggedOn,
     /// What is sent again first.
     pub again: Option<ResendRequest>,
     /// New messages, which get the next numbers.
@@ -91,7 +91,7 @@ pub enum Course {
 
 impl Plan {
     /// Nothing is sent.
-    pub fn quiet(alloc: Global, at: &Standing) -> Self
+    pub fn quiet(alloc: Global, at: &LoggedOn) -> Self
         ensures { result ≡ quiet at.now }
     {
         Plan {
@@ -105,7 +105,7 @@ impl Plan {
     }
 
     /// A new message.
-    pub fn says(alloc: Global, at: &Standing, body: Body) -> Result<Self, AllocError>
+    pub fn says(alloc: Global, at: &LoggedOn, body: Body) -> Result<Self, AllocError>
         ensures { IfOk result (λ plan. plan ≡ says at.now (body ∷ [])) }
     {
         let messages = Messages::one(alloc, body)?;
@@ -120,7 +120,7 @@ impl Plan {
     }
 
     /// New messages, and the end.
-    pub fn leaves(at: &Standing, messages: Messages) -> Self
+    pub fn leaves(at: &LoggedOn, messages: Messages) -> Self
         ensures { result ≡ leaves at.now messages }
     {
         Plan {
@@ -134,7 +134,7 @@ impl Plan {
     }
 
     /// A Logout or the like, and the end.
-    pub fn leaves_with(alloc: Global, at: &Standing, body: Body) -> Result<Self, AllocError>
+    pub fn leaves_with(alloc: Global, at: &LoggedOn, body: Body) -> Result<Self, AllocError>
         ensures { IfOk result (λ plan. plan ≡ leaves at.now (body ∷ [])) }
     {
         let messages = Messages::one(alloc, body)?;
@@ -142,7 +142,7 @@ impl Plan {
     }
 
     /// What was asked for again, then new messages.
-    pub fn repeats(at: &Standing, again: Option<ResendRequest>, messages: Messages) -> Self
+    pub fn repeats(at: &LoggedOn, again: Option<ResendRequest>, messages: Messages) -> Self
         ensures { result ≡ repeats at.now again messages }
     {
         Plan {
@@ -158,7 +158,7 @@ impl Plan {
     /// What a message of this number asks for is handed out.
     pub fn hands(
         alloc: Global,
-        at: &Standing,
+        at: &LoggedOn,
         number: SeqNum,
         request: Request,
         question: Question,
@@ -182,7 +182,7 @@ impl Plan {
     }
 
     /// The messages that answer a question.
-    pub fn answers(at: &Standing, reference: AskRef, messages: Messages) -> Self
+    pub fn answers(at: &LoggedOn, reference: AskRef, messages: Messages) -> Self
         ensures { result ≡ answers at.now reference messages }
     {
         Plan {

@@ -4,8 +4,8 @@ ghost use Rattle.std.specs.Prelude.{◌≡◌, ◌+◌, ◌<◌, ◌≤◌, leng
 ghost use Rattle.gu_msgs.specs.Written.{outbound_of};
 ghost use Rattle.gu_session.specs.Readiness.{sent_with};
 
-use crate::kept::Kept;
 use crate::plan::Plan;
+use crate::sent_ring::SentRing;
 use gu_msgs::{Outbound, OutboundRef};
 use gu_terms::Moment;
 
@@ -16,7 +16,7 @@ pub struct Ready {
     /// What is sent again.
     pub again: Vec<Outbound>,
     /// Room for what is to be kept, where a firm logs on.
-    pub room: Option<Kept>,
+    pub room: Option<SentRing>,
 }
 
 /// What is to be done on an input.

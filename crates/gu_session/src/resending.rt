@@ -5,7 +5,7 @@ ghost use Rattle.gu_session.specs.Ascending.{IsAscending};
 ghost use Rattle.gu_session.specs.Resending.{again, behind_last, gap, gap_fill, resent, sent_within, with_gaps};
 ghost use Rattle.gu_session.specs.Walks.{asked_now, at_behind};
 
-use crate::kept::{Kept, Sent};
+use crate::sent_ring::{Sent, SentRing};
 use gu_msgs::Outbound;
 use gu_msgs::inbound::ResendRequest;
 use gu_msgs::outbound::Body;
@@ -120,7 +120,7 @@ pub fn resent(
     alloc: Global,
     firm: &FirmId,
     now: &Moment,
-    kept: &Kept,
+    kept: &SentRing,
     next: u64,
     request: &ResendRequest,
 ) -> Result<Vec<Outbound>, AllocError>

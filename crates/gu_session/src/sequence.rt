@@ -6,11 +6,11 @@ ghost use Rattle.gu_session.specs.Hearing.{is_given};
 
 use crate::content::as_expected;
 use crate::heard::{Heading, Heard};
+use crate::logged_on::LoggedOn;
 use crate::messages::Messages;
 use crate::plan::Plan;
 use crate::rejecting::reject;
 use crate::seq_num::SeqNum;
-use crate::standing::Standing;
 use gu_msgs::inbound::ResendRequest;
 use gu_msgs::outbound::Body;
 use gu_msgs::{Fault, Inbound, LogoutReason, NEW_SEQ_NO, SessionRejectReason, TypeCode};
@@ -49,7 +49,7 @@ fn again_in(content: &Result<Inbound, Fault>) -> Option<ResendRequest>
 /// A reset to a number.
 fn on_reset(
     alloc: Global,
-    at: &Standing,
+    at: &LoggedOn,
     heading: &Heading,
     number: SeqNum,
     to: u64,
@@ -57,7 +57,7 @@ fn on_reset(
     ensures { IfOk result (λ plan. plan ≡ on_reset at.now heading.now number to) }
 {
     if at.expected <= to {
-        let after = Standing {
+        let after = LoggedOn {
             expected: to,
             ..*at
         };
@@ -68,7 +68,7 @@ fn on_reset(
 }
 
 /// Messages are missing before this frame.
-fn too_high(alloc: Global, at: &Standing, heard: &Heard) -> Result<Plan, AllocError>
+fn too_high(alloc: Global, at: &LoggedOn, heard: &Heard) -> Result<Plan, AllocError>
     ensures { IfOk result (λ plan. plan ≡ too_high at.now heard.now) }
 {
     if is_logout(&heard.heading.msg_type) {
@@ -79,7 +79,7 @@ fn too_high(alloc: Global, at: &Standing, heard: &Heard) -> Result<Plan, AllocEr
 }
 
 /// The number was used already.
-fn too_low(alloc: Global, at: &Standing, heading: &Heading) -> Result<Plan, AllocError>
+fn too_low(alloc: Global, at: &LoggedOn, heading: &Heading) -> Result<Plan, AllocError>
     ensures { IfOk result (λ plan. plan ≡ too_low at.now heading.now) }
 {
     if heading.is_poss_dup {
@@ -91,7 +91,7 @@ fn too_low(alloc: Global, at: &Standing, heading: &Heading) -> Result<Plan, Allo
 /// A frame that is no reset.
 fn by_number(
     alloc: Global,
-    at: &Standing,
+    at: &LoggedOn,
     heard: &mut Heard,
     number: SeqNum,
 ) -> Result<Plan, AllocError>
@@ -104,7 +104,7 @@ fn by_number(
     if place < at.expected {
         return too_low(alloc, at, &heard.heading);
     }
-    let after = Standing {
+    let after = LoggedOn {
         expected: place + 1,
         ..*at
     };
@@ -114,7 +114,7 @@ fn by_number(
 /// A frame with a number.
 fn on_number(
     alloc: Global,
-    at: &Standing,
+    at: &LoggedOn,
     heard: &mut Heard,
     number: SeqNum,
 ) -> Result<Plan, AllocError>
@@ -127,7 +127,7 @@ fn on_number(
 }
 
 /// What is done on a frame. What it says may be taken out.
-pub fn frame_plan(alloc: Global, at: &Standing, heard: &mut Heard) -> Result<Plan, AllocError>
+pub fn frame_plan(alloc: Global, at: &LoggedOn, heard: &mut Heard) -> Result<Plan, AllocError>
     ensures { IfOk result (λ plan. plan ≡ frame_plan at.now heard.old) }
 {
     match heard.heading.number {

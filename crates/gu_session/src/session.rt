@@ -5,7 +5,7 @@ ghost use Rattle.std.specs.Option.{option_map};
 ghost use Rattle.gu_session.specs.Outputs.{StepsOnto};
 ghost use Rattle.gu_session.specs.States.{new_session};
 ghost use Rattle.gu_session.specs.Steps.{StepsWith};
-ghost use Rattle.gu_session.specs.declared.standing.Standing.{Standing as StandingOf};
+ghost use Rattle.gu_session.specs.declared.logged_on.LoggedOn.{LoggedOn as LoggedOnOf};
 
 use crate::input::Input;
 use crate::output::{Output, Taken};
@@ -61,7 +61,7 @@ impl Session {
 
     /// The firm that logged on.
     pub fn firm(&self) -> Option<FirmId>
-        ensures { result ≡ option_map (λ (at : StandingOf). at.firm) self.now.at }
+        ensures { result ≡ option_map (λ (at : LoggedOnOf). at.firm) self.now.at }
     {
         match &self.state.at {
             Some(at) => Some(at.firm),
@@ -69,7 +69,7 @@ impl Session {
         }
     }
 
-    /// Takes an input at a moment. A call that is refused memory leaves the session as it was.
+    /// Takes an input at a moment. Where an allocation fails the session stays as it was.
     pub fn step(&mut self, input: Input, now: Moment) -> Result<Vec<Output>, AllocError>
         ensures steps { IfOk result (λ outputs. StepsWith self.old input now outputs.items self.new) }
         ensures refused { OnErr result (self.new ≡ self.old) }
@@ -93,8 +93,8 @@ impl Session {
         }
     }
 
-    /// Takes an input at a moment as `step` does, and appends the bytes that are sent. A call that is refused memory leaves the session and the
-    /// output as they were.
+    /// Takes an input at a moment as `step` does, and appends the bytes that are sent. Where an allocation fails the session
+    /// and the output stay as they were.
     pub fn step_onto(
         &mut self,
         input: Input,

@@ -12,21 +12,21 @@ use crate::carrying::{
 };
 use crate::course::{answer_course, frame_course, notice_course, tick_course};
 use crate::input::Input;
-use crate::kept::Kept;
+use crate::logged_on::{LoggedOn, Waiting};
 use crate::output::{Asked, Taken};
 use crate::plan::{Course, Handed, Handing, Plan};
 use crate::ready::{Prepared, Ready};
-use crate::standing::{Standing, Waiting};
+use crate::sent_ring::SentRing;
 use gu_terms::{FirmId, Moment};
 use std::alloc::{AllocError, Global};
 
 /// What a session is between its inputs.
 pub struct State {
     pub firms: Vec<FirmId>,
-    pub at: Option<Standing>,
+    pub at: Option<LoggedOn>,
     pub next: u64,
     pub sent_at: Moment,
-    pub kept: Kept,
+    pub kept: SentRing,
     pub waiting: Vec<Waiting>,
     pub is_closed: bool,
 }
@@ -77,7 +77,7 @@ impl State {
             at: None,
             next: 1,
             sent_at: beginning(),
-            kept: Kept::new(),
+            kept: SentRing::new(),
             waiting: Vec::new(alloc),
             is_closed: false,
         }

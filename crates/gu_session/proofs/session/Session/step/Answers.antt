@@ -5,7 +5,7 @@ use Rattle.gu_session.specs.States.{SessionState}
 use Rattle.gu_session.specs.Steps.{StepsWith}
 use Rattle.gu_session.specs.declared.output.Output.{Output}
 use Rattle.gu_session.specs.declared.ready.Prepared.{Prepared}
-use Rattle.gu_session.specs.declared.standing.Waiting.{Waiting}
+use Rattle.gu_session.specs.declared.logged_on.Waiting.{Waiting}
 use Rattle.gu_session.proofs.OntoLemmas.{plan_steps}
 use Rattle.gu_session.proofs.session.Session.step.Goals as goal
 

@@ -3,7 +3,7 @@ use Rattle.gu_session.specs.Outputs.{StepsOnto}
 use Rattle.gu_session.specs.Readiness.{IsPrepared, seen}
 use Rattle.gu_session.specs.States.{SessionState}
 use Rattle.gu_session.specs.declared.ready.Prepared.{Prepared}
-use Rattle.gu_session.specs.declared.standing.Waiting.{Waiting}
+use Rattle.gu_session.specs.declared.logged_on.Waiting.{Waiting}
 use Rattle.gu_session.proofs.OntoLemmas.{leaving_onto, plan_steps_onto}
 use Rattle.gu_session.proofs.session.Session.step_onto.Goals as goal
 

@@ -1,12 +1,12 @@
-//! How a session stands.
+//! A session once a firm is logged on.
 
 use crate::ask_ref::AskRef;
 use gu_msgs::Question;
 use gu_terms::{FirmId, Moment};
 
-/// How a session stands once a firm is logged on, as far as the rules change it.
+/// A session once a firm is logged on, as far as the rules change it.
 #[derive(Clone, Copy)]
-pub struct Standing {
+pub struct LoggedOn {
     pub firm: FirmId,
     /// The seconds between heartbeats, or 0 for none.
     pub heart_bt_int: u64,

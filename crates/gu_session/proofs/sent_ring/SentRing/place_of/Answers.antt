@@ -2,7 +2,7 @@ use Rattle.std.proofs.Common.{◌≡◌, ◌+◌, ◌-◌, ◌/◌, ℕ, Some, N
 use Rattle.std.specs.Option.{option_copied}
 use Rattle.gu_session.specs.Ascending.{AreBelow}
 use Rattle.gu_session.proofs.Places.{below-take, from-drop-at, from-drop-none}
-use Rattle.gu_session.proofs.kept.Kept.place_of.Goals as goal
+use Rattle.gu_session.proofs.sent_ring.SentRing.place_of.Goals as goal
 
 pub loop-low-preserved-then-get-number : goal.loop-low-preserved-then-get-number
 loop-low-preserved-then-get-number c =

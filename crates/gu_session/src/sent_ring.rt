@@ -29,34 +29,34 @@ pub struct Sent {
 }
 
 /// The last messages that were sent, with room for 4,096 of them or for none.
-pub struct Kept {
+pub struct SentRing {
     ring: Option<HeapCircularBuffer<Sent>>,
 }
 
-impl Drop for Kept {
+impl Drop for SentRing {
     fn drop(self) {
-        let Kept { ring } = self;
+        let SentRing { ring } = self;
         drop(ring);
     }
 }
 
-impl Model for Kept {
+impl Model for SentRing {
     ghost use Rattle.std.specs.Prelude.{[]};
     ghost use Rattle.std.specs.Option.{option_map_or};
     ghost use Rattle.circular_buffer.specs.Buffer.{Buffer, buffer};
-    ghost use Rattle.gu_session.specs.declared.kept.Sent.{Sent};
+    ghost use Rattle.gu_session.specs.declared.sent_ring.Sent.{Sent};
 
     ghost Value = { Buffer Sent };
 
     ghost view = { λ k. option_map_or (λ ring. ring) k.ring (buffer [] 0) };
 }
 
-impl Kept {
+impl SentRing {
     /// Room for none.
     pub fn new() -> Self
         ensures { result ≡ buffer [] 0 }
     {
-        Kept { ring: None }
+        SentRing { ring: None }
     }
 
     /// Room for all that are to be kept, and none as yet.
@@ -64,7 +64,7 @@ impl Kept {
         ensures { IfOk result (λ kept. kept ≡ buffer [] 4096) }
     {
         let ring = HeapCircularBuffer::with_capacity(alloc, MOST_KEPT)?;
-        Ok(Kept { ring: Some(ring) })
+        Ok(SentRing { ring: Some(ring) })
     }
 
     /// How many there are.
