@@ -25,7 +25,9 @@ out 5 4";
 fn full_book(rt: &impl Abort, alloc: Global) -> Book {
     let mut book = Book::new(alloc, sample(alloc).expect(rt, "the sample"));
     let day = Day::new(2026, 1, 5).expect(rt, "a day");
-    while book.enter(Command::OpenDay { day }).is_ok() {}
+    for _ in 0..1_000_000 {
+        book.enter(Command::OpenDay { day }).expect(rt, "an entry");
+    }
     book
 }
 

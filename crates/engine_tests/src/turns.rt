@@ -23,22 +23,12 @@ impl Read for Line<'_> {
         };
         self.next = later;
         match next {
-            Next::Text(text) => text.read_at_once(buf),
+            Next::Text(text) => {
+                let mut text = *text;
+                text.read(buf)
+            }
             Next::Error(kind) => Err(io::Error::from(*kind)),
         }
-    }
-}
-
-/// A text of which a read gives all that there is room for.
-trait ReadAtOnce {
-    fn read_at_once(&self, buf: &mut [u8]) -> io::Result<usize>;
-}
-
-impl ReadAtOnce for &[u8] {
-    fn read_at_once(&self, buf: &mut [u8]) -> io::Result<usize> {
-        let count = self.len().min(buf.len());
-        buf[..count].copy_from_slice(&self[..count]);
-        Ok(count)
     }
 }
 
