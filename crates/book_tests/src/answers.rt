@@ -1,4 +1,4 @@
-//! Replies of the book to openings, limits and reports, and the positions behind them.
+//! Replies of the book to openings, limits and reports, and the positions after them.
 
 use crate::transcript::{Patience, follow_all};
 

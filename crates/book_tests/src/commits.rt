@@ -9,7 +9,7 @@ use gu_text::Sheet;
 use std::alloc::Global;
 use std::process::Abort;
 
-/// Views for which a proposal is made, each as a sheet behind what comes of a copy of the proposal
+/// Views for which a proposal is made, each as a sheet after what comes of a copy of the proposal
 /// that is lent and what comes of the proposal itself, in a book in which G1 has version 6 and offer
 /// 1 of seven lots.
 const VIEWS: &str = "\

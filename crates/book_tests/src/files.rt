@@ -29,7 +29,7 @@ const ALONE: [Row; 14] = [
     (b"GROUP,g\nFIRM,e", "BadRow 1"),
 ];
 
-/// Rows behind the sample's.
+/// Rows after the sample's.
 const BEHIND_THE_SAMPLE: [Row; 38] = [
     (b"FIRM,e3", "BadRow 18"),
     (b"FIRM,", "BadRow 18"),
@@ -72,7 +72,7 @@ const BEHIND_THE_SAMPLE: [Row; 38] = [
     (b"GUARANTOR,E2,C1\nAGREEMENT,P5,E1,A3", "OK"),
 ];
 
-/// Rows behind those of the largest file.
+/// Rows after those of the largest file.
 const BEHIND_THE_LARGEST: [Row; 12] = [
     (b"", "OK"),
     (b"FIRM,MORE", "TooMany"),
@@ -96,7 +96,7 @@ pub fn text_of(rt: &impl Abort, alloc: Global, read: Result<Reference, RefFault>
     }
 }
 
-/// Reads rows behind those of a file, and compares what comes of it.
+/// Reads rows after those of a file, and compares what comes of it.
 fn compare(rt: &impl Abort, alloc: Global, file: &[u8], table: &[Row]) {
     for (rows, want) in table {
         let mut reads = CountedReads::new(file.chain(*rows));

@@ -7,7 +7,7 @@ use crate::transcript::{Patience, follow_all};
 use gu_world::{Outcome, run};
 use std::alloc::Global;
 
-/// Each growth is refused where a vector or a map is full: behind 4, 8, 16, 32, 64 and 128 entries.
+/// Each growth is refused where a vector or a map is full: after 4, 8, 16, 32, 64 and 128 entries.
 const TRANSCRIPTS: &str = "\
 == reports and limits
 ROWS GUARANTOR,E2,C1; GUARANTOR,E2,C2; GUARANTOR,C1,E1

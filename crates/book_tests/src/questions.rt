@@ -10,10 +10,10 @@ use gu_terms::{
 };
 use gu_text::texts::{append_last_number, append_last_word, append_number, append_word};
 use gu_text::{Line, TextError};
-use gu_view::{Offer, View};
+use gu_view::{ViewOffer, View};
 use std::alloc::{AllocError, Global};
 
-/// Ends a line whose last word has a blank behind it.
+/// Ends a line whose last word has a blank after it.
 pub fn end_line(text: &mut Vec<u8>) -> Result<(), AllocError> {
     let _ = text.pop();
     text.push(b'\n')?;
@@ -53,7 +53,7 @@ fn tell_count(text: &mut Vec<u8>, rows: &[LimitRow]) -> Result<(), AllocError> {
 }
 
 /// Tells an open offer: its number, what is left of it, its agreement, and the other names on its path.
-fn tell_offer(text: &mut Vec<u8>, offer: &Offer) -> Result<(), AllocError> {
+fn tell_offer(text: &mut Vec<u8>, offer: &ViewOffer) -> Result<(), AllocError> {
     append_word(text, b"OFFER")?;
     append_number(text, offer.number.get())?;
     append_number(text, offer.lots)?;

@@ -68,14 +68,14 @@ impl<'a> Read for Recording<'a> {
     }
 }
 
-/// Files of readers that fail behind them, unless a row before that is refused.
+/// Files of readers that fail after them, unless a row before that is refused.
 const FAILING: [(&str, &str); 3] = [
     ("", "ReadFault"),
     ("FIRM,E1\nFIRM,E", "ReadFault"),
     ("FIRM,E1\nFIRM,E1\n", "Twice 2"),
 ];
 
-/// Reads a file of a reader that fails behind it, and compares what comes of it.
+/// Reads a file of a reader that fails after it, and compares what comes of it.
 fn check_failing(rt: &impl Abort, alloc: Global, file: &str, want: &str) {
     let file = file.as_bytes();
     let text = told(rt, alloc, Failing { file });

@@ -88,8 +88,8 @@ fn push_number(text: &mut String, n: u64) -> Result<(), AllocError> {
     }
 }
 
-/// How much more than the number stands for a `#`, by the text behind it, and the rest of this text.
-fn more_behind(part: &str) -> (u64, &str) {
+/// How much more than the number stands for a `#`, by the text after it, and the rest of this text.
+fn more_after(part: &str) -> (u64, &str) {
     if let Some(rest) = part.strip_prefix("+1") {
         return (1, rest);
     }
@@ -104,14 +104,14 @@ pub fn push_numbered(text: &mut String, form: &str, n: u64) -> Result<(), AllocE
     let mut parts = form.split("#");
     text.push_str(parts.next().unwrap_or(""))?;
     for part in parts {
-        let (more, rest) = more_behind(part);
+        let (more, rest) = more_after(part);
         push_number(text, n.saturating_add(more))?;
         text.push_str(rest)?;
     }
     Ok(())
 }
 
-/// Adds a row, or as many as the number behind ` x ` says, in which that of each stands for `#`, from 0 on.
+/// Adds a row, or as many as the number after ` x ` says, in which that of each stands for `#`, from 0 on.
 fn push_rows(file: &mut String, row: &str) -> Result<(), AllocError> {
     let (form, count) = row.split_once(" x ").unwrap_or((row, "1"));
     for n in 0..count.parse::<u64>().unwrap_or(0) {

@@ -8,7 +8,7 @@ use std::alloc::Global;
 use std::process::Abort;
 
 /// Reports and give-ups whose ids have one hash, and trades whose match ids have one, under the seed 0: their first 24 bytes take
-/// the hasher of E1's ids, and that of match ids, to one state for any bytes behind them.
+/// the hasher of E1's ids, and that of match ids, to one state for any bytes after them.
 const COLLIDING: &str = "\
 DAY 20260105 = 1 OK
 LIMIT G1 EXEC E1 1000000000 = 2 OK

@@ -1,4 +1,4 @@
-//! Transcripts: what is said to a world line by line, and behind ` = ` what it tells. `== name` begins one, in a world of its own,
+//! Transcripts: what is said to a world line by line, and after ` = ` what it tells. `== name` begins one, in a world of its own,
 //! whose reference is the sample. Below it may stand `FILE name` for another file, `ROWS row; row` for more rows, and `BEHIND name`
 //! for the lines of a beginning. A line is one of a script (docs/rules/script.md), or one of these:
 //!
@@ -16,7 +16,7 @@
 //! - `ROWS E1 H1`: how many instruments an account holds, and the lots of all, long and short
 //! - `ENTRIES`: how many entries are found by their numbers
 //! - `EACH 10 40 3: line; line`: these lines for each third number from 10 up to 40, which stands for `#`, and the next two for
-//!   `#+1` and `#+2`; what is told to each has in it what stands behind ` = `
+//!   `#+1` and `#+2`; what is told to each has in it what comes after ` = `
 //!
 //! What is told in several lines has `, ` between two of them.
 
@@ -275,7 +275,7 @@ pub fn world_of(
     }
 }
 
-/// What stands behind a mark with which a text begins, up to the end of its line, and the lines below; without the mark nothing, and all.
+/// What comes after a mark with which a text begins, up to the end of its line, and the lines below; without the mark nothing, and all.
 fn marked<'a>(text: &'a str, mark: &str) -> (&'a str, &'a str) {
     match text.strip_prefix(mark) {
         Some(rest) => rest.split_once("\n").unwrap_or((rest, "")),

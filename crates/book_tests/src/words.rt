@@ -1,6 +1,6 @@
 //! The words of a line.
 
-/// A word of a line, or nothing behind its last.
+/// A word of a line, or nothing after its last.
 pub fn word(line: &str, place: usize) -> &str {
     line.split_whitespace().nth(place).unwrap_or("")
 }

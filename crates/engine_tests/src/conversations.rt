@@ -167,7 +167,7 @@ in 0 2
 out AE 2 571=3-B|572=R1|573=0|880=M1|55=XF6|32=10|31=101.5|75=20260105|552=1|54=1|1=H1|";
 
 #[test]
-fn notices_come_behind_a_message(rt: HostRuntime) {
+fn notices_come_after_a_message(rt: HostRuntime) {
     let report = "REPORT E2 R2 M1 S XF6 10 101.5 H2";
     check_cases(&rt, rt.alloc(), report, TOLD_LATER);
 }

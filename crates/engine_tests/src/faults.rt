@@ -45,7 +45,7 @@ piece 100 -> 2 entries, done: 358
 piece 4096 -> 2 entries, done: 358
 ";
 
-/// Asserts that a connection of E1 to a book behind a script, on the terms of each row, ends and writes as the row says.
+/// Asserts that a connection of E1 to a book after a script, on the terms of each row, ends and writes as the row says.
 fn check(rt: &impl Abort, alloc: Global, script: &str, talk: &Talk, table: &str) {
     for row in table.lines() {
         let (terms, expected) = columns(row);
@@ -68,7 +68,7 @@ fn a_session_may_be_cut_anywhere(rt: HostRuntime) {
     check(&rt, rt.alloc(), "DAY 20260105/", &talk, CUT);
 }
 
-/// 4,200 reports on no day, each refused, and a ResendRequest for all that was sent: the last 4,096 refusals once more, behind one gap fill.
+/// 4,200 reports on no day, each refused, and a ResendRequest for all that was sent: the last 4,096 refusals once more, after one gap fill.
 const LONG: &str = "\
 in A 1 98=0|108=0|1137=9|
 out A 1 98=0|108=0|1137=9|

@@ -9,7 +9,7 @@ use Rattle.gu_terms.specs.declared.entry.Entry.TheVariants.{Asked}
 use Rattle.gu_terms.specs.declared.reply.Done.TheVariants.{Opened}
 use Rattle.gu_terms.specs.declared.reply.Reply.TheVariants.{Accepted}
 use Rattle.gu_book.specs.Answer.{answer}
-use Rattle.gu_book.specs.Kept.{Kept}
+use Rattle.gu_book.specs.BookState.{BookState}
 use Rattle.gu_fix.specs.Encoding.{message_of}
 use Rattle.gu_fix.specs.Fields.{HasFields}
 use Rattle.gu_fix.specs.Stream.{AreFrames}
@@ -35,7 +35,7 @@ use Rattle.gu_streams.specs.Written.{WrotePart}
 
 -- what the engine has: its book, the moment at which its messages are sent, and the number of the next one
 pub record Capture : Type 0 where
-  pub book : Kept
+  pub book : BookState
   pub sending_time : ℕ
   pub next : ℕ
 
@@ -55,14 +55,14 @@ abbrev pub ReportsNothing : List ℕ → Type 0
 ReportsNothing frame = (firm : FirmId) (report : TradeCaptureReport) → ¬ Reports frame firm report
 
 -- the book after a command: with the command and its answer as a further entry, or as it was where it is full
-abbrev pub book_after : Kept → Command → Kept
+abbrev pub book_after : BookState → Command → BookState
 book_after book command =
     if nat_lt (length book.history) 1000000
     then record { reference = book.reference; history = book.history ++ Asked command (answer book.reference book.history command) ∷ [] }
     else book
 
 -- why a command isn't in the book, if it isn't: by the book's answer, or since the book is full
-abbrev pub rejection_in : Kept → Command → Option Rejection
+abbrev pub rejection_in : BookState → Command → Option Rejection
 rejection_in book command =
     if nat_lt (length book.history) 1000000
     then rejection_of (answer book.reference book.history command)

@@ -11,7 +11,7 @@ use Rattle.giveup.specs.declared.status.Status.TheVariants.{Done, Refused}
 use Rattle.giveup.specs.declared.words.Task.{Task}
 use Rattle.giveup.specs.declared.words.Task.TheVariants.{Capture, Check, Fix, Replay}
 
--- a word that must stand behind a command
+-- a word that must come after a command
 abbrev pub needed : Text → Rule
 needed name = record (new_rule name) { required = true }
 
@@ -19,7 +19,7 @@ needed name = record (new_rule name) { required = true }
 abbrev pub check_shape : Shape
 check_shape = (new_app (codes "check")).top
 
--- the path of a script, behind the word `--script`
+-- the path of a script, after the word `--script`
 abbrev pub script_rule : Rule
 script_rule = record (new_rule (codes "FILE")) { long = Some (codes "script") }
 
@@ -35,7 +35,7 @@ replay_shape = (with_rule (new_app (codes "replay")) (needed (codes "REF"))).top
 abbrev pub program : App
 program = with_subcommand (with_subcommand (with_subcommand (new_app (codes "giveup")) check_shape) fix_shape) replay_shape
 
--- what words may ask for: trade capture, the check of a sheet, one session of a firm on the reference of a file, perhaps behind a script,
+-- what words may ask for: trade capture, the check of a sheet, one session of a firm on the reference of a file, perhaps after a script,
 -- or a script on such a reference
 pub data Wanted : Type 0 where
   Captures : Wanted

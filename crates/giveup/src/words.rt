@@ -28,7 +28,7 @@ pub enum Task<'a> {
     Capture,
     /// The check of a sheet.
     Check,
-    /// One session, of the firm of this name, on the reference of the file of this path, behind the script of a file, where one is named.
+    /// One session, of the firm of this name, on the reference of the file of this path, after the script of a file, where one is named.
     Fix {
         firm: &'a str,
         reference: &'a str,
@@ -40,7 +40,7 @@ pub enum Task<'a> {
     },
 }
 
-/// A word that must stand behind a command.
+/// A word that must come after a command.
 fn needed<'a>(alloc: Global, name: &'a str) -> Arg<'a>
     ensures rule { rule_of result ≡ needed name.entry.now }
     ensures local { result.global ≡ false }
@@ -91,7 +91,7 @@ fn replay_command<'a>(alloc: Global) -> Result<Command<'a>, AllocError>
     bare.arg(reference)
 }
 
-/// A command, and `fix` behind it.
+/// A command, and `fix` after it.
 fn with_fix<'a>(alloc: Global, command: Command<'a>) -> Result<Command<'a>, AllocError>
     ensures { IfOk result (λ with. app_of with ≡ with_subcommand (app_of command.entry) fix_shape) }
 {
@@ -104,7 +104,7 @@ fn with_fix<'a>(alloc: Global, command: Command<'a>) -> Result<Command<'a>, Allo
     }
 }
 
-/// A command, and `replay` behind it.
+/// A command, and `replay` after it.
 fn with_replay<'a>(alloc: Global, command: Command<'a>) -> Result<Command<'a>, AllocError>
     ensures { IfOk result (λ with. app_of with ≡ with_subcommand (app_of command.entry) replay_shape) }
 {

@@ -35,7 +35,7 @@ use Rattle.gu_book.specs.Accepted.{MayClaim, MayReverse, TakesIn}
 use Rattle.gu_book.specs.Answer.{State, answer, answer_in, first_standing, state_of}
 use Rattle.gu_book.specs.Beside.{IsBeside, IsKept, state_in}
 use Rattle.gu_book.specs.Effects.{HoldsMoved, SameEntries, UsesLess, UsesMore, UsesUnder}
-use Rattle.gu_book.specs.Limits.{is_under, path_behind, room_of}
+use Rattle.gu_book.specs.Limits.{is_under, path_after, room_of}
 use Rattle.gu_book.specs.Offers.{offers_of, standing_of}
 use Rattle.gu_book.specs.Reports.{reports_of}
 use Rattle.gu_book.specs.Met.{IsMetOffer}
@@ -116,15 +116,15 @@ seen-is reference history totals n offer report found row b seen there =
 
 -- a claim has room
 pub claim-room : (reference : Tables) (totals : Totals) (n : ℕ) (offer : Offer) (report : Terms) → IsSeen totals n offer report → MayClaim reference totals n → (k : ℕ) (d : LimitKey)
-    → k < length (path_behind reference offer) → left_in totals.offers n ≤ room_in totals.limits offer.group (slice_index_or (path_behind reference offer) k d)
+    → k < length (path_after reference offer) → left_in totals.offers n ≤ room_in totals.limits offer.group (slice_index_or (path_after reference offer) k d)
 claim-room reference totals n offer report seen may k d within =
     let history = may.may.history in
     let b = may.may.kept.beside in
     let f = claimable reference history may.firm n (in_order history may.may.kept.orderly) may.may.accepted in
     let same = (seen-is reference history totals n offer report f.1 f.0 b seen f.2.there).0 in
-    let Room : Offer → Type 0 = λ o. k < length (path_behind reference o) → left_in (standing_of history) n ≤ room_of reference history o.group (slice_index_or (path_behind reference o) k d) in
+    let Room : Offer → Type 0 = λ o. k < length (path_after reference o) → left_in (standing_of history) n ≤ room_of reference history o.group (slice_index_or (path_after reference o) k d) in
     let has = subst Room (sym same) (f.2.room k d) within in
-    let key = slice_index_or (path_behind reference offer) k d in
+    let key = slice_index_or (path_after reference offer) k d in
     omega (arith, has, ap (λ (rs : List Row). left_in rs n) b.offers, b.limits offer.group key, b.uses offer.group key)
 
 -- lots that are left of an open offer are there
@@ -201,7 +201,7 @@ key_at (key ∷ path) (suc k) d within = either-true (key_eq key (slice_index_or
 
 -- what is reversed was used
 pub reversal-used : (reference : Tables) (totals : Totals) (n : ℕ) (offer : Offer) (report : Terms) → IsSeen totals n offer report → MayReverse reference totals n → (k : ℕ) (d : LimitKey)
-    → k < length (path_behind reference offer) → today_in totals.offers n ≤ used_in totals.limits offer.group (slice_index_or (path_behind reference offer) k d)
+    → k < length (path_after reference offer) → today_in totals.offers n ≤ used_in totals.limits offer.group (slice_index_or (path_after reference offer) k d)
 reversal-used reference totals n offer report seen may k d within =
     let history = may.may.history in
     let b = may.may.kept.beside in
@@ -209,9 +209,9 @@ reversal-used reference totals n offer report seen may k d within =
     let row = f.0 in
     let there = f.2.there in
     let same = (seen-is reference history totals n offer report f.1 row b seen there).0 in
-    let key = slice_index_or (path_behind reference offer) k d in
-    let own : is_under reference offer.group key (record row { offer = offer }) ≡ true = rw (same_group-own offer.group, key_at (path_behind reference offer) k d within) refl in
-    let under : is_under reference offer.group key row ≡ true = ap (λ (o : Offer). same_group offer.group o.group && has_key (path_behind reference o) key) (sym same) ∙ own in
+    let key = slice_index_or (path_after reference offer) k d in
+    let own : is_under reference offer.group key (record row { offer = offer }) ≡ true = rw (same_group-own offer.group, key_at (path_after reference offer) k d within) refl in
+    let under : is_under reference offer.group key row ≡ true = ap (λ (o : Offer). same_group offer.group o.group && has_key (path_after reference o) key) (sym same) ∙ own in
     let counts = today-le-use_in reference (standing_of history) n row there.at offer.group key under in
     omega (arith, counts, today-is (standing_of history) n row there.at, ap (λ (rs : List Row). today_in rs n) b.offers, b.uses offer.group key)
 

@@ -26,7 +26,7 @@ use Rattle.gu_ref.specs.Tables.{Tables}
 use Rattle.gu_ref.specs.declared.accounts.Account.{Account}
 use Rattle.gu_ref.specs.declared.agreements.Agreement.{Agreement}
 use Rattle.gu_book.specs.Answer.{has_unknown_account, lacks_agreement}
-use Rattle.gu_book.specs.Limits.{path_behind}
+use Rattle.gu_book.specs.Limits.{path_after}
 use Rattle.gu_book.proofs.Facts.{some-is}
 use Rattle.gu_book.proofs.KnownAccounts.{all-found}
 
@@ -100,8 +100,8 @@ no_keys : IsDistinct key_eq []
 unfolding IsDistinct
 no_keys = tt
 
-pub path_behind-once : (reference : Tables) (offer : GivenUp) → IsDistinct key_eq (path_behind reference offer)
-path_behind-once reference offer = by (agreement_between reference offer.firm offer.account)
+pub path_after-once : (reference : Tables) (offer : GivenUp) → IsDistinct key_eq (path_after reference offer)
+path_after-once reference offer = by (agreement_between reference offer.firm offer.account)
   where
     by : (between : Option AgreementId) → IsDistinct key_eq (unwrap_or (option_and_then (path_of reference) between) [])
     by None = no_keys

@@ -16,7 +16,7 @@ use Rattle.gu_ref.specs.Tables.{Tables}
 use Rattle.gu_trades.specs.Reports.{report_of}
 use Rattle.gu_offers.specs.Rows.{Row, left_in, row_at}
 use Rattle.gu_book.specs.Answer.{State, answer_in, done_of, first_standing, given_up, lines_tests, report_tests, room_tests, tests_of}
-use Rattle.gu_book.specs.Limits.{path_behind}
+use Rattle.gu_book.specs.Limits.{path_after}
 
 -- the number of a test's refusal
 abbrev number : Bool × Refusal → ℕ
@@ -33,9 +33,9 @@ climbs-rooms room lots low [] few = tt
 climbs-rooms room lots low (key ∷ keys) few = (few, climbs-rooms room lots 15 keys (omega arith))
 
 climbs-claim : (reference : Tables) (state : State) (n : ℕ) (row : Option Row)
-    → Climbs 14 (option_map_or (λ (r : Row). room_tests (state.room r.offer.group) (left_in state.offers n) (path_behind reference r.offer)) row [])
+    → Climbs 14 (option_map_or (λ (r : Row). room_tests (state.room r.offer.group) (left_in state.offers n) (path_after reference r.offer)) row [])
 climbs-claim reference state n None = tt
-climbs-claim reference state n (Some row) = climbs-rooms (state.room row.offer.group) (left_in state.offers n) 14 (path_behind reference row.offer) (omega arith)
+climbs-claim reference state n (Some row) = climbs-rooms (state.room row.offer.group) (left_in state.offers n) 14 (path_after reference row.offer) (omega arith)
 
 climbs-side : (reference : Tables) (state : State) (report : Day → Report) (given today : Option Day)
     → Climbs 1 (option_map_or (λ day. report_tests reference state.reports (report day) given) today [])
@@ -61,7 +61,7 @@ tests_climb reference state (Claim firm offer) =
 tests_climb reference state (Refuse firm offer why) = (omega arith, (omega arith, (omega arith, (omega arith, tt))))
 tests_climb reference state (Reverse firm offer) = (omega arith, (omega arith, (omega arith, (omega arith, (omega arith, tt)))))
 
--- behind a number all are at least as great
+-- after a number all are at least as great
 above : (low : ℕ) (tests : List (Bool × Refusal)) → Climbs low tests → (place : ℕ) (d : Bool × Refusal) → place < length tests → low ≤ number (get_or tests place d)
 above low [] up place d within = absurd (omega arith)
 above low (test ∷ tests) up zero d within = up.0
@@ -78,7 +78,7 @@ pairs low (test ∷ tests) up (suc i) (suc j) d less within = pairs (number test
 pub tests_ascend : (reference : Tables) (state : State) (command : Command) → AllPairs (λ a b. number_of a.1 ≤ number_of b.1) (tests_of reference state command)
 tests_ascend reference state command = pairs 0 (tests_of reference state command) (tests_climb reference state command)
 
--- a test behind a number is at least as great
+-- a test after a number is at least as great
 at_least : (low : ℕ) (tests : List (Bool × Refusal)) → Climbs low tests → (place : ℕ) (test : Bool × Refusal) → slice_get tests place ≡ Some test → low ≤ number test
 at_least low [] up place test at = cc
 at_least low (first ∷ tests) up zero test at =

@@ -1,4 +1,4 @@
--- What is kept beside no history, and behind what was refused.
+-- What is kept beside no history, and after what was refused.
 use Rattle.std.proofs.Common.{◌≡◌, true, false, ◌<◌, ◌++◌, List, [], ◌∷◌, length, None, refl, sym, ap, ◌∙◌, arith, subst}
 use Rattle.gu_terms.specs.declared.command.Command.{Command}
 use Rattle.gu_terms.specs.declared.entry.Entry.{Entry}

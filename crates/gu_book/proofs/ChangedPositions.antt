@@ -14,7 +14,7 @@ use Rattle.gu_positions.specs.Changes.{lots_at}
 use Rattle.gu_offers.specs.Changes.{changed, closed, next_day, offered, reversed, taken, with_lines}
 use Rattle.gu_offers.specs.Rows.{Row, row_at}
 use Rattle.gu_book.specs.Orderly.{AreWithin, IsCovered}
-use Rattle.gu_book.specs.Positions.{held_in, is_from, is_on, moved_into, moved_out, report_behind}
+use Rattle.gu_book.specs.Positions.{held_in, is_from, is_on, moved_into, moved_out, report_after}
 use Rattle.gu_book.proofs.ChangedSums.{moved_out-le-traded, sum-changed, sum-with_lines, either-nothing}
 
 -- lots on a side of an instrument, in whatever order the three are asked
@@ -59,15 +59,15 @@ module _ (reports : List Report) (rows : List Row) (n : ℕ) (row : Row) (at : r
   out-reversed within = omega (arith, sum-changed (λ (r : Row). if out_of_it r then r.moved else 0) rows n row reversed at, fewer (out_of_it row) row.moved row.today within)
 
   -- the account that the lots go to, by the report
-  into-at : (r : Report) (lots : ℕ) → report_behind reports row ≡ Some r → (if into_it row then lots else 0) ≡ lots_at r.side row.offer.account r.symbol lots side account symbol
+  into-at : (r : Report) (lots : ℕ) → report_after reports row ≡ Some r → (if into_it row then lots else 0) ≡ lots_at r.side row.offer.account r.symbol lots side account symbol
   into-at r lots behind = rw behind (turned (same_side r.side side) (same_symbol r.symbol symbol) (same_account row.offer.account account) lots)
 
   -- and the one that they come from
-  out-at : (r : Report) (lots : ℕ) → report_behind reports row ≡ Some r → (if out_of_it row then lots else 0) ≡ lots_at r.side r.account r.symbol lots side account symbol
+  out-at : (r : Report) (lots : ℕ) → report_after reports row ≡ Some r → (if out_of_it row then lots else 0) ≡ lots_at r.side r.account r.symbol lots side account symbol
   out-at r lots behind = rw behind (turned (same_side r.side side) (same_symbol r.symbol symbol) (same_account r.account account) lots)
 
   -- where lots are taken of an offer, they leave the account of its report and come to its own
-  pub held_in-taken : (r : Report) (lots : ℕ) → report_behind reports row ≡ Some r → IsCovered reports (changed rows n (taken lots)) → AreWithin (changed rows n (taken lots))
+  pub held_in-taken : (r : Report) (lots : ℕ) → report_after reports row ≡ Some r → IsCovered reports (changed rows n (taken lots)) → AreWithin (changed rows n (taken lots))
       → held_in reports (changed rows n (taken lots)) side account symbol
       ≡ held_in reports rows side account symbol - lots_at r.side r.account r.symbol lots side account symbol + lots_at r.side row.offer.account r.symbol lots side account symbol
   held_in-taken r lots behind covered within =
@@ -81,13 +81,13 @@ module _ (reports : List Report) (rows : List Row) (n : ℕ) (row : Row) (at : r
       )
 
   -- which has them
-  pub held_in-has : (r : Report) (lots : ℕ) → report_behind reports row ≡ Some r → IsCovered reports (changed rows n (taken lots)) → AreWithin (changed rows n (taken lots))
+  pub held_in-has : (r : Report) (lots : ℕ) → report_after reports row ≡ Some r → IsCovered reports (changed rows n (taken lots)) → AreWithin (changed rows n (taken lots))
       → lots_at r.side r.account r.symbol lots side account symbol ≤ held_in reports rows side account symbol
   held_in-has r lots behind covered within =
       omega (arith, out-taken lots, out-at r lots behind, moved_out-le-traded reports (changed rows n (taken lots)) side account symbol covered within)
 
   -- where they are taken back, they leave its own account and come to that of its report
-  pub held_in-reversed : (r : Report) → report_behind reports row ≡ Some r → IsCovered reports rows → AreWithin rows → row.today ≤ row.moved
+  pub held_in-reversed : (r : Report) → report_after reports row ≡ Some r → IsCovered reports rows → AreWithin rows → row.today ≤ row.moved
       → held_in reports (changed rows n reversed) side account symbol
       ≡ held_in reports rows side account symbol - lots_at r.side row.offer.account r.symbol row.today side account symbol + lots_at r.side r.account r.symbol row.today side account symbol
   held_in-reversed r behind covered within moved =
@@ -101,7 +101,7 @@ module _ (reports : List Report) (rows : List Row) (n : ℕ) (row : Row) (at : r
       )
 
   -- which has them
-  pub held_in-moved : (r : Report) → report_behind reports row ≡ Some r → IsCovered reports rows → AreWithin rows → row.today ≤ row.moved
+  pub held_in-moved : (r : Report) → report_after reports row ≡ Some r → IsCovered reports rows → AreWithin rows → row.today ≤ row.moved
       → lots_at r.side row.offer.account r.symbol row.today side account symbol ≤ held_in reports rows side account symbol
   held_in-moved r behind covered within moved =
       omega (arith, into-reversed moved, into-at r row.today behind, moved_out-le-traded reports rows side account symbol covered within)

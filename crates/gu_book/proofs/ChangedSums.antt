@@ -17,7 +17,7 @@ use Rattle.gu_ref.specs.Tables.{Tables}
 use Rattle.gu_limits.specs.Changes.{lots_under}
 use Rattle.gu_offers.specs.Changes.{changed, closed, next_day, offered, reversed, taken, with_lines}
 use Rattle.gu_offers.specs.Rows.{Row, counted_of, row_at}
-use Rattle.gu_book.specs.Limits.{is_under, path_behind, use_in}
+use Rattle.gu_book.specs.Limits.{is_under, path_after, use_in}
 use Rattle.gu_book.specs.Orderly.{AreWithin, IsCovered}
 use Rattle.gu_book.specs.Positions.{is_from, is_on, moved_out, traded}
 use Rattle.gu_book.proofs.Holding.{given_up_by, given_up-le-traded}
@@ -32,7 +32,7 @@ sum-changed f rows (suc place) row change at =
     let set : sum_by f (changed rows (suc place) change) ≡ sum_by f (slice_set rows place (change row)) = rw at refl in
     omega (arith, set, sum_by-set f rows place (change row) row within, ap f here)
 
--- a sum over offers behind which those of lines come, of which each adds nothing
+-- a sum over offers after which those of lines come, of which each adds nothing
 pub sum-with_lines : (f : Row → ℕ) (rows : List Row) (firm : FirmId) (report : Id) (group : Group) (lines : List Line)
     → ((line : Line) → f (offered firm report group line) ≡ 0) → sum_by f (with_lines rows firm report group lines) ≡ sum_by f rows
 sum-with_lines f rows firm report group lines nothing =
@@ -50,7 +50,7 @@ either-nothing false = refl
 
 -- lots that were taken of an offer count under the keys of its path
 pub use_in-taken : (reference : Tables) (rows : List Row) (n : ℕ) (row : Row) (lots : ℕ) → row_at rows n ≡ Some row → (group : Group) (key : LimitKey)
-    → use_in reference (changed rows n (taken lots)) group key ≡ use_in reference rows group key + lots_under row.offer.group (path_behind reference row.offer) lots group key
+    → use_in reference (changed rows n (taken lots)) group key ≡ use_in reference rows group key + lots_under row.offer.group (path_after reference row.offer) lots group key
 use_in-taken reference rows n row lots at group key =
     omega (arith, sum-changed (λ (r : Row). if is_under reference group key r then r.today else 0) rows n row (taken lots) at, more (is_under reference group key row) row.today lots)
   where
@@ -60,7 +60,7 @@ use_in-taken reference rows n row lots at group key =
 
 -- lots that were moved today and go back count no longer
 pub use_in-reversed : (reference : Tables) (rows : List Row) (n : ℕ) (row : Row) → row_at rows n ≡ Some row → (group : Group) (key : LimitKey)
-    → use_in reference (changed rows n reversed) group key + lots_under row.offer.group (path_behind reference row.offer) row.today group key ≡ use_in reference rows group key
+    → use_in reference (changed rows n reversed) group key + lots_under row.offer.group (path_after reference row.offer) row.today group key ≡ use_in reference rows group key
 use_in-reversed reference rows n row at group key =
     omega (arith, sum-changed (λ (r : Row). if is_under reference group key r then r.today else 0) rows n row reversed at, either-nothing (is_under reference group key row))
 

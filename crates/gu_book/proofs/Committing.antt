@@ -8,12 +8,12 @@ use Rattle.gu_terms.specs.declared.takes.Take.{Take}
 use Rattle.gu_ref.specs.Tables.{Tables}
 use Rattle.gu_flow.specs.Proposals.{ProposedSweep}
 use Rattle.gu_view.specs.View.{GroupView}
-use Rattle.gu_view.specs.declared.view.Offer.{Offer}
+use Rattle.gu_view.specs.declared.view.ViewOffer.{ViewOffer}
 use Rattle.gu_book.specs.Beside.{IsAccounted, IsKeptLegal, IsShown}
 use Rattle.gu_book.specs.Commits.{IsCurrent, sweep_of}
 use Rattle.gu_book.specs.Counted.{is_touched, version_in}
 use Rattle.gu_book.specs.Effects.{SameAnswers}
-use Rattle.gu_book.specs.Kept.{Kept}
+use Rattle.gu_book.specs.BookState.{BookState}
 use Rattle.gu_book.specs.Legal.{StandsLast}
 use Rattle.gu_book.specs.Moving.{HasRows, MayMove, MovesAll}
 use Rattle.gu_book.specs.Sweeps.{IsSweepOf, MaySweep}
@@ -28,17 +28,17 @@ use Rattle.gu_book.proofs.Parts.{kept-whole}
 use Rattle.gu_book.proofs.SweptOffers.{sweep-moves}
 
 -- the sweep of a current proposal may follow
-pub may-sweep : (book : Kept) (proposal : ProposedSweep) → IsCurrent book proposal.view → IsSweepOf proposal.view (sweep_of proposal) → MaySweep book.reference book.history (sweep_of proposal)
+pub may-sweep : (book : BookState) (proposal : ProposedSweep) → IsCurrent book proposal.view → IsSweepOf proposal.view (sweep_of proposal) → MaySweep book.reference book.history (sweep_of proposal)
 may-sweep book proposal current right = record { known = current.known; sweeps = subst (λ (v : GroupView). IsSweepOf v (sweep_of proposal)) current.same right }
 
 -- its takes may be moved
-pub may-move : (book : Kept) (proposal : ProposedSweep) (old mid : Totals) (versions : Versions) (view : GroupView) (takes : List Take) → IsKeptLegal book.reference book.history old versions
+pub may-move : (book : BookState) (proposal : ProposedSweep) (old mid : Totals) (versions : Versions) (view : GroupView) (takes : List Take) → IsKeptLegal book.reference book.history old versions
     → IsCurrent book proposal.view → IsSweepOf proposal.view (sweep_of proposal) → SameAnswers old mid → AllByRecursion (λ (t : Take). HasRows mid t.offer) proposal.takes → view ≡ proposal.view → takes ≡ proposal.takes
     → MayMove book.reference mid view.offers takes
 may-move book proposal old mid versions view takes kept current right same made of_view are =
     let may = sweep-moves book.reference book.history mid (sweep_of proposal) (still-kept book.reference book.history old mid kept.kept same) (may-sweep book proposal current right).sweeps made in
     let shown = ap (λ (v : GroupView). v.offers) (of_view ∙ current.same) in
-    subst (λ (offers : List Offer). MayMove book.reference mid offers takes) (sym shown)
+    subst (λ (offers : List ViewOffer). MayMove book.reference mid offers takes) (sym shown)
     (subst (MayMove book.reference mid (offers_shown book.reference book.history proposal.view.group)) (sym are) may)
 
 -- where a growth was refused, all stays
@@ -54,7 +54,7 @@ legal-still reference history old mid old_counts new_counts kept same known days
 }
 
 -- the history with the sweep
-pub legal-swept : (book : Kept) (proposal : ProposedSweep) (mid new : Totals) (counts new_counts : Versions) → IsKeptLegal book.reference book.history mid counts → IsCurrent book proposal.view
+pub legal-swept : (book : BookState) (proposal : ProposedSweep) (mid new : Totals) (counts new_counts : Versions) → IsKeptLegal book.reference book.history mid counts → IsCurrent book proposal.view
     → IsSweepOf proposal.view (sweep_of proposal) → MovesAll book.reference mid new proposal.takes → new_counts.days ≤ counts.days + 1
     → ((group : Group) → version_in new_counts group ≡ (if is_touched (Only proposal.view.group) group then version_in counts group + 1 else version_in counts group))
     → IsKeptLegal book.reference (book.history ++ Swept (sweep_of proposal) ∷ []) new new_counts
@@ -69,6 +69,6 @@ legal-swept book proposal mid new counts new_counts kept current right moves day
     }
 
 -- in which it stands last
-pub swept-last : (book : Kept) (proposal : ProposedSweep) (totals : Totals) (versions : Versions) → IsKeptLegal book.reference book.history totals versions → IsCurrent book proposal.view
+pub swept-last : (book : BookState) (proposal : ProposedSweep) (totals : Totals) (versions : Versions) → IsKeptLegal book.reference book.history totals versions → IsCurrent book proposal.view
     → IsSweepOf proposal.view (sweep_of proposal) → StandsLast book.reference (length book.history + 1) (Swept (sweep_of proposal))
 swept-last book proposal totals versions kept current right = stands_last book.reference book.history (Swept (sweep_of proposal)) kept.legal current.room (may-sweep book proposal current right)

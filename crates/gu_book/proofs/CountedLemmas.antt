@@ -28,7 +28,7 @@ use Rattle.gu_terms.specs.declared.report.Report.{Report}
 use Rattle.gu_ref.specs.Tables.{Tables}
 use Rattle.gu_offers.specs.Rows.{Row}
 use Rattle.gu_book.specs.Answer.{answer, done_of, given_up, state_of, tests_of}
-use Rattle.gu_book.specs.Counted.{AreVersions, IsCountAt, group_behind, group_named, is_touched, own_in, touched_by, touched_in, version_in}
+use Rattle.gu_book.specs.Counted.{AreVersions, IsCountAt, group_after, group_named, is_touched, own_in, touched_by, touched_in, version_in}
 use Rattle.gu_book.specs.Offers.{offers_of, standing_from, standing_of}
 use Rattle.gu_book.specs.Versions.{is_of_group, touches}
 use Rattle.gu_book.specs.declared.versions.Touched.{Touched}
@@ -97,9 +97,9 @@ version_in-touched old place group n at found unique other =
 -- ---- which groups an entry touches
 
 -- the offer of a number is of the group of its row
-group_behind-is : (history : List Entry) (group : Group) (n : ℕ) → is_touched (group_behind (standing_of history) n) group ≡ is_of_group history group n
-group_behind-is history group zero = refl
-group_behind-is history group (suc place) = go 1 (offers_of history) place
+group_after-is : (history : List Entry) (group : Group) (n : ℕ) → is_touched (group_after (standing_of history) n) group ≡ is_of_group history group n
+group_after-is history group zero = refl
+group_after-is history group (suc place) = go 1 (offers_of history) place
   where
     go : (m : ℕ) (offers : List Offer) (at : ℕ)
         → is_touched (option_map_or (λ (row : Row). Only row.offer.group) (slice_get (standing_from history m offers) at) Nothing) group
@@ -126,9 +126,9 @@ accepted-touches reference history (SetLimit at key lots) group = refl
 accepted-touches reference history (ReportSide firm id match_id symbol lots price day side account) group = refl
 accepted-touches reference history (GiveUp firm id report lines) group =
     give_up-touches history firm id report lines group (length (standing_of history) + 1) (length lines) (given_up reference (state_of reference history) firm report)
-accepted-touches reference history (Claim firm offer) group = group_behind-is history group offer
-accepted-touches reference history (Refuse firm offer why) group = group_behind-is history group offer
-accepted-touches reference history (Reverse firm offer) group = group_behind-is history group offer
+accepted-touches reference history (Claim firm offer) group = group_after-is history group offer
+accepted-touches reference history (Refuse firm offer why) group = group_after-is history group offer
+accepted-touches reference history (Reverse firm offer) group = group_after-is history group offer
 
 denied-touches : (history : List Entry) (command : Command) (why : Refusal) (group : Group) → false ≡ touches history group (Asked command (Denied why))
 denied-touches history (OpenDay day) why group = refl

@@ -6,7 +6,7 @@ use Rattle.std.proofs.lemmas.List.{append_cancel_left, drop_more, take_more}
 use Rattle.std.proofs.lemmas.List.Elements.{filter_map-append}
 use Rattle.gu_terms.proofs.Gathered.{filter_map-last}
 
--- what is given by a list, by the items before one, the item, and those behind it
+-- what is given by a list, by the items before one, the item, and those after it
 filter_map-at : {X Y : Type 0} (given : X → Option Y) (items : List X) (i : ℕ) (d : X) → i < length items
     → filter_map given items ≡ filter_map given (take i items) ++ (option_to_list (given (get_or items i d)) ++ filter_map given (drop (i + 1) items))
 filter_map-at {X} {Y} given items i d within =

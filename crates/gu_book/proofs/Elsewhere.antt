@@ -31,7 +31,7 @@ use Rattle.gu_offers.specs.declared.open_offer.OpenOffer.{OpenOffer}
 use Rattle.gu_view.specs.Check.{has_offer}
 use Rattle.gu_view.specs.View.{keys_of}
 use Rattle.gu_book.specs.Legal.{MayFollow}
-use Rattle.gu_book.specs.Limits.{is_under, limit_of, limit_set_by, path_behind, room_of, use_in, use_of}
+use Rattle.gu_book.specs.Limits.{is_under, limit_of, limit_set_by, path_after, room_of, use_in, use_of}
 use Rattle.gu_book.specs.Offers.{closes, given_back_by, is_shut, lines_by, moved_of, offers_of, standing, standing_from, standing_of, taken_by}
 use Rattle.gu_book.specs.Reports.{entries_today, opened_day}
 use Rattle.gu_book.specs.Sweeps.{MaySweep}
@@ -60,7 +60,7 @@ standing-spared history entry n offer none spared =
     λ i. record { offer = offer; moved = moved i; today = today i; is_shut = shut i }
 
 module _ (group : Group) where
-  -- rows of which those of the group are the same, with more of other groups behind them
+  -- rows of which those of the group are the same, with more of other groups after them
   abbrev pub Alike : List Row → List Row → Type 0
   Alike [] [] = Unit {0}
   Alike [] (more ∷ others) = (same_group more.offer.group group ≡ false) × Alike [] others
@@ -72,7 +72,7 @@ module _ (group : Group) where
   AreSpared entry m [] = Unit {0}
   AreSpared entry m (offer ∷ offers) = (same_group offer.group group ≡ true → IsSpared entry m) × AreSpared entry (m + 1) offers
 
-  -- offers that stand, and those of one more entry behind them
+  -- offers that stand, and those of one more entry after them
   alike-standing : (history : List Entry) (entry : Entry) (m : ℕ) (offers made : List Offer) → opened_day entry ≡ None → AreSpared entry m offers
       → AllByRecursion (λ (o : Offer). same_group o.group group ≡ false) made → Alike (standing_from history m offers) (standing_from (history ++ entry ∷ []) m (offers ++ made))
   alike-standing history entry m [] [] none spared others = tt
@@ -167,7 +167,7 @@ module _ (group : Group) where
 
 -- ---- versions
 
--- what touches a group behind one more entry
+-- what touches a group after one more entry
 touching_after-push : (group : Group) (before later : List Entry) (entry : Entry)
     → touching_after before group (later ++ entry ∷ []) ≡ touching_after before group later ++ option_to_list (if touches (before ++ later) group entry then Some (length (before ++ later) + 1) else None)
 touching_after-push group before [] entry =
@@ -271,7 +271,7 @@ stands_in group m (row ∷ rows) reference n has = by (stands_in group (m + 1) r
     by more true is true has = of (agreement_between reference row.offer.firm row.offer.account) has
       where
         of : (found : Option AgreementId)
-            → has_offer (cons_option (option_map (λ agreement. record { number = m; lots = left_of row; agreement = agreement; path = path_behind reference row.offer }) found) (filter_map (shown reference) (open_from group (m + 1) rows))) n ≡ true
+            → has_offer (cons_option (option_map (λ agreement. record { number = m; lots = left_of row; agreement = agreement; path = path_after reference row.offer }) found) (filter_map (shown reference) (open_from group (m + 1) rows))) n ≡ true
             → (place : ℕ) × (r : Row) × (n ≡ m + place) × (slice_get (row ∷ rows) place ≡ Some r) × (same_group r.offer.group group ≡ true)
         of None has = later (more has)
         of (Some agreement) has = first (m == n) refl has

@@ -15,9 +15,9 @@ use Rattle.gu_ref.specs.Tables.{Tables}
 use Rattle.gu_offers.specs.Rows.{Row, left_in, left_of, row_at, today_in}
 use Rattle.gu_book.specs.Accepted.{IsAccepted}
 use Rattle.gu_book.specs.Answer.{done_of, room_tests, state_of, tests_of}
-use Rattle.gu_book.specs.Limits.{path_behind, room_of}
+use Rattle.gu_book.specs.Limits.{path_after, room_of}
 use Rattle.gu_book.specs.Offers.{standing_of}
-use Rattle.gu_book.specs.Positions.{report_behind}
+use Rattle.gu_book.specs.Positions.{report_after}
 use Rattle.gu_book.specs.Reports.{reports_of}
 use Rattle.gu_book.proofs.InOrder.{IsInOrder}
 use Rattle.gu_book.proofs.OrderlyLemmas.{all-at}
@@ -34,14 +34,14 @@ some-is (Some x) e = (x, refl)
 -- an offer that is there, with its report
 pub record IsThere (history : List Entry) (n : ℕ) (row : Row) (report : Report) : Type 0 where
   pub at : row_at (standing_of history) n ≡ Some row
-  pub behind : report_behind (reports_of history) row ≡ Some report
+  pub behind : report_after (reports_of history) row ≡ Some report
   pub within : row.moved ≤ row.offer.lots
 
 pub there : (history : List Entry) (n : ℕ) → IsInOrder history → is_none (row_at (standing_of history) n) ≡ false → (row : Row) × (report : Report) × IsThere history n row report
 there history n orderly some =
     let found = some-of (row_at (standing_of history) n) some in
     let row = found.0 in
-    let behind = some-is (report_behind (reports_of history) row) (all-at (λ r. is_some (report_behind (reports_of history) r) ≡ true) (standing_of history) n row found.1 orderly.found) in
+    let behind = some-is (report_after (reports_of history) row) (all-at (λ r. is_some (report_after (reports_of history) r) ≡ true) (standing_of history) n row found.1 orderly.found) in
     (row, behind.0, record { at = found.1; behind = behind.1; within = all-at (λ r. r.moved ≤ r.offer.lots) (standing_of history) n row found.1 orderly.within })
 
 -- what is left of it
@@ -75,8 +75,8 @@ pub record MayBeClaimed (reference : Tables) (history : List Entry) (n : ℕ) (r
   pub there : IsThere history n row report
   pub stands : row.is_shut ≡ false
   pub less : row.moved + left_in (standing_of history) n ≤ row.offer.lots
-  pub room : (k : ℕ) (d : LimitKey) → k < length (path_behind reference row.offer)
-      → left_in (standing_of history) n ≤ room_of reference history row.offer.group (slice_index_or (path_behind reference row.offer) k d)
+  pub room : (k : ℕ) (d : LimitKey) → k < length (path_after reference row.offer)
+      → left_in (standing_of history) n ≤ room_of reference history row.offer.group (slice_index_or (path_after reference row.offer) k d)
 
 pub claimable : (reference : Tables) (history : List Entry) (firm : FirmId) (n : ℕ) → IsInOrder history → IsAccepted reference history (Claim firm n)
     → (row : Row) × (report : Report) × MayBeClaimed reference history n row report
@@ -90,10 +90,10 @@ claimable reference history firm n orderly is =
     let row = one.0 in
     let found = one.2 in
     let some = open-left row left found.within (left-is (standing_of history) n row found.at) (passes 3 (left == 0) OfferClosed refl) in
-    let path = path_behind reference row.offer in
+    let path = path_after reference row.offer in
     let room = room_of reference history row.offer.group in
-    let tail : option_map_or (λ (r : Row). room_tests (room_of reference history r.offer.group) left (path_behind reference r.offer)) (row_at (standing_of history) n) [] ≡ room_tests room left path =
-    ap (λ (o : Option Row). option_map_or (λ (r : Row). room_tests (room_of reference history r.offer.group) left (path_behind reference r.offer)) o []) found.at in (
+    let tail : option_map_or (λ (r : Row). room_tests (room_of reference history r.offer.group) left (path_after reference r.offer)) (row_at (standing_of history) n) [] ≡ room_tests room left path =
+    ap (λ (o : Option Row). option_map_or (λ (r : Row). room_tests (room_of reference history r.offer.group) left (path_after reference r.offer)) o []) found.at in (
       row,
       one.1,
       record {

@@ -28,7 +28,7 @@ reports_after-push before (first ∷ later) entry =
     ∙ ap (λ (all : List Entry). made ++ (reports_after (before ++ first ∷ []) later ++ option_to_list (report_on (open_day all) entry))) (append_assoc before (first ∷ []) later)
     ∙ sym (append_assoc made (reports_after (before ++ first ∷ []) later) (option_to_list (report_on (open_day (before ++ first ∷ later)) entry)))
 
--- the reports behind one more entry
+-- the reports after one more entry
 pub reports_of-push : (before : List Entry) (entry : Entry) → reports_of (before ++ entry ∷ []) ≡ reports_of before ++ option_to_list (report_on (open_day before) entry)
 reports_of-push before entry = reports_after-push [] before entry
 

@@ -18,7 +18,7 @@ use Rattle.gu_trades.specs.Reports.{is_by}
 use Rattle.gu_book.specs.Laws.{GivesUpTrade}
 use Rattle.gu_book.specs.Offers.{offers_of, standing_from, standing_of}
 use Rattle.gu_book.specs.Orderly.{AreWithin, IsCovered}
-use Rattle.gu_book.specs.Positions.{LongIsShort, held_in, is_from, is_on, moved_into, moved_out, report_behind, traded}
+use Rattle.gu_book.specs.Positions.{LongIsShort, held_in, is_from, is_on, moved_into, moved_out, report_after, traded}
 use Rattle.gu_book.specs.Reports.{reports_of}
 use Rattle.gu_book.proofs.ChangedSums.{moved_out-le-traded}
 use Rattle.gu_book.proofs.GivenTrades.{IsSourced, alone-if, traded_on}
@@ -28,7 +28,7 @@ use Rattle.gu_book.proofs.KnownAccounts.{all-found, is_there}
 pub record IsBetween (reference : Tables) (reports : List Report) (row : Row) : Type 0 where
   pub into : is_there reference row.offer.account
   pub report : Report
-  pub behind : report_behind reports row ≡ Some report
+  pub behind : report_after reports row ≡ Some report
   pub from : is_there reference report.account
 
 -- each offer of a history is such

@@ -15,7 +15,7 @@ use Rattle.gu_trades.specs.Matching.{is_of_trade}
 use Rattle.gu_trades.specs.Reports.{is_by}
 use Rattle.gu_offers.specs.Rows.{Row, counted_of, counted_under, is_of_report}
 use Rattle.gu_book.specs.Orderly.{IsCovered, lots_traded}
-use Rattle.gu_book.specs.Positions.{brought, is_from, is_on, report_behind, traded}
+use Rattle.gu_book.specs.Positions.{brought, is_from, is_on, report_after, traded}
 
 -- a report is on this side of this instrument, for this account
 abbrev is_at : Side → AccountId → Symbol → Report → Bool
@@ -48,9 +48,9 @@ three false a s m n h = omega arith
 -- what an offer holds is held of one of the reports
 given-le : (reports : List Report) (side : Side) (account : AccountId) (symbol : Symbol) (row : Row)
     → given_up_by reports side account symbol row ≤ sum_by (held_of_report side account symbol row) reports
-given-le reports side account symbol row = by (report_behind reports row) refl
+given-le reports side account symbol row = by (report_after reports row) refl
   where
-    by : (found : Option Report) → report_behind reports row ≡ found → given_up_by reports side account symbol row ≤ sum_by (held_of_report side account symbol row) reports
+    by : (found : Option Report) → report_after reports row ≡ found → given_up_by reports side account symbol row ≤ sum_by (held_of_report side account symbol row) reports
     by None e = rw e (omega arith)
     by (Some r) e =
         rw e

@@ -17,7 +17,7 @@ use Rattle.gu_ref.specs.Listed.{account_in}
 use Rattle.gu_ref.specs.declared.accounts.Account.{Account}
 use Rattle.gu_positions.specs.Rows.{Row, has_row, is_of, lots_in, lots_of, lots_on, open_interest_in, same_row}
 use Rattle.gu_book.specs.Beside.{IsAccounted, IsBeside}
-use Rattle.gu_book.specs.Kept.{Kept}
+use Rattle.gu_book.specs.BookState.{BookState}
 use Rattle.gu_book.specs.Positions.{LongIsShort, held_of, open_interest_of}
 use Rattle.gu_book.specs.declared.totals.Totals.{Totals}
 use Rattle.gu_book.proofs.Spoken.{either-true}
@@ -41,7 +41,7 @@ module _ (counted : Row → ℕ) where
   abbrev counted_at : AccountId → Symbol → Row → ℕ
   counted_at account symbol r = if is_of account symbol r then counted r else 0
 
-  -- behind its row an account has no other
+  -- after its row an account has no other
   nothing-more : (account : AccountId) (symbol : Symbol) (r : Row) (rows : List Row) → is_of account symbol r ≡ true → AllByRecursion (λ other. same_row r other ≡ false) rows
       → sum_by (counted_at account symbol) rows ≡ 0
   nothing-more account symbol r [] own apart = refl
@@ -141,7 +141,7 @@ net-in rows account symbol = by (find (is_of account symbol) rows)
     by (Some r) = refl
 
 -- the open interest by rows is that by accounts
-pub interest-is : (book : Kept) (totals : Totals) (symbol : Symbol) → IsDistinct (λ a b. same_account a.account b.account) book.reference.accounts → IsDistinct same_row totals.positions
+pub interest-is : (book : BookState) (totals : Totals) (symbol : Symbol) → IsDistinct (λ a b. same_account a.account b.account) book.reference.accounts → IsDistinct same_row totals.positions
     → IsBeside book.reference book.history totals → IsAccounted book.reference totals → open_interest_in totals.positions symbol ≡ open_interest_of book symbol
 interest-is book totals symbol accounts once beside known =
     let rows = totals.positions in
@@ -151,7 +151,7 @@ interest-is book totals symbol accounts once beside known =
     (λ a. net-in rows a.account symbol ∙ (λ i. beside.positions Buy a.account symbol i - beside.positions Sell a.account symbol i))
 
 -- the lots that the rows have on a side are those that the accounts hold there
-lots-are : (book : Kept) (totals : Totals) (side : Side) (symbol : Symbol) → IsDistinct (λ a b. same_account a.account b.account) book.reference.accounts → IsDistinct same_row totals.positions
+lots-are : (book : BookState) (totals : Totals) (side : Side) (symbol : Symbol) → IsDistinct (λ a b. same_account a.account b.account) book.reference.accounts → IsDistinct same_row totals.positions
     → IsBeside book.reference book.history totals → IsAccounted book.reference totals
     → lots_on totals.positions side symbol ≡ sum_by (λ (a : Account). held_of book.history side a.account symbol) book.reference.accounts
 lots-are book totals side symbol accounts once beside known =
@@ -162,7 +162,7 @@ lots-are book totals side symbol accounts once beside known =
     (λ a. beside.positions side a.account symbol)
 
 -- as many are held long as short
-pub long_is_short : (book : Kept) (totals : Totals) → IsDistinct (λ a b. same_account a.account b.account) book.reference.accounts → IsDistinct same_row totals.positions
+pub long_is_short : (book : BookState) (totals : Totals) → IsDistinct (λ a b. same_account a.account b.account) book.reference.accounts → IsDistinct same_row totals.positions
     → IsBeside book.reference book.history totals → IsAccounted book.reference totals → LongIsShort book
 long_is_short book totals accounts once beside known symbol =
     sym (lots-are book totals Buy symbol accounts once beside known) ∙ known.even symbol ∙ lots-are book totals Sell symbol accounts once beside known

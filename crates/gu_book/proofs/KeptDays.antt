@@ -1,4 +1,4 @@
--- What is kept beside a history behind an opening, a limit, and a give-up.
+-- What is kept beside a history after an opening, a limit, and a give-up.
 use Rattle.std.proofs.Common.{◌≡◌, ℕ, ◌-◌, ◌≤◌, ◌&&◌, ◌||◌, ◌++◌, Bool, true, false, List, [], ◌∷◌, length, map, Option, Some, is_some, unwrap_or, refl, sym, ap, ◌∙◌, if◌then◌else◌, inl, inr}
 use Rattle.std.proofs.lemmas.Bool.{cases_Bool}
 use Rattle.std.proofs.lemmas.List.Folds.{list_any-append}

@@ -1,4 +1,4 @@
--- What is kept beside a history behind an entry that changes one offer.
+-- What is kept beside a history after an entry that changes one offer.
 use Rattle.std.proofs.Common.{◌≡◌, ℕ, ◌+◌, ◌-◌, ◌≤◌, ◌++◌, false, List, [], ◌∷◌, Some, refl, sym, ap, ◌∙◌, arith}
 use Rattle.gu_terms.specs.declared.alloc_reject.AllocReject.{AllocReject}
 use Rattle.gu_terms.specs.declared.entry.Entry.{Entry}

@@ -1,4 +1,4 @@
--- What is kept beside a history behind a report.
+-- What is kept beside a history after a report.
 use Rattle.std.proofs.Common.{◌≡◌, ℕ, ◌+◌, ◌≤◌, ◌++◌, Bool, true, false, List, [], ◌∷◌, Option, Some, None, is_some, unwrap_or, refl, sym, ap, ◌∙◌, arith, length-append, if◌then◌else◌, inl, inr}
 use Rattle.std.specs.List.{AllByRecursion, find}
 use Rattle.std.specs.Option.{option_or, option_to_list}
@@ -28,7 +28,7 @@ use Rattle.gu_book.specs.Effects.{HoldsMore, lots_of_reports, made_a_trade}
 use Rattle.gu_book.specs.Limits.{limit_set_by, use_in}
 use Rattle.gu_book.specs.Offers.{gave_up, lines_by, standing_of}
 use Rattle.gu_book.specs.Orderly.{AreFound, AreOwn, IsCovered, lots_traded}
-use Rattle.gu_book.specs.Positions.{held_in, moved_into, moved_out, report_behind, traded}
+use Rattle.gu_book.specs.Positions.{held_in, moved_into, moved_out, report_after, traded}
 use Rattle.gu_book.specs.Reports.{Fits, open_day, opened_day, report_on, reports_of}
 use Rattle.gu_book.specs.declared.totals.GiveUpKey.{GiveUpKey}
 use Rattle.gu_book.specs.declared.totals.Totals.{Totals}
@@ -64,8 +64,8 @@ unheld reports (row ∷ rows) r none found =
               let parts = both _ _ hit in
               let firms : row.offer.firm ≡ r.firm = same_firm-true row.offer.firm r.firm parts.0 in
               let ids : row.offer.report ≡ r.id = same_id-true row.offer.report r.id parts.1 in
-              let gone : report_behind reports row ≡ None = (λ i. report_by reports (firms i) (ids i)) ∙ none in
-              let there : is_some (report_behind reports row) ≡ true = found.0 in
+              let gone : report_after reports row ≡ None = (λ i. report_by reports (firms i) (ids i)) ∙ none in
+              let there : is_some (report_after reports row) ≡ true = found.0 in
               let no : false ≡ true = sym (ap (λ (q : Option Report). is_some q) gone) ∙ there in cc
           | inr miss ↦ rw miss refl
         ]
@@ -90,7 +90,7 @@ covered-push reports rows r none found covered =
 -- each offer finds its report
 found-push : (reports : List Report) (rows : List Row) (r : Report) → AreFound reports rows → AreFound (reports ++ r ∷ []) rows
 found-push reports rows r found =
-    along (λ (row : Row). is_some (report_behind reports row) ≡ true) (λ row. is_some (report_behind (reports ++ r ∷ []) row) ≡ true) rows
+    along (λ (row : Row). is_some (report_after reports row) ≡ true) (λ row. is_some (report_after (reports ++ r ∷ []) row) ≡ true) rows
     (λ row h. ap (λ (q : Option Report). is_some q) (behind-push reports r row h) ∙ h) found
 
 -- and each report itself

@@ -12,7 +12,7 @@ use Rattle.gu_terms.proofs.Gathered.{filter_map-last}
 use Rattle.gu_ref.specs.Tables.{Tables}
 use Rattle.gu_limits.specs.Limits.{GroupLimit, has_limit, limit_in, row_in, used_in}
 use Rattle.gu_book.specs.Beside.{IsBeside}
-use Rattle.gu_book.specs.Kept.{Kept}
+use Rattle.gu_book.specs.BookState.{BookState}
 use Rattle.gu_book.specs.Limits.{keys_in_order, limit_of, limit_row, limit_rows, limit_set, use_of}
 use Rattle.gu_book.specs.declared.totals.Totals.{Totals}
 
@@ -35,7 +35,7 @@ row_in-is reference history limits group key has limit used = by (limit_set hist
         rw (some, e) ((λ i. row (most i) (used i)))
 
 -- so that what is kept of a group's limits is what they are
-pub rows-are : (book : Kept) (totals : Totals) (group : Group) → IsBeside book.reference book.history totals
+pub rows-are : (book : BookState) (totals : Totals) (group : Group) → IsBeside book.reference book.history totals
     → filter_map (row_in totals.limits group) (keys_in_order book.reference) ≡ limit_rows book group
 rows-are book totals group beside =
     λ i. filter_map (λ key. row_in-is book.reference book.history totals.limits group key (beside.set group key) (beside.limits group key) (beside.uses group key) i)
@@ -48,9 +48,9 @@ filter_map_next {X} given items i item within is =
     ap (filter_map given) (take_more items i item within ∙ ap (λ (x : X). take i items ++ x ∷ []) (sym is))
     ∙ filter_map-last given (take i items) item
 
--- what more items give stands behind what items before them gave
-pub filter_map_behind : {X Y : Type 0} (given : X → Option Y) (rows before after : List Y) (items more : List X) → before ≡ rows ++ filter_map given items → after ≡ before ++ filter_map given more
+-- what more items give comes after what items before them gave
+pub filter_map_after : {X Y : Type 0} (given : X → Option Y) (rows before after : List Y) (items more : List X) → before ≡ rows ++ filter_map given items → after ≡ before ++ filter_map given more
     → after ≡ rows ++ filter_map given (items ++ more)
-filter_map_behind {Y = Y} given rows before after items more first then =
+filter_map_after {Y = Y} given rows before after items more first then =
     then ∙ ap (λ (ys : List Y). ys ++ filter_map given more) first ∙ append_assoc rows (filter_map given items) (filter_map given more)
     ∙ ap (λ (ys : List Y). rows ++ ys) (sym (filter_map-append given items more))

@@ -28,13 +28,13 @@ use Rattle.gu_offers.specs.Rows.{Row, left_in, left_of, row_at}
 use Rattle.gu_positions.specs.Changes.{KeepsRows}
 use Rattle.gu_positions.specs.Rows.{has_row, lots_in}
 use Rattle.gu_view.specs.View.{offer_of}
-use Rattle.gu_view.specs.declared.view.Offer.{Offer as ShownOffer}
+use Rattle.gu_view.specs.declared.view.ViewOffer.{ViewOffer as ShownOffer}
 use Rattle.gu_book.specs.Beside.{IsAccounted, IsKept, IsShown}
 use Rattle.gu_book.specs.Effects.{HoldsMoved, KeepsMade, OnlyRowsOf, SameAnswers, SameEntries, UsesMore}
-use Rattle.gu_book.specs.Limits.{path_behind}
+use Rattle.gu_book.specs.Limits.{path_after}
 use Rattle.gu_book.specs.Moving.{HasRows, MayMove, MovesAll, MovesOne, ShowsPath, given_by, lots_used, part, parts}
 use Rattle.gu_book.specs.Offers.{standing_of}
-use Rattle.gu_book.specs.Positions.{report_behind}
+use Rattle.gu_book.specs.Positions.{report_after}
 use Rattle.gu_book.specs.declared.totals.Totals.{Totals}
 use Rattle.gu_book.proofs.Accepting.{IsSeen, key_at, lots-taken, seen-is, some-terms, taken-there}
 use Rattle.gu_book.proofs.Facts.{IsThere, open-left, left-is, there}
@@ -52,12 +52,12 @@ pub given-seen : (totals : Totals) (n : ℕ) (offer : Offer) (report : Terms) �
 given-seen totals n offer report is = by (row_at totals.offers n) refl is
   where
     by : (found : Option Row) → row_at totals.offers n ≡ found
-        → ◌≡◌ {A = Option (Offer × Terms)} (Some (offer, report)) (option_and_then {U = Offer × Terms} (λ (row : Row). option_map {U = Offer × Terms} (λ (r : Report). (row.offer, terms_of r)) (report_behind totals.trades row)) found)
+        → ◌≡◌ {A = Option (Offer × Terms)} (Some (offer, report)) (option_and_then {U = Offer × Terms} (λ (row : Row). option_map {U = Offer × Terms} (λ (r : Report). (row.offer, terms_of r)) (report_after totals.trades row)) found)
         → IsSeen totals n offer report
     by None e h = cc
-    by (Some row) e h = of (report_behind totals.trades row) refl h
+    by (Some row) e h = of (report_after totals.trades row) refl h
       where
-        of : (behind : Option Report) → report_behind totals.trades row ≡ behind → ◌≡◌ {A = Option (Offer × Terms)} (Some (offer, report)) (option_map {U = Offer × Terms} (λ (r : Report). (row.offer, terms_of r)) behind)
+        of : (behind : Option Report) → report_after totals.trades row ≡ behind → ◌≡◌ {A = Option (Offer × Terms)} (Some (offer, report)) (option_map {U = Offer × Terms} (λ (r : Report). (row.offer, terms_of r)) behind)
             → IsSeen totals n offer report
         of None f k = cc
         of (Some r) f k =
@@ -107,7 +107,7 @@ has_rows-on old new n same stay has =
 pub has_rows-kept : (old new : Totals) (n : ℕ) → SameAnswers old new → KeepsMade old.positions new.positions → HasRows old n → HasRows new n
 has_rows-kept old new n same stay has =
     has_rows-on old new n
-    (λ i. option_and_then (λ (row : Row). option_map (λ (r : Report). (row.offer, terms_of r)) (report_behind (same.entries.trades i) row)) (row_at (same.offers i) n)) stay has
+    (λ i. option_and_then (λ (row : Row). option_map (λ (r : Report). (row.offer, terms_of r)) (report_after (same.entries.trades i) row)) (row_at (same.offers i) n)) stay has
 
 all-rows-kept : (old new : Totals) (takes : List Take) → SameAnswers old new → KeepsMade old.positions new.positions → AllByRecursion (λ (t : Take). HasRows old t.offer) takes
     → AllByRecursion (λ (t : Take). HasRows new t.offer) takes
@@ -125,7 +125,7 @@ pub has_rows-made : (old new : Totals) (n : ℕ) (offer : Offer) (report : Terms
     → has_row new.positions report.account report.symbol ≡ true → has_row new.positions offer.account report.symbol ≡ true → HasRows new n
 has_rows-made old new n offer report same is from to =
     let there : Some (offer, report) ≡ given_by new n =
-    is ∙ sym (λ i. option_and_then (λ (row : Row). option_map (λ (r : Report). (row.offer, terms_of r)) (report_behind (same.entries.trades i) row)) (row_at (same.offers i) n)) in
+    is ∙ sym (λ i. option_and_then (λ (row : Row). option_map (λ (r : Report). (row.offer, terms_of r)) (report_after (same.entries.trades i) row)) (row_at (same.offers i) n)) in
     subst (λ (g : Option (Offer × Terms)). IfSome g (λ g. (has_row new.positions g.1.account g.1.symbol ≡ true) × (has_row new.positions g.0.account g.1.symbol ≡ true))) there (from, to)
 
 -- none are wanted where there is no offer
@@ -177,18 +177,18 @@ same-self totals = record {
 -- a room that suffices for the lots of a take
 pub take-room : (reference : Tables) (totals : Totals) (one_take : Take) (offer : Offer) (report : Terms) → Some (offer, report) ≡ given_by totals one_take.offer
     → ((group : Group) (key : LimitKey) → lots_used reference totals.offers (one_take ∷ []) group key ≤ room_in totals.limits group key)
-    → (k : ℕ) (d : LimitKey) → k < length (path_behind reference offer) → one_take.lots ≤ room_in totals.limits offer.group (slice_index_or (path_behind reference offer) k d)
+    → (k : ℕ) (d : LimitKey) → k < length (path_after reference offer) → one_take.lots ≤ room_in totals.limits offer.group (slice_index_or (path_after reference offer) k d)
 take-room reference totals one_take offer report is room k d within =
     let one = seen-row totals one_take.offer offer report (given-seen totals one_take.offer offer report is) in
-    let key = slice_index_or (path_behind reference offer) k d in
-    let uses : option_map_or (λ (r : Row). lots_under r.offer.group (path_behind reference r.offer) one_take.lots offer.group key) (row_at totals.offers one_take.offer) 0
-    ≡ lots_under offer.group (path_behind reference offer) one_take.lots offer.group key =
-    rw one.1 (ap (λ (o : Offer). lots_under o.group (path_behind reference o) one_take.lots offer.group key) one.2) in
-    let mine : lots_under offer.group (path_behind reference offer) one_take.lots offer.group key ≡ one_take.lots = rw (same_group-own offer.group, key_at (path_behind reference offer) k d within) refl in
+    let key = slice_index_or (path_after reference offer) k d in
+    let uses : option_map_or (λ (r : Row). lots_under r.offer.group (path_after reference r.offer) one_take.lots offer.group key) (row_at totals.offers one_take.offer) 0
+    ≡ lots_under offer.group (path_after reference offer) one_take.lots offer.group key =
+    rw one.1 (ap (λ (o : Offer). lots_under o.group (path_after reference o) one_take.lots offer.group key) one.2) in
+    let mine : lots_under offer.group (path_after reference offer) one_take.lots offer.group key ≡ one_take.lots = rw (same_group-own offer.group, key_at (path_after reference offer) k d within) refl in
     omega (
       arith,
       room offer.group key,
-      sum_by-cons (λ (t : Take). option_map_or (λ (r : Row). lots_under r.offer.group (path_behind reference r.offer) t.lots offer.group key) (row_at totals.offers t.offer) 0) one_take [],
+      sum_by-cons (λ (t : Take). option_map_or (λ (r : Row). lots_under r.offer.group (path_after reference r.offer) t.lots offer.group key) (row_at totals.offers t.offer) 0) one_take [],
       uses,
       mine,
     )
@@ -210,13 +210,13 @@ take-rows reference totals offers one_take offer report is may =
 
 -- the view shows its offer with the path that it comes under
 pub take-path : (reference : Tables) (totals : Totals) (offers : List ShownOffer) (one_take : Take) (offer : Offer) (report : Terms) (shown : ShownOffer)
-    → Some (offer, report) ≡ given_by totals one_take.offer → Some shown ≡ offer_of offers one_take.offer → MayMove reference totals offers (one_take ∷ []) → shown.path ≡ path_behind reference offer
+    → Some (offer, report) ≡ given_by totals one_take.offer → Some shown ≡ offer_of offers one_take.offer → MayMove reference totals offers (one_take ∷ []) → shown.path ≡ path_after reference offer
 take-path reference totals offers one_take offer report shown is found may =
     let one = seen-row totals one_take.offer offer report (given-seen totals one_take.offer offer report is) in
     let has =
-    subst (λ (found : Option Row). IfSome found (λ (row : Row). option_map (λ (o : ShownOffer). o.path) (offer_of offers one_take.offer) ≡ Some (path_behind reference row.offer))) one.1 may.paths.0
-    ∙ ap (λ (o : Offer). Some (path_behind reference o)) one.2 in
-    let both : Some shown.path ≡ Some (path_behind reference offer) = ap (option_map (λ (o : ShownOffer). o.path)) found ∙ has in cc
+    subst (λ (found : Option Row). IfSome found (λ (row : Row). option_map (λ (o : ShownOffer). o.path) (offer_of offers one_take.offer) ≡ Some (path_after reference row.offer))) one.1 may.paths.0
+    ∙ ap (λ (o : Offer). Some (path_after reference o)) one.2 in
+    let both : Some shown.path ≡ Some (path_after reference offer) = ap (option_map (λ (o : ShownOffer). o.path)) found ∙ has in cc
 
 -- one take was moved
 pub moves-one : (reference : Tables) (old new : Totals) (offers : List ShownOffer) (one_take : Take) (offer : Offer) (report : Terms) → Some (offer, report) ≡ given_by old one_take.offer → MayMove reference old offers (one_take ∷ [])
@@ -275,14 +275,14 @@ module _ (reference : Tables) (old new : Totals) (one_take : Take) (moves : Move
 
   later-given : (m : ℕ) → one_take.offer < m → given_by new m ≡ given_by old m
   later-given m later =
-      λ i. option_and_then (λ (row : Row). option_map (λ (r : Report). (row.offer, terms_of r)) (report_behind (moves.entries.trades i) row)) (later-row m later i)
+      λ i. option_and_then (λ (row : Row). option_map (λ (r : Report). (row.offer, terms_of r)) (report_after (moves.entries.trades i) row)) (later-row m later i)
 
   -- and later takes use what they would have used
   later-used : (takes : List Take) → AllByRecursion (λ (t : Take). one_take.offer < t.offer) takes → (group : Group) (key : LimitKey) → lots_used reference new.offers takes group key ≡ lots_used reference old.offers takes group key
   later-used [] later group key = refl
   later-used (t ∷ takes) later group key =
-      let uses : List Row → Take → ℕ = λ rows t. option_map_or (λ (r : Row). lots_under r.offer.group (path_behind reference r.offer) t.lots group key) (row_at rows t.offer) 0 in
-      let mine : uses new.offers t ≡ uses old.offers t = ap (λ (o : Option Row). option_map_or (λ (r : Row). lots_under r.offer.group (path_behind reference r.offer) t.lots group key) o 0) (later-row t.offer later.0) in
+      let uses : List Row → Take → ℕ = λ rows t. option_map_or (λ (r : Row). lots_under r.offer.group (path_after reference r.offer) t.lots group key) (row_at rows t.offer) 0 in
+      let mine : uses new.offers t ≡ uses old.offers t = ap (λ (o : Option Row). option_map_or (λ (r : Row). lots_under r.offer.group (path_after reference r.offer) t.lots group key) o 0) (later-row t.offer later.0) in
       omega (arith, sum_by-cons (uses new.offers) t takes, sum_by-cons (uses old.offers) t takes, mine, later-used takes later.1 group key)
 
   -- the rooms that are left
@@ -290,8 +290,8 @@ module _ (reference : Tables) (old new : Totals) (one_take : Take) (moves : Move
       → ((group : Group) (key : LimitKey) → lots_used reference old.offers (one_take ∷ takes) group key ≤ room_in old.limits group key)
       → (group : Group) (key : LimitKey) → lots_used reference new.offers takes group key ≤ room_in new.limits group key
   room-left takes row at later room group key =
-      let uses : Take → ℕ = λ t. option_map_or (λ (r : Row). lots_under r.offer.group (path_behind reference r.offer) t.lots group key) (row_at old.offers t.offer) 0 in
-      let mine : uses one_take ≡ lots_under row.offer.group (path_behind reference row.offer) one_take.lots group key = rw at refl in
+      let uses : Take → ℕ = λ t. option_map_or (λ (r : Row). lots_under r.offer.group (path_after reference r.offer) t.lots group key) (row_at old.offers t.offer) 0 in
+      let mine : uses one_take ≡ lots_under row.offer.group (path_after reference row.offer) one_take.lots group key = rw at refl in
       let limits = moves.limits row at in
       omega (arith, room group key, sum_by-cons uses one_take takes, mine, later-used takes later group key, limits.limits.lots group key, limits.uses group key)
 
@@ -314,7 +314,7 @@ module _ (reference : Tables) (old new : Totals) (one_take : Take) (moves : Move
         rows = along2 (λ (t : Take). one_take.offer < t.offer) (λ (t : Take). HasRows old t.offer) (λ (t : Take). HasRows new t.offer) takes
             (λ t after has. has_rows-on old new t.offer (later-given t.offer after) (λ account symbol h. moves.rows account symbol ∙ h) has) later may.rows.1;
         paths = along2 (λ (t : Take). one_take.offer < t.offer) (λ (t : Take). ShowsPath reference old.offers offers t.offer) (λ (t : Take). ShowsPath reference new.offers offers t.offer) takes
-            (λ t after shows. subst (λ (found : Option Row). IfSome found (λ (row : Row). option_map (λ (o : ShownOffer). o.path) (offer_of offers t.offer) ≡ Some (path_behind reference row.offer))) (sym (later-row t.offer after)) shows)
+            (λ t after shows. subst (λ (found : Option Row). IfSome found (λ (row : Row). option_map (λ (o : ShownOffer). o.path) (offer_of offers t.offer) ≡ Some (path_after reference row.offer))) (sym (later-row t.offer after)) shows)
             later may.paths.1;
       }
 
@@ -339,7 +339,7 @@ may-first reference totals offers one_take takes may = record {
   still_open = (may.still_open.0, tt);
   left = (may.left.0, tt);
   room = λ group key.
-      let uses : Take → ℕ = λ t. option_map_or (λ (r : Row). lots_under r.offer.group (path_behind reference r.offer) t.lots group key) (row_at totals.offers t.offer) 0 in
+      let uses : Take → ℕ = λ t. option_map_or (λ (r : Row). lots_under r.offer.group (path_after reference r.offer) t.lots group key) (row_at totals.offers t.offer) 0 in
       omega (arith, may.room group key, sum_by-cons uses one_take takes, sum_by-cons uses one_take []);
   rows = (may.rows.0, tt);
   paths = (may.paths.0, tt);

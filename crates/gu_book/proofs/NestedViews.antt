@@ -19,7 +19,7 @@ use Rattle.gu_ref.specs.Reference.{account_row, guarantor_of}
 use Rattle.gu_ref.specs.Tables.{Tables}
 use Rattle.gu_ref.specs.declared.accounts.Account.{Account}
 use Rattle.gu_view.specs.View.{GoOnAlike, GroupView, IsNested, IsPath, next_key}
-use Rattle.gu_view.specs.declared.view.Offer.{Offer}
+use Rattle.gu_view.specs.declared.view.ViewOffer.{ViewOffer}
 use Rattle.gu_book.proofs.AgreementPaths.{GoesThrough, goes_through}
 use Rattle.gu_book.proofs.ViewLemmas.{HasPath}
 
@@ -48,7 +48,7 @@ next_carrying : (executing : FirmId) (id : AgreementId) (own : AccountId) (carry
 next_carrying executing id own carrying None = rw (key_eq-refl (Carry carrying)) refl
 next_carrying executing id own carrying (Some firm) = rw (key_eq-refl (Carry carrying)) refl
 
--- behind an account comes the firm of its row
+-- after an account comes the firm of its row
 behind_account : (reference : Tables) (id : AgreementId) (path : List LimitKey) → GoesThrough reference id path → (account : AccountId) → has_key path (Acct account) ≡ true
     → (carried : Account) × (account_row reference account ≡ Some carried) × (next_key path (Acct account) ≡ Some (Carry carried.firm))
 behind_account reference id path goes account h =
@@ -59,7 +59,7 @@ behind_account reference id path goes account h =
       (λ i. next_key (goes.is i) (Acct (sym same i))) ∙ next_account goes.executing id goes.account goes.carried.firm guarantor,
     )
 
--- and behind a carrying firm its guarantor, or nothing
+-- and after a carrying firm its guarantor, or nothing
 behind_carrying : (reference : Tables) (id : AgreementId) (path : List LimitKey) → GoesThrough reference id path → (firm : FirmId) → has_key path (Carry firm) ≡ true
     → next_key path (Carry firm) ≡ option_map (λ g. Guar g) (guarantor_of reference firm)
 behind_carrying reference id path goes firm h =
@@ -69,7 +69,7 @@ behind_carrying reference id path goes firm h =
     ∙ ap (λ (f : FirmId). option_map (λ g. Guar g) (guarantor_of reference f)) same
 
 -- two paths go on alike
-accounts_alike : (reference : Tables) (a b : Offer) → HasPath reference a → HasPath reference b → (account : AccountId) → GoOnAlike (Acct account) a.path b.path
+accounts_alike : (reference : Tables) (a b : ViewOffer) → HasPath reference a → HasPath reference b → (account : AccountId) → GoOnAlike (Acct account) a.path b.path
 accounts_alike reference a b mine theirs account in_a in_b =
     let one = behind_account reference a.agreement a.path (goes_through reference a.agreement a.path mine) account in_a in
     let other = behind_account reference b.agreement b.path (goes_through reference b.agreement b.path theirs) account in_b in
@@ -77,12 +77,12 @@ accounts_alike reference a b mine theirs account in_a in_b =
     let same : one.0 ≡ other.0 = cc in
     one.2 ∙ ap (λ (c : Account). Some (Carry c.firm)) same ∙ sym other.2
 
-carriers_alike : (reference : Tables) (a b : Offer) → HasPath reference a → HasPath reference b → (firm : FirmId) → GoOnAlike (Carry firm) a.path b.path
+carriers_alike : (reference : Tables) (a b : ViewOffer) → HasPath reference a → HasPath reference b → (firm : FirmId) → GoOnAlike (Carry firm) a.path b.path
 carriers_alike reference a b mine theirs firm in_a in_b =
     behind_carrying reference a.agreement a.path (goes_through reference a.agreement a.path mine) firm in_a
     ∙ sym (behind_carrying reference b.agreement b.path (goes_through reference b.agreement b.path theirs) firm in_b)
 
-whole : (reference : Tables) (o : Offer) → HasPath reference o → IsPath o
+whole : (reference : Tables) (o : ViewOffer) → HasPath reference o → IsPath o
 whole reference o mine =
     let goes = goes_through reference o.agreement o.path mine in
     (goes.executing, goes.account, goes.carried.firm, guarantor_of reference goes.carried.firm, goes.is)

@@ -7,7 +7,7 @@ use Rattle.gu_terms.specs.declared.entry.Entry.{Entry}
 use Rattle.gu_ref.specs.Tables.{Tables}
 use Rattle.gu_book.specs.Legal.{IsLegal, MayFollow}
 
--- the entry behind others stands at their number
+-- the entry after others stands at their number
 seam : (before later : List Entry) (entry : Entry) → slice_get (before ++ entry ∷ later) (length before) ≡ Some entry
 seam [] later entry = refl
 seam (first ∷ before) later entry = seam before later entry

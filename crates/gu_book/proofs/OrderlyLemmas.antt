@@ -21,7 +21,7 @@ use Rattle.gu_offers.specs.Changes.{changed, closed, next_day, offered, reversed
 use Rattle.gu_offers.specs.Rows.{Row, counted_under, row_at}
 use Rattle.gu_book.specs.Offers.{closes, given_back_by, lines_by, moved_of, offers_of, standing, standing_from, standing_of, taken_by}
 use Rattle.gu_book.specs.Orderly.{AreFound, AreOwn, AreWithin, IsBalanced, IsCovered, IsNamed, IsOrderly}
-use Rattle.gu_book.specs.Positions.{report_behind}
+use Rattle.gu_book.specs.Positions.{report_after}
 use Rattle.gu_book.specs.Reports.{entries_today, open_day, opened_day, report_on, reports_of}
 use Rattle.gu_book.proofs.Balanced.{balanced-opened, balanced-push, named-opened, named-push}
 use Rattle.gu_book.proofs.Covered.{covered-closed, covered-next_day, covered-reversed, covered-taken, covered-with_lines}
@@ -122,7 +122,7 @@ ordered-opened history entry day o unreported opens nothing idle =
     ordered history (history ++ entry ∷ []) (map next_day (standing_of history)) (reports_of-kept history entry unreported) (standing_of-opened history entry day opens nothing idle o.balanced)
     (balanced-opened history entry day opens idle o.balanced) (named-opened history entry day opens idle o.named)
     (covered-next_day (reports_of history) (standing_of history) o.covered)
-    (all-next_day (λ row. is_some (report_behind (reports_of history) row) ≡ true) (λ row h. h) (standing_of history) o.found)
+    (all-next_day (λ row. is_some (report_after (reports_of history) row) ≡ true) (λ row h. h) (standing_of history) o.found)
     (all-next_day (λ row. row.moved ≤ row.offer.lots) (λ row h. h) (standing_of history) o.within)
     o.own
   where
@@ -141,9 +141,9 @@ ordered-one history entry n row change o unreported none nothing others at is gi
     ordered history (history ++ entry ∷ []) (changed (standing_of history) n change) (reports_of-kept history entry unreported)
     (standing_of-one history entry n row change none nothing o.balanced others at is)
     (balanced-push history entry none o.balanced gives) (named-push history entry none o.named takes shut) covered
-    (all-changed (λ r. is_some (report_behind (reports_of history) r) ≡ true) (standing_of history) n row change at
+    (all-changed (λ r. is_some (report_after (reports_of history) r) ≡ true) (standing_of history) n row change at
     (subst (λ (it : Offer). is_some (report_by (reports_of history) it.firm it.report) ≡ true) (sym same)
-    (all-at (λ r. is_some (report_behind (reports_of history) r) ≡ true) (standing_of history) n row at o.found))
+    (all-at (λ r. is_some (report_after (reports_of history) r) ≡ true) (standing_of history) n row at o.found))
     o.found)
     (all-changed (λ r. r.moved ≤ r.offer.lots) (standing_of history) n row change at (subst (λ (it : Offer). (change row).moved ≤ it.lots) (sym same) less) o.within)
     o.own
@@ -219,7 +219,7 @@ ordered-lines history entry report group lines o unreported none idle made there
     (balanced-push history entry none o.balanced (λ n. omega (arith, idle.gives n)))
     (named-push history entry none o.named (λ n beyond. idle.takes n) (λ n beyond. idle.closed n))
     (covered-with_lines (reports_of history) (standing_of history) report group lines there matched free o.own o.covered)
-    (more (λ r. is_some (report_behind (reports_of history) r) ≡ true) (λ l. ap (λ (r : Option Report). is_some r) there) (standing_of history) lines o.found)
+    (more (λ r. is_some (report_after (reports_of history) r) ≡ true) (λ l. ap (λ (r : Option Report). is_some r) there) (standing_of history) lines o.found)
     (more (λ r. r.moved ≤ r.offer.lots) (λ l. omega arith) (standing_of history) lines o.within)
     o.own
   where

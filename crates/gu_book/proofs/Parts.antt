@@ -159,7 +159,7 @@ lots_of-sum (take ∷ takes) n later =
           omega (arith, sum, none, on, lots_of-sum takes n later.1)
     ]
 
--- the entries of today, behind takes
+-- the entries of today, after takes
 parts-today : (sweep : SweepEntry) (takes : List Take) (history : List Entry) → entries_today (history ++ parts sweep takes) ≡ entries_today history ++ parts sweep takes
 parts-today sweep [] history = ap entries_today (append-nil history) ∙ sym (append-nil (entries_today history))
 parts-today sweep (take ∷ takes) history =

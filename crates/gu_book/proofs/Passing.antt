@@ -16,7 +16,7 @@ use Rattle.gu_ref.specs.Tables.{Tables}
 use Rattle.gu_offers.specs.Rows.{Row, left_in, row_at}
 use Rattle.gu_book.specs.Answer.{State, claim_tests, first_standing, refusal_in, room_tests}
 use Rattle.gu_book.specs.Beside.{short_key, some_lots}
-use Rattle.gu_book.specs.Limits.{path_behind}
+use Rattle.gu_book.specs.Limits.{path_after}
 
 -- where a command is accepted, no test stands
 pub none_stands : (tests : List (Bool × Refusal)) (done given : Done) → first_standing tests done ≡ Accepted given → (k : ℕ) (stands : Bool) (why : Refusal) → slice_get tests k ≡ Some (stands, why) → stands ≡ false
@@ -31,11 +31,11 @@ standing_in [] done why e = cc
 standing_in ((true, first) ∷ tests) done why e = let one : first ≡ why = cc in ap Denied one
 standing_in ((false, first) ∷ tests) done why e = standing_in tests done why e
 
--- and where none does, those behind them decide
-pub standing_behind : (tests more : List (Bool × Refusal)) (done : Done) → refusal_in tests ≡ None → first_standing (tests ++ more) done ≡ first_standing more done
-standing_behind [] more done e = refl
-standing_behind ((true, first) ∷ tests) more done e = cc
-standing_behind ((false, first) ∷ tests) more done e = standing_behind tests more done e
+-- and where none does, those after them decide
+pub standing_after : (tests more : List (Bool × Refusal)) (done : Done) → refusal_in tests ≡ None → first_standing (tests ++ more) done ≡ first_standing more done
+standing_after [] more done e = refl
+standing_after ((true, first) ∷ tests) more done e = cc
+standing_after ((false, first) ∷ tests) more done e = standing_after tests more done e
 
 -- nor decides any that stands
 pub standing_none : (tests : List (Bool × Refusal)) (done : Done) → refusal_in tests ≡ None → first_standing tests done ≡ Accepted done
@@ -61,27 +61,27 @@ claim_refused reference state n some = first (left_in state.offers n == 0) some 
     left = left_in state.offers n
 
     tests : Option Row → List (Bool × Refusal)
-    tests found = option_map_or (λ (row : Row). room_tests (state.room row.offer.group) left (path_behind reference row.offer)) found []
+    tests found = option_map_or (λ (row : Row). room_tests (state.room row.offer.group) left (path_after reference row.offer)) found []
 
     first : (b : Bool) → b ≡ false → refusal_in ((b, OfferClosed) ∷ tests (row_at state.offers n)) ≡ refusal_in (tests (row_at state.offers n))
     first false e = refl
     first true e = cc
 
     rooms : (found : Option Row)
-        → refusal_in (tests found) ≡ option_map LimitReached (option_map_or (λ (row : Row). find (λ key. nat_lt (state.room row.offer.group key) left) (path_behind reference row.offer)) found None)
+        → refusal_in (tests found) ≡ option_map LimitReached (option_map_or (λ (row : Row). find (λ key. nat_lt (state.room row.offer.group key) left) (path_after reference row.offer)) found None)
     rooms None = refl
-    rooms (Some row) = room_first (state.room row.offer.group) left (path_behind reference row.offer)
+    rooms (Some row) = room_first (state.room row.offer.group) left (path_after reference row.offer)
 
 -- the first key of an offer that is found, by its own path
 pub short_key-of : (reference : Tables) (state : State) (n lots : ℕ) (offer : Offer) → Some offer ≡ option_map (λ (row : Row). row.offer) (row_at state.offers n)
-    → find (λ key. nat_lt (state.room offer.group key) lots) (path_behind reference offer) ≡ short_key reference state n lots
+    → find (λ key. nat_lt (state.room offer.group key) lots) (path_after reference offer) ≡ short_key reference state n lots
 short_key-of reference state n lots offer shown = by (row_at state.offers n) shown
   where
     by : (found : Option Row) → Some offer ≡ option_map (λ (row : Row). row.offer) found
-        → find (λ key. nat_lt (state.room offer.group key) lots) (path_behind reference offer)
-        ≡ option_map_or (λ (row : Row). find (λ key. nat_lt (state.room row.offer.group key) lots) (path_behind reference row.offer)) found None
+        → find (λ key. nat_lt (state.room offer.group key) lots) (path_after reference offer)
+        ≡ option_map_or (λ (row : Row). find (λ key. nat_lt (state.room row.offer.group key) lots) (path_after reference row.offer)) found None
     by None e = cc
-    by (Some row) e = let one : offer ≡ row.offer = cc in ap (λ (o : Offer). find (λ key. nat_lt (state.room o.group key) lots) (path_behind reference o)) one
+    by (Some row) e = let one : offer ≡ row.offer = cc in ap (λ (o : Offer). find (λ key. nat_lt (state.room o.group key) lots) (path_after reference o)) one
 
 -- some lots are those, and not none
 pub lots_are : (n lots : ℕ) → Some lots ≡ some_lots n → (lots ≡ n) × ((n == 0) ≡ false)

@@ -61,7 +61,7 @@ pub record IsQuiet (history : List Entry) (entry : Entry) : Type 0 where
   pub gives_up : (firm : FirmId) (id : Id) → gave_up firm id entry ≡ false
   pub sets : (group : Group) (key : LimitKey) → limit_set_by group key entry ≡ None
 
--- behind it stands what was kept, but for offers, uses and positions
+-- after it stands what was kept, but for offers, uses and positions
 pub beside-quiet : (reference : Tables) (history : List Entry) (entry : Entry) (rows : List Row) (old new : Totals) → IsQuiet history entry → IsBeside reference history old
     → SameEntries old new → SameLimits old.limits new.limits → standing_of (history ++ entry ∷ []) ≡ rows → new.offers ≡ rows
     → ((group : Group) (key : LimitKey) → used_in new.limits group key ≡ use_in reference rows group key)

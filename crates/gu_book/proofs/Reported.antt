@@ -20,7 +20,7 @@ use Rattle.gu_trades.specs.Reports.{is_by, with_match}
 use Rattle.gu_positions.specs.Changes.{lots_at}
 use Rattle.gu_offers.specs.Rows.{Row}
 use Rattle.gu_book.specs.Orderly.{AreFound}
-use Rattle.gu_book.specs.Positions.{brought, is_from, is_on, moved_into, moved_out, report_behind, traded}
+use Rattle.gu_book.specs.Positions.{brought, is_from, is_on, moved_into, moved_out, report_after, traded}
 
 -- the reports with a match id, one report on
 with_match-push : (match_id : Id) (reports : List Report) (r : Report) → with_match match_id (reports ++ r ∷ []) ≡ with_match match_id reports ++ (if same_id r.match_id match_id then r ∷ [] else [])
@@ -152,9 +152,9 @@ traded-matched reports waiting r side account symbol one =
     )
 
 -- which stays the first of its firm and its id
-pub behind-push : (reports : List Report) (r : Report) (row : Row) → is_some (report_behind reports row) ≡ true → report_behind (reports ++ r ∷ []) row ≡ report_behind reports row
+pub behind-push : (reports : List Report) (r : Report) (row : Row) → is_some (report_after reports row) ≡ true → report_after (reports ++ r ∷ []) row ≡ report_after reports row
 behind-push reports r row there =
-    find-append (is_by row.offer.firm row.offer.report) reports (r ∷ []) ∙ by (report_behind reports row) (find (is_by row.offer.firm row.offer.report) (r ∷ [])) there
+    find-append (is_by row.offer.firm row.offer.report) reports (r ∷ []) ∙ by (report_after reports row) (find (is_by row.offer.firm row.offer.report) (r ∷ [])) there
   where
     by : (a b : Option Report) → is_some a ≡ true → option_or a b ≡ a
     by (Some q) b h = refl

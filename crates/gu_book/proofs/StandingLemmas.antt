@@ -63,7 +63,7 @@ standing_from-push history entry n (offer ∷ offers) none balanced =
     let others = standing_from-push history entry (n + 1) offers none balanced in
     λ i. one i ∷ others i
 
--- offers behind others
+-- offers after others
 pub standing_from-append : (history : List Entry) (n : ℕ) (offers more : List Offer)
     → standing_from history n (offers ++ more) ≡ standing_from history n offers ++ standing_from history (n + length offers) more
 standing_from-append history n [] more = ap (λ (m : ℕ). standing_from history m more) (omega arith)
@@ -73,7 +73,7 @@ standing_from-append history n (offer ∷ offers) more =
     (standing_from-append history (n + 1) offers more
     ∙ ap (λ (m : ℕ). standing_from history (n + 1) offers ++ standing_from history m more) next)
 
--- what one more entry makes comes behind the offers that there were
+-- what one more entry makes comes after the offers that there were
 pub offers_of-push : (history : List Entry) (entry : Entry) → offers_of (history ++ entry ∷ []) ≡ offers_of history ++ lines_by entry
 offers_of-push history entry = flat_map-append lines_by history (entry ∷ []) ∙ ap (λ (made : List Offer). offers_of history ++ made) (append-nil (lines_by entry))
 

@@ -4,7 +4,7 @@ use Rattle.std.proofs.lemmas.List.{drop-take, length-drop, take_all}
 use Rattle.std.proofs.Math.Nat.{add-zero, suc-add, zero-add}
 use Rattle.gu_terms.specs.declared.entry.Entry.{Entry}
 use Rattle.gu_terms.specs.declared.firm.FirmId.{FirmId}
-use Rattle.gu_book.specs.Kept.{Kept}
+use Rattle.gu_book.specs.BookState.{BookState}
 use Rattle.gu_book.specs.Notices.{Register, Told, notices_between, notices_of, register_of, told_between, told_by, told_from, told_to}
 use Rattle.gu_book.proofs.NoticeLemmas.{told_to-append}
 
@@ -75,13 +75,13 @@ told_between-all register history firm from next end =
     (take_all (next - max 1 from) (drop (from - 1) history) (omega (arith, length-drop (from - 1) history, end)))
 
 -- the laws, of a book
-pub notices-joined : (book : Kept) (firm : FirmId) (from mid next : ℕ) → from ≤ mid → mid ≤ next
+pub notices-joined : (book : BookState) (firm : FirmId) (from mid next : ℕ) → from ≤ mid → mid ≤ next
     → notices_between book firm from mid ++ notices_between book firm mid next ≡ notices_between book firm from next
 notices-joined book firm from mid next onward onward' = joined-between (register_of book) book.history firm from mid onward next onward'
 
-pub notices-joined-rest : (book : Kept) (firm : FirmId) (from mid : ℕ) → from ≤ mid
+pub notices-joined-rest : (book : BookState) (firm : FirmId) (from mid : ℕ) → from ≤ mid
     → notices_between book firm from mid ++ notices_of book firm mid ≡ notices_of book firm from
 notices-joined-rest book firm from mid onward = joined-rest (register_of book) book.history firm from mid onward
 
-pub notices-all : (book : Kept) (firm : FirmId) (from next : ℕ) → length book.history < next → notices_between book firm from next ≡ notices_of book firm from
+pub notices-all : (book : BookState) (firm : FirmId) (from next : ℕ) → length book.history < next → notices_between book firm from next ≡ notices_of book firm from
 notices-all book firm from next end = told_between-all (register_of book) book.history firm from next end

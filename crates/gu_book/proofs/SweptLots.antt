@@ -16,9 +16,9 @@ use Rattle.gu_ref.specs.Tables.{Tables}
 use Rattle.gu_offers.proofs.Listed.{all-at}
 use Rattle.gu_offers.specs.Rows.{IsSound, Row, left_of, open_numbers}
 use Rattle.gu_view.specs.Takes.{total}
-use Rattle.gu_view.specs.declared.view.Offer.{Offer as ShownOffer}
+use Rattle.gu_view.specs.declared.view.ViewOffer.{ViewOffer as ShownOffer}
 use Rattle.gu_book.specs.Legal.{IsLegal, MayFollow}
-use Rattle.gu_book.specs.Limits.{path_behind}
+use Rattle.gu_book.specs.Limits.{path_after}
 use Rattle.gu_book.specs.Offers.{lines_by, offers_of, standing_from, standing_of}
 use Rattle.gu_book.specs.Shown.{shown_at}
 use Rattle.gu_book.specs.Sweeps.{MaySweep}
@@ -76,10 +76,10 @@ shown-small reference rows small zero o is = cc
 shown-small reference rows small (suc place) o is = by (slice_get rows place) refl is
   where
     of : (row : Row) → row.offer.lots ≤ 1000000 → (between : Option AgreementId)
-        → option_map {U = ShownOffer} (λ id. record { number = suc place; lots = left_of row; agreement = id; path = path_behind reference row.offer }) between ≡ Some o → o.lots ≤ 1000000
+        → option_map {U = ShownOffer} (λ id. record { number = suc place; lots = left_of row; agreement = id; path = path_after reference row.offer }) between ≡ Some o → o.lots ≤ 1000000
     of row most None h = cc
     of row most (Some id) h =
-        let made : ShownOffer = record { number = suc place; lots = left_of row; agreement = id; path = path_behind reference row.offer } in
+        let made : ShownOffer = record { number = suc place; lots = left_of row; agreement = id; path = path_after reference row.offer } in
         let same : made ≡ o = cc in
         subst (λ (x : ShownOffer). x.lots ≤ 1000000) same (left-small row most)
 

@@ -27,10 +27,10 @@ use Rattle.gu_offers.specs.Rows.{Row, is_open_in, left_in, left_of, numbers_from
 use Rattle.gu_view.proofs.RoomLemmas.{has_key-keys_of}
 use Rattle.gu_view.specs.Takes.{IsAdmissible, lots_under}
 use Rattle.gu_view.specs.View.{keys_of, offer_of}
-use Rattle.gu_view.specs.declared.view.Offer.{Offer}
+use Rattle.gu_view.specs.declared.view.ViewOffer.{ViewOffer}
 use Rattle.gu_view.specs.declared.view.Room.{Room}
 use Rattle.gu_book.specs.Beside.{IsKept}
-use Rattle.gu_book.specs.Limits.{path_behind, room_of}
+use Rattle.gu_book.specs.Limits.{path_after, room_of}
 use Rattle.gu_book.specs.Moving.{HasRows, MayMove, ShowsPath, lots_used}
 use Rattle.gu_book.specs.Offers.{standing_of}
 use Rattle.gu_book.specs.Sweeps.{IsSweepOf}
@@ -43,13 +43,13 @@ use Rattle.gu_book.proofs.Takers.{apart, same}
 -- ---- what a view shows stands
 
 -- an offer of a view stands for an open offer of its group
-pub record Stands (reference : Tables) (rows : List Row) (group : Group) (o : Offer) : Type 0 where
+pub record Stands (reference : Tables) (rows : List Row) (group : Group) (o : ViewOffer) : Type 0 where
   pub row : Row
   pub at : row_at rows o.number ≡ Some row
   pub own : row.offer.group ≡ group
   pub is_left : 0 < left_of row
   pub lots : o.lots ≡ left_of row
-  pub path : o.path ≡ path_behind reference row.offer
+  pub path : o.path ≡ path_after reference row.offer
 
 -- the number of an open offer
 abbrev OpenAt : List Row → Group → ℕ → Type 0
@@ -69,26 +69,26 @@ open-at rows group m (r ∷ rest) at =
     by false e more = more
 
 -- what is shown of it stands
-shown-stands : (reference : Tables) (rows : List Row) (group : Group) (n : ℕ) (o : Offer) → OpenAt rows group n → option_and_then (shown reference) (open_offer_at rows n) ≡ Some o → Stands reference rows group o
+shown-stands : (reference : Tables) (rows : List Row) (group : Group) (n : ℕ) (o : ViewOffer) → OpenAt rows group n → option_and_then (shown reference) (open_offer_at rows n) ≡ Some o → Stands reference rows group o
 shown-stands reference rows group n o open_ is = by (agreement_between reference row.offer.firm row.offer.account) (rw open_.1 at is)
   where
     row : Row
     row = open_.0
 
     by : (found : Option AgreementId)
-        → option_map {U = Offer} (λ agreement. record { number = n; lots = left_of row; agreement = agreement; path = path_behind reference row.offer }) found ≡ Some o
+        → option_map {U = ViewOffer} (λ agreement. record { number = n; lots = left_of row; agreement = agreement; path = path_after reference row.offer }) found ≡ Some o
         → Stands reference rows group o
     by None h = cc
     by (Some agreement) h =
-        let one : record { number = n; lots = left_of row; agreement = agreement; path = path_behind reference row.offer } ≡ o = cc in
+        let one : record { number = n; lots = left_of row; agreement = agreement; path = path_after reference row.offer } ≡ o = cc in
         let parts = both _ _ open_.2 in
         record {
           row = row;
-          at = ap (λ (p : Offer). row_at rows p.number) (sym one) ∙ open_.1;
+          at = ap (λ (p : ViewOffer). row_at rows p.number) (sym one) ∙ open_.1;
           own = same_group-true row.offer.group group parts.0;
           is_left = ltb-true 0 (left_of row) parts.1;
-          lots = ap (λ (p : Offer). p.lots) (sym one);
-          path = ap (λ (p : Offer). p.path) (sym one);
+          lots = ap (λ (p : ViewOffer). p.lots) (sym one);
+          path = ap (λ (p : ViewOffer). p.path) (sym one);
         }
 
 all-shown : (reference : Tables) (rows : List Row) (group : Group) (numbers : List ℕ) → AllByRecursion (OpenAt rows group) numbers
@@ -96,7 +96,7 @@ all-shown : (reference : Tables) (rows : List Row) (group : Group) (numbers : Li
 all-shown reference rows group [] all = tt
 all-shown reference rows group (n ∷ numbers) all = by (option_and_then (shown reference) (open_offer_at rows n)) refl (all-shown reference rows group numbers all.1)
   where
-    by : (given : Option Offer) → option_and_then (shown reference) (open_offer_at rows n) ≡ given
+    by : (given : Option ViewOffer) → option_and_then (shown reference) (open_offer_at rows n) ≡ given
         → AllByRecursion (Stands reference rows group) (filter_map (λ n. option_and_then (shown reference) (open_offer_at rows n)) numbers)
         → AllByRecursion (Stands reference rows group) (cons_option given (filter_map (λ n. option_and_then (shown reference) (open_offer_at rows n)) numbers))
     by None e more = more
@@ -112,7 +112,7 @@ offers-stand reference history group =
 -- ---- lots
 
 -- what holds of each offer holds of the one of a number
-named : (P : Offer → Type 0) (offers : List Offer) (n : ℕ) → list_any (λ (o : Offer). o.number == n) offers ≡ true → AllByRecursion P offers → (o : Offer) × (offer_of offers n ≡ Some o) × (o.number ≡ n) × P o
+named : (P : ViewOffer → Type 0) (offers : List ViewOffer) (n : ℕ) → list_any (λ (o : ViewOffer). o.number == n) offers ≡ true → AllByRecursion P offers → (o : ViewOffer) × (offer_of offers n ≡ Some o) × (o.number ≡ n) × P o
 named P [] n has all = cc
 named P (o ∷ offers) n has all =
     elim (cases_Bool (o.number == n)) [
@@ -132,19 +132,19 @@ own-lots (take ∷ takes) later =
     )
 
 -- a take is of an open offer, which has its lots left
-pub record TakesLeft (reference : Tables) (rows : List Row) (group : Group) (offers : List Offer) (t : Take) : Type 0 where
-  pub o : Offer
+pub record TakesLeft (reference : Tables) (rows : List Row) (group : Group) (offers : List ViewOffer) (t : Take) : Type 0 where
+  pub o : ViewOffer
   pub found : offer_of offers t.offer ≡ Some o
   pub number : o.number ≡ t.offer
   pub stands : Stands reference rows group o
   pub lots : t.lots ≤ o.lots
-  pub among : (f : Offer → ℕ) → f o ≤ sum_by f offers
+  pub among : (f : ViewOffer → ℕ) → f o ≤ sum_by f offers
 
-among : (offers : List Offer) → AllByRecursion (λ (o : Offer). (f : Offer → ℕ) → f o ≤ sum_by f offers) offers
+among : (offers : List ViewOffer) → AllByRecursion (λ (o : ViewOffer). (f : ViewOffer → ℕ) → f o ≤ sum_by f offers) offers
 among [] = tt
 among (o ∷ offers) = (
   λ f. omega (arith, sum_by-cons f o offers),
-  along (λ (p : Offer). (f : Offer → ℕ) → f p ≤ sum_by f offers) (λ (p : Offer). (f : Offer → ℕ) → f p ≤ sum_by f (o ∷ offers)) offers (λ p h f. omega (arith, h f, sum_by-cons f o offers)) (among offers),
+  along (λ (p : ViewOffer). (f : ViewOffer → ℕ) → f p ≤ sum_by f offers) (λ (p : ViewOffer). (f : ViewOffer → ℕ) → f p ≤ sum_by f (o ∷ offers)) offers (λ p h f. omega (arith, h f, sum_by-cons f o offers)) (among offers),
 )
 
 -- so is each of a sweep
@@ -154,13 +154,13 @@ all-left reference history sweep right =
     let rows = standing_of history in
     let offers = offers_shown reference history sweep.group in
     let lots = lots_of sweep.takes in
-    let Has : Offer → Type 0 = λ o. Stands reference rows sweep.group o × (lots o.number ≤ o.lots) × ((f : Offer → ℕ) → f o ≤ sum_by f offers) in
+    let Has : ViewOffer → Type 0 = λ o. Stands reference rows sweep.group o × (lots o.number ≤ o.lots) × ((f : ViewOffer → ℕ) → f o ≤ sum_by f offers) in
     let all : AllByRecursion Has offers =
-    along2 (λ (o : Offer). Stands reference rows sweep.group o × (lots o.number ≤ o.lots)) (λ (o : Offer). (f : Offer → ℕ) → f o ≤ sum_by f offers) Has offers (λ o a b. (a.0, a.1, b))
-    (along2 (Stands reference rows sweep.group) (λ (o : Offer). lots o.number ≤ o.lots) (λ (o : Offer). Stands reference rows sweep.group o × (lots o.number ≤ o.lots)) offers (λ o a b. (a, b))
-    (offers-stand reference history sweep.group) (recursion_from_All (λ (o : Offer). lots o.number ≤ o.lots) offers right.right.admissible.offers))
+    along2 (λ (o : ViewOffer). Stands reference rows sweep.group o × (lots o.number ≤ o.lots)) (λ (o : ViewOffer). (f : ViewOffer → ℕ) → f o ≤ sum_by f offers) Has offers (λ o a b. (a.0, a.1, b))
+    (along2 (Stands reference rows sweep.group) (λ (o : ViewOffer). lots o.number ≤ o.lots) (λ (o : ViewOffer). Stands reference rows sweep.group o × (lots o.number ≤ o.lots)) offers (λ o a b. (a, b))
+    (offers-stand reference history sweep.group) (recursion_from_All (λ (o : ViewOffer). lots o.number ≤ o.lots) offers right.right.admissible.offers))
     (among offers) in
-    along2 (λ (t : Take). list_any (λ (o : Offer). o.number == t.offer) offers ≡ true) (λ (t : Take). lots t.offer ≡ t.lots) (TakesLeft reference rows sweep.group offers) sweep.takes
+    along2 (λ (t : Take). list_any (λ (o : ViewOffer). o.number == t.offer) offers ≡ true) (λ (t : Take). lots t.offer ≡ t.lots) (TakesLeft reference rows sweep.group offers) sweep.takes
     (λ t known own.
     let found = named Has offers t.offer known all in
     let it = found.3 in
@@ -172,17 +172,17 @@ all-left reference history sweep right =
       lots = omega (arith, it.1, ap lots found.2, own);
       among = it.2;
     })
-    (recursion_from_All (λ (t : Take). list_any (λ (o : Offer). o.number == t.offer) offers ≡ true) sweep.takes right.right.takes_known)
+    (recursion_from_All (λ (t : Take). list_any (λ (o : ViewOffer). o.number == t.offer) offers ≡ true) sweep.takes right.right.takes_known)
     (own-lots sweep.takes (Later-from_AllPairs (λ (a b : Take). a.offer < b.offer) sweep.takes right.ascending))
 
 -- ---- rooms
 
 -- the lots that a take uses under a key, of an offer
-abbrev used_of : LimitKey → Take → Offer → ℕ
+abbrev used_of : LimitKey → Take → ViewOffer → ℕ
 used_of key t o = if t.offer == o.number then (if has_key o.path key then t.lots else 0) else 0
 
 -- the lots that are taken of an offer, where it comes under the key, are those of all takes of it
-used-offer : (takes : List Take) (key : LimitKey) (o : Offer) → Later (λ (a b : Take). a.offer < b.offer) takes
+used-offer : (takes : List Take) (key : LimitKey) (o : ViewOffer) → Later (λ (a b : Take). a.offer < b.offer) takes
     → sum_by (λ (t : Take). used_of key t o) takes ≡ (if has_key o.path key then lots_of takes o.number else 0)
 used-offer takes key o later =
     elim (cases_Bool (has_key o.path key)) [
@@ -200,10 +200,10 @@ used-offer takes key o later =
         either true = refl
         either false = refl
 
-module _ (reference : Tables) (rows : List Row) (group : Group) (offers : List Offer) (at : Group) (key : LimitKey) where
+module _ (reference : Tables) (rows : List Row) (group : Group) (offers : List ViewOffer) (at : Group) (key : LimitKey) where
   -- the lots that a take uses, by its offer's row
   abbrev used_by : Take → ℕ
-  used_by t = option_map_or (λ (r : Row). lots_charged r.offer.group (path_behind reference r.offer) t.lots at key) (row_at rows t.offer) 0
+  used_by t = option_map_or (λ (r : Row). lots_charged r.offer.group (path_after reference r.offer) t.lots at key) (row_at rows t.offer) 0
 
   -- in another group it uses none
   elsewhere : same_group at group ≡ false → (t : Take) → TakesLeft reference rows group offers t → used_by t ≡ 0
@@ -218,10 +218,10 @@ module _ (reference : Tables) (rows : List Row) (group : Group) (offers : List O
   here-used t takes =
       let s = takes.stands in
       let row : row_at rows t.offer ≡ Some s.row = ap (row_at rows) (sym takes.number) ∙ s.at in
-      let mine : used_by t ≡ lots_charged s.row.offer.group (path_behind reference s.row.offer) t.lots at key = rw row refl in
+      let mine : used_by t ≡ lots_charged s.row.offer.group (path_after reference s.row.offer) t.lots at key = rw row refl in
       let one : used_of key t takes.o ≡ (if has_key takes.o.path key then t.lots else 0) = rw ((Decides-eqb t.offer takes.o.number).1 (sym takes.number)) refl in
-      let path : (if has_key takes.o.path key then t.lots else 0) ≡ (if has_key (path_behind reference s.row.offer) key then t.lots else 0) = ap (λ (p : List LimitKey). if has_key p key then t.lots else 0) s.path in
-      omega (arith, mine, one, path, takes.among (used_of key t), less (same_group at s.row.offer.group) (has_key (path_behind reference s.row.offer) key) t.lots)
+      let path : (if has_key takes.o.path key then t.lots else 0) ≡ (if has_key (path_after reference s.row.offer) key then t.lots else 0) = ap (λ (p : List LimitKey). if has_key p key then t.lots else 0) s.path in
+      omega (arith, mine, one, path, takes.among (used_of key t), less (same_group at s.row.offer.group) (has_key (path_after reference s.row.offer) key) t.lots)
     where
       less : (b c : Bool) (n : ℕ) → (if b && c then n else 0) ≤ (if c then n else 0)
       less true c n = omega arith
@@ -233,8 +233,8 @@ module _ (reference : Tables) (rows : List Row) (group : Group) (offers : List O
       → sum_by used_by takes ≤ lots_under offers key (lots_of takes)
   all-used takes later left =
       let by_take = sum_by-mono used_by (λ (t : Take). sum_by (used_of key t) offers) takes (along (TakesLeft reference rows group offers) (λ (t : Take). used_by t ≤ sum_by (used_of key t) offers) takes here-used left) in
-      let swapped = sum_by-swap (λ (t : Take) (o : Offer). used_of key t o) takes offers in
-      let by_offer = sum_by-agree (λ (o : Offer). sum_by (λ (t : Take). used_of key t o) takes) (λ (o : Offer). if has_key o.path key then lots_of takes o.number else 0) offers (λ o. used-offer takes key o later) in
+      let swapped = sum_by-swap (λ (t : Take) (o : ViewOffer). used_of key t o) takes offers in
+      let by_offer = sum_by-agree (λ (o : ViewOffer). sum_by (λ (t : Take). used_of key t o) takes) (λ (o : ViewOffer). if has_key o.path key then lots_of takes o.number else 0) offers (λ o. used-offer takes key o later) in
       omega (arith, by_take, swapped, by_offer)
 
   none-used : (takes : List Take) → same_group at group ≡ false → AllByRecursion (TakesLeft reference rows group offers) takes → sum_by used_by takes ≡ 0
@@ -260,8 +260,8 @@ under-room reference history group key lots within =
     elim (cases_Bool (has_key (keys_of offers) key)) [
       | inl hit ↦ keyed Fits (keys_of offers) key hit all
       | inr miss ↦
-          let none : list_any (λ (o : Offer). has_key o.path key) offers ≡ false = sym (has_key-keys_of offers key) ∙ miss in
-          omega (arith, nothing offers (any_none (λ (o : Offer). has_key o.path key) offers none))
+          let none : list_any (λ (o : ViewOffer). has_key o.path key) offers ≡ false = sym (has_key-keys_of offers key) ∙ miss in
+          omega (arith, nothing offers (any_none (λ (o : ViewOffer). has_key o.path key) offers none))
     ]
   where
     mapped : (keys : List LimitKey) → AllByRecursion (λ (r : Room). lots_under (offers_shown reference history group) r.key lots ≤ r.lots) (map (λ k. record { key = k; lots = room_of reference history group k }) keys)
@@ -269,11 +269,11 @@ under-room reference history group key lots within =
     mapped [] h = tt
     mapped (k ∷ keys) h = (h.0, mapped keys h.1)
 
-    nothing : (offers : List Offer) → AllByRecursion (λ (o : Offer). has_key o.path key ≡ false) offers → lots_under offers key lots ≡ 0
+    nothing : (offers : List ViewOffer) → AllByRecursion (λ (o : ViewOffer). has_key o.path key ≡ false) offers → lots_under offers key lots ≡ 0
     nothing [] h = refl
     nothing (o ∷ offers) h =
         let none : (if has_key o.path key then lots o.number else 0) ≡ 0 = rw h.0 refl in
-        omega (arith, sum_by-cons (λ (o : Offer). if has_key o.path key then lots o.number else 0) o offers, none, nothing offers h.1)
+        omega (arith, sum_by-cons (λ (o : ViewOffer). if has_key o.path key then lots o.number else 0) o offers, none, nothing offers h.1)
 
 -- ---- a sweep that may follow may be moved
 
@@ -308,8 +308,8 @@ sweep-moves reference history totals sweep kept right made =
           (λ t takes.
           let s = takes.stands in
           let here : row_at totals.offers t.offer ≡ Some s.row = ap (λ (rs : List Row). row_at rs t.offer) same_rows ∙ ap (row_at rows) (sym takes.number) ∙ s.at in
-          subst (λ (found : Option Row). IfSome found (λ (row : Row). option_map (λ (o : Offer). o.path) (offer_of offers t.offer) ≡ Some (path_behind reference row.offer))) (sym here)
-          (ap (option_map (λ (o : Offer). o.path)) takes.found ∙ ap (λ (path : List LimitKey). Some path) s.path)) left;
+          subst (λ (found : Option Row). IfSome found (λ (row : Row). option_map (λ (o : ViewOffer). o.path) (offer_of offers t.offer) ≡ Some (path_after reference row.offer))) (sym here)
+          (ap (option_map (λ (o : ViewOffer). o.path)) takes.found ∙ ap (λ (path : List LimitKey). Some path) s.path)) left;
     }
   where
     left-there : (t : Take) (takes : TakesLeft reference (standing_of history) sweep.group (offers_shown reference history sweep.group) t) → left_in (standing_of history) t.offer ≡ left_of takes.stands.row

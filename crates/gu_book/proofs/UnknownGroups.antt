@@ -15,7 +15,7 @@ use Rattle.gu_ref.specs.Reference.{is_group}
 use Rattle.gu_terms.specs.Same.{same_group}
 use Rattle.gu_ref.specs.Tables.{Tables}
 use Rattle.gu_book.specs.Answer.{is_known_key, limit_tests}
-use Rattle.gu_book.specs.Kept.{Kept}
+use Rattle.gu_book.specs.BookState.{BookState}
 use Rattle.gu_book.specs.Legal.{IsLegal, MayFollow}
 use Rattle.gu_book.specs.Limits.{keys_in_order, limit_row, limit_rows, limit_set_by}
 use Rattle.gu_book.proofs.LimitLemmas.{limit_row-unset}
@@ -61,7 +61,7 @@ gives_nothing given [] none = refl
 gives_nothing given (x ∷ items) none = rw (none zero x refl) (gives_nothing given items (λ k. none (suc k)))
 
 -- the limits of an unknown group
-pub unknown_group : (book : Kept) (group : Group) → IsLegal book.reference book.history → is_group book.reference group ≡ false → limit_rows book group ≡ []
+pub unknown_group : (book : BookState) (group : Group) → IsLegal book.reference book.history → is_group book.reference group ≡ false → limit_rows book group ≡ []
 unknown_group book group legal unknown =
     gives_nothing (limit_row book.reference book.history group) (keys_in_order book.reference)
     (λ k key at. limit_row-unset book.reference book.history group key

@@ -9,7 +9,7 @@ use Rattle.gu_terms.specs.declared.entry.Entry.{Entry}
 use Rattle.gu_terms.specs.declared.group.Group.{Group}
 use Rattle.gu_book.specs.Versions.{touches, touching, touching_after, version_of}
 
--- the touches of entries one behind another
+-- the touches of entries one after another
 pub touching_after-append : (before first later : List Entry) (group : Group)
     → touching_after before group (first ++ later) ≡ touching_after before group first ++ touching_after (before ++ first) group later
 touching_after-append before [] later group = ap (λ (b : List Entry). touching_after b group later) (sym (append-nil before))
@@ -20,7 +20,7 @@ touching_after-append before (entry ∷ first) later group =
     ∙ sym (append_assoc here rest (touching_after (before ++ entry ∷ [] ++ first) group later))
     ∙ ap (λ (b : List Entry). here ++ rest ++ touching_after b group later) (append_assoc before (entry ∷ []) first)
 
--- entries that come later add their touches behind those that were there
+-- entries that come later add their touches after those that were there
 pub touching-append : (first later : List Entry) (group : Group) → touching (first ++ later) group ≡ touching first group ++ touching_after first group later
 touching-append first later group = touching_after-append [] first later group
 
@@ -55,7 +55,7 @@ version-le history group = few_touches [] history group
 abbrev AreQuiet : List Entry → Group → List Entry → Type 0
 AreQuiet before group later = (m : ℕ) (entry : Entry) → slice_get later m ≡ Some entry → touches (before ++ take m later) group entry ≡ false
 
--- what holds of the first of them and of those behind it
+-- what holds of the first of them and of those after it
 quiet_first : (before : List Entry) (group : Group) (first : Entry) (later : List Entry) → AreQuiet before group (first ∷ later) → touches before group first ≡ false
 quiet_first before group first later quiet = ap (λ (b : List Entry). touches b group first) (sym (append-nil before)) ∙ quiet 0 first refl
 
@@ -93,7 +93,7 @@ version_at history k group =
     ∙ ap (λ (l : List ℕ). length l) (touching-append (take k history) (drop k history) group)
     ∙ length-append (touching (take k history) group) (touching_after (take k history) group (drop k history))
 
--- an entry behind the first ones stands among the others
+-- an entry after the first ones stands among the others
 behind : (history : List Entry) (k m : ℕ) (entry : Entry) → slice_get (drop k history) m ≡ Some entry → slice_get history (k + m) ≡ Some entry
 behind history k m entry at =
     let inside = slice_get_within (drop k history) m entry at in

@@ -26,11 +26,11 @@ use Rattle.gu_ref.specs.Reference.{agreement_between}
 use Rattle.gu_ref.specs.Rules.{IsSound as IsSoundReference}
 use Rattle.gu_ref.specs.Tables.{Tables}
 use Rattle.gu_view.specs.Making.{bad_offer, has_other_path, is_bad, is_own, path_differs, same_agreement}
-use Rattle.gu_view.specs.declared.view.Offer.{Offer}
+use Rattle.gu_view.specs.declared.view.ViewOffer.{ViewOffer}
 use Rattle.gu_view.specs.declared.view.Room.{Room}
-use Rattle.gu_view.proofs.MakingLemmas.{agreement_eq-same, bad_behind, bad_of_few, path_eq-refl}
+use Rattle.gu_view.proofs.MakingLemmas.{agreement_eq-same, bad_after, bad_of_few, path_eq-refl}
 use Rattle.gu_book.specs.Beside.{IsShown}
-use Rattle.gu_book.specs.Limits.{path_behind}
+use Rattle.gu_book.specs.Limits.{path_after}
 use Rattle.gu_book.specs.Shown.{offers_in, rooms_in, shown_at}
 use Rattle.gu_book.specs.Views.{shown}
 use Rattle.gu_book.proofs.AgreementPaths.{goes_through, path-there}
@@ -51,30 +51,30 @@ offers-are reference rows group = shown-numbers (open_offer_at rows) (shown refe
 -- ---- each offer
 
 -- what a view shows of the offer of a number: its number, what is left of it, and the path of its agreement
-pub record ShowsOffer (reference : Tables) (rows : List Row) (number : ℕ) (o : Offer) : Type 0 where
+pub record ShowsOffer (reference : Tables) (rows : List Row) (number : ℕ) (o : ViewOffer) : Type 0 where
   pub own : o.number ≡ number
   pub lots : o.lots ≡ left_in rows number
   pub path : path_of reference o.agreement ≡ Some o.path
 
-shows_row : (reference : Tables) (rows : List Row) (number : ℕ) (row : Row) (id : AgreementId) (path : List LimitKey) (o : Offer) → row_at rows number ≡ Some row
+shows_row : (reference : Tables) (rows : List Row) (number : ℕ) (row : Row) (id : AgreementId) (path : List LimitKey) (o : ViewOffer) → row_at rows number ≡ Some row
     → agreement_between reference row.offer.firm row.offer.account ≡ Some id → path_of reference id ≡ Some path
-    → Some (let it : Offer = record { number = number; lots = left_of row; agreement = id; path = path_behind reference row.offer } in it) ≡ Some o → ShowsOffer reference rows number o
+    → Some (let it : ViewOffer = record { number = number; lots = left_of row; agreement = id; path = path_after reference row.offer } in it) ≡ Some o → ShowsOffer reference rows number o
 shows_row reference rows number row id path o at between of is =
-    let made : Offer = record { number = number; lots = left_of row; agreement = id; path = path_behind reference row.offer } in
+    let made : ViewOffer = record { number = number; lots = left_of row; agreement = id; path = path_after reference row.offer } in
     let same : made ≡ o = cc in
-    let whole : path_behind reference row.offer ≡ path = rw (between, of) refl in
-    let mine : path_of reference id ≡ Some (path_behind reference row.offer) = of ∙ ap (λ (p : List LimitKey). Some p) (sym whole) in
+    let whole : path_after reference row.offer ≡ path = rw (between, of) refl in
+    let mine : path_of reference id ≡ Some (path_after reference row.offer) = of ∙ ap (λ (p : List LimitKey). Some p) (sym whole) in
     record {
-      own = ap (λ (x : Offer). x.number) (sym same);
-      lots = ap (λ (x : Offer). x.lots) (sym same) ∙ sym (rw at refl);
-      path = subst (λ (x : Offer). path_of reference x.agreement ≡ Some x.path) same mine;
+      own = ap (λ (x : ViewOffer). x.number) (sym same);
+      lots = ap (λ (x : ViewOffer). x.lots) (sym same) ∙ sym (rw at refl);
+      path = subst (λ (x : ViewOffer). path_of reference x.agreement ≡ Some x.path) same mine;
     }
 
-pub shows_offer : (reference : Tables) → IsSoundReference reference → (rows : List Row) (number : ℕ) (o : Offer) → shown_at reference rows number ≡ Some o → ShowsOffer reference rows number o
+pub shows_offer : (reference : Tables) → IsSoundReference reference → (rows : List Row) (number : ℕ) (o : ViewOffer) → shown_at reference rows number ≡ Some o → ShowsOffer reference rows number o
 shows_offer reference sound rows number o is = by (row_at rows number) refl is
   where
     of : (row : Row) → row_at rows number ≡ Some row → (between : Option AgreementId) → agreement_between reference row.offer.firm row.offer.account ≡ between
-        → option_map {U = Offer} (λ id. record { number = number; lots = left_of row; agreement = id; path = path_behind reference row.offer }) between ≡ Some o → ShowsOffer reference rows number o
+        → option_map {U = ViewOffer} (λ id. record { number = number; lots = left_of row; agreement = id; path = path_after reference row.offer }) between ≡ Some o → ShowsOffer reference rows number o
     of row at None e h = cc
     of row at (Some id) e h =
         let path = path-there reference sound row.offer.firm row.offer.account id e in
@@ -139,7 +139,7 @@ lots_left rows group sound =
     subst IsLots (sym left) (open-lots group row (all-at IsSound rows place row sound at) open_in))
 
 -- numbers that ascend and have lots show no bad offer
-good_offer : (before : ℕ) (o : Offer) → before < o.number → IsLots o.lots → is_bad before o ≡ false
+good_offer : (before : ℕ) (o : ViewOffer) → before < o.number → IsLots o.lots → is_bad before o ≡ false
 good_offer before o above lots = or_from (nat_le o.number before) (o.lots == 0 || nat_lt 1000000 o.lots) (not_below o.number before above) (or_from (o.lots == 0) (nat_lt 1000000 o.lots) (some o.lots lots.some) (le-ltb 1000000 o.lots lots.most))
   where
     not_below : (a b : ℕ) → b < a → nat_le a b ≡ false
@@ -149,36 +149,36 @@ good_offer before o above lots = or_from (nat_le o.number before) (o.lots == 0 |
     some n h = grind (arith, nat_tests)
 
 none_bad : (reference : Tables) → IsSoundReference reference → (rows : List Row) (before : ℕ) (numbers : List ℕ) → AllByRecursion (λ n. before < n) numbers → IsAscending numbers
-    → AllByRecursion (λ n. IsLots (left_in rows n)) numbers → bad_behind before (filter_map (shown_at reference rows) numbers) ≡ None
+    → AllByRecursion (λ n. IsLots (left_in rows n)) numbers → bad_after before (filter_map (shown_at reference rows) numbers) ≡ None
 none_bad reference sound rows before [] above up lots = refl
 none_bad reference sound rows before (n ∷ numbers) above up lots =
     by (shown_at reference rows n) refl (none_bad reference sound rows before numbers above.1 up.1 lots.1) (none_bad reference sound rows n numbers up.0 up.1 lots.1)
   where
-    by : (given : Option Offer) → shown_at reference rows n ≡ given → bad_behind before (filter_map (shown_at reference rows) numbers) ≡ None
-        → bad_behind n (filter_map (shown_at reference rows) numbers) ≡ None → bad_behind before (cons_option given (filter_map (shown_at reference rows) numbers)) ≡ None
+    by : (given : Option ViewOffer) → shown_at reference rows n ≡ given → bad_after before (filter_map (shown_at reference rows) numbers) ≡ None
+        → bad_after n (filter_map (shown_at reference rows) numbers) ≡ None → bad_after before (cons_option given (filter_map (shown_at reference rows) numbers)) ≡ None
     by None e rest behind = rest
     by (Some o) e rest behind =
         let shows = shows_offer reference sound rows n o e in
         let good = good_offer before o (omega (arith, shows.own, above.0)) (subst IsLots (sym shows.lots) lots.0) in
-        rw good (subst (λ (m : ℕ). bad_behind m (filter_map (shown_at reference rows) numbers) ≡ None) (sym shows.own) behind)
+        rw good (subst (λ (m : ℕ). bad_after m (filter_map (shown_at reference rows) numbers) ≡ None) (sym shows.own) behind)
 
 -- ---- paths
 
 -- an offer has the path of its agreement
-abbrev pub HasPath : Tables → Offer → Type 0
+abbrev pub HasPath : Tables → ViewOffer → Type 0
 HasPath reference o = path_of reference o.agreement ≡ Some o.path
 
 pub have_paths : (reference : Tables) → IsSoundReference reference → (rows : List Row) (numbers : List ℕ) → AllByRecursion (HasPath reference) (filter_map (shown_at reference rows) numbers)
 have_paths reference sound rows numbers = each-given (HasPath reference) (shown_at reference rows) numbers (λ n o e. (shows_offer reference sound rows n o e).path)
 
 -- its own agreement is the second key
-own-path : (reference : Tables) (o : Offer) → HasPath reference o → is_own o ≡ true
+own-path : (reference : Tables) (o : ViewOffer) → HasPath reference o → is_own o ≡ true
 own-path reference o has =
     let goes = goes_through reference o.agreement o.path has in
     ap (λ (path : List LimitKey). option_map_or (key_eq (Agr o.agreement)) (slice_get path 1) false) goes.is ∙ key_eq-refl (Agr o.agreement)
 
 -- offers of one agreement have one path
-one-path : (reference : Tables) (a b : Offer) → HasPath reference a → HasPath reference b → (same_agreement a b && not (pointwise key_eq a.path b.path)) ≡ false
+one-path : (reference : Tables) (a b : ViewOffer) → HasPath reference a → HasPath reference b → (same_agreement a b && not (pointwise key_eq a.path b.path)) ≡ false
 one-path reference a b mine theirs =
     elim (cases_Bool (same_agreement a b)) [
       | inl same ↦
@@ -189,14 +189,14 @@ one-path reference a b mine theirs =
       | inr apart ↦ and_left (same_agreement a b) (not (pointwise key_eq a.path b.path)) apart
     ]
 
-pub none_differs : (reference : Tables) (offers : List Offer) → AllByRecursion (HasPath reference) offers → path_differs offers ≡ None
+pub none_differs : (reference : Tables) (offers : List ViewOffer) → AllByRecursion (HasPath reference) offers → path_differs offers ≡ None
 none_differs reference offers have =
-    ap (option_map (λ (o : Offer). o.number))
-    (none_found (λ (o : Offer). not (is_own o) || has_other_path offers o) offers
-    (along (HasPath reference) (λ (o : Offer). (not (is_own o) || has_other_path offers o) ≡ false) offers
+    ap (option_map (λ (o : ViewOffer). o.number))
+    (none_found (λ (o : ViewOffer). not (is_own o) || has_other_path offers o) offers
+    (along (HasPath reference) (λ (o : ViewOffer). (not (is_own o) || has_other_path offers o) ≡ false) offers
     (λ o mine. or_from (not (is_own o)) (has_other_path offers o) (ap not (own-path reference o mine))
     (none_any (λ older. nat_lt older.number o.number && (same_agreement older o && not (pointwise key_eq older.path o.path))) offers
-    (along (HasPath reference) (λ (older : Offer). (nat_lt older.number o.number && (same_agreement older o && not (pointwise key_eq older.path o.path))) ≡ false) offers
+    (along (HasPath reference) (λ (older : ViewOffer). (nat_lt older.number o.number && (same_agreement older o && not (pointwise key_eq older.path o.path))) ≡ false) offers
     (λ older theirs. and_right (nat_lt older.number o.number) (same_agreement older o && not (pointwise key_eq older.path o.path)) (one-path reference older o theirs mine)) have)))
     have))
 
@@ -224,12 +224,12 @@ module _ (limits : List GroupLimit) (group : Group) where
 pub none_bad_offer : (reference : Tables) → IsSoundReference reference → (rows : List Row) (group : Group) → AllByRecursion IsSound rows → IsShown reference rows
     → bad_offer (filter_map (shown_at reference rows) (open_numbers rows group)) ≡ None
 none_bad_offer reference sound rows group each shown =
-    sym (bad_of_few (filter_map (shown_at reference rows) (open_numbers rows group)) few) ∙ ap (option_map (λ (p : ℕ × Offer). p.1.number)) good
+    sym (bad_of_few (filter_map (shown_at reference rows) (open_numbers rows group)) few) ∙ ap (option_map (λ (p : ℕ × ViewOffer). p.1.number)) good
   where
     few : length (filter_map (shown_at reference rows) (open_numbers rows group)) ≤ 4096
     few = omega (arith, few-given (shown_at reference rows) (open_numbers rows group), shown.few group)
 
-    good : bad_behind 0 (filter_map (shown_at reference rows) (open_numbers rows group)) ≡ None
+    good : bad_after 0 (filter_map (shown_at reference rows) (open_numbers rows group)) ≡ None
     good =
         none_bad reference sound rows 0 (open_numbers rows group)
         (all-imply (λ m. (1 ≤ m) × (m < 1 + length rows)) (λ m. 0 < m) (λ m h. omega arith) (open_numbers rows group) (numbers-within group 1 rows))

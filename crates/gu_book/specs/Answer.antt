@@ -31,7 +31,7 @@ use Rattle.gu_trades.specs.Matching.{conflicts, is_waiting}
 use Rattle.gu_trades.specs.declared.standing.Standing.{Standing}
 use Rattle.gu_trades.specs.Reports.{has_report, report_by, report_of, with_match}
 use Rattle.gu_offers.specs.Rows.{Row, counted_under, left_in, open_count, row_at, today_in}
-use Rattle.gu_book.specs.Limits.{path_behind, room_of}
+use Rattle.gu_book.specs.Limits.{path_after, room_of}
 use Rattle.gu_book.specs.Offers.{has_give_up, standing_of}
 use Rattle.gu_book.specs.Reports.{open_day, reports_of}
 
@@ -166,20 +166,20 @@ offer_tests reference state firm n =
     ∷ (is_none (row_at state.offers n), UnknownOffer)
     ∷ []
 
--- the tests of a claim behind those: lots are left, and each key on the path has room for them, in the order of the path
+-- the tests of a claim after those: lots are left, and each key on the path has room for them, in the order of the path
 abbrev pub claim_tests : Tables → State → ℕ → List (Bool × Refusal)
 claim_tests reference state n =
     (left_in state.offers n == 0, OfferClosed)
     ∷ option_map_or
-    (λ (row : Row). room_tests (state.room row.offer.group) (left_in state.offers n) (path_behind reference row.offer))
+    (λ (row : Row). room_tests (state.room row.offer.group) (left_in state.offers n) (path_after reference row.offer))
     (row_at state.offers n)
     []
 
--- the test of a refusal behind those: lots are left
+-- the test of a refusal after those: lots are left
 abbrev pub refuse_tests : State → ℕ → List (Bool × Refusal)
 refuse_tests state n = (left_in state.offers n == 0, OfferClosed) ∷ []
 
--- the tests of a reversal behind those: nothing is left, and something was moved since the day was opened
+-- the tests of a reversal after those: nothing is left, and something was moved since the day was opened
 abbrev pub reverse_tests : State → ℕ → List (Bool × Refusal)
 reverse_tests state n = (nat_lt 0 (left_in state.offers n), OfferOpen) ∷ (today_in state.offers n == 0, NothingToReverse) ∷ []
 

@@ -32,7 +32,7 @@ use Rattle.gu_positions.specs.Rows.{has_row, lots_in, lots_on}
 use Rattle.gu_book.specs.Answer.{State}
 use Rattle.gu_book.specs.Counted.{AreVersions}
 use Rattle.gu_book.specs.Legal.{IsLegal}
-use Rattle.gu_book.specs.Limits.{limit_of, limit_set, path_behind, use_of}
+use Rattle.gu_book.specs.Limits.{limit_of, limit_set, path_after, use_of}
 use Rattle.gu_book.specs.Offers.{has_give_up, standing_of}
 use Rattle.gu_book.specs.Orderly.{IsOrderly}
 use Rattle.gu_book.specs.Positions.{held_of}
@@ -86,7 +86,7 @@ some_lots (suc n) = Some (suc n)
 -- the first key under which an offer comes that has less room than these lots
 abbrev pub short_key : Tables → State → ℕ → ℕ → Option LimitKey
 short_key reference state n lots =
-    option_map_or (λ (row : Row). find (λ key. nat_lt (state.room row.offer.group key) lots) (path_behind reference row.offer)) (row_at state.offers n) None
+    option_map_or (λ (row : Row). find (λ key. nat_lt (state.room row.offer.group key) lots) (path_after reference row.offer)) (row_at state.offers n) None
 
 -- what is kept beside a history
 pub record IsBeside (reference : Tables) (history : List Entry) (totals : Totals) : Type 0 where

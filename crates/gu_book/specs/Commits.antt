@@ -4,7 +4,7 @@ use Rattle.gu_terms.specs.declared.entry.SweepEntry.{SweepEntry}
 use Rattle.gu_ref.specs.Reference.{is_group}
 use Rattle.gu_view.specs.View.{GroupView}
 use Rattle.gu_flow.specs.Proposals.{ProposedSweep}
-use Rattle.gu_book.specs.Kept.{Kept}
+use Rattle.gu_book.specs.BookState.{BookState}
 use Rattle.gu_book.specs.Versions.{version_of}
 use Rattle.gu_book.specs.Views.{group_view}
 use Rattle.gu_book.specs.declared.error.CommitError.{CommitError}
@@ -15,26 +15,26 @@ abbrev pub sweep_of : ProposedSweep → SweepEntry
 sweep_of proposal = record { group = proposal.view.group; takes = proposal.takes; cut = proposal.cut; lots = proposal.lots }
 
 -- the book has room for an entry, and the view is that of its group as the book stands
-pub record IsCurrent (book : Kept) (view : GroupView) : Type 0 where
+pub record IsCurrent (book : BookState) (view : GroupView) : Type 0 where
   pub room : length book.history < 1000000
   pub known : is_group book.reference view.group ≡ true
   pub same : view ≡ group_view book.reference book.history view.group
 
 -- the book has room for an entry, and the view has another version than its group has now
-pub record IsStale (book : Kept) (view : GroupView) (seen now : ℕ) : Type 0 where
+pub record IsStale (book : BookState) (view : GroupView) (seen now : ℕ) : Type 0 where
   pub room : length book.history < 1000000
   pub of_view : seen ≡ view.version
   pub of_group : now ≡ version_of book.history view.group
   pub touched : seen ≢ now
 
 -- the book has room for an entry, and the view has the version of its group, and yet it isn't that of the group
-pub record IsForeign (book : Kept) (view : GroupView) : Type 0 where
+pub record IsForeign (book : BookState) (view : GroupView) : Type 0 where
   pub room : length book.history < 1000000
   pub untouched : view.version ≡ version_of book.history view.group
   pub other : ¬ IsCurrent book view
 
 -- what each refusal says. A full book, a stale view, a foreign view and a current one: just one of the four stands
-abbrev pub Refuses : Kept → GroupView → CommitError → Type 0
+abbrev pub Refuses : BookState → GroupView → CommitError → Type 0
 Refuses book view Memory = IsCurrent book view
 Refuses book view Full = 1000000 ≤ length book.history
 Refuses book view (Stale seen now) = IsStale book view seen now

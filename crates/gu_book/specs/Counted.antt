@@ -50,8 +50,8 @@ HasCounts versions place (Only group) = IsCountAt versions place group
 HasCounts versions place Every = Unit {0}
 
 -- the group of the offer of a number
-abbrev pub group_behind : List Row → ℕ → Touched
-group_behind rows n = option_map_or (λ (row : Row). Only row.offer.group) (row_at rows n) Nothing
+abbrev pub group_after : List Row → ℕ → Touched
+group_after rows n = option_map_or (λ (row : Row). Only row.offer.group) (row_at rows n) Nothing
 
 -- the group that the reply to a give-up names
 abbrev pub group_named : Done → Touched
@@ -69,9 +69,9 @@ touched_by rows (OpenDay day) done = Every
 touched_by rows (SetLimit group key lots) done = Only group
 touched_by rows (ReportSide firm id match_id symbol lots price day side account) done = Nothing
 touched_by rows (GiveUp firm id report lines) done = group_named done
-touched_by rows (Claim firm offer) done = group_behind rows offer
-touched_by rows (Refuse firm offer why) done = group_behind rows offer
-touched_by rows (Reverse firm offer) done = group_behind rows offer
+touched_by rows (Claim firm offer) done = group_after rows offer
+touched_by rows (Refuse firm offer why) done = group_after rows offer
+touched_by rows (Reverse firm offer) done = group_after rows offer
 
 -- the groups that a command with its reply touches: a refused one touches none
 abbrev pub touched_in : List Row → Command → Reply → Touched

@@ -16,7 +16,7 @@ use Rattle.gu_limits.specs.Limits.{GroupLimit, has_limit, limit_in, same_place, 
 use Rattle.gu_positions.specs.Changes.{KeepsLots, lots_at}
 use Rattle.gu_positions.specs.Rows.{Row, has_row, lots_in, lots_on}
 use Rattle.gu_trades.specs.declared.terms.Terms.{Terms}
-use Rattle.gu_book.specs.Limits.{path_behind}
+use Rattle.gu_book.specs.Limits.{path_after}
 use Rattle.gu_book.specs.declared.totals.Totals.{Totals}
 
 -- the lots of reports on a side of an instrument, for an account
@@ -66,12 +66,12 @@ pub record UsesUnder (keys : List LimitKey) (old new : List GroupLimit) (group :
 
 -- and under the keys of an offer
 abbrev pub UsesMore : Tables → List GroupLimit → List GroupLimit → Offer → ℕ → Type 0
-UsesMore reference old new offer lots = UsesUnder (path_behind reference offer) old new offer.group lots
+UsesMore reference old new offer lots = UsesUnder (path_after reference offer) old new offer.group lots
 
 -- lots are used less under them
 pub record UsesLess (reference : Tables) (old new : List GroupLimit) (offer : Offer) (lots : ℕ) : Type 0 where
   pub limits : SameLimits old new
-  pub uses : (at : Group) (on : LimitKey) → used_in new at on + lots_under offer.group (path_behind reference offer) lots at on ≡ used_in old at on
+  pub uses : (at : Group) (on : LimitKey) → used_in new at on + lots_under offer.group (path_after reference offer) lots at on ≡ used_in old at on
 
 -- nothing is used of any limit
 pub record UsesNothing (old new : List GroupLimit) : Type 0 where

@@ -5,7 +5,7 @@ pub mod Commits
 pub mod Counted
 pub mod Current
 pub mod Effects
-pub mod Kept
+pub mod BookState
 pub mod Laws
 pub mod Legal
 pub mod Limits

@@ -18,7 +18,7 @@ use Rattle.gu_ref.specs.Reference.{agreement_between}
 use Rattle.gu_ref.specs.Tables.{Tables}
 use Rattle.gu_limits.specs.Paths.{path_of}
 use Rattle.gu_offers.specs.Rows.{Row}
-use Rattle.gu_book.specs.Kept.{Kept}
+use Rattle.gu_book.specs.BookState.{BookState}
 use Rattle.gu_book.specs.Offers.{standing_of}
 
 -- the lots that an entry sets for a key in a group
@@ -35,12 +35,12 @@ abbrev pub limit_of : List Entry → Group → LimitKey → ℕ
 limit_of history group key = unwrap_or (limit_set history group key) 0
 
 -- the keys that an offer comes under: the path of the agreement between its firm and its account
-abbrev pub path_behind : Tables → Offer → List LimitKey
-path_behind reference offer = unwrap_or (option_and_then (path_of reference) (agreement_between reference offer.firm offer.account)) []
+abbrev pub path_after : Tables → Offer → List LimitKey
+path_after reference offer = unwrap_or (option_and_then (path_of reference) (agreement_between reference offer.firm offer.account)) []
 
 -- an offer comes under a key in a group
 abbrev pub is_under : Tables → Group → LimitKey → Row → Bool
-is_under reference group key row = same_group group row.offer.group && has_key (path_behind reference row.offer) key
+is_under reference group key row = same_group group row.offer.group && has_key (path_after reference row.offer) key
 
 -- what is used under a key in a group: what was moved since the last opening of the offers that come under it
 abbrev pub use_in : Tables → List Row → Group → LimitKey → ℕ
@@ -72,5 +72,5 @@ keys_in_order reference =
     ++ map Guar reference.firms
 
 -- the limits of a group
-abbrev pub limit_rows : Kept → Group → List LimitRow
+abbrev pub limit_rows : BookState → Group → List LimitRow
 limit_rows book group = filter_map (limit_row book.reference book.history group) (keys_in_order book.reference)

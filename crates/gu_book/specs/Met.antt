@@ -10,7 +10,7 @@ use Rattle.gu_trades.specs.Counterparts.{counterpart_of}
 use Rattle.gu_trades.specs.Reports.{with_match}
 use Rattle.gu_offers.specs.Rows.{Row, row_at}
 use Rattle.gu_book.specs.Beside.{waiting_of}
-use Rattle.gu_book.specs.Limits.{path_behind}
+use Rattle.gu_book.specs.Limits.{path_after}
 use Rattle.gu_book.specs.declared.met.Met.{Met}
 use Rattle.gu_book.specs.declared.met.MetOffer.{MetOffer}
 use Rattle.gu_book.specs.declared.totals.Totals.{Totals}
@@ -18,7 +18,7 @@ use Rattle.gu_book.specs.declared.totals.Totals.{Totals}
 -- it is the offer of this number, with its path
 pub record IsMetOffer (reference : Tables) (totals : Totals) (n : ℕ) (met : MetOffer) : Type 0 where
   pub shown : Some met.offer ≡ option_map (λ (row : Row). row.offer) (row_at totals.offers n)
-  pub path : unwrap_or met.path [] ≡ path_behind reference met.offer
+  pub path : unwrap_or met.path [] ≡ path_after reference met.offer
   pub once : IfSome met.path (IsDistinct key_eq)
 
 -- what an accepted command met, where this is kept: by a report the one that waits for it, by a claim its offer

@@ -23,11 +23,11 @@ use Rattle.gu_offers.specs.Rows.{Row, left_in, row_at}
 use Rattle.gu_positions.specs.Changes.{KeepsRows}
 use Rattle.gu_positions.specs.Rows.{has_row, lots_on}
 use Rattle.gu_view.specs.View.{offer_of}
-use Rattle.gu_view.specs.declared.view.Offer.{Offer as ShownOffer}
+use Rattle.gu_view.specs.declared.view.ViewOffer.{ViewOffer as ShownOffer}
 use Rattle.gu_book.specs.Beside.{IsAccounted, IsKept, IsShown}
 use Rattle.gu_book.specs.Effects.{SameEntries, UsesMore}
-use Rattle.gu_book.specs.Limits.{path_behind}
-use Rattle.gu_book.specs.Positions.{report_behind}
+use Rattle.gu_book.specs.Limits.{path_after}
+use Rattle.gu_book.specs.Positions.{report_after}
 use Rattle.gu_book.specs.declared.totals.Totals.{Totals}
 
 -- one take of a sweep, as a sweep of it alone
@@ -40,7 +40,7 @@ parts sweep takes = map (part sweep) takes
 
 -- the offer of a number, and the terms of the report that it gives up
 abbrev pub given_by : Totals → ℕ → Option (Offer × Terms)
-given_by totals n = option_and_then (λ (row : Row). option_map (λ (r : Report). (row.offer, terms_of r)) (report_behind totals.trades row)) (row_at totals.offers n)
+given_by totals n = option_and_then (λ (row : Row). option_map (λ (r : Report). (row.offer, terms_of r)) (report_after totals.trades row)) (row_at totals.offers n)
 
 -- the accounts between which lots of an offer move have rows of its instrument
 abbrev pub HasRows : Totals → ℕ → Type 0
@@ -49,12 +49,12 @@ HasRows totals n = IfSome (given_by totals n) (λ g. (has_row totals.positions g
 -- of these offers of a view the one with a number has the path that it comes under
 abbrev pub ShowsPath : Tables → List Row → List ShownOffer → ℕ → Type 0
 ShowsPath reference rows offers n =
-    IfSome (row_at rows n) (λ row. option_map (λ (o : ShownOffer). o.path) (offer_of offers n) ≡ Some (path_behind reference row.offer))
+    IfSome (row_at rows n) (λ row. option_map (λ (o : ShownOffer). o.path) (offer_of offers n) ≡ Some (path_after reference row.offer))
 
 -- the lots that takes use under a key in a group
 abbrev pub lots_used : Tables → List Row → List Take → Group → LimitKey → ℕ
 lots_used reference rows takes group key =
-    sum_by (λ (t : Take). option_map_or (λ (r : Row). lots_under r.offer.group (path_behind reference r.offer) t.lots group key) (row_at rows t.offer) 0) takes
+    sum_by (λ (t : Take). option_map_or (λ (r : Row). lots_under r.offer.group (path_after reference r.offer) t.lots group key) (row_at rows t.offer) 0) takes
 
 -- takes of a view's offers may be moved: offers ascend, each is open and has the lots left, every room suffices for all, rows are
 -- made, and the view shows the paths

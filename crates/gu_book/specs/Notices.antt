@@ -25,7 +25,7 @@ use Rattle.gu_ref.specs.declared.accounts.Account.{Account}
 use Rattle.gu_trades.specs.Reports.{report_by, with_match}
 use Rattle.gu_trades.specs.Terms.{terms_of}
 use Rattle.gu_trades.specs.declared.terms.Terms.{Terms}
-use Rattle.gu_book.specs.Kept.{Kept}
+use Rattle.gu_book.specs.BookState.{BookState}
 use Rattle.gu_book.specs.Reports.{reports_of}
 use Rattle.gu_book.specs.Versions.{offer_at}
 
@@ -36,7 +36,7 @@ pub record Register : Type 0 where
   pub offer : ℕ → Option Offer
 
 -- that of a book: a report and an offer stay what they were
-abbrev pub register_of : Kept → Register
+abbrev pub register_of : BookState → Register
 register_of book = record { reference = book.reference; reports = reports_of book.history; offer = offer_at book.history }
 
 -- a notice, and the firm that it is to
@@ -101,7 +101,7 @@ abbrev pub told_to : FirmId → List Told → List Notice
 told_to firm told = map (λ (t : Told). t.notice) (filter (λ (t : Told). same_firm t.firm firm) told)
 
 -- the notices to a firm of the entries from a number on
-abbrev pub notices_of : Kept → FirmId → ℕ → List Notice
+abbrev pub notices_of : BookState → FirmId → ℕ → List Notice
 notices_of book firm from = told_to firm (told_from (register_of book) (max 1 from) (drop (from - 1) book.history))
 
 -- what is told to a firm of the entries from a number on up to another number, whose entry isn't among them
@@ -109,7 +109,7 @@ abbrev pub told_between : Register → List Entry → FirmId → ℕ → ℕ →
 told_between register history firm from next = told_to firm (told_from register (max 1 from) (take (next - max 1 from) (drop (from - 1) history)))
 
 -- the notices to a firm of the entries from a number on up to another number, whose entry isn't among them
-abbrev pub notices_between : Kept → FirmId → ℕ → ℕ → List Notice
+abbrev pub notices_between : BookState → FirmId → ℕ → ℕ → List Notice
 notices_between book firm from next = told_between (register_of book) book.history firm from next
 
 -- a stretch of a firm's notices from a number on, which is 1 at least, by the entries that it looks at: those before `next`
@@ -129,5 +129,5 @@ pub record IsStretchOf (register : Register) (history : List Entry) (firm : Firm
   pub full : stretch.is_last ≡ false → (stretch.notices.next ≡ max 1 from + 1024) ⊎ (1024 ≤ length stretch.notices.list.items)
 
 -- a stretch of what a book tells a firm from a number on
-abbrev pub IsStretch : Kept → FirmId → ℕ → Stretch → Type 0
+abbrev pub IsStretch : BookState → FirmId → ℕ → Stretch → Type 0
 IsStretch book firm from stretch = IsStretchOf (register_of book) book.history firm from stretch

@@ -7,7 +7,7 @@ use Rattle.gu_trades.specs.Matching.{is_of_trade}
 use Rattle.gu_trades.specs.Reports.{report_by}
 use Rattle.gu_offers.specs.Rows.{Row, counted_under}
 use Rattle.gu_book.specs.Offers.{given_back_by, is_shut, moved_of, offers_of, standing_of, taken_by}
-use Rattle.gu_book.specs.Positions.{report_behind}
+use Rattle.gu_book.specs.Positions.{report_after}
 use Rattle.gu_book.specs.Reports.{entries_today, reports_of}
 
 -- of each offer no more was given back than was taken, over all entries and over those of today, and today no more was moved than in all
@@ -32,7 +32,7 @@ IsCovered reports rows = AllByRecursion (λ r. counted_under rows r.firm r.id �
 
 -- each offer is of a report that is there
 abbrev pub AreFound : List Report → List Row → Type 0
-AreFound reports rows = AllByRecursion (λ row. is_some (report_behind reports row) ≡ true) rows
+AreFound reports rows = AllByRecursion (λ row. is_some (report_after reports row) ≡ true) rows
 
 -- no more was moved of any offer than it has
 abbrev pub AreWithin : List Row → Type 0

@@ -18,7 +18,7 @@ use Rattle.gu_ref.specs.declared.instruments.Instrument.{Instrument}
 use Rattle.gu_ref.specs.declared.accounts.Account.{Account}
 use Rattle.gu_trades.specs.Reports.{report_by}
 use Rattle.gu_offers.specs.Rows.{Row}
-use Rattle.gu_book.specs.Kept.{Kept}
+use Rattle.gu_book.specs.BookState.{BookState}
 use Rattle.gu_book.specs.Offers.{standing_of}
 use Rattle.gu_book.specs.Reports.{reports_of}
 
@@ -32,16 +32,16 @@ abbrev pub traded : List Report → Side → AccountId → Symbol → ℕ
 traded reports side account symbol = sum_by (brought reports side account symbol) reports
 
 -- the report that an offer gives up
-abbrev pub report_behind : List Report → Row → Option Report
-report_behind reports row = report_by reports row.offer.firm row.offer.report
+abbrev pub report_after : List Report → Row → Option Report
+report_after reports row = report_by reports row.offer.firm row.offer.report
 
 -- an offer gives up a report on this side of this instrument
 abbrev pub is_on : List Report → Side → Symbol → Row → Bool
-is_on reports side symbol row = option_map_or (λ (r : Report). same_side r.side side && same_symbol r.symbol symbol) (report_behind reports row) false
+is_on reports side symbol row = option_map_or (λ (r : Report). same_side r.side side && same_symbol r.symbol symbol) (report_after reports row) false
 
 -- an offer gives up a report of this account
 abbrev pub is_from : List Report → AccountId → Row → Bool
-is_from reports account row = option_map_or (λ (r : Report). same_account r.account account) (report_behind reports row) false
+is_from reports account row = option_map_or (λ (r : Report). same_account r.account account) (report_after reports row) false
 
 -- the lots that were moved into an account, on a side of an instrument
 abbrev pub moved_into : List Report → List Row → Side → AccountId → Symbol → ℕ
@@ -75,7 +75,7 @@ abbrev pub row_of_lots : Symbol → ℕ → ℕ → Option PositionRow
 row_of_lots symbol long short = if long == 0 && short == 0 then None else Some (record { symbol = symbol; long = long; short = short })
 
 -- all that an account holds, in the order of the reference's instruments
-abbrev pub position_rows : Kept → AccountId → List PositionRow
+abbrev pub position_rows : BookState → AccountId → List PositionRow
 position_rows book account =
     filter_map (λ (i : Instrument). row_of_lots i.symbol (long_of book.history account i.symbol) (short_of book.history account i.symbol)) book.reference.instruments
 
@@ -84,12 +84,12 @@ abbrev pub is_of_firm : Tables → FirmId → AccountId → Bool
 is_of_firm reference firm account = option_map_or (λ row. same_firm row.firm firm) (account_row reference account) false
 
 -- the open interest of an instrument: over the accounts, what each holds long above what it holds short
-abbrev pub open_interest_of : Kept → Symbol → ℕ
+abbrev pub open_interest_of : BookState → Symbol → ℕ
 open_interest_of book symbol =
     sum_by (λ (a : Account). long_of book.history a.account symbol - short_of book.history a.account symbol) book.reference.accounts
 
 -- over the accounts, as many lots of each instrument are held long as short
-abbrev pub LongIsShort : Kept → Type 0
+abbrev pub LongIsShort : BookState → Type 0
 LongIsShort book =
     (symbol : Symbol)
     → sum_by (λ (a : Account). long_of book.history a.account symbol) book.reference.accounts

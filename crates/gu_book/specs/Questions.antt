@@ -5,7 +5,7 @@ use Rattle.gu_terms.specs.declared.query.Query.TheVariants as asked
 use Rattle.gu_ref.specs.Reference.{is_group}
 use Rattle.gu_ref.specs.Tables.{Tables}
 use Rattle.gu_view.specs.View.{IsNested}
-use Rattle.gu_book.specs.Kept.{Kept}
+use Rattle.gu_book.specs.BookState.{BookState}
 use Rattle.gu_book.specs.Notices.{notices_of}
 use Rattle.gu_book.specs.Positions.{is_of_firm, long_of, open_interest_of, position_rows, short_of}
 use Rattle.gu_book.specs.Reports.{open_day}
@@ -17,7 +17,7 @@ use Rattle.gu_book.specs.declared.asking.Answer.TheVariants as answered
 -- interest; all that the account holds, where it is the firm's; the group's view, which is nested;
 -- the notices from a number on, and the number after the last entry. An answer of another kind
 -- answers nothing
-abbrev pub IsAnswer : Kept → Query → Answer → Type 0
+abbrev pub IsAnswer : BookState → Query → Answer → Type 0
 IsAnswer book (asked.Position account symbol) (answered.Position long short) =
     (long ≡ long_of book.history account symbol) × (short ≡ short_of book.history account symbol)
 IsAnswer book (asked.Interest symbol) (answered.Interest lots) = lots ≡ open_interest_of book symbol

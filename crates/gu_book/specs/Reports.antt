@@ -40,7 +40,7 @@ reports_after before (entry ∷ later) = option_to_list (report_on (open_day bef
 abbrev pub reports_of : List Entry → List Report
 reports_of history = reports_after [] history
 
--- a report may come behind these: its firm has none with its id, and it conflicts with none of its match id
+-- a report may come after these: its firm has none with its id, and it conflicts with none of its match id
 pub record Fits (reports : List Report) (report : Report) : Type 0 where
   pub new_id : has_report reports report.firm report.id ≡ false
   pub fits : conflicts (with_match report.match_id reports) report ≡ false

@@ -28,7 +28,7 @@ is_party reference firm o = same_firm o.firm firm || option_map_or (λ (a : Acco
 abbrev pub is_party_to : Register → FirmId → ℕ → Bool
 is_party_to register firm n = option_map_or (is_party register.reference firm) (register.offer n) false
 
--- once these were told without a refused growth, the firm's are kept behind those before
+-- once these were told without a refused growth, the firm's are kept after those before
 pub record IsTold {T E : Type 0} (old new : Mailbox) (result : Result T E) (told : List Told) : Type 0 where
   pub firm : new.firm ≡ old.firm
   pub list : OnOk result (new.list.items ≡ old.list.items ++ told_to old.firm told)

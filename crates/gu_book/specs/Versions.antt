@@ -20,7 +20,7 @@ offer_at history (suc place) = slice_get (offers_of history) place
 abbrev pub is_of_group : List Entry → Group → ℕ → Bool
 is_of_group history group n = option_map_or (λ (o : Offer). same_group o.group group) (offer_at history n) false
 
--- an entry behind these touches a group: an opening every group, a limit or a give-up its own, a claim, a refusal or a reversal that of its offer,
+-- an entry after these touches a group: an opening every group, a limit or a give-up its own, a claim, a refusal or a reversal that of its offer,
 -- and a sweep its own, where it takes nothing too; reports and refused commands touch none
 abbrev pub touches : List Entry → Group → Entry → Bool
 touches before group (Asked (OpenDay day) (Accepted Opened)) = true

@@ -9,20 +9,20 @@ use Rattle.gu_ref.specs.Tables.{Tables}
 use Rattle.gu_offers.specs.Rows.{open_offers}
 use Rattle.gu_offers.specs.declared.open_offer.OpenOffer.{OpenOffer}
 use Rattle.gu_view.specs.View.{GroupView, keys_of}
-use Rattle.gu_view.specs.declared.view.Offer.{Offer}
-use Rattle.gu_book.specs.Limits.{path_behind, room_of}
+use Rattle.gu_view.specs.declared.view.ViewOffer.{ViewOffer}
+use Rattle.gu_book.specs.Limits.{path_after, room_of}
 use Rattle.gu_book.specs.Offers.{standing_of}
 use Rattle.gu_book.specs.Versions.{version_of}
 
 -- an open offer as a view shows it: what is left of it, its agreement and its path
-abbrev pub shown : Tables → OpenOffer → Option Offer
+abbrev pub shown : Tables → OpenOffer → Option ViewOffer
 shown reference o =
     option_map
-    (λ agreement. record { number = o.number; lots = o.left; agreement = agreement; path = path_behind reference o.offer })
+    (λ agreement. record { number = o.number; lots = o.left; agreement = agreement; path = path_after reference o.offer })
     (agreement_between reference o.offer.firm o.offer.account)
 
 -- the open offers of a group, in the order of their numbers
-abbrev pub offers_shown : Tables → List Entry → Group → List Offer
+abbrev pub offers_shown : Tables → List Entry → Group → List ViewOffer
 offers_shown reference history group = filter_map (shown reference) (open_offers (standing_of history) group)
 
 -- the view of a group

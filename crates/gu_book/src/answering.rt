@@ -17,7 +17,7 @@ ghost use Rattle.gu_book.specs.Accepted.{accepts};
 ghost use Rattle.gu_book.specs.Answer.{lacks_agreement, limit_tests, offer_tests, opening_tests, refusal_in, refuse_tests, report_tests, reverse_tests, room_tests, tests_of_lines};
 ghost use Rattle.gu_book.specs.Beside.{answer_to_match, group_named_by, some_lots, standing_given_up, state_in, waiting_of};
 ghost use Rattle.gu_offers.specs.Rows.{Row, left_in, row_at, today_in};
-ghost use Rattle.gu_book.specs.Limits.{path_behind};
+ghost use Rattle.gu_book.specs.Limits.{path_after};
 ghost use Rattle.gu_book.specs.Met.{IsMet};
 
 use crate::met::{Met, MetOffer};
@@ -307,7 +307,7 @@ fn is_anothers(
 /// The path of the agreement by which an offer was made, where it is known, or that there is none.
 fn path_with(reference: &Reference, offer: &Offer, partner: &Option<Partner>) -> Option<Path>
     requires { partner.now ≡ partner_between reference.now offer.now.firm offer.now.account }
-    ensures keys { unwrap_or result [] ≡ path_behind reference.now offer.now }
+    ensures keys { unwrap_or result [] ≡ path_after reference.now offer.now }
     ensures once { IfSome result (IsDistinct key_eq) }
 {
     reference.rules();
@@ -319,7 +319,7 @@ fn path_with(reference: &Reference, offer: &Offer, partner: &Option<Partner>) ->
 
 /// The path of the agreement by which an offer was made.
 pub fn path_of_offer(reference: &Reference, offer: &Offer) -> Option<Path>
-    ensures keys { unwrap_or result [] ≡ path_behind reference.now offer.now }
+    ensures keys { unwrap_or result [] ≡ path_after reference.now offer.now }
     ensures once { IfSome result (IsDistinct key_eq) }
 {
     let partner = reference.partner(offer.firm, offer.account);

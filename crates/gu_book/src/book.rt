@@ -68,9 +68,9 @@ impl Drop for Book {
 }
 
 impl Model for Book {
-    ghost use Rattle.gu_book.specs.Kept.{Kept};
+    ghost use Rattle.gu_book.specs.BookState.{BookState};
 
-    ghost Value = { Kept };
+    ghost Value = { BookState };
 
     ghost use Rattle.gu_book.specs.Beside.{IsKeptLegal};
 

@@ -4,7 +4,7 @@ ghost use Rattle.std.specs.Prelude.{◌≡◌, ◌↔◌, ◌++◌, ◌∷◌, I
 ghost use Rattle.std.specs.List.{filter_map};
 ghost use Rattle.std.specs.Option.{option_to_list};
 ghost use Rattle.gu_view.specs.View.{IsView};
-ghost use Rattle.gu_view.specs.declared.view.Offer.{Offer as OfferOf};
+ghost use Rattle.gu_view.specs.declared.view.ViewOffer.{ViewOffer as OfferOf};
 ghost use Rattle.gu_book.specs.Current.{HasRooms, ShowsAll};
 ghost use Rattle.gu_book.specs.Shown.{shown_at};
 
@@ -14,10 +14,10 @@ use crate::views::shown_offer;
 use gu_limits::LimitTable;
 use gu_ref::Reference;
 use gu_terms::Group;
-use gu_view::{Offer, Room, View};
+use gu_view::{ViewOffer, Room, View};
 
-/// What stands behind an offer, where offers begin with it.
-fn behind<'a>(offers: &'a [Offer], first: &Offer) -> Option<&'a [Offer]>
+/// What comes after an offer, where offers begin with it.
+fn behind<'a>(offers: &'a [ViewOffer], first: &ViewOffer) -> Option<&'a [ViewOffer]>
     ensures begins { IfSome result (λ rest. offers.now ≡ first.now ∷ rest.now) }
     ensures exactly { (rest : List OfferOf) → offers.now ≡ first.now ∷ rest → IsSome result }
 {
@@ -28,13 +28,13 @@ fn behind<'a>(offers: &'a [Offer], first: &Offer) -> Option<&'a [Offer]>
     Some(rest)
 }
 
-/// What stands behind the offer of a number, where offers begin with it as a view shows it; all of them, where a view shows none.
+/// What comes after the offer of a number, where offers begin with it as a view shows it; all of them, where a view shows none.
 fn behind_number<'a>(
     reference: &Reference,
     totals: &Totals,
     number: u64,
-    offers: &'a [Offer],
-) -> Option<&'a [Offer]>
+    offers: &'a [ViewOffer],
+) -> Option<&'a [ViewOffer]>
     ensures begins { IfSome result (λ rest. offers.now ≡ option_to_list (shown_at reference.now totals.now.offers number) ++ rest.now) }
     ensures exactly { (rest : List OfferOf) → offers.now ≡ option_to_list (shown_at reference.now totals.now.offers number) ++ rest → IsSome result }
 {
@@ -45,7 +45,7 @@ fn behind_number<'a>(
 }
 
 /// Whether these offers are those of the numbers, as a view shows them.
-fn shows_offers(reference: &Reference, totals: &Totals, numbers: &[u64], offers: &[Offer]) -> bool
+fn shows_offers(reference: &Reference, totals: &Totals, numbers: &[u64], offers: &[ViewOffer]) -> bool
     ensures { IsTrue result ↔ (offers.now ≡ filter_map (shown_at reference.now totals.now.offers) numbers.now) }
 {
     let mut rest = offers;

@@ -10,7 +10,7 @@ ghost use Rattle.gu_terms.specs.declared.refusal.Refusal.{Refusal as RefusalOf};
 ghost use Rattle.gu_terms.specs.declared.reply.Reply.TheVariants.{Denied};
 ghost use Rattle.gu_ref.specs.Tables.{Tables};
 ghost use Rattle.gu_book.specs.Answer.{State, answer_in, tests_of};
-ghost use Rattle.gu_book.specs.Kept.{Kept};
+ghost use Rattle.gu_book.specs.BookState.{BookState};
 ghost use Rattle.gu_book.specs.Legal.{MayFollow};
 ghost use Rattle.gu_book.specs.Notices.{notices_between, notices_of};
 ghost use Rattle.gu_book.specs.Versions.{touches, touching, touching_after, version_of};
@@ -27,8 +27,8 @@ pub fn the_least_refusal_is_given()
         → number_of given ≤ number_of other }
 {}
 
-/// Entries that come later add their touches behind those that were there.
-pub fn later_touches_come_behind()
+/// Entries that come later add their touches after those that were there.
+pub fn later_touches_come_after()
     ensures { (first later : List EntryOf) (group : GroupOf)
         → touching (first ++ later) group ≡ touching first group ++ touching_after first group later }
 {}
@@ -52,10 +52,10 @@ pub fn an_entry_elsewhere_leaves_the_view()
 /// A firm's notices up to a number, with those from it on, are the whole: those of two stretches, of which the second begins where
 /// the first ends, and those of all entries.
 pub fn stretches_join_to_the_whole()
-    ensures between { (book : Kept) (firm : FirmOf) (from mid next : ℕ) → from ≤ mid → mid ≤ next
+    ensures between { (book : BookState) (firm : FirmOf) (from mid next : ℕ) → from ≤ mid → mid ≤ next
         → notices_between book firm from mid ++ notices_between book firm mid next ≡ notices_between book firm from next }
-    ensures rest { (book : Kept) (firm : FirmOf) (from mid : ℕ) → from ≤ mid
+    ensures rest { (book : BookState) (firm : FirmOf) (from mid : ℕ) → from ≤ mid
         → notices_between book firm from mid ++ notices_of book firm mid ≡ notices_of book firm from }
-    ensures whole { (book : Kept) (firm : FirmOf) (from next : ℕ) → length book.history < next
+    ensures whole { (book : BookState) (firm : FirmOf) (from next : ℕ) → length book.history < next
         → notices_between book firm from next ≡ notices_of book firm from }
 {}

@@ -24,7 +24,7 @@ pub use asking::Answer;
 pub use book::Book;
 pub use error::{AskError, CommitError, EnterError};
 pub use laws::{
-    an_entry_elsewhere_leaves_the_view, equal_versions_are_untouched, later_touches_come_behind,
+    an_entry_elsewhere_leaves_the_view, equal_versions_are_untouched, later_touches_come_after,
     stretches_join_to_the_whole, the_least_refusal_is_given,
 };
 pub use laws_of_offers::{

@@ -15,7 +15,7 @@ use crate::totals::Totals;
 use gu_flow::Proposal;
 use gu_limits::Places;
 use gu_terms::{Entry, History, KeptSweep, OfferNo, Receipt, SweepEntry, Take};
-use gu_view::{Offer, View};
+use gu_view::{ViewOffer, View};
 use std::alloc::{AllocError, Global};
 
 /// The sweep that a proposal asks for, as a history keeps it: made before `Book::enter_sweep`, which
@@ -103,7 +103,7 @@ pub fn make_ways(totals: &mut Totals, takes: &[Take]) -> Result<(), AllocError>
 }
 
 /// Where the first offer stands that doesn't come before a number, among those from a place on.
-fn place_from(offers: &[Offer], from: usize, number: OfferNo) -> usize {
+fn place_from(offers: &[ViewOffer], from: usize, number: OfferNo) -> usize {
     for place in from..offers.len() {
         if offers[place].number.get() >= number.get() {
             return place;

@@ -18,7 +18,7 @@ ghost use Rattle.gu_trades.specs.Reports.{has_report, report_by, with_match};
 ghost use Rattle.gu_trades.specs.Terms.{report_with};
 ghost use Rattle.gu_book.specs.Beside.{is_kept_give_up, waiting_of};
 ghost use Rattle.gu_book.specs.Effects.{HoldsMore, HoldsMoved, IsEven, KeepsMade, OnlyRowsOf, SameAnswers, SameEntries, SetsLimit, UsesLess, UsesNothing, UsesUnder, made_a_trade};
-ghost use Rattle.gu_book.specs.Limits.{path_behind};
+ghost use Rattle.gu_book.specs.Limits.{path_after};
 ghost use Rattle.gu_book.specs.Moving.{given_by};
 ghost use Rattle.gu_book.specs.Reports.{Fits};
 
@@ -282,7 +282,7 @@ impl Totals {
     ) -> Result<(), AllocError>
         requires closed { left_in self.old.offers number ≡ 0 }
         requires moved { 0 < today_in self.old.offers number }
-        requires used { All (λ key. lots ≤ used_in self.old.limits offer.now.group key) (path_behind reference.now offer.now) }
+        requires used { All (λ key. lots ≤ used_in self.old.limits offer.now.group key) (path_after reference.now offer.now) }
         requires there { lots ≤ lots_in self.old.positions report.now.side offer.now.account report.now.symbol }
         ensures entries { SameEntries self.old self.new }
         ensures offers { OnOk result (self.new.offers ≡ changed self.old.offers number reversed) }
@@ -381,7 +381,7 @@ fn charge(limits: &mut LimitTable, claimed: &MetOffer, lots: u64)
 
 /// Gives back lots that were used under them.
 fn give_back(limits: &mut LimitTable, reference: &Reference, offer: &Offer, lots: u64)
-    requires { All (λ key. lots ≤ used_in limits.old offer.now.group key) (path_behind reference.now offer.now) }
+    requires { All (λ key. lots ≤ used_in limits.old offer.now.group key) (path_after reference.now offer.now) }
     ensures { UsesLess reference.now limits.old limits.new offer.now lots }
 {
     if let Some(path) = path_of_offer(reference, offer) {

@@ -2,7 +2,7 @@
 
 ghost use Rattle.std.specs.Prelude.{◌≡◌, ◌+◌, ◌<◌, ◌≤◌, ◌^◌, IfOk, if◌then◌else◌};
 ghost use Rattle.gu_terms.specs.declared.group.Group.{Group as GroupOf};
-ghost use Rattle.gu_book.specs.Counted.{HasCounts, group_behind, group_named, is_touched, touched_by, touched_in, version_in};
+ghost use Rattle.gu_book.specs.Counted.{HasCounts, group_after, group_named, is_touched, touched_by, touched_in, version_in};
 
 use crate::totals::Totals;
 use crate::versions::{Touched, Versions};
@@ -10,8 +10,8 @@ use gu_terms::{Command, Done, OfferNo, Reply};
 use std::alloc::AllocError;
 
 /// The group of an offer.
-fn group_behind(totals: &Totals, number: OfferNo) -> Touched
-    ensures { result ≡ group_behind totals.now.offers number }
+fn group_after(totals: &Totals, number: OfferNo) -> Touched
+    ensures { result ≡ group_after totals.now.offers number }
 {
     match totals.offers.get(number) {
         Some(offer) => Touched::Only(offer.group),
@@ -40,7 +40,7 @@ fn touched_by(totals: &Totals, command: &Command, done: Done) -> Touched
         Command::GiveUp { .. } => group_named(done),
         Command::Claim { offer, .. }
         | Command::Refuse { offer, .. }
-        | Command::Reverse { offer, .. } => group_behind(totals, *offer),
+        | Command::Reverse { offer, .. } => group_after(totals, *offer),
     }
 }
 

@@ -13,14 +13,14 @@ use crate::versions::Versions;
 use gu_limits::{LimitTable, path_between};
 use gu_ref::Reference;
 use gu_terms::{Group, LimitKey, OfferNo};
-use gu_view::{KeyedOffers, Offer, Room, View};
+use gu_view::{KeyedOffers, ViewOffer, Room, View};
 use std::alloc::{AllocError, Global};
 
 /// The keys that each path is expected to bring to a view: as many as there are on one without a guarantor.
 const EXPECTED_KEYS: usize = 4;
 
 /// The offer of a number, as a view shows it: what is left of it, its agreement and its path. It takes no memory.
-pub fn shown_offer(reference: &Reference, totals: &Totals, number: u64) -> Option<Offer>
+pub fn shown_offer(reference: &Reference, totals: &Totals, number: u64) -> Option<ViewOffer>
     ensures { result ≡ shown_at reference.now totals.now.offers number }
 {
     // There are numbers for all offers, and each agreement has a path.
@@ -30,7 +30,7 @@ pub fn shown_offer(reference: &Reference, totals: &Totals, number: u64) -> Optio
     let offer = totals.offers.get(number)?;
     let (agreement, path) = path_between(reference, offer.firm, offer.account)?;
     let lots = totals.offers.left(number);
-    Some(Offer {
+    Some(ViewOffer {
         number,
         lots,
         agreement,
@@ -39,12 +39,12 @@ pub fn shown_offer(reference: &Reference, totals: &Totals, number: u64) -> Optio
 }
 
 /// Appends an offer, if there is one.
-fn append_offer(offers: &mut Vec<Offer>, offer: Option<Offer>) -> Result<(), AllocError>
+fn append_offer(offers: &mut Vec<ViewOffer>, offer: Option<ViewOffer>) -> Result<(), AllocError>
     ensures { OnOk result (offers.new.items ≡ offers.old.items ++ option_to_list offer) }
 {
     // Taken apart and made again, so that the check is told of the types within.
     if let Some(
-        Offer {
+        ViewOffer {
             number,
             lots,
             agreement,
@@ -52,7 +52,7 @@ fn append_offer(offers: &mut Vec<Offer>, offer: Option<Offer>) -> Result<(), All
         },
     ) = offer
     {
-        offers.push(Offer {
+        offers.push(ViewOffer {
             number,
             lots,
             agreement,
@@ -69,7 +69,7 @@ fn offers_of(
     reference: &Reference,
     totals: &Totals,
     numbers: &[u64],
-) -> Result<Vec<Offer>, AllocError>
+) -> Result<Vec<ViewOffer>, AllocError>
     ensures { IfOk result (λ offers. offers.items ≡ filter_map (shown_at reference.now totals.now.offers) numbers.now) }
 {
     let mut offers = Vec::with_capacity(alloc, numbers.len())?;

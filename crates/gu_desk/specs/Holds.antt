@@ -12,7 +12,7 @@ use Rattle.gu_terms.specs.declared.receipt.Receipt.{Receipt}
 use Rattle.gu_terms.specs.declared.reply.Reply.{Reply}
 use Rattle.gu_ref.specs.Tables.{Tables}
 use Rattle.gu_view.specs.View.{GroupView}
-use Rattle.gu_book.specs.Kept.{Kept}
+use Rattle.gu_book.specs.BookState.{BookState}
 use Rattle.gu_book.specs.Legal.{IsLegal, StandsLast}
 use Rattle.gu_book.specs.Notices.{IsStretch}
 use Rattle.gu_book.specs.Questions.{IsAnswer}
@@ -30,7 +30,7 @@ pub record IsEntered (reference : Tables) (earlier : ℕ) (receipt : Receipt) : 
 
 -- the answer is that of some book of this reference, whose legal history has at least this many entries
 pub record IsAnswered (reference : Tables) (least : ℕ) (query : Query) (answer : Answer) : Type 0 where
-  pub book : Kept
+  pub book : BookState
   pub of_reference : book.reference ≡ reference
   pub legal : IsLegal reference book.history
   pub enough : least ≤ length book.history
@@ -42,7 +42,7 @@ IsSeen reference least group view = IsAnswered reference least (query.Look group
 
 -- the stretch is what some book of this reference, whose legal history has at least this many entries, tells the firm from a number on
 pub record IsTold (reference : Tables) (least : ℕ) (firm : FirmId) (from : ℕ) (stretch : Stretch) : Type 0 where
-  pub book : Kept
+  pub book : BookState
   pub of_reference : book.reference ≡ reference
   pub legal : IsLegal reference book.history
   pub enough : least ≤ length book.history

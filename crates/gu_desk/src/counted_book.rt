@@ -1,4 +1,4 @@
-//! What is behind a desk's lock: the book, and the ledgers of what its seats entered and swept. Each hold of the lock is one call.
+//! What is after a desk's lock: the book, and the ledgers of what its seats entered and swept. Each hold of the lock is one call.
 
 ghost use Rattle.std.specs.Prelude.{◌≡◌, ◌↔◌, ◌+◌, ◌<◌, ◌≤◌, length, sum_by, vec_len, false, IfErr, IfOk, IsErrOf, OnErr};
 ghost use Rattle.gu_terms.specs.Histories.{lots_swept};

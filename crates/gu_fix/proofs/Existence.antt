@@ -7,12 +7,12 @@ use Rattle.std.specs.Char.{digit_value}
 use Rattle.std.specs.Str.Parse.{AllDigits, digits_value}
 use Rattle.gu_fix.specs.WholeMessage.{soh, opening, type_tag, body_of, trailer_after, front_of}
 use Rattle.gu_fix.specs.Places.{Meets, ReadsLength, MeetsBody, StandsAs, IsLength}
-use Rattle.gu_fix.specs.declared.place.Meeting.{Meeting}
-use Rattle.gu_fix.specs.declared.place.Meeting.TheVariants.{Begins, Within, Apart}
-use Rattle.gu_fix.specs.declared.place.LengthText.{LengthText}
-use Rattle.gu_fix.specs.declared.place.LengthText.TheVariants as length_text
-use Rattle.gu_fix.specs.declared.place.Place.{Place}
-use Rattle.gu_fix.specs.declared.place.Place.TheVariants as place
+use Rattle.gu_fix.specs.declared.prefix.Meeting.{Meeting}
+use Rattle.gu_fix.specs.declared.prefix.Meeting.TheVariants.{Begins, Within, Apart}
+use Rattle.gu_fix.specs.declared.prefix.LengthText.{LengthText}
+use Rattle.gu_fix.specs.declared.prefix.LengthText.TheVariants as length_text
+use Rattle.gu_fix.specs.declared.prefix.Prefix.{Prefix}
+use Rattle.gu_fix.specs.declared.prefix.Prefix.TheVariants as place
 use Rattle.gu_fix.proofs.Lengths.{split_at, apart_at_soh, apart_at_other, apart_at_end, open_as_is, open_with_four, length_from}
 use Rattle.gu_fix.proofs.Bodies.{body_begins, body_within, body_within_tag, body_apart_tag, body_apart_end}
 use Rattle.gu_fix.proofs.Places.{open_in_opening, garbled_in_opening, open_in_length, garbled_in_length, HeadRead, open_in_body, garbled_in_body, BodyRead, body_read, whole_in_trailer, whole_here, open_in_trailer, garbled_in_trailer}
@@ -94,31 +94,31 @@ body_at bytes len least = body_step (meeting_of bytes type_tag)
 -- ---- the place
 
 -- what stands at a place whose body was read
-trailer_step : (bytes digits inner after : List ℕ) → BodyRead bytes digits inner after → ((r : Meeting) × Meets r after (trailer_after (front_of digits (body_of inner)))) → (p : Place) × StandsAs p bytes
+trailer_step : (bytes digits inner after : List ℕ) → BodyRead bytes digits inner after → ((r : Meeting) × Meets r after (trailer_after (front_of digits (body_of inner)))) → (p : Prefix) × StandsAs p bytes
 trailer_step bytes digits inner after read (Begins, (rest, e)) =
     (place.Whole (21 + length digits + length (body_of inner)), whole_here bytes digits inner rest _ (whole_in_trailer bytes digits inner after rest read e) refl)
 trailer_step bytes digits inner after read (Within, (rest, some, e)) = (place.Open, open_in_trailer bytes digits inner after rest read some e)
 trailer_step bytes digits inner after read (Apart, apart) = (place.Garbled, garbled_in_trailer bytes digits inner after read apart)
 
 -- what stands at a place whose length was read
-body_found : (bytes digits : List ℕ) (len : ℕ) (rest : List ℕ) → HeadRead bytes digits len rest → ((r : Meeting) × MeetsBody r rest len) → (p : Place) × StandsAs p bytes
+body_found : (bytes digits : List ℕ) (len : ℕ) (rest : List ℕ) → HeadRead bytes digits len rest → ((r : Meeting) × MeetsBody r rest len) → (p : Prefix) × StandsAs p bytes
 body_found bytes digits len rest head (Begins, (inner, after, long, e)) = trailer_step bytes digits inner after (body_read bytes digits len rest inner after head long e) (meeting_of after _)
 body_found bytes digits len rest head (Within, (inner, more, long, e)) = (place.Open, open_in_body bytes digits len rest inner more head long e)
 body_found bytes digits len rest head (Apart, apart) = (place.Garbled, garbled_in_body bytes digits len rest head apart)
 
 -- what stands at a place that begins as a message
-length_found : (bytes first : List ℕ) → bytes ≡ opening ++ first → ((r : LengthText) × ReadsLength r first) → (p : Place) × StandsAs p bytes
+length_found : (bytes first : List ℕ) → bytes ≡ opening ++ first → ((r : LengthText) × ReadsLength r first) → (p : Prefix) × StandsAs p bytes
 length_found bytes first e (length_text.Read count n, (digits, rest, l, is, f)) =
     body_found bytes digits n rest (record { is_length = is; parts = e ∙ ap (λ (t : List ℕ). opening ++ t) f }) (body_at rest n is.least)
 length_found bytes first e (length_text.Open, (more, n, is)) = (place.Open, open_in_length bytes first more n e is)
 length_found bytes first e (length_text.Apart, apart) = (place.Garbled, garbled_in_length bytes first e apart)
 
 -- what stands at a place, by how its bytes meet the opening
-opening_found : (bytes : List ℕ) → ((r : Meeting) × Meets r bytes opening) → (p : Place) × StandsAs p bytes
+opening_found : (bytes : List ℕ) → ((r : Meeting) × Meets r bytes opening) → (p : Prefix) × StandsAs p bytes
 opening_found bytes (Begins, (first, e)) = length_found bytes first e (length_at first (length first) 0 (omega arith) (omega arith) tt)
 opening_found bytes (Within, (rest, some, e)) = (place.Open, open_in_opening bytes rest some e)
 opening_found bytes (Apart, apart) = (place.Garbled, garbled_in_opening bytes apart)
 
 -- what stands at the front
-pub place_of : (bytes : List ℕ) → (p : Place) × StandsAs p bytes
+pub place_of : (bytes : List ℕ) → (p : Prefix) × StandsAs p bytes
 place_of bytes = opening_found bytes (meeting_of bytes opening)

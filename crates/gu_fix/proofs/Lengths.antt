@@ -9,12 +9,12 @@ use Rattle.gu_fix.specs.Places.{IsLength}
 use Rattle.gu_fix.proofs.WholeLemmas.{digits_end}
 use Rattle.gu_fix.proofs.Digits.{longer_digits, digits_front, value_grows}
 
--- the bytes before a place, its byte, and those behind it
+-- the bytes before a place, its byte, and those after it
 pub split_at : (bytes : List ℕ) (i b : ℕ) → i < length bytes → get_or bytes i 0 ≡ b → bytes ≡ take i bytes ++ b ∷ drop (i + 1) bytes
 split_at bytes i b l e =
     sym (take-append-drop i bytes) ∙ ap (λ (t : List ℕ). take i bytes ++ t) (drop_more bytes i 0 l) ∙ ap (λ n. take i bytes ++ n ∷ drop (i + 1) bytes) e
 
--- the same with more bytes behind
+-- the same with more bytes after
 split_more : (bytes more : List ℕ) (i b : ℕ) → i < length bytes → get_or bytes i 0 ≡ b → take i bytes ++ b ∷ (drop (i + 1) bytes ++ more) ≡ bytes ++ more
 split_more bytes more i b l e =
     sym (append_assoc (take i bytes) (b ∷ drop (i + 1) bytes) more) ∙ ap (λ (t : List ℕ). t ++ more) (sym (split_at bytes i b l e))

@@ -14,11 +14,11 @@ use Rattle.gu_fix.specs.declared.error.SessionRejectReason.{SessionRejectReason}
 abbrev pub Lacks : ℕ → List ℕ → Type 0
 Lacks byte bytes = (k : ℕ) → k < length bytes → get_or bytes k 0 ≡ byte → ⊥
 
--- what holds of bytes holds of those behind the first
-lacks_behind : (byte c : ℕ) (cs : List ℕ) → Lacks byte (c ∷ cs) → Lacks byte cs
-lacks_behind byte c cs none k lt e = none (suc k) (omega arith) e
+-- what holds of bytes holds of those after the first
+lacks_after : (byte c : ℕ) (cs : List ℕ) → Lacks byte (c ∷ cs) → Lacks byte cs
+lacks_after byte c cs none k lt e = none (suc k) (omega arith) e
 
--- what stands before the first such byte, and what behind it
+-- what stands before the first such byte, and what after it
 pub first_ends : (byte : ℕ) (a b x y : List ℕ) → Lacks byte a → Lacks byte b → a ++ byte ∷ x ≡ b ++ byte ∷ y → (a ≡ b) × (x ≡ y)
 first_ends byte [] [] x y p q e = (refl, cc)
 first_ends byte [] (c ∷ cs) x y p q e = absurd (q zero (omega arith) cc)
@@ -26,7 +26,7 @@ first_ends byte (c ∷ cs) [] x y p q e = absurd (p zero (omega arith) cc)
 first_ends byte (c ∷ cs) (d ∷ ds) x y p q e =
     let tails : cs ++ byte ∷ x ≡ ds ++ byte ∷ y = cc in
     let heads : c ≡ d = cc in
-    let others = first_ends byte cs ds x y (lacks_behind byte c cs p) (lacks_behind byte d ds q) tails in
+    let others = first_ends byte cs ds x y (lacks_after byte c cs p) (lacks_after byte d ds q) tails in
     (cc, others.1)
 
 -- ---- parts

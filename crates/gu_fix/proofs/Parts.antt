@@ -7,7 +7,7 @@ use Rattle.std.proofs.lemmas.Bool.{cases_order}
 use Rattle.std.proofs.lemmas.Str.Parse.{digit_at}
 use Rattle.gu_fix.specs.Fields.{HasTag}
 
--- `=` stands behind the tag's text
+-- `=` comes after the tag's text
 pub equals_at : (part text value : List ℕ) → part ≡ text ++ 61 ∷ value → (get_or part (length text) 0 ≡ 61) × (length text < length part)
 equals_at part text value e = (
   ap (λ (t : List ℕ). get_or t (length text) 0) e ∙ get_or_at text 61 value 0 (length text) refl,
@@ -29,9 +29,9 @@ digits_within part text value i all e =
       | inr (inr gt) ↦ omega (arith, gt)
     ]
 
--- what stands behind digits is neither `=` nor one more digit of a tag: no tag stands in front
-pub no_tag_behind : (part : List ℕ) (i : ℕ) → AllDigits 10 (take i part) → (get_or part i 0 ≡ 61 → ⊥) → (i ≡ 9) ⊎ IsOutOfRange 48 57 (get_or part i 0) → (tag : ℕ) (value : List ℕ) → HasTag part tag value → ⊥
-no_tag_behind part i all other why tag value h =
+-- what comes after digits is neither `=` nor one more digit of a tag: no tag stands in front
+pub no_tag_after : (part : List ℕ) (i : ℕ) → AllDigits 10 (take i part) → (get_or part i 0 ≡ 61 → ⊥) → (i ≡ 9) ⊎ IsOutOfRange 48 57 (get_or part i 0) → (tag : ℕ) (value : List ℕ) → HasTag part tag value → ⊥
+no_tag_after part i all other why tag value h =
     let at = equals_at part h.text value h.parts in
     let n = length h.text in
     elim (cases_order n i) [

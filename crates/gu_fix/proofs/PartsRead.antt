@@ -58,7 +58,7 @@ field_read bytes rest part after fields fault field so_far e none is later other
     let next = subst (λ (t : List ℕ). HasFields t (field ∷ later) other) (sym e) (field_in_front part after field later other none is h) in
     subst (λ (t : List TagValue). HasFields bytes t (earlier_of fault other)) (sym (append_assoc fields (field ∷ []) later)) (so_far (field ∷ later) other next)
 
--- what comes behind a fault names none
+-- what comes after a fault names none
 earlier_of-earlier_of : (fault other : Option FieldFault) (found : FieldFault) → earlier_of (earlier_of fault (Some found)) other ≡ earlier_of fault (Some found)
 earlier_of-earlier_of None other found = refl
 earlier_of-earlier_of (Some first) other found = refl

@@ -81,7 +81,7 @@ garbled_in_length bytes first e apart =
     sym (append_assoc opening first more) ∙ ap (λ (t : List ℕ). t ++ more) (sym e) ∙ f ∙ whole_parts m rest w in
     apart w.digits more _ _ (length_of m w) (same_fronts opening opening _ _ refl both).1)
 
--- ---- behind the length
+-- ---- after the length
 
 -- the bytes begin with the opening, these digits and SOH
 pub record HeadRead (bytes digits : List ℕ) (len : ℕ) (rest : List ℕ) : Type 0 where
@@ -191,6 +191,6 @@ whole_here bytes digits inner rest n (w, e) at =
     let long : length m ≡ n = length-spelling digits (body_of inner) ∙ sym at in
     (omega (arith, ap length e, length-append m rest), subst IsWhole (sym (ap (take n) e ∙ take_at m rest n long)) w)
 
--- what stands behind the opening
+-- what comes after the opening
 pub behind_opening : (bytes first : List ℕ) → bytes ≡ opening ++ first → bytes ≡ opening ++ drop 13 bytes
 behind_opening bytes first e = e ∙ ap (λ (t : List ℕ). opening ++ t) (sym (drop_at opening first 13 length-opening) ∙ ap (drop 13) (sym e))

@@ -207,7 +207,7 @@ check_sum_sound n =
       no_soh = no_soh-cons (48 + n / 100) ((48 + n / 10 % 10) ∷ last) (λ e. omega (arith, e)) two;
     }
 
--- the fields of an encoded message are those given, between BeginString and BodyLength in front and CheckSum behind
+-- the fields of an encoded message are those given, between BeginString and BodyLength in front and CheckSum after
 pub read_back : (fields : List TagValue) → fault_of fields ≡ None → HasFields (message_of fields) (fields_of_message fields) None
 unfolding fault_of
 read_back fields sound =

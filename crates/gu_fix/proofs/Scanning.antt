@@ -17,7 +17,7 @@ pub garbled_some : (bytes : List ℕ) → IsGarbled bytes → 0 < length bytes
 garbled_some [] garbled = absurd (garbled.1 open_at_end)
 garbled_some (b ∷ bs) garbled = omega arith
 
--- places without an `8` behind a garbled place are garbled
+-- places without an `8` after a garbled place are garbled
 pub garbled_without_first : (bytes : List ℕ) (n : ℕ) → n ≤ length bytes → IsGarbled bytes → ((k : ℕ) → 0 < k → k < n → get_or bytes k 0 ≡ 56 → ⊥) → GarbledBefore bytes n
 garbled_without_first bytes n room garbled other zero lt = garbled
 garbled_without_first bytes n room garbled other (suc k) lt =

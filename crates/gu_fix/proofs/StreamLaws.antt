@@ -7,8 +7,8 @@ use Rattle.std.proofs.lemmas.Bool.{cases_order}
 use Rattle.gu_fix.specs.WholeMessage.{IsWhole}
 use Rattle.gu_fix.specs.Stream.{IsOpen, IsGarbled, GarbledBefore, IsFirstFrame, HasNoFrameYet, AreFrames, LeadsOn, TakesPieces}
 use Rattle.gu_fix.specs.Places.{StandsAs}
-use Rattle.gu_fix.specs.declared.place.Place.{Place}
-use Rattle.gu_fix.specs.declared.place.Place.TheVariants as place
+use Rattle.gu_fix.specs.declared.prefix.Prefix.{Prefix}
+use Rattle.gu_fix.specs.declared.prefix.Prefix.TheVariants as place
 use Rattle.gu_fix.proofs.Lists.{same_fronts}
 use Rattle.gu_fix.proofs.WholeLemmas.{one_message, stands_closed, long_enough}
 use Rattle.gu_fix.proofs.StreamLemmas.{frames_whole, frames_after, stands_at}
@@ -67,7 +67,7 @@ open_is_short kept is = omega (arith, is.is_whole.most, is.some, length-append k
 -- ---- each stream has frames
 
 -- the frames of a stream, by what stands at its front
-frames_step : (left : ℕ) (s : List ℕ) → length s ≤ suc left → ((t : List ℕ) → length t ≤ left → (fs : List (List ℕ)) × AreFrames t fs) → ((p : Place) × StandsAs p s) → (fs : List (List ℕ)) × AreFrames s fs
+frames_step : (left : ℕ) (s : List ℕ) → length s ≤ suc left → ((t : List ℕ) → length t ≤ left → (fs : List (List ℕ)) × AreFrames t fs) → ((p : Prefix) × StandsAs p s) → (fs : List (List ℕ)) × AreFrames s fs
 frames_step left s l shorter (place.Whole n, (room, w)) =
     let some = long_enough (take n s) w in
     let count = length-take-le n s room in
@@ -103,7 +103,7 @@ leads_on_then read kept piece next frames given first second more later h =
     subst (λ (fs : List (List ℕ)). AreFrames ((read ++ piece) ++ more) fs) (sym (append_assoc frames given later))
     (subst (λ (t : List ℕ). AreFrames t (frames ++ (given ++ later))) (sym (append_assoc read piece more)) outer)
 
--- the pieces that come, behind those that were read
+-- the pieces that come, after those that were read
 pub pieces_lead_on : (pieces : List (List ℕ)) (read kept last : List ℕ) (frames given : List (List ℕ)) → AreFrames read frames → LeadsOn read frames kept → TakesPieces kept pieces given last
     → AreFrames (read ++ concat pieces) (frames ++ given) × LeadsOn (read ++ concat pieces) (frames ++ given) last
 pieces_lead_on [] read kept last frames given are leads (none, same) =

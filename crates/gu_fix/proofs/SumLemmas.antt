@@ -10,7 +10,7 @@ pub length-running : (base : ℕ) (bs : List ℕ) → length (running_sums base 
 length-running base [] = refl
 length-running base (b ∷ bs) = ap suc (length-running ((base + b) % 256) bs)
 
--- the running sum behind further bytes
+-- the running sum after further bytes
 pub sum_after-append : (base : ℕ) (xs ys : List ℕ) → sum_after base (xs ++ ys) ≡ sum_after (sum_after base xs) ys
 sum_after-append base [] ys = refl
 sum_after-append base (x ∷ xs) ys = sum_after-append ((base + x) % 256) xs ys

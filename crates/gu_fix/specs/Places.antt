@@ -2,12 +2,12 @@
 use Rattle.std.specs.Prelude.{◌≡◌, ℕ, ◌+◌, ◌<◌, ◌≤◌, List, ◌∷◌, ◌++◌, length, take}
 use Rattle.gu_fix.specs.WholeMessage.{IsLengthText, body_of, IsWhole, soh}
 use Rattle.gu_fix.specs.Stream.{IsOpen, IsGarbled}
-use Rattle.gu_fix.specs.declared.place.Meeting.{Meeting}
-use Rattle.gu_fix.specs.declared.place.Meeting.TheVariants.{Begins, Within, Apart}
-use Rattle.gu_fix.specs.declared.place.LengthText.{LengthText}
-use Rattle.gu_fix.specs.declared.place.LengthText.TheVariants as length_text
-use Rattle.gu_fix.specs.declared.place.Place.{Place}
-use Rattle.gu_fix.specs.declared.place.Place.TheVariants as place
+use Rattle.gu_fix.specs.declared.prefix.Meeting.{Meeting}
+use Rattle.gu_fix.specs.declared.prefix.Meeting.TheVariants.{Begins, Within, Apart}
+use Rattle.gu_fix.specs.declared.prefix.LengthText.{LengthText}
+use Rattle.gu_fix.specs.declared.prefix.LengthText.TheVariants as length_text
+use Rattle.gu_fix.specs.declared.prefix.Prefix.{Prefix}
+use Rattle.gu_fix.specs.declared.prefix.Prefix.TheVariants as place
 
 -- how bytes meet a text that is to stand at their front
 abbrev pub Meets : Meeting → List ℕ → List ℕ → Type 0
@@ -37,7 +37,7 @@ MeetsBody Within bytes n = (inner : List ℕ) × (more : List ℕ) × (length (b
 MeetsBody Apart bytes n = (inner more rest : List ℕ) → length (body_of inner) ≡ n → bytes ++ more ≡ body_of inner ++ rest → ⊥
 
 -- what stands at a place of a stream
-abbrev pub StandsAs : Place → List ℕ → Type 0
+abbrev pub StandsAs : Prefix → List ℕ → Type 0
 StandsAs (place.Whole n) bytes = (n ≤ length bytes) × IsWhole (take n bytes)
 StandsAs place.Open bytes = IsOpen bytes
 StandsAs place.Garbled bytes = IsGarbled bytes

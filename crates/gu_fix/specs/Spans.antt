@@ -34,7 +34,7 @@ pub record HasNumber (part : List ℕ) (number place : ℕ) : Type 0 where
   pub all : AllDigits 10 (take place part)
   pub value : digits_value 10 (take place part) ≡ number
 
--- where a value of this length lies, when so many of the bytes are left behind its SOH
+-- where a value of this length lies, when so many of the bytes are left after its SOH
 pub record LiesBefore (span : Span) (bytes : List ℕ) (tag len left : ℕ) : Type 0 where
   pub tagged : span.tag ≡ tag
   pub sized : span.len ≡ len

@@ -23,7 +23,7 @@ IsGarbled bytes = (¬ (Stands bytes)) × (¬ (IsOpen bytes))
 abbrev pub GarbledBefore : List ℕ → ℕ → Type 0
 GarbledBefore stream place = (k : ℕ) → k < place → IsGarbled (drop k stream)
 
--- a message stands at the first place that isn't garbled, and this is the rest behind it
+-- a message stands at the first place that isn't garbled, and this is the rest after it
 pub record IsFirstFrame (stream message rest : List ℕ) : Type 0 where
   pub place : ℕ
   pub before : GarbledBefore stream place
@@ -36,7 +36,7 @@ pub record HasNoFrameYet (stream : List ℕ) : Type 0 where
   pub before : GarbledBefore stream place
   pub is_open : IsOpen (drop place stream)
 
--- The frames of a stream: the message at the first place that isn't garbled, and then the frames of the rest behind
+-- The frames of a stream: the message at the first place that isn't garbled, and then the frames of the rest after
 -- it. Bytes before it are dropped. (The end of a stream is open, so there is always such a place.)
 abbrev pub AreFrames : List ℕ → List (List ℕ) → Type 0
 AreFrames stream [] = HasNoFrameYet stream

@@ -34,7 +34,7 @@ three_digits n = (48 + n / 100) ∷ (48 + n / 10 % 10) ∷ (48 + n % 10) ∷ []
 unfoldable pub trailer_of : ℕ → List ℕ
 trailer_of n = codes "10=" ++ three_digits n ++ soh ∷ []
 
--- the CheckSum behind these bytes: their sum, modulo 256
+-- the CheckSum after these bytes: their sum, modulo 256
 abbrev pub trailer_after : List ℕ → List ℕ
 trailer_after before = trailer_of (sum before % 256)
 

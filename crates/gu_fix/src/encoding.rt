@@ -9,7 +9,7 @@ ghost use Rattle.gu_fix.specs.SoundLength.{IsSound, IsFirstFault};
 
 use crate::error::EncodeError;
 use crate::field::{Field, Fields};
-use crate::place::{FIXED_LENGTH, LONGEST, OPENING, SOH, checksum, trailer};
+use crate::prefix::{FIXED_LENGTH, LONGEST, OPENING, SOH, checksum, trailer};
 use crate::tag::{BEGIN_STRING, BODY_LENGTH, CHECK_SUM, MSG_TYPE};
 use itoa::Buffer;
 use std::alloc::{AllocError, Global};
@@ -206,7 +206,7 @@ fn push_message(
     Ok(())
 }
 
-/// Bytes with the message of these fields behind them, whose text has this length with these digits. The bytes are held here while they
+/// Bytes with the message of these fields after them, whose text has this length with these digits. The bytes are held here while they
 /// grow, so that each part of a field is a few machine instructions.
 fn with_message(
     mut out: Vec<u8>,

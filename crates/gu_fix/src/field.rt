@@ -6,7 +6,7 @@ ghost use Rattle.gu_fix.specs.Encoding.{has_soh};
 ghost use Rattle.gu_fix.specs.Spans.{AreWithin, fields_in};
 ghost use Rattle.gu_fix.specs.TagValue.{TagValue, tag_value};
 
-use crate::place::SOH;
+use crate::prefix::SOH;
 use std::alloc::{AllocError, Global};
 use std::marker::Model;
 

@@ -7,7 +7,7 @@ mod feed;
 mod field;
 mod frame;
 mod laws;
-mod place;
+mod prefix;
 mod scan;
 mod splitting;
 mod tag;

@@ -4,7 +4,7 @@ ghost use Rattle.gu_fix.specs.WholeMessage.{IsWhole};
 ghost use Rattle.gu_fix.specs.Stream.{AreFrames, GarbledBefore, IsGarbled, IsOpen, LeadsOn};
 
 use crate::frame::Frame;
-use crate::place::{Place, place_at};
+use crate::prefix::{Prefix, place_at};
 use crate::window::Window;
 use memchr::memchr;
 use std::alloc::{AllocError, Global};
@@ -36,12 +36,12 @@ pub fn scan(alloc: Global, window: &mut Window) -> Result<(Vec<Frame>, usize), A
     'places: loop {
         let rest = &window.bytes()[at..];
         match place_at(rest, window, at) {
-            Place::Whole(len) => {
+            Prefix::Whole(len) => {
                 frames.push(Frame::new(alloc, &rest[..len])?)?;
                 at += len;
             }
-            Place::Open => return Ok((frames, at)),
-            Place::Garbled => {
+            Prefix::Open => return Ok((frames, at)),
+            Prefix::Garbled => {
                 at += next_start(rest);
                 window.keep_sums()?;
             }

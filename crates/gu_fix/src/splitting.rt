@@ -8,7 +8,7 @@ ghost use Rattle.gu_fix.specs.Spans.{AreWithin, HasNumber, LiesBefore, StandsAt,
 use crate::error::{FieldFault, SessionRejectReason};
 use crate::field::{Field, Fields, Span};
 use crate::frame::Frame;
-use crate::place::SOH;
+use crate::prefix::SOH;
 use memchr::memchr_iter;
 use std::alloc::{AllocError, Global};
 

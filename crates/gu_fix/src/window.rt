@@ -2,7 +2,7 @@
 ghost use Rattle.std.specs.Prelude.{◌≡◌, ◌+◌, ◌-◌, ◌%◌, ◌≤◌, List, ℕ, [], ◌++◌, length, take, drop, sum, vec_len, vec_capacity, OnOk, OnErr};
 ghost use Rattle.gu_fix.specs.Sums.{IsWindow, running_sums, sum_after};
 
-use crate::place::checksum;
+use crate::prefix::checksum;
 use std::alloc::{AllocError, Global};
 use std::marker::Model;
 
@@ -28,7 +28,7 @@ impl Model for Window {
     ghost invariant = { λ w. IsWindow w.bytes.items w.sums.items w.keeps_sums w.start };
 }
 
-/// Puts the sum behind each byte in its place.
+/// Puts the sum after each byte in its place.
 fn sum_up(base: u8, bytes: &mut [u8])
     ensures { bytes.new ≡ running_sums base bytes.old }
 {
@@ -39,7 +39,7 @@ fn sum_up(base: u8, bytes: &mut [u8])
     }
 }
 
-/// Appends the sum behind each byte.
+/// Appends the sum after each byte.
 fn push_sums(sums: &mut Vec<u8>, base: u8, bytes: &[u8])
     requires { vec_len sums.old + length bytes.now ≤ vec_capacity sums.old }
     ensures { sums.new.items ≡ sums.old.items ++ running_sums base bytes.now }

@@ -14,7 +14,7 @@ use Rattle.gu_flow.specs.declared.network.Arc.{Arc}
 use Rattle.gu_terms.specs.declared.agreement.AgreementId.{AgreementId}
 use Rattle.gu_terms.specs.declared.limit_key.LimitKey.{LimitKey}
 use Rattle.gu_terms.specs.declared.limit_key.LimitKey.TheVariants.{Exec, Agr, Acct, Carry, Guar}
-use Rattle.gu_view.specs.declared.view.Offer.{Offer}
+use Rattle.gu_view.specs.declared.view.ViewOffer.{ViewOffer}
 use Rattle.gu_flow.proofs.RoomPlaces.{roomed}
 
 -- each arc is that of the room at its place
@@ -55,20 +55,20 @@ arcs_join view arcs sound long laid = All-from_get_or (λ a. (a.from < length vi
     (rw h.from (within _), rw h.to (within _)))
 
 -- an agreement's arc can carry its room, and no more than its offers have
-pub record IsAgreement (offers : List Offer) (room capacity : ℕ) (key : LimitKey) : Type 0 where
+pub record IsAgreement (offers : List ViewOffer) (room capacity : ℕ) (key : LimitKey) : Type 0 where
   pub agreement : AgreementId
   pub is : key ≡ Agr agreement
   pub capacity_is : capacity ≡ min room (lots_with offers key)
 
 -- and any other its room; only an agreement's is at the middle step
-pub kind_of : (offers : List Offer) (room capacity : ℕ) (key : LimitKey) → capacity ≡ capacity_of offers room key → IsAgreement offers room capacity key ⊎ ((capacity ≡ room) × (step_of key ≢ 1))
+pub kind_of : (offers : List ViewOffer) (room capacity : ℕ) (key : LimitKey) → capacity ≡ capacity_of offers room key → IsAgreement offers room capacity key ⊎ ((capacity ≡ room) × (step_of key ≢ 1))
 kind_of offers room capacity (Agr agreement) is = inl (record { agreement = agreement; is = refl; capacity_is = is })
 kind_of offers room capacity (Exec firm) is = inr (is, omega arith)
 kind_of offers room capacity (Acct account) is = inr (is, omega arith)
 kind_of offers room capacity (Carry firm) is = inr (is, omega arith)
 kind_of offers room capacity (Guar firm) is = inr (is, omega arith)
 
-pub capacity-le : (offers : List Offer) (room capacity : ℕ) (key : LimitKey) → capacity ≡ capacity_of offers room key → capacity ≤ room
+pub capacity-le : (offers : List ViewOffer) (room capacity : ℕ) (key : LimitKey) → capacity ≡ capacity_of offers room key → capacity ≤ room
 capacity-le offers room capacity key is = elim (kind_of offers room capacity key is) [ inl a ↦ omega (arith, a.capacity_is) | inr other ↦ omega (arith, other.0) ]
 
 -- what all arcs can carry fits a number of 64 bits

@@ -21,7 +21,7 @@ use Rattle.gu_view.specs.Check.{has_offer, IsRight}
 use Rattle.gu_view.specs.Cut.{Covers, is_covered, room_of}
 use Rattle.gu_view.specs.Takes.{IsAdmissible, IsGreatest, IsOldestFirst, lots_under, total}
 use Rattle.gu_view.specs.View.{GroupView, IsView, IsNested, place_of}
-use Rattle.gu_view.specs.declared.view.Offer.{Offer}
+use Rattle.gu_view.specs.declared.view.ViewOffer.{ViewOffer}
 use Rattle.gu_flow.specs.CutArcs.{leads_out, cuts_key, cuts_offers, IsCutBy}
 use Rattle.gu_flow.specs.Ends.{arc_at}
 use Rattle.gu_flow.specs.Flows.{places, sum_over, IsFlow, IsClosed}
@@ -61,26 +61,26 @@ any_key test key (k ∷ path) on passes = elim (or_cases (key_eq k key) (has_key
 module _ (view : GroupView) (sound : IsView view) (nested : IsNested view) (arcs : List Arc) (are : AreArcs view arcs) (flow : List ℕ) (is_flow : IsFlow arcs flow)
     (reached : ℕ → Bool) (from_source : reached 0 ≡ true) (not_to_sink : reached 1 ≡ false) (closed : IsClosed arcs flow reached)
     (takes : List Take) (shares : AreAllShares view flow takes) (cut : CutLists) (cut_is : IsCutBy view reached arcs cut) where
-  abbrev way : Offer → List ℕ
+  abbrev way : ViewOffer → List ℕ
   way = way_of view.rooms
 
-  abbrev lots : Offer → ℕ
+  abbrev lots : ViewOffer → ℕ
   lots o = lots_of takes o.number
 
   abbrev step : ℕ → ℕ
   step = step_at view.rooms
 
-  offer_here : (i : ℕ) (d : Offer) → i < length view.offers → IsOfferOf view (get_or view.offers i d)
+  offer_here : (i : ℕ) (d : ViewOffer) → i < length view.offers → IsOfferOf view (get_or view.offers i d)
   offer_here i d inside = record { place = i; within = inside; is = get_or_default view.offers i d no_offer inside }
 
   each_offer : AllByRecursion (IsOfferOf view) view.offers
   each_offer = recursion_from_All (IsOfferOf view) view.offers offer_here
 
-  place_in : (o : Offer) → IsOfferOf view o → (k : ℕ) → has_place (way o) k ≡ true → k < length view.rooms
+  place_in : (o : ViewOffer) → IsOfferOf view o → (k : ℕ) → has_place (way o) k ≡ true → k < length view.rooms
   place_in o h k on = has_within (length view.rooms) k (way o) (places_within (length view.rooms) (place_of view.rooms) o.path (roomed view sound o h)) on
 
   -- a way that goes by a place has its room's key on the path
-  key_on : (o : Offer) → IsOfferOf view o → (k : ℕ) → k < length view.rooms → has_place (way o) k ≡ true → has_key o.path (room_at view.rooms k).key ≡ true
+  key_on : (o : ViewOffer) → IsOfferOf view o → (k : ℕ) → k < length view.rooms → has_place (way o) k ≡ true → has_key o.path (room_at view.rooms k).key ≡ true
   key_on o h k k_in on = sym (goes_by_key view sound k k_in o.path (roomed view sound o h)) ∙ on
 
   laid : (k : ℕ) → k < length arcs → IsLaid arcs step k
@@ -96,7 +96,7 @@ module _ (view : GroupView) (sound : IsView view) (nested : IsNested view) (arcs
       }
 
   -- each way lays out the arcs that it goes by
-  lies : (o : Offer) → IsOfferOf view o → (i k : ℕ) → slice_get (way o) i ≡ Some k → (k < length arcs) × ((arc_at arcs k).from ≡ node_at (way o) i) × ((arc_at arcs k).to ≡ node_at (way o) (i + 1))
+  lies : (o : ViewOffer) → IsOfferOf view o → (i k : ℕ) → slice_get (way o) i ≡ Some k → (k < length arcs) × ((arc_at arcs k).from ≡ node_at (way o) i) × ((arc_at arcs k).to ≡ node_at (way o) (i + 1))
   lies o h i k at =
       let on : has_place (way o) k ≡ true = list_any_at (λ p. p == k) (way o) i 0 (slice_get_within (way o) i k at) (eq-eqb (get_or (way o) i 0) k (get_or_from_slice_get (way o) i k 0 at)) in
       let k_room = place_in o h k on in
@@ -106,7 +106,7 @@ module _ (view : GroupView) (sound : IsView view) (nested : IsNested view) (arcs
       let step_is : step k ≡ i = omega (arith, stepped_at step 0 (way o) (way_stepped view sound nested o h) i k at) in
       rw (← step_is) (k_in, a.from ∙ same.0, a.to ∙ same.1)
 
-  walking : (o : Offer) → IsOfferOf view o → Walking arcs way 0 1 o
+  walking : (o : ViewOffer) → IsOfferOf view o → Walking arcs way 0 1 o
   walking o h = record {
     walk = rw (way_ends view sound nested o h) at (walks_from arcs (node_at (way o)) (way o) (lies o h));
     once = way_once step 0 (way o) (way_stepped view sound nested o h);
@@ -123,7 +123,7 @@ module _ (view : GroupView) (sound : IsView view) (nested : IsNested view) (arcs
       (λ o h. ap (λ b. cond b (lots o) 0) (goes_by_key view sound k k_in o.path (roomed view sound o h))) each_offer
 
   -- sums under an agreement, by the places of the offers' agreements
-  under_agreement : (f : Offer → ℕ) (k : ℕ) → k < length view.rooms → (agreement : AgreementId) → (room_at view.rooms k).key ≡ Agr agreement
+  under_agreement : (f : ViewOffer → ℕ) (k : ℕ) → k < length view.rooms → (agreement : AgreementId) → (room_at view.rooms k).key ≡ Agr agreement
       → sum_by (λ o. cond (has_key o.path (room_at view.rooms k).key) (f o) 0) view.offers ≡ sum_by (λ o. cond (agreement_place view.rooms o == k) (f o) 0) view.offers
   under_agreement f k k_in agreement is =
       sum_by-by (IsOfferOf view) (λ o. cond (has_key o.path (room_at view.rooms k).key) (f o) 0) (λ o. cond (agreement_place view.rooms o == k) (f o) 0) view.offers
@@ -170,22 +170,22 @@ module _ (view : GroupView) (sound : IsView view) (nested : IsNested view) (arcs
       let i_in : i < length view.offers = omega arith in
       let at_i : get_or view.offers i d ≡ offer_at view.offers i = get_or_default view.offers i d no_offer i_in in
       let at_j : get_or view.offers j d ≡ offer_at view.offers j = get_or_default view.offers j d no_offer j_in in
-      let agreements : (offer_at view.offers i).agreement ≡ (offer_at view.offers j).agreement = ap (λ (o : Offer). o.agreement) (sym at_i) ∙ same ∙ ap (λ (o : Offer). o.agreement) at_j in
+      let agreements : (offer_at view.offers i).agreement ≡ (offer_at view.offers j).agreement = ap (λ (o : ViewOffer). o.agreement) (sym at_i) ∙ same ∙ ap (λ (o : ViewOffer). o.agreement) at_j in
       let takes_some = subst (λ n. 0 < n) (ap lots at_j ∙ share_taken view sound flow takes shares j j_in) some in
-      ap lots at_i ∙ share_taken view sound flow takes shares i i_in ∙ shares_oldest_first view sound flow takes shares i j before j_in agreements takes_some ∙ ap (λ (o : Offer). o.lots) (sym at_i)
+      ap lots at_i ∙ share_taken view sound flow takes shares i i_in ∙ shares_oldest_first view sound flow takes shares i j before j_in agreements takes_some ∙ ap (λ (o : ViewOffer). o.lots) (sym at_i)
 
   -- whether a room's key is in the cut, and whether an offer is
   key_told : (k : ℕ) → k < length view.rooms → has_key cut.keys (room_at view.rooms k).key ≡ cuts_key reached arcs view.rooms k
   key_told k k_in = cut_is.keys.exact k k_in ∙ ap (λ b. b && cuts_key reached arcs view.rooms k) (lt-ltb k (length view.rooms) k_in)
 
-  offer_told : (o : Offer) → IsOfferOf view o → has_number cut.offers o.number ≡ cuts_offers reached arcs view.rooms (agreement_place view.rooms o)
+  offer_told : (o : ViewOffer) → IsOfferOf view o → has_number cut.offers o.number ≡ cuts_offers reached arcs view.rooms (agreement_place view.rooms o)
   offer_told o h =
       let told : has_number cut.offers (offer_at view.offers h.place).number ≡ cuts_offers reached arcs view.rooms (agreement_place view.rooms (offer_at view.offers h.place)) =
       cut_is.offers.exact h.place h.within ∙ ap (λ b. b && cuts_offers reached arcs view.rooms (agreement_place view.rooms (offer_at view.offers h.place))) (lt-ltb h.place (length view.offers) h.within) in
-      subst (λ (x : Offer). has_number cut.offers x.number ≡ cuts_offers reached arcs view.rooms (agreement_place view.rooms x)) (sym h.is) told
+      subst (λ (x : ViewOffer). has_number cut.offers x.number ≡ cuts_offers reached arcs view.rooms (agreement_place view.rooms x)) (sym h.is) told
 
   -- where an offer's way leads out, its key is cut, or the offer itself
-  covered : (o : Offer) → IsOfferOf view o → is_covered cut o ≡ true
+  covered : (o : ViewOffer) → IsOfferOf view o → is_covered cut o ≡ true
   covered o h =
       let out = walk_leads_out arcs reached (way o) 0 1 (walking o h).walk from_source not_to_sink in
       let k = out.place in
@@ -233,10 +233,10 @@ module _ (view : GroupView) (sound : IsView view) (nested : IsNested view) (arcs
       let at = agreement_place view.rooms in
       sum_by-by (IsOfferOf view) (λ o. cond (has_number cut.offers o.number) o.lots 0) (λ o. sum_by (λ k. cond (at o == k) (cond (w k) o.lots 0) 0) (places (length arcs))) view.offers
       (λ o h. ap (λ b. cond b o.lots 0) (offer_told o h) ∙ sym (sum_one_place (λ k. cond (w k) o.lots 0) (length arcs) (at o) (omega (arith, own_in view sound nested o h, are.all)))) each_offer
-      ∙ sum_by-swap (λ (o : Offer) k. cond (at o == k) (cond (w k) o.lots 0) 0) view.offers (places (length arcs))
-      ∙ sum_by-agree (λ k. sum_by (λ (o : Offer). cond (at o == k) (cond (w k) o.lots 0) 0) view.offers) (λ k. cond (w k) (agreement_lots view.rooms view.offers k) 0) (places (length arcs))
-      (λ k. sum_by-agree (λ (o : Offer). cond (at o == k) (cond (w k) o.lots 0) 0) (λ (o : Offer). cond (w k) (cond (at o == k) o.lots 0) 0) view.offers (λ o. cond-swap (at o == k) (w k) o.lots)
-      ∙ sym (cond-sum (w k) (λ (o : Offer). cond (at o == k) o.lots 0) view.offers))
+      ∙ sum_by-swap (λ (o : ViewOffer) k. cond (at o == k) (cond (w k) o.lots 0) 0) view.offers (places (length arcs))
+      ∙ sum_by-agree (λ k. sum_by (λ (o : ViewOffer). cond (at o == k) (cond (w k) o.lots 0) 0) view.offers) (λ k. cond (w k) (agreement_lots view.rooms view.offers k) 0) (places (length arcs))
+      (λ k. sum_by-agree (λ (o : ViewOffer). cond (at o == k) (cond (w k) o.lots 0) 0) (λ (o : ViewOffer). cond (w k) (cond (at o == k) o.lots 0) 0) view.offers (λ o. cond-swap (at o == k) (w k) o.lots)
+      ∙ sym (cond-sum (w k) (λ (o : ViewOffer). cond (at o == k) o.lots 0) view.offers))
 
   -- so the cut's room is the lots taken
   pub room_is_total : room_of view cut ≡ total view.offers (lots_of takes)

@@ -6,7 +6,7 @@ use Rattle.std.proofs.lemmas.List.{length-take-le}
 use Rattle.std.proofs.lemmas.List.Sums.{sum_by-set}
 use Rattle.std.specs.List.{sum}
 use Rattle.gu_flow.specs.declared.network.Arc.{Arc}
-use Rattle.gu_flow.specs.declared.levels.Entry.{Entry}
+use Rattle.gu_flow.specs.declared.levels.Label.{Label}
 use Rattle.gu_flow.specs.Ends.{arc_at, is_tail, near, far, residual_in, last_before, IsCurrent}
 use Rattle.gu_flow.specs.Flows.{IsFlow, value_of}
 use Rattle.gu_flow.specs.Levels.{entry_at, level_at, IsStep, IsTree}
@@ -19,7 +19,7 @@ use Rattle.gu_flow.proofs.Augmenting.{stand-more}
 stand_by : (arcs : List Arc) (way other : List ℕ) (i : ℕ) → (0 < i → get_or other (i - 1) 0 ≡ get_or way (i - 1) 0) → stand arcs other i ≡ stand arcs way i
 stand_by arcs way other i same = elim (cases_eq i 0) [ inl none ↦ rw none refl | inr some ↦ ap (λ e. cond (i == 0) 1 (far arcs e)) (same (omega arith)) ]
 
-module _ (arcs : List Arc) (flow : List ℕ) (entries : List Entry) (way : List ℕ) (steps : ℕ) (d : IsDescent arcs flow entries way steps) where
+module _ (arcs : List Arc) (flow : List ℕ) (entries : List Label) (way : List ℕ) (steps : ℕ) (d : IsDescent arcs flow entries way steps) where
   -- each step is a level lower
   stand_level : (i : ℕ) → i ≤ steps → level_at entries (stand arcs way i) + i ≡ level_at entries 1
   stand_level zero i_in = omega arith
@@ -49,7 +49,7 @@ module _ (arcs : List Arc) (flow : List ℕ) (entries : List Entry) (way : List 
         (subst (IsStep arcs flow entries (stand arcs way i) (level_at entries (stand arcs way i))) (sym (get_or-take steps way i 0 i_in)) (d.each i i_in));
   })
 
-pub front_whole : (arcs : List Arc) (flow : List ℕ) (entries : List Entry) (way : List ℕ) (steps : ℕ) → steps ≤ length way → IsDescent arcs flow entries way steps → stand arcs way steps ≡ 0
+pub front_whole : (arcs : List Arc) (flow : List ℕ) (entries : List Label) (way : List ℕ) (steps : ℕ) → steps ≤ length way → IsDescent arcs flow entries way steps → stand arcs way steps ≡ 0
     → IsWhole arcs (take steps way) × HasRoom arcs flow (take steps way) (length (take steps way)) 1
 front_whole arcs flow entries way steps within d source =
     let t = taken arcs flow entries way steps d within in (
@@ -62,13 +62,13 @@ front_whole arcs flow entries way steps within d source =
     )
 
 -- a way stands at a node
-pub record Standing (arcs : List Arc) (flow : List ℕ) (entries : List Entry) (way : List ℕ) (steps node : ℕ) : Type 0 where
+pub record Standing (arcs : List Arc) (flow : List ℕ) (entries : List Label) (way : List ℕ) (steps node : ℕ) : Type 0 where
   pub descent : IsDescent arcs flow entries way steps
   pub stands : stand arcs way steps ≡ node
   pub within : steps ≤ length way
 
 -- a step more
-module _ (arcs : List Arc) (flow : List ℕ) (entries : List Entry) (way : List ℕ) (steps node end : ℕ) (top : level_at entries 1 ≤ length way)
+module _ (arcs : List Arc) (flow : List ℕ) (entries : List Label) (way : List ℕ) (steps node end : ℕ) (top : level_at entries 1 ≤ length way)
     (s : Standing arcs flow entries way steps node) (step : IsStep arcs flow entries node (level_at entries node) end) where
   pub room_ahead : steps < length way
   room_ahead = omega (arith, stand_level arcs flow entries way steps s.descent steps (omega arith), ap (level_at entries) s.stands, step.falls)
@@ -88,11 +88,11 @@ module _ (arcs : List Arc) (flow : List ℕ) (entries : List Entry) (way : List 
   ahead_on current before now = at_set (λ i e. i < steps + 1 → e < get_or current (near arcs e) 0) way steps end 0 room_ahead (λ _. rw step.here now) (λ i other i_in. before i (omega arith))
 
 -- the way on which a search came to the sink is followed back
-pub record Tracing (arcs : List Arc) (flow : List ℕ) (entries : List Entry) (way : List ℕ) (steps node : ℕ) : Type 0 where
+pub record Tracing (arcs : List Arc) (flow : List ℕ) (entries : List Label) (way : List ℕ) (steps node : ℕ) : Type 0 where
   pub standing : Standing arcs flow entries way steps node
   pub reached : 0 < level_at entries node
 
-module _ (arcs : List Arc) (flow : List ℕ) (entries : List Entry) (way : List ℕ) (steps node : ℕ) (tree : IsTree arcs flow entries) (top : level_at entries 1 ≤ length way) (t : Tracing arcs flow entries way steps node) (on_way : node ≢ 0) where
+module _ (arcs : List Arc) (flow : List ℕ) (entries : List Label) (way : List ℕ) (steps node : ℕ) (tree : IsTree arcs flow entries) (top : level_at entries 1 ≤ length way) (t : Tracing arcs flow entries way steps node) (on_way : node ≢ 0) where
   pub entered : IsStep arcs flow entries node (level_at entries node) (entry_at entries node).via
   entered = tree.entered node on_way t.reached
 
@@ -103,7 +103,7 @@ module _ (arcs : List Arc) (flow : List ℕ) (entries : List Entry) (way : List 
   traces = record { standing = stands_on arcs flow entries way steps node (entry_at entries node).via top t.standing entered; reached = omega (arith, entered.falls, tree.above node on_way t.reached) }
 
 -- a search for ways goes on from where a way stands
-pub record Descending (arcs : List Arc) (flow : List ℕ) (entries : List Entry) (current way : List ℕ) (steps node : ℕ) : Type 0 where
+pub record Descending (arcs : List Arc) (flow : List ℕ) (entries : List Label) (current way : List ℕ) (steps node : ℕ) : Type 0 where
   pub standing : Standing arcs flow entries way steps node
   pub node_in : node < length entries
   pub current_is : IsCurrent arcs current
@@ -122,7 +122,7 @@ next_current arcs current node end is node_in end_in here =
 pub sum_set_less : (xs : List ℕ) (i x : ℕ) → i < length xs → x < get_or xs i 0 → sum (set xs i x) < sum xs
 sum_set_less xs i x i_in less = omega (arith, sum_by-set (λ (y : ℕ). y) xs i x 0 i_in)
 
-module _ (arcs : List Arc) (flow : List ℕ) (entries : List Entry) (current way : List ℕ) (steps node : ℕ) (top : level_at entries 1 ≤ length way) (d : Descending arcs flow entries current way steps node)
+module _ (arcs : List Arc) (flow : List ℕ) (entries : List Label) (current way : List ℕ) (steps node : ℕ) (top : level_at entries 1 ≤ length way) (d : Descending arcs flow entries current way steps node)
     (current' : List ℕ) (is : IsCurrent arcs current') (others : (n : ℕ) → n ≢ node → get_or current' n 0 ≡ get_or current n 0) where
   -- where a way stands, no step has been before, and elsewhere each node's place in the search stays
   ahead_still : IsAhead arcs current' way steps
@@ -177,7 +177,7 @@ module _ (arcs : List Arc) (flow : List ℕ) (entries : List Entry) (current way
         }
 
 -- more flows than at the start, and the steps that are kept have room
-pub record Blocking (arcs : List Arc) (start flow : List ℕ) (entries : List Entry) (current way : List ℕ) (kept : ℕ) : Type 0 where
+pub record Blocking (arcs : List Arc) (start flow : List ℕ) (entries : List Label) (current way : List ℕ) (kept : ℕ) : Type 0 where
   pub flow_is : IsFlow arcs flow
   pub more : value_of arcs start < value_of arcs flow
   pub descent : IsDescent arcs flow entries way kept
@@ -186,7 +186,7 @@ pub record Blocking (arcs : List Arc) (start flow : List ℕ) (entries : List En
   pub within : kept ≤ length way
 
 -- the first way is brought
-pub block_begins : (arcs : List Arc) (start flow : List ℕ) (entries : List Entry) (current way : List ℕ) → IsFlow arcs flow → value_of arcs start < value_of arcs flow → IsCurrent arcs current → Blocking arcs start flow entries current way 0
+pub block_begins : (arcs : List Arc) (start flow : List ℕ) (entries : List Label) (current way : List ℕ) → IsFlow arcs flow → value_of arcs start < value_of arcs flow → IsCurrent arcs current → Blocking arcs start flow entries current way 0
 block_begins arcs start flow entries current way is more current_is = record {
   flow_is = is;
   more = more;
@@ -197,7 +197,7 @@ block_begins arcs start flow entries current way is more current_is = record {
 }
 
 -- one more way is brought, and the steps before the first without room are kept
-pub block_goes_on : (arcs : List Arc) (start old flow : List ℕ) (entries : List Entry) (current way : List ℕ) (steps kept : ℕ) → value_of arcs start < value_of arcs old → IsFlow arcs flow → value_of arcs old < value_of arcs flow
+pub block_goes_on : (arcs : List Arc) (start old flow : List ℕ) (entries : List Label) (current way : List ℕ) (steps kept : ℕ) → value_of arcs start < value_of arcs old → IsFlow arcs flow → value_of arcs old < value_of arcs flow
     → IsDescent arcs old entries way steps → IsCurrent arcs current → IsAhead arcs current way steps → steps ≤ length way → kept ≤ steps → HasRoom arcs flow (take steps way) kept 1 → Blocking arcs start flow entries current way kept
 block_goes_on arcs start old flow entries current way steps kept more is rises d current_is ahead within fewer room = record {
   flow_is = is;

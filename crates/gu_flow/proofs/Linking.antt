@@ -18,14 +18,14 @@ module _ (arcs : List Arc) where
   last_is_at (suc e) n =
       cond_both (near arcs e == n) (suc e) (last_before arcs e n) (λ x. 0 < x → near arcs (x - 1) ≡ n) (λ here some. ap (near arcs) (omega arith) ∙ eqb-true (near arcs e) n here) (λ _. last_is_at e n)
 
-  -- the ends behind it are at other nodes
-  pub none_behind : (e n d : ℕ) → last_before arcs e n ≤ d → d < e → near arcs d ≢ n
+  -- the ends after it are at other nodes
+  pub none_after : (e n d : ℕ) → last_before arcs e n ≤ d → d < e → near arcs d ≢ n
   unfolding last_before
-  none_behind zero n d = λ from below. absurd (omega arith)
-  none_behind (suc e) n d =
+  none_after zero n d = λ from below. absurd (omega arith)
+  none_after (suc e) n d =
       cond_both (near arcs e == n) (suc e) (last_before arcs e n) (λ x. x ≤ d → d < suc e → near arcs d ≢ n) (λ _ from below. absurd (omega arith)) (λ other from below at. elim (cases_eq d e) [
         | inl last ↦ eqb-false (near arcs e) n other (ap (near arcs) (sym last) ∙ at)
-        | inr before ↦ none_behind e n d from (omega arith) at
+        | inr before ↦ none_after e n d from (omega arith) at
       ])
 
 -- one more end is linked

@@ -15,7 +15,7 @@ use Rattle.gu_terms.specs.declared.limit_key.LimitKey.{LimitKey}
 use Rattle.gu_terms.specs.declared.limit_key.LimitKey.TheVariants.{Exec, Agr, Acct, Carry, Guar}
 use Rattle.gu_view.proofs.TakesLemmas.{key_at_place}
 use Rattle.gu_view.specs.View.{GroupView, IsView, IsNested, IsPath, next_key, place_of}
-use Rattle.gu_view.specs.declared.view.Offer.{Offer}
+use Rattle.gu_view.specs.declared.view.ViewOffer.{ViewOffer}
 use Rattle.gu_view.specs.declared.view.Room.{Room}
 use Rattle.gu_flow.specs.Layouts.{step_of, node_or_sink, node_at}
 use Rattle.gu_flow.specs.Networks.{no_room, room_at, no_offer, way_of, IsOfferOf}
@@ -27,7 +27,7 @@ use Rattle.gu_flow.proofs.Sides.{AreStepped}
 abbrev pub step_at : List Room → ℕ → ℕ
 step_at rooms place = step_of (room_at rooms place).key
 
--- on a whole path each key stands at its step, behind the last nothing comes, and its way ends at the sink
+-- on a whole path each key stands at its step, after the last nothing comes, and its way ends at the sink
 keys_stepped : (e : FirmId) (a : AgreementId) (c : AccountId) (d : FirmId) (g : Option FirmId) → AreStepped step_of 0 (path_through e a c d g)
 keys_stepped e a c d None = (refl, (refl, (refl, (refl, tt))))
 keys_stepped e a c d (Some g) = (refl, (refl, (refl, (refl, (refl, tt)))))
@@ -69,43 +69,43 @@ module _ (view : GroupView) (sound : IsView view) (nested : IsNested view) where
   abbrev at : LimitKey → ℕ
   at = place_of view.rooms
 
-  path_at : (o : Offer) → IsOfferOf view o → IsPath o
+  path_at : (o : ViewOffer) → IsOfferOf view o → IsPath o
   path_at o h = rw h.is (nested.paths h.place no_offer h.within)
 
-  stepped : (o : Offer) → IsOfferOf view o → AreStepped step_of 0 o.path
+  stepped : (o : ViewOffer) → IsOfferOf view o → AreStepped step_of 0 o.path
   stepped o h = let p = path_at o h in subst (AreStepped step_of 0) (sym p.4) (keys_stepped p.0 o.agreement p.1 p.2 p.3)
 
-  pub way_stepped : (o : Offer) → IsOfferOf view o → AreStepped (step_at view.rooms) 0 (way_of view.rooms o)
+  pub way_stepped : (o : ViewOffer) → IsOfferOf view o → AreStepped (step_at view.rooms) 0 (way_of view.rooms o)
   way_stepped o h = places_stepped view.rooms 0 o.path (roomed view sound o h) (stepped o h)
 
-  pub way_ends : (o : Offer) → IsOfferOf view o → node_at (way_of view.rooms o) (length (way_of view.rooms o)) ≡ 1
+  pub way_ends : (o : ViewOffer) → IsOfferOf view o → node_at (way_of view.rooms o) (length (way_of view.rooms o)) ≡ 1
   way_ends o h = let p = path_at o h in subst (λ path. node_at (map at path) (length (map at path)) ≡ 1) (sym p.4) (whole_ends at p.0 o.agreement p.1 p.2 p.3)
 
-  -- a key on a path stands at its step, and behind it the next
-  on_step : (o : Offer) → IsOfferOf view o → (key : LimitKey) → has_key o.path key ≡ true → slice_get o.path (step_of key) ≡ Some key
+  -- a key on a path stands at its step, and after it the next
+  on_step : (o : ViewOffer) → IsOfferOf view o → (key : LimitKey) → has_key o.path key ≡ true → slice_get o.path (step_of key) ≡ Some key
   on_step o h key on = let s = key_stands 0 o.path key (stepped o h) on in ap (slice_get o.path) (omega (arith, s.step)) ∙ s.at
 
-  behind : (o : Offer) → IsOfferOf view o → (key : LimitKey) → has_key o.path key ≡ true → slice_get o.path (step_of key + 1) ≡ next_key o.path key
+  behind : (o : ViewOffer) → IsOfferOf view o → (key : LimitKey) → has_key o.path key ≡ true → slice_get o.path (step_of key + 1) ≡ next_key o.path key
   behind o h key on = ap (slice_get o.path) (omega (arith, (key_stands 0 o.path key (stepped o h) on).step))
 
-  pub way_on : (o : Offer) → IsOfferOf view o → (k : ℕ) → k < length view.rooms → has_key o.path (room_at view.rooms k).key ≡ true → slice_get (way_of view.rooms o) (step_at view.rooms k) ≡ Some k
+  pub way_on : (o : ViewOffer) → IsOfferOf view o → (k : ℕ) → k < length view.rooms → has_key o.path (room_at view.rooms k).key ≡ true → slice_get (way_of view.rooms o) (step_at view.rooms k) ≡ Some k
   way_on o h k k_in on =
       slice_get-map at o.path (step_at view.rooms k) ∙ ap (option_map at) (on_step o h (room_at view.rooms k).key on) ∙ ap Some (place_of_room view sound k k_in)
 
   -- an offer is under an agreement where the agreement is its own
-  pub own_in : (o : Offer) → IsOfferOf view o → agreement_place view.rooms o < length view.rooms
+  pub own_in : (o : ViewOffer) → IsOfferOf view o → agreement_place view.rooms o < length view.rooms
   own_in o h = (rw (path_at o h).4 at (roomed view sound o h)).1.0
 
-  pub under_own : (o : Offer) → IsOfferOf view o → (k : ℕ) → k < length view.rooms → (agreement : AgreementId) → (room_at view.rooms k).key ≡ Agr agreement
+  pub under_own : (o : ViewOffer) → IsOfferOf view o → (k : ℕ) → k < length view.rooms → (agreement : AgreementId) → (room_at view.rooms k).key ≡ Agr agreement
       → has_key o.path (room_at view.rooms k).key ≡ (agreement_place view.rooms o == k)
   under_own o h k k_in agreement is =
       let p = path_at o h in
       ap (has_key o.path) is ∙ ap (λ path. has_key path (Agr agreement)) p.4 ∙ agreement_on p.0 o.agreement p.1 p.2 p.3 agreement ∙ ap (key_eq (Agr o.agreement)) (sym is) ∙ sym (at_place view sound k (Agr o.agreement) k_in (own_in o h))
 
   -- offers of one agreement have one path
-  one_path_at : (o p : Offer) → IsOfferOf view o → IsOfferOf view p → o.agreement ≡ p.agreement → o.path ≡ p.path
+  one_path_at : (o p : ViewOffer) → IsOfferOf view o → IsOfferOf view p → o.agreement ≡ p.agreement → o.path ≡ p.path
   one_path_at o p h g same = elim (cases_order h.place g.place) [
-    | inl one ↦ ap (λ (x : Offer). x.path) (h.is ∙ ap (λ i. get_or view.offers i no_offer) one ∙ sym g.is)
+    | inl one ↦ ap (λ (x : ViewOffer). x.path) (h.is ∙ ap (λ i. get_or view.offers i no_offer) one ∙ sym g.is)
     | inr apart ↦ elim apart [
       | inl before ↦ (rw (← h.is, ← g.is) at (sound.one_path h.place g.place no_offer before g.within)) same
       | inr after ↦ sym ((rw (← h.is, ← g.is) at (sound.one_path g.place h.place no_offer after h.within)) (sym same))
@@ -113,11 +113,11 @@ module _ (view : GroupView) (sound : IsView view) (nested : IsNested view) where
   ]
 
   -- paths with the same key at a step have the same node there
-  same_node : (o p : Offer) (i : ℕ) → slice_get o.path i ≡ slice_get p.path i → node_or_sink (slice_get (way_of view.rooms o) i) ≡ node_or_sink (slice_get (way_of view.rooms p) i)
+  same_node : (o p : ViewOffer) (i : ℕ) → slice_get o.path i ≡ slice_get p.path i → node_or_sink (slice_get (way_of view.rooms o) i) ≡ node_or_sink (slice_get (way_of view.rooms p) i)
   same_node o p i same = ap node_or_sink (slice_get-map at o.path i ∙ ap (option_map at) same ∙ sym (slice_get-map at p.path i))
 
   -- so all ways that go by a place lay out one arc there
-  pub alike : (o p : Offer) → IsOfferOf view o → IsOfferOf view p → (key : LimitKey) → has_key o.path key ≡ true → has_key p.path key ≡ true
+  pub alike : (o p : ViewOffer) → IsOfferOf view o → IsOfferOf view p → (key : LimitKey) → has_key o.path key ≡ true → has_key p.path key ≡ true
       → (node_at (way_of view.rooms o) (step_of key) ≡ node_at (way_of view.rooms p) (step_of key)) × (node_at (way_of view.rooms o) (step_of key + 1) ≡ node_at (way_of view.rooms p) (step_of key + 1))
   alike o p h g key on_o on_p = by_kind key (on_step o h key on_o) (on_step p g key on_p) on_o on_p
     where

@@ -20,23 +20,23 @@ use Rattle.gu_view.proofs.TakesLemmas.{key_at_place}
 use Rattle.gu_view.specs.Check.{has_room}
 use Rattle.gu_view.specs.Places.{places_from}
 use Rattle.gu_view.specs.View.{GroupView, IsView, place_of, places_under}
-use Rattle.gu_view.specs.declared.view.Offer.{Offer}
+use Rattle.gu_view.specs.declared.view.ViewOffer.{ViewOffer}
 use Rattle.gu_view.specs.declared.view.Room.{Room}
 use Rattle.gu_flow.proofs.SumLemmas.{same_test}
 use Rattle.gu_flow.specs.Shares.{agreement_place}
 use Rattle.gu_flow.specs.Networks.{no_room, room_at, no_offer, offer_at, way_of, GoesBy, IsOfferOf, lots_with, capacity_of}
 
 -- the lots at the places under a key are those of the offers with it
-pub lots_under_places : (offers : List Offer) (k : LimitKey) (places : List ℕ) → places ≡ places_under offers k → sum_by (λ p. (offer_at offers p).lots) places ≡ lots_with offers k
+pub lots_under_places : (offers : List ViewOffer) (k : LimitKey) (places : List ℕ) → places ≡ places_under offers k → sum_by (λ p. (offer_at offers p).lots) places ≡ lots_with offers k
 lots_under_places offers k places are =
     ap (sum_by (λ p. (offer_at offers p).lots)) are
-    ∙ sum_by-places (λ (o : Offer). has_key o.path k) (λ (o : Offer). o.lots) (λ p. (offer_at offers p).lots) 0 offers
-    (λ i d inside. ap (λ p. (offer_at offers p).lots) (zero-add i) ∙ ap (λ (o : Offer). o.lots) (get_or_default offers i no_offer d inside))
+    ∙ sum_by-places (λ (o : ViewOffer). has_key o.path k) (λ (o : ViewOffer). o.lots) (λ p. (offer_at offers p).lots) 0 offers
+    (λ i d inside. ap (λ p. (offer_at offers p).lots) (zero-add i) ∙ ap (λ (o : ViewOffer). o.lots) (get_or_default offers i no_offer d inside))
 
 -- they fit a number of 64 bits
 pub lots_fit : (view : GroupView) → IsView view → (k : LimitKey) → lots_with view.offers k ≤ 4096000000
 lots_fit view sound k =
-    let all = sum_by-le (λ (o : Offer). cond (has_key o.path k) o.lots 0) 1000000 view.offers (λ i d inside. omega (arith, part-le (has_key (get_or view.offers i d).path k) (get_or view.offers i d).lots, (sound.lots i d inside).most)) in
+    let all = sum_by-le (λ (o : ViewOffer). cond (has_key o.path k) o.lots 0) 1000000 view.offers (λ i d inside. omega (arith, part-le (has_key (get_or view.offers i d).path k) (get_or view.offers i d).lots, (sound.lots i d inside).most)) in
     omega (arith, all, sound.few)
 
 -- the first place at which a list passes a test
@@ -95,7 +95,7 @@ at_place view sound place k inside within = same_test (place_of view.rooms k == 
     (λ same. eq-eqb (place_of view.rooms k) place (ap (place_of view.rooms) (key_eq-same k (room_at view.rooms place).key same) ∙ place_of_room view sound place inside))
 
 -- each key of an offer's path has a room
-pub roomed : (view : GroupView) → IsView view → (o : Offer) → IsOfferOf view o → AllByRecursion (λ k. place_of view.rooms k < length view.rooms) o.path
+pub roomed : (view : GroupView) → IsView view → (o : ViewOffer) → IsOfferOf view o → AllByRecursion (λ k. place_of view.rooms k < length view.rooms) o.path
 roomed view sound o h = path_inside view sound h.place o h.within (h.is ∙ get_or_default view.offers h.place no_offer o h.within)
 
 -- so a way goes by a place where the path has the key of its room
@@ -116,7 +116,7 @@ first_offer view sound place members inside are = elim (slice_get_cases view.roo
       let r = found.0 in
       let same : members ≡ places_under view.offers r.key = rw found.2 at are in
       let key : (room_at view.rooms place).key ≡ r.key = ap (λ (r : Room). r.key) (get_or_default view.rooms place no_room r inside ∙ found.3) in
-      let f = first_place (λ (o : Offer). has_key o.path r.key) 0 view.offers no_offer (subst (λ k. list_any (λ o. has_key o.path k) view.offers ≡ true) key (room_named view sound place inside)) in
+      let f = first_place (λ (o : ViewOffer). has_key o.path r.key) 0 view.offers no_offer (subst (λ k. list_any (λ o. has_key o.path k) view.offers ≡ true) key (room_named view sound place inside)) in
       let number : get_or members 0 0 ≡ f.place = ap (λ l. get_or l 0 0) same ∙ f.is ∙ zero-add f.place in
       let o = offer_at view.offers f.place in (
         rw same f.some,
@@ -141,16 +141,16 @@ pub own_room : (rooms : List Room) (place : ℕ) (r : Room) → place < length r
 own_room rooms place r inside is = is ∙ get_or_default rooms place r no_room inside
 
 -- an agreement's arc can carry its room, and no more than its offers have
-pub agreement_capacity : (offers : List Offer) (r q : Room) (agreement : AgreementId) (lots n : ℕ) → r ≡ q → r.key ≡ Agr agreement → lots ≡ lots_with offers q.key → n ≡ min r.lots lots → n ≡ capacity_of offers q.lots q.key
+pub agreement_capacity : (offers : List ViewOffer) (r q : Room) (agreement : AgreementId) (lots n : ℕ) → r ≡ q → r.key ≡ Agr agreement → lots ≡ lots_with offers q.key → n ≡ min r.lots lots → n ≡ capacity_of offers q.lots q.key
 agreement_capacity offers r q agreement lots n same key all is =
     let named : q.key ≡ Agr agreement = ap (λ (r : Room). r.key) (sym same) ∙ key in
     is ∙ ap (λ m. min r.lots m) (all ∙ ap (lots_with offers) named) ∙ ap (λ (r : Room). min r.lots (lots_with offers (Agr agreement))) same ∙ ap (capacity_of offers q.lots) (sym named)
 
 -- the way that is read of the offer at a place
-pub own_way : (view : GroupView) (number : ℕ) (way : List ℕ) → number < length view.offers → IfSome (slice_get view.offers number) (λ (o : Offer). way ≡ map (place_of view.rooms) o.path) → way ≡ way_of view.rooms (offer_at view.offers number)
+pub own_way : (view : GroupView) (number : ℕ) (way : List ℕ) → number < length view.offers → IfSome (slice_get view.offers number) (λ (o : ViewOffer). way ≡ map (place_of view.rooms) o.path) → way ≡ way_of view.rooms (offer_at view.offers number)
 own_way view number way inside are = rw (slice_get-get_or view.offers number no_offer inside) at are
 
 -- the place of an offer's agreement
-pub agreement_read : (view : GroupView) (number place : ℕ) → number < length view.offers → IfSome (slice_get view.offers number) (λ (o : Offer). place ≡ place_of view.rooms (Agr o.agreement))
+pub agreement_read : (view : GroupView) (number place : ℕ) → number < length view.offers → IfSome (slice_get view.offers number) (λ (o : ViewOffer). place ≡ place_of view.rooms (Agr o.agreement))
     → place ≡ agreement_place view.rooms (offer_at view.offers number)
 agreement_read view number place inside at = rw (slice_get-get_or view.offers number no_offer inside) at at

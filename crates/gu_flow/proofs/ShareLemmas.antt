@@ -16,7 +16,7 @@ use Rattle.gu_terms.specs.declared.takes.Take.{Take}
 use Rattle.gu_view.specs.Check.{has_offer}
 use Rattle.gu_view.specs.Takes.{total}
 use Rattle.gu_view.specs.View.{GroupView, IsView, place_of}
-use Rattle.gu_view.specs.declared.view.Offer.{Offer}
+use Rattle.gu_view.specs.declared.view.ViewOffer.{ViewOffer}
 use Rattle.gu_flow.specs.Flows.{places}
 use Rattle.gu_flow.specs.Networks.{no_offer, offer_at}
 use Rattle.gu_flow.specs.Shares.{agreement_place, agreement_lots, share_of, no_take, take_at, above_zero, AreSharesBefore, AreAllShares}
@@ -53,7 +53,7 @@ module _ (view : GroupView) (flow : List ℕ) where
         size = length-set rests place (get_or rests place 0 - lots) ∙ h.size;
         left =
             let so_far : (p : ℕ) → agreement_lots view.rooms (take (i + 1) view.offers) p ≡ agreement_lots view.rooms (take i view.offers) p + cond (agreement_place view.rooms o == p) o.lots 0 =
-            λ p. sum_by_more (λ (o : Offer). cond (agreement_place view.rooms o == p) o.lots 0) view.offers i no_offer inside in
+            λ p. sum_by_more (λ (o : ViewOffer). cond (agreement_place view.rooms o == p) o.lots 0) view.offers i no_offer inside in
             at_set (λ p n. n ≡ get_or flow p 0 - agreement_lots view.rooms (take (i + 1) view.offers) p) rests place (get_or rests place 0 - lots) 0 within
             (omega (arith, h.left place, so_far place, cond-true (agreement_place view.rooms o == place) o.lots 0 (eq-eqb (agreement_place view.rooms o) place (sym at))))
             (λ p other. omega (arith, h.left p, so_far p, cond-false (agreement_place view.rooms o == p) o.lots 0 (ne_eqb (agreement_place view.rooms o) p (λ e. other (sym e ∙ sym at)))));
@@ -109,7 +109,7 @@ module _ (view : GroupView) (sound : IsView view) (flow : List ℕ) (takes : Lis
   pub shares_oldest_first : (i j : ℕ) → i < j → j < length view.offers → (offer_at view.offers i).agreement ≡ (offer_at view.offers j).agreement → 0 < share_at j → share_at i ≡ (offer_at view.offers i).lots
   shares_oldest_first i j before j_in same some =
       let p = agreement_place view.rooms (offer_at view.offers j) in
-      let f : Offer → ℕ = λ o. cond (agreement_place view.rooms o == p) o.lots 0 in
+      let f : ViewOffer → ℕ = λ o. cond (agreement_place view.rooms o == p) o.lots 0 in
       let place : agreement_place view.rooms (offer_at view.offers i) ≡ p = ap (λ a. place_of view.rooms (Agr a)) same in
       let until : sum_by f (take (i + 1) view.offers) ≤ sum_by f (take j view.offers) = front-le f view.offers (i + 1) j (omega arith) in
       let here : sum_by f (take (i + 1) view.offers) ≡ sum_by f (take i view.offers) + f (offer_at view.offers i) = sum_by_more f view.offers i no_offer (omega arith) in
@@ -119,12 +119,12 @@ module _ (view : GroupView) (sound : IsView view) (flow : List ℕ) (takes : Lis
       omega (arith, left, until, here, lots)
 
   -- the offers of an agreement together take what flows, where they have as much
-  pub shares_so_far : (p n : ℕ) → n ≤ length view.offers → sum_by (λ (o : Offer). cond (agreement_place view.rooms o == p) (lots_of takes o.number) 0) (take n view.offers) ≡ min (get_or flow p 0) (agreement_lots view.rooms (take n view.offers) p)
+  pub shares_so_far : (p n : ℕ) → n ≤ length view.offers → sum_by (λ (o : ViewOffer). cond (agreement_place view.rooms o == p) (lots_of takes o.number) 0) (take n view.offers) ≡ min (get_or flow p 0) (agreement_lots view.rooms (take n view.offers) p)
   shares_so_far p zero h = omega arith
   shares_so_far p (suc n) h =
       let o = offer_at view.offers n in
-      let f : Offer → ℕ = λ o. cond (agreement_place view.rooms o == p) o.lots 0 in
-      let g : Offer → ℕ = λ o. cond (agreement_place view.rooms o == p) (lots_of takes o.number) 0 in
+      let f : ViewOffer → ℕ = λ o. cond (agreement_place view.rooms o == p) o.lots 0 in
+      let g : ViewOffer → ℕ = λ o. cond (agreement_place view.rooms o == p) (lots_of takes o.number) 0 in
       let before : sum_by g (take n view.offers) ≡ min (get_or flow p 0) (sum_by f (take n view.offers)) = shares_so_far p n (omega arith) in
       let lots : sum_by f (take (n + 1) view.offers) ≡ sum_by f (take n view.offers) + f o = sum_by_more f view.offers n no_offer (omega arith) in
       let given : sum_by g (take (n + 1) view.offers) ≡ sum_by g (take n view.offers) + g o = sum_by_more g view.offers n no_offer (omega arith) in
@@ -143,11 +143,11 @@ module _ (view : GroupView) (sound : IsView view) (flow : List ℕ) (takes : Lis
       ] in
       rw (← add-one) (omega (arith, lots, given, step))
 
-  pub shares_together : (p : ℕ) → get_or flow p 0 ≤ agreement_lots view.rooms view.offers p → sum_by (λ (o : Offer). cond (agreement_place view.rooms o == p) (lots_of takes o.number) 0) view.offers ≡ get_or flow p 0
+  pub shares_together : (p : ℕ) → get_or flow p 0 ≤ agreement_lots view.rooms view.offers p → sum_by (λ (o : ViewOffer). cond (agreement_place view.rooms o == p) (lots_of takes o.number) 0) view.offers ≡ get_or flow p 0
   shares_together p enough =
       let whole : take (length view.offers) view.offers ≡ view.offers = take_all (length view.offers) view.offers (omega arith) in
       let all = shares_so_far p (length view.offers) (omega arith) in
-      let is : sum_by (λ (o : Offer). cond (agreement_place view.rooms o == p) (lots_of takes o.number) 0) view.offers ≡ min (get_or flow p 0) (agreement_lots view.rooms view.offers p) = rw whole at all in
+      let is : sum_by (λ (o : ViewOffer). cond (agreement_place view.rooms o == p) (lots_of takes o.number) 0) view.offers ≡ min (get_or flow p 0) (agreement_lots view.rooms view.offers p) = rw whole at all in
       omega arith
 
   -- the takes name only offers of the view
@@ -163,10 +163,10 @@ module _ (view : GroupView) (sound : IsView view) (flow : List ℕ) (takes : Lis
       sum_by_place (λ (t : Take). t.lots) takes no_take
       ∙ ap (λ n. sum_by (λ k. (take_at takes k).lots) (places n)) shares.all
       ∙ sum_places_by (λ k. (take_at takes k).lots) (λ k. lots_of takes (offer_at view.offers k).number) (length view.offers) (λ k k_in. ap (λ (t : Take). t.lots) (shares.each k k_in) ∙ sym (share_taken k k_in))
-      ∙ sym (sum_by_place (λ (o : Offer). lots_of takes o.number) view.offers no_offer)
+      ∙ sym (sum_by_place (λ (o : ViewOffer). lots_of takes o.number) view.offers no_offer)
 
   -- which fits a number of 64 bits
   pub shares_fit : sum_by (λ (t : Take). t.lots) takes ≤ 4096000000
   shares_fit =
-      let all = sum_by-le (λ (o : Offer). lots_of takes o.number) 1000000 view.offers (All-from_get_or (λ o. lots_of takes o.number ≤ 1000000) view.offers no_offer (λ i inside. omega (arith, share_fits i inside, (sound.lots i no_offer inside).most))) in
+      let all = sum_by-le (λ (o : ViewOffer). lots_of takes o.number) 1000000 view.offers (All-from_get_or (λ o. lots_of takes o.number ≤ 1000000) view.offers no_offer (λ i inside. omega (arith, share_fits i inside, (sound.lots i no_offer inside).most))) in
       omega (arith, all, sound.few, shares_total)

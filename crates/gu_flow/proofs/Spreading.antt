@@ -3,15 +3,15 @@ use Rattle.std.proofs.Common.{◌≡◌, ℕ, ◌+◌, ◌-◌, ◌*◌, ◌<◌
 use Rattle.std.proofs.Math.ListN.{set}
 use Rattle.std.proofs.lemmas.Bool.{cases_eq, cases_lt, ltb-true, ltb-false}
 use Rattle.gu_flow.specs.declared.network.Arc.{Arc}
-use Rattle.gu_flow.specs.declared.levels.Entry.{Entry}
+use Rattle.gu_flow.specs.declared.levels.Label.{Label}
 use Rattle.gu_flow.specs.Ends.{near, far, other_end, residual_out, last_before}
 use Rattle.gu_flow.specs.Flows.{IsClosed}
 use Rattle.gu_flow.specs.Levels.{level_at, is_reached, IsTree, IsQueue, IsSpent, GoesOn}
-use Rattle.gu_flow.proofs.Linking.{last_is_before, last_is_at, none_behind}
+use Rattle.gu_flow.proofs.Linking.{last_is_before, last_is_at, none_after}
 use Rattle.gu_flow.proofs.Reaching.{count_one, level_there, tree_reaches, queue_reaches, goes_on_reaches}
 
 -- so many ends are left to be looked at, and what the others lead to is reached
-pub record Spreading (arcs : List Arc) (flow : List ℕ) (old entries : List Entry) (before queue : List ℕ) (node reached count ends level : ℕ) : Type 0 where
+pub record Spreading (arcs : List Arc) (flow : List ℕ) (old entries : List Label) (before queue : List ℕ) (node reached count ends level : ℕ) : Type 0 where
   pub tree : IsTree arcs flow entries
   pub waits : IsQueue entries queue count
   pub goes_on : GoesOn old entries before queue reached
@@ -21,7 +21,7 @@ pub record Spreading (arcs : List Arc) (flow : List ℕ) (old entries : List Ent
   pub level_is : level_at entries node + 1 ≡ level
   pub spent : (e : ℕ) → ends ≤ e → e < 2 * length arcs → near arcs e ≡ node → 0 < residual_out arcs flow e → 0 < level_at entries (far arcs e)
 
-module _ (arcs : List Arc) (flow : List ℕ) (old entries : List Entry) (before queue : List ℕ) (node reached count ends level : ℕ)
+module _ (arcs : List Arc) (flow : List ℕ) (old entries : List Label) (before queue : List ℕ) (node reached count ends level : ℕ)
     (fits : length entries ≤ length queue) (some : 0 < level_at old node) (left : 0 < ends) (s : Spreading arcs flow old entries before queue node reached count ends level) where
   abbrev end : ℕ
   end = ends - 1
@@ -33,7 +33,7 @@ module _ (arcs : List Arc) (flow : List ℕ) (old entries : List Entry) (before 
   here = s.ends_at left
 
   -- the next end, where this one leads only to what was reached
-  onward : (entries' : List Entry) (queue' : List ℕ) (count' : ℕ) → IsTree arcs flow entries' → IsQueue entries' queue' count' → GoesOn old entries' before queue' reached → reached ≤ count'
+  onward : (entries' : List Label) (queue' : List ℕ) (count' : ℕ) → IsTree arcs flow entries' → IsQueue entries' queue' count' → GoesOn old entries' before queue' reached → reached ≤ count'
       → ((m : ℕ) → 0 < level_at entries m → level_at entries' m ≡ level_at entries m) → (0 < residual_out arcs flow end → 0 < level_at entries' (far arcs end))
       → Spreading arcs flow old entries' before queue' node reached count' (last_before arcs end (near arcs end)) level
   onward entries' queue' count' tree waits goes_on grows kept now = record {
@@ -45,7 +45,7 @@ module _ (arcs : List Arc) (flow : List ℕ) (old entries : List Entry) (before 
     ends_at = λ more. last_is_at arcs end (near arcs end) more ∙ here;
     level_is = ap (λ l. l + 1) (kept node (omega (arith, s.goes_on.levels node some, some))) ∙ s.level_is;
     spent = λ e from e_in at room. elim (cases_lt e end) [
-      | inl below ↦ absurd (none_behind arcs end (near arcs end) e from below (at ∙ sym here))
+      | inl below ↦ absurd (none_after arcs end (near arcs end) e from below (at ∙ sym here))
       | inr above ↦ elim (cases_eq e end) [
         | inl same ↦ subst (λ k. 0 < level_at entries' (far arcs k)) (sym same) (now (subst (λ k. 0 < residual_out arcs flow k) same room))
         | inr past ↦ let was = s.spent e (omega arith) e_in at room in omega (arith, was, kept (far arcs e) was)
@@ -73,7 +73,7 @@ module _ (arcs : List Arc) (flow : List ℕ) (old entries : List Entry) (before 
   spread_skips closed = onward entries queue count s.tree s.waits s.goes_on s.grows (λ m r. refl) closed
 
 -- nothing is looked at yet
-pub spread_begins : (arcs : List Arc) (flow : List ℕ) (entries : List Entry) (queue : List ℕ) (node reached level : ℕ) → IsTree arcs flow entries → IsQueue entries queue reached → level_at entries node + 1 ≡ level
+pub spread_begins : (arcs : List Arc) (flow : List ℕ) (entries : List Label) (queue : List ℕ) (node reached level : ℕ) → IsTree arcs flow entries → IsQueue entries queue reached → level_at entries node + 1 ≡ level
     → Spreading arcs flow entries entries queue queue node reached reached (last_before arcs (2 * length arcs) node) level
 spread_begins arcs flow entries queue node reached level tree waits is = record {
   tree = tree;
@@ -83,17 +83,17 @@ spread_begins arcs flow entries queue node reached level tree waits is = record 
   ends_in = last_is_before arcs (2 * length arcs) node;
   ends_at = last_is_at arcs (2 * length arcs) node;
   level_is = is;
-  spent = λ e from e_in at. absurd (none_behind arcs (2 * length arcs) node e from e_in at);
+  spent = λ e from e_in at. absurd (none_after arcs (2 * length arcs) node e from e_in at);
 }
 
 -- the nodes in the queue, of which so many have brought lots wherever they can
-pub record Searching (arcs : List Arc) (flow : List ℕ) (entries : List Entry) (queue : List ℕ) (done count : ℕ) : Type 0 where
+pub record Searching (arcs : List Arc) (flow : List ℕ) (entries : List Label) (queue : List ℕ) (done count : ℕ) : Type 0 where
   pub tree : IsTree arcs flow entries
   pub waits : IsQueue entries queue count
   pub within : done ≤ count
   pub spent : (k : ℕ) → k < done → IsSpent arcs flow entries (get_or queue k 0)
 
-pub search_begins : (arcs : List Arc) (flow : List ℕ) (entries : List Entry) (queue : List ℕ) → 1 < length entries → ((n : ℕ) → 0 < n → level_at entries n ≡ 0) → level_at entries 0 ≡ 1 → get_or queue 0 0 ≡ 0 → Searching arcs flow entries queue 0 1
+pub search_begins : (arcs : List Arc) (flow : List ℕ) (entries : List Label) (queue : List ℕ) → 1 < length entries → ((n : ℕ) → 0 < n → level_at entries n ≡ 0) → level_at entries 0 ≡ 1 → get_or queue 0 0 ≡ 0 → Searching arcs flow entries queue 0 1
 search_begins arcs flow entries queue some others source at =
     let low : (n : ℕ) → level_at entries n ≤ 1 = λ n. elim (cases_eq n 0) [ inl same ↦ rw (same, source) (omega arith) | inr other ↦ omega (arith, others n (omega arith)) ] in
     record {
@@ -114,7 +114,7 @@ search_begins arcs flow entries queue some others source at =
     }
 
 -- one more node is spent
-pub search_goes_on : (arcs : List Arc) (flow : List ℕ) (old entries : List Entry) (before queue : List ℕ) (done reached count : ℕ) → Searching arcs flow old before done reached → done < reached → IsTree arcs flow entries → IsQueue entries queue count
+pub search_goes_on : (arcs : List Arc) (flow : List ℕ) (old entries : List Label) (before queue : List ℕ) (done reached count : ℕ) → Searching arcs flow old before done reached → done < reached → IsTree arcs flow entries → IsQueue entries queue count
     → GoesOn old entries before queue reached → reached ≤ count → IsSpent arcs flow entries (get_or before done 0) → Searching arcs flow entries queue (done + 1) count
 search_goes_on arcs flow old entries before queue done reached count s more tree waits on grows now = record {
   tree = tree;
@@ -127,7 +127,7 @@ search_goes_on arcs flow old entries before queue done reached count s more tree
 }
 
 -- where all are spent, no more can be brought
-module _ (arcs : List Arc) (flow : List ℕ) (entries : List Entry) (queue : List ℕ) (done count : ℕ) (s : Searching arcs flow entries queue done count) (all : count ≤ done) where
+module _ (arcs : List Arc) (flow : List ℕ) (entries : List Label) (queue : List ℕ) (done count : ℕ) (s : Searching arcs flow entries queue done count) (all : count ≤ done) where
   spent_at : (n : ℕ) → 0 < level_at entries n → IsSpent arcs flow entries n
   spent_at n reached = let w = s.waits.waits n reached in subst (IsSpent arcs flow entries) w.1.1 (s.spent w.0 (omega (arith, w.1.0)))
 

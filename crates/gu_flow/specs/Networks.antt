@@ -5,7 +5,7 @@ use Rattle.gu_terms.specs.LimitKeys.{has_key}
 use Rattle.gu_terms.specs.declared.limit_key.LimitKey.{LimitKey}
 use Rattle.gu_terms.specs.declared.limit_key.LimitKey.TheVariants.{Exec, Agr}
 use Rattle.gu_view.specs.View.{GroupView, place_of}
-use Rattle.gu_view.specs.declared.view.Offer.{Offer}
+use Rattle.gu_view.specs.declared.view.ViewOffer.{ViewOffer}
 use Rattle.gu_view.specs.declared.view.Room.{Room}
 use Rattle.gu_flow.specs.Ends.{arc_at}
 use Rattle.gu_flow.specs.Layouts.{step_of, node_at}
@@ -19,14 +19,14 @@ abbrev pub room_at : List Room → ℕ → Room
 room_at rooms place = slice_index_or rooms place no_room
 
 -- the offer at a place
-abbrev pub no_offer : Offer
+abbrev pub no_offer : ViewOffer
 no_offer = record { number = 0; lots = 0; agreement = record { name = [] }; path = [] }
 
-abbrev pub offer_at : List Offer → ℕ → Offer
+abbrev pub offer_at : List ViewOffer → ℕ → ViewOffer
 offer_at offers place = slice_index_or offers place no_offer
 
 -- the way of an offer: the places of its path's keys among the rooms
-abbrev pub way_of : List Room → Offer → List ℕ
+abbrev pub way_of : List Room → ViewOffer → List ℕ
 way_of rooms o = map (place_of rooms) o.path
 
 -- a way goes by a place
@@ -34,23 +34,23 @@ abbrev pub GoesBy : List ℕ → ℕ → Type 0
 GoesBy way place = list_any (λ p. p == place) way ≡ true
 
 -- the lots that the offers with a key have
-abbrev pub lots_with : List Offer → LimitKey → ℕ
+abbrev pub lots_with : List ViewOffer → LimitKey → ℕ
 lots_with offers k = sum_by (λ o. if has_key o.path k then o.lots else 0) offers
 
 -- what a key's arc can carry: its room, and of an agreement no more than its offers have
-abbrev pub capacity_of : List Offer → ℕ → LimitKey → ℕ
+abbrev pub capacity_of : List ViewOffer → ℕ → LimitKey → ℕ
 capacity_of offers lots (Agr agreement) = min lots (lots_with offers (Agr agreement))
 capacity_of offers lots _ = lots
 
 -- an offer of the view
-pub record IsOfferOf (view : GroupView) (o : Offer) : Type 0 where
+pub record IsOfferOf (view : GroupView) (o : ViewOffer) : Type 0 where
   pub place : ℕ
   pub within : place < length view.offers
   pub is : o ≡ offer_at view.offers place
 
 -- the arc of the room at a place, as the way of an offer that goes by it lays it out
 pub record IsArcOf (view : GroupView) (place : ℕ) (a : Arc) : Type 0 where
-  pub offer : Offer
+  pub offer : ViewOffer
   pub known : IsOfferOf view offer
   pub goes_by : GoesBy (way_of view.rooms offer) place
   pub from : a.from ≡ node_at (way_of view.rooms offer) (step_of (room_at view.rooms place).key)

@@ -3,20 +3,20 @@ use Rattle.std.specs.Prelude.{◌≡◌, ℕ, ◌-◌, ◌<◌, ◌==◌, nat_lt
 use Rattle.gu_terms.specs.declared.limit_key.LimitKey.TheVariants.{Agr}
 use Rattle.gu_terms.specs.declared.takes.Take.{Take}
 use Rattle.gu_view.specs.View.{GroupView, place_of}
-use Rattle.gu_view.specs.declared.view.Offer.{Offer}
+use Rattle.gu_view.specs.declared.view.ViewOffer.{ViewOffer}
 use Rattle.gu_view.specs.declared.view.Room.{Room}
 use Rattle.gu_flow.specs.Networks.{offer_at}
 
 -- the place of the room of an offer's agreement
-abbrev pub agreement_place : List Room → Offer → ℕ
+abbrev pub agreement_place : List Room → ViewOffer → ℕ
 agreement_place rooms o = place_of rooms (Agr o.agreement)
 
 -- the lots of the offers of the agreement whose room is at a place
-abbrev pub agreement_lots : List Room → List Offer → ℕ → ℕ
+abbrev pub agreement_lots : List Room → List ViewOffer → ℕ → ℕ
 agreement_lots rooms offers place = sum_by (λ o. if agreement_place rooms o == place then o.lots else 0) offers
 
 -- an offer's share: what the older ones of its agreement leave of the flow, and no more than it has
-abbrev pub share_of : List ℕ → List Room → List Offer → Offer → ℕ
+abbrev pub share_of : List ℕ → List Room → List ViewOffer → ViewOffer → ℕ
 share_of flow rooms older o =
     min o.lots (slice_index flow (agreement_place rooms o) - agreement_lots rooms older (agreement_place rooms o))
 

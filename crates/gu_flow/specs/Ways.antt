@@ -1,7 +1,7 @@
 -- Machinery: ways from the sink back towards the source, a list of ends of arcs.
 use Rattle.std.specs.Prelude.{◌≡◌, ℕ, ◌-◌, ◌*◌, ◌/◌, ◌<◌, ◌≤◌, ◌==◌, if◌then◌else◌, List, length, slice_index}
 use Rattle.gu_flow.specs.declared.network.Arc.{Arc}
-use Rattle.gu_flow.specs.declared.levels.Entry.{Entry}
+use Rattle.gu_flow.specs.declared.levels.Label.{Label}
 use Rattle.gu_flow.specs.Ends.{near, far, residual_in}
 use Rattle.gu_flow.specs.Levels.{level_at, IsStep}
 
@@ -39,10 +39,10 @@ abbrev pub IsAhead : List Arc → List ℕ → List ℕ → ℕ → Type 0
 IsAhead arcs current way steps = (i : ℕ) → i < steps → slice_index way i < slice_index current (near arcs (slice_index way i))
 
 -- an end at which a way can go on: it leads a level down, and the search for ways has just come to it
-pub record IsDown (arcs : List Arc) (flow : List ℕ) (entries : List Entry) (current : List ℕ) (node end : ℕ) : Type 0 where
+pub record IsDown (arcs : List Arc) (flow : List ℕ) (entries : List Label) (current : List ℕ) (node end : ℕ) : Type 0 where
   pub step : IsStep arcs flow entries node (level_at entries node) end
   pub ahead : end < slice_index current node
 
 -- a way on which each step has room and leads a level down
-pub record IsDescent (arcs : List Arc) (flow : List ℕ) (entries : List Entry) (way : List ℕ) (steps : ℕ) : Type 0 where
+pub record IsDescent (arcs : List Arc) (flow : List ℕ) (entries : List Label) (way : List ℕ) (steps : ℕ) : Type 0 where
   pub each : (i : ℕ) → i < steps → IsStep arcs flow entries (stand arcs way i) (level_at entries (stand arcs way i)) (slice_index way i)

@@ -4,13 +4,13 @@ ghost use Rattle.std.specs.Prelude.{◌≡◌, ◌<◌, [], false, IfOk, OnOk, l
 ghost use Rattle.gu_flow.specs.CutArcs.{leads_out, cuts_key, cuts_offers, AreKeysCut, AreNoOffersCut, AreOffersCut, IsCutBy};
 ghost use Rattle.gu_flow.specs.Levels.{is_reached};
 
-use crate::levels::Entry;
+use crate::levels::Label;
 use crate::network::Arc;
 use gu_terms::Cut;
 use gu_view::View;
 use std::alloc::{AllocError, Global};
 
-fn is_reached(entries: &[Entry], node: u32) -> bool
+fn is_reached(entries: &[Label], node: u32) -> bool
     ensures { result ≡ is_reached entries.now node }
 {
     match entries.get(node as usize) {
@@ -20,14 +20,14 @@ fn is_reached(entries: &[Entry], node: u32) -> bool
 }
 
 /// Whether an arc leads from what was reached to what wasn't.
-fn leads_out(entries: &[Entry], arc: &Arc) -> bool
+fn leads_out(entries: &[Label], arc: &Arc) -> bool
     ensures { result ≡ leads_out (is_reached entries.now) arc.now }
 {
     is_reached(entries, arc.from) && !is_reached(entries, arc.to)
 }
 
 /// Whether the key of the room at a place is cut.
-fn cuts_key(view: &View, arcs: &[Arc], entries: &[Entry], place: usize) -> bool
+fn cuts_key(view: &View, arcs: &[Arc], entries: &[Label], place: usize) -> bool
     requires room { place < length view.now.rooms }
     requires arc { place < length arcs.now }
     ensures { result ≡ cuts_key (is_reached entries.now) arcs.now view.now.rooms place }
@@ -36,7 +36,7 @@ fn cuts_key(view: &View, arcs: &[Arc], entries: &[Entry], place: usize) -> bool
 }
 
 /// Whether the offers of the agreement whose room is at a place are cut.
-fn cuts_offers(view: &View, arcs: &[Arc], entries: &[Entry], place: usize) -> bool
+fn cuts_offers(view: &View, arcs: &[Arc], entries: &[Label], place: usize) -> bool
     requires room { place < length view.now.rooms }
     requires arc { place < length arcs.now }
     ensures { result ≡ cuts_offers (is_reached entries.now) arcs.now view.now.rooms place }
@@ -45,7 +45,7 @@ fn cuts_offers(view: &View, arcs: &[Arc], entries: &[Entry], place: usize) -> bo
 }
 
 /// Adds the keys that are cut, and returns whether offers are, too.
-fn add_keys(cut: &mut Cut, view: &View, arcs: &[Arc], entries: &[Entry]) -> Result<bool, AllocError>
+fn add_keys(cut: &mut Cut, view: &View, arcs: &[Arc], entries: &[Label]) -> Result<bool, AllocError>
     requires arcs { length arcs.now ≡ length view.now.rooms }
     requires none { cut.old.keys ≡ [] }
     ensures keys { OnOk result (AreKeysCut view.now (is_reached entries.now) arcs.now cut.new.keys (length view.now.rooms)) }
@@ -64,7 +64,7 @@ fn add_keys(cut: &mut Cut, view: &View, arcs: &[Arc], entries: &[Entry]) -> Resu
 }
 
 /// Adds the offers that are cut.
-fn add_offers(cut: &mut Cut, view: &View, arcs: &[Arc], entries: &[Entry]) -> Result<(), AllocError>
+fn add_offers(cut: &mut Cut, view: &View, arcs: &[Arc], entries: &[Label]) -> Result<(), AllocError>
     requires arcs { length arcs.now ≡ length view.now.rooms }
     requires none { cut.old.offers ≡ [] }
     ensures offers { OnOk result (AreOffersCut view.now (is_reached entries.now) arcs.now cut.new.offers (length view.now.offers)) }
@@ -83,7 +83,7 @@ pub(crate) fn cut_by(
     alloc: Global,
     view: &View,
     arcs: &[Arc],
-    entries: &[Entry],
+    entries: &[Label],
 ) -> Result<Cut, AllocError>
     requires { length arcs.now ≡ length view.now.rooms }
     ensures { IfOk result (λ cut. IsCutBy view.now (is_reached entries.now) arcs.now cut) }

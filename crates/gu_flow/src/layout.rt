@@ -8,7 +8,7 @@ ghost use Rattle.gu_flow.specs.Networks.{capacity_of, IsArcOf, AreArcs, room_at,
 
 use crate::network::{Arc, SINK, SOURCE};
 use gu_terms::LimitKey;
-use gu_view::{Offer, View};
+use gu_view::{ViewOffer, View};
 use std::alloc::{AllocError, Global};
 
 /// How many steps of a way come before that of a key.
@@ -25,7 +25,7 @@ fn step_of(key: LimitKey) -> usize
 }
 
 /// Where a way stands after so many steps: at the source, at the node of its first place, then at that of each place
-/// but the second, and behind the last at the sink.
+/// but the second, and after the last at the sink.
 fn node_at(way: &[u32], steps: usize) -> u32
     requires { All (λ p. p < 2 ^ 31) way.now }
     ensures { result ≡ node_at way.now steps }
@@ -40,7 +40,7 @@ fn node_at(way: &[u32], steps: usize) -> u32
     }
 }
 
-fn lots_of(offers: &[Offer], place: u32) -> u64
+fn lots_of(offers: &[ViewOffer], place: u32) -> u64
     requires { place < length offers.now }
     ensures { result ≡ (offer_at offers.now place).lots }
 {
@@ -48,7 +48,7 @@ fn lots_of(offers: &[Offer], place: u32) -> u64
 }
 
 /// The lots that the offers at these places have.
-fn lots_at(offers: &[Offer], places: &[u32]) -> u64
+fn lots_at(offers: &[ViewOffer], places: &[u32]) -> u64
     requires within { All (λ place. place < length offers.now) places.now }
     requires fits { sum_by (λ place. (offer_at offers.now place).lots) places.now < 2 ^ 64 }
     ensures { result ≡ sum_by (λ place. (offer_at offers.now place).lots) places.now }

@@ -9,14 +9,14 @@ use crate::residual::residual_out;
 
 /// How a search entered a node: over which of the node's ends, and at which level.
 #[derive(Clone, Copy)]
-pub struct Entry {
+pub struct Label {
     pub via: u32,
     /// 1 for the source, and 0 where the search hasn't come.
     pub level: u32,
 }
 
 /// Forgets what was reached, and reaches the source.
-fn begin(entries: &mut [Entry], queue: &mut [u32])
+fn begin(entries: &mut [Label], queue: &mut [u32])
     requires source { 0 < length entries.old }
     requires room { length entries.old ≤ length queue.old }
     ensures levels { (n : ℕ) → 0 < n → level_at entries.new n ≡ 0 }
@@ -24,7 +24,7 @@ fn begin(entries: &mut [Entry], queue: &mut [u32])
     ensures queue { slice_index queue.new 0 ≡ 0 }
 {
     for entry in entries.iter_mut() {
-        *entry = Entry { via: 0, level: 0 };
+        *entry = Label { via: 0, level: 0 };
     }
     entries[SOURCE as usize].level = 1;
     queue[0] = SOURCE;
@@ -34,7 +34,7 @@ fn begin(entries: &mut [Entry], queue: &mut [u32])
 fn spread(
     net: &Network,
     flow: &[u64],
-    entries: &mut [Entry],
+    entries: &mut [Label],
     queue: &mut [u32],
     node: u32,
     reached: usize,
@@ -57,7 +57,7 @@ fn spread(
         let end = ends - 1;
         let other = net.far(end);
         if entries[other as usize].level == 0 && residual_out(net, flow, end) > 0 {
-            entries[other as usize] = Entry {
+            entries[other as usize] = Label {
                 via: other_end(end),
                 level,
             };
@@ -70,7 +70,7 @@ fn spread(
 }
 
 /// Reaches what lots can be brought to from the source, until the sink is reached; whether it is.
-pub(crate) fn search(net: &Network, flow: &[u64], entries: &mut [Entry], queue: &mut [u32]) -> bool
+pub(crate) fn search(net: &Network, flow: &[u64], entries: &mut [Label], queue: &mut [u32]) -> bool
     requires within { IsWithin net.now.arcs.items flow.now }
     requires lists { (length entries.old ≡ length net.now.first.items) × (length entries.old ≤ length queue.old) }
     ensures tree { IsTree net.now.arcs.items flow.now entries.new }

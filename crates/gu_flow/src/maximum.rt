@@ -5,7 +5,7 @@ ghost use Rattle.gu_flow.specs.Flows.{IsFlow, IsClosed};
 ghost use Rattle.gu_flow.specs.Levels.{is_reached};
 
 use crate::heights::surge;
-use crate::levels::{Entry, search};
+use crate::levels::{Label, search};
 use crate::network::Network;
 use crate::ways::block;
 use std::alloc::{AllocError, Global};
@@ -20,7 +20,7 @@ fn fill(
     alloc: Global,
     net: &Network,
     flow: &mut [u64],
-    entries: &mut [Entry],
+    entries: &mut [Label],
     queue: &mut [u32],
     current: &mut [u32],
     way: &mut [u32],
@@ -47,7 +47,7 @@ fn fill(
 }
 
 /// Makes the flow greatest, and tells which nodes a search from the source still reaches.
-fn raise(alloc: Global, net: &Network, flow: &mut [u64]) -> Result<Vec<Entry>, AllocError>
+fn raise(alloc: Global, net: &Network, flow: &mut [u64]) -> Result<Vec<Label>, AllocError>
     requires flow { IsFlow net.now.arcs.items flow.old }
     ensures flow { OnOk result (IsFlow net.now.arcs.items flow.new) }
     ensures from_source { IfOk result (λ entries. is_reached entries.items 0 ≡ true) }
@@ -55,7 +55,7 @@ fn raise(alloc: Global, net: &Network, flow: &mut [u64]) -> Result<Vec<Entry>, A
     ensures closed { IfOk result (λ entries. IsClosed net.now.arcs.items flow.new (is_reached entries.items)) }
 {
     let nodes = net.nodes();
-    let mut entries = vec![in alloc; Entry { via: 0, level: 0 }; nodes]?;
+    let mut entries = vec![in alloc; Label { via: 0, level: 0 }; nodes]?;
     let mut queue = vec![in alloc; 0; nodes]?;
     let mut current = vec![in alloc; 0; nodes]?;
     let mut way = vec![in alloc; 0; nodes]?;
@@ -72,7 +72,7 @@ fn raise(alloc: Global, net: &Network, flow: &mut [u64]) -> Result<Vec<Entry>, A
 }
 
 /// A greatest flow, and which nodes a search from the source still reaches.
-pub(crate) fn maximize(alloc: Global, net: &Network) -> Result<(Vec<u64>, Vec<Entry>), AllocError>
+pub(crate) fn maximize(alloc: Global, net: &Network) -> Result<(Vec<u64>, Vec<Label>), AllocError>
     ensures flow { IfOk result (λ found. IsFlow net.now.arcs.items found.0.items) }
     ensures from_source { IfOk result (λ found. is_reached found.1.items 0 ≡ true) }
     ensures not_to_sink { IfOk result (λ found. is_reached found.1.items 1 ≡ false) }

@@ -27,7 +27,7 @@ impl Waiting {
         })
     }
 
-    /// Lets a node wait behind the others, if there is a place.
+    /// Lets a node wait after the others, if there is a place.
     pub(crate) fn add(&mut self, node: u32)
         requires { node < vec_len self.old.ring }
         ensures { vec_len self.new.ring ≡ vec_len self.old.ring }

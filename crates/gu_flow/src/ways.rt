@@ -7,7 +7,7 @@ ghost use Rattle.gu_flow.specs.Levels.{level_at, IsTree};
 ghost use Rattle.gu_flow.specs.Ways.{stand, IsWay, HasRoom, IsAhead, IsDown, IsDescent};
 
 use crate::augment::augment;
-use crate::levels::Entry;
+use crate::levels::Label;
 use crate::network::{Network, SINK, SOURCE};
 use crate::residual::residual_in;
 
@@ -15,7 +15,7 @@ use crate::residual::residual_in;
 const PAID: usize = 8;
 
 /// The way on which the search came to the sink, and how many steps it has.
-pub(crate) fn trace(net: &Network, flow: &[u64], entries: &[Entry], way: &mut [u32]) -> usize
+pub(crate) fn trace(net: &Network, flow: &[u64], entries: &[Label], way: &mut [u32]) -> usize
     requires tree { IsTree net.now.arcs.items flow.now entries.now }
     requires found { 0 < level_at entries.now 1 }
     requires lists { (length entries.now ≡ length net.now.first.items) × (length entries.now ≤ length way.old) }
@@ -65,7 +65,7 @@ fn stand(net: &Network, way: &[u32], steps: usize) -> u32
 }
 
 /// Whether lots can be brought over an end from a node one level before this one.
-fn leads_down(net: &Network, flow: &[u64], entries: &[Entry], end: u32, level: u32) -> bool
+fn leads_down(net: &Network, flow: &[u64], entries: &[Label], end: u32, level: u32) -> bool
     requires within { IsWithin net.now.arcs.items flow.now }
     requires lists { length entries.now ≡ length net.now.first.items }
     requires end { end < 2 * length net.now.arcs.items }
@@ -84,7 +84,7 @@ fn leads_down(net: &Network, flow: &[u64], entries: &[Entry], end: u32, level: u
 fn next_down(
     net: &Network,
     flow: &[u64],
-    entries: &[Entry],
+    entries: &[Label],
     current: &mut [u32],
     node: u32,
 ) -> Option<u32>
@@ -113,7 +113,7 @@ fn next_down(
 pub(crate) fn extend(
     net: &Network,
     flow: &[u64],
-    entries: &[Entry],
+    entries: &[Label],
     current: &mut [u32],
     way: &mut [u32],
     kept: usize,
@@ -162,7 +162,7 @@ pub(crate) fn extend(
 pub(crate) fn block(
     net: &Network,
     flow: &mut [u64],
-    entries: &[Entry],
+    entries: &[Label],
     current: &mut [u32],
     way: &mut [u32],
     most: usize,

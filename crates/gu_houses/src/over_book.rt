@@ -24,9 +24,9 @@ impl Drop for OverBook {
 }
 
 impl Model for OverBook {
-    ghost use Rattle.gu_book.specs.Kept.{Kept};
+    ghost use Rattle.gu_book.specs.BookState.{BookState};
 
-    ghost Value = { Kept };
+    ghost Value = { BookState };
 
     ghost view = { λ house. house.book };
 }

@@ -193,7 +193,7 @@ module _ (ls : List GroupLimit) (group : Group) (lots : ℕ) where
       by true false h a = omega arith
       by false among h a = omega arith
 
-  -- and what was used stands again behind it
+  -- and what was used stands again after it
   pub return-sum : (keys : List LimitKey) → All (λ key. lots ≤ used_in ls group key) keys → (at : Group) (on : LimitKey)
       → used_in (limits_after_return ls group keys lots) at on + lots_under group keys lots at on ≡ used_in ls at on
   return-sum keys used at on = omega (arith, return-used keys at on, lots_under-le keys used at on)

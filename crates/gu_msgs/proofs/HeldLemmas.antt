@@ -89,7 +89,7 @@ held_entries rows (entry ∷ entries) none sound =
       held_entries rows entries parts.1 (sound_rest (items_of rows entry) others sound),
     )
 
--- behind a tag that doesn't stand there is nothing
+-- after a tag that doesn't stand there is nothing
 behind_absent : (tag : ℕ) (fields : List TagValue) → first_value tag fields ≡ None → behind tag fields ≡ []
 behind_absent tag [] none = refl
 behind_absent tag (f ∷ fs) none =

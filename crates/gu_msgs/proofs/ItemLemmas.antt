@@ -19,7 +19,7 @@ pub sound-append : (xs ys : List Item) → AreSound xs → AreSound ys → AreSo
 sound-append [] ys first others = others
 sound-append (x ∷ xs) ys first others = (first.0, sound-append xs ys first.1 others)
 
--- the first fault behind sound values
+-- the first fault after sound values
 pub behind_sound : (xs ys : List Item) → AreSound xs → (found : Option Fault) → HasFirst ys found → HasFirst (xs ++ ys) found
 behind_sound xs ys sound None h = sound-append xs ys sound h
 behind_sound xs ys sound (Some fault) h = record {
@@ -53,7 +53,7 @@ fault_in_front x xs fault tag_is at_fault = record { before = []; item = x; behi
 pub drop_row : (rows : List Row) (i : ℕ) → i < length rows → drop i rows ≡ row_at rows i ∷ drop (i + 1) rows
 drop_row rows i within = rw add-one (drop-cons rows i (Required 0 Text) within)
 
--- a row whose values are sound, and those behind it
+-- a row whose values are sound, and those after it
 pub past_row : (values : Row → List Item) (rows : List Row) (i : ℕ) → i < length rows → AreSound (values (row_at rows i)) → (found : Option Fault)
     → HasFirst (flat_map values (drop (i + 1) rows)) found → HasFirst (flat_map values (drop i rows)) found
 past_row values rows i within sound found h = rw (drop_row rows i within) (behind_sound (values (row_at rows i)) (flat_map values (drop (i + 1) rows)) sound found h)

@@ -49,10 +49,10 @@ one_reason_of : (k : Kind) (text : Option (List ℕ)) (r q : SessionRejectReason
 one_reason_of k None r q a b = absurd a
 one_reason_of k (Some text) r q a b = one_reason k text r q a b
 
--- a first fault is that of the value in front, or there a sound value stands and it is the first behind it
-front_or_behind : (x : Item) (xs : List Item) (f : Fault) → IsFirstAtFault (x ∷ xs) f
+-- a first fault is that of the value in front, or there a sound value stands and it is the first after it
+front_or_after : (x : Item) (xs : List Item) (f : Fault) → IsFirstAtFault (x ∷ xs) f
     → ((f.tag ≡ x.tag) × IsItemAtFault x f.reason) ⊎ (IsSoundItem x × IsFirstAtFault xs f)
-front_or_behind x xs f first =
+front_or_after x xs f first =
     let Q : Type 0 = ((f.tag ≡ x.tag) × IsItemAtFault x f.reason) ⊎ (IsSoundItem x × IsFirstAtFault xs f) in
     let at : (before : List Item) → x ∷ xs ≡ before ++ first.item ∷ first.behind → AreSound before → Q =
     λ before. elim before as (λ b. x ∷ xs ≡ b ++ first.item ∷ first.behind → AreSound b → Q) [
@@ -75,12 +75,12 @@ one_value_fault : (items : List Item) (f g : Fault) → IsFirstAtFault items f �
 one_value_fault [] f g a b = absurd (none_in_nothing f a)
 one_value_fault (x ∷ xs) f g a b =
     let deeper : IsFirstAtFault xs f → IsFirstAtFault xs g → f ≡ g = one_value_fault xs f g in
-    elim (front_or_behind x xs f a) [
-      | inl here ↦ elim (front_or_behind x xs g b) [
+    elim (front_or_after x xs f a) [
+      | inl here ↦ elim (front_or_after x xs g b) [
         | inl there ↦ one_record f g (here.0 ∙ sym there.0) (one_reason_of x.kind x.text f.reason g.reason here.1 there.1)
         | inr later ↦ absurd (not_both_of x.kind x.text f.reason later.0 here.1)
       ]
-      | inr later ↦ elim (front_or_behind x xs g b) [
+      | inr later ↦ elim (front_or_after x xs g b) [
         | inl there ↦ absurd (not_both_of x.kind x.text g.reason later.0 there.1)
         | inr other ↦ deeper later.1 other.1
       ]

@@ -10,7 +10,7 @@ drop_at [] i x at = cc
 drop_at (y ∷ ys) zero x at = let same : y ≡ x = cc in rw same refl
 drop_at (y ∷ ys) (suc i) x at = drop_at ys i x at
 
--- the fields up to a later place: the first, and those behind it
+-- the fields up to a later place: the first, and those after it
 pub first_between : (fields : List TagValue) (from to : ℕ) (field : TagValue) → from < to → slice_get fields from ≡ Some field
     → fields_between fields from to ≡ field ∷ fields_between fields (from + 1) to
 first_between fields from to field before at =
@@ -25,7 +25,7 @@ taken_field (x ∷ xs) zero i within = absurd (omega (arith, within))
 taken_field (x ∷ xs) (suc n) zero within = refl
 taken_field (x ∷ xs) (suc n) (suc i) within = taken_field xs n i (omega (arith, within))
 
--- those behind others come earlier by as many
+-- those after others come earlier by as many
 dropped_field : (xs : List TagValue) (n i : ℕ) → slice_get (drop n xs) i ≡ slice_get xs (n + i)
 dropped_field [] zero i = refl
 dropped_field [] (suc n) i = refl
@@ -42,7 +42,7 @@ pub field_between : (fields : List TagValue) (from to i : ℕ) → i < length (f
 field_between fields from to i within =
     taken_field (drop from fields) (to - from) i (omega (arith, within, length-take (to - from) (drop from fields))) ∙ dropped_field fields from i
 
--- those behind the first so many
+-- those after the first so many
 pub dropped_between : (fields : List TagValue) (from to count : ℕ) → IsBetween fields from to → count ≤ length (fields_between fields from to)
     → fields_between fields (from + count) to ≡ drop count (fields_between fields from to)
 dropped_between fields from to count are few =

@@ -3,13 +3,13 @@ use Rattle.std.proofs.Common.{◌≡◌, ◌<◌, ◌≤◌, ℕ, zero, suc, Boo
 use Rattle.std.proofs.lemmas.Bool.{cases_order}
 use Rattle.std.proofs.lemmas.List.{length-append, take_at}
 use Rattle.gu_fix.specs.TagValue.{TagValue}
-use Rattle.gu_msgs.specs.Shape.{StandsAgain, StandsAgainFirst, is_second, repeated, repeated_behind}
+use Rattle.gu_msgs.specs.Shape.{StandsAgain, StandsAgainFirst, is_second, repeated, repeated_after}
 use Rattle.gu_msgs.specs.declared.row.Row.{Row}
 
--- the field behind others
-pub field_behind : (before : List TagValue) (f : TagValue) (fs : List TagValue) → slice_get (before ++ f ∷ fs) (length before) ≡ Some f
-field_behind [] f fs = refl
-field_behind (x ∷ before) f fs = field_behind before f fs
+-- the field after others
+pub field_after : (before : List TagValue) (f : TagValue) (fs : List TagValue) → slice_get (before ++ f ∷ fs) (length before) ≡ Some f
+field_after [] f fs = refl
+field_after (x ∷ before) f fs = field_after before f fs
 
 -- there is no field past the last
 none_past : (fields : List TagValue) (place : ℕ) → length fields ≤ place → slice_get fields place ≡ None
@@ -17,49 +17,49 @@ none_past [] place past = refl
 none_past (f ∷ fs) zero past = absurd (omega (arith, past))
 none_past (f ∷ fs) (suc place) past = none_past fs place (omega (arith, past))
 
--- a field stands again behind others, where its tag does
-again_behind : (rows : List Row) (before : List TagValue) (f : TagValue) (fs : List TagValue) → is_second rows before f ≡ true → StandsAgain rows (before ++ f ∷ fs) (length before)
-again_behind rows before f fs second = rw (field_behind before f fs, take_at before (f ∷ fs) (length before) refl) second
+-- a field stands again after others, where its tag does
+again_after : (rows : List Row) (before : List TagValue) (f : TagValue) (fs : List TagValue) → is_second rows before f ≡ true → StandsAgain rows (before ++ f ∷ fs) (length before)
+again_after rows before f fs second = rw (field_after before f fs, take_at before (f ∷ fs) (length before) refl) second
 
 -- and only there
-second_behind : (rows : List Row) (before : List TagValue) (f : TagValue) (fs : List TagValue) → StandsAgain rows (before ++ f ∷ fs) (length before) → is_second rows before f ≡ true
-second_behind rows before f fs again = rw (field_behind before f fs, take_at before (f ∷ fs) (length before) refl) at again
+second_after : (rows : List Row) (before : List TagValue) (f : TagValue) (fs : List TagValue) → StandsAgain rows (before ++ f ∷ fs) (length before) → is_second rows before f ≡ true
+second_after rows before f fs again = rw (field_after before f fs, take_at before (f ∷ fs) (length before) refl) at again
 
 -- what is said of the tag that was found
 abbrev IsFound : List Row → List TagValue → Option ℕ → Type 0
 IsFound rows fields found = MatchOption found ((place : ℕ) → StandsAgain rows fields place → ⊥) (StandsAgainFirst rows fields)
 
--- behind fields of which none stands again
-found_behind : (rows : List Row) (before ahead : List TagValue) → ((place : ℕ) → place < length before → StandsAgain rows (before ++ ahead) place → ⊥)
-    → IsFound rows (before ++ ahead) (repeated_behind rows before ahead)
-found_behind rows before [] none = λ place again.
+-- after fields of which none stands again
+found_after : (rows : List Row) (before ahead : List TagValue) → ((place : ℕ) → place < length before → StandsAgain rows (before ++ ahead) place → ⊥)
+    → IsFound rows (before ++ ahead) (repeated_after rows before ahead)
+found_after rows before [] none = λ place again.
     let past : length before ≤ place → ⊥ = λ le. (let nothing = rw (none_past (before ++ []) place (omega (arith, le, length-append before []))) at again in nothing) in
     elim (cases_order place (length before)) [
       | inl same ↦ past (omega (arith, same))
       | inr (inl early) ↦ none place early again
       | inr (inr late) ↦ past (omega (arith, late))
     ]
-found_behind rows before (f ∷ fs) none =
+found_after rows before (f ∷ fs) none =
     let joined : before ++ f ∷ [] ++ fs ≡ before ++ f ∷ fs = append_assoc before (f ∷ []) fs in
-    let P : Bool → Type 0 = λ b. is_second rows before f ≡ b → IsFound rows (before ++ f ∷ fs) (cond b (Some f.tag) (repeated_behind rows (before ++ f ∷ []) fs)) in
+    let P : Bool → Type 0 = λ b. is_second rows before f ≡ b → IsFound rows (before ++ f ∷ fs) (cond b (Some f.tag) (repeated_after rows (before ++ f ∷ []) fs)) in
     let here : P true = λ second. record {
       place = length before;
       value = f.value;
-      at = field_behind before f fs;
-      again = again_behind rows before f fs second;
+      at = field_after before f fs;
+      again = again_after rows before f fs second;
       first = none;
     } in
     let later : P false = λ other.
     (let still : (place : ℕ) → place < length (before ++ f ∷ []) → StandsAgain rows (before ++ f ∷ [] ++ fs) place → ⊥ = λ place within again.
     (let own : StandsAgain rows (before ++ f ∷ fs) place = subst (λ (t : List TagValue). StandsAgain rows t place) joined again in
     elim (cases_order place (length before)) [
-      | inl same ↦ (let second = second_behind rows before f fs (subst (λ (k : ℕ). StandsAgain rows (before ++ f ∷ fs) k) same own) in cc)
+      | inl same ↦ (let second = second_after rows before f fs (subst (λ (k : ℕ). StandsAgain rows (before ++ f ∷ fs) k) same own) in cc)
       | inr (inl early) ↦ none place early own
       | inr (inr late) ↦ omega (arith, within, late, length-append before (f ∷ []))
     ]) in
-    subst (λ (t : List TagValue). IsFound rows t (repeated_behind rows (before ++ f ∷ []) fs)) joined (found_behind rows (before ++ f ∷ []) fs still)) in
+    subst (λ (t : List TagValue). IsFound rows t (repeated_after rows (before ++ f ∷ []) fs)) joined (found_after rows (before ++ f ∷ []) fs still)) in
     let at : (b : Bool) → P b = λ b. elim b as P [ true ↦ here | false ↦ later ] in
     at (is_second rows before f) refl
 
 pub leftmost : (rows : List Row) (fields : List TagValue) → MatchOption (repeated rows fields) ((place : ℕ) → StandsAgain rows fields place → ⊥) (StandsAgainFirst rows fields)
-leftmost rows fields = found_behind rows [] fields (λ place within again. omega (arith, within))
+leftmost rows fields = found_after rows [] fields (λ place within again. omega (arith, within))

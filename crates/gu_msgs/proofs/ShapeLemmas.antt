@@ -4,7 +4,7 @@ use Rattle.std.proofs.lemmas.List.{length-append, take_at}
 use Rattle.std.specs.Option.{option_or}
 use Rattle.gu_fix.specs.TagValue.{TagValue}
 use Rattle.gu_msgs.specs.Rows.{tag_of, is_required}
-use Rattle.gu_msgs.specs.Shape.{is_second, missing, repeated_behind}
+use Rattle.gu_msgs.specs.Shape.{is_second, missing, repeated_after}
 use Rattle.gu_msgs.specs.Values.{stands}
 use Rattle.gu_msgs.specs.declared.row.Row.{Row}
 
@@ -32,7 +32,7 @@ taken_on fields ahead rest field seen walked counted next =
 pub record IsWalked (rows : List Row) (fields ahead : List TagValue) (seen : ℕ) : Type 0 where
   pub walked : take seen fields ++ ahead ≡ fields
   pub counted : seen + length ahead ≡ length fields
-  pub same : repeated_behind rows [] fields ≡ repeated_behind rows (take seen fields) ahead
+  pub same : repeated_after rows [] fields ≡ repeated_after rows (take seen fields) ahead
 
 -- which stays so one field further on, where its tag doesn't stand again
 pub walked_on : (rows : List Row) (fields ahead rest : List TagValue) (field : TagValue) (seen : ℕ) → IsWalked rows fields ahead seen → ahead ≡ field ∷ rest
@@ -40,9 +40,9 @@ pub walked_on : (rows : List Row) (fields ahead rest : List TagValue) (field : T
 walked_on rows fields ahead rest field seen is next first =
     let on = taken_on fields ahead rest field seen is.walked is.counted next in
     let before = take seen fields in
-    let step : repeated_behind rows before (field ∷ rest) ≡ repeated_behind rows (before ++ field ∷ []) rest = rw first refl in
+    let step : repeated_after rows before (field ∷ rest) ≡ repeated_after rows (before ++ field ∷ []) rest = rw first refl in
     record {
       walked = rw on (append_assoc before (field ∷ []) rest ∙ ap (λ (t : List TagValue). before ++ t) (sym next) ∙ is.walked);
       counted = let size = ap length next in omega (arith, is.counted, size);
-      same = is.same ∙ ap (repeated_behind rows before) next ∙ step ∙ ap (λ (t : List TagValue). repeated_behind rows t rest) (sym on);
+      same = is.same ∙ ap (repeated_after rows before) next ∙ step ∙ ap (λ (t : List TagValue). repeated_after rows t rest) (sym on);
     }

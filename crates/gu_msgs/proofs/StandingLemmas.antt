@@ -7,14 +7,14 @@ use Rattle.std.proofs.lemmas.List.Folds.{list_any_at}
 use Rattle.std.specs.Option.{option_map, option_or}
 use Rattle.gu_fix.specs.TagValue.{TagValue}
 use Rattle.gu_msgs.specs.Rows.{is_listed, is_required, tag_of}
-use Rattle.gu_msgs.specs.Shape.{is_second, missing, repeated, repeated_behind}
-use Rattle.gu_msgs.specs.Standings.{AreDistinct, AreStandings, IsRowOf, IsStanding, Notes, fields_behind, row_at, value_numbered}
+use Rattle.gu_msgs.specs.Shape.{is_second, missing, repeated, repeated_after}
+use Rattle.gu_msgs.specs.Standings.{AreDistinct, AreStandings, IsRowOf, IsStanding, Notes, fields_after, row_at, value_numbered}
 use Rattle.gu_msgs.specs.Values.{behind, first_value, stands}
 use Rattle.gu_msgs.specs.declared.row.Kind.TheVariants.{Text}
 use Rattle.gu_msgs.specs.declared.row.Row.{Row}
 use Rattle.gu_msgs.specs.declared.row.Row.TheVariants.{Required}
 use Rattle.gu_msgs.proofs.ItemLemmas.{drop_row}
-use Rattle.gu_msgs.proofs.SecondStandings.{field_behind}
+use Rattle.gu_msgs.proofs.SecondStandings.{field_after}
 use Rattle.gu_msgs.proofs.ShapeLemmas.{IsWalked, taken_on, walked_on}
 
 -- ---- one more field
@@ -42,7 +42,7 @@ numbered_kept fields f (suc place) within = ap (option_map (λ (t : TagValue). t
 
 -- the field's own value
 numbered_last : (fields : List TagValue) (f : TagValue) → value_numbered (fields ++ f ∷ []) (length fields + 1) ≡ Some f.value
-numbered_last fields f = rw add-one (ap (option_map (λ (t : TagValue). t.value)) (field_behind fields f []))
+numbered_last fields f = rw add-one (ap (option_map (λ (t : TagValue). t.value)) (field_after fields f []))
 
 -- there is a field with each number but 0
 some_field : (fields : List TagValue) (place : ℕ) → place < length fields → is_some (option_map (λ (t : TagValue). t.value) (slice_get fields place)) ≡ true
@@ -82,14 +82,14 @@ behind_new tag (x ∷ fields) f none =
     at (x.tag == tag) none
 
 -- what follows a field that was there
-behind_kept : (fields : List TagValue) (f : TagValue) (tag number : ℕ) → IsStanding fields tag number → behind tag (fields ++ f ∷ []) ≡ fields_behind (fields ++ f ∷ []) number
+behind_kept : (fields : List TagValue) (f : TagValue) (tag number : ℕ) → IsStanding fields tag number → behind tag (fields ++ f ∷ []) ≡ fields_after (fields ++ f ∷ []) number
 behind_kept fields f tag zero is = behind_new tag fields f (absent_numbered fields tag zero is refl)
 behind_kept fields f tag (suc place) is =
     behind-push tag fields f (stands_numbered fields tag (suc place) is (λ e. absurd (omega (arith, e)))) ∙ ap (λ (t : List TagValue). t ++ f ∷ []) is.behind
     ∙ sym (drop-append-le (suc place) fields (f ∷ []) is.within)
 
 -- nothing follows the last
-behind_last : (fields : List TagValue) (f : TagValue) → fields_behind (fields ++ f ∷ []) (length fields + 1) ≡ []
+behind_last : (fields : List TagValue) (f : TagValue) → fields_after (fields ++ f ∷ []) (length fields + 1) ≡ []
 behind_last fields f = rw add-one (drop_of_length-le (fields ++ f ∷ []) {i = suc (length fields)} (omega (arith, length-append fields (f ∷ []))))
 
 either_some : (a b : Option (List ℕ)) → is_some a ≡ true → option_or a b ≡ a
@@ -208,8 +208,8 @@ pub found_again : (rows : List Row) (fields ahead rest : List TagValue) (field :
 found_again rows fields ahead rest field seen old new are next notes =
     let before = take seen fields in
     let second = second_noted rows before field (seen + 1) old new are.first notes in
-    let step : repeated_behind rows before (field ∷ rest) ≡ Some field.tag = rw second refl in
-    are.walked.same ∙ ap (repeated_behind rows before) next ∙ step
+    let step : repeated_after rows before (field ∷ rest) ≡ Some field.tag = rw second refl in
+    are.walked.same ∙ ap (repeated_after rows before) next ∙ step
 
 -- ---- what is missing
 

@@ -57,7 +57,7 @@ reports_count (ValidRequest count) = count
 reports_count NoPositionsFound = 0
 reports_count NotAuthorized = 0
 
--- the letter of a side, behind the number of an entry
+-- the letter of a side, after the number of an entry
 abbrev pub side_letter : Side → ℕ
 side_letter Buy = 66
 side_letter Sell = 83

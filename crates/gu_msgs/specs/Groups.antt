@@ -1,4 +1,4 @@
--- Groups: a counter, and entries behind it (FIX tagvalue encoding, Repeating groups).
+-- Groups: a counter, and entries after it (FIX tagvalue encoding, Repeating groups).
 use Rattle.std.specs.Prelude.{◌==◌, ℕ, Bool, List, [], ◌∷◌, if◌then◌else◌}
 use Rattle.gu_fix.specs.TagValue.{TagValue}
 use Rattle.gu_msgs.specs.Rows.{tag_of, is_listed}
@@ -12,7 +12,7 @@ abbrev pub up_to : (ℕ → Bool) → List TagValue → List TagValue
 up_to is_such [] = []
 up_to is_such (field ∷ fields) = if is_such field.tag then [] else field ∷ up_to is_such fields
 
--- a group: what stands behind its counter, up to the next tag that is read at the outer level
+-- a group: what comes after its counter, up to the next tag that is read at the outer level
 abbrev pub group_of : MsgType → ℕ → List TagValue → List TagValue
 group_of kind counter fields = up_to (is_listed (outer_rows kind)) (behind counter fields)
 

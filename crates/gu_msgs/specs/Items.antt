@@ -27,7 +27,7 @@ item_of fields row = record { tag = tag_of row; kind = kind_of row; text = first
 abbrev pub items_of : List Row → List TagValue → List Item
 items_of rows fields = map (item_of fields) rows
 
--- an outer tag's value, and where it counts a group those of the entries behind it
+-- an outer tag's value, and where it counts a group those of the entries after it
 abbrev pub row_items : MsgType → List TagValue → Row → List Item
 row_items kind fields row = item_of fields row ∷ flat_map (items_of (entry_rows (tag_of row))) (entries_of kind (tag_of row) fields)
 

@@ -21,15 +21,15 @@ fault_at reason tag = record { tag = tag; reason = reason }
 abbrev pub is_second : List Row → List TagValue → TagValue → Bool
 is_second rows before field = is_listed rows field.tag && stands field.tag before
 
--- the tag of the first such field behind these
-abbrev pub repeated_behind : List Row → List TagValue → List TagValue → Option ℕ
-repeated_behind rows before [] = None
-repeated_behind rows before (field ∷ fields) =
-    if is_second rows before field then Some field.tag else repeated_behind rows (before ++ field ∷ []) fields
+-- the tag of the first such field after these
+abbrev pub repeated_after : List Row → List TagValue → List TagValue → Option ℕ
+repeated_after rows before [] = None
+repeated_after rows before (field ∷ fields) =
+    if is_second rows before field then Some field.tag else repeated_after rows (before ++ field ∷ []) fields
 
 -- the leftmost second standing of a tag of these rows
 abbrev pub repeated : List Row → List TagValue → Option ℕ
-repeated rows fields = repeated_behind rows [] fields
+repeated rows fields = repeated_after rows [] fields
 
 -- at this place stands a tag of these rows that stands before it too
 abbrev pub StandsAgain : List Row → List TagValue → ℕ → Type 0

@@ -14,15 +14,15 @@ value_numbered fields zero = None
 value_numbered fields (suc place) = option_map (λ f. f.value) (slice_get fields place)
 
 -- what follows the field with this number, nothing for 0
-abbrev pub fields_behind : List TagValue → ℕ → List TagValue
-fields_behind fields zero = []
-fields_behind fields (suc place) = drop (suc place) fields
+abbrev pub fields_after : List TagValue → ℕ → List TagValue
+fields_after fields zero = []
+fields_after fields (suc place) = drop (suc place) fields
 
 -- the number of the first field with a tag, 0 where the tag doesn't stand
 pub record IsStanding (fields : List TagValue) (tag number : ℕ) : Type 0 where
   pub within : number ≤ length fields
   pub first : first_value tag fields ≡ value_numbered fields number
-  pub behind : behind tag fields ≡ fields_behind fields number
+  pub behind : behind tag fields ≡ fields_after fields number
 
 -- the row at a place
 abbrev pub row_at : List Row → ℕ → Row

@@ -18,7 +18,7 @@ abbrev pub trimmed_digits : List ℕ → List ℕ
 trimmed_digits [] = []
 trimmed_digits (d ∷ ds) = if d == 48 && length (trimmed_digits ds) == 0 then [] else d ∷ trimmed_digits ds
 
--- millionths behind the point, and no point without any
+-- millionths after the point, and no point without any
 unfoldable pub fraction_text : ℕ → List ℕ
 fraction_text n = if n == 0 then [] else 46 ∷ trimmed_digits (six_digits n)
 

@@ -39,7 +39,7 @@ body_code (body.AllocationReport m) = codes "AS"
 body_code (body.RequestForPositionsAck m) = codes "AO"
 body_code (body.PositionReport m) = codes "AP"
 
--- what a message says behind its header
+-- what a message says after its header
 abbrev pub body_fields : Body → List TagValue
 body_fields (body.Logon interval resets) = logon_fields interval resets
 body_fields (body.Heartbeat id) = optional_field TEST_REQ_ID id

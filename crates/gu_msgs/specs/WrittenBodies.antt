@@ -1,4 +1,4 @@
--- What messages that are written say behind their headers, in order.
+-- What messages that are written say after their headers, in order.
 use Rattle.std.specs.Prelude.{◌==◌, ◌++◌, ℕ, Bool, List, [], ◌∷◌, Option, None, Some, codes, if◌then◌else◌}
 use Rattle.std.specs.Fmt.{decimal}
 use Rattle.gu_fix.specs.TagValue.{TagValue, tag_value}

@@ -1,4 +1,4 @@
-//! Groups: a counter, and entries behind it.
+//! Groups: a counter, and entries after it.
 
 ghost use Rattle.std.specs.Prelude.{◌≡◌, ◌∷◌, ◌==◌, ◌+◌, ◌<◌, ◌≤◌, ◌^◌, ℕ, [], length, MatchOption};
 ghost use Rattle.gu_msgs.specs.Groups.{entries_by, group_of, up_to};
@@ -10,7 +10,7 @@ use crate::field_values::behind;
 use crate::msg_type::MsgType;
 use crate::places::outer_place;
 use crate::run::Run;
-use crate::standings::fields_behind;
+use crate::standings::fields_after;
 
 /// Whether a tag is read at the outer level of a message of this type.
 #[inline(always)]
@@ -66,14 +66,14 @@ pub fn group_of<'a>(fields: &Run<'a>, msg_type: MsgType, counter: u32) -> Run<'a
     up_to_outer(&behind(fields, counter), msg_type)
 }
 
-/// The group behind the field with this number, which is the first standing of its counter.
+/// The group after the field with this number, which is the first standing of its counter.
 #[inline(always)]
-pub fn group_behind<'a>(fields: &Run<'a>, msg_type: MsgType, number: usize) -> Run<'a>
+pub fn group_after<'a>(fields: &Run<'a>, msg_type: MsgType, number: usize) -> Run<'a>
     requires { number ≤ length fields.now }
     ensures fields { (counter : ℕ) → IsStanding fields.now counter number → result ≡ group_of msg_type counter fields.now }
     ensures short { length result < 2 ^ 64 }
 {
-    up_to_outer(&fields_behind(fields, number), msg_type)
+    up_to_outer(&fields_after(fields, number), msg_type)
 }
 
 /// Takes the next entry of a group, which begins with this tag.

@@ -96,7 +96,7 @@ pub struct PositionReport {
     pub short_qty: u64,
 }
 
-/// What a message says behind its header, by its type.
+/// What a message says after its header, by its type.
 #[derive(Drop)]
 pub enum Body {
     Logon {

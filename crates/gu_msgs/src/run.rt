@@ -79,7 +79,7 @@ impl<'a> Run<'a> {
         }
     }
 
-    /// Those behind the first so many.
+    /// Those after the first so many.
     pub fn from(&self, count: usize) -> Run<'a>
         requires { count ≤ length self.now }
         ensures { result ≡ drop count self.now }

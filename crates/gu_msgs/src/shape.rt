@@ -10,7 +10,7 @@ ghost use Rattle.gu_msgs.specs.Tables.{body_rows, outer_rows};
 ghost use Rattle.gu_msgs.specs.Values.{is_numeral};
 
 use crate::fault::Fault;
-use crate::groups::{group_behind, has_entries, next_entry};
+use crate::groups::{group_after, has_entries, next_entry};
 use crate::msg_type::MsgType;
 use crate::reject_reason::SessionRejectReason;
 use crate::row::Row;
@@ -124,7 +124,7 @@ fn group_fault(fields: &Run<'_>, msg_type: MsgType, counter: u32, number: usize)
         return None;
     }
     match value_numbered(fields, number) {
-        Some(text) => counted_fault(counter, text, &group_behind(fields, msg_type, number), rows),
+        Some(text) => counted_fault(counter, text, &group_after(fields, msg_type, number), rows),
         None => None,
     }
 }

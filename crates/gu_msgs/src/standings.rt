@@ -4,7 +4,7 @@ ghost use Rattle.std.specs.Prelude.{◌≡◌, ◌≤◌, length, false, IfSome,
 ghost use Rattle.gu_fix.specs.TagValue.{TagValue};
 ghost use Rattle.gu_msgs.specs.Rows.{is_listed};
 ghost use Rattle.gu_msgs.specs.Shape.{missing, repeated};
-ghost use Rattle.gu_msgs.specs.Standings.{AreStandings, IsTable, Notes, fields_behind, value_numbered};
+ghost use Rattle.gu_msgs.specs.Standings.{AreStandings, IsTable, Notes, fields_after, value_numbered};
 ghost use Rattle.gu_msgs.specs.Tables.{outer_rows};
 ghost use Rattle.gu_msgs.specs.Values.{first_value};
 
@@ -89,9 +89,9 @@ pub fn missing(rows: &[Row], numbers: &Standings) -> Option<u32>
 }
 
 /// What follows the field with this number.
-pub fn fields_behind<'a>(fields: &Run<'a>, number: usize) -> Run<'a>
+pub fn fields_after<'a>(fields: &Run<'a>, number: usize) -> Run<'a>
     requires { number ≤ length fields.now }
-    ensures { result ≡ fields_behind fields.now number }
+    ensures { result ≡ fields_after fields.now number }
 {
     if number == 0 {
         return fields.first(0);

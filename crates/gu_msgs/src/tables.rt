@@ -21,7 +21,7 @@ use gu_fix::{BEGIN_STRING, BODY_LENGTH, CHECK_SUM, MSG_TYPE};
 /// The greatest whole number of a message.
 pub const GREATEST: u64 = 1_000_000_000;
 
-/// A table: the rows of the header and CheckSum, and behind them a type's own.
+/// A table: the rows of the header and CheckSum, and after them a type's own.
 macro_rules! table {
     ($($row:expr),* $(,)?) => {
         [

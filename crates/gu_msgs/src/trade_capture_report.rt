@@ -11,7 +11,7 @@ ghost use Rattle.gu_msgs.specs.Tables.{body_rows, entry_rows, outer_rows};
 ghost use Rattle.gu_msgs.specs.declared.msg_type.MsgType.TheVariants as kind;
 
 use crate::fault::MsgFault;
-use crate::groups::{group_behind, next_entry};
+use crate::groups::{group_after, next_entry};
 use crate::inbound::{Inbound, TradeCaptureReport};
 use crate::kept_values::KeptValues;
 use crate::msg_type::MsgType;
@@ -34,7 +34,7 @@ fn side_entry<'a>(fields: &Run<'a>, numbers: &Standings) -> Run<'a>
     ensures one { entries_of kind.TradeCaptureReport NO_SIDES fields.now ≡ result ∷ [] }
     ensures held { AreHeld (entry_rows NO_SIDES) result }
 {
-    let mut group = group_behind(fields, MsgType::TradeCaptureReport, numbers[NO_SIDES_ROW]);
+    let mut group = group_after(fields, MsgType::TradeCaptureReport, numbers[NO_SIDES_ROW]);
     let Some(entry) = next_entry(&mut group, SIDE) else {
         unreachable!();
     };

@@ -14,7 +14,7 @@ ghost use Rattle.gu_fix.specs.TagValue.{TagValue};
 
 use crate::fault::Fault;
 use crate::field_values::first_value;
-use crate::groups::{group_behind, next_entry};
+use crate::groups::{group_after, next_entry};
 use crate::kept_values::{KeptValues, NONE_KEPT};
 use crate::kinds::{sound_day, sound_lots, sound_price, text_fault};
 use crate::msg_type::MsgType;
@@ -128,7 +128,7 @@ fn group_fault(fields: &Run<'_>, msg_type: MsgType, counter: u32, number: usize)
 {
     let rows = entry_rows(counter);
     match rows.first() {
-        Some(row) => entries_fault(&group_behind(fields, msg_type, number), row.tag(), rows),
+        Some(row) => entries_fault(&group_after(fields, msg_type, number), row.tag(), rows),
         None => None,
     }
 }

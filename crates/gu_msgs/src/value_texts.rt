@@ -62,7 +62,7 @@ fn trimmed(digits: &[u8]) -> &[u8]
     &[]
 }
 
-/// Appends millionths behind a point, where there are any.
+/// Appends millionths after a point, where there are any.
 #[tactic(auto, unfolding(crate::specs::ValueTexts::fraction_text))]
 fn push_fraction(text: &mut Vec<u8>, millionths: u32) -> Result<(), AllocError>
     requires { millionths < 1000000 }
@@ -121,7 +121,7 @@ pub fn day_text(day: Day) -> [u8; 8]
     date_digits(day.year, day.month, day.day)
 }
 
-/// The time of a day, so many milliseconds behind midnight.
+/// The time of a day, so many milliseconds after midnight.
 #[tactic(auto, unfolding(crate::specs::ValueTexts::time_text))]
 fn time_text(milliseconds: u32) -> [u8; 12]
     requires { milliseconds < 86400000 }
@@ -135,7 +135,7 @@ fn time_text(milliseconds: u32) -> [u8; 12]
     text
 }
 
-/// The date that lies so many days behind 1970-01-01.
+/// The date that lies so many days after 1970-01-01.
 fn date_after(days: u32) -> Date
     requires { days ≤ 2932896 }
     ensures { epoch_day result ≡ pos days }
@@ -146,7 +146,7 @@ fn date_after(days: u32) -> Date
     date
 }
 
-/// The date that lies so many days behind 1970-01-01, in eight digits.
+/// The date that lies so many days after 1970-01-01, in eight digits.
 fn date_text_after(days: u32) -> [u8; 8]
     requires { days ≤ 2932896 }
     ensures { WritesDateAfter days result }

@@ -1,4 +1,4 @@
--- What a give-up offers goes behind, and a day is opened: all stays kept.
+-- What a give-up offers goes after, and a day is opened: all stays kept.
 use Rattle.std.proofs.Common.{◌≡◌, ◌∙◌, sym, refl, ap, subst, ℕ, ◌+◌, ◌-◌, ◌*◌, ◌≤◌, ◌==◌, Bool, true, false, cond, ◌&&◌, List, [], ◌∷◌, ◌++◌, length, map, arith, length-append, if◌then◌else◌}
 use Rattle.std.specs.List.{All, AllByRecursion, range_with_len}
 use Rattle.std.proofs.lemmas.Bool.Decides.{Decides-eqb}
@@ -161,7 +161,7 @@ module _ (firm : FirmId) (report : Id) (group : Group) where
 
   module _ (kept later : Inside) (is_kept : IsKept kept) (lines : List Line) (lots : All (λ (line : Line). IsLots line.lots) lines)
       (pushed : later.rows.items ≡ kept.rows.items ++ map (given_for firm report group) lines) (today : later.day ≡ kept.day) where
-    -- the offers, and those of the lines behind them
+    -- the offers, and those of the lines after them
     pub rows-offered : rows_of later ≡ with_lines (rows_of kept) firm report group lines
     rows-offered =
         (λ i. map (row_of (today i)) (pushed i)) ∙ map-append (row_of kept.day) kept.rows.items (map (given_for firm report group) lines)

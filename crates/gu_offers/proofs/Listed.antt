@@ -98,7 +98,7 @@ module _ (group : Group) where
       by true other = rw other refl
       by false other = refl
 
-  -- more rows have their numbers behind
+  -- more rows have their numbers after
   pub numbers-append : (n : ℕ) (rows more : List Row) → numbers_from n (rows ++ more) group ≡ numbers_from n rows group ++ numbers_from (n + length rows) more group
   numbers-append n [] more = let e : n + 0 ≡ n = omega arith in ap (λ m. numbers_from m more group) (sym e)
   numbers-append n (r ∷ rows) more =

@@ -17,7 +17,7 @@ offered firm report group line =
       is_shut = false;
     }
 
--- the offers, and those of the lines of a give-up behind them
+-- the offers, and those of the lines of a give-up after them
 abbrev pub with_lines : List Row → FirmId → Id → Group → List Line → List Row
 with_lines rows firm report group lines = rows ++ map (offered firm report group) lines
 

@@ -25,7 +25,7 @@ use Rattle.gu_terms.specs.declared.group.Group.{Group}
 use Rattle.gu_terms.specs.declared.id.Id.{Id}
 use Rattle.gu_terms.specs.declared.limit_key.LimitKey.{LimitKey}
 use Rattle.gu_terms.specs.declared.lines.Line.{Line}
-use Rattle.gu_terms.specs.declared.offer.Offer.{Offer as GivenUp}
+use Rattle.gu_terms.specs.declared.offer.Offer.{ViewOffer as GivenUp}
 use Rattle.gu_terms.specs.declared.refusal.Refusal.TheVariants.{TooHigh}
 use Rattle.gu_terms.specs.declared.reply.Done.TheVariants.{LimitSet, Offered}
 use Rattle.gu_terms.specs.declared.reply.Reply.TheVariants.{Accepted}
@@ -43,7 +43,7 @@ use Rattle.gu_offers.specs.Rows.{IsSound as IsSoundRow, Row, open_numbers}
 use Rattle.gu_view.proofs.MakingLemmas.{even_paths, good_offers}
 use Rattle.gu_view.specs.Making.{bad_offer}
 use Rattle.gu_view.specs.View.{IsNested, IsView, firsts, keys_of}
-use Rattle.gu_view.specs.declared.view.Offer.{Offer}
+use Rattle.gu_view.specs.declared.view.ViewOffer.{ViewOffer}
 use Rattle.gu_view.specs.declared.view.Room.{Room}
 use Rattle.gu_book.specs.Answer.{done_of, most_limit, state_of, tests_of}
 use Rattle.gu_book.specs.Legal.{IsLegal, MayFollow}
@@ -147,15 +147,15 @@ few_keys : (executing : FirmId) (id : AgreementId) (account : AccountId) (carryi
 few_keys executing id account carrying None = omega arith
 few_keys executing id account carrying (Some firm) = omega arith
 
-path_short : (reference : Tables) (o : Offer) → HasPath reference o → length o.path ≤ 5
+path_short : (reference : Tables) (o : ViewOffer) → HasPath reference o → length o.path ≤ 5
 path_short reference o has =
     let goes = goes_through reference o.agreement o.path has in
     let few = few_keys goes.executing o.agreement goes.account goes.carried.firm (guarantor_of reference goes.carried.firm) in omega (arith, few, ap length goes.is)
 
-few_mentioned : (reference : Tables) (offers : List Offer) → AllByRecursion (HasPath reference) offers → length (flat_map (λ (o : Offer). o.path) offers) ≤ 5 * length offers
+few_mentioned : (reference : Tables) (offers : List ViewOffer) → AllByRecursion (HasPath reference) offers → length (flat_map (λ (o : ViewOffer). o.path) offers) ≤ 5 * length offers
 few_mentioned reference [] have = omega arith
 few_mentioned reference (o ∷ offers) have =
-    omega (arith, length-append o.path (flat_map (λ (p : Offer). p.path) offers), path_short reference o have.0, few_mentioned reference offers have.1)
+    omega (arith, length-append o.path (flat_map (λ (p : ViewOffer). p.path) offers), path_short reference o have.0, few_mentioned reference offers have.1)
 
 -- ---- rooms
 
@@ -231,12 +231,12 @@ module _ (reference : Tables) (history : List Entry) (typed : AreTyped reference
 
 -- an offer that is shown has its own number
 numbers_shown : (reference : Tables) → IsSound reference → (rows : List Row) (numbers : List ℕ) → AllByRecursion IsOfferNo numbers
-    → AllByRecursion (λ (o : Offer). IsOfferNo o.number) (filter_map (shown_at reference rows) numbers)
+    → AllByRecursion (λ (o : ViewOffer). IsOfferNo o.number) (filter_map (shown_at reference rows) numbers)
 numbers_shown reference sound rows [] h = tt
 numbers_shown reference sound rows (n ∷ numbers) h = by (shown_at reference rows n) refl (numbers_shown reference sound rows numbers h.1)
   where
-    by : (given : Option Offer) → shown_at reference rows n ≡ given → AllByRecursion (λ (o : Offer). IsOfferNo o.number) (filter_map (shown_at reference rows) numbers)
-        → AllByRecursion (λ (o : Offer). IsOfferNo o.number) (cons_option given (filter_map (shown_at reference rows) numbers))
+    by : (given : Option ViewOffer) → shown_at reference rows n ≡ given → AllByRecursion (λ (o : ViewOffer). IsOfferNo o.number) (filter_map (shown_at reference rows) numbers)
+        → AllByRecursion (λ (o : ViewOffer). IsOfferNo o.number) (cons_option given (filter_map (shown_at reference rows) numbers))
     by None e rest = rest
     by (Some o) e rest = (subst IsOfferNo (sym (shows_offer reference sound rows n o e).own) h.0, rest)
 
@@ -270,7 +270,7 @@ module _ (reference : Tables) (history : List Entry) (group : Group) (typed : Ar
         own = paths.own;
         one_path = paths.one_path;
         rooms = room_keys reference history group (keys_of offers);
-        few_rooms = omega (arith, length-map (keys_of offers) (room reference history group), firsts-fewer (flat_map (λ (o : Offer). o.path) offers), few_mentioned reference offers paths_there, good.few);
+        few_rooms = omega (arith, length-map (keys_of offers) (room reference history group), firsts-fewer (flat_map (λ (o : ViewOffer). o.path) offers), few_mentioned reference offers paths_there, good.few);
         limits = All-from_recursion (λ (r : Room). r.lots ≤ 1000000000) (map (room reference history group) (keys_of offers)) (rooms_most reference history group legal (keys_of offers));
       }
 
@@ -283,12 +283,12 @@ module _ (reference : Tables) (history : List Entry) (group : Group) (typed : Ar
   pub named : is_group reference group ≡ true → IsNamed (group_view reference history group)
   named known = record {
     group = group_named reference.groups group (recursion_from_All (λ (g : Group). is_name g.name ≡ true) reference.groups typed.groups) known;
-    numbers = All-from_recursion (λ (o : Offer). IsOfferNo o.number) (offers_shown reference history group)
-        (subst (AllByRecursion (λ (o : Offer). IsOfferNo o.number)) (sym offers-given)
+    numbers = All-from_recursion (λ (o : ViewOffer). IsOfferNo o.number) (offers_shown reference history group)
+        (subst (AllByRecursion (λ (o : ViewOffer). IsOfferNo o.number)) (sym offers-given)
         (numbers_shown reference typed.sound rows (open_numbers rows group)
         (along (λ m. (1 ≤ m) × (m < 1 + length rows)) IsOfferNo (open_numbers rows group)
         (λ m h. record { some = h.0; most = omega (arith, h.1, standing-length history 1 (offers_of history), few_offers_made history typed.short, legal.within) }) (numbers-within group 1 rows))));
-    names = All-from_recursion (λ (o : Offer). IsTrue (list_all (λ k. is_name (name_of_key k)) o.path)) (offers_shown reference history group)
-        (along (HasPath reference) (λ (o : Offer). list_all (λ k. is_name (name_of_key k)) o.path ≡ true) (offers_shown reference history group)
+    names = All-from_recursion (λ (o : ViewOffer). IsTrue (list_all (λ k. is_name (name_of_key k)) o.path)) (offers_shown reference history group)
+        (along (HasPath reference) (λ (o : ViewOffer). list_all (λ k. is_name (name_of_key k)) o.path ≡ true) (offers_shown reference history group)
         (λ o has. path_named reference history typed o.agreement o.path has) paths_there);
   }

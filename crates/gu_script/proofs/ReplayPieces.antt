@@ -9,7 +9,7 @@ use Rattle.gu_text.specs.Lines.{is_silent, longest_line}
 use Rattle.gu_text.specs.Scripts.{IsBad}
 use Rattle.gu_text.specs.declared.error.TextError.{TextError}
 use Rattle.gu_text.specs.declared.error.TextError.TheVariants as text_error
-use Rattle.gu_text.proofs.LineFeedLaws.{leaves_all, leaves_behind, leaves_on, lines-alone, no_feed-append, parted_behind}
+use Rattle.gu_text.proofs.LineFeedLaws.{leaves_all, leaves_after, leaves_on, lines-alone, no_feed-append, parted_after}
 use Rattle.gu_script.specs.ScriptPieces.{AnswersEnd, AnswersEnded, AnswersPiece, Place, StopsInPiece, TakesPiece}
 use Rattle.gu_script.specs.ScriptSteps.{AnswersLines}
 use Rattle.gu_script.proofs.ReplayTexts.{lines_none, lines_then}
@@ -38,7 +38,7 @@ pub taking_line : (old now new : Place) (piece left part next before after later
     → AnswersLines now.course (strip_carriage_return (now.rest ++ part) ∷ []) after new.course later → new.count ≡ now.count + 1 → new.rest ≡ [] → Taking old piece new next before later
 taking_line old now new piece left part next before after later taking is line counted done =
     let all = taking.answers in
-    let parted = parted_behind now.rest left part next taking.none is in
+    let parted = parted_after now.rest left part next taking.none is in
     record {
       text = taking.text ++ line.text;
       appended = line.appended ∙ ap (λ (t : List ℕ). t ++ line.text) taking.appended ∙ append_assoc before taking.text line.text;
@@ -46,7 +46,7 @@ taking_line old now new piece left part next before after later taking is line c
         ended = all.ended ++ strip_carriage_return (now.rest ++ part) ∷ [];
         leaves = subst (λ (r : List ℕ). LeavesOpen (old.rest ++ piece) (all.ended ++ strip_carriage_return (now.rest ++ part) ∷ []) (r ++ next)) (sym done)
             (leaves_on (old.rest ++ piece) (now.rest ++ left) next all.ended (strip_carriage_return (now.rest ++ part) ∷ []) all.leaves
-            (leaves_behind (now.rest ++ left) (now.rest ++ part) next parted));
+            (leaves_after (now.rest ++ left) (now.rest ++ part) next parted));
         of_lines = lines_then old.course now.course new.course all.ended (strip_carriage_return (now.rest ++ part) ∷ []) taking.text line.text all.of_lines line.of_lines;
         count_is = omega (arith, all.count_is, counted, length-append all.ended (strip_carriage_return (now.rest ++ part) ∷ []));
       };
@@ -101,7 +101,7 @@ taking_bad old now piece left part next before after number taking is bad number
         bad = λ more. record {
           bad = strip_carriage_return (now.rest ++ part);
           after = lines (next ++ more);
-          parts = (leaves_behind (now.rest ++ left) (now.rest ++ part) next (parted_behind now.rest left part next taking.none is)).lines_are more;
+          parts = (leaves_after (now.rest ++ left) (now.rest ++ part) next (parted_after now.rest left part next taking.none is)).lines_are more;
           is_bad = bad;
         };
         number_is = omega (arith, number_is, all.count_is);

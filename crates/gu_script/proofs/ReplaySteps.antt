@@ -5,7 +5,7 @@ use Rattle.gu_terms.specs.declared.entry.Entry.TheVariants.{Swept as SweptEntry}
 use Rattle.gu_terms.specs.declared.group.Group.{Group}
 use Rattle.gu_ref.specs.Reference.{is_group}
 use Rattle.gu_view.specs.View.{GroupView}
-use Rattle.gu_book.specs.Kept.{Kept}
+use Rattle.gu_book.specs.BookState.{BookState}
 use Rattle.gu_book.specs.Views.{group_view}
 use Rattle.gu_world.specs.Runs.{Course, GoesOn, IsReached, IsRun}
 use Rattle.gu_world.specs.Steps.{LeadsTo, State, next_receipt, with_look}
@@ -131,7 +131,7 @@ line_of_sweep old mid new group before after known proposes answers =
               outcomes = first.outcome ∷ second.outcome ∷ last.outcome ∷ [];
               run = (proposes.mid.state, first.leads, (mid.state, second.leads, (new.state, last.leads, refl)));
               outcomes_are = three_more old.outcomes proposes.mid.outcomes mid.outcomes new.outcomes first.outcome second.outcome last.outcome first.outcomes second.outcomes last.outcomes;
-              text_is = ap (λ (b : Kept). step_text b (Commit sweeper) last.outcome) book ∙ sym text;
+              text_is = ap (λ (b : BookState). step_text b (Commit sweeper) last.outcome) book ∙ sym text;
             };
             appended = answers.appended;
           }

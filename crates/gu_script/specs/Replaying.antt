@@ -8,7 +8,7 @@ use Rattle.gu_terms.specs.declared.group.Group.{Group}
 use Rattle.gu_terms.specs.declared.symbol.Symbol.{Symbol}
 use Rattle.gu_ref.specs.Reference.{account_row, is_group, is_instrument}
 use Rattle.gu_view.specs.View.{GroupView}
-use Rattle.gu_book.specs.Kept.{Kept}
+use Rattle.gu_book.specs.BookState.{BookState}
 use Rattle.gu_book.specs.Limits.{limit_rows}
 use Rattle.gu_book.specs.Positions.{long_of, open_interest_of, short_of}
 use Rattle.gu_book.specs.Views.{group_view}
@@ -42,43 +42,43 @@ looked (See worker group) = Some group
 looked step = None
 
 -- the view that the group of a sweep has in a book
-abbrev pub view_of_swept : Kept → Entry → Option GroupView
+abbrev pub view_of_swept : BookState → Entry → Option GroupView
 view_of_swept book (entry.Swept sweep) = Some (group_view book.reference book.history sweep.group)
 view_of_swept book (entry.Asked command reply) = None
 
 -- of a committed sweep, the view that its group had in the book before it
-abbrev pub view_before : Kept → Outcome → Option GroupView
+abbrev pub view_before : BookState → Outcome → Option GroupView
 view_before book (Swept receipt) = view_of_swept book receipt.entry
 view_before book outcome = None
 
 -- the text of a step, where this was the book just before it
-abbrev pub step_text : Kept → Step → Outcome → List ℕ
+abbrev pub step_text : BookState → Step → Outcome → List ℕ
 step_text before step outcome = outcome_text (view_before before outcome) (looked step) outcome
 
 -- the text of a whole sweep: that of its commit, or that its group is unknown
-abbrev pub sweep_text : Kept → List Outcome → List ℕ
+abbrev pub sweep_text : BookState → List Outcome → List ℕ
 sweep_text before (NoGroup ∷ proposed ∷ last ∷ []) = outcome_text None None NoGroup
 sweep_text before (seen ∷ proposed ∷ last ∷ []) = step_text before (Commit sweeper) last
 sweep_text before outcomes = []
 
 -- what an account holds of an instrument; a name that the reference lacks is unknown
-abbrev pub position_answer : Kept → AccountId → Symbol → List ℕ
+abbrev pub position_answer : BookState → AccountId → Symbol → List ℕ
 position_answer book account symbol =
     if is_some (account_row book.reference account) && is_instrument book.reference symbol
     then position_text account symbol (long_of book.history account symbol) (short_of book.history account symbol)
     else unknown_text
 
 -- the open interest of an instrument
-abbrev pub interest_answer : Kept → Symbol → List ℕ
+abbrev pub interest_answer : BookState → Symbol → List ℕ
 interest_answer book symbol =
     if is_instrument book.reference symbol then interest_text symbol (open_interest_of book symbol) else unknown_text
 
 -- the limits that are set in a group, with what is used of them and what is left
-abbrev pub limits_answer : Kept → Group → List ℕ
+abbrev pub limits_answer : BookState → Group → List ℕ
 limits_answer book group = if is_group book.reference group then flat_map (limit_text group) (limit_rows book group) else unknown_text
 
 -- the text of a line, where this was the book before it, and these are the outcomes of its steps
-abbrev pub line_text : Kept → Line → List Outcome → List ℕ
+abbrev pub line_text : BookState → Line → List Outcome → List ℕ
 line_text before (line.Step step) (outcome ∷ []) = step_text before step outcome
 line_text before (line.Step step) outcomes = []
 line_text before (line.Sweep group) outcomes = sweep_text before outcomes

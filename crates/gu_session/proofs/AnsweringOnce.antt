@@ -10,7 +10,7 @@ use Rattle.gu_session.specs.Plans.{answers}
 use Rattle.gu_session.specs.Runs.{Runs, handed_reference}
 use Rattle.gu_session.specs.Sending.{is_over}
 use Rattle.gu_session.specs.States.{SessionState, new_session}
-use Rattle.gu_session.specs.Steps.{Steps, responses_of, session_behind}
+use Rattle.gu_session.specs.Steps.{Steps, responses_of, session_after}
 use Rattle.gu_session.specs.declared.input.Input.{Input}
 use Rattle.gu_session.specs.declared.input.Outcome.{Outcome}
 use Rattle.gu_session.specs.declared.plan.Course.{Course}
@@ -27,12 +27,12 @@ least_of (Some at) = at.expected
 
 -- it never falls
 pub plan_rises : (s : SessionState) (now : ℕ) (plan : Plan) (over : Bool) (at : Option LoggedOn) → is_over s.next plan ≡ over → s.at ≡ at → Takes at (Go plan) →
-    least_of at ≤ least_of (session_behind s now (Go plan)).at
+    least_of at ≤ least_of (session_after s now (Go plan)).at
 plan_rises s now plan true at over stood takes = rw (over, stood) (omega arith)
 plan_rises s now plan false None over stood takes = rw over takes.1
 plan_rises s now plan false (Some at) over stood takes = rw over takes.on
 
-pub course_rises : (s : SessionState) (now : ℕ) (course : Course) → Takes s.at course → least_of s.at ≤ least_of (session_behind s now course).at
+pub course_rises : (s : SessionState) (now : ℕ) (course : Course) → Takes s.at course → least_of s.at ≤ least_of (session_after s now course).at
 course_rises s now Stay takes = omega arith
 course_rises s now Leave takes = omega arith
 course_rises s now (Go plan) takes = plan_rises s now plan (is_over s.next plan) s.at refl refl takes
@@ -83,21 +83,21 @@ none_asked reference (one ∷ waiting) =
 
 -- an answer that is sent
 pub settled_over : (s : SessionState) (now reference : ℕ) (at : LoggedOn) (messages : List Body) (over : Bool) → is_over s.next (answers at reference messages) ≡ over →
-    (responses_of s now (Go (answers at reference messages)) ≡ []) ⊎ (asked_by reference (session_behind s now (Go (answers at reference messages))).waiting ≡ None)
-    ⊎ ((session_behind s now (Go (answers at reference messages))).is_closed ≡ true)
+    (responses_of s now (Go (answers at reference messages)) ≡ []) ⊎ (asked_by reference (session_after s now (Go (answers at reference messages))).waiting ≡ None)
+    ⊎ ((session_after s now (Go (answers at reference messages))).is_closed ≡ true)
 settled_over s now reference at messages true over = rw over (inr (inr refl))
 settled_over s now reference at messages false over = rw over (inr (inl (none_asked reference (s.waiting ++ []))))
 
 -- what is done on an answer, by what waits
 pub settled_by : (s : SessionState) (now reference : ℕ) (at : LoggedOn) (messages : Option (List Body)) →
     let course = option_map_or (λ (messages : List Body). Go (answers at reference messages)) messages Stay in
-    (responses_of s now course ≡ []) ⊎ (asked_by reference (session_behind s now course).waiting ≡ None) ⊎ ((session_behind s now course).is_closed ≡ true)
+    (responses_of s now course ≡ []) ⊎ (asked_by reference (session_after s now course).waiting ≡ None) ⊎ ((session_after s now course).is_closed ≡ true)
 settled_by s now reference at None = inl refl
 settled_by s now reference at (Some messages) = settled_over s now reference at messages (is_over s.next (answers at reference messages)) refl
 
 pub answered_at : (s : SessionState) (now reference : ℕ) (outcome : Outcome) (stands : Option LoggedOn) →
     let course = option_map_or (λ (at : LoggedOn). on_answer at s.waiting reference outcome) stands Stay in
-    IsAnswered s (session_behind s now course) reference (responses_of s now course)
+    IsAnswered s (session_after s now course) reference (responses_of s now course)
 answered_at s now reference outcome None = record { unasked = λ none. refl; settled = inl refl }
 answered_at s now reference outcome (Some at) = record {
   unasked = λ none. rw none refl;

@@ -14,7 +14,7 @@ pub within-lower : (low from to : ℕ) (kept : List Sent) → low ≤ from → A
 within-lower low from to [] below within = omega (arith, below, within)
 within-lower low from to (sent ∷ later) below (above, within) = (omega (arith, below, above), within)
 
--- one list behind another
+-- one list after another
 pub within-append : (from mid to : ℕ) (xs ys : List Sent) → AreWithin from mid xs → AreWithin mid to ys → AreWithin from to (xs ++ ys)
 within-append from mid to [] ys first second = within-lower from mid to ys first second
 within-append from mid to (x ∷ xs) ys (above, first) second = (above, within-append (x.number + 1) mid to xs ys first second)

@@ -21,7 +21,7 @@ is_application (application.AllocationReport m) = refl
 is_application (application.RequestForPositionsAck m) = refl
 is_application (application.PositionReport m) = refl
 
--- a gap fill, and what covers the numbers behind it
+-- a gap fill, and what covers the numbers after it
 pub gap_then : (firm : FirmId) (now from mid to : ℕ) (messages : List Outbound) → from ≤ mid → Covers mid to messages → Covers from to (gap firm now from mid ++ messages)
 gap_then firm now from mid to messages within rest =
     elim (nat_lt from mid) as (λ (b : Bool). nat_lt from mid ≡ b → Covers from to (cond b (gap_fill firm now from mid ∷ []) [] ++ messages)) [

@@ -6,7 +6,7 @@ use Rattle.gu_session.specs.Orders.{CloseIsLast, EndsLast, IsSilent, NothingBefo
 use Rattle.gu_session.specs.Runs.{Runs}
 use Rattle.gu_session.specs.Sending.{ending_of, is_over, sent_by}
 use Rattle.gu_session.specs.States.{SessionState, new_session}
-use Rattle.gu_session.specs.Steps.{Steps, responses_of, session_behind}
+use Rattle.gu_session.specs.Steps.{Steps, responses_of, session_after}
 use Rattle.gu_session.specs.declared.input.Input.{Input}
 use Rattle.gu_session.specs.declared.plan.Course.{Course}
 use Rattle.gu_session.specs.declared.plan.Course.TheVariants.{Stay, Leave, Go}
@@ -35,7 +35,7 @@ pub none-sends : (messages : List Outbound) (given : List Response) → HasNoEnd
 none-sends [] given none = none
 none-sends (message ∷ messages) given none = none-sends messages given none
 
--- what stands behind the messages of a plan
+-- what comes after the messages of a plan
 pub last-ending : (handed : Option Handed) (ends : Bool) → EndsLast (ending_of handed ends)
 last-ending None true = refl
 last-ending None false = tt
@@ -48,14 +48,14 @@ plan_ended s now plan handed true = inr refl
 plan_ended s now plan None false = inl (none-sends (sent_by s now plan) [] tt)
 plan_ended s now plan (Some one) false = inl (none-sends (sent_by s now plan) (ending_of (Some one) false) tt)
 
-pub plan_ends_well : (s : SessionState) (now : ℕ) (plan : Plan) (over : Bool) → is_over s.next plan ≡ over → EndsWell (session_behind s now (Go plan)) (responses_of s now (Go plan))
+pub plan_ends_well : (s : SessionState) (now : ℕ) (plan : Plan) (over : Bool) → is_over s.next plan ≡ over → EndsWell (session_after s now (Go plan)) (responses_of s now (Go plan))
 plan_ends_well s now plan true over = rw over (record { last = refl; ended = inr refl })
 plan_ends_well s now plan false over = rw over (record {
   last = last-sends (sent_by s now plan) (ending_of plan.handed plan.ends) (last-ending plan.handed plan.ends);
   ended = plan_ended s now plan plan.handed plan.ends;
 })
 
-pub course_ends_well : (s : SessionState) (now : ℕ) (course : Course) → EndsWell (session_behind s now course) (responses_of s now course)
+pub course_ends_well : (s : SessionState) (now : ℕ) (course : Course) → EndsWell (session_after s now course) (responses_of s now course)
 course_ends_well s now Stay = record { last = tt; ended = inl tt }
 course_ends_well s now Leave = record { last = refl; ended = inr refl }
 course_ends_well s now (Go plan) = plan_ends_well s now plan (is_over s.next plan) refl
@@ -75,7 +75,7 @@ last-append (Sends message ∷ first) later none last = last-append first later 
 last-append (Hands asked ∷ first) later none last = last-append first later none last
 last-append (Closes ∷ first) later none last = absurd none
 
--- with nothing behind it what ends last still does
+-- with nothing after it what ends last still does
 pub last-nothing : (first later : List Response) → later ≡ [] → EndsLast first → EndsLast (first ++ later)
 last-nothing [] later nothing last = rw nothing tt
 last-nothing (Sends message ∷ first) later nothing last = last-nothing first later nothing last
@@ -95,13 +95,13 @@ run_ends_last old new (input ∷ inputs) given (first, later, next, steps, parts
 pub close_is_last : CloseIsLast
 close_is_last firms given s reached = run_ends_last (new_session firms) s reached.inputs given reached.runs
 
--- where no firm is logged on behind a step none was before, and nothing is given but the end
-pub plan_is_silent : (s : SessionState) (now : ℕ) (plan : Plan) (over : Bool) → is_over s.next plan ≡ over → (session_behind s now (Go plan)).at ≡ None →
+-- where no firm is logged on after a step none was before, and nothing is given but the end
+pub plan_is_silent : (s : SessionState) (now : ℕ) (plan : Plan) (over : Bool) → is_over s.next plan ≡ over → (session_after s now (Go plan)).at ≡ None →
     (s.at ≡ None) × IsSilent (responses_of s now (Go plan))
 plan_is_silent s now plan true over none = rw over ((rw over at none), inr refl)
 plan_is_silent s now plan false over none = let impossible : Some plan.after ≡ None = rw over at none in absurd (cc)
 
-pub course_is_silent : (s : SessionState) (now : ℕ) (course : Course) → (session_behind s now course).at ≡ None → (s.at ≡ None) × IsSilent (responses_of s now course)
+pub course_is_silent : (s : SessionState) (now : ℕ) (course : Course) → (session_after s now course).at ≡ None → (s.at ≡ None) × IsSilent (responses_of s now course)
 course_is_silent s now Stay none = (none, inl refl)
 course_is_silent s now Leave none = (none, inr refl)
 course_is_silent s now (Go plan) none = plan_is_silent s now plan (is_over s.next plan) refl none

@@ -13,7 +13,7 @@ use Rattle.gu_session.specs.Runs.{CountsFrom, Runs, new_message}
 use Rattle.gu_session.specs.Sending.{behind, ending_of, given_by, is_over, new_of, numbered, repeats_of}
 use Rattle.gu_session.specs.SeqNums.{greatest}
 use Rattle.gu_session.specs.States.{SessionState, new_session}
-use Rattle.gu_session.specs.Steps.{Steps, responses_of, session_behind}
+use Rattle.gu_session.specs.Steps.{Steps, responses_of, session_after}
 use Rattle.gu_session.specs.declared.input.Input.{Input}
 use Rattle.gu_session.specs.declared.sent_ring.Sent.{Sent}
 use Rattle.gu_session.specs.declared.plan.Course.{Course}
@@ -111,11 +111,11 @@ plan_goes_on s now plan within =
 
 -- with any plan
 pub plan_or_end_goes_on : (s : SessionState) (now : ℕ) (plan : Plan) (over : Bool) → is_over s.next plan ≡ over →
-    GoesOn s (session_behind s now (Go plan)) (filter_map new_message (responses_of s now (Go plan)))
+    GoesOn s (session_after s now (Go plan)) (filter_map new_message (responses_of s now (Go plan)))
 plan_or_end_goes_on s now plan true over = rw over (nothing_goes_on s (record s { is_closed = true }) refl)
 plan_or_end_goes_on s now plan false over = rw over (plan_goes_on s now plan over)
 
-pub course_goes_on : (s : SessionState) (now : ℕ) (course : Course) → GoesOn s (session_behind s now course) (filter_map new_message (responses_of s now course))
+pub course_goes_on : (s : SessionState) (now : ℕ) (course : Course) → GoesOn s (session_after s now course) (filter_map new_message (responses_of s now course))
 course_goes_on s now Stay = nothing_goes_on s s refl
 course_goes_on s now Leave = nothing_goes_on s (record s { is_closed = true }) refl
 course_goes_on s now (Go plan) = plan_or_end_goes_on s now plan (is_over s.next plan) refl

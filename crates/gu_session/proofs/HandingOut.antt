@@ -16,7 +16,7 @@ use Rattle.gu_session.specs.Plans.{answers, leaves, says}
 use Rattle.gu_session.specs.Runs.{handed_reference}
 use Rattle.gu_session.specs.Sending.{ending_of, is_over, sent_by}
 use Rattle.gu_session.specs.States.{SessionState}
-use Rattle.gu_session.specs.Steps.{IsCourse, at_frame, frame_course, responses_of, session_behind}
+use Rattle.gu_session.specs.Steps.{IsCourse, at_frame, frame_course, responses_of, session_after}
 use Rattle.gu_session.specs.TimeRules.{have_passed, on_tick}
 use Rattle.gu_session.specs.declared.heard.Heard.{Heard}
 use Rattle.gu_session.specs.declared.input.Input.{Input}
@@ -121,12 +121,12 @@ plan_next None plan takes = next-none plan.after plan.handed plan.ends takes.0
 plan_next (Some at) plan takes = next-one (Some at) plan.after plan.handed plan.ends at refl takes.hands
 
 pub over_next : (s : SessionState) (now : ℕ) (plan : Plan) (over : Bool) → is_over s.next plan ≡ over → Takes s.at (Go plan) →
-    AreNext s.at (session_behind s now (Go plan)).at (filter_map handed_reference (responses_of s now (Go plan)))
+    AreNext s.at (session_after s now (Go plan)).at (filter_map handed_reference (responses_of s now (Go plan)))
 over_next s now plan true over takes = rw over tt
 over_next s now plan false over takes =
     rw (over, no_references-sends (sent_by s now plan) (ending_of plan.handed plan.ends)) (plan_next s.at plan takes)
 
-pub course_next : (s : SessionState) (now : ℕ) (course : Course) → Takes s.at course → AreNext s.at (session_behind s now course).at (filter_map handed_reference (responses_of s now course))
+pub course_next : (s : SessionState) (now : ℕ) (course : Course) → Takes s.at course → AreNext s.at (session_after s now course).at (filter_map handed_reference (responses_of s now course))
 course_next s now Stay takes = tt
 course_next s now Leave takes = tt
 course_next s now (Go plan) takes = over_next s now plan (is_over s.next plan) refl takes
@@ -138,16 +138,16 @@ in_order old new given_input now given steps =
       | inr other ↦ rw (other.gives, other.leaves) (course_next old now other.course (takes-course old given_input now other.course other.is_course))
     ]
 
--- the number that is expected behind a plan
+-- the number that is expected after a plan
 pub plan_on : (s : SessionState) (now : ℕ) (plan : Plan) (over : Bool) (at after : LoggedOn) → is_over s.next plan ≡ over → s.at ≡ Some at → IsInOrder at.expected plan →
-    (session_behind s now (Go plan)).at ≡ Some after → at.expected ≤ after.expected
+    (session_after s now (Go plan)).at ≡ Some after → at.expected ≤ after.expected
 plan_on s now plan true at after over stood takes stands =
     let same : s.at ≡ Some after = rw over at stands in let one : at ≡ after = cc in rw one (omega arith)
 plan_on s now plan false at after over stood takes stands =
     let same : Some plan.after ≡ Some after = rw over at stands in let one : plan.after ≡ after = cc in rw (← one) takes.on
 
 pub course_on : (s : SessionState) (now : ℕ) (course : Course) (at after : LoggedOn) → s.at ≡ Some at → Takes (Some at) course →
-    (session_behind s now course).at ≡ Some after → at.expected ≤ after.expected
+    (session_after s now course).at ≡ Some after → at.expected ≤ after.expected
 course_on s now Stay at after stood takes stands = let one : at ≡ after = cc in rw one (omega arith)
 course_on s now Leave at after stood takes stands = let one : at ≡ after = cc in rw one (omega arith)
 course_on s now (Go plan) at after stood takes stands = plan_on s now plan (is_over s.next plan) at after refl stood takes stands

@@ -20,7 +20,7 @@ use Rattle.gu_session.specs.declared.plan.Handed.{Handed}
 use Rattle.gu_session.specs.declared.plan.Plan.{Plan}
 use Rattle.gu_session.specs.declared.logged_on.LoggedOn.{LoggedOn}
 
--- what is handed out has this number, and the next one is expected behind it
+-- what is handed out has this number, and the next one is expected after it
 abbrev pub HandsNext : ℕ → Option Handed → LoggedOn → Type 0
 HandsNext expected None after = Unit {0}
 HandsNext expected (Some handed) after = (expected ≡ handed.waiting.reference) × (after.expected ≡ handed.waiting.reference + 1)

@@ -7,9 +7,9 @@ use Rattle.gu_msgs.specs.declared.outbound.Outbound.{Outbound}
 use Rattle.gu_session.specs.Encoded.{Response}
 use Rattle.gu_session.specs.Laws.{KeepsTheLastSent}
 use Rattle.gu_session.specs.Runs.{Runs, new_message}
-use Rattle.gu_session.specs.Sending.{behind, given_by, is_over, kept_behind, new_of, sent_in}
+use Rattle.gu_session.specs.Sending.{behind, given_by, is_over, kept_after, new_of, sent_in}
 use Rattle.gu_session.specs.States.{SessionState, new_session}
-use Rattle.gu_session.specs.Steps.{Steps, responses_of, session_behind}
+use Rattle.gu_session.specs.Steps.{Steps, responses_of, session_after}
 use Rattle.gu_session.specs.declared.input.Input.{Input}
 use Rattle.gu_session.specs.declared.sent_ring.Sent.{Sent}
 use Rattle.gu_session.specs.declared.plan.Course.{Course}
@@ -37,15 +37,15 @@ nothing_keeps_on old new same all before = same ∙ before ∙ ap (keep_last 409
 -- with a plan
 pub plan_keeps_on : (s : SessionState) (now : ℕ) (plan : Plan) → KeepsOn s (behind s now plan) (filter_map new_message (given_by s now plan))
 plan_keeps_on s now plan all before =
-    ap (λ (kept : List Sent). kept_behind kept (new_of s now plan)) before ∙ keep_last-append 4096 all (filter_map sent_in (new_of s now plan))
+    ap (λ (kept : List Sent). kept_after kept (new_of s now plan)) before ∙ keep_last-append 4096 all (filter_map sent_in (new_of s now plan))
     ∙ ap (λ (messages : List Outbound). keep_last 4096 (all ++ filter_map sent_in messages)) (sym (new_messages-plan s now plan))
 
 pub plan_or_end_keeps_on : (s : SessionState) (now : ℕ) (plan : Plan) (over : Bool) → is_over s.next plan ≡ over →
-    KeepsOn s (session_behind s now (Go plan)) (filter_map new_message (responses_of s now (Go plan)))
+    KeepsOn s (session_after s now (Go plan)) (filter_map new_message (responses_of s now (Go plan)))
 plan_or_end_keeps_on s now plan true over = rw over (nothing_keeps_on s (record s { is_closed = true }) refl)
 plan_or_end_keeps_on s now plan false over = rw over (plan_keeps_on s now plan)
 
-pub course_keeps_on : (s : SessionState) (now : ℕ) (course : Course) → KeepsOn s (session_behind s now course) (filter_map new_message (responses_of s now course))
+pub course_keeps_on : (s : SessionState) (now : ℕ) (course : Course) → KeepsOn s (session_after s now course) (filter_map new_message (responses_of s now course))
 course_keeps_on s now Stay = nothing_keeps_on s s refl
 course_keeps_on s now Leave = nothing_keeps_on s (record s { is_closed = true }) refl
 course_keeps_on s now (Go plan) = plan_or_end_keeps_on s now plan (is_over s.next plan) refl

@@ -1,4 +1,4 @@
--- What is kept behind new messages.
+-- What is kept after new messages.
 use Rattle.std.proofs.Common.{◌≡◌, ℕ, ◌+◌, ◌-◌, ◌≤◌, ◌<◌, List, [], ◌∷◌, ◌++◌, Option, None, Some, length, take, drop, slice_get, get_or, refl, ap, sym, ◌∙◌, append_assoc, add-one, arith}
 use Rattle.std.specs.List.{filter_map}
 use Rattle.std.specs.Option.{option_map_or, option_to_list}
@@ -78,7 +78,7 @@ committed_sent s now ready is =
     (sym (length-append ready.again.items (new_of s now ready.plan)
     ∙ ap (λ (n : ℕ). length ready.again.items + n) (length-numbered ready.plan.after.firm now s.next ready.plan.messages)))
 
--- a session is sound behind a plan
+-- a session is sound after a plan
 pub committed_sound : (s : State) (now : ℕ) (ready : Ready) → IsReady (seen s) now ready → IsSoundState s →
     IsSound (Some ready.plan.after) (s.next + length ready.plan.messages)
     (buffer (keep_last 4096 (s.kept.items ++ filter_map sent_in (new_of (seen s) now ready.plan))) 4096)

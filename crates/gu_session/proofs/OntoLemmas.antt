@@ -1,4 +1,4 @@
--- Messages behind a text.
+-- Messages after a text.
 use Rattle.std.proofs.Common.{◌≡◌, ◌<◌, ◌+◌, ◌^◌, ◌||◌, ℕ, Bool, true, false, List, [], ◌∷◌, ◌++◌, Option, None, Some, Result, Ok, Err, Vec, map, length, take, slice_get, refl, ap, sym, ◌∙◌, append_assoc, arith}
 use Rattle.std.specs.Prelude.{OnErr}
 use Rattle.std.specs.List.{filter_map, flat_map, list_any}
@@ -111,7 +111,7 @@ plan_steps old new input now ready outputs taken is are handed ends behind_is = 
   are_outputs = plan_outputs old input now ready outputs taken is are handed ends;
 }
 
--- a plan is carried out, with its messages behind a text
+-- a plan is carried out, with its messages after a text
 pub plan_steps_onto : (old new : SessionState) (input : Input) (now : ℕ) (ready : Ready) (before after : List ℕ) (taken : Taken) → IsStep old input now ready →
     FollowText (sent_with ready old.next now) before after → taken.handed ≡ asked_in ready.plan.handed → taken.is_closed ≡ ready.plan.ends →
     new ≡ behind old now ready.plan → StepsOnto old input now before after taken new

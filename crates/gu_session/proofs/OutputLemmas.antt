@@ -10,7 +10,7 @@ use Rattle.gu_session.specs.Sending.{ending_of}
 use Rattle.gu_session.specs.declared.output.Output.{Output}
 use Rattle.gu_session.specs.declared.plan.Handed.{Handed}
 
--- one part behind another
+-- one part after another
 pub AreOutputs-append : (responses more : List Response) (outputs others : List Output) → AreOutputs responses outputs → AreOutputs more others →
     AreOutputs (responses ++ more) (outputs ++ others)
 AreOutputs-append [] more [] others first second = second

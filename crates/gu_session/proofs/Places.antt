@@ -74,7 +74,7 @@ none_above from to (first ∷ later) (more, rest) =
     let out : (nat_le from first.number && nat_lt first.number to) ≡ false = grind (arith, more) in
     rw out (none_above from to later rest)
 
--- what is asked for is behind those below it
+-- what is asked for is after those below it
 pub past_below : (from to place : ℕ) (kept : List Sent) → AreBelow from (take place kept) → sent_within from to (drop place kept) ≡ sent_within from to kept
 past_below from to place kept below =
     let asked : Sent → Bool = λ (sent : Sent). nat_le from sent.number && nat_lt sent.number to in

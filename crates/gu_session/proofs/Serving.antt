@@ -8,7 +8,7 @@ use Rattle.gu_session.specs.Resending.{behind_last, gap_fill, resent, sent_withi
 use Rattle.gu_session.specs.Runs.{Runs}
 use Rattle.gu_session.specs.Sending.{behind, is_over, new_of, sent_in}
 use Rattle.gu_session.specs.States.{SessionState, new_session}
-use Rattle.gu_session.specs.Steps.{Steps, session_behind}
+use Rattle.gu_session.specs.Steps.{Steps, session_after}
 use Rattle.gu_session.specs.declared.input.Input.{Input}
 use Rattle.gu_session.specs.declared.sent_ring.Sent.{Sent}
 use Rattle.gu_session.specs.declared.plan.Course.{Course}
@@ -29,11 +29,11 @@ plan_ascends s now plan before =
     within-drop (length (s.kept ++ sent) - 4096) 1 (s.next + length plan.messages) (s.kept ++ sent)
     (within-append 1 s.next (s.next + length plan.messages) s.kept sent before (within-numbered plan.after.firm now s.next plan.messages))
 
-pub plan_or_end_ascends : (s : SessionState) (now : ℕ) (plan : Plan) (over : Bool) → is_over s.next plan ≡ over → IsAscending s → IsAscending (session_behind s now (Go plan))
+pub plan_or_end_ascends : (s : SessionState) (now : ℕ) (plan : Plan) (over : Bool) → is_over s.next plan ≡ over → IsAscending s → IsAscending (session_after s now (Go plan))
 plan_or_end_ascends s now plan true over before = rw over before
 plan_or_end_ascends s now plan false over before = rw over (plan_ascends s now plan before)
 
-pub course_ascends : (s : SessionState) (now : ℕ) (course : Course) → IsAscending s → IsAscending (session_behind s now course)
+pub course_ascends : (s : SessionState) (now : ℕ) (course : Course) → IsAscending s → IsAscending (session_after s now course)
 course_ascends s now Stay before = before
 course_ascends s now Leave before = before
 course_ascends s now (Go plan) before = plan_or_end_ascends s now plan (is_over s.next plan) refl before

@@ -13,7 +13,7 @@ use Rattle.gu_session.specs.Encoded.{Response}
 use Rattle.gu_session.specs.Hearing.{Hears, IsContent, IsFirmIn, IsHeading, IsNumberIn}
 use Rattle.gu_session.specs.Laws.{OneStep}
 use Rattle.gu_session.specs.States.{SessionState}
-use Rattle.gu_session.specs.Steps.{IsCourse, StepsOpen, frame_course, responses_of, session_behind}
+use Rattle.gu_session.specs.Steps.{IsCourse, StepsOpen, frame_course, responses_of, session_after}
 use Rattle.gu_session.specs.declared.heard.Heading.{Heading}
 use Rattle.gu_session.specs.declared.heard.Heard.{Heard}
 use Rattle.gu_session.specs.declared.input.Input.{Input}
@@ -79,7 +79,7 @@ pub one_open : (old new other : SessionState) (given_input : Input) (now : ℕ) 
 one_open old new other given_input now given others is too =
     let same = one_course old given_input now is.course too.course is.is_course too.is_course in (
       is.gives ∙ ap (λ (course : Course). responses_of old now course) same ∙ sym too.gives,
-      is.leaves ∙ ap (λ (course : Course). session_behind old now course) same ∙ sym too.leaves,
+      is.leaves ∙ ap (λ (course : Course). session_after old now course) same ∙ sym too.leaves,
     )
 
 pub one_step_only : OneStep

@@ -3,7 +3,7 @@ use Rattle.std.proofs.Common.{◌≡◌, ℕ, ◌+◌, Bool, cond, true, false, 
 use Rattle.gu_terms.specs.declared.firm.FirmId.{FirmId}
 use Rattle.gu_msgs.specs.declared.outbound.Outbound.{Outbound}
 use Rattle.gu_session.specs.Resending.{again, gap, sent_within, with_gaps}
-use Rattle.gu_session.specs.Walks.{asked_now, at_behind}
+use Rattle.gu_session.specs.Walks.{asked_now, at_after}
 use Rattle.gu_session.specs.declared.sent_ring.Sent.{Sent}
 
 -- the message at a place is the first of those from there on
@@ -12,7 +12,7 @@ drop-at [] place sent here = absurd (cc)
 drop-at (first ∷ later) zero sent here = let same : first ≡ sent = cc in ap (λ (x : Sent). x ∷ later) same
 drop-at (first ∷ later) (suc place) sent here = drop-at later place sent here
 
--- where there is no message at a place there is none behind it
+-- where there is no message at a place there is none after it
 pub drop-past : (items : List Sent) (place : ℕ) → slice_get items place ≡ None → drop (suc place) items ≡ drop place items
 drop-past [] zero none = refl
 drop-past [] (suc place) none = refl
@@ -21,7 +21,7 @@ drop-past (first ∷ later) (suc place) none = drop-past later place none
 
 -- a message adds what it does, and the others go on from there
 pub with_gaps-more : (firm : FirmId) (now from to at : ℕ) (sent : Sent) (later : List Sent) →
-    asked_now firm now from to at sent ++ with_gaps firm now (at_behind from to at sent) to (sent_within from to later)
+    asked_now firm now from to at sent ++ with_gaps firm now (at_after from to at sent) to (sent_within from to later)
     ≡ with_gaps firm now at to (sent_within from to (sent ∷ later))
 with_gaps-more firm now from to at sent later =
     elim (nat_le from sent.number && nat_lt sent.number to) as (λ (b : Bool).
@@ -34,16 +34,16 @@ with_gaps-more firm now from to at sent later =
 -- one place more of a walk
 pub walk_on : (firm : FirmId) (now from to at : ℕ) (items : List Sent) (place : ℕ) (sent : Sent) (messages all : List Outbound) → slice_get items place ≡ Some sent →
     messages ++ with_gaps firm now at to (sent_within from to (drop place items)) ≡ all →
-    (messages ++ asked_now firm now from to at sent) ++ with_gaps firm now (at_behind from to at sent) to (sent_within from to (drop (place + 1) items)) ≡ all
+    (messages ++ asked_now firm now from to at sent) ++ with_gaps firm now (at_after from to at sent) to (sent_within from to (drop (place + 1) items)) ≡ all
 walk_on firm now from to at items place sent messages all here so_far =
     let next : place + 1 ≡ suc place = omega arith in
-    append_assoc messages (asked_now firm now from to at sent) (with_gaps firm now (at_behind from to at sent) to (sent_within from to (drop (place + 1) items)))
-    ∙ ap (λ (n : ℕ). messages ++ (asked_now firm now from to at sent ++ with_gaps firm now (at_behind from to at sent) to (sent_within from to (drop n items)))) next
+    append_assoc messages (asked_now firm now from to at sent) (with_gaps firm now (at_after from to at sent) to (sent_within from to (drop (place + 1) items)))
+    ∙ ap (λ (n : ℕ). messages ++ (asked_now firm now from to at sent ++ with_gaps firm now (at_after from to at sent) to (sent_within from to (drop n items)))) next
     ∙ ap (λ (wires : List Outbound). messages ++ wires) (with_gaps-more firm now from to at sent (drop (suc place) items))
     ∙ ap (λ (kept : List Sent). messages ++ with_gaps firm now at to (sent_within from to kept)) (sym (drop-at items place sent here))
     ∙ so_far
 
--- a place behind them adds nothing
+-- a place after them adds nothing
 pub walk_past : (firm : FirmId) (now from to at : ℕ) (items : List Sent) (place : ℕ) (messages all : List Outbound) → slice_get items place ≡ None →
     messages ++ with_gaps firm now at to (sent_within from to (drop place items)) ≡ all →
     messages ++ with_gaps firm now at to (sent_within from to (drop (place + 1) items)) ≡ all

@@ -56,7 +56,7 @@ IsContent (Some fault) fields content = content ≡ Err (record { tag = fault.ta
 IsContent None fields (Ok message) = Says fields message
 IsContent None fields (Err fault) = IsFaultOf fields fault
 
--- what the bytes of a frame say; the well-formed fields behind a malformed one count for the header too
+-- what the bytes of a frame say; the well-formed fields after a malformed one count for the header too
 pub record Hears (bytes : List ℕ) (heard : Heard) : Type 0 where
   pub fields : List TagValue
   pub fault : Option FieldFault

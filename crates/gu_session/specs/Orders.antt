@@ -13,7 +13,7 @@ use Rattle.gu_session.specs.declared.input.Input.TheVariants.{Answer}
 use Rattle.gu_session.specs.declared.input.Outcome.{Outcome}
 use Rattle.gu_session.specs.declared.logged_on.LoggedOn.{LoggedOn}
 
--- nothing stands behind an end
+-- nothing comes after an end
 abbrev pub EndsLast : List Response → Type 0
 EndsLast [] = ⊤
 EndsLast (Sends message ∷ given) = EndsLast given
@@ -65,7 +65,7 @@ AscendsFrom low (reference ∷ references) = (low ≤ reference) × AscendsFrom 
 abbrev pub ReferencesGoUp : Type 0
 ReferencesGoUp = (firms : List FirmId) (given : List Response) (s : SessionState) → IsReached firms given s → AscendsFrom 1 (filter_map handed_reference given)
 
--- an answer to what doesn't wait gives nothing; behind one that gives anything the question doesn't wait any more, unless the session ended
+-- an answer to what doesn't wait gives nothing; after one that gives anything the question doesn't wait any more, unless the session ended
 pub record IsAnswered (old new : SessionState) (reference : ℕ) (given : List Response) : Type 0 where
   pub unasked : asked_by reference old.waiting ≡ None → given ≡ []
   pub settled : (given ≡ []) ⊎ (asked_by reference new.waiting ≡ None) ⊎ (new.is_closed ≡ true)

@@ -31,13 +31,13 @@ gap_fill firm now from to = record {
 abbrev pub gap : FirmId → ℕ → ℕ → ℕ → List Outbound
 gap firm now from to = if nat_lt from to then gap_fill firm now from to ∷ [] else []
 
--- each message once more, and a gap fill for each run of numbers before, between and behind them
+-- each message once more, and a gap fill for each run of numbers before, between and after them
 abbrev pub with_gaps : FirmId → ℕ → ℕ → ℕ → List Sent → List Outbound
 with_gaps firm now from to [] = gap firm now from to
 with_gaps firm now from to (sent ∷ later) =
     gap firm now from sent.number ++ again firm now sent ∷ with_gaps firm now (sent.number + 1) to later
 
--- the number behind the last that is asked for: 0, or a number that wasn't sent, stands for the last that was
+-- the number after the last that is asked for: 0, or a number that wasn't sent, stands for the last that was
 abbrev pub behind_last : ℕ → ℕ → ℕ
 behind_last next last = if last == 0 then next else min (last + 1) next
 

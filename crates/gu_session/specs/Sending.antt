@@ -1,4 +1,4 @@
--- What a plan comes to: the messages that are sent, what else is given, and the session behind it.
+-- What a plan comes to: the messages that are sent, what else is given, and the session after it.
 use Rattle.std.specs.Prelude.{◌+◌, ◌==◌, ℕ, Bool, true, not, nat_lt, List, [], ◌∷◌, ◌++◌, length, map, filter, Option, None, Some, if◌then◌else◌}
 use Rattle.std.specs.List.{filter_map}
 use Rattle.std.specs.Option.{option_map, option_map_or, option_to_list}
@@ -46,7 +46,7 @@ abbrev pub handed_by : Option Handed → List Response
 handed_by None = []
 handed_by (Some handed) = Hands (record { what = handed.request; reference = handed.waiting.reference }) ∷ []
 
--- what is given behind the messages: what is handed out, and then the end
+-- what is given after the messages: what is handed out, and then the end
 abbrev pub ending_of : Option Handed → Bool → List Response
 ending_of handed ends = handed_by handed ++ (if ends then Closes ∷ [] else [])
 
@@ -61,32 +61,32 @@ sent_in message =
     (application_of message.body)
 
 -- the messages that are kept once new ones are sent: the last application messages of all
-abbrev pub kept_behind : List Sent → List Outbound → List Sent
-kept_behind kept messages = keep_last 4096 (kept ++ filter_map sent_in messages)
+abbrev pub kept_after : List Sent → List Outbound → List Sent
+kept_after kept messages = keep_last 4096 (kept ++ filter_map sent_in messages)
 
 -- what waits, without what was answered
 abbrev pub unanswered : Option ℕ → List Waiting → List Waiting
 unanswered None waiting = waiting
 unanswered (Some reference) waiting = filter (λ (one : Waiting). not (one.reference == reference)) waiting
 
--- what isn't answered behind a plan
-abbrev pub waiting_behind : List Waiting → Plan → List Waiting
-waiting_behind waiting plan =
+-- what isn't answered after a plan
+abbrev pub waiting_after : List Waiting → Plan → List Waiting
+waiting_after waiting plan =
     unanswered plan.answered (waiting ++ option_to_list (option_map (λ (handed : Handed). handed.waiting) plan.handed))
 
 -- the moment of the last sending, also of what is sent again, once so many messages were sent
-abbrev pub sent_at_behind : ℕ → ℕ → ℕ → ℕ
-sent_at_behind sent_at now count = if nat_lt 0 count then now else sent_at
+abbrev pub sent_at_after : ℕ → ℕ → ℕ → ℕ
+sent_at_after sent_at now count = if nat_lt 0 count then now else sent_at
 
--- the session behind a plan
+-- the session after a plan
 abbrev pub behind : SessionState → ℕ → Plan → SessionState
 behind s now plan = record {
   firms = s.firms;
   at = Some plan.after;
   next = s.next + length plan.messages;
-  sent_at = sent_at_behind s.sent_at now (length (sent_by s now plan));
-  kept = kept_behind s.kept (new_of s now plan);
-  waiting = waiting_behind s.waiting plan;
+  sent_at = sent_at_after s.sent_at now (length (sent_by s now plan));
+  kept = kept_after s.kept (new_of s now plan);
+  waiting = waiting_after s.waiting plan;
   is_closed = plan.ends;
 }
 

@@ -10,7 +10,7 @@ abbrev pub HasRoom : Option LoggedOn → Buffer Sent → Type 0
 HasRoom None kept = kept.items ≡ []
 HasRoom (Some at) kept = kept.capacity ≡ 4096
 
--- the next number is one that a message can have, or the one behind the greatest, and what is kept ascends below it
+-- the next number is one that a message can have, or the one after the greatest, and what is kept ascends below it
 pub record IsSound (at : Option LoggedOn) (next : ℕ) (kept : Buffer Sent) : Type 0 where
   pub some : 1 ≤ next
   pub most : next ≤ 1000000001
@@ -18,6 +18,6 @@ pub record IsSound (at : Option LoggedOn) (next : ℕ) (kept : Buffer Sent) : Ty
   pub few : length kept.items ≤ kept.capacity
   pub ascending : AreWithin 1 next kept.items
 
--- what was kept, and these messages behind it, the last that there is room for
+-- what was kept, and these messages after it, the last that there is room for
 abbrev pub extended : Buffer Sent → List Sent → Buffer Sent
 extended kept sent = buffer (keep_last kept.capacity (kept.items ++ sent)) kept.capacity

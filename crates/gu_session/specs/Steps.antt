@@ -48,10 +48,10 @@ responses_of s now Leave = Closes ∷ []
 responses_of s now (Go plan) = if is_over s.next plan then Closes ∷ [] else given_by s now plan
 
 -- the session that a course leaves
-abbrev pub session_behind : SessionState → ℕ → Course → SessionState
-session_behind s now Stay = s
-session_behind s now Leave = closed s
-session_behind s now (Go plan) = if is_over s.next plan then closed s else behind s now plan
+abbrev pub session_after : SessionState → ℕ → Course → SessionState
+session_after s now Stay = s
+session_after s now Leave = closed s
+session_after s now (Go plan) = if is_over s.next plan then closed s else behind s now plan
 
 -- a step of an open session
 pub record StepsOpen (old : SessionState) (input : Input) (now : ℕ) (given : List Response) (new : SessionState) : Type 0 where
@@ -59,7 +59,7 @@ pub record StepsOpen (old : SessionState) (input : Input) (now : ℕ) (given : L
   pub course : Course
   pub is_course : IsCourse old input now course
   pub gives : given ≡ responses_of old now course
-  pub leaves : new ≡ session_behind old now course
+  pub leaves : new ≡ session_after old now course
 
 -- a step of a closed one gives nothing
 pub record StepsClosed (old : SessionState) (given : List Response) (new : SessionState) : Type 0 where

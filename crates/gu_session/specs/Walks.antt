@@ -11,9 +11,9 @@ abbrev pub asked_now : FirmId → ℕ → ℕ → ℕ → ℕ → Sent → List 
 asked_now firm now from to at sent =
     if nat_le from sent.number && nat_lt sent.number to then gap firm now at sent.number ++ again firm now sent ∷ [] else []
 
--- the number behind what was sent with it
-abbrev pub at_behind : ℕ → ℕ → ℕ → Sent → ℕ
-at_behind from to at sent = if nat_le from sent.number && nat_lt sent.number to then sent.number + 1 else at
+-- the number after what was sent with it
+abbrev pub at_after : ℕ → ℕ → ℕ → Sent → ℕ
+at_after from to at sent = if nat_le from sent.number && nat_lt sent.number to then sent.number + 1 else at
 
 -- a message that is sent for the first time
 abbrev pub new_message : FirmId → ℕ → ℕ → Body → Outbound

@@ -7,7 +7,7 @@ ghost use Rattle.circular_buffer.specs.Buffer.{buffer};
 ghost use Rattle.gu_msgs.specs.declared.inbound.ResendRequest.{ResendRequest as RequestOf};
 ghost use Rattle.gu_session.specs.Ascending.{IsAscending};
 ghost use Rattle.gu_session.specs.Resending.{resent};
-ghost use Rattle.gu_session.specs.Sending.{is_over, numbered, sent_at_behind, sent_in, unanswered};
+ghost use Rattle.gu_session.specs.Sending.{is_over, numbered, sent_at_after, sent_in, unanswered};
 ghost use Rattle.gu_session.specs.Sound.{extended};
 ghost use Rattle.gu_session.specs.declared.plan.Handed.{Handed as HandedOf};
 
@@ -122,8 +122,8 @@ pub fn settle(waiting: &mut Vec<Waiting>, handed: Option<Waiting>, answered: Opt
 }
 
 /// The moment of the last sending, once so many messages were sent.
-pub fn sent_at_behind(before: Moment, now: Moment, count: usize) -> Moment
-    ensures { result ≡ sent_at_behind before now count }
+pub fn sent_at_after(before: Moment, now: Moment, count: usize) -> Moment
+    ensures { result ≡ sent_at_after before now count }
 {
     if count > 0 { now } else { before }
 }

@@ -28,7 +28,7 @@ pub fn asks_for_the_gap()
     ensures { AsksForTheGap }
 {}
 
-/// A session ends once at most, and gives nothing behind it.
+/// A session ends once at most, and gives nothing after it.
 pub fn close_is_last()
     ensures { CloseIsLast }
 {}

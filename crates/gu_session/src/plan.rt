@@ -64,7 +64,7 @@ impl Handing {
 /// What is done in a step of a session in which a firm is logged on.
 #[derive(Drop)]
 pub struct Plan {
-    /// How the session stands behind it.
+    /// How the session comes after it.
     pub after: LoggedOn,
     /// What is sent again first.
     pub again: Option<ResendRequest>,

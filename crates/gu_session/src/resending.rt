@@ -3,7 +3,7 @@
 ghost use Rattle.std.specs.Prelude.{◌≡◌, ◌+◌, ◌&&◌, ◌++◌, ◌∷◌, [], nat_le, nat_lt, OnOk, IfOk};
 ghost use Rattle.gu_session.specs.Ascending.{IsAscending};
 ghost use Rattle.gu_session.specs.Resending.{again, behind_last, gap, gap_fill, resent, sent_within, with_gaps};
-ghost use Rattle.gu_session.specs.Walks.{asked_now, at_behind};
+ghost use Rattle.gu_session.specs.Walks.{asked_now, at_after};
 
 use crate::sent_ring::{Sent, SentRing};
 use gu_msgs::Outbound;
@@ -55,7 +55,7 @@ fn push_gap(
     Ok(())
 }
 
-/// Appends a message that was kept, and what stands for the numbers before it; answers the number behind it.
+/// Appends a message that was kept, and what stands for the numbers before it; answers the number after it.
 fn push_again(
     messages: &mut Vec<Outbound>,
     firm: &FirmId,
@@ -71,7 +71,7 @@ fn push_again(
     Ok(sent.number.get() + 1)
 }
 
-/// The number behind the last that is asked for.
+/// The number after the last that is asked for.
 fn behind_last(next: u64, last: u64) -> u64
     ensures { result ≡ behind_last next last }
 {
@@ -106,7 +106,7 @@ fn push_asked(
     sent: &Sent,
 ) -> Result<u64, AllocError>
     ensures pushed { OnOk result (messages.new.items ≡ messages.old.items ++ asked_now firm.now now.now range.now.from range.now.to at sent.now) }
-    ensures behind { IfOk result (λ behind. behind ≡ at_behind range.now.from range.now.to at sent.now) }
+    ensures behind { IfOk result (λ behind. behind ≡ at_after range.now.from range.now.to at sent.now) }
 {
     if is_within(sent, range.from, range.to) {
         push_again(messages, firm, now, at, sent)

@@ -8,7 +8,7 @@ ghost use Rattle.gu_session.specs.States.{new_session};
 ghost use Rattle.gu_session.specs.Steps.{IsCourse};
 
 use crate::carrying::{
-    is_over, keep, move_to, repeats, room_for, sent_at_behind, settle, waiting_in,
+    is_over, keep, move_to, repeats, room_for, sent_at_after, settle, waiting_in,
 };
 use crate::course::{answer_course, frame_course, notice_course, tick_course};
 use crate::input::Input;
@@ -149,7 +149,7 @@ impl State {
         ensures handed { result.handed ≡ asked_in ready.plan.handed }
         ensures close { result.is_closed ≡ ready.plan.ends }
     {
-        self.sent_at = sent_at_behind(self.sent_at, now, ready.len());
+        self.sent_at = sent_at_after(self.sent_at, now, ready.len());
         let Ready { plan, again, room } = ready;
         drop(again);
         move_to(&mut self.kept, room);

@@ -19,7 +19,7 @@ module _ {K : Type 0} {eq : K → K → Bool} (laws : IsEquivalence eq) where
       let here : eq x y ≡ false = laws.symm x y ∙ later eq y ys after x once.0 in
       ap (λ b. b || list_any (eq x) ys) here ∙ absent ys after x once.1
 
-  -- a set of the first members takes the next one in behind them
+  -- a set of the first members takes the next one in after them
   pub insert_next : (xs : List K) (i : ℕ) (x : K) → i < length xs → x ≡ get_or xs i x → IsDistinct eq xs → insert_key eq (take i xs) x ≡ take (i + 1) xs
   insert_next xs i x inside is once =
       let parts : take i xs ++ x ∷ drop (i + 1) xs ≡ xs =

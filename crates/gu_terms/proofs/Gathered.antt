@@ -19,7 +19,7 @@ one_given : {Y : Type 0} (o : Option Y) → cons_option o [] ≡ option_to_list 
 one_given (Some y) = refl
 one_given None = refl
 
--- what one item more gives stands behind what the others give
+-- what one item more gives comes after what the others give
 pub filter_map-last : {X Y : Type 0} (given : X → Option Y) (items : List X) (item : X) → filter_map given (items ++ item ∷ []) ≡ filter_map given items ++ option_to_list (given item)
 filter_map-last given items item = filter_map-append given items (item ∷ []) ∙ ap (λ ys. filter_map given items ++ ys) (one_given (given item))
 

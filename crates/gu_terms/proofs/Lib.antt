@@ -2,7 +2,7 @@ pub mod CutLemmas
 pub mod FirstPlaces
 pub mod Found
 pub mod Gathered
-pub mod KeptLemmas
+pub mod PackedLemmas
 pub mod KeyLemmas
 pub mod LastTake
 pub mod Lists

@@ -25,7 +25,7 @@ after-value n (c ∷ cs) =
     let short = after-value (0 * 10 + v) cs in
     omega (arith, long, short, add-mul (n * 10) v p, mul_assoc n 10 p, ap (λ (q : ℕ). n * q) (pow-succ' 10 (length cs)))
 
--- digits behind others
+-- digits after others
 pub digits_value-append : (a b : List ℕ) → digits_value 10 (a ++ b) ≡ digits_value 10 a * 10 ^ length b + digits_value 10 b
 digits_value-append a b = after-append 0 a b ∙ after-value (digits_value 10 a) b
 
@@ -43,7 +43,7 @@ multiples a b r p small e = elim (cases_lt a b) [
   ]
 ]
 
--- a number of lots has no sign, its whole digits, and nothing behind the point
+-- a number of lots has no sign, its whole digits, and nothing after the point
 pub lots_meant : (text : List ℕ) (n : ℕ) → MeansLots text n → (has_minus text ≡ false) × (digits_value 10 (whole_digits text) ≡ n) × (digits_value 10 (fraction_digits text) ≡ 0)
 lots_meant text n h =
     let unsigned = unsigned_lots (has_minus text) refl in
@@ -118,7 +118,7 @@ price_counts text millionths fraction_is =
     let p = 10 ^ length (fraction_digits text) in
     omega (arith, fraction_is, ap (λ (n : ℕ). n * 1000000) (digits_value-append (whole_digits text) (fraction_digits text)), add-mul (w * p) f 1000000, add-mul (w * 1000000) millionths p, mul_assoc w 1000000 p, mul_assoc w p 1000000, ap (λ (n : ℕ). w * n) (mul_comm 1000000 p))
 
--- a price has a whole number of millionths behind its point
+-- a price has a whole number of millionths after its point
 pub fraction_of_price : (text : List ℕ) (size : ℕ) → CountsParts text 1000000 size → (millionths : ℕ) × (digits_value 10 (fraction_digits text) * 1000000 ≡ millionths * 10 ^ length (fraction_digits text))
 fraction_of_price text size counts =
     let w = digits_value 10 (whole_digits text) in
@@ -135,7 +135,7 @@ fraction_of_price text size counts =
       )
     ]
 
--- millionths behind the point are less than a million
+-- millionths after the point are less than a million
 pub millionths_are_few : (fraction : List ℕ) (millionths : ℕ) → AllDigits 10 fraction → digits_value 10 fraction * 1000000 ≡ millionths * 10 ^ length fraction → millionths < 1000000
 millionths_are_few fraction millionths all is =
     let p = 10 ^ length fraction in
@@ -145,7 +145,7 @@ millionths_are_few fraction millionths all is =
       | inr ge ↦ let more = mul-le-mul_right {m = 1000000} {n = millionths} p ge in absurd (omega (arith, more, small, is))
     ]
 
--- up to six digits behind the point, and zeros behind those, count millionths
+-- up to six digits after the point, and zeros after those, count millionths
 pub millionths_of : (front back : List ℕ) (rest : ℕ) → length front + rest ≡ 6 → digits_value 10 back ≡ 0
     → digits_value 10 (front ++ back) * 1000000 ≡ (digits_value 10 front * 10 ^ rest) * 10 ^ length (front ++ back)
 millionths_of front back rest six zeros =
@@ -162,7 +162,7 @@ millionths_of front back rest six zeros =
     ∙ mul_assoc (v * 10 ^ rest) (10 ^ length front) q
     ∙ ap (λ (n : ℕ). v * 10 ^ rest * n) (sym long)
 
--- a digit behind the sixth that isn't 0 leaves no whole number of millionths
+-- a digit after the sixth that isn't 0 leaves no whole number of millionths
 pub no_millionths : (front back : List ℕ) (millionths : ℕ) → length front ≡ 6 → AllDigits 10 back → (digits_value 10 back ≡ 0 → ⊥) → digits_value 10 (front ++ back) * 1000000 ≡ millionths * 10 ^ length (front ++ back) → ⊥
 no_millionths front back millionths six all some is =
     let v = digits_value 10 front in
@@ -178,7 +178,7 @@ digits_from zero ds h = h
 digits_from (suc n) [] h = h
 digits_from (suc n) (d ∷ ds) h = digits_from n ds h.1
 
--- six digits at the front count, and what is behind them is 0
+-- six digits at the front count, and what is after them is 0
 pub front_counts : (fraction : List ℕ) (count rest : ℕ) → count ≡ min (length fraction) 6 → rest ≡ 6 - count → digits_value 10 (drop count fraction) ≡ 0
     → CountsMillionths fraction (digits_value 10 (take count fraction) * 10 ^ rest)
 front_counts fraction count rest is rest_is zeros =
@@ -226,7 +226,7 @@ price_is_small false size h = lit≤ h.most.le
 price_is_small true zero h = omega arith
 price_is_small true (suc size) h = let below : size ≤ 999999999999998 = lit≤ h.least.le in omega arith
 
--- what parts that mean a price have behind the point
+-- what parts that mean a price have after the point
 pub millionths_of_parts : {text : List ℕ} {is_negative : Bool} {whole fraction : List ℕ} {z : ℤ} → IsTakenApart text is_negative whole fraction → MeansPrice text z → (millionths : ℕ) × CountsMillionths fraction millionths
 millionths_of_parts {text} {fraction = fraction} apart h =
     let found = fraction_of_price text h.means.size h.means.counts in

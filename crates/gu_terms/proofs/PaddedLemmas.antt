@@ -1,4 +1,4 @@
--- Texts with zeros behind them, compared by four bytes at a time.
+-- Texts with zeros after them, compared by four bytes at a time.
 use Rattle.std.proofs.Common.{◌≡◌, ℕ, zero, suc, ◌+◌, ◌<◌, ◌≤◌, ◌++◌, List, [], ◌∷◌, length, take, drop, get_or, ap, ◌∙◌, sym, refl, arith}
 use Rattle.std.proofs.Math.Seq.{take-append_seam}
 use Rattle.std.proofs.lemmas.List.{take_all, take-append-drop, drop-drop, length-take, length-drop}
@@ -56,6 +56,6 @@ twelve-same a b long_a long_b bytes_a bytes_b first second third =
     let at8 = four-same 8 a b (length-four 8 a (omega arith)) (length-four 8 b (omega arith)) bytes_a bytes_b third in
     sym (three_fours a long_a) ∙ (λ i. at0 i ++ (at4 i ++ at8 i)) ∙ three_fours b long_b
 
--- texts of one length are one where they are with zeros behind them
+-- texts of one length are one where they are with zeros after them
 pub padded-same : (size : ℕ) (a b : List ℕ) → length a ≡ length b → padded size a ≡ padded size b → a ≡ b
 padded-same size a b long same = sym (take-append_seam a _) ∙ (λ i. take (long i) (same i)) ∙ take-append_seam b _

@@ -44,7 +44,7 @@ filter-all : {X : Type 0} (p : X → Bool) (xs : List X) → All (λ x. p x ≡ 
 filter-all p [] h = refl
 filter-all p (x ∷ xs) h = rw (h 0 x (omega arith)) (ap (λ l. x ∷ l) (filter-all p xs (λ k d within. h (suc k) d (omega arith))))
 
--- of takes that don't name the offer, those behind its place are of later offers
+-- of takes that don't name the offer, those after its place are of later offers
 later : (takes : List Take) (place offer : ℕ) → IsPlace takes place offer → (IsNamed takes offer → ⊥) → AllWithin (λ t. offer < t.offer) takes place (length takes)
 later takes place offer h unnamed k d low high = elim (cases_eq offer (get_or takes k d).offer) [
   | inl e ↦ absurd (unnamed (k, get_or takes k d, high, get_or_default takes k (get_or takes k d) d high, sym e))

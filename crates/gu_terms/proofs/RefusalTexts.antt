@@ -20,7 +20,7 @@ printed : (text : List ℕ) → list_all is_printed_byte text ≡ true → 1 ≤
 printed text each some most =
     record { some = some; most = omega (arith, most); each = AllPass-from_list_all is_printed_byte text each }
 
--- and a name behind them
+-- and a name after them
 printed_name : (front name : List ℕ) → list_all is_printed_byte front ≡ true → 1 ≤ length front → length front ≤ 20 → IsName name
     → IsRefusalText (front ++ name)
 printed_name front name each some most is = record {

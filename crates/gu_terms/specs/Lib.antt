@@ -3,7 +3,7 @@ pub mod Cuts
 pub mod Days
 pub mod Events
 pub mod Histories
-pub mod KeptEntries
+pub mod PackedEntries
 pub mod LimitKeys
 pub mod Lines
 pub mod Names

@@ -36,7 +36,7 @@ with_sign text n = if has_minus text then neg_ℤ (pos n) else pos n
 abbrev pub CountsParts : List ℕ → ℕ → ℕ → Type 0
 CountsParts text parts n = digits_value 10 (whole_digits text ++ fraction_digits text) * parts ≡ n * 10 ^ length (fraction_digits text)
 
--- digits behind a point stand for so many millionths
+-- digits after a point stand for so many millionths
 abbrev pub CountsMillionths : List ℕ → ℕ → Type 0
 CountsMillionths fraction n = digits_value 10 fraction * 1000000 ≡ n * 10 ^ length fraction
 

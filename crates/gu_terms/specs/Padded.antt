@@ -1,4 +1,4 @@
--- Machinery: short texts as they are kept, in an array with zeros behind them.
+-- Machinery: short texts as they are kept, in an array with zeros after them.
 use Rattle.std.specs.Prelude.{◌≡◌, ℕ, ◌-◌, ◌≤◌, ◌++◌, List, length, take, drop, replicate}
 use Rattle.std.proofs.Common.{◌∙◌, ap, arith, length-take}
 use Rattle.std.proofs.lemmas.List.{take-append-drop}
@@ -10,7 +10,7 @@ pub record IsPadded (size : ℕ) (array : List ℕ) (len : ℕ) : Type 0 where
   pub within : len ≤ size
   pub zeros : drop len array ≡ replicate (size - len) 0
 
--- a text with zeros behind it
+-- a text with zeros after it
 abbrev pub padded : ℕ → List ℕ → List ℕ
 padded size text = text ++ replicate (size - length text) 0
 

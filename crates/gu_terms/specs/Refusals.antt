@@ -51,7 +51,7 @@ name_of TooHigh = codes "TooHigh"
 name_of OfferOpen = codes "OfferOpen"
 name_of NothingToReverse = codes "NothingToReverse"
 
--- a name, and behind it a blank, the kind of a key, a blank and its name
+-- a name, and after it a blank, the kind of a key, a blank and its name
 abbrev pub named_with_key : List ℕ → LimitKey → List ℕ
 named_with_key name key = name ++ 32 ∷ kind_of key ++ 32 ∷ name_of_key key
 
@@ -60,7 +60,7 @@ abbrev pub key_in : Refusal → Option LimitKey
 key_in (LimitReached key) = Some key
 key_in _ = None
 
--- its text in a reply: its name, and behind it the key that it names
+-- its text in a reply: its name, and after it the key that it names
 abbrev pub text_of : Refusal → List ℕ
 text_of refusal = option_map_or (named_with_key (name_of refusal)) (key_in refusal) (name_of refusal)
 

@@ -81,7 +81,7 @@ impl Cut {
         Ok(Cut { keys, offers })
     }
 
-    /// Adds a key behind the others, and answers whether it was new.
+    /// Adds a key after the others, and answers whether it was new.
     pub fn add_key(&mut self, key: LimitKey) -> Result<bool, AllocError>
         ensures added { IfOk result (λ added. added ≡ not (has_key self.old.keys key)) }
         ensures keys { IfOk result (λ added. self.new.keys ≡ (if added then self.old.keys ++ key ∷ [] else self.old.keys)) }
@@ -92,7 +92,7 @@ impl Cut {
         Ok(added)
     }
 
-    /// Adds an offer behind the others, and answers whether it was new.
+    /// Adds an offer after the others, and answers whether it was new.
     pub fn add_offer(&mut self, offer: OfferNo) -> Result<bool, AllocError>
         ensures added { IfOk result (λ added. added ≡ not (has_number self.old.offers offer)) }
         ensures offers { IfOk result (λ added. self.new.offers ≡ (if added then self.old.offers ++ offer ∷ [] else self.old.offers)) }

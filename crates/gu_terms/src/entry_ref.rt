@@ -2,22 +2,22 @@
 
 ghost use Rattle.std.specs.Prelude.{◌≡◌};
 ghost use Rattle.gu_terms.specs.Events.{event_of, takes_of};
-ghost use Rattle.gu_terms.specs.KeptEntries.{entry_of, IsWithin};
+ghost use Rattle.gu_terms.specs.PackedEntries.{entry_of, IsWithin};
 
 use crate::entry_event::EntryEvent;
-use crate::kept::Kept;
+use crate::packed::Packed;
 use crate::takes::Take;
 use std::marker::Model;
 
 /// An entry where the history keeps it: it is read without a copy and takes no memory. To a contract it is the entry.
 #[derive(Drop)]
 pub struct EntryRef<'a> {
-    kept: &'a Kept,
+    kept: &'a Packed,
     texts: &'a [u8],
 }
 
 impl<'a> Model for EntryRef<'a> {
-    ghost use Rattle.gu_terms.specs.KeptEntries.{entry_of, IsWithin};
+    ghost use Rattle.gu_terms.specs.PackedEntries.{entry_of, IsWithin};
     ghost use Rattle.gu_terms.specs.declared.entry.Entry.{Entry};
 
     ghost Value = { Entry };
@@ -29,7 +29,7 @@ impl<'a> Model for EntryRef<'a> {
 
 impl<'a> EntryRef<'a> {
     /// The entry that is kept so, with its ids among the texts.
-    pub(crate) fn new(kept: &'a Kept, texts: &'a [u8]) -> Self
+    pub(crate) fn new(kept: &'a Packed, texts: &'a [u8]) -> Self
         requires { IsWithin texts.now kept.now }
         ensures { result ≡ entry_of texts.now kept.now }
     {

@@ -3,12 +3,12 @@
 ghost use Rattle.std.specs.Prelude.{◌≡◌, ◌+◌, ◌-◌, ◌^◌, ◌<◌, ◌∷◌, [], ◌++◌, ◌≤◌, length, map, slice_get, take, is_some, ◌↔◌, IfOk, IfSome, IsTrue, OnOk, OnErr, Some};
 ghost use Rattle.std.specs.Option.{option_map};
 ghost use Rattle.gu_terms.specs.Histories.{entry_at, swept_by};
-ghost use Rattle.gu_terms.specs.KeptEntries.{end_of_last, entry_by, entry_of, AreIdsOf, AreKept};
+ghost use Rattle.gu_terms.specs.PackedEntries.{end_of_last, entry_by, entry_of, AreIdsOf, AreKept};
 
 use crate::command::Command;
 use crate::entry::Entry;
 use crate::entry_ref::EntryRef;
-use crate::kept::{Body, Ids, Kept, body_of, ids_of};
+use crate::packed::{Body, Ids, Packed, body_of, ids_of};
 use crate::kept_sweep::KeptSweep;
 use crate::reply::Reply;
 use std::alloc::{AllocError, Global};
@@ -19,15 +19,15 @@ const MOST_TEXTS: usize = 4_000_000_000;
 
 /// Entries, numbered from 1. To a contract it is their list.
 pub struct History {
-    entries: Vec<Kept>,
-    /// The ids of all entries, one behind the other.
+    entries: Vec<Packed>,
+    /// The ids of all entries, one after the other.
     texts: Vec<u8>,
     alloc: Global,
 }
 
 impl Model for History {
     ghost use Rattle.std.specs.Prelude.{List, map};
-    ghost use Rattle.gu_terms.specs.KeptEntries.{entry_of, AreKept};
+    ghost use Rattle.gu_terms.specs.PackedEntries.{entry_of, AreKept};
     ghost use Rattle.gu_terms.specs.declared.entry.Entry.{Entry};
 
     ghost Value = { List Entry };
@@ -61,10 +61,10 @@ fn append_texts(texts: &mut Vec<u8>, first: &[u8], second: &[u8]) -> Result<(), 
     Ok(())
 }
 
-#[tactic(auto, using(crate::proofs::KeptLemmas::entries_more))]
-/// Adds what is kept of an entry behind the others, and its ids behind theirs. The growths come first.
+#[tactic(auto, using(crate::proofs::PackedLemmas::entries_more))]
+/// Adds what is kept of an entry after the others, and its ids after theirs. The growths come first.
 fn add(
-    entries: &mut Vec<Kept>,
+    entries: &mut Vec<Packed>,
     texts: &mut Vec<u8>,
     first: &[u8],
     second: &[u8],
@@ -87,12 +87,12 @@ fn add(
     };
     entries.reserve(1)?;
     append_texts(texts, first, second)?;
-    let _ = entries.push(Kept { ids, body });
+    let _ = entries.push(Packed { ids, body });
     Ok(())
 }
 
-/// The place behind the ids of the last entry.
-fn end_of_last(entries: &[Kept]) -> usize
+/// The place after the ids of the last entry.
+fn end_of_last(entries: &[Packed]) -> usize
     ensures { result ≡ end_of_last entries.now }
 {
     match entries.last() {
@@ -101,9 +101,9 @@ fn end_of_last(entries: &[Kept]) -> usize
     }
 }
 
-#[tactic(auto, using(crate::proofs::KeptLemmas::kept_fewer, crate::proofs::KeptLemmas::entries_fewer))]
+#[tactic(auto, using(crate::proofs::PackedLemmas::kept_fewer, crate::proofs::PackedLemmas::entries_fewer))]
 /// Keeps the first entries, so many of them, with their ids.
-fn truncate(entries: &mut Vec<Kept>, texts: &mut Vec<u8>, count: usize)
+fn truncate(entries: &mut Vec<Packed>, texts: &mut Vec<u8>, count: usize)
     requires { AreKept texts.old.items entries.old.items }
     ensures kept { AreKept texts.new.items entries.new.items }
     ensures first { map (entry_of texts.new.items) entries.new.items ≡ take count (map (entry_of texts.old.items) entries.old.items) }
@@ -131,7 +131,7 @@ impl History {
         self.entries.len()
     }
 
-    #[tactic(auto, using(crate::proofs::KeptLemmas::entry_there))]
+    #[tactic(auto, using(crate::proofs::PackedLemmas::entry_there))]
     /// The entry at a place, counted from 0.
     pub fn at(&self, place: usize) -> Result<Entry, AllocError>
         requires { place < length self.now }
@@ -161,7 +161,7 @@ impl History {
         Some(self.is_at(number as usize - 1, entry))
     }
 
-    #[tactic(auto, using(crate::proofs::KeptLemmas::entry_there))]
+    #[tactic(auto, using(crate::proofs::PackedLemmas::entry_there))]
     /// Whether the entry at a place is this one.
     fn is_at(&self, place: usize, entry: &Entry) -> bool
         requires { place < length self.now }
@@ -170,7 +170,7 @@ impl History {
         self.entries[place].is_entry(&self.texts, entry)
     }
 
-    #[tactic(auto, using(crate::proofs::KeptLemmas::entry_there))]
+    #[tactic(auto, using(crate::proofs::PackedLemmas::entry_there))]
     /// The entry at a place, counted from 0, where it is kept. It takes no memory.
     pub fn show(&self, place: usize) -> EntryRef<'_>
         requires { place < length self.now }
@@ -179,7 +179,7 @@ impl History {
         EntryRef::new(&self.entries[place], &self.texts)
     }
 
-    #[tactic(auto, using(crate::proofs::KeptLemmas::entry_there))]
+    #[tactic(auto, using(crate::proofs::PackedLemmas::entry_there))]
     /// The lots that the entry at a place swept. It takes no memory.
     pub fn lots_at(&self, place: usize) -> u64
         requires { place < length self.now }
@@ -188,7 +188,7 @@ impl History {
         self.entries[place].lots_swept()
     }
 
-    /// Adds a command with its reply behind the others, as they are.
+    /// Adds a command with its reply after the others, as they are.
     fn push_whole(&mut self, entry: Entry) -> Result<(), AllocError>
         ensures added { OnOk result (self.new ≡ self.old ++ entry ∷ []) }
         ensures refused { OnErr result (self.new ≡ self.old) }
@@ -198,7 +198,7 @@ impl History {
         add(&mut self.entries, &mut self.texts, &[], &[], body)
     }
 
-    /// Adds a command with its reply behind the others.
+    /// Adds a command with its reply after the others.
     pub fn push_asked(&mut self, command: &Command, reply: Reply) -> Result<(), AllocError>
         ensures added { OnOk result (self.new ≡ self.old ++ Entry.Asked command.now reply ∷ []) }
         ensures refused { OnErr result (self.new ≡ self.old) }
@@ -220,7 +220,7 @@ impl History {
         }
     }
 
-    /// Adds a sweep behind the others.
+    /// Adds a sweep after the others.
     pub fn push_swept(&mut self, sweep: KeptSweep) -> Result<(), AllocError>
         ensures added { OnOk result (self.new ≡ self.old ++ Entry.Swept sweep ∷ []) }
         ensures refused { OnErr result (self.new ≡ self.old) }

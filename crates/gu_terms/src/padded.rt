@@ -11,7 +11,7 @@ ghost use Rattle.gu_terms.specs.Padded.{padded};
 use std::hash::{Hash, Hasher};
 use std::marker::Model;
 
-/// A text of at most `N` bytes, with zeros behind it. To a contract it is the text.
+/// A text of at most `N` bytes, with zeros after it. To a contract it is the text.
 #[derive(Clone, Copy, Debug)]
 pub struct Padded<const N: usize> {
     bytes: [u8; N],
@@ -49,7 +49,7 @@ impl<const N: usize> Padded<N> {
         }
     }
 
-    /// The text, and more behind it.
+    /// The text, and more after it.
     pub fn with(&self, more: &[u8]) -> Self
         requires fits { length self.now + length more.now ≤ N }
         requires short { length self.now + length more.now < 256 }
@@ -72,7 +72,7 @@ impl<const N: usize> Padded<N> {
         self.len as usize
     }
 
-    /// The text with the zeros behind it: `N` bytes.
+    /// The text with the zeros after it: `N` bytes.
     pub fn with_zeros(&self) -> &[u8; N]
         ensures { result.now ≡ padded N self.now }
     {

@@ -11,7 +11,7 @@ use std::marker::Model;
 /// The millionths that a price has at most, of either sign.
 const MOST_MILLIONTHS: i64 = 999_999_999_999_999;
 
-/// The digits that a price has behind its point.
+/// The digits that a price has after its point.
 const PLACES: usize = 6;
 
 /// The units that a price has at most.
@@ -58,7 +58,7 @@ impl Price {
     }
 }
 
-/// The millionths that digits behind a point stand for, where they are whole ones.
+/// The millionths that digits after a point stand for, where they are whole ones.
 fn millionths_of(fraction: &[u8]) -> Option<u64>
     requires { AllDigits 10 fraction.now }
     ensures { MatchOption result ((n : ℕ) → CountsMillionths fraction.now n → ⊥) (λ n. (n < 1000000) × CountsMillionths fraction.now n) }

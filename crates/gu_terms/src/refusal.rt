@@ -124,7 +124,7 @@ impl Refusal {
         self.number() == other.number() && key == key_of_other
     }
 
-    /// Its text in a reply: its name, and behind LimitReached the kind and the name of the key.
+    /// Its text in a reply: its name, and after LimitReached the kind and the name of the key.
     pub fn text(&self) -> RefusalText
         ensures text { result ≡ text_of self.now }
         ensures sound { IsRefusalText (text_of self.now) }

@@ -39,7 +39,7 @@ impl RefusalText {
         }
     }
 
-    /// The text that is a name and a key behind it.
+    /// The text that is a name and a key after it.
     pub(crate) fn of_key(name: &str, key: LimitKey) -> Self
         requires { length name.now ≤ 20 }
         ensures text { result ≡ named_with_key name.now key }

@@ -87,7 +87,7 @@ impl Takes {
     }
 
     /// Adds a take in its place, and answers whether it was new: an offer that is named already keeps its lots.
-    /// What stands behind its place is moved, so offers that come in ascending order cost least.
+    /// What comes after its place is moved, so offers that come in ascending order cost least.
     pub fn add(&mut self, offer: OfferNo, lots: u64) -> Result<bool, AllocError>
         ensures added { IfOk result (λ added. IsTrue added ↔ (¬ IsNamed self.old offer)) }
         ensures takes { IfOk result (λ added.

@@ -52,8 +52,8 @@ pub leaves_all : (text : List ℕ) → LeavesOpen text [] text
 leaves_all text = record { lines_are = λ more. refl; ended_are = λ more. refl }
 
 -- the first LF ends a line
-pub leaves_behind : (bytes front behind : List ℕ) → IsParted bytes front behind → LeavesOpen bytes (strip_carriage_return front ∷ []) behind
-leaves_behind bytes front behind is =
+pub leaves_after : (bytes front behind : List ℕ) → IsParted bytes front behind → LeavesOpen bytes (strip_carriage_return front ∷ []) behind
+leaves_after bytes front behind is =
     let split : (more : List ℕ) → bytes ++ more ≡ front ++ 10 ∷ (behind ++ more) = λ more. ap (λ (t : List ℕ). t ++ more) is.parts ∙ append_assoc front (10 ∷ behind) more in
     record {
       lines_are = λ more. ap lines (split more) ∙ lines-parted front (behind ++ more) is.first;
@@ -67,7 +67,7 @@ leaves_on text rest last ended others first second = record {
   ended_are = λ more. first.ended_are more ∙ ap (λ (ls : List (List ℕ)). ended ++ ls) (second.ended_are more) ∙ sym (append_assoc ended others (ended_lines (last ++ more)));
 }
 
--- a piece comes behind a text, and so behind its rest
+-- a piece comes after a text, and so after its rest
 pub leaves_with : (text piece rest : List ℕ) (ended : List (List ℕ)) → LeavesOpen text ended rest → LeavesOpen (text ++ piece) ended (rest ++ piece)
 leaves_with text piece rest ended leaves = record {
   lines_are = λ more. ap lines (append_assoc text piece more) ∙ leaves.lines_are (piece ++ more) ∙ ap (λ (t : List ℕ). ended ++ lines t) (sym (append_assoc rest piece more));
@@ -84,13 +84,13 @@ ended_lines-left text rest ended open_is none =
     ap ended_lines (sym (append-nil text)) ∙ open_is.ended_are [] ∙ ap (λ (t : List ℕ). ended ++ ended_lines t) (append-nil rest)
     ∙ ap (λ (ls : List (List ℕ)). ended ++ ls) (ended_lines-alone rest none) ∙ append-nil ended
 
--- bytes without LF behind others
+-- bytes without LF after others
 pub no_feed-append : (front bytes : List ℕ) → HasNoLineFeed front → HasNoLineFeed bytes → HasNoLineFeed (front ++ bytes)
 no_feed-append front bytes = All-append (λ b. b ≢ 10) front bytes
 
--- and with an LF behind them
-pub parted_behind : (rest bytes front behind : List ℕ) → HasNoLineFeed rest → IsParted bytes front behind → IsParted (rest ++ bytes) (rest ++ front) behind
-parted_behind rest bytes front behind none is = record {
+-- and with an LF after them
+pub parted_after : (rest bytes front behind : List ℕ) → HasNoLineFeed rest → IsParted bytes front behind → IsParted (rest ++ bytes) (rest ++ front) behind
+parted_after rest bytes front behind none is = record {
   parts = ap (λ (t : List ℕ). rest ++ t) is.parts ∙ sym (append_assoc rest front (10 ∷ behind));
   first = no_feed-append rest front none is.first;
 }
@@ -127,7 +127,7 @@ pub too_long : (bytes : List ℕ) → HasNoLineFeed bytes → longest_line + 1 <
 too_long bytes none long more =
     elim (find_feed more) [
       | inl (front, behind, is) ↦
-          let whole = parted_behind bytes more front behind none is in (
+          let whole = parted_after bytes more front behind none is in (
             strip_carriage_return (bytes ++ front),
             lines behind,
             ap lines whole.parts ∙ lines-parted (bytes ++ front) behind whole.first,

@@ -11,7 +11,7 @@ at_either (z ∷ xs) ys (suc place) y h =
       | inr second ↦ inr (second.0, second.1, omega (arith, second.2))
     ]
 
--- no places behind the front
+-- no places after the front
 pub zero_more : (k : ℕ) → 0 + k ≡ k
 zero_more k = omega arith
 
@@ -19,7 +19,7 @@ zero_more k = omega arith
 pub suc_more : (n k : ℕ) → suc n + k ≡ suc (n + k)
 suc_more n k = omega arith
 
--- a place behind others
+-- a place after others
 pub slice_get-drop : {X : Type 0} (xs : List X) (n k : ℕ) → slice_get (drop n xs) k ≡ slice_get xs (n + k)
 slice_get-drop xs zero k = ap (slice_get xs) (sym (zero_more k))
 slice_get-drop [] (suc n) k = refl

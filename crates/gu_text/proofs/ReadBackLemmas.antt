@@ -34,7 +34,7 @@ some_word (b ∷ bytes) some e = cc
 
 -- ---- words
 
--- the words of a word and what stands behind a blank
+-- the words of a word and what comes after a blank
 words_of-first : (first : List ℕ) (rest : List ℕ) → IsWord first → words_of (word first ++ rest) ≡ first ∷ words_of rest
 words_of-first first rest is =
     ap words_of (append_assoc first (32 ∷ []) rest)

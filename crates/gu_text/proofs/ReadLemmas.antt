@@ -23,7 +23,7 @@ use Rattle.gu_terms.specs.declared.limit_key.LimitKey.{LimitKey}
 use Rattle.gu_terms.specs.declared.limit_key.LimitKey.TheVariants.{Exec, Agr, Acct, Carry, Guar}
 use Rattle.gu_terms.specs.declared.takes.Take.{Take}
 use Rattle.gu_view.specs.View.{GroupView, IsPath}
-use Rattle.gu_view.specs.declared.view.Offer.{Offer}
+use Rattle.gu_view.specs.declared.view.ViewOffer.{ViewOffer}
 use Rattle.gu_view.specs.declared.view.Room.{Room}
 use Rattle.gu_text.specs.Lines.{is_silent, longest_line}
 use Rattle.gu_text.specs.ReadBack.{AreWords, IsLineOf, IsWord, is_word_byte, joined}
@@ -254,7 +254,7 @@ path_back number lots executing agreement account carrying guarantor is small na
     let a = and_parts (is_name account.name) (is_name carrying.name && rest) p.1 in
     let c = and_parts (is_name carrying.name) rest a.1 in
     let path = path_through executing agreement account carrying guarantor in
-    let offer : Offer = record { number = number; lots = lots; agreement = agreement; path = path } in
+    let offer : ViewOffer = record { number = number; lots = lots; agreement = agreement; path = path } in
     let guarantor_names = map name_of_key (guarantor_key guarantor) in
     let path_words_said : path_said agreement.name (executing.name ∷ account.name ∷ carrying.name ∷ guarantor_names) ≡ Some path =
     cond-true (is_name executing.name && is_name account.name && is_name carrying.name) (option_map (path_through executing agreement account carrying) (guarantor_said guarantor_names)) None (rw (e.0, a.0, c.0) refl)
@@ -275,8 +275,8 @@ path_back number lots executing agreement account carrying guarantor is small na
     (omega arith) (omega (arith, few_guarantors guarantor)) refl
     (rw (offer_no_back number is, number_back lots small, name_back agreement.name p.0, path_words_said) refl)
 
-pub offer_back : (offer : Offer) → IsPath offer → IsTrue (list_all (λ k. is_name (name_of_key k)) offer.path) → IsOfferNo offer.number → offer.lots < 10 ^ 12 → IsLineOf (offer_words offer) (line.Offer offer)
+pub offer_back : (offer : ViewOffer) → IsPath offer → IsTrue (list_all (λ k. is_name (name_of_key k)) offer.path) → IsOfferNo offer.number → offer.lots < 10 ^ 12 → IsLineOf (offer_words offer) (line.Offer offer)
 offer_back offer is_path named is small =
     let path = path_through is_path.0 offer.agreement is_path.1 is_path.2 is_path.3 in
     let given = path_back offer.number offer.lots is_path.0 offer.agreement is_path.1 is_path.2 is_path.3 is small (sym (ap (list_all (λ k. is_name (name_of_key k))) is_path.4) ∙ named) in
-    subst (λ (keys : List LimitKey). let o : Offer = record { number = offer.number; lots = offer.lots; agreement = offer.agreement; path = keys } in IsLineOf (offer_words o) (line.Offer o)) (sym is_path.4) given
+    subst (λ (keys : List LimitKey). let o : ViewOffer = record { number = offer.number; lots = offer.lots; agreement = offer.agreement; path = keys } in IsLineOf (offer_words o) (line.Offer o)) (sym is_path.4) given

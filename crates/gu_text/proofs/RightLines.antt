@@ -13,12 +13,12 @@ use Rattle.gu_terms.specs.declared.limit_key.LimitKey.{LimitKey}
 use Rattle.gu_terms.specs.declared.takes.Take.{Take}
 use Rattle.gu_view.specs.Making.{MakesView}
 use Rattle.gu_view.specs.View.{GroupView, IsView}
-use Rattle.gu_view.specs.declared.view.Offer.{Offer}
+use Rattle.gu_view.specs.declared.view.ViewOffer.{ViewOffer}
 use Rattle.gu_view.specs.declared.view.Room.{Room}
 use Rattle.gu_text.specs.ReadBack.{IsWritable, joined, said_of}
 use Rattle.gu_text.specs.SheetParts.{SheetParts, key_in, number_in, offer_in, part_of, parts_of, rank_of, room_in, take_in}
 use Rattle.gu_text.specs.SheetText.{sheet_text}
-use Rattle.gu_text.specs.Sheets.{AreRight, IsRightBehind, MayFollow, comes_behind, is_repeated, said_in}
+use Rattle.gu_text.specs.Sheets.{AreRight, IsRightAfter, MayFollow, comes_after, is_repeated, said_in}
 use Rattle.gu_text.specs.declared.sheet_line.Part.{Part}
 use Rattle.gu_text.specs.declared.sheet_line.Part.TheVariants as part
 use Rattle.gu_text.specs.declared.sheet_line.SheetLine.{SheetLine}
@@ -28,27 +28,27 @@ use Rattle.gu_text.proofs.SheetBack.{Matches, matches_append, rows_are, rows_mat
 use Rattle.gu_text.proofs.SheetLemmas.{parts_of-last, right_last}
 use Rattle.gu_text.proofs.ViewsAgain.{makes_view, rooms_apart}
 
--- ---- lines behind lines
+-- ---- lines after lines
 
 -- each of these may follow those before it
 abbrev pub AllFollow : List SheetLine → List SheetLine → Type 0
 AllFollow before [] = Unit {0}
 AllFollow before (next ∷ rest) = MayFollow before next × AllFollow (before ++ next ∷ []) rest
 
--- and those behind them
+-- and those after them
 all_follow-append : (before first second : List SheetLine) → AllFollow before first → AllFollow (before ++ first) second → AllFollow before (first ++ second)
 all_follow-append before [] second h k = subst (λ (b : List SheetLine). AllFollow b second) (append-nil before) k
 all_follow-append before (next ∷ first) second h k =
     (h.0, all_follow-append (before ++ next ∷ []) first second h.1 (subst (λ (b : List SheetLine). AllFollow b second) (sym (append_assoc before (next ∷ []) first)) k))
 
--- a line of this part or a later one comes behind these
+-- a line of this part or a later one comes after these
 abbrev Reaches : List SheetLine → ℕ → Type 0
-Reaches before r = (next : Part) → r ≤ rank_of next → comes_behind (parts_of before).last next ≡ true
+Reaches before r = (next : Part) → r ≤ rank_of next → comes_after (parts_of before).last next ≡ true
 
--- behind a line that isn't the end
+-- after a line that isn't the end
 reached : (before : List SheetLine) (last : SheetLine) (r : ℕ) → rank_of (part_of last) ≤ r → rank_of (part_of last) < 5 → 1 ≤ r → Reaches (before ++ last ∷ []) r
 reached before last r low most some next h =
-    ap (λ (o : Option Part). comes_behind o next) (ap (λ (p : SheetParts). p.last) (parts_of-last before last))
+    ap (λ (o : Option Part). comes_after o next) (ap (λ (p : SheetParts). p.last) (parts_of-last before last))
     ∙ rw (lt-ltb 0 (rank_of next) (omega (arith, some, h)), lt-ltb (rank_of (part_of last)) 5 most, le-leb (rank_of (part_of last)) (rank_of next) (omega (arith, low, h))) refl
 
 -- lines of one part
@@ -60,7 +60,7 @@ module _ {X : Type 0} (f : X → SheetLine) (r : ℕ) (kind : (x : X) → rank_o
     view = λ e. let five : rank_of (part_of (f x)) ≡ 5 = ap (λ (l : SheetLine). rank_of (part_of l)) e in absurd (omega (arith, five, kind x, most));
   }
 
-  -- those that are left behind those that are done
+  -- those that are left after those that are done
   go : (done rest : List X) → ((first : List X) (x : X) (later : List X) → done ++ rest ≡ first ++ x ∷ later → is_repeated (parts_of (before ++ map f first)) (f x) ≡ false) → Reaches (before ++ map f done) r
       → AllFollow (before ++ map f done) (map f rest) × Reaches (before ++ map f (done ++ rest)) r
   go done [] fresh reaches = (tt, subst (λ (xs : List X). Reaches (before ++ map f xs) r) (sym (append-nil done)) reaches)
@@ -93,7 +93,7 @@ module _ {Y : Type 0} (g : SheetLine → Option Y) where
   nothing f is [] = refl
   nothing f is (x ∷ xs) = ap (λ (o : Option Y). cons_option o (filter_map g (map f xs))) (is x) ∙ nothing f is xs
 
-  -- behind lines that give nothing
+  -- after lines that give nothing
   behind_none : {X : Type 0} (before : List SheetLine) (f : X → SheetLine) (h : X → Y) → ((x : X) → g (f x) ≡ Some (h x)) → filter_map g before ≡ [] → (xs : List X) → filter_map g (before ++ map f xs) ≡ map h xs
   behind_none before f h is none xs = filter_map-append g before (map f xs) ∙ ap (λ (ys : List Y). ys ++ filter_map g (map f xs)) none ∙ given f h is xs
 
@@ -141,23 +141,23 @@ module _ (view : GroupView) (takes : List Take) (cut : CutLists) (sound : IsView
   abbrev head : List SheetLine
   head = line.Sheet (record { group = view.group; version = view.version }) ∷ []
 
-  abbrev take_line : Offer → SheetLine
+  abbrev take_line : ViewOffer → SheetLine
   take_line o = line.Take (record { offer = o.number; lots = lots_of takes o.number })
 
   abbrev key_line : Room → SheetLine
   key_line r = line.CutKey r.key
 
-  abbrev number_line : Offer → SheetLine
+  abbrev number_line : ViewOffer → SheetLine
   number_line o = line.CutOffer o.number
 
   abbrev keys : List Room
   keys = filter (λ (r : Room). has_key cut.keys r.key) view.rooms
 
-  abbrev numbers : List Offer
-  numbers = filter (λ (o : Offer). has_number cut.offers o.number) view.offers
+  abbrev numbers : List ViewOffer
+  numbers = filter (λ (o : ViewOffer). has_number cut.offers o.number) view.offers
 
-  ascending : Later (λ (a b : Offer). a.number < b.number) view.offers
-  ascending = Later-from_AllPairs (λ (a b : Offer). a.number < b.number) view.offers sound.ascending
+  ascending : Later (λ (a b : ViewOffer). a.number < b.number) view.offers
+  ascending = Later-from_AllPairs (λ (a b : ViewOffer). a.number < b.number) view.offers sound.ascending
 
   -- the lines up to each part
   abbrev to_offers : List SheetLine
@@ -215,14 +215,14 @@ module _ (view : GroupView) (takes : List Take) (cut : CutLists) (sound : IsView
       ++ nothing number_in key_line (λ r. refl) keys i)
 
   -- a take of an offer that had none, a key and a number that weren't named
-  fresh_take : (first : List Offer) (o : Offer) (later : List Offer) → view.offers ≡ first ++ o ∷ later → is_repeated (parts_of (to_rooms ++ map take_line first)) (take_line o) ≡ false
+  fresh_take : (first : List ViewOffer) (o : ViewOffer) (later : List ViewOffer) → view.offers ≡ first ++ o ∷ later → is_repeated (parts_of (to_rooms ++ map take_line first)) (take_line o) ≡ false
   fresh_take first o later is =
-      let before = before_seam (λ (a b : Offer). a.number < b.number) first o later (subst (Later (λ (a b : Offer). a.number < b.number)) is ascending) in
-      ap (λ (ts : List Take). has_number (map (λ (t : Take). t.offer) ts) o.number) (behind_none take_in to_rooms take_line (λ (p : Offer). record { offer = p.number; lots = lots_of takes p.number }) (λ p. refl) no_takes first)
+      let before = before_seam (λ (a b : ViewOffer). a.number < b.number) first o later (subst (Later (λ (a b : ViewOffer). a.number < b.number)) is ascending) in
+      ap (λ (ts : List Take). has_number (map (λ (t : Take). t.offer) ts) o.number) (behind_none take_in to_rooms take_line (λ (p : ViewOffer). record { offer = p.number; lots = lots_of takes p.number }) (λ p. refl) no_takes first)
       ∙ named first
-      ∙ no_number (λ (p : Offer). p.number) first o.number before
+      ∙ no_number (λ (p : ViewOffer). p.number) first o.number before
     where
-      named : (offers : List Offer) → has_number (map (λ (t : Take). t.offer) (map (λ (p : Offer). record { offer = p.number; lots = lots_of takes p.number }) offers)) o.number ≡ has_number (map (λ (p : Offer). p.number) offers) o.number
+      named : (offers : List ViewOffer) → has_number (map (λ (t : Take). t.offer) (map (λ (p : ViewOffer). record { offer = p.number; lots = lots_of takes p.number }) offers)) o.number ≡ has_number (map (λ (p : ViewOffer). p.number) offers) o.number
       named [] = refl
       named (p ∷ offers) = ap (λ b. (p.number == o.number) || b) (named offers)
 
@@ -232,11 +232,11 @@ module _ (view : GroupView) (takes : List Take) (cut : CutLists) (sound : IsView
       let before = before_seam (λ (a b : Room). key_eq a.key b.key ≡ false) first r later (subst (Later (λ (a b : Room). key_eq a.key b.key ≡ false)) is differ) in
       ap (λ (ks : List LimitKey). has_key ks r.key) (behind_none key_in to_takes key_line (λ (q : Room). q.key) (λ q. refl) no_keys first) ∙ no_key first r.key before
 
-  fresh_number : (first : List Offer) (o : Offer) (later : List Offer) → numbers ≡ first ++ o ∷ later → is_repeated (parts_of (to_keys ++ map number_line first)) (number_line o) ≡ false
+  fresh_number : (first : List ViewOffer) (o : ViewOffer) (later : List ViewOffer) → numbers ≡ first ++ o ∷ later → is_repeated (parts_of (to_keys ++ map number_line first)) (number_line o) ≡ false
   fresh_number first o later is =
-      let rising = later-filter (λ (a b : Offer). a.number < b.number) (λ (p : Offer). has_number cut.offers p.number) view.offers ascending in
-      let before = before_seam (λ (a b : Offer). a.number < b.number) first o later (subst (Later (λ (a b : Offer). a.number < b.number)) is rising) in
-      ap (λ (ns : List ℕ). has_number ns o.number) (behind_none number_in to_keys number_line (λ (p : Offer). p.number) (λ p. refl) no_numbers first) ∙ no_number (λ (p : Offer). p.number) first o.number before
+      let rising = later-filter (λ (a b : ViewOffer). a.number < b.number) (λ (p : ViewOffer). has_number cut.offers p.number) view.offers ascending in
+      let before = before_seam (λ (a b : ViewOffer). a.number < b.number) first o later (subst (Later (λ (a b : ViewOffer). a.number < b.number)) is rising) in
+      ap (λ (ns : List ℕ). has_number ns o.number) (behind_none number_in to_keys number_line (λ (p : ViewOffer). p.number) (λ p. refl) no_numbers first) ∙ no_number (λ (p : ViewOffer). p.number) first o.number before
 
   -- the offers and rooms that the lines before the end give
   pub offers_given : (parts_of to_numbers).offers ≡ view.offers
@@ -248,9 +248,9 @@ module _ (view : GroupView) (takes : List Take) (cut : CutLists) (sound : IsView
       self : filter_map offer_in (map line.Offer view.offers) ≡ view.offers
       self = given offer_in line.Offer (λ o. o) (λ o. refl) view.offers ∙ same view.offers
         where
-          same : (os : List Offer) → map (λ o. o) os ≡ os
+          same : (os : List ViewOffer) → map (λ o. o) os ≡ os
           same [] = refl
-          same (o ∷ os) = ap (λ (more : List Offer). o ∷ more) (same os)
+          same (o ∷ os) = ap (λ (more : List ViewOffer). o ∷ more) (same os)
 
   pub rooms_given : (parts_of to_numbers).rooms ≡ view.rooms
   rooms_given =
@@ -277,7 +277,7 @@ module _ (view : GroupView) (takes : List Take) (cut : CutLists) (sound : IsView
       let numbered = all_follow number_line 4 (λ o. refl) (omega arith) (omega arith) to_keys numbers fresh_number (λ next h. in_cut.1 next h) in
       let end : MayFollow to_numbers line.End = record {
         fits = rw (numbered.1 part.End (omega arith)) refl;
-        view = λ e. subst (λ (os : List Offer). MakesView os (parts_of to_numbers).rooms) (sym offers_given) (subst (λ (rs : List Room). MakesView view.offers rs) (sym rooms_given) (makes_view view sound writable.numbers));
+        view = λ e. subst (λ (os : List ViewOffer). MakesView os (parts_of to_numbers).rooms) (sym offers_given) (subst (λ (rs : List Room). MakesView view.offers rs) (sym rooms_given) (makes_view view sound writable.numbers));
       } in
       all_follow-append [] to_numbers (line.End ∷ [])
       (all_follow-append [] to_keys (map number_line numbers)
@@ -298,7 +298,7 @@ right_rows : (done : List (List (List ℕ))) (said : List SheetLine) (rows : Lis
 right_rows done said [] next m n follow right = subst (λ (rs : List (List (List ℕ))). AreRight (map joined rs)) (sym (append-nil done)) right
 right_rows done said (words ∷ rows) [] m n follow right = absurd n
 right_rows done said (words ∷ rows) (s ∷ next) m n follow right =
-    let last : IsRightBehind (said_in (map joined done)) (joined words) = inr (s, n.0.says_it, subst (λ (ss : List SheetLine). MayFollow ss s) (sym (said_rows done said m)) follow.0) in
+    let last : IsRightAfter (said_in (map joined done)) (joined words) = inr (s, n.0.says_it, subst (λ (ss : List SheetLine). MayFollow ss s) (sym (said_rows done said m)) follow.0) in
     let more : AreRight (map joined (done ++ words ∷ [])) = subst AreRight (sym (map-append joined done (words ∷ []))) (right_last (map joined done) (joined words) right last) in
     subst (λ (rs : List (List (List ℕ))). AreRight (map joined rs)) (append_assoc done (words ∷ []) rows)
     (right_rows (done ++ words ∷ []) (said ++ s ∷ []) rows next (matches_append done said (words ∷ []) (s ∷ []) m (n.0, tt)) n.1 follow.1 more)

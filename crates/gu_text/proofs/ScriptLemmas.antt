@@ -115,7 +115,7 @@ pub words_said : (text : List ℕ) (read : Option Line) → is_silent text ≡ f
 words_said text (Some said) speaks short even reads = record { speaks = speaks; short = short; even = even; writes = reads }
 words_said text None speaks short even reads = record { speaks = speaks; nothing = λ said says. reads said says.writes }
 
--- and so a line that begins with the word of a form says what is read of the words behind it
+-- and so a line that begins with the word of a form says what is read of the words after it
 pub begun_said : (text : List ℕ) (f : Form) (words : List (List ℕ)) (read : Option Line) → IsBegun text f words → Reads f words read → MatchOption read (IsBad text) (Says text)
 begun_said text f words read is reads =
     words_said text read is.speaks is.short is.even

@@ -12,7 +12,7 @@ use Rattle.gu_terms.specs.Takes.{lots_of}
 use Rattle.gu_terms.specs.declared.takes.Take.{Take}
 use Rattle.gu_view.specs.Making.{view_of}
 use Rattle.gu_view.specs.View.{GroupView, IsView}
-use Rattle.gu_view.specs.declared.view.Offer.{Offer}
+use Rattle.gu_view.specs.declared.view.ViewOffer.{ViewOffer}
 use Rattle.gu_view.specs.declared.view.Room.{Room}
 use Rattle.gu_text.specs.ReadBack.{IsWritable, said_of}
 use Rattle.gu_text.specs.SheetParts.{SheetParts, header_in, key_in, number_in, parts_of, take_in}
@@ -47,9 +47,9 @@ module _ (view : GroupView) (takes : List Take) (cut : CutLists) (sound : IsView
       ∙ ap (last_or None)
       (given_to_numbers view takes cut sound writable header_in
       ∙ (λ i. (record { group = view.group; version = view.version } ∷ []) ++ nothing header_in line.Offer (λ o. refl) view.offers i ++ nothing header_in line.Room (λ r. refl) view.rooms i
-      ++ nothing header_in (λ (o : Offer). line.Take (record { offer = o.number; lots = lots_of takes o.number })) (λ o. refl) view.offers i
+      ++ nothing header_in (λ (o : ViewOffer). line.Take (record { offer = o.number; lots = lots_of takes o.number })) (λ o. refl) view.offers i
       ++ nothing header_in (λ (r : Room). line.CutKey r.key) (λ r. refl) (filter (λ (r : Room). has_key cut.keys r.key) view.rooms) i
-      ++ nothing header_in (λ (o : Offer). line.CutOffer o.number) (λ o. refl) (filter (λ (o : Offer). has_number cut.offers o.number) view.offers) i))
+      ++ nothing header_in (λ (o : ViewOffer). line.CutOffer o.number) (λ o. refl) (filter (λ (o : ViewOffer). has_number cut.offers o.number) view.offers) i))
 
   offers_are : (parts_of (said_of view takes cut)).offers ≡ view.offers
   offers_are = ap (λ (p : SheetParts). p.offers) (parts_of-last before_end line.End) ∙ append-nil (parts_of before_end).offers ∙ offers_given view takes cut sound writable
@@ -63,9 +63,9 @@ module _ (view : GroupView) (takes : List Take) (cut : CutLists) (sound : IsView
       ∙ append-nil (parts_of before_end).takes
       ∙ given_to_numbers view takes cut sound writable take_in
       ∙ (λ i. nothing take_in line.Offer (λ o. refl) view.offers i ++ nothing take_in line.Room (λ r. refl) view.rooms i
-      ++ given take_in (λ (o : Offer). line.Take (record { offer = o.number; lots = lots_of takes o.number })) (λ o. record { offer = o.number; lots = lots_of takes o.number }) (λ o. refl) view.offers i
+      ++ given take_in (λ (o : ViewOffer). line.Take (record { offer = o.number; lots = lots_of takes o.number })) (λ o. record { offer = o.number; lots = lots_of takes o.number }) (λ o. refl) view.offers i
       ++ nothing take_in (λ (r : Room). line.CutKey r.key) (λ r. refl) (filter (λ (r : Room). has_key cut.keys r.key) view.rooms) i
-      ++ nothing take_in (λ (o : Offer). line.CutOffer o.number) (λ o. refl) (filter (λ (o : Offer). has_number cut.offers o.number) view.offers) i)
+      ++ nothing take_in (λ (o : ViewOffer). line.CutOffer o.number) (λ o. refl) (filter (λ (o : ViewOffer). has_number cut.offers o.number) view.offers) i)
       ∙ simp append-nil
 
   keys_are : (parts_of (said_of view takes cut)).cut.keys ≡ (cut_of view cut).keys
@@ -74,9 +74,9 @@ module _ (view : GroupView) (takes : List Take) (cut : CutLists) (sound : IsView
       ∙ append-nil (parts_of before_end).cut.keys
       ∙ given_to_numbers view takes cut sound writable key_in
       ∙ (λ i. nothing key_in line.Offer (λ o. refl) view.offers i ++ nothing key_in line.Room (λ r. refl) view.rooms i
-      ++ nothing key_in (λ (o : Offer). line.Take (record { offer = o.number; lots = lots_of takes o.number })) (λ o. refl) view.offers i
+      ++ nothing key_in (λ (o : ViewOffer). line.Take (record { offer = o.number; lots = lots_of takes o.number })) (λ o. refl) view.offers i
       ++ given key_in (λ (r : Room). line.CutKey r.key) (λ r. r.key) (λ r. refl) (filter (λ (r : Room). has_key cut.keys r.key) view.rooms) i
-      ++ nothing key_in (λ (o : Offer). line.CutOffer o.number) (λ o. refl) (filter (λ (o : Offer). has_number cut.offers o.number) view.offers) i)
+      ++ nothing key_in (λ (o : ViewOffer). line.CutOffer o.number) (λ o. refl) (filter (λ (o : ViewOffer). has_number cut.offers o.number) view.offers) i)
       ∙ append-nil (cut_of view cut).keys
 
   numbers_are : (parts_of (said_of view takes cut)).cut.offers ≡ (cut_of view cut).offers
@@ -85,24 +85,24 @@ module _ (view : GroupView) (takes : List Take) (cut : CutLists) (sound : IsView
       ∙ append-nil (parts_of before_end).cut.offers
       ∙ given_to_numbers view takes cut sound writable number_in
       ∙ (λ i. nothing number_in line.Offer (λ o. refl) view.offers i ++ nothing number_in line.Room (λ r. refl) view.rooms i
-      ++ nothing number_in (λ (o : Offer). line.Take (record { offer = o.number; lots = lots_of takes o.number })) (λ o. refl) view.offers i
+      ++ nothing number_in (λ (o : ViewOffer). line.Take (record { offer = o.number; lots = lots_of takes o.number })) (λ o. refl) view.offers i
       ++ nothing number_in (λ (r : Room). line.CutKey r.key) (λ r. refl) (filter (λ (r : Room). has_key cut.keys r.key) view.rooms) i
-      ++ given number_in (λ (o : Offer). line.CutOffer o.number) (λ o. o.number) (λ o. refl) (filter (λ (o : Offer). has_number cut.offers o.number) view.offers) i)
+      ++ given number_in (λ (o : ViewOffer). line.CutOffer o.number) (λ o. o.number) (λ o. refl) (filter (λ (o : ViewOffer). has_number cut.offers o.number) view.offers) i)
 
   -- the takes that are read ascend
-  rising : (offers : List Offer) → Later (λ (a b : Offer). a.number < b.number) offers → Later (λ (a b : Take). a.offer < b.offer) (map (λ (o : Offer). record { offer = o.number; lots = lots_of takes o.number }) offers)
+  rising : (offers : List ViewOffer) → Later (λ (a b : ViewOffer). a.number < b.number) offers → Later (λ (a b : Take). a.offer < b.offer) (map (λ (o : ViewOffer). record { offer = o.number; lots = lots_of takes o.number }) offers)
   rising [] h = tt
   rising (o ∷ offers) h = (above offers h.0, rising offers h.1)
     where
-      above : (others : List Offer) → AllByRecursion (λ (p : Offer). o.number < p.number) others
-          → AllByRecursion (λ (t : Take). o.number < t.offer) (map (λ (p : Offer). record { offer = p.number; lots = lots_of takes p.number }) others)
+      above : (others : List ViewOffer) → AllByRecursion (λ (p : ViewOffer). o.number < p.number) others
+          → AllByRecursion (λ (t : Take). o.number < t.offer) (map (λ (p : ViewOffer). record { offer = p.number; lots = lots_of takes p.number }) others)
       above [] h = tt
       above (p ∷ others) h = (h.0, above others h.1)
 
   are_takes : AreTakes (takes_of view takes) (takes_of view takes)
   are_takes = record {
     same = IsPermutation-refl (takes_of view takes);
-    ascending = AllPairs-from_Later (λ (a b : Take). a.offer < b.offer) (takes_of view takes) (rising view.offers (Later-from_AllPairs (λ (a b : Offer). a.number < b.number) view.offers sound.ascending));
+    ascending = AllPairs-from_Later (λ (a b : Take). a.offer < b.offer) (takes_of view takes) (rising view.offers (Later-from_AllPairs (λ (a b : ViewOffer). a.number < b.number) view.offers sound.ascending));
   }
 
   -- so the text is this sheet

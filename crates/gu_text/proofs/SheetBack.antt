@@ -10,7 +10,7 @@ use Rattle.gu_terms.specs.LimitKeys.{has_key}
 use Rattle.gu_terms.specs.Takes.{lots_of}
 use Rattle.gu_terms.specs.declared.takes.Take.{Take}
 use Rattle.gu_view.specs.View.{GroupView}
-use Rattle.gu_view.specs.declared.view.Offer.{Offer}
+use Rattle.gu_view.specs.declared.view.ViewOffer.{ViewOffer}
 use Rattle.gu_view.specs.declared.view.Room.{Room}
 use Rattle.gu_text.specs.ReadBack.{AreWords, IsLineOf, IsReadAsWritten, IsWritable, joined, said_of}
 use Rattle.gu_text.specs.SheetText.{cut_key_line, cut_key_words, cut_offer_line, cut_offer_words, end_line, head_line, head_words, offer_line, offer_words, room_line, room_words, sheet_text, take_line, take_words}
@@ -100,43 +100,43 @@ rows_of view takes cut =
 pub text_of_rows : (view : GroupView) (takes : List Take) (cut : CutLists) → sheet_text view takes cut ≡ flat_map line_of (rows_of view takes cut)
 text_of_rows view takes cut =
     let held_keys = filter (λ (r : Room). has_key cut.keys r.key) view.rooms in
-    let held_offers = filter (λ (o : Offer). has_number cut.offers o.number) view.offers in
-    seven_rows (head_words view ∷ []) (map offer_words view.offers) (map room_words view.rooms) (map (λ (o : Offer). take_words o.number (lots_of takes o.number)) view.offers)
-    (map (λ (r : Room). cut_key_words r.key) held_keys) (map (λ (o : Offer). cut_offer_words o.number) held_offers) ((codes "END" ∷ []) ∷ [])
+    let held_offers = filter (λ (o : ViewOffer). has_number cut.offers o.number) view.offers in
+    seven_rows (head_words view ∷ []) (map offer_words view.offers) (map room_words view.rooms) (map (λ (o : ViewOffer). take_words o.number (lots_of takes o.number)) view.offers)
+    (map (λ (r : Room). cut_key_words r.key) held_keys) (map (λ (o : ViewOffer). cut_offer_words o.number) held_offers) ((codes "END" ∷ []) ∷ [])
     (head_line view) (flat_map offer_line view.offers) (flat_map room_line view.rooms) (flat_map (take_line takes) view.offers)
     (flat_map (cut_key_line cut) view.rooms) (flat_map (cut_offer_line cut) view.offers) end_line
     (sym (append-nil (line_of (head_words view))))
     (rows_map offer_words view.offers)
     (rows_map room_words view.rooms)
-    (rows_map (λ (o : Offer). take_words o.number (lots_of takes o.number)) view.offers)
+    (rows_map (λ (o : ViewOffer). take_words o.number (lots_of takes o.number)) view.offers)
     (rows_filtered (λ (r : Room). has_key cut.keys r.key) (λ (r : Room). cut_key_words r.key) view.rooms)
-    (rows_filtered (λ (o : Offer). has_number cut.offers o.number) (λ (o : Offer). cut_offer_words o.number) view.offers)
+    (rows_filtered (λ (o : ViewOffer). has_number cut.offers o.number) (λ (o : ViewOffer). cut_offer_words o.number) view.offers)
     (sym (append-nil (line_of (codes "END" ∷ []))))
 
 pub rows_match : (view : GroupView) (takes : List Take) (cut : CutLists) → IsWritable view takes → Matches (rows_of view takes cut) (said_of view takes cut)
 rows_match view takes cut writable =
-    let offers = matches_map offer_words line.Offer view.offers (recursion_from_All (λ (o : Offer). IsLineOf (offer_words o) (line.Offer o)) view.offers
+    let offers = matches_map offer_words line.Offer view.offers (recursion_from_All (λ (o : ViewOffer). IsLineOf (offer_words o) (line.Offer o)) view.offers
     (λ k d k_in. offer_back (get_or view.offers k d) (writable.paths k d k_in) (writable.names k d k_in) (writable.numbers k d k_in) (writable.lots k d k_in))) in
     let rooms = matches_map room_words line.Room view.rooms (recursion_from_All (λ (r : Room). IsLineOf (room_words r) (line.Room r)) view.rooms
     (λ k d k_in. room_back (get_or view.rooms k d) (writable.keys k d k_in) (writable.rooms k d k_in))) in
-    let take_lines = matches_map (λ (o : Offer). take_words o.number (lots_of takes o.number)) (λ (o : Offer). line.Take (record { offer = o.number; lots = lots_of takes o.number })) view.offers
-    (recursion_from_All (λ (o : Offer). IsLineOf (take_words o.number (lots_of takes o.number)) (line.Take (record { offer = o.number; lots = lots_of takes o.number }))) view.offers
+    let take_lines = matches_map (λ (o : ViewOffer). take_words o.number (lots_of takes o.number)) (λ (o : ViewOffer). line.Take (record { offer = o.number; lots = lots_of takes o.number })) view.offers
+    (recursion_from_All (λ (o : ViewOffer). IsLineOf (take_words o.number (lots_of takes o.number)) (line.Take (record { offer = o.number; lots = lots_of takes o.number }))) view.offers
     (λ k d k_in. let number = (get_or view.offers k d).number in take_back (record { offer = number; lots = lots_of takes number }) (writable.numbers k d k_in) (writable.taken number))) in
     let held_keys = filter (λ (r : Room). has_key cut.keys r.key) view.rooms in
     let keys = matches_map (λ (r : Room). cut_key_words r.key) (λ (r : Room). line.CutKey r.key) held_keys
     (recursion_from_All (λ (r : Room). IsLineOf (cut_key_words r.key) (line.CutKey r.key)) held_keys
     (All-filter (λ (r : Room). has_key cut.keys r.key) (λ (r : Room). IsLineOf (cut_key_words r.key) (line.CutKey r.key)) view.rooms
     (λ k d k_in. cut_key_back (get_or view.rooms k d).key (writable.keys k d k_in)))) in
-    let held_offers = filter (λ (o : Offer). has_number cut.offers o.number) view.offers in
-    let numbers = matches_map (λ (o : Offer). cut_offer_words o.number) (λ (o : Offer). line.CutOffer o.number) held_offers
-    (recursion_from_All (λ (o : Offer). IsLineOf (cut_offer_words o.number) (line.CutOffer o.number)) held_offers
-    (All-filter (λ (o : Offer). has_number cut.offers o.number) (λ (o : Offer). IsLineOf (cut_offer_words o.number) (line.CutOffer o.number)) view.offers
+    let held_offers = filter (λ (o : ViewOffer). has_number cut.offers o.number) view.offers in
+    let numbers = matches_map (λ (o : ViewOffer). cut_offer_words o.number) (λ (o : ViewOffer). line.CutOffer o.number) held_offers
+    (recursion_from_All (λ (o : ViewOffer). IsLineOf (cut_offer_words o.number) (line.CutOffer o.number)) held_offers
+    (All-filter (λ (o : ViewOffer). has_number cut.offers o.number) (λ (o : ViewOffer). IsLineOf (cut_offer_words o.number) (line.CutOffer o.number)) view.offers
     (λ k d k_in. cut_offer_back (get_or view.offers k d).number (writable.numbers k d k_in)))) in
-    seven_match (head_words view ∷ []) (map offer_words view.offers) (map room_words view.rooms) (map (λ (o : Offer). take_words o.number (lots_of takes o.number)) view.offers)
-    (map (λ (r : Room). cut_key_words r.key) held_keys) (map (λ (o : Offer). cut_offer_words o.number) held_offers) ((codes "END" ∷ []) ∷ [])
+    seven_match (head_words view ∷ []) (map offer_words view.offers) (map room_words view.rooms) (map (λ (o : ViewOffer). take_words o.number (lots_of takes o.number)) view.offers)
+    (map (λ (r : Room). cut_key_words r.key) held_keys) (map (λ (o : ViewOffer). cut_offer_words o.number) held_offers) ((codes "END" ∷ []) ∷ [])
     (line.Sheet (record { group = view.group; version = view.version }) ∷ []) (map line.Offer view.offers) (map line.Room view.rooms)
-    (map (λ (o : Offer). line.Take (record { offer = o.number; lots = lots_of takes o.number })) view.offers)
-    (map (λ (r : Room). line.CutKey r.key) held_keys) (map (λ (o : Offer). line.CutOffer o.number) held_offers) (line.End ∷ [])
+    (map (λ (o : ViewOffer). line.Take (record { offer = o.number; lots = lots_of takes o.number })) view.offers)
+    (map (λ (r : Room). line.CutKey r.key) held_keys) (map (λ (o : ViewOffer). line.CutOffer o.number) held_offers) (line.End ∷ [])
     (head_back view writable.group writable.version, tt) offers rooms take_lines keys numbers (end_back, tt)
 
 -- the lines of a sheet that is written say its head, offers, rooms, takes and cut

@@ -13,7 +13,7 @@ use Rattle.gu_view.specs.Making.{MakesView, view_of}
 use Rattle.gu_text.specs.Lines.{is_silent}
 use Rattle.gu_text.specs.SheetLines.{says, spoken}
 use Rattle.gu_text.specs.SheetParts.{SheetParts, part_of, header_in, offer_in, room_in, take_in, key_in, number_in, parts_of}
-use Rattle.gu_text.specs.Sheets.{MayFollow, IsRightBehind, AreRight, said_in, comes_behind, is_repeated, fits_behind, IsFirstBad, IsUnended, IsSheet, AreTakes, Refuses}
+use Rattle.gu_text.specs.Sheets.{MayFollow, IsRightAfter, AreRight, said_in, comes_after, is_repeated, fits_after, IsFirstBad, IsUnended, IsSheet, AreTakes, Refuses}
 use Rattle.gu_text.specs.Reading.{with_line, with_text_line, line_fits, is_end, is_ended, AreSilent, BreaksSilence, EndsAt, IsMadeOf, MakesNone}
 use Rattle.gu_text.specs.declared.sheet.Sheet.{Sheet}
 use Rattle.gu_text.specs.declared.error.TextError.{TextError}
@@ -40,8 +40,8 @@ pub parts_of-said : (before : List (List ℕ)) (text : List ℕ) → parts_of (s
 parts_of-said before text = ap parts_of (filter_map-last says before text) ∙ with_said (said_in before) (says text)
 
 -- lines that are right, and one more
-pub right_last : (before : List (List ℕ)) (text : List ℕ) → AreRight before → IsRightBehind (said_in before) text → AreRight (before ++ text ∷ [])
-right_last before text right last = push_each (λ ls line. IsRightBehind (said_in ls) line) before text right last
+pub right_last : (before : List (List ℕ)) (text : List ℕ) → AreRight before → IsRightAfter (said_in before) text → AreRight (before ++ text ∷ [])
+right_last before text right last = push_each (λ ls line. IsRightAfter (said_in ls) line) before text right last
 
 -- silent lines, and one more
 pub silent_last : (before : List (List ℕ)) (text : List ℕ) → AreSilent before → is_silent text ≡ true → AreSilent (before ++ text ∷ [])
@@ -50,7 +50,7 @@ silent_last before text silent last = push_each (λ ls line. is_silent line ≡ 
 is_end-part : (next : SheetLine) → is_end (Some (part_of next)) ≡ false → next ≢ line.End
 is_end-part next h e = let ended : is_end (Some (part_of next)) ≡ true = rw e refl in cc
 
-speaks_right : (said : List SheetLine) (o : Option SheetLine) → option_map_or (fits_behind (parts_of said)) o false ≡ true → is_ended (option_map_or (with_line (parts_of said)) o (parts_of said)) ≡ false
+speaks_right : (said : List SheetLine) (o : Option SheetLine) → option_map_or (fits_after (parts_of said)) o false ≡ true → is_ended (option_map_or (with_line (parts_of said)) o (parts_of said)) ≡ false
     → (next : SheetLine) × (o ≡ Some next) × MayFollow said next
 speaks_right said None fits unended = cc
 speaks_right said (Some next) fits unended = (next, refl, record { fits = fits; view = λ e. absurd (is_end-part next unended e) })
@@ -60,21 +60,21 @@ silent_or true b h = inl refl
 silent_or false b h = inr (refl, h)
 
 -- a line that fits, and isn't the end, is right
-pub fits_right : (said : List SheetLine) (text : List ℕ) → line_fits (parts_of said) text ≡ true → is_ended (with_text_line (parts_of said) text) ≡ false → IsRightBehind said text
+pub fits_right : (said : List SheetLine) (text : List ℕ) → line_fits (parts_of said) text ≡ true → is_ended (with_text_line (parts_of said) text) ≡ false → IsRightAfter said text
 fits_right said text fits unended =
-    elim (silent_or (is_silent text) (option_map_or (fits_behind (parts_of said)) (says text) false) fits) [
+    elim (silent_or (is_silent text) (option_map_or (fits_after (parts_of said)) (says text) false) fits) [
       | inl silent ↦ inl silent
       | inr speaks ↦ inr (speaks_right said (says text) speaks.1 unended)
     ]
 
 -- a line that doesn't fit isn't right
-pub unfit_wrong : (said : List SheetLine) (text : List ℕ) → line_fits (parts_of said) text ≡ false → ¬ IsRightBehind said text
+pub unfit_wrong : (said : List SheetLine) (text : List ℕ) → line_fits (parts_of said) text ≡ false → ¬ IsRightAfter said text
 unfit_wrong said text unfit right =
-    let both = or_parts (is_silent text) (option_map_or (fits_behind (parts_of said)) (says text) false) unfit in
+    let both = or_parts (is_silent text) (option_map_or (fits_after (parts_of said)) (says text) false) unfit in
     elim right [
       | inl silent ↦ let e : true ≡ false = sym silent ∙ both.0 in cc
       | inr speaks ↦
-          let said_it : option_map_or (fits_behind (parts_of said)) (says text) false ≡ fits_behind (parts_of said) speaks.0 = rw (speaks.1) refl in
+          let said_it : option_map_or (fits_after (parts_of said)) (says text) false ≡ fits_after (parts_of said) speaks.0 = rw (speaks.1) refl in
           let e : true ≡ false = sym speaks.2.fits ∙ sym said_it ∙ both.1 in
           cc
     ]
@@ -91,18 +91,18 @@ end_of (line.CutKey key) h = cc
 end_of (line.CutOffer number) h = cc
 end_of line.End h = refl
 
-says_end : (parts : SheetParts) (o : Option SheetLine) → option_map_or (fits_behind parts) o false ≡ true → is_ended (option_map_or (with_line parts) o parts) ≡ true
-    → (o ≡ Some line.End) × IsTrue (fits_behind parts line.End) × (option_map_or (with_line parts) o parts ≡ with_line parts line.End)
+says_end : (parts : SheetParts) (o : Option SheetLine) → option_map_or (fits_after parts) o false ≡ true → is_ended (option_map_or (with_line parts) o parts) ≡ true
+    → (o ≡ Some line.End) × IsTrue (fits_after parts line.End) × (option_map_or (with_line parts) o parts ≡ with_line parts line.End)
 says_end parts None fits ended = cc
 says_end parts (Some next) fits ended =
     let is = end_of next ended in
-    (ap Some is, ap (fits_behind parts) (sym is) ∙ fits, ap (with_line parts) is)
+    (ap Some is, ap (fits_after parts) (sym is) ∙ fits, ap (with_line parts) is)
 
 -- a line that fits and ends what wasn't ended says the end
 pub ends_said : (parts : SheetParts) (text : List ℕ) → line_fits parts text ≡ true → is_ended parts ≡ false → is_ended (with_text_line parts text) ≡ true
-    → (says text ≡ Some line.End) × IsTrue (fits_behind parts line.End) × (with_text_line parts text ≡ with_line parts line.End)
+    → (says text ≡ Some line.End) × IsTrue (fits_after parts line.End) × (with_text_line parts text ≡ with_line parts line.End)
 ends_said parts text fits unended ended =
-    elim (silent_or (is_silent text) (option_map_or (fits_behind parts) (says text) false) fits) [
+    elim (silent_or (is_silent text) (option_map_or (fits_after parts) (says text) false) fits) [
       | inl silent ↦
           let same : with_text_line parts text ≡ parts = ap (λ (o : Option SheetLine). option_map_or (with_line parts) o parts) (silent_says text silent) in
           let e : true ≡ false = sym ended ∙ ap is_ended same ∙ unended in
@@ -110,8 +110,8 @@ ends_said parts text fits unended ended =
       | inr speaks ↦ says_end parts (says text) speaks.1 ended
     ]
 
--- a line behind right ones that isn't right is the first bad one
-pub first_bad : (all : List (List ℕ)) (n : ℕ) (text : List ℕ) → slice_get all n ≡ Some text → AreRight (take n all) → ¬ IsRightBehind (said_in (take n all)) text → IsFirstBad all (n + 1)
+-- a line after right ones that isn't right is the first bad one
+pub first_bad : (all : List (List ℕ)) (n : ℕ) (text : List ℕ) → slice_get all n ≡ Some text → AreRight (take n all) → ¬ IsRightAfter (said_in (take n all)) text → IsFirstBad all (n + 1)
 first_bad all n text at before bad = record { place = n; line = text; at = at; before = before; bad = bad; number_is = refl }
 
 -- where all is read and nothing ended it, the end is missing
@@ -125,7 +125,7 @@ missing_end all n none count right unended =
       number_is = omega (arith, count, ap length whole);
     }
 
--- silent lines behind right ones are right
+-- silent lines after right ones are right
 pub right_silent : (before more : List (List ℕ)) → AreRight before → AreSilent more → AreRight (before ++ more)
 right_silent before more right silent place other at =
     elim (at_either before more place other at) [
@@ -140,7 +140,7 @@ said_in-silent (text ∷ more) silent =
     ap (λ (o : Option SheetLine). cons_option o (said_in more)) (silent_says text (silent 0 text refl))
     ∙ said_in-silent more (λ place other at. silent (suc place) other at)
 
-nothing : (next : SheetLine) (b : Bool) → (comes_behind (Some part.End) (part_of next) && b) ≡ true → ⊥
+nothing : (next : SheetLine) (b : Bool) → (comes_after (Some part.End) (part_of next) && b) ≡ true → ⊥
 nothing (line.Sheet header) b h = cc
 nothing (line.Offer offer) b h = cc
 nothing (line.Room room) b h = cc
@@ -149,9 +149,9 @@ nothing (line.CutKey key) b h = cc
 nothing (line.CutOffer number) b h = cc
 nothing line.End b h = cc
 
-nothing_behind : (parts : SheetParts) (next : SheetLine) → parts.last ≡ Some part.End → IsTrue (fits_behind parts next) → ⊥
-nothing_behind parts next last fits =
-    nothing next (not (is_repeated parts next)) (ap (λ (o : Option Part). comes_behind o (part_of next) && not (is_repeated parts next)) (sym last) ∙ fits)
+nothing_after : (parts : SheetParts) (next : SheetLine) → parts.last ≡ Some part.End → IsTrue (fits_after parts next) → ⊥
+nothing_after parts next last fits =
+    nothing next (not (is_repeated parts next)) (ap (λ (o : Option Part). comes_after o (part_of next) && not (is_repeated parts next)) (sym last) ∙ fits)
 
 -- up to the end, where its view is one too
 module _ (text : List ℕ) (parts : SheetParts) (rest : List ℕ) (number : ℕ) (ends : EndsAt text parts rest number) where
@@ -196,9 +196,9 @@ module _ (text : List ℕ) (parts : SheetParts) (rest : List ℕ) (number : ℕ)
     said_to_end : parts_of (said_in (take number (lines text))) ≡ parts
     said_to_end = ap (λ ls. parts_of (said_in ls)) to_end ∙ parts_of-said (take ends.place (lines text)) ends.end ∙ ap (λ (o : Option SheetLine). option_map_or (with_line (parts_of (said_in (take ends.place (lines text))))) o (parts_of (said_in (take ends.place (lines text))))) ends.says_end ∙ sym ends.parts_are
 
-    -- a line that speaks behind the end is the first bad one
-    pub bad_behind : (error : TextError) → BreaksSilence (lines rest) number error → (n : ℕ) × (error ≡ BadLine n) × IsFirstBad (lines text) n
-    bad_behind error breaks =
+    -- a line that speaks after the end is the first bad one
+    pub bad_after : (error : TextError) → BreaksSilence (lines rest) number error → (n : ℕ) × (error ≡ BadLine n) × IsFirstBad (lines text) n
+    bad_after error breaks =
         let place = number + breaks.place in
         let taken : take place (lines text) ≡ take number (lines text) ++ take breaks.place (lines rest) = take-add number breaks.place (lines text) ∙ ap (λ ls. take number (lines text) ++ take breaks.place ls) ends.rest_are in
         let at : slice_get (lines text) place ≡ Some breaks.line = sym (slice_get-drop (lines text) number breaks.place) ∙ ap (λ ls. slice_get ls breaks.place) ends.rest_are ∙ breaks.at in
@@ -210,11 +210,11 @@ module _ (text : List ℕ) (parts : SheetParts) (rest : List ℕ) (number : ℕ)
           first_bad (lines text) place breaks.line at (rw taken (right_silent (take number (lines text)) (take breaks.place (lines rest)) right_end breaks.before)) (λ right.
               elim right [
                 | inl silent ↦ let e : true ≡ false = sym silent ∙ breaks.speaks in cc
-                | inr speaks ↦ nothing_behind (parts_of (said_in (take place (lines text)))) speaks.0 last speaks.2.fits
+                | inr speaks ↦ nothing_after (parts_of (said_in (take place (lines text)))) speaks.0 last speaks.2.fits
               ]),
         )
 
-    -- where all is silent behind it, the lines are a sheet's, and these are their parts
+    -- where all is silent after it, the lines are a sheet's, and these are their parts
     pub whole : AreSilent (lines rest) → AreRight (lines text) × (parts_of (said_in (lines text)) ≡ parts)
     whole silent =
         let all : lines text ≡ take number (lines text) ++ lines rest = sym (take-append-drop number (lines text)) ∙ ap (λ ls. take number (lines text) ++ ls) ends.rest_are in (
@@ -224,7 +224,7 @@ module _ (text : List ℕ) (parts : SheetParts) (rest : List ℕ) (number : ℕ)
               ∙ said_to_end,
         )
 
--- where the parts make a sheet, and all is silent behind the end, the text is the sheet
+-- where the parts make a sheet, and all is silent after the end, the text is the sheet
 pub made_sheet : (text : List ℕ) (parts : SheetParts) (rest : List ℕ) (number : ℕ) → EndsAt text parts rest number → (sheet : Sheet) → IsMadeOf parts sheet → AreSilent (lines rest) → IsSheet text sheet
 made_sheet text parts rest number ends sheet made silent =
     let all = whole text parts rest number ends made.makes silent in
@@ -243,10 +243,10 @@ pub refused_end : (text : List ℕ) (parts : SheetParts) (rest : List ℕ) (numb
 refused_end text parts rest number ends Memory none = tt
 refused_end text parts rest number ends (BadLine n) none = inl (rw (none.0) (bad_end text parts rest number ends none.1))
 
--- and so is what speaks behind the end
-pub refused_behind : (text : List ℕ) (parts : SheetParts) (rest : List ℕ) (number : ℕ) → EndsAt text parts rest number → MakesView parts.offers parts.rooms → (error : TextError) → BreaksSilence (lines rest) number error → Refuses text error
-refused_behind text parts rest number ends makes error breaks =
-    let bad = bad_behind text parts rest number ends makes error breaks in
+-- and so is what speaks after the end
+pub refused_after : (text : List ℕ) (parts : SheetParts) (rest : List ℕ) (number : ℕ) → EndsAt text parts rest number → MakesView parts.offers parts.rooms → (error : TextError) → BreaksSilence (lines rest) number error → Refuses text error
+refused_after text parts rest number ends makes error breaks =
+    let bad = bad_after text parts rest number ends makes error breaks in
     rw (bad.1) (inl bad.2)
 
 -- an error that is passed on

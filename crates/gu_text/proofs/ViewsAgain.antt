@@ -16,19 +16,19 @@ use Rattle.gu_view.proofs.MakingLemmas.{agreement_eq-same, bad_of_few, path_eq-r
 use Rattle.gu_view.proofs.RoomLemmas.{apart-firsts}
 use Rattle.gu_view.specs.Making.{AreRooms, MakesView, has_other_path, in_order, is_bad, is_own, lots_given, same_agreement, view_of}
 use Rattle.gu_view.specs.View.{GroupView, IsView, keys_of}
-use Rattle.gu_view.specs.declared.view.Offer.{Offer}
+use Rattle.gu_view.specs.declared.view.ViewOffer.{ViewOffer}
 use Rattle.gu_view.specs.declared.view.Room.{Room}
 
 -- ---- offers
 
 -- an offer with lots, of a number above the one before it, isn't bad
-not_bad : (before : ℕ) (o : Offer) → before < o.number → IsLots o.lots → is_bad before o ≡ false
+not_bad : (before : ℕ) (o : ViewOffer) → before < o.number → IsLots o.lots → is_bad before o ≡ false
 not_bad before o above lots =
     rw (lt-leb o.number before above, ne_eqb o.lots 0 (λ none. absurd (omega (arith, none, lots.some))), le-ltb 1000000 o.lots lots.most) refl
 
 -- none is bad
-none_bad : (before : ℕ) (offers : List Offer) → AllByRecursion (λ (o : Offer). before < o.number) offers → Later (λ (a b : Offer). a.number < b.number) offers → AllByRecursion (λ (o : Offer). IsLots o.lots) offers
-    → find (λ (p : ℕ × Offer). is_bad p.0 p.1) (zip (before ∷ map (λ (o : Offer). o.number) offers) offers) ≡ None
+none_bad : (before : ℕ) (offers : List ViewOffer) → AllByRecursion (λ (o : ViewOffer). before < o.number) offers → Later (λ (a b : ViewOffer). a.number < b.number) offers → AllByRecursion (λ (o : ViewOffer). IsLots o.lots) offers
+    → find (λ (p : ℕ × ViewOffer). is_bad p.0 p.1) (zip (before ∷ map (λ (o : ViewOffer). o.number) offers) offers) ≡ None
 none_bad before [] above ascending lots = refl
 none_bad before (o ∷ offers) above ascending lots = rw (not_bad before o above.0 lots.0) (none_bad o.number offers ascending.0 ascending.1 lots.1)
 
@@ -41,17 +41,17 @@ each_other {X} R (x ∷ xs) self turned later = (
 )
 
 -- no path is another than its agreement's
-even_path : (offers : List Offer) (o : Offer) → slice_get o.path 1 ≡ Some (Agr o.agreement) → AllByRecursion (λ (older : Offer). o.agreement ≡ older.agreement → o.path ≡ older.path) offers
+even_path : (offers : List ViewOffer) (o : ViewOffer) → slice_get o.path 1 ≡ Some (Agr o.agreement) → AllByRecursion (λ (older : ViewOffer). o.agreement ≡ older.agreement → o.path ≡ older.path) offers
     → (not (is_own o) || has_other_path offers o) ≡ false
 even_path offers o own one =
     let mine : is_own o ≡ true = ap (λ (k : Option LimitKey). option_map_or (key_eq (Agr o.agreement)) k false) own ∙ key_eq-refl (Agr o.agreement) in
     let none : has_other_path offers o ≡ false =
     none_any (λ older. nat_lt older.number o.number && (same_agreement older o && not (pointwise key_eq older.path o.path))) offers
-    (along (λ (older : Offer). o.agreement ≡ older.agreement → o.path ≡ older.path) (λ (older : Offer). (nat_lt older.number o.number && (same_agreement older o && not (pointwise key_eq older.path o.path))) ≡ false) offers
+    (along (λ (older : ViewOffer). o.agreement ≡ older.agreement → o.path ≡ older.path) (λ (older : ViewOffer). (nat_lt older.number o.number && (same_agreement older o && not (pointwise key_eq older.path o.path))) ≡ false) offers
     (λ older h. by older (nat_lt older.number o.number) (same_agreement older o) refl h) one) in
     rw (mine, none) refl
   where
-    by : (older : Offer) (b same : Bool) → same_agreement older o ≡ same → (o.agreement ≡ older.agreement → o.path ≡ older.path) → (b && (same && not (pointwise key_eq older.path o.path))) ≡ false
+    by : (older : ViewOffer) (b same : Bool) → same_agreement older o ≡ same → (o.agreement ≡ older.agreement → o.path ≡ older.path) → (b && (same && not (pointwise key_eq older.path o.path))) ≡ false
     by older false same e h = refl
     by older true false e h = refl
     by older true true e h =
@@ -117,7 +117,7 @@ ordered (r ∷ rooms) later =
 module _ (view : GroupView) (sound : IsView view) where
   -- the rooms of a view have keys that differ
   pub rooms_apart : Later (λ (a b : Room). key_eq a.key b.key ≡ false) view.rooms
-  rooms_apart = apart_rooms view.rooms (subst (Later (λ a b. key_eq a b ≡ false)) (sym sound.rooms) (apart-firsts (flat_map (λ (o : Offer). o.path) view.offers)))
+  rooms_apart = apart_rooms view.rooms (subst (Later (λ a b. key_eq a b ≡ false)) (sym sound.rooms) (apart-firsts (flat_map (λ (o : ViewOffer). o.path) view.offers)))
 
   -- which are those on the paths
   are_rooms : AreRooms (keys_of view.offers) view.rooms
@@ -138,17 +138,17 @@ module _ (view : GroupView) (sound : IsView view) where
   makes_view numbers = record {
     numbers =
         sym (bad_of_few view.offers sound.few)
-        ∙ ap (option_map (λ (p : ℕ × Offer). p.1.number))
-        (none_bad 0 view.offers (along (λ (o : Offer). IsOfferNo o.number) (λ (o : Offer). 0 < o.number) view.offers (λ o h. omega (arith, h.some)) (recursion_from_All (λ (o : Offer). IsOfferNo o.number) view.offers numbers))
-        (Later-from_AllPairs (λ (a b : Offer). a.number < b.number) view.offers sound.ascending) (recursion_from_All (λ (o : Offer). IsLots o.lots) view.offers sound.lots));
+        ∙ ap (option_map (λ (p : ℕ × ViewOffer). p.1.number))
+        (none_bad 0 view.offers (along (λ (o : ViewOffer). IsOfferNo o.number) (λ (o : ViewOffer). 0 < o.number) view.offers (λ o h. omega (arith, h.some)) (recursion_from_All (λ (o : ViewOffer). IsOfferNo o.number) view.offers numbers))
+        (Later-from_AllPairs (λ (a b : ViewOffer). a.number < b.number) view.offers sound.ascending) (recursion_from_All (λ (o : ViewOffer). IsLots o.lots) view.offers sound.lots));
     paths =
-        ap (option_map (λ (o : Offer). o.number))
+        ap (option_map (λ (o : ViewOffer). o.number))
         (none_found (λ o. not (is_own o) || has_other_path view.offers o) view.offers
-        (along2 (λ (o : Offer). slice_get o.path 1 ≡ Some (Agr o.agreement)) (λ (o : Offer). AllByRecursion (λ (older : Offer). o.agreement ≡ older.agreement → o.path ≡ older.path) view.offers)
-        (λ (o : Offer). (not (is_own o) || has_other_path view.offers o) ≡ false) view.offers (λ o own one. even_path view.offers o own one)
-        (recursion_from_All (λ (o : Offer). slice_get o.path 1 ≡ Some (Agr o.agreement)) view.offers sound.own)
-        (each_other (λ (a b : Offer). a.agreement ≡ b.agreement → a.path ≡ b.path) view.offers (λ o same. refl) (λ a b h same. sym (h (sym same)))
-        (Later-from_AllPairs (λ (a b : Offer). a.agreement ≡ b.agreement → a.path ≡ b.path) view.offers sound.one_path))));
+        (along2 (λ (o : ViewOffer). slice_get o.path 1 ≡ Some (Agr o.agreement)) (λ (o : ViewOffer). AllByRecursion (λ (older : ViewOffer). o.agreement ≡ older.agreement → o.path ≡ older.path) view.offers)
+        (λ (o : ViewOffer). (not (is_own o) || has_other_path view.offers o) ≡ false) view.offers (λ o own one. even_path view.offers o own one)
+        (recursion_from_All (λ (o : ViewOffer). slice_get o.path 1 ≡ Some (Agr o.agreement)) view.offers sound.own)
+        (each_other (λ (a b : ViewOffer). a.agreement ≡ b.agreement → a.path ≡ b.path) view.offers (λ o same. refl) (λ a b h same. sym (h (sym same)))
+        (Later-from_AllPairs (λ (a b : ViewOffer). a.agreement ≡ b.agreement → a.path ≡ b.path) view.offers sound.one_path))));
     exact = are_rooms;
   }
 

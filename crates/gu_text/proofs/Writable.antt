@@ -16,7 +16,7 @@ use Rattle.gu_terms.specs.declared.limit_key.LimitKey.{LimitKey}
 use Rattle.gu_terms.specs.declared.takes.Take.{Take}
 use Rattle.gu_view.specs.Check.{IsRight, has_offer}
 use Rattle.gu_view.specs.View.{GroupView, IsNested, IsView, firsts}
-use Rattle.gu_view.specs.declared.view.Offer.{Offer}
+use Rattle.gu_view.specs.declared.view.ViewOffer.{ViewOffer}
 use Rattle.gu_view.specs.declared.view.Room.{Room}
 use Rattle.gu_text.specs.ReadBack.{IsWritable}
 use Rattle.gu_text.specs.WrittenSheets.{IsNamed}
@@ -37,9 +37,9 @@ joined [] ys h k = k
 joined (x ∷ xs) ys h k = (h.0, joined xs ys h.1 k)
 
 -- of all paths
-on_paths : (offers : List Offer) → AllByRecursion (λ (o : Offer). list_all (λ k. is_name (name_of_key k)) o.path ≡ true) offers → AllByRecursion HasName (flat_map (λ (o : Offer). o.path) offers)
+on_paths : (offers : List ViewOffer) → AllByRecursion (λ (o : ViewOffer). list_all (λ k. is_name (name_of_key k)) o.path ≡ true) offers → AllByRecursion HasName (flat_map (λ (o : ViewOffer). o.path) offers)
 on_paths [] h = tt
-on_paths (o ∷ offers) h = joined o.path (flat_map (λ (p : Offer). p.path) offers) (all_named o.path h.0) (on_paths offers h.1)
+on_paths (o ∷ offers) h = joined o.path (flat_map (λ (p : ViewOffer). p.path) offers) (all_named o.path h.0) (on_paths offers h.1)
 
 -- and of those that are mentioned first
 first_named : (keys : List LimitKey) → AllByRecursion HasName keys → AllByRecursion HasName (firsts keys)
@@ -54,7 +54,7 @@ of_rooms (r ∷ rooms) h = (h.0, of_rooms rooms h.1)
 -- ---- lots of an offer
 
 -- no more is taken of an offer of a view than a million lots
-taken_less : (takes : List Take) (offers : List Offer) (n : ℕ) → AllByRecursion (λ (o : Offer). lots_of takes o.number ≤ 1000000) offers → has_offer offers n ≡ true → lots_of takes n ≤ 1000000
+taken_less : (takes : List Take) (offers : List ViewOffer) (n : ℕ) → AllByRecursion (λ (o : ViewOffer). lots_of takes o.number ≤ 1000000) offers → has_offer offers n ≡ true → lots_of takes n ≤ 1000000
 taken_less takes [] n within there = cc
 taken_less takes (o ∷ offers) n within there =
     elim (cases_Bool (o.number == n)) [
@@ -69,14 +69,14 @@ right_writable view takes cut lots sound nested named version right = record {
   group = named.group;
   version = version;
   numbers = named.numbers;
-  lots = All-from_recursion (λ (o : Offer). o.lots < 10 ^ 12) view.offers (along (λ (o : Offer). IsLots o.lots) (λ (o : Offer). o.lots < 10 ^ 12) view.offers (λ o h. omega (arith, h.most)) each_lots);
+  lots = All-from_recursion (λ (o : ViewOffer). o.lots < 10 ^ 12) view.offers (along (λ (o : ViewOffer). IsLots o.lots) (λ (o : ViewOffer). o.lots < 10 ^ 12) view.offers (λ o h. omega (arith, h.most)) each_lots);
   paths = nested.paths;
   names = named.names;
   keys = All-from_recursion (λ (r : Room). IsTrue (is_name (name_of_key r.key))) view.rooms
       (of_rooms view.rooms
       (subst (AllByRecursion HasName) (sym sound.rooms)
-      (first_named (flat_map (λ (o : Offer). o.path) view.offers)
-      (on_paths view.offers (recursion_from_All (λ (o : Offer). IsTrue (list_all (λ k. is_name (name_of_key k)) o.path)) view.offers named.names)))));
+      (first_named (flat_map (λ (o : ViewOffer). o.path) view.offers)
+      (on_paths view.offers (recursion_from_All (λ (o : ViewOffer). IsTrue (list_all (λ k. is_name (name_of_key k)) o.path)) view.offers named.names)))));
   rooms = All-from_recursion (λ (r : Room). r.lots < 10 ^ 12) view.rooms
       (along (λ (r : Room). r.lots ≤ 1000000000) (λ (r : Room). r.lots < 10 ^ 12) view.rooms (λ r h. omega (arith, h)) (recursion_from_All (λ (r : Room). r.lots ≤ 1000000000) view.rooms sound.limits));
   taken = λ n. elim (cases_Bool (has_offer view.offers n)) [
@@ -85,10 +85,10 @@ right_writable view takes cut lots sound nested named version right = record {
   ];
 }
   where
-    each_lots : AllByRecursion (λ (o : Offer). IsLots o.lots) view.offers
-    each_lots = recursion_from_All (λ (o : Offer). IsLots o.lots) view.offers sound.lots
+    each_lots : AllByRecursion (λ (o : ViewOffer). IsLots o.lots) view.offers
+    each_lots = recursion_from_All (λ (o : ViewOffer). IsLots o.lots) view.offers sound.lots
 
-    within : AllByRecursion (λ (o : Offer). lots_of takes o.number ≤ 1000000) view.offers
+    within : AllByRecursion (λ (o : ViewOffer). lots_of takes o.number ≤ 1000000) view.offers
     within =
-        along2 (λ (o : Offer). lots_of takes o.number ≤ o.lots) (λ (o : Offer). IsLots o.lots) (λ (o : Offer). lots_of takes o.number ≤ 1000000) view.offers (λ o a b. omega (arith, a, b.most))
-        (recursion_from_All (λ (o : Offer). lots_of takes o.number ≤ o.lots) view.offers right.admissible.offers) each_lots
+        along2 (λ (o : ViewOffer). lots_of takes o.number ≤ o.lots) (λ (o : ViewOffer). IsLots o.lots) (λ (o : ViewOffer). lots_of takes o.number ≤ 1000000) view.offers (λ o a b. omega (arith, a, b.most))
+        (recursion_from_All (λ (o : ViewOffer). lots_of takes o.number ≤ o.lots) view.offers right.admissible.offers) each_lots

@@ -15,7 +15,7 @@ use Rattle.gu_terms.specs.declared.takes.Take.{Take}
 use Rattle.gu_view.specs.Check.{IsRight, has_offer, has_room}
 use Rattle.gu_view.specs.Takes.{IsAdmissible, IsOldestFirst, total}
 use Rattle.gu_view.specs.View.{GroupView}
-use Rattle.gu_view.specs.declared.view.Offer.{Offer}
+use Rattle.gu_view.specs.declared.view.ViewOffer.{ViewOffer}
 use Rattle.gu_view.specs.declared.view.Room.{Room}
 use Rattle.gu_text.specs.WrittenSheets.{cut_of, takes_of}
 
@@ -27,7 +27,7 @@ second_follows false c h = refl
 -- ---- takes
 
 -- of an offer of the view, as many lots as were taken; of others none
-lots_told : (takes : List Take) (offers : List Offer) (n : ℕ) → lots_of (map (λ (o : Offer). record { offer = o.number; lots = lots_of takes o.number }) offers) n ≡ (if has_offer offers n then lots_of takes n else 0)
+lots_told : (takes : List Take) (offers : List ViewOffer) (n : ℕ) → lots_of (map (λ (o : ViewOffer). record { offer = o.number; lots = lots_of takes o.number }) offers) n ≡ (if has_offer offers n then lots_of takes n else 0)
 lots_told takes [] n = refl
 lots_told takes (o ∷ offers) n =
     elim (cases_Bool (o.number == n)) [
@@ -36,7 +36,7 @@ lots_told takes (o ∷ offers) n =
     ]
 
 -- of an offer that the view lacks, nothing is taken
-pub none_taken : (takes : List Take) (offers : List Offer) (n : ℕ) → AllByRecursion (λ (t : Take). has_offer offers t.offer ≡ true) takes → has_offer offers n ≡ false → lots_of takes n ≡ 0
+pub none_taken : (takes : List Take) (offers : List ViewOffer) (n : ℕ) → AllByRecursion (λ (t : Take). has_offer offers t.offer ≡ true) takes → has_offer offers n ≡ false → lots_of takes n ≡ 0
 none_taken [] offers n known none = refl
 none_taken (t ∷ takes) offers n known none =
     elim (cases_Bool (t.offer == n)) [
@@ -97,7 +97,7 @@ same_key view cut k known =
     ∙ second_follows (has_key cut.keys k) (has_room view.rooms k) (key_known cut.keys view.rooms k (recursion_from_All (λ (j : LimitKey). IsTrue (has_room view.rooms j)) cut.keys known))
 
 -- a number is told where the cut has it and the view has its offer
-number_told : (numbers : List ℕ) (offers : List Offer) (n : ℕ) → has_number (map (λ (o : Offer). o.number) (filter (λ (o : Offer). has_number numbers o.number) offers)) n ≡ (has_number numbers n && has_offer offers n)
+number_told : (numbers : List ℕ) (offers : List ViewOffer) (n : ℕ) → has_number (map (λ (o : ViewOffer). o.number) (filter (λ (o : ViewOffer). has_number numbers o.number) offers)) n ≡ (has_number numbers n && has_offer offers n)
 number_told numbers [] n = by (has_number numbers n)
   where
     by : (b : Bool) → false ≡ (b && false)
@@ -120,7 +120,7 @@ number_told numbers (o ∷ offers) n =
     ]
 
 -- a number of the cut has its offer
-number_known : (numbers : List ℕ) (offers : List Offer) (n : ℕ) → AllByRecursion (λ m. has_offer offers m ≡ true) numbers → has_number numbers n ≡ true → has_offer offers n ≡ true
+number_known : (numbers : List ℕ) (offers : List ViewOffer) (n : ℕ) → AllByRecursion (λ m. has_offer offers m ≡ true) numbers → has_number numbers n ≡ true → has_offer offers n ≡ true
 number_known [] offers n known has = cc
 number_known (m ∷ numbers) offers n known has =
     elim (cases_Bool (m == n)) [
@@ -141,11 +141,11 @@ either true c h = refl
 either false c h = h
 
 -- each offer is among the view's, and each room
-own_offers : (offers : List Offer) → AllByRecursion (λ (o : Offer). has_offer offers o.number ≡ true) offers
+own_offers : (offers : List ViewOffer) → AllByRecursion (λ (o : ViewOffer). has_offer offers o.number ≡ true) offers
 own_offers [] = tt
 own_offers (o ∷ offers) = (
   rw ((Decides-eqb o.number o.number).1 refl) refl,
-  along (λ (p : Offer). has_offer offers p.number ≡ true) (λ (p : Offer). has_offer (o ∷ offers) p.number ≡ true) offers (λ p h. either (o.number == p.number) (has_offer offers p.number) h) (own_offers offers),
+  along (λ (p : ViewOffer). has_offer offers p.number ≡ true) (λ (p : ViewOffer). has_offer (o ∷ offers) p.number ≡ true) offers (λ p h. either (o.number == p.number) (has_offer offers p.number) h) (own_offers offers),
 )
 
 own_rooms : (rooms : List Room) → AllByRecursion (λ (r : Room). has_room rooms r.key ≡ true) rooms
@@ -172,20 +172,20 @@ passing P p (x ∷ xs) h =
 pub right_again : (view : GroupView) (takes : List Take) (cut : CutLists) (lots : ℕ) → IsRight view takes cut lots → IsRight view (takes_of view takes) (cut_of view cut) lots
 right_again view takes cut lots right = record {
   takes_known = All-from_recursion (λ (t : Take). IsTrue (has_offer view.offers t.offer)) (takes_of view takes)
-      (mapped (λ (t : Take). has_offer view.offers t.offer ≡ true) (λ (o : Offer). record { offer = o.number; lots = lots_of takes o.number }) view.offers (own_offers view.offers));
+      (mapped (λ (t : Take). has_offer view.offers t.offer ≡ true) (λ (o : ViewOffer). record { offer = o.number; lots = lots_of takes o.number }) view.offers (own_offers view.offers));
   keys_known = All-from_recursion (λ (k : LimitKey). IsTrue (has_room view.rooms k)) (cut_of view cut).keys
       (mapped (λ (k : LimitKey). has_room view.rooms k ≡ true) (λ (r : Room). r.key) (filter (λ (r : Room). has_key cut.keys r.key) view.rooms)
       (passing (λ (r : Room). has_room view.rooms r.key ≡ true) (λ (r : Room). has_key cut.keys r.key) view.rooms (own_rooms view.rooms)));
   offers_known = All-from_recursion (λ (n : ℕ). IsTrue (has_offer view.offers n)) (cut_of view cut).offers
-      (mapped (λ (n : ℕ). has_offer view.offers n ≡ true) (λ (o : Offer). o.number) (filter (λ (o : Offer). has_number cut.offers o.number) view.offers)
-      (passing (λ (o : Offer). has_offer view.offers o.number ≡ true) (λ (o : Offer). has_number cut.offers o.number) view.offers (own_offers view.offers)));
+      (mapped (λ (n : ℕ). has_offer view.offers n ≡ true) (λ (o : ViewOffer). o.number) (filter (λ (o : ViewOffer). has_number cut.offers o.number) view.offers)
+      (passing (λ (o : ViewOffer). has_offer view.offers o.number ≡ true) (λ (o : ViewOffer). has_number cut.offers o.number) view.offers (own_offers view.offers)));
   admissible = subst (IsAdmissible view) same right.admissible;
   oldest_first = subst (IsOldestFirst view) same right.oldest_first;
-  covers = subst (λ (p : (LimitKey → Bool) × (ℕ → Bool)). All (λ (o : Offer). IsTrue (p.1 o.number || list_any p.0 o.path)) view.offers) members right.covers;
+  covers = subst (λ (p : (LimitKey → Bool) × (ℕ → Bool)). All (λ (o : ViewOffer). IsTrue (p.1 o.number || list_any p.0 o.path)) view.offers) members right.covers;
   taken = ap (total view.offers) (sym same) ∙ right.taken;
   room =
       ap
-      (λ (p : (LimitKey → Bool) × (ℕ → Bool)). sum_by (λ (r : Room). if p.0 r.key then r.lots else 0) view.rooms + sum_by (λ (o : Offer). if p.1 o.number then o.lots else 0) view.offers)
+      (λ (p : (LimitKey → Bool) × (ℕ → Bool)). sum_by (λ (r : Room). if p.0 r.key then r.lots else 0) view.rooms + sum_by (λ (o : ViewOffer). if p.1 o.number then o.lots else 0) view.offers)
       (sym members)
       ∙ right.room;
 }

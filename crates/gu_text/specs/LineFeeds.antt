@@ -8,7 +8,7 @@ use Rattle.gu_text.specs.Lines.{longest_line}
 abbrev pub HasNoLineFeed : List ℕ → Type 0
 HasNoLineFeed bytes = All (λ b. b ≢ 10) bytes
 
--- the first LF stands behind this front, and that is what follows it
+-- the first LF comes after this front, and that is what follows it
 pub record IsParted (bytes front behind : List ℕ) : Type 0 where
   pub parts : bytes ≡ front ++ 10 ∷ behind
   pub first : HasNoLineFeed front
@@ -23,12 +23,12 @@ ended_parts (part ∷ next ∷ others) = strip_carriage_return part ∷ ended_pa
 abbrev pub ended_lines : List ℕ → List (List ℕ)
 ended_lines text = ended_parts (slice_split (λ b. b == 10) text)
 
--- these lines of a text are ended, and a rest is left: whatever comes behind the text, these lines stand first, and the others are those of
--- the rest with what comes behind it
+-- these lines of a text are ended, and a rest is left: whatever comes after the text, these lines stand first, and the others are those of
+-- the rest with what comes after it
 pub record LeavesOpen (text : List ℕ) (ended : List (List ℕ)) (rest : List ℕ) : Type 0 where
   pub lines_are : (more : List ℕ) → lines (text ++ more) ≡ ended ++ lines (rest ++ more)
   pub ended_are : (more : List ℕ) → ended_lines (text ++ more) ≡ ended ++ ended_lines (rest ++ more)
 
--- whatever comes behind these bytes, their first line has more bytes than a line may have
+-- whatever comes after these bytes, their first line has more bytes than a line may have
 abbrev pub IsTooLong : List ℕ → Type 0
 IsTooLong bytes = (more : List ℕ) → (line : List ℕ) × (others : List (List ℕ)) × (lines (bytes ++ more) ≡ line ∷ others) × (longest_line < length line)

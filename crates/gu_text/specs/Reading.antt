@@ -3,12 +3,12 @@ use Rattle.std.specs.Prelude.{◌≡◌, ℕ, ◌+◌, ◌≤◌, ◌||◌, Bool
 use Rattle.std.specs.Option.{option_map_or, option_or, option_to_list}
 use Rattle.std.specs.Str.Lines.{lines}
 use Rattle.gu_view.specs.Making.{MakesView, view_of}
-use Rattle.gu_view.specs.declared.view.Offer.{Offer}
+use Rattle.gu_view.specs.declared.view.ViewOffer.{ViewOffer}
 use Rattle.gu_view.specs.declared.view.Room.{Room}
 use Rattle.gu_text.specs.Lines.{is_silent}
 use Rattle.gu_text.specs.SheetLines.{says}
 use Rattle.gu_text.specs.SheetParts.{SheetParts, part_of, header_in, offer_in, room_in, take_in, key_in, number_in, parts_of}
-use Rattle.gu_text.specs.Sheets.{fits_behind, said_in, AreRight, AreTakes}
+use Rattle.gu_text.specs.Sheets.{fits_after, said_in, AreRight, AreTakes}
 use Rattle.gu_text.specs.declared.sheet.Sheet.{Sheet}
 use Rattle.gu_text.specs.declared.error.TextError.{TextError}
 use Rattle.gu_text.specs.declared.error.TextError.TheVariants.{Memory, BadLine}
@@ -41,15 +41,15 @@ is_end _ = false
 abbrev pub is_ended : SheetParts → Bool
 is_ended parts = is_end parts.last
 
--- a line is silent, or fits behind these parts
+-- a line is silent, or fits after these parts
 abbrev pub line_fits : SheetParts → List ℕ → Bool
-line_fits parts line = is_silent line || option_map_or (fits_behind parts) (says line) false
+line_fits parts line = is_silent line || option_map_or (fits_after parts) (says line) false
 
 -- the parts with what a line says
 abbrev pub with_text_line : SheetParts → List ℕ → SheetParts
 with_text_line parts line = option_map_or (with_line parts) (says line) parts
 
--- the line with this number says the end, and may apart from its view; those before are right; these are their parts, and the text behind
+-- the line with this number says the end, and may apart from its view; those before are right; these are their parts, and the text after
 pub record EndsAt (text : List ℕ) (parts : SheetParts) (rest : List ℕ) (number : ℕ) : Type 0 where
   pub place : ℕ
   pub end : List ℕ
@@ -57,7 +57,7 @@ pub record EndsAt (text : List ℕ) (parts : SheetParts) (rest : List ℕ) (numb
   pub number_is : number ≡ place + 1
   pub before : AreRight (take place (lines text))
   pub says_end : says end ≡ Some line.End
-  pub fits : IsTrue (fits_behind (parts_of (said_in (take place (lines text)))) line.End)
+  pub fits : IsTrue (fits_after (parts_of (said_in (take place (lines text)))) line.End)
   pub parts_are : parts ≡ with_line (parts_of (said_in (take place (lines text)))) line.End
   pub rest_are : drop number (lines text) ≡ lines rest
   pub short : number + length rest ≤ length text
@@ -66,7 +66,7 @@ pub record EndsAt (text : List ℕ) (parts : SheetParts) (rest : List ℕ) (numb
 abbrev pub AreSilent : List (List ℕ) → Type 0
 AreSilent lines = (place : ℕ) (line : List ℕ) → slice_get lines place ≡ Some line → is_silent line ≡ true
 
--- the first line that isn't silent stands so far behind a line with this number
+-- the first line that isn't silent stands so far after a line with this number
 pub record BreaksSilence (lines : List (List ℕ)) (from : ℕ) (error : TextError) : Type 0 where
   pub place : ℕ
   pub line : List ℕ
@@ -84,7 +84,7 @@ pub record IsMadeOf (parts : SheetParts) (sheet : Sheet) : Type 0 where
   pub cut : sheet.cut ≡ parts.cut
 
 -- why offers and rooms make no view at the end, which has this number: for want of memory, or because they can't
-abbrev pub MakesNoView : List Offer → List Room → ℕ → TextError → Type 0
+abbrev pub MakesNoView : List ViewOffer → List Room → ℕ → TextError → Type 0
 MakesNoView offers rooms number Memory = Unit {0}
 MakesNoView offers rooms number (BadLine n) = (n ≡ number) × (¬ MakesView offers rooms)
 

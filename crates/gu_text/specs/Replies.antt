@@ -36,6 +36,6 @@ abbrev pub reply_words : Reply → List (List ℕ)
 reply_words (Accepted done) = codes "OK" ∷ done_words done
 reply_words (Denied refusal) = codes "NO" ∷ refusal_words refusal
 
--- the reply to the command of an entry, behind the entry's number
+-- the reply to the command of an entry, after the entry's number
 abbrev pub reply_text : ℕ → Reply → List ℕ
 reply_text number reply = line_of (decimal number ∷ reply_words reply)

@@ -102,7 +102,7 @@ WriteNone form.Position words = (account : AccountId) (symbol : Symbol) → ¬ W
 WriteNone form.Interest words = (symbol : Symbol) → ¬ Writes words (line.Interest symbol)
 WriteNone form.Limits words = (group : Group) → ¬ Writes words (line.Limits group)
 
--- what is read of the words behind the word of a form, if they write anything
+-- what is read of the words after the word of a form, if they write anything
 abbrev pub Reads : Form → List (List ℕ) → Option Line → Type 0
 Reads form words read = MatchOption read (WriteNone form (form_word form ∷ words)) (Writes (form_word form ∷ words))
 
@@ -116,14 +116,14 @@ ReadsLines words read =
     MatchOption read ((lines : List GiveUpLine) → AreLines lines → ¬ WriteLines words lines)
     (λ lines. AreLines lines × WriteLines words lines)
 
--- words begin with the firm of a give-up, its ids of the give-up and of the report, and these stand behind
+-- words begin with the firm of a give-up, its ids of the give-up and of the report, and these come after
 pub record IsGiver (words : List (List ℕ)) (firm : FirmId) (id report : Id) (pairs : List (List ℕ)) : Type 0 where
   pub words_are : words ≡ firm.name ∷ id ∷ report ∷ pairs
   pub name : IsTrue (is_name firm.name)
   pub own : IsId id
   pub reported : IsId report
 
--- words begin with an account and its lots, and these stand behind
+-- words begin with an account and its lots, and these come after
 pub record WritesLine (words : List (List ℕ)) (first : GiveUpLine) (behind : List (List ℕ)) : Type 0 where
   pub lots_text : List ℕ
   pub words_are : words ≡ first.account.name ∷ lots_text ∷ behind
@@ -134,7 +134,7 @@ pub record WritesLine (words : List (List ℕ)) (first : GiveUpLine) (behind : L
 abbrev pub WritesNoLine : List (List ℕ) → Type 0
 WritesNoLine words = (first : GiveUpLine) (others : List GiveUpLine) → ¬ WriteLines words (first ∷ others)
 
--- a line isn't silent, has at most 1,024 bytes and no blank at its ends, and its words are the word of a form and these behind it
+-- a line isn't silent, has at most 1,024 bytes and no blank at its ends, and its words are the word of a form and these after it
 pub record IsBegun (text : List ℕ) (form : Form) (words : List (List ℕ)) : Type 0 where
   pub speaks : is_silent text ≡ false
   pub short : length text ≤ longest_line

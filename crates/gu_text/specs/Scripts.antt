@@ -35,7 +35,7 @@ WriteLines (account ∷ lots ∷ words) (first ∷ others) =
     (account ≡ first.account.name) × IsTrue (is_name account) × MeansLots lots first.lots × WriteLines words others
 WriteLines words lines = ⊥
 
--- words write a command: its own word, and behind it names, ids and numbers; a report is of the open day
+-- words write a command: its own word, and after it names, ids and numbers; a report is of the open day
 abbrev pub WritesCommand : List (List ℕ) → Command → Type 0
 WritesCommand words (OpenDay day) =
     (text : List ℕ) × (words ≡ codes "DAY" ∷ text ∷ []) × WritesDay text day.year day.month day.day

@@ -97,7 +97,7 @@ abbrev pub end_said : List (List ℕ) → Option SheetLine
 end_said [] = Some line.End
 end_said _ = None
 
--- what the first word of a line and the words behind it say
+-- what the first word of a line and the words after it say
 abbrev pub words_say : List ℕ → List (List ℕ) → Option SheetLine
 words_say kind words =
     if bytes_eq kind (codes "SHEET") then sheet_said words

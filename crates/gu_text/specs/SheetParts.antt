@@ -4,7 +4,7 @@ use Rattle.std.specs.List.{filter_map, last_or}
 use Rattle.gu_terms.specs.Cuts.{CutLists}
 use Rattle.gu_terms.specs.declared.limit_key.LimitKey.{LimitKey}
 use Rattle.gu_terms.specs.declared.takes.Take.{Take}
-use Rattle.gu_view.specs.declared.view.Offer.{Offer}
+use Rattle.gu_view.specs.declared.view.ViewOffer.{ViewOffer}
 use Rattle.gu_view.specs.declared.view.Room.{Room}
 use Rattle.gu_text.specs.declared.sheet_line.Header.{Header}
 use Rattle.gu_text.specs.declared.sheet_line.Part.{Part}
@@ -35,7 +35,7 @@ rank_of part.End = 5
 pub record SheetParts : Type 0 where
   pub last : Option Part
   pub header : Option Header
-  pub offers : List Offer
+  pub offers : List ViewOffer
   pub rooms : List Room
   pub takes : List Take
   pub cut : CutLists
@@ -46,7 +46,7 @@ header_in (line.Sheet header) = Some header
 header_in _ = None
 
 -- the offer that a line gives
-abbrev pub offer_in : SheetLine → Option Offer
+abbrev pub offer_in : SheetLine → Option ViewOffer
 offer_in (line.Offer offer) = Some offer
 offer_in _ = None
 

@@ -8,7 +8,7 @@ use Rattle.gu_terms.specs.Takes.{lots_of}
 use Rattle.gu_terms.specs.declared.limit_key.LimitKey.{LimitKey}
 use Rattle.gu_terms.specs.declared.takes.Take.{Take}
 use Rattle.gu_view.specs.View.{GroupView}
-use Rattle.gu_view.specs.declared.view.Offer.{Offer}
+use Rattle.gu_view.specs.declared.view.ViewOffer.{ViewOffer}
 use Rattle.gu_view.specs.declared.view.Room.{Room}
 use Rattle.gu_text.specs.Replies.{key_words}
 use Rattle.gu_text.specs.Texts.{line_of}
@@ -23,7 +23,7 @@ path_words (executing ∷ agreement ∷ others) = name_of_key executing ∷ map 
 path_words _ = []
 
 -- `OFFER number lots agreement`, and the path
-abbrev pub offer_words : Offer → List (List ℕ)
+abbrev pub offer_words : ViewOffer → List (List ℕ)
 offer_words offer = codes "OFFER" ∷ decimal offer.number ∷ decimal offer.lots ∷ offer.agreement.name ∷ path_words offer.path
 
 -- `ROOM KIND name lots`
@@ -46,14 +46,14 @@ cut_offer_words number = codes "CUT" ∷ codes "OFFER" ∷ decimal number ∷ []
 abbrev pub head_line : GroupView → List ℕ
 head_line view = line_of (head_words view)
 
-abbrev pub offer_line : Offer → List ℕ
+abbrev pub offer_line : ViewOffer → List ℕ
 offer_line offer = line_of (offer_words offer)
 
 abbrev pub room_line : Room → List ℕ
 room_line room = line_of (room_words room)
 
 -- the lots that are taken of an offer, 0 too
-abbrev pub take_line : List Take → Offer → List ℕ
+abbrev pub take_line : List Take → ViewOffer → List ℕ
 take_line takes offer = line_of (take_words offer.number (lots_of takes offer.number))
 
 -- the key of a room, where it is in the cut
@@ -61,7 +61,7 @@ abbrev pub cut_key_line : CutLists → Room → List ℕ
 cut_key_line cut room = if has_key cut.keys room.key then line_of (cut_key_words room.key) else []
 
 -- the number of an offer, where it is in the cut
-abbrev pub cut_offer_line : CutLists → Offer → List ℕ
+abbrev pub cut_offer_line : CutLists → ViewOffer → List ℕ
 cut_offer_line cut offer = if has_number cut.offers offer.number then line_of (cut_offer_words offer.number) else []
 
 -- `END`

@@ -18,10 +18,10 @@ use Rattle.gu_text.specs.declared.sheet_line.Part.TheVariants as part
 use Rattle.gu_text.specs.declared.sheet_line.SheetLine.{SheetLine}
 use Rattle.gu_text.specs.declared.sheet_line.SheetLine.TheVariants as line
 
--- the head comes first, nothing comes behind the end, and no line behind one of a later part
-abbrev pub comes_behind : Option Part → Part → Bool
-comes_behind None next = rank_of next == 0
-comes_behind (Some last) next = nat_lt 0 (rank_of next) && nat_lt (rank_of last) 5 && nat_le (rank_of last) (rank_of next)
+-- the head comes first, nothing comes after the end, and no line after one of a later part
+abbrev pub comes_after : Option Part → Part → Bool
+comes_after None next = rank_of next == 0
+comes_after (Some last) next = nat_lt 0 (rank_of next) && nat_lt (rank_of last) 5 && nat_le (rank_of last) (rank_of next)
 
 -- a take of this offer, or this member of the cut, came before
 abbrev pub is_repeated : SheetParts → SheetLine → Bool
@@ -30,13 +30,13 @@ is_repeated parts (line.CutKey key) = has_key parts.cut.keys key
 is_repeated parts (line.CutOffer number) = has_number parts.cut.offers number
 is_repeated parts _ = false
 
--- a line may stand behind those that gave these parts, apart from the view that is whole at the end
-abbrev pub fits_behind : SheetParts → SheetLine → Bool
-fits_behind parts line = comes_behind parts.last (part_of line) && not (is_repeated parts line)
+-- a line may come after those that gave these parts, apart from the view that is whole at the end
+abbrev pub fits_after : SheetParts → SheetLine → Bool
+fits_after parts line = comes_after parts.last (part_of line) && not (is_repeated parts line)
 
 -- and at the end, the offers and rooms make a view
 pub record MayFollow (said : List SheetLine) (next : SheetLine) : Type 0 where
-  pub fits : IsTrue (fits_behind (parts_of said) next)
+  pub fits : IsTrue (fits_after (parts_of said) next)
   pub view : next ≡ line.End → MakesView (parts_of said).offers (parts_of said).rooms
 
 -- what lines say
@@ -44,12 +44,12 @@ abbrev pub said_in : List (List ℕ) → List SheetLine
 said_in lines = filter_map says lines
 
 -- a line is silent, or it says what may follow
-abbrev pub IsRightBehind : List SheetLine → List ℕ → Type 0
-IsRightBehind said line = IsTrue (is_silent line) ⊎ ((next : SheetLine) × (says line ≡ Some next) × MayFollow said next)
+abbrev pub IsRightAfter : List SheetLine → List ℕ → Type 0
+IsRightAfter said line = IsTrue (is_silent line) ⊎ ((next : SheetLine) × (says line ≡ Some next) × MayFollow said next)
 
--- each line is right behind those before it
+-- each line is right after those before it
 abbrev pub AreRight : List (List ℕ) → Type 0
-AreRight lines = (place : ℕ) (line : List ℕ) → slice_get lines place ≡ Some line → IsRightBehind (said_in (take place lines)) line
+AreRight lines = (place : ℕ) (line : List ℕ) → slice_get lines place ≡ Some line → IsRightAfter (said_in (take place lines)) line
 
 -- the first line that isn't right has this number, counted from 1
 pub record IsFirstBad (lines : List (List ℕ)) (number : ℕ) : Type 0 where
@@ -57,7 +57,7 @@ pub record IsFirstBad (lines : List (List ℕ)) (number : ℕ) : Type 0 where
   pub line : List ℕ
   pub at : slice_get lines place ≡ Some line
   pub before : AreRight (take place lines)
-  pub bad : ¬ IsRightBehind (said_in (take place lines)) line
+  pub bad : ¬ IsRightAfter (said_in (take place lines)) line
   pub number_is : number ≡ place + 1
 
 -- each line is right and the end is missing: this is the number after the last line

@@ -5,7 +5,7 @@ ghost use Rattle.gu_text.specs.LineFeeds.{HasNoLineFeed, IsParted, IsTooLong};
 
 use crate::lines::{LONGEST_LINE, end_of_line};
 
-/// The bytes in front of the first LF, and those behind it.
+/// The bytes in front of the first LF, and those after it.
 pub fn split_at_line_feed(bytes: &[u8]) -> Option<(&[u8], &[u8])>
     ensures { MatchOption result (HasNoLineFeed bytes.now) (λ parts. IsParted bytes.now parts.0.now parts.1.now) }
 {

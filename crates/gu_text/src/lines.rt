@@ -27,7 +27,7 @@ pub(crate) fn end_of_line(text: &[u8]) -> Option<usize>
     memchr(b'\n', text)
 }
 
-/// The first line of a text, and the text behind it.
+/// The first line of a text, and the text after it.
 pub(crate) fn first_line(text: &[u8]) -> (&[u8], &[u8])
     requires { text.now ≢ [] }
     ensures lines { lines text.now ≡ result.0.now ∷ lines result.1.now }

@@ -9,7 +9,7 @@ use itoa::Buffer;
 /// The room that a line is given: eight words of at most 20 bytes, each with the byte that ends it.
 pub(crate) const LINE_ROOM: usize = 168;
 
-/// Puts a word and the byte that ends it behind a text.
+/// Puts a word and the byte that ends it after a text.
 #[inline(always)]
 pub(crate) fn put_ended(output: &mut Vec<u8>, bytes: &[u8], end: u8)
     requires { vec_len output.old + length bytes.now + 1 ≤ vec_capacity output.old }
@@ -23,7 +23,7 @@ pub(crate) fn put_ended(output: &mut Vec<u8>, bytes: &[u8], end: u8)
     output.push_reserved(end);
 }
 
-/// Puts a word and a blank behind a text.
+/// Puts a word and a blank after a text.
 #[inline(always)]
 pub(crate) fn put_word(output: &mut Vec<u8>, bytes: &[u8])
     requires short { length bytes.now ≤ 20 }
@@ -35,7 +35,7 @@ pub(crate) fn put_word(output: &mut Vec<u8>, bytes: &[u8])
     put_ended(output, bytes, b' ');
 }
 
-/// Puts a word and the end of the line behind a text.
+/// Puts a word and the end of the line after a text.
 #[inline(always)]
 pub(crate) fn put_last_word(output: &mut Vec<u8>, bytes: &[u8])
     requires short { length bytes.now ≤ 20 }
@@ -47,7 +47,7 @@ pub(crate) fn put_last_word(output: &mut Vec<u8>, bytes: &[u8])
     put_ended(output, bytes, b'\n');
 }
 
-/// Puts a number and a blank behind a text.
+/// Puts a number and a blank after a text.
 #[inline(always)]
 pub(crate) fn put_number(output: &mut Vec<u8>, number: u64)
     requires { vec_len output.old + 21 ≤ vec_capacity output.old }
@@ -59,7 +59,7 @@ pub(crate) fn put_number(output: &mut Vec<u8>, number: u64)
     put_word(output, digits.format(number).as_bytes());
 }
 
-/// Puts a number and the end of the line behind a text.
+/// Puts a number and the end of the line after a text.
 #[inline(always)]
 pub(crate) fn put_last_number(output: &mut Vec<u8>, number: u64)
     requires { vec_len output.old + 21 ≤ vec_capacity output.old }

@@ -115,7 +115,7 @@ pub(crate) fn report_said(words: &[u8]) -> Option<Line>
     })))
 }
 
-/// The firm of a give-up, its ids of the give-up and of the report, and the words behind them.
+/// The firm of a give-up, its ids of the give-up and of the report, and the words after them.
 fn giver_said(words: &[u8]) -> Option<(FirmId, Id, Id, &[u8])>
     ensures { MatchOption result (WriteNone Form.GiveUp (codes "GIVEUP" ∷ words_of words.now))
         (λ giver. IsGiver (words_of words.now) giver.0 giver.1 giver.2 (words_of giver.3.now)) }
@@ -127,7 +127,7 @@ fn giver_said(words: &[u8]) -> Option<(FirmId, Id, Id, &[u8])>
     Some((FirmId { name }, id, report, rest))
 }
 
-/// The first two words as a line of a give-up, and the words behind them.
+/// The first two words as a line of a give-up, and the words after them.
 fn pair_said(words: &[u8]) -> Option<(GiveUpLine, &[u8])>
     ensures line { MatchOption result (WritesNoLine (words_of words.now))
         (λ pair. WritesLine (words_of words.now) pair.0 (words_of pair.1.now)) }

@@ -32,7 +32,7 @@ pub enum Line {
     Limits(Group),
 }
 
-/// What the words behind the word of a form say that takes no memory.
+/// What the words after the word of a form say that takes no memory.
 fn plain_said(form: Form, words: &[u8]) -> Option<Line>
     requires { form ≢ Form.GiveUp }
     ensures { Reads form (words_of words.now) result }
@@ -56,7 +56,7 @@ fn plain_said(form: Form, words: &[u8]) -> Option<Line>
 }
 
 #[tactic(auto, using(crate::proofs::ScriptLemmas::is_begun))]
-/// The form of a line that isn't silent, and the words behind the word of the form.
+/// The form of a line that isn't silent, and the words after the word of the form.
 fn begun(line: &[u8]) -> Option<(Form, &[u8])>
     requires { is_silent line.now ≡ false }
     ensures { MatchOption result (IsBad line.now) (λ begun. IsBegun line.now begun.0 (words_of begun.1.now)) }

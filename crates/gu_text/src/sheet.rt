@@ -44,7 +44,7 @@ fn add_line(parts: &mut Parts, line: &[u8]) -> Result<bool, AllocError>
     }
 }
 
-/// The parts of a sheet up to its end, the text behind that, and the number of the end.
+/// The parts of a sheet up to its end, the text after that, and the number of the end.
 fn read_parts(alloc: Global, text: &[u8]) -> Result<(Parts, &[u8], u64), TextError>
     ensures ends { IfOk result (λ r. EndsAt text.now r.0 r.1.now r.2) }
     ensures refused { IfErr result (Refuses text.now) }
@@ -66,7 +66,7 @@ fn read_parts(alloc: Global, text: &[u8]) -> Result<(Parts, &[u8], u64), TextErr
     Err(TextError::BadLine(number + 1))
 }
 
-/// Whether the lines behind one with this number say nothing.
+/// Whether the lines after one with this number say nothing.
 fn read_silence(text: &[u8], from: u64) -> Result<(), TextError>
     requires { from + length text.now < 2 ^ 64 }
     ensures silent { OnOk result (AreSilent (lines text.now)) }

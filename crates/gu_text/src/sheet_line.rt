@@ -10,7 +10,7 @@ use crate::lines::LONGEST_LINE;
 use crate::values::{key_said, name_of, number_of, offer_no_of};
 use crate::words::{first_three_words, first_word, is_ragged, three_words, two_words};
 use gu_terms::{AccountId, AgreementId, FirmId, Group, LimitKey, Name, OfferNo, Path, Take};
-use gu_view::{Offer, Room};
+use gu_view::{ViewOffer, Room};
 
 const SHEET: &[u8] = b"SHEET";
 
@@ -35,7 +35,7 @@ pub(crate) struct Header {
 #[derive(Clone, Copy)]
 pub(crate) enum SheetLine {
     Sheet(Header),
-    Offer(Offer),
+    Offer(ViewOffer),
     Room(Room),
     Take(Take),
     /// A key of the cut.
@@ -141,7 +141,7 @@ fn offer_said(words: &[u8]) -> Option<SheetLine>
     let name = name_of(agreement)?;
     let path = path_said(name, rest)?;
     let agreement = AgreementId { name };
-    Some(SheetLine::Offer(Offer {
+    Some(SheetLine::Offer(ViewOffer {
         number,
         lots,
         agreement,
@@ -182,7 +182,7 @@ fn cut_said(words: &[u8]) -> Option<SheetLine>
     Some(SheetLine::CutKey(key))
 }
 
-/// The end, where no word stands behind it.
+/// The end, where no word comes after it.
 fn end_said(words: &[u8]) -> Option<SheetLine>
     ensures { result ≡ end_said (words_of words.now) }
 {
@@ -192,7 +192,7 @@ fn end_said(words: &[u8]) -> Option<SheetLine>
     }
 }
 
-/// What the first word of a line and the words behind it say.
+/// What the first word of a line and the words after it say.
 fn words_say(kind: &[u8], words: &[u8]) -> Option<SheetLine>
     ensures { result ≡ words_say kind.now (words_of words.now) }
 {

@@ -2,7 +2,7 @@
 
 ghost use Rattle.std.specs.Prelude.{◌≡◌, ◌++◌, ◌∷◌, [], None, Some, not, map, nat_eq, IfOk, IfErr, OnOk, IsSome, IsTrue, if◌then◌else◌};
 ghost use Rattle.gu_terms.specs.Cuts.{has_number};
-ghost use Rattle.gu_text.specs.Sheets.{comes_behind, is_repeated, fits_behind};
+ghost use Rattle.gu_text.specs.Sheets.{comes_after, is_repeated, fits_after};
 ghost use Rattle.gu_text.specs.Reading.{no_parts, with_line, is_ended, IsMadeOf, MakesNone, MakesNoView};
 ghost use Rattle.gu_view.specs.Making.{MakesView, view_of};
 
@@ -11,7 +11,7 @@ use crate::sheet::Sheet;
 use crate::sheet_line::{Header, Part, SheetLine};
 use crate::takes_in_order::takes_in_order;
 use gu_terms::{Cut, OfferNo, Take};
-use gu_view::{Offer, Room, View, ViewError};
+use gu_view::{ViewOffer, Room, View, ViewError};
 use indexmap::IndexSet;
 use std::alloc::{AllocError, Global};
 use std::marker::Model;
@@ -20,7 +20,7 @@ use std::marker::Model;
 pub(crate) struct Parts {
     last: Option<Part>,
     header: Option<Header>,
-    offers: Vec<Offer>,
+    offers: Vec<ViewOffer>,
     rooms: Vec<Room>,
     takes: Vec<Take>,
     /// The offers of the takes.
@@ -69,9 +69,9 @@ impl Drop for Parts {
     }
 }
 
-/// Whether a line of a part may come behind one of the last part.
-fn comes_behind(last: Option<Part>, next: Part) -> bool
-    ensures { result ≡ comes_behind last next }
+/// Whether a line of a part may come after one of the last part.
+fn comes_after(last: Option<Part>, next: Part) -> bool
+    ensures { result ≡ comes_after last next }
 {
     match last {
         None => next.rank() == 0,
@@ -138,10 +138,10 @@ impl Parts {
 
     /// Adds what a line gives, and answers whether the line may stand there.
     pub(crate) fn add(&mut self, line: SheetLine) -> Result<bool, AllocError>
-        ensures fits { IfOk result (λ fits. fits ≡ fits_behind self.old line) }
+        ensures fits { IfOk result (λ fits. fits ≡ fits_after self.old line) }
         ensures parts { IfOk result (λ fits. IsTrue fits → self.new ≡ with_line self.old line) }
     {
-        if !comes_behind(self.last, line.part()) || !self.put(line)? {
+        if !comes_after(self.last, line.part()) || !self.put(line)? {
             return Ok(false);
         }
         self.last = Some(line.part());
@@ -184,7 +184,7 @@ impl Parts {
 fn view_at(
     alloc: Global,
     header: Header,
-    offers: Vec<Offer>,
+    offers: Vec<ViewOffer>,
     rooms: Vec<Room>,
     number: u64,
 ) -> Result<View, TextError>

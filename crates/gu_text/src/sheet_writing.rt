@@ -12,7 +12,7 @@ use crate::reserved::{LINE_ROOM, put_last_number, put_last_word, put_number, put
 use crate::takes_in_order::{from_offer, lots_in_front};
 use crate::texts::append_last_word;
 use gu_terms::{Cut, OfferNo, Path, Take, Takes};
-use gu_view::{Offer, Room, View};
+use gu_view::{ViewOffer, Room, View};
 use std::alloc::{AllocError, Global};
 
 /// Appends the head of a sheet: the group, and its version.
@@ -51,7 +51,7 @@ fn put_path(output: &mut Vec<u8>, path: &Path)
 
 #[tactic(auto, using(crate::proofs::JoinedWords::path_line))]
 /// Appends an offer: its number, its lots, its agreement and its path.
-fn append_offer(output: &mut Vec<u8>, offer: &Offer) -> Result<(), AllocError>
+fn append_offer(output: &mut Vec<u8>, offer: &ViewOffer) -> Result<(), AllocError>
     ensures { OnOk result (output.new.items ≡ output.old.items ++ offer_line offer.now) }
 {
     output.reserve(LINE_ROOM)?;
@@ -64,7 +64,7 @@ fn append_offer(output: &mut Vec<u8>, offer: &Offer) -> Result<(), AllocError>
 }
 
 /// Appends offers.
-fn append_offers(output: &mut Vec<u8>, offers: &[Offer]) -> Result<(), AllocError>
+fn append_offers(output: &mut Vec<u8>, offers: &[ViewOffer]) -> Result<(), AllocError>
     ensures { OnOk result (output.new.items ≡ output.old.items ++ flat_map offer_line offers.now) }
 {
     for offer in offers {
@@ -107,7 +107,7 @@ fn append_take(output: &mut Vec<u8>, offer: OfferNo, lots: u64) -> Result<(), Al
 }
 
 /// Appends a take for each offer, walking both side by side.
-fn append_takes(output: &mut Vec<u8>, takes: &[Take], offers: &[Offer]) -> Result<(), AllocError>
+fn append_takes(output: &mut Vec<u8>, takes: &[Take], offers: &[ViewOffer]) -> Result<(), AllocError>
     requires takes { IsAscending takes.now }
     requires offers { AllPairs (λ a b. a.number < b.number) offers.now }
     ensures { OnOk result (output.new.items ≡ output.old.items ++ flat_map (take_line takes.now) offers.now) }
@@ -144,7 +144,7 @@ fn append_cut_keys(output: &mut Vec<u8>, cut: &Cut, rooms: &[Room]) -> Result<()
 }
 
 /// Appends the number of an offer, where it is in the cut.
-fn append_cut_offer(output: &mut Vec<u8>, cut: &Cut, offer: &Offer) -> Result<(), AllocError>
+fn append_cut_offer(output: &mut Vec<u8>, cut: &Cut, offer: &ViewOffer) -> Result<(), AllocError>
     ensures { OnOk result (output.new.items ≡ output.old.items ++ cut_offer_line cut.now offer.now) }
 {
     if !cut.has_offer(offer.number) {
@@ -158,7 +158,7 @@ fn append_cut_offer(output: &mut Vec<u8>, cut: &Cut, offer: &Offer) -> Result<()
 }
 
 /// Appends the offers of the cut, in the order of the offers.
-fn append_cut_offers(output: &mut Vec<u8>, cut: &Cut, offers: &[Offer]) -> Result<(), AllocError>
+fn append_cut_offers(output: &mut Vec<u8>, cut: &Cut, offers: &[ViewOffer]) -> Result<(), AllocError>
     ensures { OnOk result (output.new.items ≡ output.old.items ++ flat_map (cut_offer_line cut.now) offers.now) }
 {
     for offer in offers {

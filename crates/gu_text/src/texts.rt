@@ -1,4 +1,4 @@
-//! Words and numbers behind a text.
+//! Words and numbers after a text.
 
 ghost use Rattle.std.specs.Prelude.{◌≡◌, ◌++◌, ◌∷◌, [], OnErr, OnOk};
 ghost use Rattle.std.specs.Fmt.{decimal};

@@ -46,7 +46,7 @@ fn blank_place(text: &[u8]) -> Option<usize>
 }
 
 #[tactic(auto, using(crate::proofs::WordLemmas::word_in_front, crate::proofs::WordLemmas::word_alone))]
-/// The first word of a text, and the text behind it.
+/// The first word of a text, and the text after it.
 pub(crate) fn first_word(text: &[u8]) -> Option<(&[u8], &[u8])>
     ensures words { MatchOption result (words_of text.now ≡ []) (λ found. words_of text.now ≡ found.0.now ∷ words_of found.1.now) }
     ensures shorter { IfSome result (λ found. length found.1.now < length text.now) }
@@ -68,7 +68,7 @@ pub(crate) fn has_words(text: &[u8]) -> bool
     !without_blanks(text).is_empty()
 }
 
-/// The first three words of a text, and the text behind them.
+/// The first three words of a text, and the text after them.
 pub(crate) fn first_three_words(text: &[u8]) -> Option<(&[u8], &[u8], &[u8], &[u8])>
     ensures { MatchOption result (length (words_of text.now) < 3)
         (λ found. words_of text.now ≡ found.0.now ∷ found.1.now ∷ found.2.now ∷ words_of found.3.now) }

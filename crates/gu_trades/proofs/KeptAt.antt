@@ -10,16 +10,16 @@ use Rattle.gu_terms.specs.declared.firm.FirmId.{FirmId}
 use Rattle.gu_terms.specs.declared.id.Id.{Id}
 use Rattle.gu_terms.specs.declared.report.Report.{Report}
 use Rattle.gu_trades.specs.Kept.{is_by_at, is_with_at}
-use Rattle.gu_trades.specs.KeptReports.{IsWithin, match_id_of, own_id, report_of_kept}
+use Rattle.gu_trades.specs.PackedReports.{IsWithin, match_id_of, own_id, report_of_kept}
 use Rattle.gu_trades.specs.Reports.{is_by}
-use Rattle.gu_trades.specs.declared.kept.Kept.{Kept}
+use Rattle.gu_trades.specs.declared.packed.Packed.{Packed}
 
-module _ (texts : List ℕ) (rows : List Kept) (reports : List Report) (place : ℕ) (view : map (report_of_kept texts) rows ≡ reports) (inside : place < length reports) where
+module _ (texts : List ℕ) (rows : List Packed) (reports : List Report) (place : ℕ) (view : map (report_of_kept texts) rows ≡ reports) (inside : place < length reports) where
   -- a place of a report is one of what is kept
   pub kept-inside : place < length rows
   kept-inside = omega (arith, length-map rows (report_of_kept texts), ap length view)
 
-  module _ (kept : Kept) (is : kept ≡ get_or rows place kept) where
+  module _ (kept : Packed) (is : kept ≡ get_or rows place kept) where
     -- and there the report is the one that is kept so
     pub report-at : slice_get reports place ≡ Some (report_of_kept texts kept)
     report-at =

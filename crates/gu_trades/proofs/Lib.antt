@@ -1,5 +1,5 @@
 pub mod KeptAt
-pub mod KeptLemmas
+pub mod PackedLemmas
 pub mod LastPlaces
 pub mod OneMore
 pub mod ReportPlaces

@@ -4,7 +4,7 @@ use Rattle.std.proofs.lemmas.Bool.{cases_Bool, cases_eq, eqb-true, false_from_ne
 use Rattle.std.proofs.lemmas.List.{get_or_append_left, get_or_push, get_or-map, get_or_default, length-map, length-set, map-append}
 use Rattle.std.specs.Prelude.{slice_index}
 use Rattle.gu_trades.specs.Numbered.{has_number, last_before}
-use Rattle.gu_trades.specs.Places.{EndsRows, IsLinked, is_in_row, numbers_of}
+use Rattle.gu_trades.specs.HashIndex.{EndsRows, IsLinked, is_in_row, numbers_of}
 use Rattle.gu_trades.specs.declared.places.Link.{Link}
 
 -- ---- the last place that passes a test
@@ -102,7 +102,7 @@ module _ (numbers : List ℕ) (rows in_row bound from : ℕ) (start : from ≡ l
       ∙ sym (last_before-narrow (has_number numbers number) (is_in_row numbers rows in_row) bound
       (λ place below here. eq-eqb (slice_index numbers place % rows) in_row (ap (λ n. n % rows) (eqb-true (slice_index numbers place) number here) ∙ sym own)))
 
--- a link that is read, and the walk that begins behind it
+-- a link that is read, and the walk that begins after it
 module _ (links : List Link) (rows place : ℕ) (link : Link) (linked : IsLinked links rows) (inside : place < length links) (is : link ≡ get_or links place link) where
   pub number-read : slice_index (numbers_of links) place ≡ link.number
   number-read = get_or-map (λ (link : Link). link.number) links place link 0 inside ∙ ap (λ (link : Link). link.number) (sym is)

@@ -1,9 +1,9 @@
 pub mod Counterparts
 pub mod Kept
-pub mod KeptReports
+pub mod PackedReports
 pub mod Matching
 pub mod Numbered
-pub mod Places
+pub mod HashIndex
 pub mod Reports
 pub mod Rules
 pub mod Sides

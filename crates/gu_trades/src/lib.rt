@@ -2,9 +2,9 @@
 #![tactic(auto)]
 
 mod counterpart;
-mod kept;
+mod packed;
 mod matching;
-mod places;
+mod hash_index;
 mod reports;
 mod sides;
 mod standing;

@@ -5,10 +5,10 @@ ghost use Rattle.std.specs.Option.{option_map};
 ghost use Rattle.gu_terms.specs.Names.{IsId};
 ghost use Rattle.gu_terms.specs.declared.report.Report.{Report as ReportOf};
 ghost use Rattle.gu_trades.specs.Kept.{is_by_at, is_with_at};
-ghost use Rattle.gu_trades.specs.KeptReports.{report_of_kept, IsWithin};
+ghost use Rattle.gu_trades.specs.PackedReports.{report_of_kept, IsWithin};
 ghost use Rattle.gu_trades.specs.Terms.{report_with, terms_of};
 
-use crate::kept::{Kept, id_of};
+use crate::packed::{Packed, id_of};
 use crate::terms::Terms;
 use gu_terms::{FirmId, Id, Report};
 use std::alloc::{AllocError, Global};
@@ -17,15 +17,15 @@ use std::marker::Model;
 /// Reports, in the order in which they came. To a contract it is their list.
 #[derive(Drop)]
 pub(crate) struct Reports {
-    rows: Vec<Kept>,
-    /// The ids of all reports, one behind the other.
+    rows: Vec<Packed>,
+    /// The ids of all reports, one after the other.
     texts: Vec<u8>,
 }
 
 impl Model for Reports {
     ghost use Rattle.std.specs.Prelude.{All, List, map};
     ghost use Rattle.gu_terms.specs.declared.report.Report.{Report as Row};
-    ghost use Rattle.gu_trades.specs.KeptReports.{report_of_kept, IsWithin};
+    ghost use Rattle.gu_trades.specs.PackedReports.{report_of_kept, IsWithin};
 
     ghost Value = { List Row };
 
@@ -47,10 +47,10 @@ fn append_texts(texts: &mut Vec<u8>, first: &[u8], second: &[u8]) -> Result<(), 
     Ok(())
 }
 
-#[tactic(auto, using(crate::proofs::KeptLemmas::reports_more))]
-/// Adds what is kept of a report behind the others, and its ids behind theirs. The growths come first.
+#[tactic(auto, using(crate::proofs::PackedLemmas::reports_more))]
+/// Adds what is kept of a report after the others, and its ids after theirs. The growths come first.
 fn add(
-    rows: &mut Vec<Kept>,
+    rows: &mut Vec<Packed>,
     texts: &mut Vec<u8>,
     firm: &FirmId,
     own: &[u8],
@@ -65,7 +65,7 @@ fn add(
         ≡ map (report_of_kept texts.old.items) rows.old.items ++ report_with firm.now own.now matched.now terms.now ∷ []) }
     ensures refused { OnErr result ((texts.new.items ≡ texts.old.items) × (rows.new.items ≡ rows.old.items)) }
 {
-    let kept = Kept {
+    let kept = Packed {
         firm: *firm,
         own: own.len() as u8,
         matched: matched.len() as u8,
@@ -130,7 +130,7 @@ impl Reports {
         self.rows[place].terms
     }
 
-    /// Puts a report behind the others.
+    /// Puts a report after the others.
     pub(crate) fn push(
         &mut self,
         firm: &FirmId,

@@ -14,7 +14,7 @@ ghost use Rattle.gu_trades.specs.Terms.{report_with, terms_of};
 
 use crate::counterpart::Counterpart;
 use crate::matching::Matching;
-use crate::places::{Places, number_of};
+use crate::hash_index::{HashIndex, number_of};
 use crate::reports::Reports;
 use crate::sides::Sides;
 use crate::standing::Standing;
@@ -26,8 +26,8 @@ use std::marker::Model;
 /// The reports that were taken in, each id of a firm once, and each match id once or as a trade. To a contract it is the list of them.
 pub struct Trades {
     reports: Reports,
-    by_id: Places,
-    by_match: Places,
+    by_id: HashIndex,
+    by_match: HashIndex,
     seed: Seed,
 }
 
@@ -73,7 +73,7 @@ fn match_number(seed: &Seed, match_id: &Id) -> u32
 }
 
 /// The place of the firm's last report with this id, counted from 1; 0 where there is none.
-fn last_by(reports: &Reports, places: &Places, seed: &Seed, firm: &FirmId, id: &Id) -> u32
+fn last_by(reports: &Reports, places: &HashIndex, seed: &Seed, firm: &FirmId, id: &Id) -> u32
     requires { places.now.numbers ≡ map (λ (r : ReportOf). id_number seed.now r.firm r.id) reports.now }
     ensures { result ≡ last_before (is_by_at reports.now firm.now id.now) (length reports.now) }
 {
@@ -92,7 +92,7 @@ fn last_by(reports: &Reports, places: &Places, seed: &Seed, firm: &FirmId, id: &
 /// from 1; 0 where there is none.
 fn last_with(
     reports: &Reports,
-    places: &Places,
+    places: &HashIndex,
     seed: &Seed,
     match_id: &Id,
     number: u32,
@@ -117,12 +117,12 @@ fn last_with(
     0
 }
 
-/// Puts a report behind the others, and its place under the number of its firm and id and under that of its match id. The growths come
+/// Puts a report after the others, and its place under the number of its firm and id and under that of its match id. The growths come
 /// first, so that a refusal leaves all as it was.
 fn add(
     reports: &mut Reports,
-    by_id: &mut Places,
-    by_match: &mut Places,
+    by_id: &mut HashIndex,
+    by_match: &mut HashIndex,
     seed: &Seed,
     firm: &FirmId,
     id: &Id,
@@ -157,8 +157,8 @@ impl Trades {
     {
         Trades {
             reports: Reports::new(alloc),
-            by_id: Places::new(alloc),
-            by_match: Places::new(alloc),
+            by_id: HashIndex::new(alloc),
+            by_match: HashIndex::new(alloc),
             seed,
         }
     }

@@ -21,46 +21,46 @@ use Rattle.gu_view.specs.Takes.{IsGreatest, IsOldestFirst, lots_under, total}
 use Rattle.gu_view.specs.View.{GroupView, IsView}
 use Rattle.gu_view.specs.declared.error.CutFault.{CutFault}
 use Rattle.gu_view.specs.declared.error.CutFault.TheVariants.{RoomDiffers}
-use Rattle.gu_view.specs.declared.view.Offer.{Offer}
+use Rattle.gu_view.specs.declared.view.ViewOffer.{ViewOffer}
 use Rattle.gu_view.specs.declared.view.Room.{Room}
 use Rattle.gu_view.proofs.CutBounds.{greatest_by_cut}
 use Rattle.gu_terms.proofs.Lists.{Later-from_AllPairs, along, any_none, find_none, none_any, none_found, sum_by-zip, sum_by-zip-le}
 use Rattle.gu_view.proofs.TakesLemmas.{is_too_early, older_is_before}
 
 -- the offers of a view are few and small, and so are its rooms
-pub lots_small : (view : GroupView) → IsView view → sum_by (λ (o : Offer). o.lots) view.offers ≤ 4096000000
-lots_small view sound = omega (arith, sum_by-le (λ (o : Offer). o.lots) 1000000 view.offers (λ i d inside. (sound.lots i d inside).most), sound.few)
+pub lots_small : (view : GroupView) → IsView view → sum_by (λ (o : ViewOffer). o.lots) view.offers ≤ 4096000000
+lots_small view sound = omega (arith, sum_by-le (λ (o : ViewOffer). o.lots) 1000000 view.offers (λ i d inside. (sound.lots i d inside).most), sound.few)
 
 pub keys_small : (view : GroupView) (marks : List Bool) → IsView view → sum_by (λ (p : Room × Bool). cond p.1 p.0.lots 0) (zip view.rooms marks) ≤ 20480000000000
 keys_small view marks sound =
     omega (arith, sum_by-zip-le (λ (r : Room). r.lots) 1000000000 view.rooms marks (recursion_from_All (λ (r : Room). r.lots ≤ 1000000000) view.rooms sound.limits), sound.few_rooms)
 
-pub offers_small : (view : GroupView) (marks : List Bool) → IsView view → sum_by (λ (p : Offer × Bool). cond p.1 p.0.lots 0) (zip view.offers marks) ≤ 4096000000
+pub offers_small : (view : GroupView) (marks : List Bool) → IsView view → sum_by (λ (p : ViewOffer × Bool). cond p.1 p.0.lots 0) (zip view.offers marks) ≤ 4096000000
 offers_small view marks sound =
-    omega (arith, sum_by-zip-le (λ (o : Offer). o.lots) 1000000 view.offers marks (recursion_from_All (λ (o : Offer). o.lots ≤ 1000000) view.offers (λ i d inside. (sound.lots i d inside).most)), sound.few)
+    omega (arith, sum_by-zip-le (λ (o : ViewOffer). o.lots) 1000000 view.offers marks (recursion_from_All (λ (o : ViewOffer). o.lots ≤ 1000000) view.offers (λ i d inside. (sound.lots i d inside).most)), sound.few)
 
 module _ (view : GroupView) (taken : List ℕ) (keys numbers : List Bool) (lots : ℕ → ℕ) (cut : CutLists) (marked : IsMarked view taken keys numbers lots cut) where
   -- the sums that are taken by places are those of the definitions
   total_is : (n : ℕ) → n ≡ sum taken → total view.offers lots ≡ n
-  total_is n is = sym (is ∙ ap sum marked.taken_are ∙ sum-map (λ (o : Offer). lots o.number) view.offers)
+  total_is n is = sym (is ∙ ap sum marked.taken_are ∙ sum-map (λ (o : ViewOffer). lots o.number) view.offers)
 
-  room_is : (k o : ℕ) → k ≡ sum_by (λ (p : Room × Bool). cond p.1 p.0.lots 0) (zip view.rooms keys) → o ≡ sum_by (λ (p : Offer × Bool). cond p.1 p.0.lots 0) (zip view.offers numbers) → room_of view cut ≡ k + o
+  room_is : (k o : ℕ) → k ≡ sum_by (λ (p : Room × Bool). cond p.1 p.0.lots 0) (zip view.rooms keys) → o ≡ sum_by (λ (p : ViewOffer × Bool). cond p.1 p.0.lots 0) (zip view.offers numbers) → room_of view cut ≡ k + o
   room_is k o k-is o-is =
       omega (
         arith,
         k-is ∙ ap (λ l. sum_by (λ (p : Room × Bool). cond p.1 p.0.lots 0) (zip view.rooms l)) marked.keys_are ∙ sum_by-zip (λ (r : Room). r.lots) (λ (r : Room). has_key cut.keys r.key) view.rooms,
-        o-is ∙ ap (λ l. sum_by (λ (p : Offer × Bool). cond p.1 p.0.lots 0) (zip view.offers l)) marked.numbers_are ∙ sum_by-zip (λ (o : Offer). o.lots) (λ (o : Offer). has_number cut.offers o.number) view.offers,
+        o-is ∙ ap (λ l. sum_by (λ (p : ViewOffer × Bool). cond p.1 p.0.lots 0) (zip view.offers l)) marked.numbers_are ∙ sum_by-zip (λ (o : ViewOffer). o.lots) (λ (o : ViewOffer). has_number cut.offers o.number) view.offers,
       )
 
   -- no fault, or a room that differs
   pub known_ok : (n k o : ℕ) → over_offer view.offers lots ≡ None → over_limit view.offers view.rooms lots ≡ None → not_oldest_first view.offers lots ≡ None → uncovered view.offers cut ≡ None
-      → n ≡ sum taken → k ≡ sum_by (λ (p : Room × Bool). cond p.1 p.0.lots 0) (zip view.rooms keys) → o ≡ sum_by (λ (p : Offer × Bool). cond p.1 p.0.lots 0) (zip view.offers numbers)
+      → n ≡ sum taken → k ≡ sum_by (λ (p : Room × Bool). cond p.1 p.0.lots 0) (zip view.rooms keys) → o ≡ sum_by (λ (p : ViewOffer × Bool). cond p.1 p.0.lots 0) (zip view.offers numbers)
       → n ≡ k + o → Ok n ≡ verdict_of_known view lots cut
   known_ok n k o e1 e2 e3 e4 n-is k-is o-is same =
       rw (e1, e2, e3, e4, total_is n n-is, room_is k o k-is o-is, eq-eqb n (k + o) same) refl
 
   pub known_differs : (n k o : ℕ) → over_offer view.offers lots ≡ None → over_limit view.offers view.rooms lots ≡ None → not_oldest_first view.offers lots ≡ None → uncovered view.offers cut ≡ None
-      → n ≡ sum taken → k ≡ sum_by (λ (p : Room × Bool). cond p.1 p.0.lots 0) (zip view.rooms keys) → o ≡ sum_by (λ (p : Offer × Bool). cond p.1 p.0.lots 0) (zip view.offers numbers)
+      → n ≡ sum taken → k ≡ sum_by (λ (p : Room × Bool). cond p.1 p.0.lots 0) (zip view.rooms keys) → o ≡ sum_by (λ (p : ViewOffer × Bool). cond p.1 p.0.lots 0) (zip view.offers numbers)
       → (n ≡ k + o → ⊥) → Err RoomDiffers ≡ verdict_of_known view lots cut
   known_differs n k o e1 e2 e3 e4 n-is k-is o-is other =
       rw (e1, e2, e3, e4, total_is n n-is, room_is k o k-is o-is, ne_eqb n (k + o) other) refl
@@ -99,18 +99,18 @@ none_above f bound n xs h =
     ap (option_map f) (none_found (λ x. nat_lt (bound x) (n x)) xs (along (λ x. n x ≤ bound x) (λ x. nat_lt (bound x) (n x) ≡ false) xs (λ x e. le-ltb (bound x) (n x) e) (recursion_from_All (λ x. n x ≤ bound x) xs h)))
 
 -- two offers are of one agreement
-agreement-same : (a b : Offer) → same_agreement a b ≡ true → a.agreement ≡ b.agreement
+agreement-same : (a b : ViewOffer) → same_agreement a b ≡ true → a.agreement ≡ b.agreement
 agreement-same a b h = let same = key_eq-same (Agr a.agreement) (Agr b.agreement) h in cc
 
 module _ (view : GroupView) (sound : IsView view) (lots : ℕ → ℕ) (within : All (λ o. lots o.number ≤ o.lots) view.offers) where
   -- an older offer that isn't full
-  rests : Offer → Offer → Bool
+  rests : ViewOffer → ViewOffer → Bool
   rests o older = same_agreement older o && nat_lt (lots older.number) older.lots
 
-  older : (j : ℕ) (d : Offer) → j < length view.offers → has_older_rest view.offers lots (get_or view.offers j d) ≡ list_any (rests (get_or view.offers j d)) (take j view.offers)
+  older : (j : ℕ) (d : ViewOffer) → j < length view.offers → has_older_rest view.offers lots (get_or view.offers j d) ≡ list_any (rests (get_or view.offers j d)) (take j view.offers)
   unfolding rests
   older j d inside =
-      older_is_before (λ e. same_agreement e (get_or view.offers j d) && nat_lt (lots e.number) e.lots) view.offers j d inside (Later-from_AllPairs (λ (a b : Offer). a.number < b.number) view.offers sound.ascending)
+      older_is_before (λ e. same_agreement e (get_or view.offers j d) && nat_lt (lots e.number) e.lots) view.offers j d inside (Later-from_AllPairs (λ (a b : ViewOffer). a.number < b.number) view.offers sound.ascending)
 
   -- none takes lots too early
   pub oldest_first : not_oldest_first view.offers lots ≡ None → IsOldestFirst view lots
@@ -136,7 +136,7 @@ module _ (view : GroupView) (sound : IsView view) (lots : ℕ → ℕ) (within :
   none_early oldest =
       ap (option_map _) (none_found (is_too_early view.offers lots) view.offers (recursion_from_All (λ o. is_too_early view.offers lots o ≡ false) view.offers quiet))
     where
-      full : (i j : ℕ) (d : Offer) → i < j → j < length view.offers → 0 < lots (get_or view.offers j d).number → rests (get_or view.offers j d) (get_or (take j view.offers) i d) ≡ false
+      full : (i j : ℕ) (d : ViewOffer) → i < j → j < length view.offers → 0 < lots (get_or view.offers j d).number → rests (get_or view.offers j d) (get_or (take j view.offers) i d) ≡ false
       full i j d before inside takes =
           rw (get_or-take j view.offers i d before) (
           elim (cases_Bool (same_agreement (get_or view.offers i d) (get_or view.offers j d))) [
@@ -145,7 +145,7 @@ module _ (view : GroupView) (sound : IsView view) (lots : ℕ → ℕ) (within :
             | inr other ↦ and_left _ _ other
           ])
 
-      quiet : (j : ℕ) (d : Offer) → j < length view.offers → is_too_early view.offers lots (get_or view.offers j d) ≡ false
+      quiet : (j : ℕ) (d : ViewOffer) → j < length view.offers → is_too_early view.offers lots (get_or view.offers j d) ≡ false
       quiet j d inside =
           elim (cases_Bool (nat_lt 0 (lots (get_or view.offers j d).number))) [
             | inl takes ↦
@@ -180,7 +180,7 @@ module _ (view : GroupView) (sound : IsView view) (takes : List Take) (cut : Cut
       let f = first_none (not_oldest_first view.offers lots) (uncovered view.offers cut ∷ room_differs view lots cut ∷ []) e.1 in
       let g = first_none (uncovered view.offers cut) (room_differs view lots cut ∷ []) f.1 in
       let h' = first_none (room_differs view lots cut) [] g.1 in
-      let within = all_within _ (λ (o : Offer). o.lots) (λ (o : Offer). lots o.number) view.offers d.0 in
+      let within = all_within _ (λ (o : ViewOffer). o.lots) (λ (o : ViewOffer). lots o.number) view.offers d.0 in
       let taken : total view.offers lots ≡ n = ok_same (total view.offers lots) n inner.1 in
       record {
         takes_known = all_known _ (λ (t : Take). has_offer view.offers t.offer) takes a.0;
@@ -204,7 +204,7 @@ module _ (view : GroupView) (sound : IsView view) (takes : List Take) (cut : Cut
         none_missing _ (λ (t : Take). has_offer view.offers t.offer) takes right.takes_known,
         none_missing _ (has_room view.rooms) cut.keys right.keys_known,
         none_missing _ (has_offer view.offers) cut.offers right.offers_known,
-        none_above _ (λ (o : Offer). o.lots) (λ (o : Offer). lots o.number) view.offers right.admissible.offers,
+        none_above _ (λ (o : ViewOffer). o.lots) (λ (o : ViewOffer). lots o.number) view.offers right.admissible.offers,
         none_above _ (λ (r : Room). r.lots) (λ (r : Room). lots_under view.offers r.key lots) view.rooms right.admissible.rooms,
         none_early view sound lots right.admissible.offers right.oldest_first,
         none_missing _ (is_covered cut) view.offers right.covers,

@@ -14,7 +14,7 @@ use Rattle.gu_view.specs.Check.{has_room}
 use Rattle.gu_view.specs.Cut.{Covers, is_covered, room_of}
 use Rattle.gu_view.specs.Takes.{IsAdmissible, IsGreatest, lots_under, total}
 use Rattle.gu_view.specs.View.{GroupView, IsView}
-use Rattle.gu_view.specs.declared.view.Offer.{Offer}
+use Rattle.gu_view.specs.declared.view.ViewOffer.{ViewOffer}
 use Rattle.gu_view.specs.declared.view.Room.{Room}
 use Rattle.gu_terms.proofs.Lists.{along, along2, sum_by-add, sum_by-mono, sum_by-swap, sum_by-zeros}
 use Rattle.gu_view.proofs.RoomLemmas.{on_own_path, roomed}
@@ -45,7 +45,7 @@ find_key test rooms (k ∷ path) roomed found =
           record { key = f.key; passes = f.passes; on_path = or_right (key_eq k f.key) (has_key path f.key) f.on_path; has_room = f.has_room }
     ]
 
-parts : (b : Bool) (room : ℕ) (f : Offer → ℕ) (offers : List Offer) → sum_by f offers ≤ room → sum_by (λ o. cond b (f o) 0) offers ≤ cond b room 0
+parts : (b : Bool) (room : ℕ) (f : ViewOffer → ℕ) (offers : List ViewOffer) → sum_by f offers ≤ room → sum_by (λ o. cond b (f o) 0) offers ≤ cond b room 0
 parts true room f offers within = within
 parts false room f offers within = omega (arith, sum_by-zeros offers)
 
@@ -55,20 +55,20 @@ own_parts false n lots within = omega arith
 
 module _ (view : GroupView) (cut : CutLists) (lots : ℕ → ℕ) where
   -- what an offer counts for under a room of the cut
-  share : Room → Offer → ℕ
+  share : Room → ViewOffer → ℕ
   share r o = cond (has_key cut.keys r.key) (cond (has_key o.path r.key) (lots o.number) 0) 0
 
   -- what it counts for by itself
-  own : Offer → ℕ
+  own : ViewOffer → ℕ
   own o = cond (has_number cut.offers o.number) (lots o.number) 0
 
-  whole : (r : Room) (o : Offer) → has_key cut.keys r.key ≡ true → has_key o.path r.key ≡ true → lots o.number ≤ share r o
+  whole : (r : Room) (o : ViewOffer) → has_key cut.keys r.key ≡ true → has_key o.path r.key ≡ true → lots o.number ≤ share r o
   unfolding share
   whole r o in_cut on_path =
       rw (cond-true (has_key cut.keys r.key) (cond (has_key o.path r.key) (lots o.number) 0) 0 in_cut, cond-true (has_key o.path r.key) (lots o.number) 0 on_path) (omega arith)
 
   -- a covered offer's lots count at least once
-  counted : (o : Offer) → is_covered cut o ≡ true → AllByRecursion (λ k. has_room view.rooms k ≡ true) o.path → lots o.number ≤ own o + sum_by (λ r. share r o) view.rooms
+  counted : (o : ViewOffer) → is_covered cut o ≡ true → AllByRecursion (λ k. has_room view.rooms k ≡ true) o.path → lots o.number ≤ own o + sum_by (λ r. share r o) view.rooms
   unfolding share own
   counted o covered roomed =
       elim (or_cases (has_number cut.offers o.number) (list_any (has_key cut.keys) o.path) covered) [
@@ -86,16 +86,16 @@ module _ (view : GroupView) (cut : CutLists) (lots : ℕ → ℕ) where
   part r within = parts (has_key cut.keys r.key) r.lots (λ o. cond (has_key o.path r.key) (lots o.number) 0) view.offers within
 
   -- and what counts by itself no more than the offer has
-  own_part : (o : Offer) → lots o.number ≤ o.lots → own o ≤ cond (has_number cut.offers o.number) o.lots 0
+  own_part : (o : ViewOffer) → lots o.number ≤ o.lots → own o ≤ cond (has_number cut.offers o.number) o.lots 0
   unfolding own
   own_part o within = own_parts (has_number cut.offers o.number) (lots o.number) o.lots within
 
   -- each key of each path has a room
   all_roomed : IsView view → AllByRecursion (λ o. AllByRecursion (λ k. has_room view.rooms k ≡ true) o.path) view.offers
   all_roomed sound =
-      along (λ (o : Offer). (k : LimitKey) → has_key o.path k ≡ true → list_any (λ o. has_key o.path k) view.offers ≡ true) (λ (o : Offer). AllByRecursion (λ k. has_room view.rooms k ≡ true) o.path) view.offers
+      along (λ (o : ViewOffer). (k : LimitKey) → has_key o.path k ≡ true → list_any (λ o. has_key o.path k) view.offers ≡ true) (λ (o : ViewOffer). AllByRecursion (λ k. has_room view.rooms k ≡ true) o.path) view.offers
       (λ o known. along (λ k. has_key o.path k ≡ true) (λ k. has_room view.rooms k ≡ true) o.path (λ k h. roomed view sound k (known k h)) (on_own_path o.path))
-      (recursion_from_All (λ (o : Offer). (k : LimitKey) → has_key o.path k ≡ true → list_any (λ o. has_key o.path k) view.offers ≡ true) view.offers (λ i d inside k h. list_any_at (λ (o : Offer). has_key o.path k) view.offers i d inside h))
+      (recursion_from_All (λ (o : ViewOffer). (k : LimitKey) → has_key o.path k ≡ true → list_any (λ o. has_key o.path k) view.offers ≡ true) view.offers (λ i d inside k h. list_any_at (λ (o : ViewOffer). has_key o.path k) view.offers i d inside h))
 
   pub cut_bounds_takes : IsView view → IsAdmissible view lots → Covers view cut → total view.offers lots ≤ room_of view cut
   cut_bounds_takes sound admissible covered =

@@ -13,7 +13,7 @@ use Rattle.gu_terms.proofs.KeyLemmas.{key_eq-from, key_eq-refl}
 use Rattle.gu_view.specs.Making.{MakesView, in_order, view_of}
 use Rattle.gu_view.specs.Keeping.{IsIndexed, IsKeyed}
 use Rattle.gu_view.specs.View.{GroupView, IsView, keys_of, place_among, place_of, places_under}
-use Rattle.gu_view.specs.declared.view.Offer.{Offer}
+use Rattle.gu_view.specs.declared.view.ViewOffer.{ViewOffer}
 use Rattle.gu_view.specs.declared.view.Room.{Room}
 use Rattle.gu_terms.proofs.Lists.{Later, list_any-map, position_or_len-map}
 use Rattle.gu_view.proofs.MakingLemmas.{even_paths, good_offers, in_order-own}
@@ -27,7 +27,7 @@ path-keys : (rooms : List Room) (path : List LimitKey) → map (place_among (map
 path-keys rooms [] = refl
 path-keys rooms (k ∷ path) = rw (place-keys rooms k, path-keys rooms path) refl
 
-paths-keys : (rooms : List Room) (offers : List Offer) → map (λ (o : Offer). map (place_among (map (λ (r : Room). r.key) rooms)) o.path) offers ≡ map (λ (o : Offer). map (place_of rooms) o.path) offers
+paths-keys : (rooms : List Room) (offers : List ViewOffer) → map (λ (o : ViewOffer). map (place_among (map (λ (r : Room). r.key) rooms)) o.path) offers ≡ map (λ (o : ViewOffer). map (place_of rooms) o.path) offers
 paths-keys rooms [] = refl
 paths-keys rooms (o ∷ offers) = rw (path-keys rooms o.path, paths-keys rooms offers) refl
 
@@ -36,7 +36,7 @@ pub distinct : (view : GroupView) → IsView view → AllPairs (λ a b. a.key �
 distinct view sound i j d before within same =
     both_ways (key_eq (get_or view.rooms i d).key (get_or view.rooms j d).key) (apart view sound i j d (omega arith) within (λ e. absurd (omega arith))) (key_eq-from (get_or view.rooms i d).key (get_or view.rooms j d).key same)
 
-module _ (group : Group) (version : ℕ) (offers : List Offer) (rooms : List Room) (keys : List LimitKey) (places : List (List ℕ)) (keyed : IsKeyed offers keys places) (room-keys : map (λ (r : Room). r.key) rooms ≡ keys_of offers) (limits : All (λ r. r.lots ≤ 1000000000) rooms) where
+module _ (group : Group) (version : ℕ) (offers : List ViewOffer) (rooms : List Room) (keys : List LimitKey) (places : List (List ℕ)) (keyed : IsKeyed offers keys places) (room-keys : map (λ (r : Room). r.key) rooms ≡ keys_of offers) (limits : All (λ r. r.lots ≤ 1000000000) rooms) where
   abbrev pub shown : GroupView
   shown = record { group = group; version = version; offers = offers; rooms = rooms }
 
@@ -63,7 +63,7 @@ module _ (group : Group) (version : ℕ) (offers : List Offer) (rooms : List Roo
   ordered : in_order (keys_of offers) rooms ≡ rooms
   ordered =
       ap (λ l. in_order l rooms) (sym room-keys)
-      ∙ in_order-own rooms (subst (Later (λ a b. key_eq a b ≡ false)) (sym room-keys) (apart-firsts (flat_map (λ (o : Offer). o.path) offers)))
+      ∙ in_order-own rooms (subst (Later (λ a b. key_eq a b ≡ false)) (sym room-keys) (apart-firsts (flat_map (λ (o : ViewOffer). o.path) offers)))
 
   pub shown-is : shown ≡ view_of group version offers rooms
   shown-is = λ i. record { group = group; version = version; offers = offers; rooms = sym ordered i }
@@ -85,12 +85,12 @@ module _ (group : Group) (version : ℕ) (offers : List Offer) (rooms : List Roo
     };
   }
 
-  pub places_are : places ≡ map (λ (o : Offer). map (place_of rooms) o.path) offers
-  places_are = keyed.places_are ∙ ap (λ l. map (λ (o : Offer). map (place_among l) o.path) offers) (keyed.keys_are ∙ sym room-keys) ∙ paths-keys rooms offers
+  pub places_are : places ≡ map (λ (o : ViewOffer). map (place_of rooms) o.path) offers
+  places_are = keyed.places_are ∙ ap (λ l. map (λ (o : ViewOffer). map (place_among l) o.path) offers) (keyed.keys_are ∙ sym room-keys) ∙ paths-keys rooms offers
 
   pub all_within : All (All (λ place. place < length rooms)) places
   all_within i d inside =
-      places_are_within shown sound places i (get_or places i d) (omega (arith, ap length places_are, length-map offers (λ (o : Offer). map (place_of rooms) o.path))) places_are (slice_get-get_or places i d inside)
+      places_are_within shown sound places i (get_or places i d) (omega (arith, ap length places_are, length-map offers (λ (o : ViewOffer). map (place_of rooms) o.path))) places_are (slice_get-get_or places i d inside)
 
   -- the parts beside it are those of a view
   pub indexed : (members : List (List ℕ)) → members ≡ map (λ (r : Room). places_under offers r.key) rooms → IsIndexed shown keys places members

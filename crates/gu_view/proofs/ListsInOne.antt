@@ -1,10 +1,10 @@
--- Lists that lie one behind another in one list.
+-- Lists that lie one after another in one list.
 use Rattle.std.proofs.Common.{◌≡◌, ℕ, zero, suc, ◌-◌, ◌<◌, ◌≤◌, List, [], ◌∷◌, ◌++◌, Some, length, take, drop, get_or, arith, length-append, ap, ◌∙◌, refl}
 use Rattle.std.specs.Prelude.{slice_range, slice_get}
 use Rattle.std.proofs.lemmas.List.{drop_at, drop-append-le, take_all, take-append-le, length-drop}
 use Rattle.gu_view.specs.Keeping.{lists_from, AreEnds}
 
--- what lies behind the first list of a joined pair
+-- what lies after the first list of a joined pair
 range-behind : (joined list : List ℕ) (from : ℕ) → from ≡ length joined → slice_range (joined ++ list) from (length (joined ++ list)) ≡ list
 range-behind joined list from e =
     rw (e, drop_at joined list (length joined) refl) (take_all (length (joined ++ list) - length joined) list (omega (arith, length-append joined list)))
@@ -20,7 +20,7 @@ pub AreEnds-start : (whole from : ℕ) (ends : List ℕ) → AreEnds whole from 
 AreEnds-start whole from [] h = omega arith
 AreEnds-start whole from (end ∷ ends) h = omega (arith, h.0, AreEnds-start whole end ends h.1)
 
--- a further list goes behind the others
+-- a further list goes after the others
 pub lists_from-push : (joined list : List ℕ) (from : ℕ) (ends : List ℕ) → AreEnds (length joined) from ends
     → lists_from (joined ++ list) from (ends ++ length (joined ++ list) ∷ []) ≡ lists_from joined from ends ++ list ∷ []
 lists_from-push joined list from [] h = ap (λ l. l ∷ []) (range-behind joined list from h)

@@ -24,7 +24,7 @@ use Rattle.std.specs.Prelude.{slice_get}
 use Rattle.std.proofs.lemmas.Bool.{or_parts, leb-false, ltb-false, not-false}
 use Rattle.std.proofs.lemmas.List.{length-map}
 use Rattle.std.proofs.lemmas.Option.{slice_get_cases}
-use Rattle.gu_view.specs.declared.view.Offer.{Offer}
+use Rattle.gu_view.specs.declared.view.ViewOffer.{ViewOffer}
 use Rattle.gu_view.specs.declared.view.Room.{Room}
 use Rattle.std.proofs.Common.{Ok, Err, Result}
 use Rattle.std.specs.Prelude.{IfOk, MatchOption}
@@ -40,16 +40,16 @@ use Rattle.gu_view.specs.Making.{AreRooms, in_order, lots_given}
 use Rattle.gu_terms.proofs.Lists.{Later, AllPairs-from_Later, Later-from_AllPairs, along, any_none, find_more, find_none, none_any, none_found}
 use Rattle.gu_view.proofs.TakesLemmas.{older_is_before}
 
--- the first bad offer of those that come behind a number
-abbrev pub bad_behind : ℕ → List Offer → Option (ℕ × Offer)
-bad_behind before offers = find (λ (p : ℕ × Offer). is_bad p.0 p.1) (zip (before ∷ map (λ (o : Offer). o.number) offers) offers)
+-- the first bad offer of those that come after a number
+abbrev pub bad_after : ℕ → List ViewOffer → Option (ℕ × ViewOffer)
+bad_after before offers = find (λ (p : ℕ × ViewOffer). is_bad p.0 p.1) (zip (before ∷ map (λ (o : ViewOffer). o.number) offers) offers)
 
 -- one offer on
-pub bad_here : (before : ℕ) (offers : List Offer) (i : ℕ) (o : Offer) → i < length offers → o ≡ get_or offers i o → is_bad before o ≡ true → bad_behind before (drop i offers) ≡ Some (before, o)
-bad_here before offers i o inside is bad = ap (bad_behind before) (drop_more offers i o inside ∙ ap (λ x. x ∷ drop (i + 1) offers) (sym is)) ∙ rw bad refl
+pub bad_here : (before : ℕ) (offers : List ViewOffer) (i : ℕ) (o : ViewOffer) → i < length offers → o ≡ get_or offers i o → is_bad before o ≡ true → bad_after before (drop i offers) ≡ Some (before, o)
+bad_here before offers i o inside is bad = ap (bad_after before) (drop_more offers i o inside ∙ ap (λ x. x ∷ drop (i + 1) offers) (sym is)) ∙ rw bad refl
 
-pub bad_later : (before : ℕ) (offers : List Offer) (i : ℕ) (o : Offer) → i < length offers → o ≡ get_or offers i o → is_bad before o ≡ false → bad_behind before (drop i offers) ≡ bad_behind o.number (drop (i + 1) offers)
-bad_later before offers i o inside is good = ap (bad_behind before) (drop_more offers i o inside ∙ ap (λ x. x ∷ drop (i + 1) offers) (sym is)) ∙ rw good refl
+pub bad_later : (before : ℕ) (offers : List ViewOffer) (i : ℕ) (o : ViewOffer) → i < length offers → o ≡ get_or offers i o → is_bad before o ≡ false → bad_after before (drop i offers) ≡ bad_after o.number (drop (i + 1) offers)
+bad_later before offers i o inside is good = ap (bad_after before) (drop_more offers i o inside ∙ ap (λ x. x ∷ drop (i + 1) offers) (sym is)) ∙ rw good refl
 
 -- the test of agreements
 abbrev pub agreement_eq : AgreementId → AgreementId → Bool
@@ -66,26 +66,26 @@ pub path_eq-refl : (a : List LimitKey) → pointwise key_eq a a ≡ true
 path_eq-refl a = (slice_eq-Decides (λ a b. (key_eq-same a b, key_eq-from a b)) a a (pointwise key_eq a a) refl).1 refl
 
 -- an offer whose path isn't that of its agreement
-abbrev pub is_odd : List Offer → Offer → Bool
+abbrev pub is_odd : List ViewOffer → ViewOffer → Bool
 is_odd offers o = not (is_own o) || has_other_path offers o
 
 -- the offers before a place have the paths that are known by their agreements, and no other path is known
-pub record IsSeen (offers : List Offer) (i : ℕ) (paths : AgreementId → Option (List LimitKey)) : Type 0 where
+pub record IsSeen (offers : List ViewOffer) (i : ℕ) (paths : AgreementId → Option (List LimitKey)) : Type 0 where
   pub even : find (is_odd offers) (take i offers) ≡ None
   pub kept : All (λ o. paths o.agreement ≡ Some o.path) (take i offers)
   pub known : (a : AgreementId) (path : List LimitKey) → paths a ≡ Some path → list_any (λ o. agreement_eq o.agreement a) (take i offers) ≡ true
 
-module _ (offers : List Offer) (i : ℕ) (paths : AgreementId → Option (List LimitKey)) (o : Offer) (ascending : AllPairs (λ a b. a.number < b.number) offers)
+module _ (offers : List ViewOffer) (i : ℕ) (paths : AgreementId → Option (List LimitKey)) (o : ViewOffer) (ascending : AllPairs (λ a b. a.number < b.number) offers)
     (inside : i < length offers) (is : o ≡ get_or offers i o) (seen : IsSeen offers i paths) where
   -- an offer before it of its agreement has another path
-  pub others : Offer → Bool
+  pub others : ViewOffer → Bool
   others older = same_agreement older o && not (pointwise key_eq older.path o.path)
 
   pub others_are : has_other_path offers o ≡ list_any others (take i offers)
   unfolding others
   others_are =
-      ap (λ (n : ℕ). list_any (λ older. nat_lt older.number n && (same_agreement older o && not (pointwise key_eq older.path o.path))) offers) (ap (λ (o : Offer). o.number) is)
-      ∙ older_is_before (λ older. same_agreement older o && not (pointwise key_eq older.path o.path)) offers i o inside (Later-from_AllPairs (λ (a b : Offer). a.number < b.number) offers ascending)
+      ap (λ (n : ℕ). list_any (λ older. nat_lt older.number n && (same_agreement older o && not (pointwise key_eq older.path o.path))) offers) (ap (λ (o : ViewOffer). o.number) is)
+      ∙ older_is_before (λ older. same_agreement older o && not (pointwise key_eq older.path o.path)) offers i o inside (Later-from_AllPairs (λ (a b : ViewOffer). a.number < b.number) offers ascending)
 
   -- none where none of its agreement is known, or this very path is
   pub even_new : paths o.agreement ≡ None → has_other_path offers o ≡ false
@@ -120,11 +120,11 @@ module _ (offers : List Offer) (i : ℕ) (paths : AgreementId → Option (List L
   pub odd_known : (path : List LimitKey) → paths o.agreement ≡ Some path → pointwise key_eq path o.path ≡ false → has_other_path offers o ≡ true
   unfolding others
   odd_known path known other =
-      others_are ∙ at (Any-from_list_any (λ (e : Offer). agreement_eq e.agreement o.agreement) (take i offers) (seen.known o.agreement path known))
+      others_are ∙ at (Any-from_list_any (λ (e : ViewOffer). agreement_eq e.agreement o.agreement) (take i offers) (seen.known o.agreement path known))
     where
-      at : Any (λ (e : Offer). agreement_eq e.agreement o.agreement ≡ true) (take i offers) → list_any others (take i offers) ≡ true
+      at : Any (λ (e : ViewOffer). agreement_eq e.agreement o.agreement ≡ true) (take i offers) → list_any others (take i offers) ≡ true
       at (k, e, within, e-is, same) =
-          let mine : paths e.agreement ≡ Some e.path = ap (λ (e : Offer). paths e.agreement) (sym e-is) ∙ seen.kept k e within ∙ ap (λ (e : Offer). Some e.path) e-is in
+          let mine : paths e.agreement ≡ Some e.path = ap (λ (e : ViewOffer). paths e.agreement) (sym e-is) ∙ seen.kept k e within ∙ ap (λ (e : ViewOffer). Some e.path) e-is in
           let theirs : e.path ≡ path = some_same (sym mine ∙ ap paths (agreement_eq-same e.agreement o.agreement same) ∙ known) in
           list_any_at others (take i offers) k e within (ap others e-is ∙ and_from _ _ same (ap (λ p. not (pointwise key_eq p o.path)) theirs ∙ ap not other))
         where
@@ -135,26 +135,26 @@ module _ (offers : List Offer) (i : ℕ) (paths : AgreementId → Option (List L
   pub seen_known : is_own o ≡ true → paths o.agreement ≡ Some o.path → IsSeen offers (i + 1) paths
   seen_known own known = record {
     even = find_more (is_odd offers) offers i o inside seen.even (ap (is_odd offers) (sym is) ∙ or_from _ _ (ap not own) (even_known known));
-    kept = All-more (λ (o : Offer). paths o.agreement ≡ Some o.path) offers i o inside seen.kept (subst (λ (o : Offer). paths o.agreement ≡ Some o.path) is known);
-    known = λ a path at. list_any_kept (λ (o : Offer). agreement_eq o.agreement a) offers i (seen.known a path at);
+    kept = All-more (λ (o : ViewOffer). paths o.agreement ≡ Some o.path) offers i o inside seen.kept (subst (λ (o : ViewOffer). paths o.agreement ≡ Some o.path) is known);
+    known = λ a path at. list_any_kept (λ (o : ViewOffer). agreement_eq o.agreement a) offers i (seen.known a path at);
   }
 
   -- or is known from now on
   pub seen_new : (after : AgreementId → Option (List LimitKey)) → is_own o ≡ true → paths o.agreement ≡ None → ((a : AgreementId) → after a ≡ cond (agreement_eq o.agreement a) (Some o.path) (paths a)) → IsSeen offers (i + 1) after
   seen_new after own none updated = record {
     even = find_more (is_odd offers) offers i o inside seen.even (ap (is_odd offers) (sym is) ∙ or_from _ _ (ap not own) (even_new none));
-    kept = All-more (λ (o : Offer). after o.agreement ≡ Some o.path) offers i o inside
+    kept = All-more (λ (o : ViewOffer). after o.agreement ≡ Some o.path) offers i o inside
         (λ k d within.
         let e = get_or (take i offers) k d in
         elim (cases_Bool (agreement_eq o.agreement e.agreement)) [
           | inl same ↦ let gone : paths e.agreement ≡ None = ap paths (sym (agreement_eq-same o.agreement e.agreement same)) ∙ none in absurd (none_some (sym gone ∙ seen.kept k d within))
           | inr apart ↦ updated e.agreement ∙ rw apart (seen.kept k d within)
         ])
-        (subst (λ (o : Offer). after o.agreement ≡ Some o.path) is (updated o.agreement ∙ rw (key_eq-refl (Agr o.agreement)) refl));
+        (subst (λ (o : ViewOffer). after o.agreement ≡ Some o.path) is (updated o.agreement ∙ rw (key_eq-refl (Agr o.agreement)) refl));
     known = λ a path at.
         elim (cases_Bool (agreement_eq o.agreement a)) [
-          | inl same ↦ list_any_more (λ (e : Offer). agreement_eq e.agreement a) offers i o inside ∙ or_right _ _ (ap (λ (e : Offer). agreement_eq e.agreement a) (sym is) ∙ same)
-          | inr apart ↦ list_any_kept (λ (e : Offer). agreement_eq e.agreement a) offers i (seen.known a path (sym (updated a ∙ rw apart refl) ∙ at))
+          | inl same ↦ list_any_more (λ (e : ViewOffer). agreement_eq e.agreement a) offers i o inside ∙ or_right _ _ (ap (λ (e : ViewOffer). agreement_eq e.agreement a) (sym is) ∙ same)
+          | inr apart ↦ list_any_kept (λ (e : ViewOffer). agreement_eq e.agreement a) offers i (seen.known a path (sym (updated a ∙ rw apart refl) ∙ at))
         ];
   }
     where
@@ -260,16 +260,16 @@ lookup-agree p q [] same = refl
 lookup-agree p q (e ∷ entries) same = rw (same e.0, lookup-agree p q entries same) refl
 
 -- what is known of the agreements before the first offer
-pub seen_none : (offers : List Offer) (paths : AgreementId → Option (List LimitKey)) → ((a : AgreementId) → paths a ≡ None) → IsSeen offers 0 paths
+pub seen_none : (offers : List ViewOffer) (paths : AgreementId → Option (List LimitKey)) → ((a : AgreementId) → paths a ≡ None) → IsSeen offers 0 paths
 seen_none offers paths none = record { even = refl; kept = λ k d within. absurd (omega arith); known = λ a path at. absurd (none_some (sym (none a) ∙ at)) }
   where
     none_some : {p : List LimitKey} → ◌≡◌ {A = Option (List LimitKey)} None (Some p) → ⊥
     none_some h = cc
 
 -- of few offers the first bad one is the first of all
-pub bad_of_few : (offers : List Offer) → length offers ≤ 4096 → option_map (λ (p : ℕ × Offer). p.1.number) (find (λ (p : ℕ × Offer). is_bad p.0 p.1) (numbered offers)) ≡ bad_offer offers
+pub bad_of_few : (offers : List ViewOffer) → length offers ≤ 4096 → option_map (λ (p : ℕ × ViewOffer). p.1.number) (find (λ (p : ℕ × ViewOffer). is_bad p.0 p.1) (numbered offers)) ≡ bad_offer offers
 bad_of_few offers few =
-    rw (take_all 4096 offers few, slice_get_past offers 4096 few) (sym (or-none (option_map (λ (p : ℕ × Offer). p.1.number) (find (λ (p : ℕ × Offer). is_bad p.0 p.1) (numbered offers)))))
+    rw (take_all 4096 offers few, slice_get_past offers 4096 few) (sym (or-none (option_map (λ (p : ℕ × ViewOffer). p.1.number) (find (λ (p : ℕ × ViewOffer). is_bad p.0 p.1) (numbered offers)))))
   where
     or-none : (found : Option ℕ) → option_or found None ≡ found
     or-none None = refl
@@ -292,26 +292,26 @@ pointwise-agree p q (j ∷ a) [] same = refl
 pointwise-agree p q (j ∷ a) (k ∷ b) same = rw (same j k, pointwise-agree p q a b same) refl
 
 -- offers of which none is bad
-pub record AreGood (before : ℕ) (offers : List Offer) : Type 0 where
-  pub above : AllByRecursion (λ (o : Offer). before < o.number) offers
-  pub ascending : Later (λ (a b : Offer). a.number < b.number) offers
-  pub lots : AllByRecursion (λ (o : Offer). IsLots o.lots) offers
+pub record AreGood (before : ℕ) (offers : List ViewOffer) : Type 0 where
+  pub above : AllByRecursion (λ (o : ViewOffer). before < o.number) offers
+  pub ascending : Later (λ (a b : ViewOffer). a.number < b.number) offers
+  pub lots : AllByRecursion (λ (o : ViewOffer). IsLots o.lots) offers
 
-good_behind : (before : ℕ) (offers : List Offer) → bad_behind before offers ≡ None → AreGood before offers
-good_behind before [] none = record { above = tt; ascending = tt; lots = tt }
-good_behind before (o ∷ offers) none =
-    let here = none_here (is_bad before o) (before, o) (bad_behind o.number offers) none in
+good_after : (before : ℕ) (offers : List ViewOffer) → bad_after before offers ≡ None → AreGood before offers
+good_after before [] none = record { above = tt; ascending = tt; lots = tt }
+good_after before (o ∷ offers) none =
+    let here = none_here (is_bad before o) (before, o) (bad_after o.number offers) none in
     let parts = or_parts (nat_le o.number before) (o.lots == 0 || nat_lt 1000000 o.lots) here.0 in
     let lots = or_parts (o.lots == 0) (nat_lt 1000000 o.lots) parts.1 in
-    let rest = good_behind o.number offers here.1 in
+    let rest = good_after o.number offers here.1 in
     let above : before < o.number = leb-false o.number before parts.0 in
     record {
-      above = (above, along (λ (x : Offer). o.number < x.number) (λ (x : Offer). before < x.number) offers (λ x h. omega arith) rest.above);
+      above = (above, along (λ (x : ViewOffer). o.number < x.number) (λ (x : ViewOffer). before < x.number) offers (λ x h. omega arith) rest.above);
       ascending = (rest.above, rest.ascending);
       lots = (record { some = some (o.lots) lots.0; most = ltb-false 1000000 o.lots lots.1 }, rest.lots);
     }
   where
-    none_here : (b : Bool) (p : ℕ × Offer) (rest : Option (ℕ × Offer)) → cond b (Some p) rest ≡ None → (b ≡ false) × (rest ≡ None)
+    none_here : (b : Bool) (p : ℕ × ViewOffer) (rest : Option (ℕ × ViewOffer)) → cond b (Some p) rest ≡ None → (b ≡ false) × (rest ≡ None)
     none_here true p rest h = cc
     none_here false p rest h = (refl, h)
 
@@ -320,24 +320,24 @@ good_behind before (o ∷ offers) none =
     some (suc n) h = omega arith
 
 -- no offer is bad
-pub record AreOffers (offers : List Offer) : Type 0 where
+pub record AreOffers (offers : List ViewOffer) : Type 0 where
   pub few : length offers ≤ 4096
   pub ascending : AllPairs (λ a b. a.number < b.number) offers
   pub lots : All (λ o. IsLots o.lots) offers
 
-pub good_offers : (offers : List Offer) → bad_offer offers ≡ None → AreOffers offers
+pub good_offers : (offers : List ViewOffer) → bad_offer offers ≡ None → AreOffers offers
 good_offers offers none =
-    let parts = both_none (option_map (λ (p : ℕ × Offer). p.1.number) (find (λ (p : ℕ × Offer). is_bad p.0 p.1) (numbered (take 4096 offers)))) (option_map (λ (o : Offer). o.number) (slice_get offers 4096)) none in
+    let parts = both_none (option_map (λ (p : ℕ × ViewOffer). p.1.number) (find (λ (p : ℕ × ViewOffer). is_bad p.0 p.1) (numbered (take 4096 offers)))) (option_map (λ (o : ViewOffer). o.number) (slice_get offers 4096)) none in
     let few : length offers ≤ 4096 =
     elim (slice_get_cases offers 4096).1 [
-      | inl found ↦ absurd (some_none (ap (option_map (λ (o : Offer). o.number)) (sym found.2) ∙ parts.1))
+      | inl found ↦ absurd (some_none (ap (option_map (λ (o : ViewOffer). o.number)) (sym found.2) ∙ parts.1))
       | inr past ↦ past.0
     ] in
-    let good = good_behind 0 offers (named_none (find (λ (p : ℕ × Offer). is_bad p.0 p.1) (numbered offers)) (rw (take_all 4096 offers few) at parts.0)) in
+    let good = good_after 0 offers (named_none (find (λ (p : ℕ × ViewOffer). is_bad p.0 p.1) (numbered offers)) (rw (take_all 4096 offers few) at parts.0)) in
     record {
       few = few;
-      ascending = AllPairs-from_Later (λ (a b : Offer). a.number < b.number) offers good.ascending;
-      lots = All-from_recursion (λ (o : Offer). IsLots o.lots) offers good.lots;
+      ascending = AllPairs-from_Later (λ (a b : ViewOffer). a.number < b.number) offers good.ascending;
+      lots = All-from_recursion (λ (o : ViewOffer). IsLots o.lots) offers good.lots;
     }
   where
     both_none : (a b : Option ℕ) → option_or a b ≡ None → (a ≡ None) × (b ≡ None)
@@ -347,23 +347,23 @@ good_offers offers none =
     some_none : {n : ℕ} → ◌≡◌ {A = Option ℕ} (Some n) None → ⊥
     some_none h = cc
 
-    named_none : (found : Option (ℕ × Offer)) → option_map (λ (p : ℕ × Offer). p.1.number) found ≡ None → found ≡ None
+    named_none : (found : Option (ℕ × ViewOffer)) → option_map (λ (p : ℕ × ViewOffer). p.1.number) found ≡ None → found ≡ None
     named_none None h = refl
     named_none (Some p) h = cc
 
 -- no path is odd
-pub record ArePaths (offers : List Offer) : Type 0 where
+pub record ArePaths (offers : List ViewOffer) : Type 0 where
   pub own : All (λ o. slice_get o.path 1 ≡ Some (Agr o.agreement)) offers
   pub one_path : AllPairs (λ a b. a.agreement ≡ b.agreement → a.path ≡ b.path) offers
 
-own_key : (o : Offer) → is_own o ≡ true → slice_get o.path 1 ≡ Some (Agr o.agreement)
+own_key : (o : ViewOffer) → is_own o ≡ true → slice_get o.path 1 ≡ Some (Agr o.agreement)
 own_key o h = go (slice_get o.path 1) h
   where
     go : (found : Option LimitKey) → option_map_or (key_eq (Agr o.agreement)) found false ≡ true → found ≡ Some (Agr o.agreement)
     go None h = cc
     go (Some k) h = ap (λ k. Some k) (sym (key_eq-same (Agr o.agreement) k h))
 
-pub even_paths : (offers : List Offer) → AllPairs (λ a b. a.number < b.number) offers → path_differs offers ≡ None → ArePaths offers
+pub even_paths : (offers : List ViewOffer) → AllPairs (λ a b. a.number < b.number) offers → path_differs offers ≡ None → ArePaths offers
 even_paths offers ascending none = record {
   own = λ i d inside. own_key (get_or offers i d) (not-false (is_own (get_or offers i d)) (or_parts _ _ (even i d inside)).0);
   one_path = λ i j d before inside same.
@@ -371,14 +371,14 @@ even_paths offers ascending none = record {
       let b = get_or offers j d in
       let quiet : has_other_path offers b ≡ false = (or_parts _ _ (even j d inside)).1 in
       let others : list_any (λ older. same_agreement older b && not (pointwise key_eq older.path b.path)) (take j offers) ≡ false =
-      sym (older_is_before (λ older. same_agreement older b && not (pointwise key_eq older.path b.path)) offers j d inside (Later-from_AllPairs (λ (a b : Offer). a.number < b.number) offers ascending)) ∙ quiet in
+      sym (older_is_before (λ older. same_agreement older b && not (pointwise key_eq older.path b.path)) offers j d inside (Later-from_AllPairs (λ (a b : ViewOffer). a.number < b.number) offers ascending)) ∙ quiet in
       let here : (same_agreement a b && not (pointwise key_eq a.path b.path)) ≡ false =
-      ap (λ (e : Offer). same_agreement e b && not (pointwise key_eq e.path b.path)) (sym (get_or-take j offers i d before))
-      ∙ All-from_recursion (λ (e : Offer). (same_agreement e b && not (pointwise key_eq e.path b.path)) ≡ false) (take j offers) (any_none (λ (e : Offer). same_agreement e b && not (pointwise key_eq e.path b.path)) (take j offers) others) i d (omega (arith, length-take j offers)) in
+      ap (λ (e : ViewOffer). same_agreement e b && not (pointwise key_eq e.path b.path)) (sym (get_or-take j offers i d before))
+      ∙ All-from_recursion (λ (e : ViewOffer). (same_agreement e b && not (pointwise key_eq e.path b.path)) ≡ false) (take j offers) (any_none (λ (e : ViewOffer). same_agreement e b && not (pointwise key_eq e.path b.path)) (take j offers) others) i d (omega (arith, length-take j offers)) in
       path_eq-same a.path b.path (not-false _ (rest_of (same_agreement a b) (not (pointwise key_eq a.path b.path)) (key_eq-from (Agr a.agreement) (Agr b.agreement) (ap (λ x. Agr x) same)) here));
 }
   where
-    some_none : (found : Option Offer) → option_map (λ (o : Offer). o.number) found ≡ None → found ≡ None
+    some_none : (found : Option ViewOffer) → option_map (λ (o : ViewOffer). o.number) found ≡ None → found ≡ None
     some_none None h = refl
     some_none (Some o) h = cc
 

@@ -16,7 +16,7 @@ use Rattle.gu_terms.specs.declared.limit_key.LimitKey.{LimitKey}
 use Rattle.gu_terms.specs.Cuts.{has_number}
 use Rattle.gu_terms.specs.LimitKeys.{key_eq, has_key}
 use Rattle.gu_terms.proofs.KeyLemmas.{key_eq-same, key_eq-refl}
-use Rattle.gu_view.specs.declared.view.Offer.{Offer}
+use Rattle.gu_view.specs.declared.view.ViewOffer.{ViewOffer}
 use Rattle.gu_view.specs.declared.view.Room.{Room}
 use Rattle.gu_view.specs.View.{GroupView, IsView, place_of}
 use Rattle.gu_terms.proofs.Lists.{along, marked, position_or_len-within}
@@ -49,16 +49,16 @@ mark_key view sound keys i d place inside at =
     list_any_more (λ j. key_eq j (get_or view.rooms n e).key) keys i d inside ∙ rw differs (or-false _))
 
 -- the offer of one more number is marked
-pub mark_offer : (offers : List Offer) → AllPairs (λ a b. a.number < b.number) offers → (numbers : List ℕ) (i place : ℕ) (d : ℕ) → i < length numbers
+pub mark_offer : (offers : List ViewOffer) → AllPairs (λ a b. a.number < b.number) offers → (numbers : List ℕ) (i place : ℕ) (d : ℕ) → i < length numbers
     → position (λ o. o.number == get_or numbers i d) offers ≡ Some place
-    → set (map (λ (o : Offer). has_number (take i numbers) o.number) offers) place true ≡ map (λ (o : Offer). has_number (take (i + 1) numbers) o.number) offers
+    → set (map (λ (o : ViewOffer). has_number (take i numbers) o.number) offers) place true ≡ map (λ (o : ViewOffer). has_number (take (i + 1) numbers) o.number) offers
 mark_offer [] ascending numbers i place d inside at = cc
 mark_offer (o ∷ others) ascending numbers i place d inside at =
     let offers = o ∷ others in
     let n = get_or numbers i d in
-    let found = position-Some (λ (o : Offer). o.number == n) offers place o at in
+    let found = position-Some (λ (o : ViewOffer). o.number == n) offers place o at in
     let same : (get_or offers place o).number ≡ n = eqb-true (get_or offers place o).number n found.1 in
-    marked (λ (o : Offer). has_number (take i numbers) o.number) (λ (o : Offer). has_number (take (i + 1) numbers) o.number) offers place true o found.0
+    marked (λ (o : ViewOffer). has_number (take i numbers) o.number) (λ (o : ViewOffer). has_number (take (i + 1) numbers) o.number) offers place true o found.0
     (list_any_more (λ m. m == (get_or offers place o).number) numbers i d inside ∙ rw same (rw (eq-eqb n n refl) (or-true _)))
     (λ k within other.
     let differs : (n == (get_or offers k o).number) ≡ false =
@@ -99,18 +99,18 @@ position-none p xs none = rw (le-ltb (position_or_len p xs) (length xs) (far xs 
     far (x ∷ xs) none = rw none.0 (omega (arith, far xs none.1))
 
 -- the offers before a place have smaller numbers
-pub smaller_first : (offers : List Offer) (n : ℕ) → AllPairs (λ a b. a.number < b.number) offers → IsPartitionedBy (λ o. nat_lt o.number n) offers
+pub smaller_first : (offers : List ViewOffer) (n : ℕ) → AllPairs (λ a b. a.number < b.number) offers → IsPartitionedBy (λ o. nat_lt o.number n) offers
 smaller_first offers n h i j d le within smaller = lt-ltb _ _ (below (ltb-true _ _ smaller))
   where
     below : (get_or offers j d).number < n → (get_or offers i d).number < n
     below before = elim (eq-or-lt_of_le le) [ inl e ↦ rw e before | inr lt ↦ omega (arith, h i j d lt within) ]
 
-module _ (offers : List Offer) (n place : ℕ) (before : AllWithin (λ o. o.number < n) offers 0 place) where
+module _ (offers : List ViewOffer) (n place : ℕ) (before : AllWithin (λ o. o.number < n) offers 0 place) where
   -- the offer at that place has the number
-  pub place_found : (d : Offer) → place < length offers → (get_or offers place d).number ≡ n → position (λ o. o.number == n) offers ≡ Some place
+  pub place_found : (d : ViewOffer) → place < length offers → (get_or offers place d).number ≡ n → position (λ o. o.number == n) offers ≡ Some place
   place_found d inside is =
-      let first : position_or_len (λ (o : Offer). o.number == n) offers ≡ place =
-      prefix_len_is (λ (o : Offer). not (o.number == n)) offers place d (omega arith)
+      let first : position_or_len (λ (o : ViewOffer). o.number == n) offers ≡ place =
+      prefix_len_is (λ (o : ViewOffer). not (o.number == n)) offers place d (omega arith)
       (λ k low. rw (ne_eqb (get_or offers k d).number n (λ e. absurd (omega (arith, before k d (omega arith) low)))) refl)
       (λ _. rw (eq-eqb (get_or offers place d).number n is) refl) in
       rw (first, lt-ltb place (length offers) inside) refl
@@ -118,14 +118,14 @@ module _ (offers : List Offer) (n place : ℕ) (before : AllWithin (λ o. o.numb
   -- no offer has it
   pub place_past : length offers ≤ place → position (λ o. o.number == n) offers ≡ None
   place_past past =
-      position-none (λ (o : Offer). o.number == n) offers
-      (recursion_from_All (λ (o : Offer). (o.number == n) ≡ false) offers (λ k d inside. ne_eqb (get_or offers k d).number n (λ e. absurd (omega (arith, before k d (omega arith) (omega arith))))))
+      position-none (λ (o : ViewOffer). o.number == n) offers
+      (recursion_from_All (λ (o : ViewOffer). (o.number == n) ≡ false) offers (λ k d inside. ne_eqb (get_or offers k d).number n (λ e. absurd (omega (arith, before k d (omega arith) (omega arith))))))
 
   pub place_other : AllPairs (λ a b. a.number < b.number) offers → AllWithin (λ o. n ≤ o.number) offers place (length offers) → place < length offers
-      → ((d : Offer) → (get_or offers place d).number ≡ n → ⊥) → position (λ o. o.number == n) offers ≡ None
+      → ((d : ViewOffer) → (get_or offers place d).number ≡ n → ⊥) → position (λ o. o.number == n) offers ≡ None
   place_other ascending behind inside other =
-      position-none (λ (o : Offer). o.number == n) offers
-      (recursion_from_All (λ (o : Offer). (o.number == n) ≡ false) offers (λ k d within. ne_eqb (get_or offers k d).number n (λ e. elim (cases_order k place) [
+      position-none (λ (o : ViewOffer). o.number == n) offers
+      (recursion_from_All (λ (o : ViewOffer). (o.number == n) ≡ false) offers (λ k d within. ne_eqb (get_or offers k d).number n (λ e. elim (cases_order k place) [
         | inl same ↦ other d (rw same at e)
         | inr order ↦ elim order [
           | inl low ↦ absurd (omega (arith, before k d (omega arith) low))
@@ -153,26 +153,26 @@ marks_tell (r ∷ rooms) marks test are (k ∷ path) inside =
     rw (here, marks_tell (r ∷ rooms) marks test are path inside.1) refl
 
 -- each key of an offer's path has a place among the rooms
-pub path_inside : (view : GroupView) → IsView view → (i : ℕ) (o : Offer) → i < length view.offers → o ≡ get_or view.offers i o → AllByRecursion (λ k. place_of view.rooms k < length view.rooms) o.path
+pub path_inside : (view : GroupView) → IsView view → (i : ℕ) (o : ViewOffer) → i < length view.offers → o ≡ get_or view.offers i o → AllByRecursion (λ k. place_of view.rooms k < length view.rooms) o.path
 path_inside view sound i o inside is =
     along (λ k. has_key o.path k ≡ true) (λ k. place_of view.rooms k < length view.rooms) o.path
-    (λ k on_path. position_or_len-within (λ (r : Room). key_eq r.key k) view.rooms (roomed view sound k (list_any_at (λ (o : Offer). has_key o.path k) view.offers i o inside (ap (λ (o : Offer). has_key o.path k) (sym is) ∙ on_path))))
+    (λ k on_path. position_or_len-within (λ (r : Room). key_eq r.key k) view.rooms (roomed view sound k (list_any_at (λ (o : ViewOffer). has_key o.path k) view.offers i o inside (ap (λ (o : ViewOffer). has_key o.path k) (sym is) ∙ on_path))))
     (on_own_path o.path)
 
 -- an offer's marks tell whether the cut covers it
-pub cover_told : (view : GroupView) → IsView view → (cut : CutLists) (keys numbers : List Bool) (i : ℕ) (o : Offer) (places : List ℕ) → AreMarks view.rooms keys (λ r. has_key cut.keys r.key) → AreMarks view.offers numbers (λ o. has_number cut.offers o.number)
+pub cover_told : (view : GroupView) → IsView view → (cut : CutLists) (keys numbers : List Bool) (i : ℕ) (o : ViewOffer) (places : List ℕ) → AreMarks view.rooms keys (λ r. has_key cut.keys r.key) → AreMarks view.offers numbers (λ o. has_number cut.offers o.number)
     → i < length view.offers → o ≡ get_or view.offers i o → places ≡ map (place_of view.rooms) o.path
     → is_covered cut o ≡ (get_or numbers i false || list_any (λ p. get_or keys p false) places)
 cover_told view sound cut keys numbers i o places key-marks number-marks inside is at =
     let number : get_or numbers i false ≡ has_number cut.offers o.number =
-    ap (λ l. get_or l i false) number-marks ∙ get_or-map (λ (o : Offer). has_number cut.offers o.number) view.offers i o false inside ∙ ap (λ (o : Offer). has_number cut.offers o.number) (sym is) in
+    ap (λ l. get_or l i false) number-marks ∙ get_or-map (λ (o : ViewOffer). has_number cut.offers o.number) view.offers i o false inside ∙ ap (λ (o : ViewOffer). has_number cut.offers o.number) (sym is) in
     let key : list_any (λ p. get_or keys p false) places ≡ list_any (has_key cut.keys) o.path =
     ap (list_any (λ p. get_or keys p false)) at ∙ marks_tell view.rooms keys (has_key cut.keys) key-marks o.path (path_inside view sound i o inside is) in
     rw (number, key) refl
 
 -- an offer that is marked itself is covered
-pub cover_any : (view : GroupView) → IsView view → (cut : CutLists) (numbers : List Bool) (i : ℕ) (o : Offer) → AreMarks view.offers numbers (λ o. has_number cut.offers o.number)
+pub cover_any : (view : GroupView) → IsView view → (cut : CutLists) (numbers : List Bool) (i : ℕ) (o : ViewOffer) → AreMarks view.offers numbers (λ o. has_number cut.offers o.number)
     → i < length view.offers → o ≡ get_or view.offers i o → get_or numbers i false ≡ true → is_covered cut o ≡ true
 cover_any view sound cut numbers i o number-marks inside is hit =
     or_left (has_number cut.offers o.number) (list_any (has_key cut.keys) o.path)
-    (ap (λ (o : Offer). has_number cut.offers o.number) is ∙ sym (get_or-map (λ (o : Offer). has_number cut.offers o.number) view.offers i o false inside) ∙ ap (λ l. get_or l i false) (sym number-marks) ∙ hit)
+    (ap (λ (o : ViewOffer). has_number cut.offers o.number) is ∙ sym (get_or-map (λ (o : ViewOffer). has_number cut.offers o.number) view.offers i o false inside) ∙ ap (λ l. get_or l i false) (sym number-marks) ∙ hit)

@@ -11,7 +11,7 @@ use Rattle.gu_terms.proofs.Lists.{along, list_any-agree, position_or_len-agree}
 use Rattle.gu_terms.specs.LimitKeys.{key_eq, has_key}
 use Rattle.gu_terms.specs.declared.limit_key.LimitKey.{LimitKey}
 use Rattle.gu_view.specs.View.{firsts, keys_of, place_among}
-use Rattle.gu_view.specs.declared.view.Offer.{Offer}
+use Rattle.gu_view.specs.declared.view.ViewOffer.{ViewOffer}
 use Rattle.gu_view.proofs.RoomLemmas.{has_key-others, has_key-keys_of, on_own_path}
 
 -- one key more is mentioned
@@ -92,9 +92,9 @@ pub places-stay : (old new keys : List LimitKey) → ((k : LimitKey) → has_key
 places-stay old new [] stay known = refl
 places-stay old new (k ∷ keys) stay known = rw (stay k known.0, places-stay old new keys stay known.1) refl
 
-pub all_places-stay : (old new : List LimitKey) (offers : List Offer) → ((k : LimitKey) → has_key old k ≡ true → place_among new k ≡ place_among old k)
-    → AllByRecursion (λ (o : Offer). AllByRecursion (λ k. has_key old k ≡ true) o.path) offers
-    → map (λ (o : Offer). map (place_among old) o.path) offers ≡ map (λ (o : Offer). map (place_among new) o.path) offers
+pub all_places-stay : (old new : List LimitKey) (offers : List ViewOffer) → ((k : LimitKey) → has_key old k ≡ true → place_among new k ≡ place_among old k)
+    → AllByRecursion (λ (o : ViewOffer). AllByRecursion (λ k. has_key old k ≡ true) o.path) offers
+    → map (λ (o : ViewOffer). map (place_among old) o.path) offers ≡ map (λ (o : ViewOffer). map (place_among new) o.path) offers
 all_places-stay old new [] stay known = refl
 all_places-stay old new (o ∷ offers) stay known = rw (places-stay old new o.path stay known.0, all_places-stay old new offers stay known.1) refl
 
@@ -123,22 +123,22 @@ length-with_key keys k = go (list_any (eq k) keys)
     go false = omega (arith, length-append keys (k ∷ []))
 
 -- the keys of each path are among all of the keys
-pub all_known : (offers : List Offer) → AllByRecursion (λ (o : Offer). AllByRecursion (λ k. has_key (keys_of offers) k ≡ true) o.path) offers
+pub all_known : (offers : List ViewOffer) → AllByRecursion (λ (o : ViewOffer). AllByRecursion (λ k. has_key (keys_of offers) k ≡ true) o.path) offers
 all_known offers =
-    recursion_from_All (λ (o : Offer). AllByRecursion (λ k. has_key (keys_of offers) k ≡ true) o.path) offers (λ i d inside.
+    recursion_from_All (λ (o : ViewOffer). AllByRecursion (λ k. has_key (keys_of offers) k ≡ true) o.path) offers (λ i d inside.
     let o = get_or offers i d in
     along (λ k. has_key o.path k ≡ true) (λ k. has_key (keys_of offers) k ≡ true) o.path
-    (λ k on_path. has_key-keys_of offers k ∙ list_any_at (λ (o : Offer). has_key o.path k) offers i d inside on_path) (on_own_path o.path))
+    (λ k on_path. has_key-keys_of offers k ∙ list_any_at (λ (o : ViewOffer). has_key o.path k) offers i d inside on_path) (on_own_path o.path))
 
 -- one more offer
-pub keys_of-more : (offers : List Offer) (i : ℕ) (o : Offer) → i < length offers → o ≡ get_or offers i o → firsts (flat_map (λ (o : Offer). o.path) (take i offers) ++ o.path) ≡ keys_of (take (i + 1) offers)
+pub keys_of-more : (offers : List ViewOffer) (i : ℕ) (o : ViewOffer) → i < length offers → o ≡ get_or offers i o → firsts (flat_map (λ (o : ViewOffer). o.path) (take i offers) ++ o.path) ≡ keys_of (take (i + 1) offers)
 keys_of-more offers i o inside is =
-    ap firsts (flat_map_more (λ (o : Offer). o.path) [] (take i offers) o)
-    ∙ ap keys_of (ap (λ (x : Offer). take i offers ++ x ∷ []) is ∙ sym (take_more offers i o inside))
+    ap firsts (flat_map_more (λ (o : ViewOffer). o.path) [] (take i offers) o)
+    ∙ ap keys_of (ap (λ (x : ViewOffer). take i offers ++ x ∷ []) is ∙ sym (take_more offers i o inside))
 
-pub all_places-more : (keys : List LimitKey) (offers : List Offer) (made : List (List ℕ)) (i : ℕ) (o : Offer) (list : List ℕ) → i < length offers → o ≡ get_or offers i o
-    → made ≡ map (λ (o : Offer). map (place_among keys) o.path) (take i offers) → list ≡ map (place_among keys) o.path
-    → made ++ list ∷ [] ≡ map (λ (o : Offer). map (place_among keys) o.path) (take (i + 1) offers)
+pub all_places-more : (keys : List LimitKey) (offers : List ViewOffer) (made : List (List ℕ)) (i : ℕ) (o : ViewOffer) (list : List ℕ) → i < length offers → o ≡ get_or offers i o
+    → made ≡ map (λ (o : ViewOffer). map (place_among keys) o.path) (take i offers) → list ≡ map (place_among keys) o.path
+    → made ++ list ∷ [] ≡ map (λ (o : ViewOffer). map (place_among keys) o.path) (take (i + 1) offers)
 all_places-more keys offers made i o list inside is are at =
-    let places : Offer → List ℕ = λ o. map (place_among keys) o.path in
+    let places : ViewOffer → List ℕ = λ o. map (place_among keys) o.path in
     ap (λ l. l ++ list ∷ []) are ∙ ap (λ l. map places (take i offers) ++ l ∷ []) (at ∙ ap places is) ∙ sym (map_more places offers i o inside)

@@ -17,7 +17,7 @@ use Rattle.gu_terms.specs.Paths.{path_through}
 use Rattle.gu_terms.proofs.KeyLemmas.{key_eq-same, key_eq-refl}
 use Rattle.gu_view.specs.Paths.{are_kinds, behind, have_one_key, is_guarantor, is_whole, key_on, room_agrees, same_key}
 use Rattle.gu_view.specs.View.{GoOnAlike, GroupView, IsNested, IsPath, IsView, next_key, place_of, places_under}
-use Rattle.gu_view.specs.declared.view.Offer.{Offer}
+use Rattle.gu_view.specs.declared.view.ViewOffer.{ViewOffer}
 use Rattle.gu_view.specs.declared.view.Room.{Room}
 use Rattle.gu_terms.proofs.SameValues.{both}
 use Rattle.gu_terms.proofs.Lists.{along, position_or_len-within}
@@ -29,7 +29,7 @@ use Rattle.gu_view.proofs.TakesLemmas.{key_at_place}
 abbrev IsPathOf : AgreementId → List LimitKey → Type 0
 IsPathOf own path = (e : FirmId) × (x : AccountId) × (f : FirmId) × (g : Option FirmId) × (path ≡ path_through e own x f g)
 
--- four keys that pass are of the four kinds, whatever comes behind them
+-- four keys that pass are of the four kinds, whatever comes after them
 kinds : (own : AgreementId) (a b c d : LimitKey) (rest : List LimitKey) → are_kinds own a b c d ≡ true
     → (e : FirmId) × (x : AccountId) × (f : FirmId) × (a ∷ b ∷ c ∷ d ∷ rest ≡ Exec e ∷ Agr own ∷ Acct x ∷ Carry f ∷ rest)
 kinds own (Exec e) (Agr g) (Acct x) (Carry f) rest h = (e, x, f, ap (λ k. Exec e ∷ k ∷ Acct x ∷ Carry f ∷ rest) (key_eq-same (Agr g) (Agr own) h))
@@ -58,7 +58,7 @@ whole_path own (a ∷ b ∷ c ∷ d ∷ e ∷ []) h = let parts = both (are_kind
 whole_path own (a ∷ b ∷ c ∷ d ∷ e ∷ f ∷ path) h = absurd (false≢true h)
 
 -- and a whole path passes
-path_whole : (o : Offer) → IsPath o → is_whole o.agreement o.path ≡ true
+path_whole : (o : ViewOffer) → IsPath o → is_whole o.agreement o.path ≡ true
 path_whole o (e, x, c, None, is) = rw is (key_eq-refl (Agr o.agreement))
 path_whole o (e, x, c, Some g, is) = rw is (rw (key_eq-refl (Agr o.agreement)) refl)
 
@@ -72,7 +72,7 @@ carrying_is : (e : FirmId) (own : AgreementId) (a : AccountId) (c : FirmId) (g :
 carrying_is e own a c None x h = elim (or_cases (key_eq (Carry c) (Carry x)) false h) [ inl hit ↦ hit | inr never ↦ absurd (false≢true never) ]
 carrying_is e own a c (Some g) x h = elim (or_cases (key_eq (Carry c) (Carry x)) false h) [ inl hit ↦ hit | inr never ↦ absurd (false≢true never) ]
 
--- what comes behind a key that paths share
+-- what comes after a key that paths share
 after : (e : FirmId) (own : AgreementId) (a : AccountId) (c : FirmId) (g : Option FirmId) (k : LimitKey) (depth : ℕ) → behind k ≡ Some depth
     → has_key (path_through e own a c g) k ≡ true → next_key (path_through e own a c g) k ≡ slice_get (path_through e own a c g) depth
 after e own a c g (Acct x) depth at h = let here : 3 ≡ depth = cc in rw (← here) (rw (account_is e own a c g x h) refl)
@@ -83,7 +83,7 @@ after e own a c g (Agr x) depth at h = cc
 after e own a c g (Guar x) depth at h = cc
 
 -- and on the path of an offer
-after_on : (o : Offer) (k : LimitKey) (depth : ℕ) → behind k ≡ Some depth → IsPath o → has_key o.path k ≡ true → next_key o.path k ≡ slice_get o.path depth
+after_on : (o : ViewOffer) (k : LimitKey) (depth : ℕ) → behind k ≡ Some depth → IsPath o → has_key o.path k ≡ true → next_key o.path k ≡ slice_get o.path depth
 after_on o k depth at (e, a, c, g, is) on = rw is (after e o.agreement a c g k depth at (rw is at on))
 
 -- keys that pass are one
@@ -98,16 +98,16 @@ same_key-refl (Some k) = key_eq-refl k
 same_key-refl None = refl
 
 -- each path is whole
-pub all_paths : (offers : List Offer) → list_all (λ o. is_whole o.agreement o.path) offers ≡ true → All IsPath offers
+pub all_paths : (offers : List ViewOffer) → list_all (λ o. is_whole o.agreement o.path) offers ≡ true → All IsPath offers
 all_paths offers h i d inside = whole_path (get_or offers i d).agreement (get_or offers i d).path (AllPass-from_list_all (λ o. is_whole o.agreement o.path) offers h i d inside)
 
-pub paths_pass : (offers : List Offer) → All IsPath offers → list_all (λ o. is_whole o.agreement o.path) offers ≡ true
+pub paths_pass : (offers : List ViewOffer) → All IsPath offers → list_all (λ o. is_whole o.agreement o.path) offers ≡ true
 paths_pass offers h = list_all-from_AllPass (λ o. is_whole o.agreement o.path) offers (λ i d inside. path_whole (get_or offers i d) (h i d inside))
 
-module _ (offers : List Offer) (depth : ℕ) where
+module _ (offers : List ViewOffer) (depth : ℕ) where
   -- the key there on the path of the offer at a place
-  key_on-inside : (i : ℕ) (d : Offer) → i < length offers → key_on offers depth i ≡ slice_get (get_or offers i d).path depth
-  key_on-inside i d inside = ap (option_and_then (λ (o : Offer). slice_get o.path depth)) (slice_get-get_or offers i d inside)
+  key_on-inside : (i : ℕ) (d : ViewOffer) → i < length offers → key_on offers depth i ≡ slice_get (get_or offers i d).path depth
+  key_on-inside i d inside = ap (option_and_then (λ (o : ViewOffer). slice_get o.path depth)) (slice_get-get_or offers i d inside)
 
   -- that of the first of these places
   abbrev first_key : List ℕ → Option LimitKey
@@ -122,10 +122,10 @@ module _ (offers : List Offer) (depth : ℕ) where
       (refl, along (λ p. test p ≡ true) (λ p. key_on offers depth p ≡ key_on offers depth first) others (λ p hit. sym (same_key-same (key_on offers depth first) (key_on offers depth p) hit)) (recursion_from_All (λ p. test p ≡ true) others (AllPass-from_list_all test others h)))
 
   -- so any two of the offers under a key have one
-  alike_under : (k : LimitKey) (i j : ℕ) (d e : Offer) → have_one_key offers depth (places_under offers k) ≡ true → i < length offers → j < length offers
+  alike_under : (k : LimitKey) (i j : ℕ) (d e : ViewOffer) → have_one_key offers depth (places_under offers k) ≡ true → i < length offers → j < length offers
       → has_key (get_or offers i d).path k ≡ true → has_key (get_or offers j e).path k ≡ true → slice_get (get_or offers i d).path depth ≡ slice_get (get_or offers j e).path depth
   alike_under k i j d e one inside within on also =
-      let under : Offer → Bool = λ o. has_key o.path k in
+      let under : ViewOffer → Bool = λ o. has_key o.path k in
       let key = first_key (places_under offers k) in
       let all = like_first (places_under offers k) one in
       let mine : key_on offers depth i ≡ key = rw zero-add at (at_places (λ p. key_on offers depth p ≡ key) under 0 offers all i d inside on) in
@@ -134,7 +134,7 @@ module _ (offers : List Offer) (depth : ℕ) where
 
   -- a place of an offer under a key
   abbrev IsUnder : LimitKey → ℕ → Type 0
-  IsUnder k place = (d : Offer) × (place < length offers) × (has_key (get_or offers place d).path k ≡ true)
+  IsUnder k place = (d : ViewOffer) × (place < length offers) × (has_key (get_or offers place d).path k ≡ true)
 
   -- places any two of which have one key there
   one_key : (P : ℕ → Type 0) (places : List ℕ) → ((p q : ℕ) → P p → P q → same_key (key_on offers depth p) (key_on offers depth q) ≡ true) → AllByRecursion P places → have_one_key offers depth places ≡ true
@@ -153,13 +153,13 @@ nested_from view sound whole agree =
       guarantors = λ i d inside j e within x. go_on (Carry x) 4 refl i d inside j e within;
     }
   where
-    one : (k : LimitKey) (depth : ℕ) → behind k ≡ Some depth → list_any (λ (o : Offer). has_key o.path k) view.offers ≡ true → have_one_key view.offers depth (places_under view.offers k) ≡ true
+    one : (k : LimitKey) (depth : ℕ) → behind k ≡ Some depth → list_any (λ (o : ViewOffer). has_key o.path k) view.offers ≡ true → have_one_key view.offers depth (places_under view.offers k) ≡ true
     one k depth at on =
         let d : Room = record { key = k; lots = 0 } in
         let inside : place_of view.rooms k < length view.rooms = position_or_len-within (λ r. key_eq r.key k) view.rooms (roomed view sound k on) in
         rw at at (rw (key_at_place view.rooms k d inside) at (AllPass-from_list_all (room_agrees view.offers) view.rooms agree (place_of view.rooms k) d inside))
 
-    go_on : (k : LimitKey) (depth : ℕ) → behind k ≡ Some depth → (i : ℕ) (d : Offer) → i < length view.offers → (j : ℕ) (e : Offer) → j < length view.offers → GoOnAlike k (get_or view.offers i d).path (get_or view.offers j e).path
+    go_on : (k : LimitKey) (depth : ℕ) → behind k ≡ Some depth → (i : ℕ) (d : ViewOffer) → i < length view.offers → (j : ℕ) (e : ViewOffer) → j < length view.offers → GoOnAlike k (get_or view.offers i d).path (get_or view.offers j e).path
     go_on k depth at i d inside j e within on also =
         let offers = view.offers in
         let paths = all_paths offers whole in
@@ -172,7 +172,7 @@ pub rooms_agree : (view : GroupView) → IsNested view → list_all (room_agrees
 rooms_agree view nested = list_all-from_AllPass (room_agrees view.offers) view.rooms (λ i d inside. under (get_or view.rooms i d).key)
   where
     alike : (k : LimitKey) (depth : ℕ) → behind k ≡ Some depth
-        → ((p : ℕ) (d : Offer) → p < length view.offers → (q : ℕ) (e : Offer) → q < length view.offers → GoOnAlike k (get_or view.offers p d).path (get_or view.offers q e).path)
+        → ((p : ℕ) (d : ViewOffer) → p < length view.offers → (q : ℕ) (e : ViewOffer) → q < length view.offers → GoOnAlike k (get_or view.offers p d).path (get_or view.offers q e).path)
         → (p q : ℕ) → IsUnder view.offers depth k p → IsUnder view.offers depth k q → same_key (key_on view.offers depth p) (key_on view.offers depth q) ≡ true
     alike k depth at go p q (d, inside, on) (e, within, also) =
         let offers = view.offers in
@@ -183,11 +183,11 @@ rooms_agree view nested = list_all-from_AllPass (room_agrees view.offers) view.r
         rw (key_on-inside offers depth p d inside, key_on-inside offers depth q e within, sym same) (same_key-refl (slice_get a.path depth))
 
     all_under : (k : LimitKey) (depth : ℕ) → behind k ≡ Some depth
-        → ((p : ℕ) (d : Offer) → p < length view.offers → (q : ℕ) (e : Offer) → q < length view.offers → GoOnAlike k (get_or view.offers p d).path (get_or view.offers q e).path)
+        → ((p : ℕ) (d : ViewOffer) → p < length view.offers → (q : ℕ) (e : ViewOffer) → q < length view.offers → GoOnAlike k (get_or view.offers p d).path (get_or view.offers q e).path)
         → have_one_key view.offers depth (places_under view.offers k) ≡ true
     all_under k depth at go =
         one_key view.offers depth (IsUnder view.offers depth k) (places_under view.offers k) (alike k depth at go)
-        (each_place (IsUnder view.offers depth k) (λ (o : Offer). has_key o.path k) 0 view.offers (λ j d inside hit. (d, rw zero-add inside, rw zero-add hit)))
+        (each_place (IsUnder view.offers depth k) (λ (o : ViewOffer). has_key o.path k) 0 view.offers (λ j d inside hit. (d, rw zero-add inside, rw zero-add hit)))
 
     under : (k : LimitKey) → option_map_or (λ depth. have_one_key view.offers depth (places_under view.offers k)) (behind k) true ≡ true
     under (Acct x) = all_under (Acct x) 3 refl (λ p d inside q e within. nested.carriers p d inside q e within x)

@@ -15,7 +15,7 @@ use Rattle.std.proofs.Common.{get_or}
 use Rattle.std.proofs.lemmas.Bool.{not-true, cases_order}
 use Rattle.std.proofs.lemmas.List.Elements.{All-filter, filter_passes}
 use Rattle.gu_view.specs.Check.{has_room}
-use Rattle.gu_view.specs.declared.view.Offer.{Offer}
+use Rattle.gu_view.specs.declared.view.ViewOffer.{ViewOffer}
 use Rattle.gu_view.specs.declared.view.Room.{Room}
 use Rattle.gu_view.specs.View.{GroupView, IsView, firsts, keys_of, place_of, places_under}
 use Rattle.gu_terms.proofs.Lists.{Later, AllPairs-from_Later, along, list_any-map, list_any-flat_map, position_or_len-agree, position_or_len-map, position_or_len-within}
@@ -42,9 +42,9 @@ has_key-firsts (k ∷ keys) j =
     ]
 
 -- the keys of a view are those on the paths
-pub has_key-keys_of : (offers : List Offer) (k : LimitKey) → has_key (keys_of offers) k ≡ list_any (λ o. has_key o.path k) offers
+pub has_key-keys_of : (offers : List ViewOffer) (k : LimitKey) → has_key (keys_of offers) k ≡ list_any (λ o. has_key o.path k) offers
 has_key-keys_of offers k =
-    has_key-firsts (flat_map (λ (o : Offer). o.path) offers) k ∙ list_any-flat_map (λ (o : Offer). o.path) (λ j. key_eq j k) offers
+    has_key-firsts (flat_map (λ (o : ViewOffer). o.path) offers) k ∙ list_any-flat_map (λ (o : ViewOffer). o.path) (λ j. key_eq j k) offers
 
 -- keys apart, and those of them that stay
 apart-filter : (p : LimitKey → Bool) (keys : List LimitKey) → Later (λ a b. key_eq a b ≡ false) keys → Later (λ a b. key_eq a b ≡ false) (filter p keys)
@@ -76,7 +76,7 @@ apart view sound i j d inside within other =
     pair i j before within =
         let keys = map (λ (r : Room). r.key) view.rooms in
         let long : length keys ≡ length view.rooms = length-map view.rooms (λ (r : Room). r.key) in
-        let all : AllPairs (λ a b. key_eq a b ≡ false) keys = rw sound.rooms (AllPairs-from_Later (λ a b. key_eq a b ≡ false) (keys_of view.offers) (apart-firsts (flat_map (λ (o : Offer). o.path) view.offers))) in
+        let all : AllPairs (λ a b. key_eq a b ≡ false) keys = rw sound.rooms (AllPairs-from_Later (λ a b. key_eq a b ≡ false) (keys_of view.offers) (apart-firsts (flat_map (λ (o : ViewOffer). o.path) view.offers))) in
         let i-in : i < length view.rooms = omega arith in
         let at-i = get_or-map (λ (r : Room). r.key) view.rooms i d d.key i-in in
         let at-j = get_or-map (λ (r : Room). r.key) view.rooms j d d.key within in
@@ -107,25 +107,25 @@ places_within view sound (k ∷ path) on_path =
     (position_or_len-within (λ r. key_eq r.key k) view.rooms (roomed view sound k on_path.0), places_within view sound path on_path.1)
 
 -- the offer at a place has its path among the offers
-pub on_path_at : (offers : List Offer) (i : ℕ) (o : Offer) (k : LimitKey) → slice_get offers i ≡ Some o → has_key o.path k ≡ true → list_any (λ o. has_key o.path k) offers ≡ true
+pub on_path_at : (offers : List ViewOffer) (i : ℕ) (o : ViewOffer) (k : LimitKey) → slice_get offers i ≡ Some o → has_key o.path k ≡ true → list_any (λ o. has_key o.path k) offers ≡ true
 on_path_at offers i o k at on_path =
     list_any_at (λ o. has_key o.path k) offers i o (slice_get_within offers i o at) (rw (get_or_from_slice_get offers i o o at) on_path)
 
 -- the places of an offer's keys are those of rooms
 pub places_are_within : (view : GroupView) → IsView view → (places : List (List ℕ)) (i : ℕ) (list : List ℕ) → i < length view.offers
-    → places ≡ map (λ (o : Offer). map (place_of view.rooms) o.path) view.offers → slice_get places i ≡ Some list → All (λ p. p < length view.rooms) list
+    → places ≡ map (λ (o : ViewOffer). map (place_of view.rooms) o.path) view.offers → slice_get places i ≡ Some list → All (λ p. p < length view.rooms) list
 places_are_within view sound places i list inside are at =
     elim (slice_get_cases view.offers i).1 [
       | inl found ↦
           let o = found.0 in
           let same : map (place_of view.rooms) o.path ≡ list =
-          same_Some _ _ (ap (option_map (λ (o : Offer). map (place_of view.rooms) o.path)) (sym found.2) ∙ sym (slice_get-map (λ (o : Offer). map (place_of view.rooms) o.path) view.offers i) ∙ ap (λ l. slice_get l i) (sym are) ∙ at) in
+          same_Some _ _ (ap (option_map (λ (o : ViewOffer). map (place_of view.rooms) o.path)) (sym found.2) ∙ sym (slice_get-map (λ (o : ViewOffer). map (place_of view.rooms) o.path) view.offers i) ∙ ap (λ l. slice_get l i) (sym are) ∙ at) in
           rw (← same) (All-from_recursion (λ p. p < length view.rooms) (map (place_of view.rooms) o.path) (places_within view sound o.path (along (λ k. has_key o.path k ≡ true) (λ k. list_any (λ o. has_key o.path k) view.offers ≡ true) o.path (λ k h. on_path_at view.offers i o k found.2 h) (on_own_path o.path))))
       | inr past ↦ absurd (omega (arith, past.0))
     ]
 
 -- the places of a room's offers are those of offers
-pub members_are_within : (offers : List Offer) (rooms : List Room) (members : List (List ℕ)) (i : ℕ) (list : List ℕ) → i < length rooms
+pub members_are_within : (offers : List ViewOffer) (rooms : List Room) (members : List (List ℕ)) (i : ℕ) (list : List ℕ) → i < length rooms
     → members ≡ map (λ (r : Room). places_under offers r.key) rooms → slice_get members i ≡ Some list → All (λ p. p < length offers) list
 members_are_within offers rooms members i list inside are at =
     elim (slice_get_cases rooms i).1 [

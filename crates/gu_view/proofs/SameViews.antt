@@ -8,25 +8,25 @@ use Rattle.std.proofs.lemmas.Slice.Eq.{bytes_eq-Decides, slice_eq-Decides}
 use Rattle.gu_terms.proofs.KeyLemmas.{eq, eq-Decides}
 use Rattle.gu_view.specs.contracts.view.OfferPartialEq.TheImpl as offer
 use Rattle.gu_view.specs.contracts.view.RoomPartialEq.TheImpl as room
-use Rattle.gu_view.specs.declared.view.Offer.{Offer}
+use Rattle.gu_view.specs.declared.view.ViewOffer.{ViewOffer}
 use Rattle.gu_view.specs.declared.view.Room.{Room}
 use Rattle.gu_view.specs.View.{GroupView}
 
 -- the `==` of offers, and that of rooms
-abbrev pub offer_eq : Offer → Offer → Bool
+abbrev pub offer_eq : ViewOffer → ViewOffer → Bool
 offer_eq = offer.eq-value.it
 
 abbrev pub room_eq : Room → Room → Bool
 room_eq = room.eq-value.it
 
 -- offers
-pub offer_eq-Decides : (a b : Offer) → Decides (offer_eq a b) (a ≡ b)
+pub offer_eq-Decides : (a b : ViewOffer) → Decides (offer_eq a b) (a ≡ b)
 offer_eq-Decides a b =
     let path = slice_eq-Decides eq-Decides a.path b.path (pointwise eq a.path b.path) refl in
     let named = Decides-and (bytes_eq a.agreement.name b.agreement.name) (pointwise eq a.path b.path) (bytes_eq-Decides a.agreement.name b.agreement.name) path in
     let filled = Decides-and (a.lots == b.lots) (bytes_eq a.agreement.name b.agreement.name && pointwise eq a.path b.path) (Decides-eqb a.lots b.lots) named in
     let parts = Decides-and (a.number == b.number) ((a.lots == b.lots) && (bytes_eq a.agreement.name b.agreement.name && pointwise eq a.path b.path)) (Decides-eqb a.number b.number) filled in
-    (λ h. let p = parts.0 h in made p.0 p.1.0 p.1.1.0 p.1.1.1, λ e. parts.1 (ap (λ (o : Offer). o.number) e, (ap (λ (o : Offer). o.lots) e, (ap (λ (o : Offer). o.agreement.name) e, ap (λ (o : Offer). o.path) e))))
+    (λ h. let p = parts.0 h in made p.0 p.1.0 p.1.1.0 p.1.1.1, λ e. parts.1 (ap (λ (o : ViewOffer). o.number) e, (ap (λ (o : ViewOffer). o.lots) e, (ap (λ (o : ViewOffer). o.agreement.name) e, ap (λ (o : ViewOffer). o.path) e))))
   where
     made : a.number ≡ b.number → a.lots ≡ b.lots → a.agreement.name ≡ b.agreement.name → a.path ≡ b.path → a ≡ b
     made number lots name path = ap (λ n. record { number = n; lots = a.lots; agreement = a.agreement; path = a.path }) number ∙ ap (λ l. record { number = b.number; lots = l; agreement = a.agreement; path = a.path }) lots ∙ ap (λ n. record { number = b.number; lots = b.lots; agreement = record { name = n }; path = a.path }) name ∙ ap (λ p. record { number = b.number; lots = b.lots; agreement = b.agreement; path = p }) path

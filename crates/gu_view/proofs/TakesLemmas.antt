@@ -8,7 +8,7 @@ use Rattle.std.proofs.lemmas.List.{drop_more, take_more_set, map_more, length-dr
 use Rattle.std.proofs.lemmas.List.Elements.{recursion_from_All, All-from_recursion}
 use Rattle.gu_terms.specs.declared.takes.Take.{Take}
 use Rattle.gu_terms.specs.Takes.{IsAscending, lots_of}
-use Rattle.gu_view.specs.declared.view.Offer.{Offer}
+use Rattle.gu_view.specs.declared.view.ViewOffer.{ViewOffer}
 use Rattle.gu_view.specs.declared.error.CutFault.{CutFault}
 use Rattle.gu_view.specs.declared.error.CutFault.TheVariants.{Unknown}
 use Rattle.gu_view.specs.declared.error.Unknown.TheVariants.{Offer as UnknownOffer}
@@ -36,7 +36,7 @@ use Rattle.gu_terms.proofs.Lists.{marked, find_more, Later, Later-from_AllPairs,
 use Rattle.gu_view.proofs.PassingPlaces.{sum_by-places, sum_by-places-le}
 
 -- offers of greater numbers have no smaller one
-no_offer_below : (offers : List Offer) (n : ℕ) → AllByRecursion (λ o. n < o.number) offers → has_offer offers n ≡ false
+no_offer_below : (offers : List ViewOffer) (n : ℕ) → AllByRecursion (λ o. n < o.number) offers → has_offer offers n ≡ false
 no_offer_below offers n above = none_any (λ o. o.number == n) offers (along (λ o. n < o.number) (λ o. (o.number == n) ≡ false) offers (λ o h. ne_eqb o.number n (λ e. absurd (omega arith))) above)
 
 -- takes of later offers give an offer nothing
@@ -45,7 +45,7 @@ no_lots_below takes n above =
     ap (λ o. unwrap_or (option_map (λ (t : Take). t.lots) o) 0) (none_found (λ t. t.offer == n) takes (along (λ t. n < t.offer) (λ t. (t.offer == n) ≡ false) takes (λ t h. ne_eqb t.offer n (λ e. absurd (omega arith))) above))
 
 -- an offer before all of the takes' is of no use to them
-unknown-skip : (o : Offer) (offers : List Offer) (takes : List Take) → AllByRecursion (λ t. o.number < t.offer) takes → unknown_take (o ∷ offers) takes ≡ unknown_take offers takes
+unknown-skip : (o : ViewOffer) (offers : List ViewOffer) (takes : List Take) → AllByRecursion (λ t. o.number < t.offer) takes → unknown_take (o ∷ offers) takes ≡ unknown_take offers takes
 unknown-skip o offers [] above = refl
 unknown-skip o offers (t ∷ takes) above =
     rw (ne_eqb o.number t.offer (λ e. absurd (omega (arith, above.0)))) (
@@ -55,19 +55,19 @@ unknown-skip o offers (t ∷ takes) above =
     ])
 
 -- a first take is of no use to later offers
-lots-skip : (t : Take) (takes : List Take) (offers : List Offer) → AllByRecursion (λ o. t.offer < o.number) offers → map (λ (o : Offer). lots_of (t ∷ takes) o.number) offers ≡ map (λ (o : Offer). lots_of takes o.number) offers
+lots-skip : (t : Take) (takes : List Take) (offers : List ViewOffer) → AllByRecursion (λ o. t.offer < o.number) offers → map (λ (o : ViewOffer). lots_of (t ∷ takes) o.number) offers ≡ map (λ (o : ViewOffer). lots_of takes o.number) offers
 lots-skip t takes [] above = refl
 lots-skip t takes (o ∷ offers) above =
     rw (ne_eqb t.offer o.number (λ e. absurd (omega (arith, above.0)))) (ap (λ l. lots_of takes o.number ∷ l) (lots-skip t takes offers above.1))
 
 -- what is left to do when one offer has had its takes
-pub record IsSplit (o : Offer) (offers : List Offer) (takes : List Take) (n : ℕ) (rest : List Take) : Type 0 where
+pub record IsSplit (o : ViewOffer) (offers : List ViewOffer) (takes : List Take) (n : ℕ) (rest : List Take) : Type 0 where
   pub unknown : unknown_take (o ∷ offers) takes ≡ unknown_take offers rest
   pub lots : unknown_take (o ∷ offers) takes ≡ None → lots_of takes o.number ≡ n
-  pub others : unknown_take (o ∷ offers) takes ≡ None → map (λ (o : Offer). lots_of takes o.number) offers ≡ map (λ (o : Offer). lots_of rest o.number) offers
+  pub others : unknown_take (o ∷ offers) takes ≡ None → map (λ (o : ViewOffer). lots_of takes o.number) offers ≡ map (λ (o : ViewOffer). lots_of rest o.number) offers
   pub ascending : Later (λ a b. a.offer < b.offer) rest
 
-pub split : (o : Offer) (offers : List Offer) (takes : List Take) → AllByRecursion (λ x. o.number < x.number) offers → Later (λ a b. a.offer < b.offer) takes
+pub split : (o : ViewOffer) (offers : List ViewOffer) (takes : List Take) → AllByRecursion (λ x. o.number < x.number) offers → Later (λ a b. a.offer < b.offer) takes
     → IsSplit o offers takes (split_of takes o.number).0 (split_of takes o.number).1
 split o offers [] later ascending = record { unknown = refl; lots = λ _. refl; others = λ _. refl; ascending = tt }
 split o offers (t ∷ takes) later ascending =
@@ -109,19 +109,19 @@ split o offers (t ∷ takes) later ascending =
     never h = cc
 
 -- the offers before a place have had their takes
-pub record IsFilled (offers : List Offer) (takes : List Take) (i : ℕ) (taken : List ℕ) (rest : List Take) : Type 0 where
+pub record IsFilled (offers : List ViewOffer) (takes : List Take) (i : ℕ) (taken : List ℕ) (rest : List Take) : Type 0 where
   pub unknown : unknown_take offers takes ≡ unknown_take (drop i offers) rest
-  pub front : unknown_take offers takes ≡ None → take i taken ≡ map (λ (o : Offer). lots_of takes o.number) (take i offers)
-  pub others : unknown_take offers takes ≡ None → map (λ (o : Offer). lots_of takes o.number) (drop i offers) ≡ map (λ (o : Offer). lots_of rest o.number) (drop i offers)
+  pub front : unknown_take offers takes ≡ None → take i taken ≡ map (λ (o : ViewOffer). lots_of takes o.number) (take i offers)
+  pub others : unknown_take offers takes ≡ None → map (λ (o : ViewOffer). lots_of takes o.number) (drop i offers) ≡ map (λ (o : ViewOffer). lots_of rest o.number) (drop i offers)
   pub ascending : Later (λ a b. a.offer < b.offer) rest
 
 -- before the first offer
-pub filled_none : (offers : List Offer) (takes : List Take) (taken : List ℕ) → IsAscending takes → IsFilled offers takes 0 taken takes
+pub filled_none : (offers : List ViewOffer) (takes : List Take) (taken : List ℕ) → IsAscending takes → IsFilled offers takes 0 taken takes
 filled_none offers takes taken ascending =
     record { unknown = refl; front = λ _. refl; others = λ _. refl; ascending = Later-from_AllPairs (λ (a b : Take). a.offer < b.offer) takes ascending }
 
 -- one more offer
-pub filled_more : (offers : List Offer) (takes : List Take) (i : ℕ) (taken : List ℕ) (rest : List Take) (d : Offer) → i < length offers → length taken ≡ length offers
+pub filled_more : (offers : List ViewOffer) (takes : List Take) (i : ℕ) (taken : List ℕ) (rest : List Take) (d : ViewOffer) → i < length offers → length taken ≡ length offers
     → AllPairs (λ a b. a.number < b.number) offers → IsFilled offers takes i taken rest
     → IsFilled offers takes (i + 1) (set taken i (split_of rest (get_or offers i d).number).0) (split_of rest (get_or offers i d).number).1
 filled_more offers takes i taken rest d inside long ascending h =
@@ -129,19 +129,19 @@ filled_more offers takes i taken rest d inside long ascending h =
     let behind = drop (i + 1) offers in
     let here : drop i offers ≡ o ∷ behind = drop_more offers i d inside in
     let later : AllByRecursion (λ x. o.number < x.number) behind =
-    recursion_from_All (λ (x : Offer). o.number < x.number) behind
+    recursion_from_All (λ (x : ViewOffer). o.number < x.number) behind
     (λ k e within.
     rw (get_or-drop (i + 1) offers k e, get_or_default offers i d e inside)
     (ascending i (i + 1 + k) e (omega arith) (omega (arith, length-drop (i + 1) offers)))) in
     let s = split o behind rest later h.ascending in
     let step : unknown_take offers takes ≡ unknown_take (o ∷ behind) rest = h.unknown ∙ ap (λ l. unknown_take l rest) here in
-    let parts : unknown_take offers takes ≡ None → map (λ (o : Offer). lots_of takes o.number) (o ∷ behind) ≡ map (λ (o : Offer). lots_of rest o.number) (o ∷ behind) = λ none. rw here at (h.others none) in
+    let parts : unknown_take offers takes ≡ None → map (λ (o : ViewOffer). lots_of takes o.number) (o ∷ behind) ≡ map (λ (o : ViewOffer). lots_of rest o.number) (o ∷ behind) = λ none. rw here at (h.others none) in
     let inside' : i < length taken = omega arith in
     record {
       unknown = step ∙ s.unknown;
       front = λ none.
-          rw (take_more_set taken i (split_of rest o.number).0 inside', h.front none, map_more (λ (o : Offer). lots_of takes o.number) offers i d inside)
-          (ap (λ n. map (λ (o : Offer). lots_of takes o.number) (take i offers) ++ n ∷ []) (sym (cons_head (parts none) ∙ s.lots (sym step ∙ none))));
+          rw (take_more_set taken i (split_of rest o.number).0 inside', h.front none, map_more (λ (o : ViewOffer). lots_of takes o.number) offers i d inside)
+          (ap (λ n. map (λ (o : ViewOffer). lots_of takes o.number) (take i offers) ++ n ∷ []) (sym (cons_head (parts none) ∙ s.lots (sym step ∙ none))));
       others = λ none. cons_tail (parts none) ∙ s.others (sym step ∙ none);
       ascending = s.ascending;
     }
@@ -153,56 +153,56 @@ filled_more offers takes i taken rest d inside long ascending h =
     cons_tail h = cc
 
 -- among ascending offers, the older ones of an offer that pass a test are those before it
-pub older_is_before : (test : Offer → Bool) (offers : List Offer) (i : ℕ) (d : Offer) → i < length offers → Later (λ a b. a.number < b.number) offers
+pub older_is_before : (test : ViewOffer → Bool) (offers : List ViewOffer) (i : ℕ) (d : ViewOffer) → i < length offers → Later (λ a b. a.number < b.number) offers
     → list_any (λ older. nat_lt older.number (get_or offers i d).number && test older) offers ≡ list_any test (take i offers)
 older_is_before test [] i d inside ascending = absurd (omega arith)
 older_is_before test (o ∷ offers) zero d inside ascending =
     rw (le-ltb o.number o.number (omega arith)) (none_any (λ older. nat_lt older.number o.number && test older) offers (along (λ x. o.number < x.number) (λ x. (nat_lt x.number o.number && test x) ≡ false) offers (λ x h. rw (le-ltb x.number o.number (omega arith)) refl) ascending.0))
 older_is_before test (o ∷ offers) (suc i) d inside ascending =
-    let later = All-from_recursion (λ (x : Offer). o.number < x.number) offers ascending.0 i d (omega arith) in
+    let later = All-from_recursion (λ (x : ViewOffer). o.number < x.number) offers ascending.0 i d (omega arith) in
     rw (lt-ltb o.number (get_or offers i d).number later) (ap (λ b. test o || b) (older_is_before test offers i d (omega arith) ascending.1))
 
 -- an offer isn't full, and a room is its agreement's
-abbrev pub is_short : (ℕ → ℕ) → Room → Offer → Bool
+abbrev pub is_short : (ℕ → ℕ) → Room → ViewOffer → Bool
 is_short lots r o = key_eq (Agr o.agreement) r.key && nat_lt (lots o.number) o.lots
 
 -- an offer takes lots while an older one of its agreement isn't full
-abbrev pub is_too_early : List Offer → (ℕ → ℕ) → Offer → Bool
+abbrev pub is_too_early : List ViewOffer → (ℕ → ℕ) → ViewOffer → Bool
 is_too_early offers lots o = nat_lt 0 (lots o.number) && has_older_rest offers lots o
 
 -- none of the offers before a place takes lots too early, and the marks say which agreements have one that isn't full
-pub record IsWalked (offers : List Offer) (rooms : List Room) (lots : ℕ → ℕ) (i : ℕ) (short : List Bool) : Type 0 where
+pub record IsWalked (offers : List ViewOffer) (rooms : List Room) (lots : ℕ → ℕ) (i : ℕ) (short : List Bool) : Type 0 where
   pub none_early : find (is_too_early offers lots) (take i offers) ≡ None
   pub short_are : short ≡ map (λ r. list_any (is_short lots r) (take i offers)) rooms
 
 -- the lots that are taken of the offer at a place
-pub lots_here : (offers : List Offer) (taken : List ℕ) (lots : ℕ → ℕ) (i : ℕ) (o : Offer) → AreLots offers taken lots → i < length offers → o ≡ get_or offers i o → get_or taken i 0 ≡ lots o.number
+pub lots_here : (offers : List ViewOffer) (taken : List ℕ) (lots : ℕ → ℕ) (i : ℕ) (o : ViewOffer) → AreLots offers taken lots → i < length offers → o ≡ get_or offers i o → get_or taken i 0 ≡ lots o.number
 lots_here offers taken lots i o are inside is =
-    ap (λ l. get_or l i 0) are ∙ get_or-map (λ (o : Offer). lots o.number) offers i o 0 inside ∙ ap (λ (o : Offer). lots o.number) (sym is)
+    ap (λ l. get_or l i 0) are ∙ get_or-map (λ (o : ViewOffer). lots o.number) offers i o 0 inside ∙ ap (λ (o : ViewOffer). lots o.number) (sym is)
 
 -- the lots at the places under a key are a part of all that is taken
-pub under_fits : (offers : List Offer) (rooms : List Room) (taken places : List ℕ) (i : ℕ) → i < length rooms → length taken ≡ length offers
+pub under_fits : (offers : List ViewOffer) (rooms : List Room) (taken places : List ℕ) (i : ℕ) → i < length rooms → length taken ≡ length offers
     → IfSome (slice_get rooms i) (λ (r : Room). places ≡ places_under offers r.key) → sum_by (λ p. get_or taken p 0) places ≤ sum taken
 under_fits offers rooms taken places i inside long are =
     elim (slice_get_cases rooms i).1 [
       | inl found ↦
           let same : places ≡ places_under offers found.0.key = rw found.2 at are in
-          rw same (sum_by-places-le (λ (o : Offer). has_key o.path found.0.key) (λ p. get_or taken p 0) 0 offers taken long (λ k within. ap (λ n. get_or taken n 0) (zero-add k)))
+          rw same (sum_by-places-le (λ (o : ViewOffer). has_key o.path found.0.key) (λ p. get_or taken p 0) 0 offers taken long (λ k within. ap (λ n. get_or taken n 0) (zero-add k)))
       | inr past ↦ absurd (omega (arith, past.0))
     ]
 
 -- they are what is taken under it
-pub under_is : (offers : List Offer) (taken places : List ℕ) (room : Option Room) (n : ℕ) (lots : ℕ → ℕ) → AreLots offers taken lots
+pub under_is : (offers : List ViewOffer) (taken places : List ℕ) (room : Option Room) (n : ℕ) (lots : ℕ → ℕ) → AreLots offers taken lots
     → IfSome room (λ (r : Room). places ≡ places_under offers r.key) → n ≡ sum_by (λ p. get_or taken p 0) places → IfSome room (λ (r : Room). n ≡ lots_under offers r.key lots)
 under_is offers taken places None n lots are from is = tt
 under_is offers taken places (Some r) n lots are from is =
     is ∙ ap (sum_by (λ p. get_or taken p 0)) from
-    ∙ sum_by-places (λ (o : Offer). has_key o.path r.key) (λ (o : Offer). lots o.number) (λ p. get_or taken p 0) 0 offers
-    (λ k d within. ap (λ l. get_or l (0 + k) 0) are ∙ ap (λ n. get_or (map (λ (o : Offer). lots o.number) offers) n 0) (zero-add k) ∙ get_or-map (λ (o : Offer). lots o.number) offers k d 0 within)
+    ∙ sum_by-places (λ (o : ViewOffer). has_key o.path r.key) (λ (o : ViewOffer). lots o.number) (λ p. get_or taken p 0) 0 offers
+    (λ k d within. ap (λ l. get_or l (0 + k) 0) are ∙ ap (λ n. get_or (map (λ (o : ViewOffer). lots o.number) offers) n 0) (zero-add k) ∙ get_or-map (λ (o : ViewOffer). lots o.number) offers k d 0 within)
 
 -- an offer's agreement has its room at the second of its places
-pub agreement_at : (view : GroupView) → IsView view → (i : ℕ) (places : List ℕ) → i < length view.offers → IfSome (slice_get view.offers i) (λ (o : Offer). places ≡ map (place_of view.rooms) o.path)
-    → IfSome (slice_get view.offers i) (λ (o : Offer). slice_get places 1 ≡ Some (place_of view.rooms (Agr o.agreement)))
+pub agreement_at : (view : GroupView) → IsView view → (i : ℕ) (places : List ℕ) → i < length view.offers → IfSome (slice_get view.offers i) (λ (o : ViewOffer). places ≡ map (place_of view.rooms) o.path)
+    → IfSome (slice_get view.offers i) (λ (o : ViewOffer). slice_get places 1 ≡ Some (place_of view.rooms (Agr o.agreement)))
 agreement_at view sound i places inside are =
     elim (slice_get_cases view.offers i).1 [
       | inl found ↦
@@ -215,8 +215,8 @@ agreement_at view sound i places inside are =
     ]
 
 -- so it has two places
-pub two_places : (offers : List Offer) (rooms : List Room) (i : ℕ) (places : List ℕ) → i < length offers
-    → IfSome (slice_get offers i) (λ (o : Offer). slice_get places 1 ≡ Some (place_of rooms (Agr o.agreement))) → 1 < length places
+pub two_places : (offers : List ViewOffer) (rooms : List Room) (i : ℕ) (places : List ℕ) → i < length offers
+    → IfSome (slice_get offers i) (λ (o : ViewOffer). slice_get places 1 ≡ Some (place_of rooms (Agr o.agreement))) → 1 < length places
 two_places offers rooms i places inside at =
     elim (slice_get_cases offers i).1 [
       | inl found ↦ slice_get_within places 1 (place_of rooms (Agr found.0.agreement)) (rw found.2 at at)
@@ -228,7 +228,7 @@ pub key_at_place : (rooms : List Room) (k : LimitKey) (d : Room) → place_of ro
 key_at_place rooms k d inside =
     key_eq-same (get_or rooms (place_of rooms k) d).key k (not-false (key_eq (get_or rooms (place_of rooms k) d).key k) (prefix_len_stops (λ (r : Room). not (key_eq r.key k)) rooms d inside))
 
-module _ (view : GroupView) (sound : IsView view) (lots : ℕ → ℕ) (i place : ℕ) (short : List Bool) (o : Offer)
+module _ (view : GroupView) (sound : IsView view) (lots : ℕ → ℕ) (i place : ℕ) (short : List Bool) (o : ViewOffer)
     (inside : i < length view.offers) (is : o ≡ get_or view.offers i o) (within : place < length view.rooms) (at : place ≡ place_of view.rooms (Agr o.agreement)) (h : IsWalked view.offers view.rooms lots i short) where
   -- the room of the offer's agreement
   here : Room
@@ -246,9 +246,9 @@ module _ (view : GroupView) (sound : IsView view) (lots : ℕ → ℕ) (i place 
   -- says whether an older offer isn't full
   pub mark_says : has_older_rest view.offers lots o ≡ get_or short place false
   mark_says =
-      ap (λ (n : ℕ). list_any (λ older. nat_lt older.number n && (same_agreement older o && nat_lt (lots older.number) older.lots)) view.offers) (ap (λ (o : Offer). o.number) is)
-      ∙ older_is_before (λ older. same_agreement older o && nat_lt (lots older.number) older.lots) view.offers i o inside (Later-from_AllPairs (λ (a b : Offer). a.number < b.number) view.offers sound.ascending)
-      ∙ ap (λ k. list_any (λ (older : Offer). key_eq (Agr older.agreement) k && nat_lt (lots older.number) older.lots) (take i view.offers)) (sym here-key)
+      ap (λ (n : ℕ). list_any (λ older. nat_lt older.number n && (same_agreement older o && nat_lt (lots older.number) older.lots)) view.offers) (ap (λ (o : ViewOffer). o.number) is)
+      ∙ older_is_before (λ older. same_agreement older o && nat_lt (lots older.number) older.lots) view.offers i o inside (Later-from_AllPairs (λ (a b : ViewOffer). a.number < b.number) view.offers sound.ascending)
+      ∙ ap (λ k. list_any (λ (older : ViewOffer). key_eq (Agr older.agreement) k && nat_lt (lots older.number) older.lots) (take i view.offers)) (sym here-key)
       ∙ sym mark_is
 
   -- one more offer is walked by
@@ -271,13 +271,13 @@ module _ (view : GroupView) (sound : IsView view) (lots : ℕ → ℕ) (i place 
             more (get_or view.rooms k d) ∙ ap (λ b. f (get_or view.rooms k d) || (b && nat_lt (lots o.number) o.lots)) differs ∙ or-false (f (get_or view.rooms k d)));
       }
 
-pub agreement_is : (offers : List Offer) (rooms : List Room) (i : ℕ) (places : List ℕ)
-    → IfSome (slice_get offers i) (λ (o : Offer). slice_get places 1 ≡ Some (place_of rooms (Agr o.agreement))) → IfSome (slice_get offers i) (λ (o : Offer). get_or places 1 0 ≡ place_of rooms (Agr o.agreement))
+pub agreement_is : (offers : List ViewOffer) (rooms : List Room) (i : ℕ) (places : List ℕ)
+    → IfSome (slice_get offers i) (λ (o : ViewOffer). slice_get places 1 ≡ Some (place_of rooms (Agr o.agreement))) → IfSome (slice_get offers i) (λ (o : ViewOffer). get_or places 1 0 ≡ place_of rooms (Agr o.agreement))
 agreement_is offers rooms i places at = IfSome_then (slice_get offers i) at (λ o h. get_or_from_slice_get places 1 (place_of rooms (Agr o.agreement)) 0 h)
 
 -- one more offer of which no more is taken than it has
-pub sum_more : (taken : List ℕ) (offers : List Offer) (i : ℕ) (o : Offer) → i < length taken → i < length offers → o ≡ get_or offers i o → sum (take i taken) ≤ sum_by (λ (o : Offer). o.lots) (take i offers)
-    → get_or taken i 0 ≤ o.lots → sum (take (i + 1) taken) ≤ sum_by (λ (o : Offer). o.lots) (take (i + 1) offers)
+pub sum_more : (taken : List ℕ) (offers : List ViewOffer) (i : ℕ) (o : ViewOffer) → i < length taken → i < length offers → o ≡ get_or offers i o → sum (take i taken) ≤ sum_by (λ (o : ViewOffer). o.lots) (take i offers)
+    → get_or taken i 0 ≤ o.lots → sum (take (i + 1) taken) ≤ sum_by (λ (o : ViewOffer). o.lots) (take (i + 1) offers)
 sum_more taken offers i o inside within is before here =
-    let same : o.lots ≡ (get_or offers i o).lots = ap (λ (o : Offer). o.lots) is in
-    omega (arith, sum_by_more (λ (n : ℕ). n) taken i 0 inside, sum_by_more (λ (o : Offer). o.lots) offers i o within)
+    let same : o.lots ≡ (get_or offers i o).lots = ap (λ (o : ViewOffer). o.lots) is in
+    omega (arith, sum_by_more (λ (n : ℕ). n) taken i 0 inside, sum_by_more (λ (o : ViewOffer). o.lots) offers i o within)

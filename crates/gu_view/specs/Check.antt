@@ -14,11 +14,11 @@ use Rattle.gu_view.specs.View.{GroupView}
 use Rattle.gu_view.specs.declared.error.CutFault.{CutFault}
 use Rattle.gu_view.specs.declared.error.CutFault.TheVariants.{OverOffer, OverLimit, Uncovered, RoomDiffers, Unknown, NotOldestFirst}
 use Rattle.gu_view.specs.declared.error.Unknown.TheVariants.{Key, Offer as UnknownOffer}
-use Rattle.gu_view.specs.declared.view.Offer.{Offer}
+use Rattle.gu_view.specs.declared.view.ViewOffer.{ViewOffer}
 use Rattle.gu_view.specs.declared.view.Room.{Room}
 
 -- an offer of the view has this number
-abbrev pub has_offer : List Offer → ℕ → Bool
+abbrev pub has_offer : List ViewOffer → ℕ → Bool
 has_offer offers number = list_any (λ o. o.number == number) offers
 
 -- a room of the view has this key
@@ -26,7 +26,7 @@ abbrev pub has_room : List Room → LimitKey → Bool
 has_room rooms k = list_any (λ r. key_eq r.key k) rooms
 
 -- the first take of an offer that the view lacks
-abbrev pub unknown_take : List Offer → List Take → Option CutFault
+abbrev pub unknown_take : List ViewOffer → List Take → Option CutFault
 unknown_take offers takes = option_map (λ (t : Take). Unknown (UnknownOffer t.offer)) (find (λ t. not (has_offer offers t.offer)) takes)
 
 -- the cut's first key that the view lacks
@@ -34,30 +34,30 @@ abbrev pub unknown_key : List Room → List LimitKey → Option CutFault
 unknown_key rooms keys = option_map (λ (k : LimitKey). Unknown (Key k)) (find (λ k. not (has_room rooms k)) keys)
 
 -- the cut's first offer that the view lacks
-abbrev pub unknown_offer : List Offer → List ℕ → Option CutFault
+abbrev pub unknown_offer : List ViewOffer → List ℕ → Option CutFault
 unknown_offer offers numbers = option_map (λ (n : ℕ). Unknown (UnknownOffer n)) (find (λ n. not (has_offer offers n)) numbers)
 
 -- the least offer of which more is taken than it has
-abbrev pub over_offer : List Offer → (ℕ → ℕ) → Option CutFault
-over_offer offers lots = option_map (λ (o : Offer). OverOffer o.number) (find (λ o. nat_lt o.lots (lots o.number)) offers)
+abbrev pub over_offer : List ViewOffer → (ℕ → ℕ) → Option CutFault
+over_offer offers lots = option_map (λ (o : ViewOffer). OverOffer o.number) (find (λ o. nat_lt o.lots (lots o.number)) offers)
 
 -- the first key under which more is taken than its room
-abbrev pub over_limit : List Offer → List Room → (ℕ → ℕ) → Option CutFault
+abbrev pub over_limit : List ViewOffer → List Room → (ℕ → ℕ) → Option CutFault
 over_limit offers rooms lots = option_map (λ (r : Room). OverLimit r.key) (find (λ r. nat_lt r.lots (lots_under offers r.key lots)) rooms)
 
 -- an older offer of the agreement isn't full
-abbrev pub has_older_rest : List Offer → (ℕ → ℕ) → Offer → Bool
+abbrev pub has_older_rest : List ViewOffer → (ℕ → ℕ) → ViewOffer → Bool
 has_older_rest offers lots o =
     list_any (λ older. nat_lt older.number o.number && (same_agreement older o && nat_lt (lots older.number) older.lots)) offers
 
 -- the least offer that takes lots while an older one of its agreement isn't full
-abbrev pub not_oldest_first : List Offer → (ℕ → ℕ) → Option CutFault
+abbrev pub not_oldest_first : List ViewOffer → (ℕ → ℕ) → Option CutFault
 not_oldest_first offers lots =
-    option_map (λ (o : Offer). NotOldestFirst o.number) (find (λ o. nat_lt 0 (lots o.number) && has_older_rest offers lots o) offers)
+    option_map (λ (o : ViewOffer). NotOldestFirst o.number) (find (λ o. nat_lt 0 (lots o.number) && has_older_rest offers lots o) offers)
 
 -- the least offer that is neither in the cut nor has a key in it
-abbrev pub uncovered : List Offer → CutLists → Option CutFault
-uncovered offers cut = option_map (λ (o : Offer). Uncovered o.number) (find (λ o. not (is_covered cut o)) offers)
+abbrev pub uncovered : List ViewOffer → CutLists → Option CutFault
+uncovered offers cut = option_map (λ (o : ViewOffer). Uncovered o.number) (find (λ o. not (is_covered cut o)) offers)
 
 -- the cut's room isn't the lots taken
 abbrev pub room_differs : GroupView → (ℕ → ℕ) → CutLists → Option CutFault

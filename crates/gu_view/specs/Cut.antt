@@ -3,11 +3,11 @@ use Rattle.std.specs.Prelude.{ℕ, ◌+◌, ◌||◌, Bool, IsTrue, if◌then◌
 use Rattle.std.specs.List.{list_any}
 use Rattle.gu_terms.specs.Cuts.{CutLists, has_number}
 use Rattle.gu_terms.specs.LimitKeys.{has_key}
-use Rattle.gu_view.specs.declared.view.Offer.{Offer}
+use Rattle.gu_view.specs.declared.view.ViewOffer.{ViewOffer}
 use Rattle.gu_view.specs.View.{GroupView}
 
 -- an offer is in the cut, or a key of its path is
-abbrev pub is_covered : CutLists → Offer → Bool
+abbrev pub is_covered : CutLists → ViewOffer → Bool
 is_covered cut o = has_number cut.offers o.number || list_any (has_key cut.keys) o.path
 
 -- each offer is in the cut or has a key in it

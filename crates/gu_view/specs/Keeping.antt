@@ -6,7 +6,7 @@ use Rattle.gu_terms.specs.declared.limit_key.LimitKey.{LimitKey}
 use Rattle.gu_view.specs.Making.{bad_offer, lots_given, path_differs}
 use Rattle.gu_view.specs.Places.{places_where}
 use Rattle.gu_view.specs.View.{GroupView, IsView, keys_of, place_among, place_of, places_under}
-use Rattle.gu_view.specs.declared.view.Offer.{Offer}
+use Rattle.gu_view.specs.declared.view.ViewOffer.{ViewOffer}
 use Rattle.gu_view.specs.declared.view.Room.{Room}
 
 -- the lists that end at these places of one list, the first from this place on
@@ -20,7 +20,7 @@ AreEnds whole from [] = from ≡ whole
 AreEnds whole from (end ∷ ends) = (from ≤ end) × AreEnds whole end ends
 
 -- offers of which none is bad and no path differs, beside their keys, and the places of each path's keys
-pub record IsKeyed (offers : List Offer) (keys : List LimitKey) (places : List (List ℕ)) : Type 0 where
+pub record IsKeyed (offers : List ViewOffer) (keys : List LimitKey) (places : List (List ℕ)) : Type 0 where
   pub numbers : bad_offer offers ≡ None
   pub paths : path_differs offers ≡ None
   pub keys_are : keys ≡ keys_of offers
@@ -45,7 +45,7 @@ pub record IsGiven (keys : List LimitKey) (rooms : List Room) (lots : LimitKey �
 abbrev pub places_with : ℕ → List (List ℕ) → List ℕ
 places_with n lists = places_where (λ l. list_any (λ m. m == n) l) lists
 
--- where the lists of each number start, one behind another
+-- where the lists of each number start, one after another
 abbrev pub AreStarts : List (List ℕ) → List ℕ → Type 0
 AreStarts lists starts =
     (p : ℕ) → p + 1 < length starts → slice_index starts (p + 1) ≡ slice_index starts p + length (places_with p lists)

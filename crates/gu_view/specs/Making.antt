@@ -7,43 +7,43 @@ use Rattle.gu_terms.specs.declared.group.Group.{Group}
 use Rattle.gu_terms.specs.declared.limit_key.LimitKey.{LimitKey}
 use Rattle.gu_terms.specs.declared.limit_key.LimitKey.TheVariants.{Agr}
 use Rattle.gu_terms.specs.LimitKeys.{key_eq, has_key}
-use Rattle.gu_view.specs.declared.view.Offer.{Offer}
+use Rattle.gu_view.specs.declared.view.ViewOffer.{ViewOffer}
 use Rattle.gu_view.specs.declared.view.Room.{Room}
 use Rattle.gu_view.specs.declared.error.ViewError.{ViewError}
 use Rattle.gu_view.specs.declared.error.ViewError.TheVariants.{BadOffer, PathDiffers, BadRooms, Memory}
 use Rattle.gu_view.specs.View.{GroupView, keys_of}
 
 -- an offer is bad: its number isn't above the one before it, or its lots are 0 or above a million
-abbrev pub is_bad : ℕ → Offer → Bool
+abbrev pub is_bad : ℕ → ViewOffer → Bool
 is_bad before o = nat_le o.number before || (o.lots == 0 || nat_lt 1000000 o.lots)
 
--- offers, each behind the number before it, 0 before the first
-abbrev pub numbered : List Offer → List (ℕ × Offer)
+-- offers, each after the number before it, 0 before the first
+abbrev pub numbered : List ViewOffer → List (ℕ × ViewOffer)
 numbered offers = zip (0 ∷ map (λ o. o.number) offers) offers
 
 -- the number of the first bad offer among the first 4,096, else of the next one
-abbrev pub bad_offer : List Offer → Option ℕ
+abbrev pub bad_offer : List ViewOffer → Option ℕ
 bad_offer offers =
     option_or
-    (option_map (λ (p : ℕ × Offer). p.1.number) (find (λ (p : ℕ × Offer). is_bad p.0 p.1) (numbered (take 4096 offers))))
-    (option_map (λ (o : Offer). o.number) (slice_get offers 4096))
+    (option_map (λ (p : ℕ × ViewOffer). p.1.number) (find (λ (p : ℕ × ViewOffer). is_bad p.0 p.1) (numbered (take 4096 offers))))
+    (option_map (λ (o : ViewOffer). o.number) (slice_get offers 4096))
 
 -- two offers are of one agreement
-abbrev pub same_agreement : Offer → Offer → Bool
+abbrev pub same_agreement : ViewOffer → ViewOffer → Bool
 same_agreement a b = key_eq (Agr a.agreement) (Agr b.agreement)
 
 -- an offer has its own agreement as the second key of its path
-abbrev pub is_own : Offer → Bool
+abbrev pub is_own : ViewOffer → Bool
 is_own o = option_map_or (key_eq (Agr o.agreement)) (slice_get o.path 1) false
 
 -- an older offer of the agreement has another path
-abbrev pub has_other_path : List Offer → Offer → Bool
+abbrev pub has_other_path : List ViewOffer → ViewOffer → Bool
 has_other_path offers o =
     list_any (λ older. nat_lt older.number o.number && (same_agreement older o && not (pointwise key_eq older.path o.path))) offers
 
 -- the number of the first offer whose path isn't that of its agreement
-abbrev pub path_differs : List Offer → Option ℕ
-path_differs offers = option_map (λ (o : Offer). o.number) (find (λ o. not (is_own o) || has_other_path offers o) offers)
+abbrev pub path_differs : List ViewOffer → Option ℕ
+path_differs offers = option_map (λ (o : ViewOffer). o.number) (find (λ o. not (is_own o) || has_other_path offers o) offers)
 
 -- rooms of exactly these keys, each once, none above a thousand million lots
 pub record AreRooms (keys : List LimitKey) (rooms : List Room) : Type 0 where
@@ -61,17 +61,17 @@ abbrev pub in_order : List LimitKey → List Room → List Room
 in_order keys rooms = map (λ k. record { key = k; lots = unwrap_or (lots_given rooms k) 0 }) keys
 
 -- the view that these offers and rooms make
-abbrev pub view_of : Group → ℕ → List Offer → List Room → GroupView
+abbrev pub view_of : Group → ℕ → List ViewOffer → List Room → GroupView
 view_of group version offers rooms = record { group = group; version = version; offers = offers; rooms = in_order (keys_of offers) rooms }
 
 -- the offers and rooms make a view
-pub record MakesView (offers : List Offer) (rooms : List Room) : Type 0 where
+pub record MakesView (offers : List ViewOffer) (rooms : List Room) : Type 0 where
   pub numbers : bad_offer offers ≡ None
   pub paths : path_differs offers ≡ None
   pub exact : AreRooms (keys_of offers) rooms
 
 -- what a refusal says of them
-abbrev pub Refuses : List Offer → List Room → ViewError → Type 0
+abbrev pub Refuses : List ViewOffer → List Room → ViewError → Type 0
 Refuses offers rooms (BadOffer number) = bad_offer offers ≡ Some number
 Refuses offers rooms (PathDiffers number) = (bad_offer offers ≡ None) × (path_differs offers ≡ Some number)
 Refuses offers rooms BadRooms = (bad_offer offers ≡ None) × (path_differs offers ≡ None) × (¬ AreRooms (keys_of offers) rooms)

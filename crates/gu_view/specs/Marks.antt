@@ -4,15 +4,15 @@ use Rattle.gu_terms.specs.declared.takes.Take.{Take}
 use Rattle.gu_terms.specs.Cuts.{CutLists, has_number}
 use Rattle.gu_terms.specs.LimitKeys.{has_key}
 use Rattle.gu_view.specs.View.{GroupView}
-use Rattle.gu_view.specs.declared.view.Offer.{Offer}
+use Rattle.gu_view.specs.declared.view.ViewOffer.{ViewOffer}
 
--- the lots of the first take where it is of this offer, and the takes behind it
+-- the lots of the first take where it is of this offer, and the takes after it
 abbrev pub split_of : List Take → ℕ → ℕ × List Take
 split_of [] offer = (0, [])
 split_of (t ∷ rest) offer = if t.offer == offer then (t.lots, rest) else (0, t ∷ rest)
 
 -- the lots that are taken of each offer, in the offers' order
-abbrev pub AreLots : List Offer → List ℕ → (ℕ → ℕ) → Type 0
+abbrev pub AreLots : List ViewOffer → List ℕ → (ℕ → ℕ) → Type 0
 AreLots offers taken lots = taken ≡ map (λ o. lots o.number) offers
 
 -- whether each element passes a test

@@ -7,7 +7,7 @@ use Rattle.gu_terms.specs.declared.agreement.AgreementId.{AgreementId}
 use Rattle.gu_terms.specs.declared.limit_key.LimitKey.{LimitKey}
 use Rattle.gu_terms.specs.declared.limit_key.LimitKey.TheVariants.{Exec, Agr, Acct, Carry, Guar}
 use Rattle.gu_view.specs.View.{places_under}
-use Rattle.gu_view.specs.declared.view.Offer.{Offer}
+use Rattle.gu_view.specs.declared.view.ViewOffer.{ViewOffer}
 use Rattle.gu_view.specs.declared.view.Room.{Room}
 
 -- keys of an executing firm, of an agreement, of an account and of a carrying firm
@@ -20,7 +20,7 @@ abbrev pub is_guarantor : LimitKey → Bool
 is_guarantor (Guar _) = true
 is_guarantor _ = false
 
--- a path of these four, or of a guarantor's behind them
+-- a path of these four, or of a guarantor's after them
 abbrev pub is_whole : AgreementId → List LimitKey → Bool
 is_whole own (a ∷ b ∷ c ∷ d ∷ []) = are_kinds own a b c d
 is_whole own (a ∷ b ∷ c ∷ d ∷ e ∷ []) = are_kinds own a b c d && is_guarantor e
@@ -32,7 +32,7 @@ same_key (Some j) (Some k) = key_eq j k
 same_key None None = true
 same_key _ _ = false
 
--- the place on a path of what comes behind a key that paths share: behind an account's the carrying firm's, and behind a
+-- the place on a path of what comes after a key that paths share: after an account's the carrying firm's, and after a
 -- carrying firm's its guarantor's
 abbrev pub behind : LimitKey → Option ℕ
 behind (Acct _) = Some 3
@@ -40,14 +40,14 @@ behind (Carry _) = Some 4
 behind _ = None
 
 -- the key at a place on the path of an offer
-abbrev pub key_on : List Offer → ℕ → ℕ → Option LimitKey
-key_on offers depth place = option_and_then (λ (o : Offer). slice_get o.path depth) (slice_get offers place)
+abbrev pub key_on : List ViewOffer → ℕ → ℕ → Option LimitKey
+key_on offers depth place = option_and_then (λ (o : ViewOffer). slice_get o.path depth) (slice_get offers place)
 
 -- the offers at these places have there the key of the first of them
-abbrev pub have_one_key : List Offer → ℕ → List ℕ → Bool
+abbrev pub have_one_key : List ViewOffer → ℕ → List ℕ → Bool
 have_one_key offers depth [] = true
 have_one_key offers depth (first ∷ others) = list_all (λ other. same_key (key_on offers depth first) (key_on offers depth other)) others
 
 -- under a room all offers go on with one key
-abbrev pub room_agrees : List Offer → Room → Bool
+abbrev pub room_agrees : List ViewOffer → Room → Bool
 room_agrees offers r = option_map_or (λ depth. have_one_key offers depth (places_under offers r.key)) (behind r.key) true

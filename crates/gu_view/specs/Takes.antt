@@ -2,15 +2,15 @@
 use Rattle.std.specs.Prelude.{◌≡◌, ℕ, ◌<◌, ◌≤◌, if◌then◌else◌, List, All, AllPairs, sum_by}
 use Rattle.gu_terms.specs.declared.limit_key.LimitKey.{LimitKey}
 use Rattle.gu_terms.specs.LimitKeys.{has_key}
-use Rattle.gu_view.specs.declared.view.Offer.{Offer}
+use Rattle.gu_view.specs.declared.view.ViewOffer.{ViewOffer}
 use Rattle.gu_view.specs.View.{GroupView}
 
 -- the lots taken of the offers with a key on their path; `lots` gives those taken of the offer with a number
-abbrev pub lots_under : List Offer → LimitKey → (ℕ → ℕ) → ℕ
+abbrev pub lots_under : List ViewOffer → LimitKey → (ℕ → ℕ) → ℕ
 lots_under offers k lots = sum_by (λ o. if has_key o.path k then lots o.number else 0) offers
 
 -- the lots taken in all
-abbrev pub total : List Offer → (ℕ → ℕ) → ℕ
+abbrev pub total : List ViewOffer → (ℕ → ℕ) → ℕ
 total offers lots = sum_by (λ o. lots o.number) offers
 
 -- no more than each offer has, and under each key no more than its room

@@ -9,7 +9,7 @@ use Rattle.gu_terms.specs.declared.limit_key.LimitKey.TheVariants.{Agr, Acct, Ca
 use Rattle.gu_terms.specs.LimitKeys.{key_eq, has_key}
 use Rattle.gu_terms.specs.Numbers.{IsLots}
 use Rattle.gu_terms.specs.Paths.{path_through}
-use Rattle.gu_view.specs.declared.view.Offer.{Offer}
+use Rattle.gu_view.specs.declared.view.ViewOffer.{ViewOffer}
 use Rattle.gu_view.specs.declared.view.Room.{Room}
 use Rattle.gu_view.specs.Places.{places_where}
 
@@ -17,7 +17,7 @@ use Rattle.gu_view.specs.Places.{places_where}
 pub record GroupView : Type 0 where
   pub group : Group
   pub version : ℕ
-  pub offers : List Offer
+  pub offers : List ViewOffer
   pub rooms : List Room
 
 -- keys, each once, where it first stands
@@ -26,7 +26,7 @@ firsts [] = []
 firsts (k ∷ keys) = k ∷ filter (λ j. not (key_eq k j)) (firsts keys)
 
 -- the keys on the offers' paths, in order of first mention
-abbrev pub keys_of : List Offer → List LimitKey
+abbrev pub keys_of : List ViewOffer → List LimitKey
 keys_of offers = firsts (flat_map (λ o. o.path) offers)
 
 -- what holds of every view
@@ -41,7 +41,7 @@ pub record IsView (view : GroupView) : Type 0 where
   pub limits : All (λ r. r.lots ≤ 1000000000) view.rooms
 
 -- the offer with a number
-abbrev pub offer_of : List Offer → ℕ → Option Offer
+abbrev pub offer_of : List ViewOffer → ℕ → Option ViewOffer
 offer_of offers number = find (λ o. o.number == number) offers
 
 -- the place of a key among keys
@@ -53,11 +53,11 @@ abbrev pub place_of : List Room → LimitKey → ℕ
 place_of rooms k = position_or_len (λ r. key_eq r.key k) rooms
 
 -- the places of the offers with a key on their path
-abbrev pub places_under : List Offer → LimitKey → List ℕ
+abbrev pub places_under : List ViewOffer → LimitKey → List ℕ
 places_under offers k = places_where (λ o. has_key o.path k) offers
 
 -- a path: executing firm, the offer's own agreement, account, carrying firm, and that firm's guarantor, where it has one
-abbrev pub IsPath : Offer → Type 0
+abbrev pub IsPath : ViewOffer → Type 0
 IsPath o =
     (executing : FirmId) × (account : AccountId) × (carrying : FirmId) × (guarantor : Option FirmId)
     × (o.path ≡ path_through executing o.agreement account carrying guarantor)
@@ -66,7 +66,7 @@ IsPath o =
 abbrev pub next_key : List LimitKey → LimitKey → Option LimitKey
 next_key path k = slice_get path (suc (position_or_len (λ j. key_eq j k) path))
 
--- where two paths both have this key, they go on behind it with one key, or both end with it
+-- where two paths both have this key, they go on after it with one key, or both end with it
 abbrev pub GoOnAlike : LimitKey → List LimitKey → List LimitKey → Type 0
 GoOnAlike k a b = IsTrue (has_key a k) → IsTrue (has_key b k) → next_key a k ≡ next_key b k
 

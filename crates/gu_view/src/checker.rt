@@ -12,7 +12,7 @@ ghost use Rattle.gu_view.specs.View.{IsView};
 
 use crate::error::{CutFault, Unknown};
 use crate::takes::{fill_lots, not_oldest_first, over_limit, over_offer, sum_of};
-use crate::view::{MOST_ROOMS, Offer, Room, View};
+use crate::view::{MOST_ROOMS, ViewOffer, Room, View};
 use gu_terms::{Cut, LimitKey, MOST_OPEN_OFFERS, OfferNo, Takes};
 
 /// Marks the rooms of these keys, or answers the first key that has no room.
@@ -31,7 +31,7 @@ fn mark_keys(view: &View, keys: &[LimitKey], marks: &mut [bool]) -> Option<CutFa
 }
 
 /// How many offers have a smaller number.
-fn smaller(offers: &[Offer], number: OfferNo) -> usize
+fn smaller(offers: &[ViewOffer], number: OfferNo) -> usize
     requires { AllPairs (λ a b. a.number < b.number) offers.now }
     ensures before { AllWithin (λ o. o.number < number) offers.now 0 result }
     ensures behind { AllWithin (λ o. number ≤ o.number) offers.now result (length offers.now) }
@@ -40,7 +40,7 @@ fn smaller(offers: &[Offer], number: OfferNo) -> usize
 }
 
 /// The place of the offer with a number.
-pub fn offer_place(offers: &[Offer], number: OfferNo) -> Option<usize>
+pub fn offer_place(offers: &[ViewOffer], number: OfferNo) -> Option<usize>
     requires { AllPairs (λ a b. a.number < b.number) offers.now }
     ensures { result ≡ position (λ o. o.number == number) offers.now }
 {
@@ -53,7 +53,7 @@ pub fn offer_place(offers: &[Offer], number: OfferNo) -> Option<usize>
 }
 
 /// Marks the offers with these numbers, or answers the first number that no offer has.
-fn mark_offers(offers: &[Offer], numbers: &[OfferNo], marks: &mut [bool]) -> Option<CutFault>
+fn mark_offers(offers: &[ViewOffer], numbers: &[OfferNo], marks: &mut [bool]) -> Option<CutFault>
     requires ascending { AllPairs (λ a b. a.number < b.number) offers.now }
     requires fresh { AreMarks offers.now marks.old (λ _. false) }
     ensures unknown { result ≡ unknown_offer offers.now numbers.now }
@@ -113,7 +113,7 @@ fn room_in_keys(rooms: &[Room], marks: &[bool]) -> u64
 }
 
 /// The lots of the marked offers.
-fn room_in_offers(offers: &[Offer], marks: &[bool]) -> u64
+fn room_in_offers(offers: &[ViewOffer], marks: &[bool]) -> u64
     requires { sum_by (λ p. if p.1 then p.0.lots else 0) (zip offers.now marks.now) < 2 ^ 64 }
     ensures { result ≡ sum_by (λ p. if p.1 then p.0.lots else 0) (zip offers.now marks.now) }
 {

@@ -8,7 +8,7 @@ ghost use Rattle.gu_view.specs.Making.{bad_offer, path_differs};
 ghost use Rattle.gu_view.specs.View.{firsts, keys_of, place_among};
 
 use crate::place_lists::PlaceLists;
-use crate::view::Offer;
+use crate::view::ViewOffer;
 use gu_terms::LimitKey;
 use indexmap::IndexSet;
 use std::alloc::{AllocError, Global};
@@ -20,7 +20,7 @@ const MOST_KEYS: usize = 5;
 /// Offers of which a view may be made, with the keys of their paths in order of first mention. To a contract it is the list of
 /// these offers.
 pub struct KeyedOffers {
-    offers: Vec<Offer>,
+    offers: Vec<ViewOffer>,
     keys: IndexSet<LimitKey>,
     /// For each offer the places of its path's keys among the keys.
     places: PlaceLists,
@@ -29,9 +29,9 @@ pub struct KeyedOffers {
 impl Model for KeyedOffers {
     ghost use Rattle.std.specs.Prelude.{List};
     ghost use Rattle.gu_view.specs.Keeping.{IsKeyed};
-    ghost use Rattle.gu_view.specs.declared.view.Offer.{Offer};
+    ghost use Rattle.gu_view.specs.declared.view.ViewOffer.{ViewOffer};
 
-    ghost Value = { List Offer };
+    ghost Value = { List ViewOffer };
 
     ghost view = { λ k. k.offers.items };
 
@@ -81,7 +81,7 @@ fn mention(
 fn mention_all(
     keys: &mut IndexSet<LimitKey>,
     places: &mut PlaceLists,
-    offers: &[Offer],
+    offers: &[ViewOffer],
 ) -> Result<(), AllocError>
     requires none { keys.old.keys ≡ [] }
     requires nowhere { places.old ≡ [] }
@@ -101,7 +101,7 @@ fn mention_all(
 /// expected.
 fn keyed(
     alloc: Global,
-    offers: &[Offer],
+    offers: &[ViewOffer],
     expected: usize,
 ) -> Result<(IndexSet<LimitKey>, PlaceLists), AllocError>
     requires { length offers.now ≤ 4096 }
@@ -122,7 +122,7 @@ fn keyed(
 
 impl KeyedOffers {
     /// These offers with their keys, of which so many are expected.
-    pub fn new(alloc: Global, offers: Vec<Offer>, expected: usize) -> Result<Self, AllocError>
+    pub fn new(alloc: Global, offers: Vec<ViewOffer>, expected: usize) -> Result<Self, AllocError>
         requires numbers { bad_offer offers.items ≡ None }
         requires paths { path_differs offers.items ≡ None }
         ensures { IfOk result (λ made. made ≡ offers.items) }
@@ -150,7 +150,7 @@ impl KeyedOffers {
     }
 
     /// The offers, their keys, and the places of each path's keys.
-    pub(crate) fn into_parts(self) -> (Vec<Offer>, IndexSet<LimitKey>, PlaceLists)
+    pub(crate) fn into_parts(self) -> (Vec<ViewOffer>, IndexSet<LimitKey>, PlaceLists)
         ensures offers { result.0.items ≡ self }
         ensures keyed { IsKeyed self result.1.keys result.2 }
     {

@@ -9,20 +9,20 @@ ghost use Rattle.gu_terms.specs.declared.limit_key.LimitKey.{LimitKey};
 ghost use Rattle.gu_view.specs.Keeping.{IsGiven};
 ghost use Rattle.gu_view.specs.Making.{is_bad, is_own, numbered, bad_offer, path_differs, lots_given, AreRooms, in_order};
 
-use crate::view::{Offer, Room};
+use crate::view::{ViewOffer, Room};
 use gu_terms::{AgreementId, LimitKey, MOST_LIMIT, MOST_LOTS, MOST_OPEN_OFFERS, OfferNo, Path};
 use indexmap::{IndexMap, IndexSet};
 use std::alloc::{AllocError, Global};
 
 /// Whether an offer's number isn't above the one before it, or its lots are out of range.
-fn is_bad(before: u64, offer: &Offer) -> bool
+fn is_bad(before: u64, offer: &ViewOffer) -> bool
     ensures { result ≡ is_bad before offer.now }
 {
     offer.number.get() <= before || (offer.lots == 0 || MOST_LOTS < offer.lots)
 }
 
 /// The first bad offer.
-fn first_bad(offers: &[Offer]) -> Option<OfferNo>
+fn first_bad(offers: &[ViewOffer]) -> Option<OfferNo>
     ensures { result ≡ option_map (λ p. p.1.number) (find (λ p. is_bad p.0 p.1) (numbered offers.now)) }
 {
     let mut before = 0;
@@ -35,14 +35,14 @@ fn first_bad(offers: &[Offer]) -> Option<OfferNo>
     None
 }
 
-fn number_at(offers: &[Offer], place: usize) -> Option<OfferNo>
+fn number_at(offers: &[ViewOffer], place: usize) -> Option<OfferNo>
     ensures { result ≡ option_map (λ o. o.number) (slice_get offers.now place) }
 {
     offers.get(place).map(|offer| offer.number)
 }
 
 /// The first bad offer among as many as a view may have, else the next one.
-pub fn bad_offer(offers: &[Offer]) -> Option<OfferNo>
+pub fn bad_offer(offers: &[ViewOffer]) -> Option<OfferNo>
     ensures { result ≡ bad_offer offers.now }
 {
     if offers.len() <= MOST_OPEN_OFFERS {
@@ -55,7 +55,7 @@ pub fn bad_offer(offers: &[Offer]) -> Option<OfferNo>
 }
 
 /// Whether the second key of an offer's path is its own agreement.
-fn is_own(offer: &Offer) -> bool
+fn is_own(offer: &ViewOffer) -> bool
     ensures { result ≡ is_own offer.now }
 {
     offer
@@ -68,7 +68,7 @@ fn is_own(offer: &Offer) -> bool
 /// The first offer whose path isn't that of its agreement. The paths of the agreements are kept in a map, which is empty before.
 fn first_other_path(
     paths: &mut IndexMap<AgreementId, Path>,
-    offers: &[Offer],
+    offers: &[ViewOffer],
 ) -> Result<Option<OfferNo>, AllocError>
     requires empty { IsEmpty paths.old }
     requires ascending { AllPairs (λ a b. a.number < b.number) offers.now }
@@ -95,7 +95,7 @@ fn first_other_path(
 /// The first offer whose path isn't that of its agreement. So many agreements are expected at most.
 pub fn path_differs(
     alloc: Global,
-    offers: &[Offer],
+    offers: &[ViewOffer],
     expected: usize,
 ) -> Result<Option<OfferNo>, AllocError>
     requires { AllPairs (λ a b. a.number < b.number) offers.now }

@@ -4,7 +4,7 @@ ghost use Rattle.std.specs.Prelude.{◌≡◌, ◌<◌, IfSome, length, slice_ge
 ghost use Rattle.std.specs.List.{list_all};
 ghost use Rattle.gu_view.specs.Paths.{are_kinds, behind, have_one_key, is_guarantor, is_whole, key_on, room_agrees, same_key};
 
-use crate::view::{Offer, View};
+use crate::view::{ViewOffer, View};
 use gu_terms::{AgreementId, LimitKey};
 
 /// Whether keys are of an executing firm, of this agreement, of an account and of a carrying firm.
@@ -48,7 +48,7 @@ fn is_whole(own: AgreementId, path: &[LimitKey]) -> bool
 }
 
 /// Whether each path is whole.
-pub fn are_whole(offers: &[Offer]) -> bool
+pub fn are_whole(offers: &[ViewOffer]) -> bool
     ensures { result ≡ list_all (λ o. is_whole o.agreement o.path) offers.now }
 {
     offers
@@ -56,7 +56,7 @@ pub fn are_whole(offers: &[Offer]) -> bool
         .all(|offer| is_whole(offer.agreement, offer.path.keys()))
 }
 
-/// The place on a path of what comes behind an account's key, and behind a carrying firm's.
+/// The place on a path of what comes after an account's key, and after a carrying firm's.
 fn behind(key: LimitKey) -> Option<usize>
     ensures { result ≡ behind key }
 {
@@ -68,7 +68,7 @@ fn behind(key: LimitKey) -> Option<usize>
 }
 
 /// The key at a place on the path of an offer.
-fn key_on(offers: &[Offer], depth: usize, place: u32) -> Option<LimitKey>
+fn key_on(offers: &[ViewOffer], depth: usize, place: u32) -> Option<LimitKey>
     ensures { result ≡ key_on offers.now depth place }
 {
     offers.get(place as usize)?.path.keys().get(depth).copied()
@@ -86,7 +86,7 @@ fn is_same_key(a: Option<LimitKey>, b: Option<LimitKey>) -> bool
 }
 
 /// Whether the offers at these places have this key there.
-fn all_have_key(offers: &[Offer], depth: usize, places: &[u32], key: Option<LimitKey>) -> bool
+fn all_have_key(offers: &[ViewOffer], depth: usize, places: &[u32], key: Option<LimitKey>) -> bool
     ensures { result ≡ list_all (λ place. same_key key (key_on offers.now depth place)) places.now }
 {
     places
@@ -95,7 +95,7 @@ fn all_have_key(offers: &[Offer], depth: usize, places: &[u32], key: Option<Limi
 }
 
 /// Whether the offers at these places have one key there: that of the first.
-fn have_one_key(offers: &[Offer], depth: usize, places: &[u32]) -> bool
+fn have_one_key(offers: &[ViewOffer], depth: usize, places: &[u32]) -> bool
     ensures { result ≡ have_one_key offers.now depth places.now }
 {
     match places {

@@ -1,4 +1,4 @@
-//! Lists of places, one behind another in one buffer.
+//! Lists of places, one after another in one buffer.
 
 ghost use Rattle.std.specs.Prelude.{◌≡◌, ◌<◌, ◌≤◌, ◌∷◌, ◌++◌, [], length, OnOk, OnErr, IfOk, slice_get, slice_index, slice_range};
 ghost use Rattle.gu_view.specs.Keeping.{lists_from, AreEnds};
@@ -59,7 +59,7 @@ impl PlaceLists {
         PlaceLists { joined, ends }
     }
 
-    /// Adds a list behind the others.
+    /// Adds a list after the others.
     pub fn push(&mut self, list: &[u32]) -> Result<(), AllocError>
         ensures ok { OnOk result (self.new ≡ self.old ++ list.now ∷ []) }
         ensures refused { OnErr result (self.new ≡ self.old) }

@@ -7,10 +7,10 @@ ghost use Rattle.gu_view.specs.Takes.{lots_under};
 ghost use Rattle.gu_view.specs.Marks.{split_of, AreLots, AreMarks};
 
 use crate::error::{CutFault, Unknown};
-use crate::view::{MOST_ROOMS, Offer, View};
+use crate::view::{MOST_ROOMS, ViewOffer, View};
 use gu_terms::{OfferNo, Take};
 
-/// The lots of the first take where it is of this offer, and the takes behind it.
+/// The lots of the first take where it is of this offer, and the takes after it.
 fn split_first(takes: &[Take], offer: OfferNo) -> (u64, &[Take])
     ensures lots { result.0 ≡ (split_of takes.now offer).0 }
     ensures rest { result.1.now ≡ (split_of takes.now offer).1 }
@@ -22,7 +22,7 @@ fn split_first(takes: &[Take], offer: OfferNo) -> (u64, &[Take])
 }
 
 /// Writes the lots that are taken of each offer, or answers the first take of an offer that isn't there.
-pub fn fill_lots(offers: &[Offer], takes: &[Take], taken: &mut [u64]) -> Option<CutFault>
+pub fn fill_lots(offers: &[ViewOffer], takes: &[Take], taken: &mut [u64]) -> Option<CutFault>
     requires offers { AllPairs (λ a b. a.number < b.number) offers.now }
     requires takes { IsAscending takes.now }
     requires size { length taken.old ≡ length offers.now }
@@ -40,7 +40,7 @@ pub fn fill_lots(offers: &[Offer], takes: &[Take], taken: &mut [u64]) -> Option<
 }
 
 /// The least offer of which more is taken than it has.
-pub fn over_offer(offers: &[Offer], taken: &[u64]) -> Option<CutFault>
+pub fn over_offer(offers: &[ViewOffer], taken: &[u64]) -> Option<CutFault>
     requires { length taken.now ≡ length offers.now }
     ensures first { (lots : ℕ → ℕ) → AreLots offers.now taken.now lots → result ≡ over_offer offers.now lots }
     ensures within { IfNone result (sum taken.now ≤ sum_by (λ o. o.lots) offers.now) }

@@ -24,7 +24,7 @@ pub const MOST_ROOMS: usize = 20_480;
 
 /// An open offer: its number, the lots that are left of it, its agreement and its path.
 #[derive(Clone, Copy, PartialEq, Eq)]
-pub struct Offer {
+pub struct ViewOffer {
     pub number: OfferNo,
     pub lots: u64,
     pub agreement: AgreementId,
@@ -42,7 +42,7 @@ pub struct Room {
 pub struct View {
     group: Group,
     version: u64,
-    offers: Vec<Offer>,
+    offers: Vec<ViewOffer>,
     rooms: Vec<Room>,
     /// The rooms' keys, to look one up.
     keys: IndexSet<LimitKey>,
@@ -91,7 +91,7 @@ impl View {
         alloc: Global,
         group: Group,
         version: u64,
-        offers: Vec<Offer>,
+        offers: Vec<ViewOffer>,
         rooms: Vec<Room>,
     ) -> Result<View, ViewError>
         ensures made { IfOk result (λ view. view ≡ view_of group version offers.items rooms.items) }
@@ -171,7 +171,7 @@ impl View {
     }
 
     /// The offers, numbers ascending.
-    pub fn offers(&self) -> &[Offer]
+    pub fn offers(&self) -> &[ViewOffer]
         ensures offers { result.now ≡ self.now.offers }
         ensures sound { IsView self.now }
     {
@@ -179,7 +179,7 @@ impl View {
     }
 
     /// The offer with a number.
-    pub fn offer(&self, number: OfferNo) -> Option<&Offer>
+    pub fn offer(&self, number: OfferNo) -> Option<&ViewOffer>
         ensures { option_copied result ≡ offer_of self.now.offers number }
     {
         let place = offer_place(&self.offers, number)?;

@@ -22,7 +22,7 @@ use Rattle.gu_book.proofs.StandingLemmas.{offers_of-push}
 use Rattle.gu_world.specs.Blame.{own_of}
 use Rattle.gu_world.specs.Steps.{first_touch_above}
 use Rattle.gu_book.proofs.VersionLemmas.{touching_after-append}
-use Rattle.gu_world.proofs.Touches.{found_behind, touching_at}
+use Rattle.gu_world.proofs.Touches.{found_after, touching_at}
 
 -- of the offer of a number it is known whether it is of the group
 own-at : (group : Group) (offers : List Offer) (place : ℕ)
@@ -43,12 +43,12 @@ module _ (group : Group) (seen : ℕ) (entries : List Entry) (place : ℕ) (entr
   count : length (take place entries) ≡ place
   count = length-take-le place entries (omega arith)
 
-  -- behind the entries in which there was none, the first is this one
+  -- after the entries in which there was none, the first is this one
   pub touched-here : (number : ℕ) → number ≡ place + 1 → seen < number → touches (take place entries) group entry ≡ true → Some number ≡ first_touch_above entries group seen
   touched-here number number_is above touched =
       sym (
       ap (find (nat_lt seen)) (touching_at entries place group)
-      ∙ found_behind seen (touching (take place entries) group) (touching_after (take place entries) group (drop place entries)) none
+      ∙ found_after seen (touching (take place entries) group) (touching_after (take place entries) group (drop place entries)) none
       ∙ ap (λ (rest : List Entry). find (nat_lt seen) (touching_after (take place entries) group rest)) (drop_more entries place entry inside ∙ ap (λ (e : Entry). e ∷ drop (place + 1) entries) (sym is))
       ∙ first)
     where
@@ -63,7 +63,7 @@ module _ (group : Group) (seen : ℕ) (entries : List Entry) (place : ℕ) (entr
   untouched-here number number_is why =
       ap (λ (es : List Entry). find (nat_lt seen) (touching es group)) (take_more entries place entry inside ∙ ap (λ (e : Entry). take place entries ++ e ∷ []) (sym is))
       ∙ ap (find (nat_lt seen)) (touching_after-append [] (take place entries) (entry ∷ []) group)
-      ∙ found_behind seen (touching (take place entries) group) (touching_after (take place entries) group (entry ∷ [])) none
+      ∙ found_after seen (touching (take place entries) group) (touching_after (take place entries) group (entry ∷ [])) none
       ∙ by why
     where
       low : number ≤ seen → (b : Bool) → find (nat_lt seen) (option_to_list (if b then Some (length (take place entries) + 1) else None) ++ []) ≡ None

@@ -3,7 +3,7 @@ use Rattle.std.proofs.Common.{◌≡◌, ℕ, zero, suc, ◌-◌, ◌<◌, true,
 use Rattle.std.specs.Prelude.{slice_get, IfOk}
 use Rattle.std.specs.Option.{option_map_or}
 use Rattle.gu_ref.specs.Tables.{Tables}
-use Rattle.gu_world.specs.Blame.{IsBlamedFor, ends_stale, first_behind, is_stale}
+use Rattle.gu_world.specs.Blame.{IsBlamedFor, ends_stale, first_after, is_stale}
 use Rattle.gu_world.specs.Runs.{Course, GoesOn, IsBlamedAt, IsCulprit, IsRunOf, blamed}
 use Rattle.gu_world.specs.Steps.{State}
 use Rattle.gu_world.specs.declared.outcome.Outcome.{Outcome}
@@ -22,8 +22,8 @@ ends-is outcomes outcome =
     ap (λ (k : ℕ). option_map_or is_stale (slice_get (outcomes ++ outcome ∷ []) k) false) place
     ∙ ap (λ (found : Option Outcome). option_map_or is_stale found false) (last-at outcomes outcome)
 
--- of a stale outcome the first entry behind is to blame, and of others none
-blamed-is : (before : State) (step : Step) (outcome : Outcome) → is_stale outcome ≡ true → blamed before step outcome ≡ first_behind before step
+-- of a stale outcome the first entry after is to blame, and of others none
+blamed-is : (before : State) (step : Step) (outcome : Outcome) → is_stale outcome ≡ true → blamed before step outcome ≡ first_after before step
 blamed-is before (Commit worker) (Stale seen now) stale = refl
 blamed-is before (Enter command) outcome stale = refl
 blamed-is before (See worker group) outcome stale = refl
@@ -35,7 +35,7 @@ blamed-none before (Commit worker) (Stale seen now) stale = cc
 blamed-none before step outcome stale = refl
 
 module _ (old new : Course) (step : Step) (goes : GoesOn old step new) where
-  pub blames : (first : Option ℕ) → first ≡ first_behind old.state step → true ≡ ends_stale new.outcomes → IsBlamedFor old step new first
+  pub blames : (first : Option ℕ) → first ≡ first_after old.state step → true ≡ ends_stale new.outcomes → IsBlamedFor old step new first
   blames first is stale =
       let same : is_stale goes.outcome ≡ true = sym (ends-is old.outcomes goes.outcome) ∙ ap ends_stale (sym goes.outcomes) ∙ sym stale in
       record { goes_on = goes; culprit_is = is ∙ sym (blamed-is old.state step goes.outcome same) }

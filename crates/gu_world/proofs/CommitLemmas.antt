@@ -10,7 +10,7 @@ use Rattle.gu_terms.specs.declared.receipt.Receipt.{Receipt}
 use Rattle.gu_flow.specs.Proposals.{ProposedSweep}
 use Rattle.gu_view.specs.View.{GroupView}
 use Rattle.gu_book.specs.Commits.{IsCurrent, IsForeign, IsStale, sweep_of}
-use Rattle.gu_book.specs.Kept.{Kept}
+use Rattle.gu_book.specs.BookState.{BookState}
 use Rattle.gu_book.specs.Legal.{IsLegal}
 use Rattle.gu_book.specs.Versions.{version_of}
 use Rattle.gu_world.specs.Looks.{IsTrueLook, look_by}
@@ -23,7 +23,7 @@ use Rattle.gu_world.proofs.Touches.{equal_views, versions_and_touches}
 roomy : (n : ℕ) → n < 1000000 → nat_le 1000000 n ≡ false
 roomy n room = grind (arith, nat_tests)
 
-module _ (book new : Kept) (seen : ℕ) (looks : List (Option Look)) (proposal : ProposedSweep) (one : IsTrueLook book (record { seen = seen; work = Ready proposal })) where
+module _ (book new : BookState) (seen : ℕ) (looks : List (Option Look)) (proposal : ProposedSweep) (one : IsTrueLook book (record { seen = seen; work = Ready proposal })) where
   abbrev group : Group
   group = proposal.view.group
 

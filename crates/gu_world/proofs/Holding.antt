@@ -7,7 +7,7 @@ use Rattle.gu_ref.specs.Reference.{is_group}
 use Rattle.gu_flow.specs.Proposals.{ProposedSweep}
 use Rattle.gu_view.specs.View.{GroupView, IsNested}
 use Rattle.gu_book.specs.Commits.{sweep_of}
-use Rattle.gu_book.specs.Kept.{Kept}
+use Rattle.gu_book.specs.BookState.{BookState}
 use Rattle.gu_book.specs.Sweeps.{IsSweepOf}
 use Rattle.gu_book.specs.Views.{group_view}
 use Rattle.gu_world.specs.Looks.{AreTrue, Grows, IsTrueLook, look_by, look_in, looks_in, state_in, view_in}
@@ -29,7 +29,7 @@ look_by-seen seen (Looking view) = refl
 look_by-seen seen (Ready proposal) = refl
 
 -- what has the view of a true look, and saw as much, is one
-pub true-alike : (book : Kept) (seen : ℕ) (work other : Work) → view_in other ≡ view_in work → IsTrueLook book (record { seen = seen; work = work }) → IsTrueLook book (record { seen = seen; work = other })
+pub true-alike : (book : BookState) (seen : ℕ) (work other : Work) → view_in other ≡ view_in work → IsTrueLook book (record { seen = seen; work = work }) → IsTrueLook book (record { seen = seen; work = other })
 true-alike book seen work other same one = record {
   known = ap (λ (v : GroupView). is_group book.reference v.group) same ∙ one.known;
   seen = one.seen;
@@ -42,7 +42,7 @@ module _ (old left : List (Option Held)) (worker : ℕ) (is_left : left ≡ slic
   pub nothing-held : slice_index_or old worker None ≡ None → left ≡ old
   nothing-held at = is_left ∙ set-own old worker None at
 
-  pub proposes-nothing : (book : Kept) → slice_index_or old worker None ≡ None → ProposesOn (look_of (state_in book old) worker) (state_in book old) worker Nothing (state_in book left)
+  pub proposes-nothing : (book : BookState) → slice_index_or old worker None ≡ None → ProposesOn (look_of (state_in book old) worker) (state_in book old) worker Nothing (state_in book left)
   proposes-nothing book at =
       subst (λ (look : Option Look). ProposesOn look (state_in book old) worker Nothing (state_in book left)) (sym (look_of-held book old worker ∙ ap (option_map look_in) at))
       (refl, ap (state_in book) (nothing-held at))
@@ -58,14 +58,14 @@ module _ (old left : List (Option Held)) (worker : ℕ) (is_left : left ≡ slic
 
     module _ (proposal : ProposedSweep) (new : List (Option Held)) (of_view : proposal.view ≡ view_in work) (put : new ≡ slice_set left worker (Some (record { seen = seen; work = Ready proposal }))) where
       -- a proposal is as true as the view was
-      pub proposal-true : (book : Kept) → AreTrue book old → AreTrue book new
+      pub proposal-true : (book : BookState) → AreTrue book old → AreTrue book new
       proposal-true book trues =
           subst (AreTrue book) (sym put)
           (true-put book left worker (record { seen = seen; work = Ready proposal }) (subst (AreTrue book) (sym is_left) (true-taken book old worker trues))
           (true-alike book seen work (Ready proposal) of_view (trues worker (record { seen = seen; work = work }) at)))
 
-      -- and may be committed behind what was seen
-      pub proposes : (book : Kept) (lots : ℕ) → length left ≡ 64 → lots ≡ proposal.lots → IsSweepOf proposal.view (sweep_of proposal) → AreTrue book old
+      -- and may be committed after what was seen
+      pub proposes : (book : BookState) (lots : ℕ) → length left ≡ 64 → lots ≡ proposal.lots → IsSweepOf proposal.view (sweep_of proposal) → AreTrue book old
           → ProposesOn (look_of (state_in book old) worker) (state_in book old) worker (Proposed lots) (state_in book new)
       proposes book lots made is_lots sweeps trues =
           subst (λ (look : Option Look). ProposesOn look (state_in book old) worker (Proposed lots) (state_in book new)) (sym (look_of-held book old worker ∙ ap (option_map look_in) at)) (
@@ -106,23 +106,23 @@ module _ (old left : List (Option Held)) (worker : ℕ) (is_left : left ≡ slic
 
 module _ (old left : List (Option Held)) (worker : ℕ) (is_left : left ≡ slice_set old worker None) where
   -- without a look nothing is committed
-  pub commits-nothing : (book : Kept) → slice_index_or old worker None ≡ None → (Nothing, state_in book left) ≡ committed_on (look_of (state_in book old) worker) (state_in book old) worker
+  pub commits-nothing : (book : BookState) → slice_index_or old worker None ≡ None → (Nothing, state_in book left) ≡ committed_on (look_of (state_in book old) worker) (state_in book old) worker
   commits-nothing book at =
       subst (λ (look : Option Look). (Nothing, state_in book left) ≡ committed_on look (state_in book old) worker) (sym (look_of-held book old worker ∙ ap (option_map look_in) at))
       (λ i. (Nothing, state_in book (nothing-held old left worker is_left at i)))
 
   module _ (seen : ℕ) (work : Work) (at : slice_index_or old worker None ≡ Some (record { seen = seen; work = work })) where
-    abbrev look_is : (book : Kept) → look_of (state_in book old) worker ≡ Some (look_by seen work)
+    abbrev look_is : (book : BookState) → look_of (state_in book old) worker ≡ Some (look_by seen work)
     look_is book = look_of-held book old worker ∙ ap (option_map look_in) at
 
     -- nor with a look alone, which stays
-    pub commits-no_look : (book : Kept) (view : GroupView) (new : List (Option Held)) → work ≡ Looking view → new ≡ old → (Nothing, state_in book new) ≡ committed_on (look_of (state_in book old) worker) (state_in book old) worker
+    pub commits-no_look : (book : BookState) (view : GroupView) (new : List (Option Held)) → work ≡ Looking view → new ≡ old → (Nothing, state_in book new) ≡ committed_on (look_of (state_in book old) worker) (state_in book old) worker
     commits-no_look book view new is same =
         subst (λ (look : Option Look). (Nothing, state_in book new) ≡ committed_on look (state_in book old) worker) (sym (look_is book ∙ ap (λ (w : Work). Some (look_by seen w)) is))
         (λ i. (Nothing, state_in book (same i)))
 
     -- with a proposal the look goes, whatever comes of it
-    pub commits-proposal : (book after : Kept) (proposal : ProposedSweep) (outcome : Outcome) → work ≡ Ready proposal → length left ≡ 64
+    pub commits-proposal : (book after : BookState) (proposal : ProposedSweep) (outcome : Outcome) → work ≡ Ready proposal → length left ≡ 64
         → (outcome, record { book = after; looks = slice_set (looks_in old) worker None })
         ≡ committed_for (record { book = book; looks = slice_set (looks_in old) worker None }) (look_by seen (Ready proposal)) (sweep_of proposal)
         → (outcome, state_in after left) ≡ committed_on (look_of (state_in book old) worker) (state_in book old) worker
@@ -134,5 +134,5 @@ module _ (old left : List (Option Held)) (worker : ℕ) (is_left : left ≡ slic
         looks = ap looks_in is_left ∙ looks_in-taken old worker (ap {A = List (Option Held)} length (sym is_left) ∙ made)
 
   -- what others hold stays true
-  pub left-true : (book after : Kept) → Grows book after → AreTrue book old → AreTrue after left
+  pub left-true : (book after : BookState) → Grows book after → AreTrue book old → AreTrue after left
   left-true book after grows trues = true-grown book after left grows (subst (AreTrue book) (sym is_left) (true-taken book old worker trues))

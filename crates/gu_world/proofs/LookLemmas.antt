@@ -8,7 +8,7 @@ use Rattle.gu_terms.specs.declared.entry.Entry.{Entry}
 use Rattle.gu_terms.specs.declared.entry.SweepEntry.{SweepEntry}
 use Rattle.gu_terms.specs.declared.receipt.Receipt.{Receipt}
 use Rattle.gu_ref.specs.Reference.{is_group}
-use Rattle.gu_book.specs.Kept.{Kept}
+use Rattle.gu_book.specs.BookState.{BookState}
 use Rattle.gu_book.specs.Versions.{touching}
 use Rattle.gu_book.specs.Views.{group_view}
 use Rattle.gu_world.specs.Looks.{Grows}
@@ -21,13 +21,13 @@ use Rattle.gu_world.specs.declared.step.Step.TheVariants.{Enter, See, Propose, C
 
 -- ---- the book grows
 
-stays : (book : Kept) → Grows book book
+stays : (book : BookState) → Grows book book
 stays book = record { later = []; reference = refl; history = sym (append-nil book.history) }
 
-adds : (book : Kept) (entry : Entry) → Grows book (record { reference = book.reference; history = book.history ++ entry ∷ [] })
+adds : (book : BookState) (entry : Entry) → Grows book (record { reference = book.reference; history = book.history ++ entry ∷ [] })
 adds book entry = record { later = entry ∷ []; reference = refl; history = refl }
 
-either : (b : Bool) (book : Kept) (x y : Outcome × State) → Grows book x.1.book → Grows book y.1.book → Grows book (if b then x else y).1.book
+either : (b : Bool) (book : BookState) (x y : Outcome × State) → Grows book x.1.book → Grows book y.1.book → Grows book (if b then x else y).1.book
 either true book x y h k = h
 either false book x y h k = k
 

@@ -1,4 +1,4 @@
--- Outcomes as a world keeps them: what is kept gives them back, however many entries come behind.
+-- Outcomes as a world keeps them: what is kept gives them back, however many entries come after.
 use Rattle.std.proofs.Common.{◌≡◌, ℕ, zero, suc, ◌+◌, ◌≤◌, arith, Bool, true, false, List, [], ◌∷◌, ◌++◌, length, map, Option, Some, None, refl, sym, ap, subst, ◌∙◌, get_or, if◌then◌else◌}
 use Rattle.std.specs.Prelude.{slice_get}
 use Rattle.std.specs.Option.{option_map_or}

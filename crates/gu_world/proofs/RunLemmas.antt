@@ -6,7 +6,7 @@ use Rattle.gu_terms.specs.declared.entry.SweepEntry.{SweepEntry}
 use Rattle.gu_ref.specs.Reference.{is_group}
 use Rattle.gu_ref.specs.Tables.{Tables}
 use Rattle.gu_view.specs.View.{GroupView}
-use Rattle.gu_book.specs.Kept.{Kept}
+use Rattle.gu_book.specs.BookState.{BookState}
 use Rattle.gu_book.specs.Legal.{IsLegal}
 use Rattle.gu_book.specs.Views.{group_view}
 use Rattle.gu_world.specs.Looks.{AreTrue, IsKeptCourse, look_in, state_in, view_in}
@@ -77,12 +77,12 @@ leads-reference old (Commit worker) outcome new h = ap (λ (p : Outcome × State
 
 -- ---- what is kept
 
-pub kept-beginning : (reference : Tables) (book : Kept) (slots : List (Option Held)) (outcomes : List KeptOutcome) → book ≡ record { reference = reference; history = [] } → slots ≡ [] → outcomes ≡ []
+pub kept-beginning : (reference : Tables) (book : BookState) (slots : List (Option Held)) (outcomes : List KeptOutcome) → book ≡ record { reference = reference; history = [] } → slots ≡ [] → outcomes ≡ []
     → IsKeptCourse book slots outcomes
 kept-beginning reference book slots outcomes new none nothing =
     subst (λ (os : List KeptOutcome). IsKeptCourse book slots os) (sym nothing)
     (subst (λ (ss : List (Option Held)). IsKeptCourse book ss []) (sym none)
-    (subst (λ (b : Kept). IsKeptCourse b [] []) (sym new) (record {
+    (subst (λ (b : BookState). IsKeptCourse b [] []) (sym new) (record {
       trues = λ worker held at. cc;
       numbered = λ k d within. absurd (omega (arith, within));
       reached = record { steps = []; run = refl };
@@ -93,7 +93,7 @@ pub last-set : {X : Type 0} (xs : List X) (x y : X) → slice_set (xs ++ x ∷ [
 last-set [] x y = refl
 last-set (first ∷ xs) x y = ap (λ more. first ∷ more) (last-set xs x y)
 
-module _ (book after : Kept) (slots left : List (Option Held)) (outcomes pushed : List KeptOutcome) (count : ℕ) (step : Step) (outcome : Outcome) (leads : LeadsTo (state_in book slots) step outcome (state_in after left))
+module _ (book after : BookState) (slots left : List (Option Held)) (outcomes pushed : List KeptOutcome) (count : ℕ) (step : Step) (outcome : Outcome) (leads : LeadsTo (state_in book slots) step outcome (state_in after left))
     (pushed_is : pushed ≡ outcomes ++ noted.Nothing ∷ []) (count_is : count ≡ length outcomes) (kept : IsKeptCourse book slots outcomes) where
   written : slice_set pushed count (kept_of outcome) ≡ outcomes ++ kept_of outcome ∷ []
   written = (λ i. slice_set (pushed_is i) (count_is i) (kept_of outcome)) ∙ last-set outcomes noted.Nothing (kept_of outcome)
@@ -128,7 +128,7 @@ module _ (book after : Kept) (slots left : List (Option Held)) (outcomes pushed 
 -- ---- looks
 
 -- the view that is kept is the one that was seen
-pub kept-look : (book : Kept) (slots : List (Option Held)) (worker : ℕ) (held : Held) (view : GroupView) → AreTrue book slots → slice_index_or slots worker None ≡ Some held → view ≡ view_in held.work
+pub kept-look : (book : BookState) (slots : List (Option Held)) (worker : ℕ) (held : Held) (view : GroupView) → AreTrue book slots → slice_index_or slots worker None ≡ Some held → view ≡ view_in held.work
     → Some view ≡ option_map (view_seen (state_in book slots)) (look_of (state_in book slots) worker)
 kept-look book slots worker held view trues at is =
     let one = trues worker held at in
@@ -137,14 +137,14 @@ kept-look book slots worker held view trues at is =
     ap Some (is ∙ one.view ∙ (λ i. group_view book.reference (take (sym seen i) book.history) (sym group i)))
     ∙ sym (ap (option_map (view_seen (state_in book slots))) (look_of-held book slots worker ∙ ap (option_map look_in) at))
 
-pub no-look : (book : Kept) (slots : List (Option Held)) (worker : ℕ) → slice_index_or slots worker None ≡ None → None ≡ option_map (view_seen (state_in book slots)) (look_of (state_in book slots) worker)
+pub no-look : (book : BookState) (slots : List (Option Held)) (worker : ℕ) → slice_index_or slots worker None ≡ None → None ≡ option_map (view_seen (state_in book slots)) (look_of (state_in book slots) worker)
 no-look book slots worker at = sym (ap (option_map (view_seen (state_in book slots))) (look_of-held book slots worker ∙ ap (option_map look_in) at))
 
-pub no-seen : (book : Kept) (slots : List (Option Held)) (worker : ℕ) → slice_index_or slots worker None ≡ None → look_of (state_in book slots) worker ≡ None
+pub no-seen : (book : BookState) (slots : List (Option Held)) (worker : ℕ) → slice_index_or slots worker None ≡ None → look_of (state_in book slots) worker ≡ None
 no-seen book slots worker at = look_of-held book slots worker ∙ ap (option_map look_in) at
 
 -- and where nothing touched its group since, it is the group's as the book stands
-pub kept-current : (book : Kept) (slots : List (Option Held)) (worker : ℕ) (held : Held) (view : GroupView) → IsLegal book.reference book.history → AreTrue book slots
+pub kept-current : (book : BookState) (slots : List (Option Held)) (worker : ℕ) (held : Held) (view : GroupView) → IsLegal book.reference book.history → AreTrue book slots
     → slice_index_or slots worker None ≡ Some held → view ≡ view_in held.work → (look : Look) → look_of (state_in book slots) worker ≡ Some look → is_overtaken (state_in book slots) look ≡ false
     → Some view ≡ Some (group_view book.reference book.history look.group)
 kept-current book slots worker held view legal trues at is look looks still =
@@ -157,7 +157,7 @@ kept-current book slots worker held view legal trues at is look looks still =
     let views = equal_views book.history look.seen look.group book.reference legal within ((versions_and_touches book.history look.seen look.group within).1 still) in
     ap Some (is ∙ one.view ∙ (λ i. group_view book.reference (take (sym seen i) book.history) (sym group i)) ∙ views)
 
-pub no-current : (book : Kept) (slots : List (Option Held)) (worker : ℕ) → slice_index_or slots worker None ≡ None → (look : Look) → look_of (state_in book slots) worker ≡ Some look → is_overtaken (state_in book slots) look ≡ false
+pub no-current : (book : BookState) (slots : List (Option Held)) (worker : ℕ) → slice_index_or slots worker None ≡ None → (look : Look) → look_of (state_in book slots) worker ≡ Some look → is_overtaken (state_in book slots) look ≡ false
     → None ≡ Some (group_view book.reference book.history look.group)
 no-current book slots worker at look looks still =
     let here : None ≡ Some look = sym (look_of-held book slots worker ∙ ap (option_map look_in) at) ∙ looks in

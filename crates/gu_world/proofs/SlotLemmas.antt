@@ -8,7 +8,7 @@ use Rattle.gu_terms.specs.declared.group.Group.{Group}
 use Rattle.gu_ref.specs.Reference.{is_group}
 use Rattle.gu_ref.specs.Tables.{Tables}
 use Rattle.gu_view.specs.View.{GroupView, IsNested}
-use Rattle.gu_book.specs.Kept.{Kept}
+use Rattle.gu_book.specs.BookState.{BookState}
 use Rattle.gu_book.specs.Views.{group_view}
 use Rattle.gu_world.specs.Looks.{AreTrue, Grows, IsTrueLook, look_in, looks_in, state_in, view_in}
 use Rattle.gu_world.specs.Steps.{Look, look_of, looked}
@@ -43,7 +43,7 @@ looks_in-full [] made = absurd (omega (arith, made))
 looks_in-full (slot ∷ slots) made = refl
 
 -- the look of a worker is that of what it holds
-pub look_of-held : (book : Kept) (slots : List (Option Held)) (worker : ℕ) → look_of (state_in book slots) worker ≡ option_map look_in (slice_index_or slots worker None)
+pub look_of-held : (book : BookState) (slots : List (Option Held)) (worker : ℕ) → look_of (state_in book slots) worker ≡ option_map look_in (slice_index_or slots worker None)
 look_of-held book [] worker = index-nothing 64 worker
 look_of-held book (slot ∷ slots) worker = along (slot ∷ slots) worker
   where
@@ -77,20 +77,20 @@ looks_in-made old new (inr made) = ap looks_in made.1 ∙ sym (ap looks_in made.
 
 -- ---- true looks
 
-pub true-made : (book : Kept) (old new : List (Option Held)) → IsMadeOf old new → AreTrue book old → AreTrue book new
+pub true-made : (book : BookState) (old new : List (Option Held)) → IsMadeOf old new → AreTrue book old → AreTrue book new
 true-made book old new (inl same) trues worker held at = trues worker held (ap (λ (slots : List (Option Held)). slice_index_or slots worker None) (sym same) ∙ at)
 true-made book old new (inr made) trues worker held at =
     let none : slice_index_or new worker None ≡ None = ap (λ (slots : List (Option Held)). slice_index_or slots worker None) made.1 ∙ index-nothing 64 worker in
     cc
 
-pub true-put : (book : Kept) (slots : List (Option Held)) (place : ℕ) (held : Held) → AreTrue book slots → IsTrueLook book held → AreTrue book (slice_set slots place (Some held))
+pub true-put : (book : BookState) (slots : List (Option Held)) (place : ℕ) (held : Held) → AreTrue book slots → IsTrueLook book held → AreTrue book (slice_set slots place (Some held))
 true-put book [] place held trues one worker other at = trues worker other at
 true-put book (slot ∷ slots) zero held trues one zero other at = let same : held ≡ other = cc in subst (IsTrueLook book) same one
 true-put book (slot ∷ slots) zero held trues one (suc worker) other at = trues (suc worker) other at
 true-put book (slot ∷ slots) (suc place) held trues one zero other at = trues zero other at
 true-put book (slot ∷ slots) (suc place) held trues one (suc worker) other at = true-put book slots place held (λ w h is. trues (suc w) h is) one worker other at
 
-pub true-taken : (book : Kept) (slots : List (Option Held)) (place : ℕ) → AreTrue book slots → AreTrue book (slice_set slots place None)
+pub true-taken : (book : BookState) (slots : List (Option Held)) (place : ℕ) → AreTrue book slots → AreTrue book (slice_set slots place None)
 true-taken book [] place trues worker other at = trues worker other at
 true-taken book (slot ∷ slots) zero trues zero other at = cc
 true-taken book (slot ∷ slots) zero trues (suc worker) other at = trues (suc worker) other at
@@ -98,7 +98,7 @@ true-taken book (slot ∷ slots) (suc place) trues zero other at = trues zero ot
 true-taken book (slot ∷ slots) (suc place) trues (suc worker) other at = true-taken book slots place (λ w h is. trues (suc w) h is) worker other at
 
 -- what was seen stays true as the book grows
-pub true-grown : (old new : Kept) (slots : List (Option Held)) → Grows old new → AreTrue old slots → AreTrue new slots
+pub true-grown : (old new : BookState) (slots : List (Option Held)) → Grows old new → AreTrue old slots → AreTrue new slots
 true-grown old new slots grows trues worker held at =
     let one = trues worker held at in
     let seen : take held.seen new.history ≡ take held.seen old.history = ap (take held.seen) grows.history ∙ take-append-le held.seen old.history grows.later one.seen in
@@ -111,7 +111,7 @@ true-grown old new slots grows trues worker held at =
 
 -- ---- a look
 
-module _ (book : Kept) (group : Group) (worker : ℕ) (view : GroupView) (seen : ℕ) (old made new : List (Option Held)) where
+module _ (book : BookState) (group : Group) (worker : ℕ) (view : GroupView) (seen : ℕ) (old made new : List (Option Held)) where
   -- what a worker holds that has just looked
   abbrev held : Held
   held = record { seen = seen; work = Looking view }

@@ -31,7 +31,7 @@ low before (e ∷ es) group n h =
     none_low (touches before group e) n (length before + 1) (touching_after (before ++ e ∷ []) group es) (omega arith)
     (low (before ++ e ∷ []) es group n (omega (arith, length-append before (e ∷ []))))
 
--- and those behind it have one above it where they have one
+-- and those after it have one above it where they have one
 some_high : (b : Bool) (n k : ℕ) (ns : List ℕ) → n < k → is_some (find (nat_lt n) ns) ≡ nat_lt 0 (length ns) → is_some (find (nat_lt n) (in_front b k ns)) ≡ nat_lt 0 (length (in_front b k ns))
 some_high true n k ns high h = grind (arith, nat_tests)
 some_high false n k ns high h = h
@@ -42,24 +42,24 @@ high before (e ∷ es) group n h =
     some_high (touches before group e) n (length before + 1) (touching_after (before ++ e ∷ []) group es) (omega arith)
     (high (before ++ e ∷ []) es group n (omega (arith, length-append before (e ∷ []))))
 
-kept_behind : (b : Bool) (x : ℕ) (f g o : Option ℕ) → cond b (Some x) f ≡ None → (f ≡ None → g ≡ o) → cond b (Some x) g ≡ o
-kept_behind true x f g o h k = cc
-kept_behind false x f g o h k = k h
+kept_after : (b : Bool) (x : ℕ) (f g o : Option ℕ) → cond b (Some x) f ≡ None → (f ≡ None → g ≡ o) → cond b (Some x) g ≡ o
+kept_after true x f g o h k = cc
+kept_after false x f g o h k = k h
 
-pub found_behind : (n : ℕ) (first second : List ℕ) → find (nat_lt n) first ≡ None → find (nat_lt n) (first ++ second) ≡ find (nat_lt n) second
-found_behind n [] second h = refl
-found_behind n (x ∷ first) second h = kept_behind (nat_lt n x) x (find (nat_lt n) first) (find (nat_lt n) (first ++ second)) (find (nat_lt n) second) h (found_behind n first second)
+pub found_after : (n : ℕ) (first second : List ℕ) → find (nat_lt n) first ≡ None → find (nat_lt n) (first ++ second) ≡ find (nat_lt n) second
+found_after n [] second h = refl
+found_after n (x ∷ first) second h = kept_after (nat_lt n x) x (find (nat_lt n) first) (find (nat_lt n) (first ++ second)) (find (nat_lt n) second) h (found_after n first second)
 
 module _ (history : List Entry) (n : ℕ) (group : Group) where
   -- the touches of the entries up to a number, and of those above it
   pub touching_at : touching history group ≡ touching (take n history) group ++ touching_after (take n history) group (drop n history)
   touching_at = ap (λ (h : List Entry). touching h group) (sym (take-append-drop n history)) ∙ touching_after-append [] (take n history) (drop n history) group
 
-  -- an entry above the number touches the group where there is a touch behind
+  -- an entry above the number touches the group where there is a touch after
   touched_above : n ≤ length history → is_some (first_touch_above history group n) ≡ nat_lt 0 (length (touching_after (take n history) group (drop n history)))
   touched_above within =
       ap (λ (ns : List ℕ). is_some (find (nat_lt n) ns)) touching_at
-      ∙ ap (λ (o : Option ℕ). is_some o) (found_behind n (touching (take n history) group) (touching_after (take n history) group (drop n history)) (low [] (take n history) group n (omega (arith, length-take n history))))
+      ∙ ap (λ (o : Option ℕ). is_some o) (found_after n (touching (take n history) group) (touching_after (take n history) group (drop n history)) (low [] (take n history) group n (omega (arith, length-take n history))))
       ∙ high (take n history) (drop n history) group n (omega (arith, length-take n history, within))
 
   -- versions at two moments are equal just where no entry between touches the group
@@ -75,9 +75,9 @@ module _ (history : List Entry) (n : ℕ) (group : Group) where
 
   -- ---- views
 
-  nothing_behind : (b : Bool) (k : ℕ) (ns : List ℕ) → nat_lt 0 (length (in_front b k ns)) ≡ false → (b ≡ false) × (nat_lt 0 (length ns) ≡ false)
-  nothing_behind true k ns h = absurd (grind (arith, nat_tests))
-  nothing_behind false k ns h = (refl, h)
+  nothing_after : (b : Bool) (k : ℕ) (ns : List ℕ) → nat_lt 0 (length (in_front b k ns)) ≡ false → (b ≡ false) × (nat_lt 0 (length ns) ≡ false)
+  nothing_after true k ns h = absurd (grind (arith, nat_tests))
+  nothing_after false k ns h = (refl, h)
 
   seam : (before rest : List Entry) (entry : Entry) → slice_get (before ++ entry ∷ rest) (length before) ≡ Some entry
   seam [] rest entry = refl
@@ -88,7 +88,7 @@ module _ (history : List Entry) (n : ℕ) (group : Group) where
       → nat_lt 0 (length (touching_after before group later)) ≡ false → group_view reference all group ≡ group_view reference before group
   view-behind reference all each before [] is none = ap (λ (h : List Entry). group_view reference h group) (is ∙ append-nil before)
   view-behind reference all each before (entry ∷ rest) is none =
-      let parts = nothing_behind (touches before group entry) (length before + 1) (touching_after (before ++ entry ∷ []) group rest) none in
+      let parts = nothing_after (touches before group entry) (length before + 1) (touching_after (before ++ entry ∷ []) group rest) none in
       let at : slice_get all (length before) ≡ Some entry = ap (λ (h : List Entry). slice_get h (length before)) is ∙ seam before rest entry in
       let front : take (length before) all ≡ before = ap (take (length before)) is ∙ take-append_seam before (entry ∷ rest) in
       let may : MayFollow reference before entry = subst (λ (h : List Entry). MayFollow reference h entry) front (each (length before) entry at) in

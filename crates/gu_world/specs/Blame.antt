@@ -22,10 +22,10 @@ pub record IsBlamedFor (old : Course) (step : Step) (new : Course) (culprit : Op
   pub goes_on : GoesOn old step new
   pub culprit_is : culprit ≡ blamed old.state step goes_on.outcome
 
--- the first entry that touched the group of a worker's look behind those that it saw, where the step is its commit
-abbrev pub first_behind : State → Step → Option ℕ
-first_behind before (Commit worker) = option_and_then (λ (look : Look). first_touch_above before.book.history look.group look.seen) (look_of before worker)
-first_behind before step = None
+-- the first entry that touched the group of a worker's look after those that it saw, where the step is its commit
+abbrev pub first_after : State → Step → Option ℕ
+first_after before (Commit worker) = option_and_then (λ (look : Look). first_touch_above before.book.history look.group look.seen) (look_of before worker)
+first_after before step = None
 
 -- an outcome is that of a stale commit
 abbrev pub is_stale : Outcome → Bool

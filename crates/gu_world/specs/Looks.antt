@@ -5,7 +5,7 @@ use Rattle.gu_terms.specs.declared.entry.Entry.{Entry}
 use Rattle.gu_ref.specs.Reference.{is_group}
 use Rattle.gu_view.specs.View.{GroupView, IsNested}
 use Rattle.gu_book.specs.Commits.{sweep_of}
-use Rattle.gu_book.specs.Kept.{Kept}
+use Rattle.gu_book.specs.BookState.{BookState}
 use Rattle.gu_book.specs.Views.{group_view}
 use Rattle.gu_world.specs.Runs.{IsReached}
 use Rattle.gu_world.specs.Steps.{Look, State}
@@ -34,7 +34,7 @@ looks_in [] = replicate 64 None
 looks_in (slot ∷ slots) = map (option_map look_in) (slot ∷ slots)
 
 -- a book, and what is kept for each worker, as a state
-abbrev pub state_in : Kept → List (Option Held) → State
+abbrev pub state_in : BookState → List (Option Held) → State
 state_in book slots = record { book = book; looks = looks_in slots }
 
 -- places are made for all workers or for none
@@ -42,14 +42,14 @@ abbrev pub AreMade : List (Option Held) → Type 0
 AreMade slots = (slots ≡ []) ⊎ (length slots ≡ 64)
 
 -- what is kept is true: the group is in the reference, and the view is that of the entries that were seen
-pub record IsTrueLook (book : Kept) (held : Held) : Type 0 where
+pub record IsTrueLook (book : BookState) (held : Held) : Type 0 where
   pub known : is_group book.reference (view_in held.work).group ≡ true
   pub seen : held.seen ≤ length book.history
   pub view : view_in held.work ≡ group_view book.reference (take held.seen book.history) (view_in held.work).group
   pub nested : IsNested (view_in held.work)
 
 -- for each worker
-abbrev pub AreTrue : Kept → List (Option Held) → Type 0
+abbrev pub AreTrue : BookState → List (Option Held) → Type 0
 AreTrue book slots = (worker : ℕ) (held : Held) → slice_index_or slots worker None ≡ Some held → IsTrueLook book held
 
 -- the views that are kept are nested
@@ -57,13 +57,13 @@ abbrev pub AreNested : List (Option Held) → Type 0
 AreNested slots = (worker : ℕ) (held : Held) → slice_index_or slots worker None ≡ Some held → IsNested (view_in held.work)
 
 -- a book has its reference and its entries, and perhaps more
-pub record Grows (old new : Kept) : Type 0 where
+pub record Grows (old new : BookState) : Type 0 where
   pub later : List Entry
   pub reference : new.reference ≡ old.reference
   pub history : new.history ≡ old.history ++ later
 
 -- what is kept for a course: true looks, numbers of entries that are there, and some steps that lead there
-pub record IsKeptCourse (book : Kept) (slots : List (Option Held)) (outcomes : List KeptOutcome) : Type 0 where
+pub record IsKeptCourse (book : BookState) (slots : List (Option Held)) (outcomes : List KeptOutcome) : Type 0 where
   pub trues : AreTrue book slots
   pub numbered : AreNumbered (length book.history) outcomes
   pub reached : IsReached (record { state = state_in book slots; outcomes = map (outcome_in book.history) outcomes })

@@ -39,12 +39,12 @@ pub record GoesOn (old : Course) (step : Step) (new : Course) : Type 0 where
   pub leads : LeadsTo old.state step outcome new.state
   pub outcomes : new.outcomes ≡ old.outcomes ++ outcome ∷ []
 
--- the entry to blame for an outcome: of a stale commit the first that touched its group behind those that its worker saw
+-- the entry to blame for an outcome: of a stale commit the first that touched its group after those that its worker saw
 abbrev pub blamed : State → Step → Outcome → Option ℕ
 blamed before (Commit worker) (Stale seen now) = option_and_then (λ (look : Look). first_touch_above before.book.history look.group look.seen) (look_of before worker)
 blamed before step outcome = None
 
--- the entry to blame for the outcome of a step behind these, in some run of them
+-- the entry to blame for the outcome of a step after these, in some run of them
 pub record IsBlamed (reference : Tables) (steps : List Step) (step : Step) (culprit : Option ℕ) : Type 0 where
   pub before : Course
   pub after : Course
@@ -52,7 +52,7 @@ pub record IsBlamed (reference : Tables) (steps : List Step) (step : Step) (culp
   pub goes_on : GoesOn before step after
   pub culprit_is : culprit ≡ blamed before.state step goes_on.outcome
 
--- behind the last step none is
+-- after the last step none is
 abbrev pub IsBlamedAt : Tables → List Step → Option Step → Option ℕ → Type 0
 IsBlamedAt reference steps None culprit = culprit ≡ None
 IsBlamedAt reference steps (Some step) culprit = IsBlamed reference steps step culprit

@@ -12,7 +12,7 @@ use Rattle.gu_ref.specs.Reference.{is_group}
 use Rattle.gu_ref.specs.Tables.{Tables}
 use Rattle.gu_view.specs.View.{GroupView}
 use Rattle.gu_book.specs.Answer.{answer}
-use Rattle.gu_book.specs.Kept.{Kept}
+use Rattle.gu_book.specs.BookState.{BookState}
 use Rattle.gu_book.specs.Sweeps.{MaySweep}
 use Rattle.gu_book.specs.Versions.{touching, version_of}
 use Rattle.gu_book.specs.Views.{group_view}
@@ -30,7 +30,7 @@ pub record Look : Type 0 where
 
 -- a book, and the look of each worker
 pub record State : Type 0 where
-  pub book : Kept
+  pub book : BookState
   pub looks : List (Option Look)
 
 -- a book without entries, and 64 workers that haven't looked
@@ -69,7 +69,7 @@ view_seen state look = group_view state.book.reference (seen_history state look)
 abbrev pub first_touch_above : List Entry → Group → ℕ → Option ℕ
 first_touch_above history group n = find (nat_lt n) (touching history group)
 
--- an entry behind those that a worker saw touches its group
+-- an entry after those that a worker saw touches its group
 abbrev pub is_overtaken : State → Look → Bool
 is_overtaken state look = is_some (first_touch_above state.book.history look.group look.seen)
 
@@ -98,7 +98,7 @@ looked state worker group =
 abbrev pub with_proposal : Look → SweepEntry → Look
 with_proposal look sweep = record { group = look.group; seen = look.seen; proposal = Some sweep }
 
--- a worker proposes some sweep of its group that might be committed behind the entries that it saw, and no others
+-- a worker proposes some sweep of its group that might be committed after the entries that it saw, and no others
 pub record ProposesFor (old : State) (worker : ℕ) (look : Look) (outcome : Outcome) (new : State) : Type 0 where
   pub sweep : SweepEntry
   pub own : sweep.group ≡ look.group

@@ -3,7 +3,7 @@
 ghost use Rattle.std.specs.Prelude.{◌≡◌, ◌≤◌, ◌∷◌, [], ◌++◌, List, length, replicate, IfOk, OnOk};
 ghost use Rattle.std.specs.Option.{option_and_then};
 ghost use Rattle.gu_terms.specs.declared.entry.Entry.{Entry as EntryOf};
-ghost use Rattle.gu_world.specs.Blame.{IsBlamedFor, ends_stale, first_behind, is_stale, own_of};
+ghost use Rattle.gu_world.specs.Blame.{IsBlamedFor, ends_stale, first_after, is_stale, own_of};
 ghost use Rattle.gu_world.specs.Runs.{IsCulprit};
 ghost use Rattle.gu_world.specs.Steps.{Look, first_touch_above, look_of};
 
@@ -69,8 +69,8 @@ fn first_touch(
     Ok(None)
 }
 
-/// The first entry that touched the group of a worker's look behind those that the worker saw.
-fn first_behind(alloc: Global, world: &World, worker: Worker) -> Result<Option<u64>, AllocError>
+/// The first entry that touched the group of a worker's look after those that the worker saw.
+fn first_after(alloc: Global, world: &World, worker: Worker) -> Result<Option<u64>, AllocError>
     ensures { IfOk result (λ first. first
         ≡ option_and_then (λ (look : Look). first_touch_above world.now.state.book.history look.group look.seen) (look_of world.now.state worker)) }
 {
@@ -83,10 +83,10 @@ fn first_behind(alloc: Global, world: &World, worker: Worker) -> Result<Option<u
 
 /// The same where a step is that worker's commit, and none for other steps.
 fn first_for(alloc: Global, world: &World, step: &Step) -> Result<Option<u64>, AllocError>
-    ensures { IfOk result (λ first. first ≡ first_behind world.now.state step.now) }
+    ensures { IfOk result (λ first. first ≡ first_after world.now.state step.now) }
 {
     match step {
-        Step::Commit(worker) => first_behind(alloc, world, *worker),
+        Step::Commit(worker) => first_after(alloc, world, *worker),
         _ => Ok(None),
     }
 }
@@ -119,7 +119,7 @@ fn blame(alloc: Global, world: &mut World, step: Step) -> Result<Option<u64>, Al
 }
 
 /// The entry to blame for the outcome of the step at a place, counted from 0: where that is a stale commit, the first entry that
-/// touched its group behind those that its worker saw. None otherwise, and behind the last step.
+/// touched its group after those that its worker saw. None otherwise, and after the last step.
 pub fn culprit(
     alloc: Global,
     reference: Reference,

@@ -39,14 +39,14 @@ pub fn a_look_stays_true()
         → (seen_history new look ≡ seen_history old look) × (view_seen new look ≡ view_seen old look) }
 {}
 
-/// A commit is stale only where there is an entry to blame, behind those that the worker saw.
+/// A commit is stale only where there is an entry to blame, after those that the worker saw.
 pub fn a_stale_commit_has_a_culprit()
     ensures { (before after : State) (worker seen now : ℕ)
         → LeadsTo before (Commit worker) (Stale seen now) after
         → (look : Look) × (k : ℕ) × (look_of before worker ≡ Some look) × (look.seen < k) × (blamed before (Commit worker) (Stale seen now) ≡ Some k) }
 {}
 
-/// A sweep is committed only where no entry behind those that the worker saw touches its group.
+/// A sweep is committed only where no entry after those that the worker saw touches its group.
 pub fn a_committed_sweep_was_not_overtaken()
     ensures { (before after : State) (worker : ℕ) (receipt : ReceiptOf)
         → LeadsTo before (Commit worker) (Swept receipt) after

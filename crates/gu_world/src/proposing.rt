@@ -2,7 +2,7 @@
 
 ghost use Rattle.std.specs.Prelude.{◌≡◌, IfErr, IfOk, OnErr};
 ghost use Rattle.gu_book.specs.Commits.{sweep_of};
-ghost use Rattle.gu_book.specs.Kept.{Kept};
+ghost use Rattle.gu_book.specs.BookState.{BookState};
 ghost use Rattle.gu_book.specs.Sweeps.{IsSweepOf};
 ghost use Rattle.gu_view.specs.View.{IsNested};
 ghost use Rattle.gu_world.specs.Looks.{AreNested, AreTrue, state_in, view_in};
@@ -43,9 +43,9 @@ fn proposal_for(alloc: Global, work: Work) -> Result<Proposal, (AllocError, View
 /// Has a worker propose for what it saw.
 pub fn propose_for(alloc: Global, looks: &mut Looks, worker: Worker) -> Result<Outcome, AllocError>
     requires { AreNested looks.old }
-    ensures proposes { (book : Kept) → AreTrue book looks.old
+    ensures proposes { (book : BookState) → AreTrue book looks.old
         → IfOk result (λ outcome. ProposesOn (look_of (state_in book looks.old) worker) (state_in book looks.old) worker outcome (state_in book looks.new)) }
-    ensures still { (book : Kept) → AreTrue book looks.old → AreTrue book looks.new }
+    ensures still { (book : BookState) → AreTrue book looks.old → AreTrue book looks.new }
     ensures refused { OnErr result (looks.new ≡ looks.old) }
 {
     let Some(held) = looks.take(worker) else {

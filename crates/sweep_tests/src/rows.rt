@@ -1,4 +1,4 @@
-//! Tables of tests: texts whose lines are rows. A row is what is asked and, behind ` -> `, what is to be told; one with no
+//! Tables of tests: texts whose lines are rows. A row is what is asked and, after ` -> `, what is to be told; one with no
 //! ` -> ` is to be told nothing, which is an empty text. `|` ends a line, and `(x*9)` is nine times x.
 use crate::{script_lines, sheets, texts, view};
 use std::alloc::{AllocError, Global};
@@ -41,7 +41,7 @@ fn told_again(alloc: Global, subject: Subject, asked: &str) -> Result<String, Al
     }
 }
 
-/// What stands in front of the ` -> ` of a row, and what stands behind it.
+/// What stands in front of the ` -> ` of a row, and what comes after it.
 fn columns(row: &str) -> (&str, &str) {
     row.split_once(" -> ").unwrap_or((row, ""))
 }
@@ -73,7 +73,7 @@ pub fn check_again(rt: &impl Abort, alloc: Global, subject: Subject, table: &str
     }
 }
 
-/// The first word of a text, and the rest behind the space.
+/// The first word of a text, and the rest after the space.
 pub fn first_word(text: &str) -> (&str, &str) {
     text.split_once(' ').unwrap_or((text, ""))
 }

@@ -4,7 +4,7 @@ ghost use Rattle.std.specs.Prelude.{◌<◌};
 use crate::rows::{Subject, check_row, first_word, told};
 use crate::sheets::Question;
 use crate::sweep::Telling;
-use gu_view::{Offer, Room, View};
+use gu_view::{ViewOffer, Room, View};
 use std::alloc::{AllocError, Global};
 
 /// The keys that offers may come under. No two kinds have a name in common.
@@ -98,7 +98,7 @@ fn digit(code: u64, place: usize) -> u64 {
 }
 
 /// The lots that a code takes of the offers that come under a room.
-fn lots_under(code: u64, offers: &[Offer], room: &Room) -> u64 {
+fn lots_under(code: u64, offers: &[ViewOffer], room: &Room) -> u64 {
     let mut sum = 0u64;
     for (place, offer) in offers.iter().enumerate() {
         if offer.path.keys().contains(&room.key) {
@@ -109,7 +109,7 @@ fn lots_under(code: u64, offers: &[Offer], room: &Room) -> u64 {
 }
 
 /// The lots that a code takes of offers, where it takes no more than each of them has.
-fn lots(code: u64, offers: &[Offer]) -> Option<u64> {
+fn lots(code: u64, offers: &[ViewOffer]) -> Option<u64> {
     let mut sum = 0u64;
     for (place, offer) in offers.iter().enumerate() {
         let lots = digit(code, place);

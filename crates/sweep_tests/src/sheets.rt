@@ -142,7 +142,7 @@ SHEET G1 0|CUT EXEC E1|CUT OFFER 1|CUT EXEC E1|END| -> bad at 4
 SHEET G1 0|CUT OFFER 1|CUT OFFER 1|END| -> bad at 3
 ";
 
-/// Offers and rooms that make no view: that is bad at the end, ahead of what stands behind it.
+/// Offers and rooms that make no view: that is bad at the end, ahead of what comes after it.
 const WITHOUT_A_VIEW: &str = "\
 SHEET G1 0|ROOM EXEC E1 5|END| -> bad at 3
 SHEET G1 0|ROOM GUAR E2 5|END| -> bad at 3

@@ -151,7 +151,7 @@ fn lots_of(takes: &[Take]) -> u64 {
     lots
 }
 
-/// The outcome of that sweep, as the entry two behind the version of its view.
+/// The outcome of that sweep, as the entry two after the version of its view.
 fn swept(sheet: &Sheet) -> Result<Outcome, AllocError> {
     let lots = lots_of(sheet.takes.as_slice());
     let entry = Entry::Swept(sweep_entry(sheet, lots)?);
@@ -204,8 +204,8 @@ fn limit_told(alloc: Global, words: &str) -> Result<String, AllocError> {
     shown(alloc, limit_text(alloc, &group, &row))
 }
 
-/// The answer for a name that the reference lacks, behind what was there.
-fn unknown_behind(alloc: Global, front: &str) -> Result<String, AllocError> {
+/// The answer for a name that the reference lacks, after what was there.
+fn unknown_after(alloc: Global, front: &str) -> Result<String, AllocError> {
     let mut output = Vec::from_slice(alloc, front.as_bytes())?;
     append_unknown(&mut output)?;
     shown(alloc, Ok(output))
@@ -219,7 +219,7 @@ pub fn answer_told(alloc: Global, asked: &str) -> Result<String, AllocError> {
         "interest" => interest_told(alloc, rest),
         "limit" => limit_told(alloc, rest),
         "right" => shown(alloc, verdict_text(alloc, &Ok(number(rest)))),
-        _ => unknown_behind(alloc, rest),
+        _ => unknown_after(alloc, rest),
     }
 }
 

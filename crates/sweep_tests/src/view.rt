@@ -1,7 +1,7 @@
 //! Which offers and rooms make a view.
 use crate::rows::{Subject, check, first_word, number};
 use gu_terms::{AgreementId, Group, LimitKey, Name, OfferNo, Path};
-use gu_view::{Offer, Room, View, ViewError};
+use gu_view::{ViewOffer, Room, View, ViewError};
 use std::alloc::{AllocError, Global};
 
 /// The key of a kind with a name.
@@ -20,8 +20,8 @@ fn path_of(alloc: Global, words: &str) -> Result<Path, AllocError> {
 }
 
 /// The offer of these numbers and this agreement, with a path.
-fn offer_of(number_of: u64, lots: u64, agreement: &str, path: Path) -> Option<Offer> {
-    Some(Offer {
+fn offer_of(number_of: u64, lots: u64, agreement: &str, path: Path) -> Option<ViewOffer> {
+    Some(ViewOffer {
         number: OfferNo::new(number_of)?,
         lots,
         agreement: AgreementId::new(agreement.as_bytes())?,
@@ -30,7 +30,7 @@ fn offer_of(number_of: u64, lots: u64, agreement: &str, path: Path) -> Option<Of
 }
 
 /// The offer of a line: its number, its lots, its agreement, and the keys of its path.
-fn offer_in(alloc: Global, line: &str) -> Result<Offer, AllocError> {
+fn offer_in(alloc: Global, line: &str) -> Result<ViewOffer, AllocError> {
     let (first, rest) = first_word(line);
     let (lots, rest) = first_word(rest);
     let (agreement, keys) = first_word(rest);
@@ -39,7 +39,7 @@ fn offer_in(alloc: Global, line: &str) -> Result<Offer, AllocError> {
 }
 
 /// The offers of lines.
-fn offers_in(alloc: Global, lines: &str) -> Result<Vec<Offer>, AllocError> {
+fn offers_in(alloc: Global, lines: &str) -> Result<Vec<ViewOffer>, AllocError> {
     let mut offers = Vec::new(alloc);
     for line in lines.split('|') {
         offers.push(offer_in(alloc, line)?)?;
@@ -61,7 +61,7 @@ fn rooms_in(alloc: Global, lines: &str) -> Result<Vec<Room>, AllocError> {
     Ok(rooms)
 }
 
-/// The view of offers and, behind a `/`, of rooms.
+/// The view of offers and, after a `/`, of rooms.
 fn made(alloc: Global, asked: &str) -> Result<View, ViewError> {
     let (offers, rooms) = asked.split_once('/').unwrap_or((asked, ""));
     let offers = offers_in(alloc, offers)?;

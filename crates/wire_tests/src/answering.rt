@@ -9,7 +9,7 @@ use gu_msgs::{Question, notice_body, positions_answer};
 use gu_terms::Price;
 use std::alloc::{AllocError, Global};
 
-/// Messages behind a sound header, each with its number and what became of what it asks, and the answers.
+/// Messages after a sound header, each with its number and what became of what it asks, and the answers.
 const ANSWERS: &str = "\
 35=AE|571=R1|880=M1|55=XF6|32=10|31=101.5|552=1|54=1|1=H1|2 open -> 35=AR|571=R1|880=M1|939=0|
 35=J|70=R1|53=10|124=1|17=R1|78=1|79=A1|80=10|2 offered 1 -> 35=P|70=R1|87=0|
@@ -55,7 +55,7 @@ const ANSWERS: &str = "\
 ";
 
 /// Questions for positions, each with its number and the positions in so many instruments on an open day or on none, and the
-/// messages that tell them, one behind another.
+/// messages that tell them, one after another.
 const POSITIONS: &str = "\
 35=AN|710=R1|724=0|1=A1|2 stranger -> 35=AO|721=R1-0|710=R1|728=3|729=2|727=0|1=A1|
 35=AN|710=R1|724=0|1=A1|2 rows 1 -> 35=AO|721=R1-0|710=R1|728=0|729=0|727=1|1=A1|35=AP|721=R1-1|710=R1|728=0|715=20260105|1=A1|55=XF6|702=1|703=TQ|704=10|705=0|
@@ -87,7 +87,7 @@ const NOTICES: &str = "\
 -999999999999999 buy matched -> 35=AE|571=7-B|572=R1|573=0|880=M1|55=XF6|32=10|31=-999999999.999999|75=20260105|552=1|54=1|1=A1|
 ";
 
-/// What messages are written as, one behind another.
+/// What messages are written as, one after another.
 fn texts(alloc: Global, w: &Values, bodies: Vec<Body>) -> Result<String, AllocError> {
     let mut text = String::new(alloc);
     for body in bodies {

@@ -12,7 +12,7 @@ fn pushed(feed: &mut Feed, piece: &[u8]) -> Result<Vec<Frame>, AllocError> {
     }
 }
 
-/// The bytes of messages, one behind another.
+/// The bytes of messages, one after another.
 fn joined(alloc: Global, frames: &[Frame]) -> Result<Vec<u8>, AllocError> {
     let mut bytes = Vec::new(alloc);
     for frame in frames {
@@ -21,19 +21,19 @@ fn joined(alloc: Global, frames: &[Frame]) -> Result<Vec<u8>, AllocError> {
     Ok(bytes)
 }
 
-/// The bytes of the messages that a feed gives of a stream, one behind another.
+/// The bytes of the messages that a feed gives of a stream, one after another.
 fn given_of(alloc: Global, feed: &mut Feed, stream: &[u8]) -> Result<Vec<u8>, AllocError> {
     let frames = pushed(feed, stream)?;
     joined(alloc, &frames)
 }
 
-/// Two texts one behind another, on the wire.
+/// Two texts one after another, on the wire.
 fn stream_of(alloc: Global, first: &str, second: &str) -> Result<String, AllocError> {
     let text = format!(in alloc; "{first}{second}")?;
     wire(alloc, text.as_str())
 }
 
-/// The messages that a new feed gives of a front and SECOND behind it, which is called by this name.
+/// The messages that a new feed gives of a front and SECOND after it, which is called by this name.
 pub fn told(alloc: Global, front: &str) -> Result<String, AllocError> {
     let stream = stream_of(alloc, front, SECOND)?;
     let given = given_of(alloc, &mut Feed::new(alloc), stream.as_bytes())?;
@@ -170,13 +170,13 @@ fn counts_of(feed: &mut Feed, front: &[u8], rest: &[u8]) -> Result<(usize, usize
     Ok((before, count_with(feed, rest)?))
 }
 
-/// How many messages a new feed gives of a stream up to a cut, and behind it.
+/// How many messages a new feed gives of a stream up to a cut, and after it.
 fn counts_at(alloc: Global, stream: &[u8], cut: usize) -> Result<(usize, usize), AllocError> {
     let (front, rest) = stream.split_at(cut.min(stream.len()));
     counts_of(&mut Feed::new(alloc), front, rest)
 }
 
-/// How many messages a new feed gives of a stream that is changed at a place: before a cut, and behind it.
+/// How many messages a new feed gives of a stream that is changed at a place: before a cut, and after it.
 fn counts_with(
     alloc: Global,
     stream: &[u8],

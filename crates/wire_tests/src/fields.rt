@@ -70,7 +70,7 @@ const LONGEST: &str = "\
 
 /// The rows two hundred times, so that thousands of messages are split in a row.
 #[test]
-fn the_first_malformed_field_is_named_and_those_behind_it_are_given(rt: HostRuntime) {
+fn the_first_malformed_field_is_named_and_those_after_it_are_given(rt: HostRuntime) {
     for holder in [Holder::Copy, Holder::Message] {
         check(&rt, rt.alloc(), Subject::Fields(holder), LONGEST);
         for _ in 0..200 {

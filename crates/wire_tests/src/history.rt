@@ -66,7 +66,7 @@ fn is_right(
     }
 }
 
-/// The same of a part of a row: the words, and behind `: ` the message of the command and, behind its last `|`, the reply.
+/// The same of a part of a row: the words, and after `: ` the message of the command and, after its last `|`, the reply.
 fn is_part_right(
     alloc: Global,
     w: &Values,
@@ -142,7 +142,7 @@ at 2: 35=AE|571=rrrrrrrrr|880=mmmmmmmmm|55=XF6|32=10|31=-101.5|552=1|54=2|1=H1|o
 at 3: 35=AE|571=rrr|880=mmm|55=XF6|32=10|31=-101.5|552=1|54=2|1=H1|open; \
 at 0: 35=AE|571=rrrrr|880=mmmmm|55=XF6|32=10|31=-101.5|552=1|54=2|1=H1|open -> 1 2 3 1 2 2 2 not 2 not 2 \n";
 
-/// Thousands of entries, and twice as many behind the first of them.
+/// Thousands of entries, and twice as many after the first of them.
 const THOUSANDS: &str = "\
 add 10000: 35=AT|755=1|87=7|reversed 10; keep 1; add 20000: 35=AT|755=1|87=7|reversed 10 -> 10000 1 20001 \n";
 

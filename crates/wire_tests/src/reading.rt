@@ -6,7 +6,7 @@ use gu_fix::Fields;
 use gu_msgs::{Inbound, MsgFault, read, sender};
 use std::alloc::{AllocError, Global};
 
-/// What stands in front of messages behind a sound header.
+/// What stands in front of messages after a sound header.
 const SOUND: &str = "8=FIXT.1.1|9=100|10=000|49=E1|56=GIVEUP|34=2|52=x|";
 
 /// What stands in front of whole messages.
@@ -29,7 +29,7 @@ const HEADERS: &str = "\
 35=D|52=x|52=x| -> unread D
 ";
 
-/// Messages of the session behind a sound header.
+/// Messages of the session after a sound header.
 const SESSION: &str = "\
 35=0| -> beats
 35=0|112=a =b| -> beats
@@ -53,7 +53,7 @@ const SESSION: &str = "\
 35=ae| -> unread ae
 ";
 
-/// Questions and answers behind a sound header.
+/// Questions and answers after a sound header.
 const HOUSE: &str = "\
 35=AT|755=01|87=00| -> E1 claims 1
 35=AT|755=-5|87=0| -> 755: 6
@@ -76,7 +76,7 @@ const HOUSE: &str = "\
 const REPORT: &str =
     "8=FIXT.1.1|9=100|10=000|35=AE|49=E1|56=GIVEUP|34=2|52=20260105-09:00:00|571=R1|";
 
-/// Trade capture reports behind a sound header.
+/// Trade capture reports after a sound header.
 const REPORTS: &str = "\
 880=M1|55=XF6|32=10|31=1.5|75=20260105|552=1|54=1|1=H1| -> E1 reports R1 of M1: H1 buys 10 XF6 at 1500000 on (2026, 1, 5)
 880=M1|55=X|32=1|31=-1|552=1|54=1|1=H1| -> E1 reports R1 of M1: H1 buys 1 X at -1000000 on the open day
@@ -137,7 +137,7 @@ const GIVE_UPS: &str = "\
 53=17|124=1|17=R1|78=17|79=A|80=1|79=B|80=1|79=C|80=1|79=D|80=1|79=E|80=1|79=F|80=1|79=G|80=1|79=H|80=1|79=I|80=1|79=J|80=1|79=K|80=1|79=L|80=1|79=M|80=1|79=N|80=1|79=O|80=1|79=P|80=1|79=Q|80=1| -> 78: 5
 ";
 
-/// What else a firm asks for behind a sound header.
+/// What else a firm asks for after a sound header.
 const ASKED: &str = "\
 35=AE|571=R1|880=M1|55=XF6|32=10|31=101.5|75=20260105|552=1|54=1|1=H1| -> E1 reports R1 of M1: H1 buys 10 XF6 at 101500000 on (2026, 1, 5)
 35=AE|571=R2|880=M1|55=XF6|32=10|31=-1|552=1|54=2|1=H2| -> E1 reports R2 of M1: H2 sells 10 XF6 at -1000000 on the open day
@@ -206,19 +206,19 @@ pub fn answer(alloc: Global, fields: &Fields) -> Result<String, AllocError> {
     Ok(text)
 }
 
-/// The fields of texts one behind another.
+/// The fields of texts one after another.
 fn joined(alloc: Global, front: &str, middle: &str, end: &str) -> Result<Fields, AllocError> {
     let text = format!(in alloc; "{front}{middle}{end}")?;
     fields_of(alloc, text.as_str())
 }
 
-/// The message of which this stands behind a sound header.
+/// The message of which this comes after a sound header.
 pub fn inbound_of(alloc: Global, text: &str) -> Result<Inbound, AllocError> {
     let fields = joined(alloc, SOUND, text, "")?;
     read(alloc, &fields).map_err(|_| AllocError)
 }
 
-/// The fields of a message and a text behind it, or of a message with a part of it in another form.
+/// The fields of a message and a text after it, or of a message with a part of it in another form.
 pub fn fields_in(alloc: Global, message: &str, asked: &str) -> Result<Fields, AllocError> {
     let Some((part, other)) = asked.split_once(" by ") else {
         return joined(alloc, message, asked, "");

@@ -1,4 +1,4 @@
-//! Tables of tests: texts whose lines are rows. A row is what is asked and, behind ` -> `, what is to be told; one with no
+//! Tables of tests: texts whose lines are rows. A row is what is asked and, after ` -> `, what is to be told; one with no
 //! ` -> ` is to be told nothing, which is an empty text. In both, `{x*9}` is nine times x.
 use crate::messages::meant;
 use crate::words::{Values, sample};
@@ -25,7 +25,7 @@ pub enum Subject {
     Cut,
     /// How many entries a history has.
     History,
-    /// The messages that a feed gives behind this front.
+    /// The messages that a feed gives after this front.
     Fronts,
     /// How many messages a feed gives of a stream in pieces.
     Pieces,
@@ -37,7 +37,7 @@ pub enum Subject {
     Encoding,
     /// The header of these fields.
     Header,
-    /// What the fields of a message say behind this front, or with a part of this message in another form.
+    /// What the fields of a message say after this front, or with a part of this message in another form.
     Reading(&'static str),
     /// The same, and who sent it.
     Sent(&'static str),
@@ -114,12 +114,12 @@ pub fn check(rt: &impl Abort, alloc: Global, subject: Subject, table: &str) {
     }
 }
 
-/// What stands in front of a mark in a text, and what stands behind it: the whole text, and nothing, where the mark isn't in it.
+/// What stands in front of a mark in a text, and what comes after it: the whole text, and nothing, where the mark isn't in it.
 pub fn parts_at<'a>(text: &'a str, mark: &str) -> (&'a str, &'a str) {
     text.split_once(mark).unwrap_or((text, ""))
 }
 
-/// The first word of a text, and the rest behind the space.
+/// The first word of a text, and the rest after the space.
 pub fn first_word(text: &str) -> (&str, &str) {
     parts_at(text, " ")
 }

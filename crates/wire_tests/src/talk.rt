@@ -231,7 +231,7 @@ impl Talk {
         Ok(told.as_str() == expected.as_str())
     }
 
-    /// Whether a line is right; behind `done` nothing is left that the session gave.
+    /// Whether a line is right; after `done` nothing is left that the session gave.
     fn take(&mut self, alloc: Global, line: &str) -> Result<bool, AllocError> {
         let (word, text) = first_word(line);
         if let Some(input) = self.input(alloc, word, text)? {
@@ -281,7 +281,7 @@ fn check_each(rt: &impl Abort, alloc: Global, talk: &mut Talk, name: &str, text:
     }
 }
 
-/// Asserts that each line of a conversation is right behind its name, and that nothing is left at its end.
+/// Asserts that each line of a conversation is right after its name, and that nothing is left at its end.
 fn follow_one(rt: &impl Abort, alloc: Global, talk: &'static str, call: Call) {
     let (name, lines) = parts_at(talk, "\n");
     let mut talk = begin(rt, alloc, call);

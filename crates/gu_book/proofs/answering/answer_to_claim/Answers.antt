@@ -9,7 +9,7 @@ use Rattle.gu_limits.specs.Limits.{room_in}
 use Rattle.gu_offers.specs.Rows.{left_in}
 use Rattle.gu_book.specs.Answer.{claim_tests, offer_tests}
 use Rattle.gu_book.specs.Beside.{short_key, state_in}
-use Rattle.gu_book.proofs.Passing.{claim_refused, lots_are, short_key-of, standing_behind, standing_in, standing_none}
+use Rattle.gu_book.proofs.Passing.{claim_refused, lots_are, short_key-of, standing_after, standing_in, standing_none}
 use Rattle.gu_book.proofs.answering.answer_to_claim.Goals as goal
 
 pub returns-in-Some-short_key-clause-reply : goal.returns-in-Some-short_key-clause-reply
@@ -25,7 +25,7 @@ returns-in-Some-short_key-clause-reply c =
     ∙ short_key-of reference state c.args.number c.get.result offer c.in-Ok.ensures.offer
     ∙ ap (short_key reference state c.args.number) (c.get.ensures.number ∙ lots.0) in
     sym
-    (standing_behind (offer_tests reference state c.args.firm c.args.number) (claim_tests reference state c.args.number) (Claimed left) c.in-Ok.ensures.passed
+    (standing_after (offer_tests reference state c.args.firm c.args.number) (claim_tests reference state c.args.number) (Claimed left) c.in-Ok.ensures.passed
     ∙ standing_in (claim_tests reference state c.args.number) (Claimed left) (LimitReached c.in-Some-short_key.key)
     (claim_refused reference state c.args.number lots.1 ∙ ap (λ (k : Option LimitKey). option_map LimitReached k) (sym key)))
 
@@ -43,7 +43,7 @@ returns-clause-reply c =
     ∙ ap (short_key reference state c.args.number) (c.get.ensures.number ∙ lots.0) in
     ap (λ (n : ℕ). Accepted (Claimed n)) lots.0
     ∙ sym
-    (standing_behind (offer_tests reference state c.args.firm c.args.number) (claim_tests reference state c.args.number) (Claimed left) c.in-Ok.ensures.passed
+    (standing_after (offer_tests reference state c.args.firm c.args.number) (claim_tests reference state c.args.number) (Claimed left) c.in-Ok.ensures.passed
     ∙ standing_none (claim_tests reference state c.args.number) (Claimed left)
     (claim_refused reference state c.args.number lots.1 ∙ ap (λ (k : Option LimitKey). option_map LimitReached k) (sym none)))
 

@@ -1,6 +1,6 @@
 use Rattle.std.proofs.Common.{◌≡◌, ◌∙◌, ◌∷◌, Bool, true, false, not, ap, refl, sym}
 use Rattle.gu_view.proofs.SameViews.{offer_eq, offer_eq-Decides}
-use Rattle.gu_view.specs.declared.view.Offer.{Offer}
+use Rattle.gu_view.specs.declared.view.ViewOffer.{ViewOffer}
 use Rattle.gu_book.proofs.current.behind.Goals as goal
 
 pub returns-then-ne-clause-exactly : goal.returns-then-ne-clause-exactly
@@ -13,7 +13,7 @@ returns-then-ne-clause-exactly c rest begins =
 pub returns-clause-begins : goal.returns-clause-begins
 returns-clause-begins c =
     let same : c.in_ok-one.one.now ≡ c.args.first.now = (offer_eq-Decides c.in_ok-one.one.now c.args.first.now).0 (hit (offer_eq c.in_ok-one.one.now c.args.first.now) (sym c.if-ne.ensures)) in
-    c.in_ok-one.ensures.cases.0 ∙ ap (λ (o : Offer). o ∷ c.in_ok-one.rest.now) same
+    c.in_ok-one.ensures.cases.0 ∙ ap (λ (o : ViewOffer). o ∷ c.in_ok-one.rest.now) same
   where
     hit : (b : Bool) → not b ≡ false → b ≡ true
     hit true e = refl

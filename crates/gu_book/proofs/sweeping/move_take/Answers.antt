@@ -6,7 +6,7 @@ use Rattle.gu_terms.specs.declared.limit_key.LimitKey.{LimitKey}
 use Rattle.gu_limits.specs.Changes.{lots_under}
 use Rattle.gu_limits.specs.Limits.{GroupLimit, room_in, used_in}
 use Rattle.gu_book.specs.Effects.{UsesMore}
-use Rattle.gu_book.proofs.AgreementPaths.{path_behind-once}
+use Rattle.gu_book.proofs.AgreementPaths.{path_after-once}
 use Rattle.gu_book.proofs.Moves.{moves-one, take-path, take-room, take-there}
 use Rattle.gu_book.proofs.sweeping.move_take.Goals as goal
 
@@ -21,7 +21,7 @@ charge_near-requires-clause-room c =
 pub charge_near-requires-clause-once : goal.charge_near-requires-clause-once
 charge_near-requires-clause-once c =
     let path = take-path c.requires.0 c.args.totals.now c.args.view.now.offers c.args.take.now c.in-Some.offer c.in-Some.report c.in-Some-offer.shown.now c.in-Some.ensures c.in-Some-offer.ensures c.requires.1 in
-    subst (IsDistinct key_eq) (sym path) (path_behind-once c.requires.0 c.in-Some.offer)
+    subst (IsDistinct key_eq) (sym path) (path_after-once c.requires.0 c.in-Some.offer)
 
 pub move_lots-requires-clause-there : goal.move_lots-requires-clause-there
 move_lots-requires-clause-there c = take-there c.requires.0 c.args.totals.now c.args.view.now.offers c.args.take.now c.in-Some.offer c.in-Some.report c.in-Some.ensures c.requires.1

@@ -2,7 +2,7 @@ use Rattle.std.proofs.Common.{◌++◌, ◌∙◌, List, ap, get_or, sym, take}
 use Rattle.std.specs.List.{filter_map}
 use Rattle.std.specs.Option.{option_to_list}
 use Rattle.std.proofs.lemmas.List.{get_or_default}
-use Rattle.gu_view.specs.declared.view.Offer.{Offer}
+use Rattle.gu_view.specs.declared.view.ViewOffer.{ViewOffer}
 use Rattle.gu_book.specs.Shown.{shown_at}
 use Rattle.gu_book.proofs.LimitLemmas.{filter_map_next}
 use Rattle.gu_book.proofs.views.offers_of.Goals as goal
@@ -14,6 +14,6 @@ loop-number-preserved c =
     let number = get_or numbers c.loop-number.number-index 0 in
     let so_far = filter_map given (take c.loop-number.number-index numbers) in
     c.in_ok-append_offer.ensures
-    ∙ ap (λ (offers : List Offer). offers ++ option_to_list c.shown_offer.result) c.loop-number.invariant
-    ∙ ap (λ (offer : List Offer). so_far ++ offer) (ap option_to_list c.shown_offer.ensures)
+    ∙ ap (λ (offers : List ViewOffer). offers ++ option_to_list c.shown_offer.result) c.loop-number.invariant
+    ∙ ap (λ (offer : List ViewOffer). so_far ++ offer) (ap option_to_list c.shown_offer.ensures)
     ∙ sym (filter_map_next given numbers c.loop-number.number-index number c.loop-number-test.true (get_or_default numbers c.loop-number.number-index 0 number c.loop-number-test.true))

@@ -4,16 +4,16 @@ use Rattle.std.proofs.lemmas.Int.Digits.{digits_value_more, digits_more}
 use Rattle.std.proofs.lemmas.Str.{digit_value_digit}
 use Rattle.std.specs.Char.{digit_value}
 use Rattle.gu_fix.proofs.Digits.{value_of_eight}
-use Rattle.gu_fix.proofs.Parts.{no_tag_behind, no_tag_in_digits}
+use Rattle.gu_fix.proofs.Parts.{no_tag_after, no_tag_in_digits}
 use Rattle.gu_fix.proofs.splitting.number_in_front.Goals as goal
 
 pub returns-then-count-eq9 : goal.returns-then-count-eq9
 returns-then-count-eq9 c =
-    no_tag_behind c.args.part.now c.loop-count.count c.loop-count.invariant.all c.if-byte-eq61.false (inl c.if-count-eq9.true)
+    no_tag_after c.args.part.now c.loop-count.count c.loop-count.invariant.all c.if-byte-eq61.false (inl c.if-count-eq9.true)
 
 pub returns-then-not-is_ascii_digit : goal.returns-then-not-is_ascii_digit
 returns-then-not-is_ascii_digit c =
-    no_tag_behind c.args.part.now c.loop-count.count c.loop-count.invariant.all c.if-byte-eq61.false (inr c.if-not-is_ascii_digit.ensures.cases)
+    no_tag_after c.args.part.now c.loop-count.count c.loop-count.invariant.all c.if-byte-eq61.false (inr c.if-not-is_ascii_digit.ensures.cases)
 
 pub overflow_mul-number : goal.overflow_mul-number
 overflow_mul-number c =

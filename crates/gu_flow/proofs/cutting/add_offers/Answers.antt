@@ -1,6 +1,6 @@
 use Rattle.std.proofs.Common.{◌≡◌, ap, sym, ◌∙◌}
 use Rattle.std.proofs.lemmas.List.{get_or_default}
-use Rattle.gu_view.specs.declared.view.Offer.{Offer}
+use Rattle.gu_view.specs.declared.view.ViewOffer.{ViewOffer}
 use Rattle.gu_flow.specs.CutArcs.{cuts_offers}
 use Rattle.gu_flow.specs.Levels.{is_reached}
 use Rattle.gu_flow.specs.Networks.{no_offer, offer_at}
@@ -19,7 +19,7 @@ loop-number-preserved c =
     let i = c.loop-number.number in
     let h = c.loop-number.invariant in
     let inside = rw offers at c.loop-number-test.true in
-    let number : c.offer-item.result.number ≡ (offer_at view.offers i).number = ap (λ (o : Offer). o.number) (rw offers at c.offer-item.is ∙ get_or_default view.offers i c.offer-item.result no_offer inside) in
+    let number : c.offer-item.result.number ≡ (offer_at view.offers i).number = ap (λ (o : ViewOffer). o.number) (rw offers at c.offer-item.is ∙ get_or_default view.offers i c.offer-item.result no_offer inside) in
     let told = c.cuts_offers.ensures ∙ ap (cuts_offers reached arcs view.rooms) (agreement_read view i c.agreement_place.result inside c.agreement_place.ensures.place) in
     elim c.if-cuts_offers.branch [
       | then-cuts_offers+in_ok-add_offer w ↦ record {

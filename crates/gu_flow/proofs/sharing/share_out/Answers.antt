@@ -4,7 +4,7 @@ use Rattle.std.proofs.lemmas.List.Elements.{filter-append}
 use Rattle.gu_terms.specs.declared.takes.Take.{Take}
 use Rattle.gu_flow.proofs.SomeLots.{above_zero-ascend}
 use Rattle.std.proofs.lemmas.List.{get_or_default}
-use Rattle.gu_view.specs.declared.view.Offer.{Offer}
+use Rattle.gu_view.specs.declared.view.ViewOffer.{ViewOffer}
 use Rattle.gu_flow.specs.Networks.{no_offer, offer_at}
 use Rattle.gu_flow.specs.Shares.{above_zero, AreSharesBefore}
 use Rattle.gu_flow.proofs.RoomPlaces.{agreement_read}
@@ -21,14 +21,14 @@ loop-number-preserved c =
     let inside = rw offers at c.loop-number-test.true in
     let o = c.offer-item.result in
     let is : o ≡ offer_at view.offers i = rw offers at c.offer-item.is ∙ get_or_default view.offers i o no_offer inside in
-    let number : o.number ≡ (offer_at view.offers i).number = ap (λ (o : Offer). o.number) is in
+    let number : o.number ≡ (offer_at view.offers i).number = ap (λ (o : ViewOffer). o.number) is in
     let place = c.agreement_place-place.result in
     let rests = c.loop-number.rests.items in
     let lots = c.min-lots.result in
     let within : place < length rests = omega (arith, c.agreement_place-place.ensures.within, h.size, c.requires) in
     let read : c.index.result.now ≡ get_or rests place 0 = c.index.ensures ∙ get_or_default rests place c.index.result.now 0 within in
     let written : c.index_mut.result.now ≡ get_or rests place 0 = c.index_mut.ensures.value ∙ get_or_default rests place c.index_mut.result.now 0 within in
-    let lots_are : lots ≡ min (offer_at view.offers i).lots (get_or rests place 0) = c.min-lots.ensures ∙ ap (min o.lots) read ∙ ap (λ (o : Offer). min o.lots (get_or rests place 0)) is in
+    let lots_are : lots ≡ min (offer_at view.offers i).lots (get_or rests place 0) = c.min-lots.ensures ∙ ap (min o.lots) read ∙ ap (λ (o : ViewOffer). min o.lots (get_or rests place 0)) is in
     let t : Take = record { offer = (offer_at view.offers i).number; lots = lots } in
     let taken : c.add_take.new.takes.items ≡ above_zero (shares ++ t ∷ []) =
     c.in_ok-add_take.ensures

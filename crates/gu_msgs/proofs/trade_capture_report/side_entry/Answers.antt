@@ -6,9 +6,9 @@ use Rattle.gu_msgs.specs.declared.tags.TheConstants.{NO_SIDES, SIDE}
 use Rattle.gu_msgs.proofs.HeldLemmas.{number_held, one_left}
 use Rattle.gu_msgs.proofs.trade_capture_report.side_entry.Goals as goal
 
-pub group_behind-group-requires : goal.group_behind-group-requires
+pub group_after-group-requires : goal.group_after-group-requires
 unfolding header_rows body_rows
-group_behind-group-requires c = (c.requires.standings 18 (omega arith)).within
+group_after-group-requires c = (c.requires.standings 18 (omega arith)).within
 
 pub unreachable-requires : goal.unreachable-requires
 unfolding header_rows body_rows entry_rows
@@ -17,7 +17,7 @@ unreachable-requires c =
     let side = c.requires.made.groups.1.1.1.1.1.1.1.1.0 in
     let number = number_held NO_SIDES 1 1 fields c.requires.made.held.1.1.1.1.1.1.1.1.0 in
     let counted = side.counted (λ e. cc) in
-    let none = ap length (ap (entries_by SIDE) (sym (c.group_behind-group.ensures.fields NO_SIDES (c.requires.standings 18 (omega arith)))) ∙ c.in_default.ensures) in
+    let none = ap length (ap (entries_by SIDE) (sym (c.group_after-group.ensures.fields NO_SIDES (c.requires.standings 18 (omega arith)))) ∙ c.in_default.ensures) in
     omega (arith, counted, number.0, none)
 
 pub returns-clause-one : goal.returns-clause-one
@@ -29,11 +29,11 @@ returns-clause-one c =
     let counted = side.counted (λ e. cc) in
     let one : length (entries_of TradeCaptureReport NO_SIDES fields) ≡ 1 = omega (arith, counted, number.0, number.1) in
     one_left (entries_of TradeCaptureReport NO_SIDES fields) c.in-Some.entry (entries_by SIDE c.next_entry.new.rest) one
-    (ap (entries_by SIDE) (sym (c.group_behind-group.ensures.fields NO_SIDES (c.requires.standings 18 (omega arith)))) ∙ c.in-Some.ensures)
+    (ap (entries_by SIDE) (sym (c.group_after-group.ensures.fields NO_SIDES (c.requires.standings 18 (omega arith)))) ∙ c.in-Some.ensures)
 
 pub returns-clause-held : goal.returns-clause-held
 unfolding header_rows body_rows entry_rows
 returns-clause-held c =
     let side = c.requires.made.groups.1.1.1.1.1.1.1.1.0 in
-    let first = ap (entries_by SIDE) (sym (c.group_behind-group.ensures.fields NO_SIDES (c.requires.standings 18 (omega arith)))) ∙ c.in-Some.ensures in
+    let first = ap (entries_by SIDE) (sym (c.group_after-group.ensures.fields NO_SIDES (c.requires.standings 18 (omega arith)))) ∙ c.in-Some.ensures in
     (rw first at side.each).0

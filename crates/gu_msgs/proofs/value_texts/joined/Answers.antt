@@ -6,10 +6,10 @@ use Rattle.gu_msgs.proofs.value_texts.joined.Goals as goal
 abbrev filler : List ℕ
 filler = 45 ∷ 45 ∷ 45 ∷ 45 ∷ 45 ∷ 45 ∷ 45 ∷ 45 ∷ 45 ∷ 45 ∷ 45 ∷ 45 ∷ []
 
--- eight bytes, `-`, and what is written behind them
-written_behind : (date time : List ℕ) → length date ≡ 8
+-- eight bytes, `-`, and what is written after them
+written_after : (date time : List ℕ) → length date ≡ 8
     → take 9 (date ++ 45 ∷ filler) ++ (time ++ drop 12 (drop 9 (date ++ 45 ∷ filler))) ≡ (date ++ 45 ∷ []) ++ time
-written_behind date time eight =
+written_after date time eight =
     let front : List ℕ = date ++ 45 ∷ [] in
     let nine : length front ≡ 9 = omega (arith, length-append date (45 ∷ [])) in
     let split : date ++ 45 ∷ filler ≡ front ++ filler = sym (append_assoc date (45 ∷ []) filler) in
@@ -18,4 +18,4 @@ written_behind date time eight =
 pub returns : goal.returns
 returns c =
     let eight = rw c.copy_from_slice.ensures.after at c.copy_from_slice.ensures.len in
-    rw (c.copy_from_slice-2.ensures.after, c.copy_from_slice.ensures.after) (written_behind c.args.date c.args.time eight)
+    rw (c.copy_from_slice-2.ensures.after, c.copy_from_slice.ensures.after) (written_after c.args.date c.args.time eight)

@@ -1,5 +1,5 @@
 use Rattle.std.proofs.Common.{rules}
-use Rattle.gu_terms.proofs.KeptLemmas.{kept_more}
+use Rattle.gu_terms.proofs.PackedLemmas.{kept_more}
 use Rattle.gu_terms.proofs.history.add.Goals as goal
 
 -- src/history.rt:61:1

@@ -1,5 +1,5 @@
 use Rattle.std.proofs.Common.{rules}
-use Rattle.gu_trades.proofs.KeptLemmas.{within_more}
+use Rattle.gu_trades.proofs.PackedLemmas.{within_more}
 use Rattle.gu_trades.proofs.reports.add.Goals as goal
 
 pub returns-clause-kept : goal.returns-clause-kept

@@ -3,7 +3,7 @@ use Rattle.std.proofs.lemmas.Bool.{or_from, or_right, not_from_true, not_from_fa
 use Rattle.std.proofs.lemmas.Option.{slice_get_read}
 use Rattle.gu_view.specs.Cut.{is_covered}
 use Rattle.gu_view.specs.declared.error.CutFault.TheVariants.{Uncovered}
-use Rattle.gu_view.specs.declared.view.Offer.{Offer}
+use Rattle.gu_view.specs.declared.view.ViewOffer.{ViewOffer}
 use Rattle.gu_terms.proofs.Lists.{found_here, found_later}
 use Rattle.gu_view.proofs.MarkLemmas.{cover_told, cover_any}
 use Rattle.gu_view.proofs.checker.first_uncovered.Goals as goal
@@ -18,7 +18,7 @@ returns-then-not-is_marked c cut keys numbers =
     let is = rw same at c.offer-item.is in
     let places = rw (slice_get_read view.offers (length view.offers) c.loop-place.place o refl inside is) at c.places.ensures.places in
     let told = cover_told view c.places.ensures.sound cut c.args.keys.now c.args.numbers.now c.loop-place.place o c.places.result.now keys numbers inside is places in
-    found_here (λ (o : Offer). not (is_covered cut o)) (λ (o : Offer). Uncovered o.number) view.offers c.loop-place.place o inside is (c.loop-place.invariant cut keys numbers)
+    found_here (λ (o : ViewOffer). not (is_covered cut o)) (λ (o : ViewOffer). Uncovered o.number) view.offers c.loop-place.place o inside is (c.loop-place.invariant cut keys numbers)
     (not_from_false (is_covered cut o) (told ∙ or_from _ _ c.if-not-numbers-place.true (sym c.is_marked.ensures ∙ c.if-not-is_marked.true)))
 
 pub loop-place-preserved : goal.loop-place-preserved
@@ -36,4 +36,4 @@ loop-place-preserved c cut keys numbers =
       | else-not-numbers-place-via-else-not-numbers-place w ↦
           cover_any view c.offers-offer-items.ensures.sound cut c.args.numbers.now c.loop-place.place o numbers inside is w.if-not-numbers-place.false
     ] in
-    found_later (λ (o : Offer). not (is_covered cut o)) view.offers c.loop-place.place o inside is (c.loop-place.invariant cut keys numbers) (not_from_true (is_covered cut o) covered)
+    found_later (λ (o : ViewOffer). not (is_covered cut o)) view.offers c.loop-place.place o inside is (c.loop-place.invariant cut keys numbers) (not_from_true (is_covered cut o) covered)

@@ -3,7 +3,7 @@ use Rattle.std.proofs.lemmas.Bool.{not_from_true, not_from_false}
 use Rattle.gu_view.specs.Check.{has_offer}
 use Rattle.gu_view.specs.declared.error.CutFault.TheVariants.{Unknown}
 use Rattle.gu_view.specs.declared.error.Unknown.TheVariants.{Offer as UnknownOffer}
-use Rattle.gu_view.specs.declared.view.Offer.{Offer}
+use Rattle.gu_view.specs.declared.view.ViewOffer.{ViewOffer}
 use Rattle.gu_terms.proofs.Lists.{found_here, found_later}
 use Rattle.gu_view.proofs.MarkLemmas.{not_there, there, mark_offer}
 use Rattle.gu_view.proofs.checker.mark_offers.Goals as goal
@@ -13,7 +13,7 @@ returns-in_default-clause-unknown c =
     let offers = c.args.offers.now in
     let n = c.number-item.result in
     found_here (λ n. not (has_offer offers n)) (λ (n : ℕ). Unknown (UnknownOffer n)) c.args.numbers.now c.loop-number.number-index n c.loop-number-test.true c.number-item.is c.loop-number.invariant.known_all
-    (not_from_false (has_offer offers n) (not_there (λ (o : Offer). o.number == n) offers (sym c.offer_place.ensures ∙ c.in_default.is)))
+    (not_from_false (has_offer offers n) (not_there (λ (o : ViewOffer). o.number == n) offers (sym c.offer_place.ensures ∙ c.in_default.is)))
 
 pub loop-number-preserved : goal.loop-number-preserved
 loop-number-preserved c =
@@ -22,7 +22,7 @@ loop-number-preserved c =
     let at = sym c.offer_place.ensures ∙ c.in-Some.is in
     record {
       known_all = found_later (λ n. not (has_offer offers n)) c.args.numbers.now c.loop-number.number-index n c.loop-number-test.true c.number-item.is c.loop-number.invariant.known_all
-          (not_from_true (has_offer offers n) (there (λ (o : Offer). o.number == n) offers c.in-Some.place at));
+          (not_from_true (has_offer offers n) (there (λ (o : ViewOffer). o.number == n) offers c.in-Some.place at));
       marks_are = ap (λ l. set l c.in-Some.place true) c.loop-number.invariant.marks_are
           ∙ mark_offer offers c.requires.ascending c.args.numbers.now c.loop-number.number-index c.in-Some.place n c.loop-number-test.true (rw c.number-item.is at at);
     }

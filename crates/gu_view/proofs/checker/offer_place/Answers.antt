@@ -1,7 +1,7 @@
 use Rattle.std.proofs.Common.{◌∙◌, ap, sym, get_or}
 use Rattle.std.proofs.lemmas.Bool.{eqb-true, eqb-false}
 use Rattle.std.proofs.lemmas.List.{get_or_default}
-use Rattle.gu_view.specs.declared.view.Offer.{Offer}
+use Rattle.gu_view.specs.declared.view.ViewOffer.{ViewOffer}
 use Rattle.gu_view.proofs.MarkLemmas.{place_found, place_past, place_other}
 use Rattle.gu_view.proofs.checker.offer_place.Goals as goal
 use Rattle.gu_view.proofs.checker.offer_place.Goals.{else-place-offers-via-then-place-offers+else-eq, else-place-offers-via-else-place-offers}
@@ -19,6 +19,6 @@ returns-else-place-offers c =
       | else-place-offers-via-then-place-offers+else-eq w ↦
           let d = w.index-offers-place.result in
           sym (place_other offers c.args.number c.smaller-place.result c.smaller-place.ensures.before c.requires c.smaller-place.ensures.behind w.if-place-offers.true
-          (λ e same. eqb-false (get_or offers c.smaller-place.result d).number c.args.number (sym w.eq.ensures ∙ w.if-eq.false) (ap (λ (o : Offer). o.number) (get_or_default offers c.smaller-place.result d e w.if-place-offers.true) ∙ same)))
+          (λ e same. eqb-false (get_or offers c.smaller-place.result d).number c.args.number (sym w.eq.ensures ∙ w.if-eq.false) (ap (λ (o : ViewOffer). o.number) (get_or_default offers c.smaller-place.result d e w.if-place-offers.true) ∙ same)))
       | else-place-offers-via-else-place-offers w ↦ sym (place_past offers c.args.number c.smaller-place.result c.smaller-place.ensures.before w.if-place-offers.false)
     ]

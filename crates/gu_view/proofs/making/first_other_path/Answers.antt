@@ -1,7 +1,7 @@
 use Rattle.std.proofs.Common.{◌≡◌, ◌∙◌, sym, ap, Some, cond}
 use Rattle.indexmap.specs.IndexMap.{get}
 use Rattle.std.proofs.lemmas.Bool.{or_left, or_right, not_from_false, not-false, not-true}
-use Rattle.gu_view.specs.declared.view.Offer.{Offer}
+use Rattle.gu_view.specs.declared.view.ViewOffer.{ViewOffer}
 use Rattle.gu_terms.proofs.KeyLemmas.{eq, eq_is}
 use Rattle.gu_view.proofs.DerivedEq.{same, same_is}
 use Rattle.gu_terms.specs.LimitKeys.{key_eq}
@@ -13,14 +13,14 @@ use Rattle.gu_view.proofs.making.first_other_path.Goals.{in-Some+else-ne, in-Non
 pub returns-then-not-is_own : goal.returns-then-not-is_own
 returns-then-not-is_own c =
     let o = c.offer-item.result in
-    found_here (is_odd c.args.offers.now) (λ (o : Offer). o.number) c.args.offers.now c.loop-offer.offer-index o c.loop-offer-test.true c.offer-item.is c.loop-offer.invariant.even
+    found_here (is_odd c.args.offers.now) (λ (o : ViewOffer). o.number) c.args.offers.now c.loop-offer.offer-index o c.loop-offer-test.true c.offer-item.is c.loop-offer.invariant.even
     (or_left _ _ (not_from_false _ (sym c.is_own.ensures ∙ c.if-not-is_own.true)))
 
 pub returns-then-ne : goal.returns-then-ne
 returns-then-ne c =
     let o = c.offer-item.result in
     let known = lookup-agree (agreement_eq o.agreement) (same o.agreement) c.loop-offer.paths.entries (λ j. sym (same_is o.agreement j)) ∙ sym c.in-Some.ensures.value in
-    found_here (is_odd c.args.offers.now) (λ (o : Offer). o.number) c.args.offers.now c.loop-offer.offer-index o c.loop-offer-test.true c.offer-item.is c.loop-offer.invariant.even
+    found_here (is_odd c.args.offers.now) (λ (o : ViewOffer). o.number) c.args.offers.now c.loop-offer.offer-index o c.loop-offer-test.true c.offer-item.is c.loop-offer.invariant.even
     (or_right _ _ (odd_known c.args.offers.now c.loop-offer.offer-index (get agreement_eq c.loop-offer.paths) o c.requires.ascending c.loop-offer-test.true c.offer-item.is c.loop-offer.invariant c.in-Some.path.now known (pointwise-agree key_eq eq c.in-Some.path.now o.path (λ j k. sym (eq_is j k)) ∙ not-true _ (rw (c.keys.ensures.keys, c.keys-in-Some.ensures.keys) at (sym c.ne.ensures ∙ c.if-ne.true)))))
 
 pub loop-offer-preserved : goal.loop-offer-preserved

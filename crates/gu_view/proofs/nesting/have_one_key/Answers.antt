@@ -3,11 +3,11 @@ use Rattle.std.proofs.lemmas.List.{take_rest}
 use Rattle.std.specs.List.{list_all}
 use Rattle.gu_terms.specs.declared.limit_key.LimitKey.{LimitKey}
 use Rattle.gu_view.specs.Paths.{have_one_key, key_on, same_key}
-use Rattle.gu_view.specs.declared.view.Offer.{Offer}
+use Rattle.gu_view.specs.declared.view.ViewOffer.{ViewOffer}
 use Rattle.gu_view.proofs.nesting.have_one_key.Goals as goal
 
 -- the others have the first one's key
-others_have_it : (offers : List Offer) (depth : ℕ) (places : List ℕ) (key : Option LimitKey) (told : Bool)
+others_have_it : (offers : List ViewOffer) (depth : ℕ) (places : List ℕ) (key : Option LimitKey) (told : Bool)
     → 1 ≤ length places → key ≡ key_on offers depth (get_or places 0 0)
     → told ≡ list_all (λ place. same_key key (key_on offers depth place)) (drop 1 places) → told ≡ have_one_key offers depth places
 others_have_it offers depth [] key told some is all = absurd (omega arith)

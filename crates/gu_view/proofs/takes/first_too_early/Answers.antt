@@ -5,7 +5,7 @@ use Rattle.std.proofs.Math.Bool.{or-false}
 use Rattle.std.proofs.lemmas.List.{set-get_or}
 use Rattle.std.proofs.lemmas.Option.{slice_get_read}
 use Rattle.gu_view.specs.declared.error.CutFault.TheVariants.{NotOldestFirst}
-use Rattle.gu_view.specs.declared.view.Offer.{Offer}
+use Rattle.gu_view.specs.declared.view.ViewOffer.{ViewOffer}
 use Rattle.gu_terms.proofs.Lists.{found_here}
 use Rattle.gu_view.proofs.TakesLemmas.{is_too_early, mark_says, walked_more, lots_here}
 use Rattle.gu_view.proofs.takes.first_too_early.Goals as goal
@@ -22,7 +22,7 @@ returns-then-short-agreement c lots are =
     let walked = c.loop-place.invariant lots are in
     let taken = lots_here view.offers c.args.taken.now lots c.loop-place.place o are inside is in
     let says = mark_says view c.offers-offer-items.ensures.sound lots c.loop-place.place c.agreement_place-agreement.result c.loop-place.short o inside is c.agreement_place-agreement.ensures.within at walked in
-    found_here (is_too_early view.offers lots) (λ (o : Offer). NotOldestFirst o.number) view.offers c.loop-place.place o inside is walked.none_early
+    found_here (is_too_early view.offers lots) (λ (o : ViewOffer). NotOldestFirst o.number) view.offers c.loop-place.place o inside is walked.none_early
     (and_from _ _ (lt-ltb 0 (lots o.number) (omega arith)) (says ∙ c.if-short-agreement.true))
 
 pub loop-place-preserved : goal.loop-place-preserved

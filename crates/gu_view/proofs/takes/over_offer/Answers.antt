@@ -2,7 +2,7 @@ use Rattle.std.proofs.Common.{arith}
 use Rattle.std.specs.Prelude.{nat_lt}
 use Rattle.std.proofs.lemmas.Bool.{lt-ltb, le-ltb}
 use Rattle.gu_view.specs.declared.error.CutFault.TheVariants.{OverOffer}
-use Rattle.gu_view.specs.declared.view.Offer.{Offer}
+use Rattle.gu_view.specs.declared.view.ViewOffer.{ViewOffer}
 use Rattle.gu_terms.proofs.Lists.{found_here, found_later}
 use Rattle.gu_view.proofs.TakesLemmas.{lots_here, sum_more}
 use Rattle.gu_view.proofs.takes.over_offer.Goals as goal
@@ -12,7 +12,7 @@ returns-then-offer-taken-clause-first c lots are =
     let o = c.index-offers-place.result in
     let offers = c.args.offers.now in
     let taken = lots_here offers c.args.taken.now lots c.loop-place.place o are c.loop-place-test.true c.index-offers-place.is in
-    found_here (λ (o : Offer). nat_lt o.lots (lots o.number)) (λ (o : Offer). OverOffer o.number) offers c.loop-place.place o c.loop-place-test.true c.index-offers-place.is (c.loop-place.invariant.first lots are) (lt-ltb o.lots (lots o.number) (omega arith))
+    found_here (λ (o : ViewOffer). nat_lt o.lots (lots o.number)) (λ (o : ViewOffer). OverOffer o.number) offers c.loop-place.place o c.loop-place-test.true c.index-offers-place.is (c.loop-place.invariant.first lots are) (lt-ltb o.lots (lots o.number) (omega arith))
 
 pub loop-place-preserved : goal.loop-place-preserved
 loop-place-preserved c =
@@ -21,6 +21,6 @@ loop-place-preserved c =
     record {
       first = λ lots are.
           let taken = lots_here offers c.args.taken.now lots c.loop-place.place o are c.loop-place-test.true c.index-offers-place.is in
-          found_later (λ (o : Offer). nat_lt o.lots (lots o.number)) offers c.loop-place.place o c.loop-place-test.true c.index-offers-place.is (c.loop-place.invariant.first lots are) (le-ltb o.lots (lots o.number) (omega arith));
+          found_later (λ (o : ViewOffer). nat_lt o.lots (lots o.number)) offers c.loop-place.place o c.loop-place-test.true c.index-offers-place.is (c.loop-place.invariant.first lots are) (le-ltb o.lots (lots o.number) (omega arith));
       within = sum_more c.args.taken.now offers c.loop-place.place o (omega (arith, c.requires)) c.loop-place-test.true c.index-offers-place.is c.loop-place.invariant.within c.if-offer-taken.false;
     }

@@ -1,6 +1,6 @@
 use Rattle.std.proofs.Common.{sym, subst, ap, ◌∙◌}
 use Rattle.std.specs.Prelude.{None, slice_set}
-use Rattle.gu_book.specs.Kept.{Kept}
+use Rattle.gu_book.specs.BookState.{BookState}
 use Rattle.gu_world.specs.Looks.{AreTrue, IsTrueLook, looks_in}
 use Rattle.gu_world.specs.declared.held.Work.{Work}
 use Rattle.gu_world.specs.declared.held.Work.TheVariants.{Looking, Ready}
@@ -43,7 +43,7 @@ pub returns-in-Err-clause-still : goal.returns-in-Err-clause-still
 returns-in-Err-clause-still c =
     let same = put-back c.args.looks.now c.take.new.self c.args.worker c.take.ensures.left c.in-Some.held.seen c.in-Some.held.work (sym c.in-Some.ensures.held) c.put-in-Err.new.self (Ready c.in-Err.proposal)
     (c.in-Ready.is ∙ ap Ready (sym c.in-Err.ensures.handed_back)) c.put-in-Err.ensures in
-    subst (λ (book : Kept). AreTrue book c.put-in-Err.new.self) (sym c.in-Err.ensures.refused) (subst (AreTrue c.args.book.now) (sym same) c.requires)
+    subst (λ (book : BookState). AreTrue book c.put-in-Err.new.self) (sym c.in-Err.ensures.refused) (subst (AreTrue c.args.book.now) (sym same) c.requires)
 
 pub returns-in-Err-clause-refused : goal.returns-in-Err-clause-refused
 returns-in-Err-clause-refused c = (

@@ -1,6 +1,6 @@
 use Rattle.std.proofs.Common.{subst, ◌≡◌}
 use Rattle.gu_ref.specs.Tables.{Tables}
-use Rattle.gu_book.specs.Kept.{Kept}
+use Rattle.gu_book.specs.BookState.{BookState}
 use Rattle.gu_book.specs.Legal.{IsLegal}
 use Rattle.gu_book.specs.Orderly.{IsOrderly}
 use Rattle.gu_book.specs.Positions.{LongIsShort}
@@ -13,14 +13,14 @@ returns-clause-legal c =
     let world = c.in_ok-world.world in
     let same = run-reference (start c.args.reference) c.args.steps.now world.outcomes world.state c.in_ok-world.ensures in
     let book : c.book.result.now ≡ world.state.book = c.book.ensures in
-    subst (λ (r : Tables). IsLegal r world.state.book.history) same (subst (λ (b : Kept). IsLegal b.reference b.history) book c.history.ensures.legal)
+    subst (λ (r : Tables). IsLegal r world.state.book.history) same (subst (λ (b : BookState). IsLegal b.reference b.history) book c.history.ensures.legal)
 
 pub returns-clause-sweeps : goal.returns-clause-sweeps
 returns-clause-sweeps c = sweeps_are_greatest c.args.reference c.in_ok-world.world.state.book.history (returns-clause-legal c)
 
 pub returns-clause-positions : goal.returns-clause-positions
 returns-clause-positions c =
-    positions_are_sums c.in_ok-world.world.state.book.history (subst (λ (b : Kept). IsOrderly b.history) c.book.ensures c.history.ensures.orderly)
+    positions_are_sums c.in_ok-world.world.state.book.history (subst (λ (b : BookState). IsOrderly b.history) c.book.ensures c.history.ensures.orderly)
 
 pub returns-clause-even : goal.returns-clause-even
 returns-clause-even c = subst LongIsShort c.book.ensures c.history.ensures.even

@@ -5,7 +5,7 @@ use Rattle.gu_terms.specs.declared.group.Group.{Group}
 use Rattle.gu_book.specs.Answer.{answer}
 use Rattle.gu_book.specs.Beside.{IsKeptLegal}
 use Rattle.gu_book.specs.Counted.{AreVersions, is_touched, version_in}
-use Rattle.gu_book.specs.Kept.{Kept}
+use Rattle.gu_book.specs.BookState.{BookState}
 use Rattle.gu_book.specs.Legal.{StandsLast}
 use Rattle.gu_book.specs.Versions.{touches}
 use Rattle.gu_book.specs.declared.book.Book.TheInside.{Inside}
@@ -95,10 +95,10 @@ pub returns-clause-stands : goal.returns-clause-stands
 returns-clause-stands c =
     let old = c.self.inside in
     let is : c.answer_of-reply.result ≡ answer old.reference old.history c.args.command.now = c.answer_of-reply.ensures.reply ∙ answer_is c.self.inside.reference c.self.inside.history c.self.inside.totals c.args.command.now c.self.invariant.kept.beside in
-    subst (λ (k : Kept). StandsLast k.reference (length k.history + 1) (Asked c.args.command.now c.answer_of-reply.result)) c.self.view_is
+    subst (λ (k : BookState). StandsLast k.reference (length k.history + 1) (Asked c.args.command.now c.answer_of-reply.result)) c.self.view_is
     (stands_last old.reference old.history (Asked c.args.command.now c.answer_of-reply.result) c.self.invariant.legal (rw (sym c.self.view_is) at c.requires.room) is)
 
 pub returns-clause-reply : goal.returns-clause-reply
 returns-clause-reply c =
     c.answer_of-reply.ensures.reply ∙ answer_is c.self.inside.reference c.self.inside.history c.self.inside.totals c.args.command.now c.self.invariant.kept.beside
-    ∙ ap (λ (k : Kept). answer k.reference k.history c.args.command.now) c.self.view_is
+    ∙ ap (λ (k : BookState). answer k.reference k.history c.args.command.now) c.self.view_is

@@ -10,7 +10,7 @@ use Rattle.gu_view.specs.View.{GroupView}
 use Rattle.gu_book.specs.Beside.{IsKeptLegal}
 use Rattle.gu_book.specs.Commits.{IsCurrent, sweep_of}
 use Rattle.gu_book.specs.Counted.{version_in}
-use Rattle.gu_book.specs.Kept.{Kept}
+use Rattle.gu_book.specs.BookState.{BookState}
 use Rattle.gu_book.specs.Legal.{StandsLast}
 use Rattle.gu_book.specs.Moving.{HasRows, MovesAll}
 use Rattle.gu_book.proofs.Committing.{legal-still, legal-swept, may-move, swept-last}
@@ -33,9 +33,9 @@ invariant_of-self-in_err-push_swept c =
 pub move_takes-requires : goal.move_takes-requires
 move_takes-requires c =
     let old = c.self.inside in
-    let book : Kept = record { reference = old.reference; history = old.history } in
+    let book : BookState = record { reference = old.reference; history = old.history } in
     let proposal = c.args.proposal.now in
-    let current = subst (λ (k : Kept). IsCurrent k proposal.view) (sym c.self.view_is) c.requires.current in
+    let current = subst (λ (k : BookState). IsCurrent k proposal.view) (sym c.self.view_is) c.requires.current in
     let made = subst (AllByRecursion (λ (t : Take). HasRows c.make_ways.new.totals t.offer)) (c.as_slice.ensures.takes ∙ c.takes.ensures.takes) c.in_ok-make_ways.ensures.rows in (
       old.reference,
       may-move book proposal old.totals c.make_ways.new.totals old.versions c.view-2.result.now c.as_slice-2.result.now c.self.invariant current c.asks_for_a_sweep.ensures c.make_ways.ensures.same made
@@ -50,9 +50,9 @@ touch-requires-clause-fits c group =
 pub invariant_of-self-2 : goal.invariant_of-self-2
 invariant_of-self-2 c =
     let old = c.self.inside in
-    let book : Kept = record { reference = old.reference; history = old.history } in
+    let book : BookState = record { reference = old.reference; history = old.history } in
     let proposal = c.args.proposal.now in
-    let current = subst (λ (k : Kept). IsCurrent k proposal.view) (sym c.self.view_is) c.requires.current in
+    let current = subst (λ (k : BookState). IsCurrent k proposal.view) (sym c.self.view_is) c.requires.current in
     let still =
     legal-still old.reference old.history old.totals c.make_ways.new.totals old.versions c.know.new.versions c.self.invariant c.make_ways.ensures.same (c.make_ways.ensures.known old.reference) c.know.ensures.days
     c.know.ensures.same in
@@ -74,8 +74,8 @@ invariant_of-self-2 c =
 pub returns-clause-stands : goal.returns-clause-stands
 returns-clause-stands c =
     let old = c.self.inside in
-    let book : Kept = record { reference = old.reference; history = old.history } in
+    let book : BookState = record { reference = old.reference; history = old.history } in
     let proposal = c.args.proposal.now in
-    let current = subst (λ (k : Kept). IsCurrent k proposal.view) (sym c.self.view_is) c.requires.current in
-    subst (λ (k : Kept). StandsLast k.reference (length k.history + 1) (Swept (sweep_of proposal))) c.self.view_is
+    let current = subst (λ (k : BookState). IsCurrent k proposal.view) (sym c.self.view_is) c.requires.current in
+    subst (λ (k : BookState). StandsLast k.reference (length k.history + 1) (Swept (sweep_of proposal))) c.self.view_is
     (swept-last book proposal old.totals old.versions c.self.invariant current c.asks_for_a_sweep.ensures)

@@ -2,7 +2,7 @@ use Rattle.std.proofs.Common.{◌≡◌, ◌∙◌, ◌++◌, ◌∷◌, [], Lis
 use Rattle.gu_terms.specs.declared.entry.Entry.{Entry}
 use Rattle.gu_terms.specs.declared.entry.Entry.TheVariants.{Swept}
 use Rattle.gu_book.specs.Commits.{sweep_of}
-use Rattle.gu_book.specs.Kept.{Kept}
+use Rattle.gu_book.specs.BookState.{BookState}
 use Rattle.gu_book.specs.Legal.{StandsLast}
 use Rattle.gu_book.proofs.book.Book.commit.Goals as goal
 
@@ -10,7 +10,7 @@ pub returns-clause-number : goal.returns-clause-number
 returns-clause-number c =
     let before = c.args.self.now.history in
     let grown : length c.self-2.inside.history ≡ length (before ++ Swept (sweep_of c.args.proposal) ∷ []) =
-    ap (λ (k : Kept). length k.history) c.self-2.view_is ∙ ap {A = List Entry} length c.in_default-append_sweep.ensures.entered in
+    ap (λ (k : BookState). length k.history) c.self-2.view_is ∙ ap {A = List Entry} length c.in_default-append_sweep.ensures.entered in
     omega (arith, c.swept_receipt.ensures.number, c.len.ensures, grown, length-append before (Swept (sweep_of c.args.proposal) ∷ []))
 
 pub returns-clause-stands : goal.returns-clause-stands

@@ -1,7 +1,7 @@
 use Rattle.std.proofs.Common.{◌≡◌, ◌∙◌, ◌++◌, ◌∷◌, [], List, ap, arith, length, length-append, subst, sym}
 use Rattle.gu_terms.specs.declared.entry.Entry.{Entry}
 use Rattle.gu_terms.specs.declared.entry.Entry.TheVariants.{Asked}
-use Rattle.gu_book.specs.Kept.{Kept}
+use Rattle.gu_book.specs.BookState.{BookState}
 use Rattle.gu_book.specs.Legal.{StandsLast}
 use Rattle.gu_book.proofs.book.Book.enter.Goals as goal
 
@@ -13,7 +13,7 @@ returns-clause-number c =
     let before = c.args.self.now.history in
     let entry = Asked c.args.command c.in_ok-reply.reply in
     let grown : length c.self.inside.history ≡ length (before ++ entry ∷ []) =
-    ap (λ (k : Kept). length k.history) c.self.view_is ∙ ap {A = List Entry} length c.in_ok-reply.ensures.entered in
+    ap (λ (k : BookState). length k.history) c.self.view_is ∙ ap {A = List Entry} length c.in_ok-reply.ensures.entered in
     omega (arith, c.len.ensures, grown, length-append before (entry ∷ []))
 
 pub returns-clause-entry : goal.returns-clause-entry

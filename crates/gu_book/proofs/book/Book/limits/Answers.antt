@@ -1,7 +1,7 @@
 use Rattle.std.proofs.Common.{◌≡◌, false, sym, subst, ap, ◌∙◌}
 use Rattle.std.proofs.lemmas.Result.{IfOk-weaker}
 use Rattle.gu_ref.specs.Reference.{is_group}
-use Rattle.gu_book.specs.Kept.{Kept}
+use Rattle.gu_book.specs.BookState.{BookState}
 use Rattle.gu_book.specs.Limits.{limit_rows}
 use Rattle.gu_book.proofs.LimitLemmas.{rows-are}
 use Rattle.gu_book.proofs.UnknownGroups.{unknown_group}
@@ -15,15 +15,15 @@ returns-clause-rows c =
     (λ rows is.
     is
     ∙ rows-are (record { reference = old.reference; history = old.history }) old.totals group c.self.invariant.kept.beside
-    ∙ ap (λ (k : Kept). limit_rows k group) c.self.view_is)
+    ∙ ap (λ (k : BookState). limit_rows k group) c.self.view_is)
     c.rows_in_order.ensures
 
 pub returns-clause-unknown : goal.returns-clause-unknown
 returns-clause-unknown c unknown =
     let old = c.self.inside in
-    let book : Kept = record { reference = old.reference; history = old.history } in
+    let book : BookState = record { reference = old.reference; history = old.history } in
     let group = c.args.group.now in
-    let inside = subst (λ (k : Kept). is_group k.reference group ≡ false) (sym c.self.view_is) unknown in
+    let inside = subst (λ (k : BookState). is_group k.reference group ≡ false) (sym c.self.view_is) unknown in
     IfOk-weaker c.rows_in_order.result _ _
     (λ rows is. is ∙ rows-are book old.totals group c.self.invariant.kept.beside ∙ unknown_group book group c.self.invariant.legal inside)
     c.rows_in_order.ensures

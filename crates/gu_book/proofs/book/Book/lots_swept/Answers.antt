@@ -3,7 +3,7 @@ use Rattle.std.specs.List.{AllByRecursion}
 use Rattle.std.proofs.lemmas.List.Elements.{recursion_from_All}
 use Rattle.gu_terms.specs.Histories.{lots_swept}
 use Rattle.gu_offers.specs.Rows.{IsSound}
-use Rattle.gu_book.specs.Kept.{Kept}
+use Rattle.gu_book.specs.BookState.{BookState}
 use Rattle.gu_book.proofs.SweptLots.{few-swept, sound-small}
 use Rattle.gu_book.proofs.book.Book.lots_swept.Goals as goal
 
@@ -15,4 +15,4 @@ sum_swept-requires c =
     omega (arith, few-swept old.reference old.history c.self.invariant.legal small, c.self.invariant.legal.within)
 
 pub returns : goal.returns
-returns c = c.sum_swept.ensures ∙ ap (λ (k : Kept). lots_swept k.history) c.self.view_is
+returns c = c.sum_swept.ensures ∙ ap (λ (k : BookState). lots_swept k.history) c.self.view_is

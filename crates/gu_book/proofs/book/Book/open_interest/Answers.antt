@@ -1,5 +1,5 @@
 use Rattle.std.proofs.Common.{ap, ◌∙◌}
-use Rattle.gu_book.specs.Kept.{Kept}
+use Rattle.gu_book.specs.BookState.{BookState}
 use Rattle.gu_book.specs.Positions.{open_interest_of}
 use Rattle.gu_book.proofs.Interest.{interest-is}
 use Rattle.gu_book.proofs.book.Book.open_interest.Goals as goal
@@ -9,4 +9,4 @@ returns c =
     let old = c.self.inside in
     c.open_interest.ensures
     ∙ interest-is (record { reference = old.reference; history = old.history }) old.totals c.args.symbol c.rules.ensures.sound.once.accounts c.rules-2.ensures.once c.self.invariant.kept.beside c.self.invariant.known
-    ∙ ap (λ (k : Kept). open_interest_of k c.args.symbol) c.self.view_is
+    ∙ ap (λ (k : BookState). open_interest_of k c.args.symbol) c.self.view_is

@@ -2,7 +2,7 @@ use Rattle.std.proofs.Common.{◌≡◌, ◌∙◌, ◌+◌, ◌<◌, ◌^◌, a
 use Rattle.gu_ref.specs.Reference.{is_group}
 use Rattle.gu_book.specs.Commits.{IsCurrent, IsForeign}
 use Rattle.gu_book.specs.Counted.{version_in}
-use Rattle.gu_book.specs.Kept.{Kept}
+use Rattle.gu_book.specs.BookState.{BookState}
 use Rattle.gu_book.specs.Versions.{version_of}
 use Rattle.gu_book.proofs.CountedLemmas.{versions-fit}
 use Rattle.gu_book.proofs.CurrentViews.{shows-view, view-shows}
@@ -20,7 +20,7 @@ returns-then-not-shows_all c =
     let view = c.args.view.now in
     let version : view.version ≡ version_of old.history view.group =
     sym c.version-seen.ensures ∙ c.if-seen-now.false ∙ c.of-now.ensures ∙ c.self.invariant.counted.each c.group.result ∙ ap (version_of old.history) c.group.ensures in
-    subst (λ (k : Kept). IsForeign k view) c.self.view_is
+    subst (λ (k : BookState). IsForeign k view) c.self.view_is
     (record {
       room = omega (arith, c.if-len-ge-MOST_ENTRIES.false, c.len.ensures);
       untouched = version;
@@ -35,7 +35,7 @@ returns c =
     let view = c.args.view.now in
     let version : view.version ≡ version_of old.history view.group =
     sym c.version-seen.ensures ∙ c.if-seen-now.false ∙ c.of-now.ensures ∙ c.self.invariant.counted.each c.group.result ∙ ap (version_of old.history) c.group.ensures in
-    subst (λ (k : Kept). IsCurrent k view) c.self.view_is
+    subst (λ (k : BookState). IsCurrent k view) c.self.view_is
     (record {
       room = omega (arith, c.if-len-ge-MOST_ENTRIES.false, c.len.ensures);
       known = ap (is_group old.reference) (sym c.group-2.ensures) ∙ sym c.if-not-group.ensures;

@@ -1,5 +1,5 @@
 use Rattle.std.proofs.Common.{IfOk, subst}
-use Rattle.gu_book.specs.Kept.{Kept}
+use Rattle.gu_book.specs.BookState.{BookState}
 use Rattle.gu_book.specs.Notices.{IsStretch, IsStretchOf, Register}
 use Rattle.gu_book.proofs.NoticeLemmas.{register-is}
 use Rattle.gu_book.proofs.book.Book.stretch.Goals as goal
@@ -10,4 +10,4 @@ returns c =
     let stretch = c.stretch_of.result in
     let written = register-is old.reference old.history old.totals c.self.invariant.kept.beside in
     let told = subst (λ (r : Register). IfOk stretch (IsStretchOf r old.history c.args.firm c.args.from)) written c.stretch_of.ensures in
-    subst (λ (k : Kept). IfOk stretch (IsStretch k c.args.firm c.args.from)) c.self.view_is told
+    subst (λ (k : BookState). IfOk stretch (IsStretch k c.args.firm c.args.from)) c.self.view_is told

@@ -1,6 +1,6 @@
 use Rattle.std.proofs.Common.{◌+◌, ◌<◌, ◌^◌, ◌∙◌, ap, arith}
 use Rattle.gu_book.specs.Counted.{version_in}
-use Rattle.gu_book.specs.Kept.{Kept}
+use Rattle.gu_book.specs.BookState.{BookState}
 use Rattle.gu_book.specs.Views.{group_view}
 use Rattle.gu_book.proofs.BookViews.{view-is}
 use Rattle.gu_book.proofs.CountedLemmas.{versions-fit}
@@ -18,4 +18,4 @@ returns-clause-view c =
     let group = c.args.group.now in
     c.in_ok-view_of.ensures.view
     ∙ view-is old.reference old.history old.totals old.versions group c.self.invariant.kept.beside c.self.invariant.counted
-    ∙ ap (λ (k : Kept). group_view k.reference k.history group) c.self.view_is
+    ∙ ap (λ (k : BookState). group_view k.reference k.history group) c.self.view_is

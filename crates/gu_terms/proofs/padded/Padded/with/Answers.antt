@@ -6,11 +6,11 @@ use Rattle.gu_terms.specs.Padded.{IsPadded, length-text}
 use Rattle.gu_terms.proofs.padded.Padded.with.Goals as goal
 use borrow.Rule.Slice.PartMut.{drop_put, put_mid, same_len_mid, mid_of}
 
--- more behind a text leaves zeros behind both
-more_behind : (size : ℕ) (kept more : List ℕ) (len n : ℕ) → IsPadded size kept len → len + n ≤ size → length more ≡ n
+-- more after a text leaves zeros after both
+more_after : (size : ℕ) (kept more : List ℕ) (len n : ℕ) → IsPadded size kept len → len + n ≤ size → length more ≡ n
     → length more ≡ length (mid_of len (len + n - len) kept)
     → IsPadded size (put_mid len (len + n - len) kept more) (len + n)
-more_behind size kept more len n h fits many same = record {
+more_after size kept more len n h fits many same = record {
   size_is = same_len_mid len (len + n - len) kept more same ∙ h.size_is;
   within = fits;
   zeros =
@@ -26,5 +26,5 @@ pub invariant_of-result : goal.invariant_of-result
 invariant_of-result g c =
     let text : length c.args.self.now ≡ c.self.inside.len =
     ap {A = List ℕ} length (sym c.self.view_is) ∙ length-text g.row.N c.self.inside.bytes c.self.inside.len c.self.invariant in
-    more_behind g.row.N c.self.inside.bytes c.copy_from_slice.new.self c.self.inside.len (length c.args.more.now) c.self.invariant
+    more_after g.row.N c.self.inside.bytes c.copy_from_slice.new.self c.self.inside.len (length c.args.more.now) c.self.invariant
     (omega (arith, text, c.requires.fits)) (ap {A = List ℕ} length c.copy_from_slice.ensures.after) c.copy_from_slice.ensures.len

@@ -1,7 +1,7 @@
 use Rattle.std.proofs.Common.{◌∙◌, ap, sym, arith}
 use Rattle.std.specs.Prelude.{◌&&◌}
 use Rattle.std.specs.Str.{bytes_eq}
-use Rattle.gu_trades.specs.KeptReports.{own_id}
+use Rattle.gu_trades.specs.PackedReports.{own_id}
 use Rattle.gu_trades.proofs.KeptAt.{by-at, kept-inside, within-at}
 use Rattle.gu_trades.proofs.reports.Reports.is_by.Goals as goal
 

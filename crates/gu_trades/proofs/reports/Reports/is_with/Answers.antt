@@ -1,6 +1,6 @@
 use Rattle.std.proofs.Common.{◌∙◌, ap, sym, arith}
 use Rattle.std.specs.Str.{bytes_eq}
-use Rattle.gu_trades.specs.KeptReports.{match_id_of}
+use Rattle.gu_trades.specs.PackedReports.{match_id_of}
 use Rattle.gu_trades.proofs.KeptAt.{kept-inside, with-at, within-at}
 use Rattle.gu_trades.proofs.reports.Reports.is_with.Goals as goal
 

@@ -1,7 +1,7 @@
 use Rattle.std.proofs.Common.{◌∙◌, ap, sym, Some, arith}
 use Rattle.std.specs.Option.{option_map}
 use Rattle.gu_terms.specs.declared.report.Report.{Report}
-use Rattle.gu_trades.specs.KeptReports.{match_id_of}
+use Rattle.gu_trades.specs.PackedReports.{match_id_of}
 use Rattle.gu_trades.proofs.KeptAt.{kept-inside, report-at, within-at}
 use Rattle.gu_trades.proofs.reports.Reports.match_id.Goals as goal
 

@@ -1,5 +1,5 @@
 use Rattle.std.proofs.Common.{◌∙◌, ap, sym, arith, Some}
-use Rattle.gu_trades.specs.KeptReports.{report_of_kept}
+use Rattle.gu_trades.specs.PackedReports.{report_of_kept}
 use Rattle.gu_trades.proofs.KeptAt.{kept-inside, report-at, within-at}
 use Rattle.gu_trades.proofs.reports.Reports.report.Goals as goal
 

@@ -5,11 +5,11 @@ use Rattle.std.specs.Option.{option_and_then, option_copied}
 use Rattle.std.proofs.lemmas.Bool.{ltb-false, ltb-true}
 use Rattle.std.proofs.lemmas.List.Folds.{find_at}
 use Rattle.std.proofs.lemmas.Option.{slice_get-get_or, slice_get_past}
-use Rattle.gu_view.specs.declared.view.Offer.{Offer}
+use Rattle.gu_view.specs.declared.view.ViewOffer.{ViewOffer}
 use Rattle.gu_view.proofs.view.View.offer.Goals as goal
 
 -- what is found stands at its place
-found_at_place : (test : Offer → Bool) (offers : List Offer) → find test offers ≡ option_and_then (slice_get offers) (position test offers)
+found_at_place : (test : ViewOffer → Bool) (offers : List ViewOffer) → find test offers ≡ option_and_then (slice_get offers) (position test offers)
 found_at_place test offers = find_at test offers ∙ go (nat_lt (position_or_len test offers) (length offers)) refl
   where
     go : (b : Bool) → nat_lt (position_or_len test offers) (length offers) ≡ b
@@ -17,7 +17,7 @@ found_at_place test offers = find_at test offers ∙ go (nat_lt (position_or_len
     go true e = refl
     go false e = slice_get_past offers (position_or_len test offers) (ltb-false (position_or_len test offers) (length offers) e)
 
-within : (test : Offer → Bool) (offers : List Offer) (place : ℕ) → position test offers ≡ Some place → place < length offers
+within : (test : ViewOffer → Bool) (offers : List ViewOffer) (place : ℕ) → position test offers ≡ Some place → place < length offers
 within test offers place is = by (nat_lt (position_or_len test offers) (length offers)) refl is
   where
     by : (b : Bool) → nat_lt (position_or_len test offers) (length offers) ≡ b → cond b (Some (position_or_len test offers)) None ≡ Some place → place < length offers
@@ -35,4 +35,4 @@ returns c =
     let offers = c.self.inside.offers.items in
     let place = rw c.deref.ensures.value at (sym c.offer_place.ensures ∙ c.in_ok-place.was) in
     rw (← c.self.view_is, found_at_place (λ o. o.number == c.args.number) offers, place)
-    (ap (λ (o : Offer). Some o) c.index.ensures ∙ sym (slice_get-get_or offers c.in_ok-place.place c.index.result.now (within (λ o. o.number == c.args.number) offers c.in_ok-place.place place)))
+    (ap (λ (o : ViewOffer). Some o) c.index.ensures ∙ sym (slice_get-get_or offers c.in_ok-place.place c.index.result.now (within (λ o. o.number == c.args.number) offers c.in_ok-place.place place)))

@@ -1,0 +1,36 @@
+-- Machinery: places of a list, found by numbers that are kept of its elements.
+use Rattle.std.specs.Prelude.{◌≡◌, ℕ, ◌-◌, ◌%◌, ◌<◌, ◌≤◌, ◌==◌, min, Bool, List, length, map, slice_index, slice_index_or, vec_capacity}
+use Rattle.gu_trades.specs.declared.places.Link.{Link}
+use Rattle.gu_trades.specs.declared.hash_index.HashIndex.TheInside.{Inside}
+use Rattle.gu_trades.specs.Numbered.{Numbered, last_before}
+
+-- the numbers that are kept
+abbrev pub numbers_of : List Link → List ℕ
+numbers_of links = map (λ (link : Link). link.number) links
+
+-- the place is in a row, of so many
+abbrev pub is_in_row : List ℕ → ℕ → ℕ → ℕ → Bool
+is_in_row numbers rows row place = slice_index numbers place % rows == row
+
+-- each place is linked to the one before it in its row
+abbrev pub IsLinked : List Link → ℕ → Type 0
+IsLinked links rows =
+    (place : ℕ) (d : Link) → place < length links
+    → (slice_index_or links place d).before
+    ≡ last_before (is_in_row (numbers_of links) rows (slice_index (numbers_of links) place % rows)) place
+
+-- and each row ends at its last place
+abbrev pub EndsRows : List Link → List ℕ → Type 0
+EndsRows links last =
+    (row : ℕ) → row < length last
+    → slice_index last row ≡ last_before (is_in_row (numbers_of links) (length last) row) (length links)
+
+-- the places that can be kept without memory
+abbrev pub numbered : Inside → Numbered
+numbered p = record { numbers = numbers_of p.links.items; spare = min (vec_capacity p.links) (length p.last.items) - length p.links.items }
+
+pub record IsHashIndex (p : Inside) : Type 0 where
+  pub few : length p.last.items ≤ 2147483648
+  pub within : length p.links.items ≤ length p.last.items
+  pub linked : IsLinked p.links.items (length p.last.items)
+  pub ends : EndsRows p.links.items p.last.items

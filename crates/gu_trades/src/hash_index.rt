@@ -1,0 +1,166 @@
+//! Places of a list, found by numbers that are kept of its elements.
+
+ghost use Rattle.std.specs.Prelude.{◌≡◌, ◌+◌, ◌<◌, ◌≤◌, ◌++◌, ◌∷◌, ◌%◌, [], length, slice_index, IfOk, OnOk, ◌-◌};
+ghost use Rattle.gu_trades.specs.Numbered.{has_number, last_before, number_of};
+ghost use Rattle.gu_trades.specs.HashIndex.{numbers_of, IsLinked};
+
+use gu_terms::Seed;
+use std::alloc::{AllocError, Global};
+use std::hash::{BuildHasher, Hash};
+use std::marker::Model;
+
+/// As few rows as there are, and as many.
+const FEWEST_ROWS: usize = 16;
+
+const MOST_ROWS: usize = 1 << 31;
+
+/// How many places so many rows are for: half as many, so that most rows are empty or have one, unless there can't be more rows.
+fn places_for(rows: usize) -> usize
+    ensures { result ≤ rows }
+{
+    if rows < MOST_ROWS { rows / 2 } else { rows }
+}
+
+/// The number of a place, and the place before it in its row, counted from 1; 0 where it is the first.
+#[derive(Clone, Copy, Debug)]
+struct Link {
+    number: u32,
+    before: u32,
+}
+
+/// The places of a list, by numbers that are kept of its elements. To a contract it is the list of these numbers, and how many more
+/// can be kept without memory.
+pub(crate) struct HashIndex {
+    links: Vec<Link>,
+    /// The last place of each row, counted from 1; 0 where the row is empty. A number's row is its remainder.
+    last: Vec<u32>,
+    alloc: Global,
+}
+
+impl Drop for HashIndex {
+    fn drop(self) {
+        let HashIndex {
+            links,
+            last,
+            alloc: _,
+        } = self;
+        drop(links);
+        drop(last);
+    }
+}
+
+impl Model for HashIndex {
+    ghost use Rattle.gu_trades.specs.Numbered.{Numbered};
+
+    ghost Value = { Numbered };
+
+    ghost use Rattle.gu_trades.specs.HashIndex.{numbered, IsHashIndex};
+
+    ghost view = { numbered };
+
+    ghost invariant = { IsHashIndex };
+}
+
+/// The number that is kept of a key.
+pub(crate) fn number_of<K: Hash + Drop>(seed: &Seed, key: K) -> u32
+    ensures { result ≡ number_of seed.now (K.hash_input key) }
+{
+    (seed.hash_one(key) >> 32) as u32
+}
+
+/// The last place with a number, from one back along its row. Places are counted from 1.
+fn along(links: &[Link], rows: usize, from: u32, number: u32) -> u32
+    requires linked { IsLinked links.now rows }
+    requires within { from ≤ length links.now }
+    requires row { 0 < from → slice_index (numbers_of links.now) (from - 1) % rows ≡ number % rows }
+    ensures { result ≡ last_before (has_number (numbers_of links.now) number) from }
+{
+    let mut at = from;
+    while at > 0 {
+        let link = links[at as usize - 1];
+        if link.number == number {
+            return at;
+        }
+        at = link.before;
+    }
+    0
+}
+
+impl HashIndex {
+    /// No places.
+    pub(crate) fn new(alloc: Global) -> Self
+        ensures { result.numbers ≡ [] }
+    {
+        HashIndex {
+            links: Vec::new(alloc),
+            last: Vec::new(alloc),
+            alloc,
+        }
+    }
+
+    /// The last place with a number, counted from 1; 0 where there is none.
+    pub(crate) fn last(&self, number: u32) -> u32
+        ensures { result ≡ last_before (has_number self.now.numbers number) (length self.now.numbers) }
+    {
+        if self.last.is_empty() {
+            return 0;
+        }
+        let rows = self.last.len();
+        let from = self.last[number as usize % rows];
+        along(&self.links, rows, from, number)
+    }
+
+    /// The last place before this one with the same number, counted from 1; 0 where there is none.
+    pub(crate) fn before(&self, place: usize) -> u32
+        requires { place < length self.now.numbers }
+        ensures { result ≡ last_before (has_number self.now.numbers (slice_index self.now.numbers place)) place }
+    {
+        let link = self.links[place];
+        along(&self.links, self.last.len(), link.before, link.number)
+    }
+
+    /// Makes room for one more number.
+    pub(crate) fn reserve(&mut self) -> Result<(), AllocError>
+        ensures numbers { self.new.numbers ≡ self.old.numbers }
+        ensures room { OnOk result (0 < self.new.spare) }
+    {
+        if self.links.len() < places_for(self.last.len()) {
+            return self.links.reserve(1);
+        }
+        let rows = self.last.len().max(FEWEST_ROWS / 2);
+        if rows > MOST_ROWS / 2 {
+            return Err(AllocError);
+        }
+        *self = HashIndex::with_rows(self.alloc, 2 * rows, &self.links)?;
+        Ok(())
+    }
+
+    /// The places of these numbers in so many rows.
+    fn with_rows(alloc: Global, rows: usize, links: &[Link]) -> Result<Self, AllocError>
+        requires few { rows ≤ MOST_ROWS }
+        requires within { length links.now < rows }
+        ensures { IfOk result (λ places. (places.numbers ≡ numbers_of links.now) × (0 < places.spare)) }
+    {
+        let mut places = HashIndex {
+            links: Vec::with_capacity(alloc, links.len() + 1)?,
+            last: vec![in alloc; 0; rows]?,
+            alloc,
+        };
+        for link in links {
+            places.push(link.number);
+        }
+        Ok(places)
+    }
+
+    /// Keeps one more number, for which there is room.
+    pub(crate) fn push(&mut self, number: u32)
+        requires { 0 < self.old.spare }
+        ensures numbers { self.new.numbers ≡ self.old.numbers ++ number ∷ [] }
+        ensures spare { self.old.spare ≤ self.new.spare + 1 }
+    {
+        let row = number as usize % self.last.len();
+        let before = self.last[row];
+        let _ = self.links.push(Link { number, before });
+        self.last[row] = self.links.len() as u32;
+    }
+}
