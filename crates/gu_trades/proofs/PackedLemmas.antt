@@ -3,7 +3,7 @@ use Rattle.std.proofs.Common.{◌≡◌, ℕ, suc, ◌+◌, ◌≤◌, List, [],
 use Rattle.std.proofs.lemmas.List.{append_assoc, drop-append-le, length-append, length-drop, map-append, take-append-le, take_all}
 use Rattle.std.proofs.lemmas.List.Elements.{All-push}
 use Rattle.std.proofs.Math.Seq.{drop-append_seam, drop-append-add, take-append_seam}
-use Rattle.gu_terms.specs.KeptEntries.{text_at}
+use Rattle.gu_terms.specs.PackedEntries.{text_at}
 use Rattle.gu_terms.specs.Names.{IsId}
 use Rattle.gu_terms.specs.declared.firm.FirmId.{FirmId}
 use Rattle.gu_trades.specs.PackedReports.{IsWithin, match_id_of, own_id, report_of_kept}

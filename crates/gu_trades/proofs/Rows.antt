@@ -5,7 +5,7 @@ use Rattle.std.proofs.lemmas.List.{get_or_append_left, get_or_push, get_or-map, 
 use Rattle.std.specs.Prelude.{slice_index}
 use Rattle.gu_trades.specs.Numbered.{has_number, last_before}
 use Rattle.gu_trades.specs.HashIndex.{EndsRows, IsLinked, is_in_row, numbers_of}
-use Rattle.gu_trades.specs.declared.places.Link.{Link}
+use Rattle.gu_trades.specs.declared.hash_index.Link.{Link}
 
 -- ---- the last place that passes a test
 

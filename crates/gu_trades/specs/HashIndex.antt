@@ -1,6 +1,6 @@
 -- Machinery: places of a list, found by numbers that are kept of its elements.
 use Rattle.std.specs.Prelude.{◌≡◌, ℕ, ◌-◌, ◌%◌, ◌<◌, ◌≤◌, ◌==◌, min, Bool, List, length, map, slice_index, slice_index_or, vec_capacity}
-use Rattle.gu_trades.specs.declared.places.Link.{Link}
+use Rattle.gu_trades.specs.declared.hash_index.Link.{Link}
 use Rattle.gu_trades.specs.declared.hash_index.HashIndex.TheInside.{Inside}
 use Rattle.gu_trades.specs.Numbered.{Numbered, last_before}
 

@@ -1,6 +1,6 @@
 -- Machinery: reports as they are kept. The ids of all stand in one list of bytes, and of each report is known where its own stand there.
 use Rattle.std.specs.Prelude.{ℕ, ◌+◌, ◌≤◌, List, length}
-use Rattle.gu_terms.specs.KeptEntries.{text_at}
+use Rattle.gu_terms.specs.PackedEntries.{text_at}
 use Rattle.gu_terms.specs.Names.{IsId}
 use Rattle.gu_terms.specs.declared.report.Report.{Report}
 use Rattle.gu_trades.specs.Terms.{report_with}

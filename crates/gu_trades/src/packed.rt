@@ -1,7 +1,7 @@
 //! A report as it is kept: without the room that its ids leave empty.
 
 ghost use Rattle.std.specs.Prelude.{◌≡◌, ◌+◌, ◌≤◌, length};
-ghost use Rattle.gu_terms.specs.KeptEntries.{text_at};
+ghost use Rattle.gu_terms.specs.PackedEntries.{text_at};
 ghost use Rattle.gu_terms.specs.Names.{IsId};
 ghost use Rattle.gu_trades.specs.PackedReports.{match_id_of, own_id, report_of_kept, IsWithin};
 

@@ -6,7 +6,7 @@ use Rattle.std.specs.Str.{bytes_eq}
 use Rattle.std.proofs.lemmas.Bool.Decides.{Decides-and, Decides-eqb}
 use Rattle.std.proofs.lemmas.Slice.Eq.{bytes_eq-Decides, slice_eq-Decides}
 use Rattle.gu_terms.proofs.KeyLemmas.{eq, eq-Decides}
-use Rattle.gu_view.specs.contracts.view.OfferPartialEq.TheImpl as offer
+use Rattle.gu_view.specs.contracts.view.ViewOfferPartialEq.TheImpl as offer
 use Rattle.gu_view.specs.contracts.view.RoomPartialEq.TheImpl as room
 use Rattle.gu_view.specs.declared.view.ViewOffer.{ViewOffer}
 use Rattle.gu_view.specs.declared.view.Room.{Room}

@@ -1,5 +1,5 @@
 use Rattle.std.proofs.Common.{◌∙◌, arith}
-use Rattle.gu_trades.specs.declared.places.Link.{Link}
+use Rattle.gu_trades.specs.declared.hash_index.Link.{Link}
 use Rattle.gu_trades.proofs.Rows.{step-back}
 use Rattle.gu_trades.proofs.hash_index.along.Goals as goal
 

@@ -3,7 +3,7 @@ use Rattle.std.proofs.lemmas.Bool.{eqb-false}
 use Rattle.std.proofs.lemmas.List.{length-map}
 use Rattle.gu_trades.specs.Numbered.{Numbered, has_number, last_before}
 use Rattle.gu_trades.specs.HashIndex.{IsHashIndex, is_in_row, numbers_of}
-use Rattle.gu_trades.specs.declared.places.Link.{Link}
+use Rattle.gu_trades.specs.declared.hash_index.Link.{Link}
 use Rattle.gu_trades.specs.declared.hash_index.HashIndex.TheInside.{Inside}
 use Rattle.gu_trades.proofs.Rows.{end-start, found-along, start-row, start-within}
 use Rattle.gu_trades.proofs.hash_index.HashIndex.last.Goals as goal
