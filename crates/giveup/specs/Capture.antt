@@ -8,8 +8,8 @@ use Rattle.gu_terms.specs.declared.firm.FirmId.{FirmId}
 use Rattle.gu_terms.specs.declared.entry.Entry.TheVariants.{Asked}
 use Rattle.gu_terms.specs.declared.reply.Done.TheVariants.{Opened}
 use Rattle.gu_terms.specs.declared.reply.Reply.TheVariants.{Accepted}
-use Rattle.gu_book.specs.Answer.{answer}
-use Rattle.gu_book.specs.BookState.{BookState}
+use Rattle.gu_rules.specs.Answer.{answer}
+use Rattle.gu_rules.specs.BookState.{BookState}
 use Rattle.gu_fix.specs.Encoding.{message_of}
 use Rattle.gu_fix.specs.Fields.{HasFields}
 use Rattle.gu_fix.specs.Stream.{AreFrames}

@@ -3,8 +3,8 @@ use Rattle.std.specs.Prelude.{ℕ, ◌==◌, ◌&&◌, [], List, if◌then◌els
 use Rattle.std.specs.List.{flat_map}
 use Rattle.gu_terms.specs.declared.account.AccountId.{AccountId}
 use Rattle.gu_terms.specs.declared.symbol.Symbol.{Symbol}
-use Rattle.gu_book.specs.BookState.{BookState}
-use Rattle.gu_book.specs.Positions.{long_of, short_of}
+use Rattle.gu_rules.specs.BookState.{BookState}
+use Rattle.gu_rules.specs.Positions.{long_of, short_of}
 use Rattle.gu_text.specs.Rows.{position_text}
 
 -- a position's line, or nothing where the account holds nothing of the instrument

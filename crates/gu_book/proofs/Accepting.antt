@@ -1,5 +1,5 @@
 -- What is kept beside a history takes accepted commands in.
-use Rattle.std.proofs.Common.{◌≡◌, ℕ, zero, suc, ◌+◌, ◌*◌, ◌-◌, ◌<◌, ◌≤◌, ◌&&◌, ◌++◌, Bool, true, false, List, [], ◌∷◌, length, slice_index_or, Option, None, Some, unwrap_or, Result, Ok, Err, refl, sym, ap, ◌∙◌, arith, subst}
+use Rattle.std.proofs.Common.{◌≡◌, ℕ, zero, suc, ◌+◌, ◌*◌, ◌-◌, ◌<◌, ◌≤◌, ◌&&◌, ◌++◌, true, false, List, [], ◌∷◌, length, slice_index_or, Option, None, Some, unwrap_or, Result, Ok, Err, refl, sym, ap, ◌∙◌, arith, subst}
 use Rattle.std.specs.Result.{OnOk}
 use Rattle.std.specs.Option.{option_map}
 use Rattle.std.proofs.lemmas.Option.{none-some}
@@ -15,42 +15,39 @@ use Rattle.gu_terms.specs.declared.entry.Entry.{Entry}
 use Rattle.gu_terms.specs.declared.firm.FirmId.{FirmId}
 use Rattle.gu_terms.specs.declared.limit_key.LimitKey.{LimitKey}
 use Rattle.gu_terms.specs.declared.offer.Offer.{Offer}
-use Rattle.gu_terms.specs.declared.refusal.Refusal.{Refusal}
-use Rattle.gu_terms.specs.declared.reply.Done.{Done}
-use Rattle.gu_terms.specs.declared.reply.Reply.TheVariants.{Accepted}
 use Rattle.gu_terms.specs.declared.report.Report.{Report}
 use Rattle.gu_terms.specs.declared.side.Side.{Side}
 use Rattle.gu_terms.specs.declared.side.Side.TheVariants.{Buy, Sell}
 use Rattle.gu_terms.specs.declared.symbol.Symbol.{Symbol}
 use Rattle.gu_ref.specs.Tables.{Tables}
-use Rattle.gu_trades.specs.Reports.{report_by}
 use Rattle.gu_limits.specs.Limits.{room_in, used_in}
+use Rattle.gu_trades.specs.Reports.{report_by}
+use Rattle.gu_trades.specs.Terms.{terms_of}
+use Rattle.gu_trades.specs.declared.terms.Terms.{Terms}
 use Rattle.gu_offers.specs.Changes.{changed, closed, reversed, taken}
 use Rattle.gu_offers.specs.Rows.{Row, left_in, row_at, today_in}
 use Rattle.gu_positions.specs.Changes.{lots_at}
 use Rattle.gu_positions.specs.Rows.{lots_in}
-use Rattle.gu_trades.specs.Terms.{terms_of}
-use Rattle.gu_trades.specs.declared.terms.Terms.{Terms}
+use Rattle.gu_rules.specs.Answer.{State, answer, answer_in, state_of}
+use Rattle.gu_rules.specs.Limits.{is_under, path_after, room_of}
+use Rattle.gu_rules.specs.Offers.{offers_of, standing_of}
+use Rattle.gu_rules.specs.Reports.{reports_of}
+use Rattle.gu_rules.proofs.ChangedPositions.{held_in-has, held_in-moved}
+use Rattle.gu_rules.proofs.ChangedSums.{today-le-use_in}
+use Rattle.gu_rules.proofs.Covered.{covered-taken}
+use Rattle.gu_rules.proofs.Facts.{IsThere, claimable, refusable, reversible, today-is}
+use Rattle.gu_rules.proofs.InOrder.{in_order}
+use Rattle.gu_rules.proofs.OrderlyLemmas.{today-le-moved}
+use Rattle.gu_rules.proofs.Spoken.{either-true, taken_back}
+use Rattle.gu_rules.proofs.StandingLemmas.{length-standing_from}
+use Rattle.gu_rules.proofs.Takers.{TakesOne, claim-takes, claimed}
 use Rattle.gu_book.specs.Accepted.{MayClaim, MayReverse, TakesIn}
-use Rattle.gu_book.specs.Answer.{State, answer, answer_in, first_standing, state_of}
 use Rattle.gu_book.specs.Beside.{IsBeside, IsKept, state_in}
 use Rattle.gu_book.specs.Effects.{HoldsMoved, SameEntries, UsesLess, UsesMore, UsesUnder}
-use Rattle.gu_book.specs.Limits.{is_under, path_after, room_of}
-use Rattle.gu_book.specs.Offers.{offers_of, standing_of}
-use Rattle.gu_book.specs.Reports.{reports_of}
 use Rattle.gu_book.specs.Met.{IsMetOffer}
 use Rattle.gu_book.specs.declared.met.MetOffer.{MetOffer}
 use Rattle.gu_book.specs.declared.totals.Totals.{Totals}
-use Rattle.gu_book.proofs.ChangedPositions.{held_in-has, held_in-moved}
-use Rattle.gu_book.proofs.ChangedSums.{today-le-use_in}
-use Rattle.gu_book.proofs.Covered.{covered-taken}
-use Rattle.gu_book.proofs.Facts.{IsThere, claimable, refusable, reversible, today-is}
-use Rattle.gu_book.proofs.InOrder.{in_order}
 use Rattle.gu_book.proofs.KeptOffers.{kept-refused, kept-taken, kept-taken_back, within-taken}
-use Rattle.gu_book.proofs.OrderlyLemmas.{today-le-moved}
-use Rattle.gu_book.proofs.Spoken.{either-true, taken_back}
-use Rattle.gu_book.proofs.StandingLemmas.{length-standing_from}
-use Rattle.gu_book.proofs.Takers.{TakesOne, claim-takes, claimed}
 
 -- what follows from two facts of a result, and from three
 pub on_ok_two : {T E P Q R : Type 0} (r : Result T E) → (P → Q → R) → OnOk r P → OnOk r Q → OnOk r R
@@ -76,12 +73,6 @@ state_is reference history totals b =
 pub answer_is : (reference : Tables) (history : List Entry) (totals : Totals) (command : Command) → IsBeside reference history totals
     → answer_in reference (state_in totals) command ≡ answer reference history command
 answer_is reference history totals command b = ap (λ (s : State). answer_in reference s command) (state_is reference history totals b)
-
--- an accepted command did what it does where no test stands
-pub accepted-done : (tests : List (Bool × Refusal)) (done given : Done) → first_standing tests done ≡ Accepted given → first_standing tests done ≡ Accepted done
-accepted-done [] done given e = refl
-accepted-done ((true, why) ∷ tests) done given e = cc
-accepted-done ((false, why) ∷ tests) done given e = accepted-done tests done given e
 
 -- there are 16 offers an entry at most
 pub few_offers : (reference : Tables) (history : List Entry) (totals : Totals) → IsKept reference history totals → length totals.offers ≤ 16 * length history

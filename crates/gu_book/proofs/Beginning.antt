@@ -1,44 +1,30 @@
 -- What is kept beside no history, and after what was refused.
-use Rattle.std.proofs.Common.{◌≡◌, true, false, ◌<◌, ◌++◌, List, [], ◌∷◌, length, None, refl, sym, ap, ◌∙◌, arith, subst}
+use Rattle.std.proofs.Common.{◌≡◌, true, false, ◌<◌, ◌++◌, List, [], ◌∷◌, length, None, sym, ap, ◌∙◌, arith, subst}
 use Rattle.gu_terms.specs.declared.command.Command.{Command}
 use Rattle.gu_terms.specs.declared.entry.Entry.{Entry}
 use Rattle.gu_terms.specs.declared.entry.Entry.TheVariants.{Asked}
 use Rattle.gu_terms.specs.declared.group.Group.{Group}
-use Rattle.gu_terms.specs.declared.reply.Done.{Done}
 use Rattle.gu_terms.specs.declared.reply.Reply.{Reply}
-use Rattle.gu_terms.specs.declared.reply.Reply.TheVariants.{Accepted, Denied}
-use Rattle.gu_terms.specs.declared.refusal.Refusal.{Refusal}
 use Rattle.gu_terms.specs.declared.side.Side.TheVariants.{Buy, Sell}
 use Rattle.gu_ref.specs.Tables.{Tables}
 use Rattle.gu_limits.specs.Limits.{GroupLimit, has_limit, limit_in, used_in}
 use Rattle.gu_positions.specs.Rows.{Row as PositionRow, has_row, lots_in, lots_on}
-use Rattle.gu_book.specs.Accepted.{IsAccepted, TakesIn, accepts}
-use Rattle.gu_book.specs.Answer.{answer, done_of, state_of, tests_of}
-use Rattle.gu_book.specs.Beside.{IsAccounted, IsKept, IsKeptLegal, IsShown, is_kept_give_up}
+use Rattle.gu_rules.specs.Legal.{accepts}
+use Rattle.gu_rules.specs.Answer.{answer}
+use Rattle.gu_rules.specs.Orderly.{IsShown}
+use Rattle.gu_rules.specs.Offers.{standing_of}
+use Rattle.gu_rules.proofs.Growing.{legal_push}
+use Rattle.gu_rules.proofs.InOrder.{in_order, nothing-orderly}
+use Rattle.gu_rules.proofs.StillShown.{shown-accepted}
+use Rattle.gu_rules.proofs.AcceptedCommands.{is-accepted, refused}
+use Rattle.gu_book.specs.Accepted.{TakesIn}
+use Rattle.gu_book.specs.Beside.{IsAccounted, IsKept, IsKeptLegal, is_kept_give_up}
 use Rattle.gu_book.specs.Counted.{AreVersions, version_in}
 use Rattle.gu_book.specs.Effects.{SameAnswers}
-use Rattle.gu_book.specs.Offers.{standing_of}
-use Rattle.gu_book.specs.Orderly.{IsOrderly}
 use Rattle.gu_book.specs.declared.totals.GiveUpKey.{GiveUpKey}
 use Rattle.gu_book.specs.declared.totals.Totals.{Totals}
 use Rattle.gu_book.specs.declared.versions.Versions.{Versions}
-use Rattle.gu_book.proofs.Accepting.{accepted-done}
-use Rattle.gu_book.proofs.Growing.{legal_push}
-use Rattle.gu_book.proofs.InOrder.{in_order}
-use Rattle.gu_book.proofs.Quiet.{kept-denied}
-use Rattle.gu_book.proofs.StillShown.{shown-accepted}
-
--- nothing is orderly
-pub nothing-orderly : IsOrderly []
-nothing-orderly = record {
-  balanced = record { all = λ n. omega arith; today = λ n. omega arith; within = λ n. omega arith };
-  named = record { takes = λ n beyond. refl; today = λ n beyond. refl; closed = λ n beyond. refl };
-  covered = tt;
-  found = tt;
-  within = tt;
-  own = tt;
-  few = omega arith;
-}
+use Rattle.gu_book.proofs.KeptQuiet.{kept-denied}
 
 -- what is kept beside no history
 pub nothing-kept : (reference : Tables) (totals : Totals) (versions : Versions) → totals.today ≡ None → totals.trades ≡ [] → totals.offers ≡ [] → totals.give_ups.keys ≡ [] → totals.limits ≡ [] → totals.positions ≡ []
@@ -87,22 +73,6 @@ still-kept reference history old new kept same =
         sums = λ side symbol. omega (arith, same.positions.sums side symbol, b.sums side symbol);
       };
     }
-
--- a reply that accepts did something, and any other refused
-did : (reply : Reply) → accepts reply ≡ true → (done : Done) × (reply ≡ Accepted done)
-did (Accepted done) e = (done, refl)
-did (Denied why) e = cc
-
-refused : (reply : Reply) → accepts reply ≡ false → (why : Refusal) × (reply ≡ Denied why)
-refused (Denied why) e = (why, refl)
-refused (Accepted done) e = cc
-
--- a command whose answer accepts is accepted
-pub is-accepted : (reference : Tables) (history : List Entry) (command : Command) (reply : Reply) → length history < 1000000 → reply ≡ answer reference history command → accepts reply ≡ true
-    → IsAccepted reference history command
-is-accepted reference history command reply room is accepted =
-    let one = did reply accepted in
-    record { room = room; accepted = accepted-done (tests_of reference (state_of reference history) command) (done_of reference (state_of reference history) command) one.0 (sym is ∙ one.1) }
 
 -- a legal history grows by it
 pub legal-accepted : (reference : Tables) (history : List Entry) (old new : Totals) (before after : Versions) (command : Command) (reply : Reply) → IsKeptLegal reference history old before

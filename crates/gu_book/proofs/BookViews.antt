@@ -4,10 +4,10 @@ use Rattle.gu_terms.specs.declared.entry.Entry.{Entry}
 use Rattle.gu_terms.specs.declared.group.Group.{Group}
 use Rattle.gu_ref.specs.Tables.{Tables}
 use Rattle.gu_view.specs.View.{keys_of}
+use Rattle.gu_rules.specs.Views.{group_view, offers_in}
 use Rattle.gu_book.specs.Beside.{IsBeside}
 use Rattle.gu_book.specs.Counted.{AreVersions}
-use Rattle.gu_book.specs.Shown.{offers_in, view_in}
-use Rattle.gu_book.specs.Views.{group_view}
+use Rattle.gu_book.specs.Shown.{view_in}
 use Rattle.gu_book.specs.declared.totals.Totals.{Totals}
 use Rattle.gu_book.specs.declared.versions.Versions.{Versions}
 

@@ -9,23 +9,24 @@ use Rattle.gu_ref.specs.Tables.{Tables}
 use Rattle.gu_flow.specs.Proposals.{ProposedSweep}
 use Rattle.gu_view.specs.View.{GroupView}
 use Rattle.gu_view.specs.declared.view.ViewOffer.{ViewOffer}
-use Rattle.gu_book.specs.Beside.{IsAccounted, IsKeptLegal, IsShown}
+use Rattle.gu_rules.specs.Orderly.{IsShown}
+use Rattle.gu_rules.specs.BookState.{BookState}
+use Rattle.gu_rules.specs.Legal.{StandsLast}
+use Rattle.gu_rules.specs.Sweeps.{IsSweepOf, MaySweep}
+use Rattle.gu_rules.specs.Views.{offers_shown}
+use Rattle.gu_rules.proofs.Growing.{legal_push, stands_last}
+use Rattle.gu_book.specs.Beside.{IsAccounted, IsKeptLegal}
 use Rattle.gu_book.specs.Commits.{IsCurrent, sweep_of}
 use Rattle.gu_book.specs.Counted.{is_touched, version_in}
 use Rattle.gu_book.specs.Effects.{SameAnswers}
-use Rattle.gu_book.specs.BookState.{BookState}
-use Rattle.gu_book.specs.Legal.{StandsLast}
 use Rattle.gu_book.specs.Moving.{HasRows, MayMove, MovesAll}
-use Rattle.gu_book.specs.Sweeps.{IsSweepOf, MaySweep}
-use Rattle.gu_book.specs.Views.{offers_shown}
 use Rattle.gu_book.specs.declared.totals.Totals.{Totals}
 use Rattle.gu_book.specs.declared.versions.Touched.TheVariants.{Only}
 use Rattle.gu_book.specs.declared.versions.Versions.{Versions}
 use Rattle.gu_book.proofs.Beginning.{still-kept}
 use Rattle.gu_book.proofs.CountedLemmas.{versions-push, versions-same}
-use Rattle.gu_book.proofs.Growing.{legal_push, stands_last}
-use Rattle.gu_book.proofs.Parts.{kept-whole}
-use Rattle.gu_book.proofs.SweptOffers.{sweep-moves}
+use Rattle.gu_book.proofs.KeptParts.{kept-whole}
+use Rattle.gu_book.proofs.SweptMoves.{sweep-moves}
 
 -- the sweep of a current proposal may follow
 pub may-sweep : (book : BookState) (proposal : ProposedSweep) → IsCurrent book proposal.view → IsSweepOf proposal.view (sweep_of proposal) → MaySweep book.reference book.history (sweep_of proposal)

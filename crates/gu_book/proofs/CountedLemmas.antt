@@ -27,15 +27,15 @@ use Rattle.gu_terms.specs.declared.reply.Reply.TheVariants.{Accepted, Denied}
 use Rattle.gu_terms.specs.declared.report.Report.{Report}
 use Rattle.gu_ref.specs.Tables.{Tables}
 use Rattle.gu_offers.specs.Rows.{Row}
-use Rattle.gu_book.specs.Answer.{answer, done_of, given_up, state_of, tests_of}
+use Rattle.gu_rules.specs.Answer.{answer, done_of, given_up, state_of, tests_of}
+use Rattle.gu_rules.specs.Offers.{offers_of, standing_from, standing_of}
+use Rattle.gu_rules.specs.Versions.{is_of_group, touches}
+use Rattle.gu_rules.proofs.AcceptedCommands.{accepted-done}
+use Rattle.gu_rules.proofs.VersionLemmas.{version-le, version_of-push}
 use Rattle.gu_book.specs.Counted.{AreVersions, IsCountAt, group_after, group_named, is_touched, own_in, touched_by, touched_in, version_in}
-use Rattle.gu_book.specs.Offers.{offers_of, standing_from, standing_of}
-use Rattle.gu_book.specs.Versions.{is_of_group, touches}
 use Rattle.gu_book.specs.declared.versions.Touched.{Touched}
 use Rattle.gu_book.specs.declared.versions.Touched.TheVariants.{Nothing, Only}
 use Rattle.gu_book.specs.declared.versions.Versions.{Versions}
-use Rattle.gu_book.proofs.Accepting.{accepted-done}
-use Rattle.gu_book.proofs.VersionLemmas.{version-le, version_of-push}
 
 -- a group that is new was touched by none
 pub version_in-new : (old new : Versions) (group : Group) → new.days ≡ old.days → Updates same_group old.own new.own group (Some 0) → get same_group old.own group ≡ None

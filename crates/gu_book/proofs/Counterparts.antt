@@ -16,7 +16,7 @@ use Rattle.gu_trades.specs.Matching.{conflicts, have_other_sides, is_other_side,
 use Rattle.gu_trades.specs.Terms.{terms_of}
 use Rattle.gu_trades.specs.declared.counterpart.Counterpart.TheVariants.{Conflicting, Waiting}
 use Rattle.gu_trades.specs.declared.terms.Terms.{Terms}
-use Rattle.gu_book.specs.Answer.{first_standing}
+use Rattle.gu_rules.specs.Answer.{first_standing}
 use Rattle.gu_book.specs.Beside.{answer_to_match, waiting_of}
 use Rattle.gu_book.specs.Effects.{HoldsMore, made_a_trade}
 

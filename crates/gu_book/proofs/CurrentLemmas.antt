@@ -1,7 +1,7 @@
 -- A view is that of its group.
-use Rattle.std.proofs.Common.{◌≡◌, ℕ, ◌+◌, ◌<◌, ◌++◌, List, [], ◌∷◌, length, take, drop, get_or, Option, Some, None, refl, sym, ap, ◌∙◌, append_assoc, take-append-drop}
-use Rattle.std.specs.List.{cons_option, filter_map}
-use Rattle.std.specs.Option.{option_and_then, option_to_list}
+use Rattle.std.proofs.Common.{◌≡◌, ℕ, ◌+◌, ◌<◌, ◌++◌, List, [], ◌∷◌, length, take, drop, get_or, Option, sym, ap, ◌∙◌, append_assoc, take-append-drop}
+use Rattle.std.specs.List.{filter_map}
+use Rattle.std.specs.Option.{option_to_list}
 use Rattle.std.proofs.lemmas.List.{append_cancel_left, drop_more, take_more}
 use Rattle.std.proofs.lemmas.List.Elements.{filter_map-append}
 use Rattle.gu_terms.proofs.Gathered.{filter_map-last}
@@ -30,13 +30,3 @@ given-next {Y = Y} given items i d all rest others within so_far begins =
     ∙ ap (λ (ys : List Y). filter_map given (take i items) ++ ys) begins
     ∙ sym (append_assoc (filter_map given (take i items)) (option_to_list (given (get_or items i d))) others)
     ∙ ap (λ (ys : List Y). ys ++ others) (sym (ap (filter_map given) (take_more items i d within) ∙ filter_map-last given (take i items) (get_or items i d)))
-
--- what is shown of open offers is shown of their numbers
-pub shown-numbers : {X Y Z : Type 0} (f : X → Option Y) (g : Y → Option Z) (xs : List X) → filter_map g (filter_map f xs) ≡ filter_map (λ x. option_and_then g (f x)) xs
-shown-numbers f g [] = refl
-shown-numbers {Y = Y} {Z = Z} f g (x ∷ xs) = by (f x) (shown-numbers f g xs)
-  where
-    by : (given : Option Y) → filter_map g (filter_map f xs) ≡ filter_map (λ z. option_and_then g (f z)) xs
-        → filter_map g (cons_option given (filter_map f xs)) ≡ cons_option (option_and_then {U = Z} g given) (filter_map (λ z. option_and_then g (f z)) xs)
-    by None rest = rest
-    by (Some y) rest = ap (cons_option (g y)) rest

@@ -10,15 +10,14 @@ use Rattle.gu_limits.specs.Limits.{GroupLimit, room_in}
 use Rattle.gu_offers.specs.Rows.{Row, open_numbers, open_offer_at}
 use Rattle.gu_view.specs.View.{GroupView, IsView, keys_of}
 use Rattle.gu_view.specs.declared.view.Room.{Room}
+use Rattle.gu_rules.specs.Limits.{room_of}
+use Rattle.gu_rules.specs.Offers.{standing_of}
+use Rattle.gu_rules.specs.Views.{group_view, offers_shown, shown, shown_at}
+use Rattle.gu_rules.specs.Versions.{version_of}
+use Rattle.gu_rules.proofs.ViewLemmas.{shown-numbers}
 use Rattle.gu_book.specs.Beside.{IsBeside}
 use Rattle.gu_book.specs.Current.{HasRooms, ShowsAll}
-use Rattle.gu_book.specs.Limits.{room_of}
-use Rattle.gu_book.specs.Offers.{standing_of}
-use Rattle.gu_book.specs.Shown.{shown_at}
-use Rattle.gu_book.specs.Versions.{version_of}
-use Rattle.gu_book.specs.Views.{group_view, offers_shown, shown}
 use Rattle.gu_book.specs.declared.totals.Totals.{Totals}
-use Rattle.gu_book.proofs.CurrentLemmas.{shown-numbers}
 
 -- rooms, by their keys
 rooms-by-keys : (limits : List GroupLimit) (group : Group) (rooms : List Room) → AllByRecursion (λ (r : Room). r.lots ≡ room_in limits group r.key) rooms

@@ -8,22 +8,23 @@ use Rattle.gu_ref.specs.Tables.{Tables}
 use Rattle.gu_offers.specs.Changes.{changed, closed, reversed, taken}
 use Rattle.gu_offers.specs.Rows.{Row, row_at}
 use Rattle.gu_positions.specs.Changes.{lots_at}
-use Rattle.gu_book.specs.Beside.{IsKept}
+use Rattle.gu_rules.specs.Offers.{standing_of}
 use Rattle.gu_trades.specs.Terms.{terms_of}
+use Rattle.gu_rules.specs.Orderly.{AreWithin}
+use Rattle.gu_rules.specs.Reports.{open_day, reports_of}
+use Rattle.gu_rules.proofs.ChangedPositions.{held_in-closed, held_in-reversed, held_in-taken}
+use Rattle.gu_rules.proofs.ChangedSums.{use_in-closed, use_in-reversed, use_in-taken}
+use Rattle.gu_rules.proofs.Covered.{covered-taken}
+use Rattle.gu_rules.proofs.Facts.{IsThere}
+use Rattle.gu_rules.proofs.OrderlyLemmas.{all-changed, orderly-taken, orderly-refused, orderly-taken_back, today-le-moved}
+use Rattle.gu_rules.proofs.Quiet.{IsQuiet, unreported}
+use Rattle.gu_rules.proofs.Spoken.{refused, refused-others, refused-own, taken_back, taken_back-others, taken_back-own}
+use Rattle.gu_rules.proofs.Stepping.{standing_of-one}
+use Rattle.gu_rules.proofs.Takers.{TakesOne, takes-others, takes-own}
+use Rattle.gu_book.specs.Beside.{IsKept}
 use Rattle.gu_book.specs.Effects.{HoldsMoved, SameEntries, UsesLess, UsesMore}
-use Rattle.gu_book.specs.Offers.{standing_of}
-use Rattle.gu_book.specs.Orderly.{AreWithin}
-use Rattle.gu_book.specs.Reports.{open_day, reports_of}
 use Rattle.gu_book.specs.declared.totals.Totals.{Totals}
-use Rattle.gu_book.proofs.ChangedPositions.{held_in-closed, held_in-reversed, held_in-taken}
-use Rattle.gu_book.proofs.ChangedSums.{use_in-closed, use_in-reversed, use_in-taken}
-use Rattle.gu_book.proofs.Covered.{covered-taken}
-use Rattle.gu_book.proofs.Facts.{IsThere}
-use Rattle.gu_book.proofs.OrderlyLemmas.{all-changed, orderly-taken, orderly-refused, orderly-taken_back, today-le-moved}
-use Rattle.gu_book.proofs.Quiet.{IsQuiet, beside-quiet, unreported}
-use Rattle.gu_book.proofs.Spoken.{refused, refused-others, refused-own, taken_back, taken_back-others, taken_back-own}
-use Rattle.gu_book.proofs.Stepping.{standing_of-one}
-use Rattle.gu_book.proofs.Takers.{TakesOne, takes-others, takes-own}
+use Rattle.gu_book.proofs.KeptQuiet.{beside-quiet}
 
 -- the entries open no day, report nothing, give nothing up and set no limit
 quiet-taken : (history : List Entry) (entry : Entry) (n lots : ℕ) → TakesOne entry n lots → IsQuiet history entry

@@ -1,7 +1,7 @@
 -- The accounts of reports, offers and positions are in the reference.
-use Rattle.std.proofs.Common.{◌≡◌, ℕ, zero, suc, ◌++◌, Bool, true, false, List, [], ◌∷◌, map, filter, slice_get, if◌then◌else◌, Option, Some, None, Result, Ok, Err, is_none, is_some, refl, sym, ap, ◌∙◌, subst, inl, inr}
+use Rattle.std.proofs.Common.{◌≡◌, ℕ, zero, suc, ◌++◌, Bool, true, false, List, [], ◌∷◌, map, slice_get, Option, Some, None, Result, Ok, Err, is_none, refl, sym, ap, ◌∙◌, subst, inl, inr}
 use Rattle.std.specs.Result.{OnErr, OnOk}
-use Rattle.std.specs.List.{AllByRecursion, find, list_any}
+use Rattle.std.specs.List.{AllByRecursion, list_any}
 use Rattle.std.specs.Option.{option_map, option_map_or}
 use Rattle.std.proofs.lemmas.Bool.{cases_Bool}
 use Rattle.gu_terms.proofs.SameNames.{same_account-true}
@@ -25,47 +25,21 @@ use Rattle.gu_terms.proofs.Lists.{any_none}
 use Rattle.gu_ref.specs.Reference.{account_row}
 use Rattle.gu_ref.specs.Tables.{Tables}
 use Rattle.gu_trades.specs.Reports.{is_by, report_by, report_of, with_match}
+use Rattle.gu_trades.specs.declared.terms.Terms.{Terms}
 use Rattle.gu_offers.specs.Changes.{changed, next_day, offered, with_lines}
 use Rattle.gu_offers.specs.Rows.{Row, row_at}
 use Rattle.gu_positions.specs.Rows.{Row as PositionRow, has_row}
-use Rattle.gu_trades.specs.declared.terms.Terms.{Terms}
+use Rattle.gu_rules.specs.Answer.{done_of, has_unknown_account, report_tests, state_of, tests_of}
+use Rattle.gu_rules.specs.Reports.{open_day, reports_of}
+use Rattle.gu_rules.proofs.OrderedReports.{all-push}
+use Rattle.gu_rules.proofs.OrderlyLemmas.{all-at, all-changed}
+use Rattle.gu_rules.proofs.Passing.{none_stands}
+use Rattle.gu_rules.proofs.KnownOnes.{all-found, all-passing, is_there, some-not-none}
 use Rattle.gu_book.specs.Accepted.{MayTakeIn}
-use Rattle.gu_book.specs.Answer.{done_of, has_unknown_account, report_tests, state_of, tests_of}
 use Rattle.gu_book.specs.Beside.{IsAccounted}
 use Rattle.gu_book.specs.Effects.{IsEven, OnlyRowsOf, SameAnswers}
-use Rattle.gu_book.specs.Reports.{open_day, reports_of}
 use Rattle.gu_book.specs.declared.totals.Totals.{Totals}
 use Rattle.gu_book.proofs.Accepting.{IsSeen, some-terms}
-use Rattle.gu_book.proofs.KeptReports.{all-push}
-use Rattle.gu_book.proofs.OrderlyLemmas.{all-at, all-changed}
-use Rattle.gu_book.proofs.Passing.{none_stands}
-
--- an account is in the reference
-abbrev pub is_there : Tables → AccountId → Type 0
-is_there reference account = is_some (account_row reference account) ≡ true
-
--- what holds of each holds of the one that is found
-pub all-found : {X : Type 0} (P : X → Type 0) (test : X → Bool) (xs : List X) (x : X) → AllByRecursion P xs → find test xs ≡ Some x → P x
-all-found P test [] x all is = cc
-all-found {X} P test (first ∷ xs) x all is =
-    elim (cases_Bool (test first)) [
-      | inl hit ↦
-          let here : Some first ≡ Some x = sym (rw hit refl) ∙ is in
-          let same : first ≡ x = cc in
-          subst P same all.0
-      | inr miss ↦
-          let there : find test xs ≡ Some x = sym (rw miss refl) ∙ is in
-          all-found P test xs x all.1 there
-    ]
-
--- and of those that pass a test
-pub all-passing : {X : Type 0} (P : X → Type 0) (test : X → Bool) (xs : List X) → AllByRecursion P xs → AllByRecursion P (filter test xs)
-all-passing P test [] all = tt
-all-passing {X} P test (x ∷ xs) all = by (test x) (all-passing P test xs all.1)
-  where
-    by : (b : Bool) → AllByRecursion P (filter test xs) → AllByRecursion P (if b then x ∷ filter test xs else filter test xs)
-    by true rest = (all.0, rest)
-    by false rest = rest
 
 -- rows of such accounts alone are made
 pub rows-known : (reference : Tables) (old new : List PositionRow) (accounts : List AccountId) → ((account : AccountId) (symbol : Symbol) → has_row old account symbol ≡ true → is_there reference account)
@@ -152,10 +126,6 @@ known-opened reference old new trades offers positions known = record {
     all : (rows : List Row) → AllByRecursion (λ (o : Row). is_there reference o.offer.account) rows → AllByRecursion (λ (o : Row). is_there reference o.offer.account) (map next_day rows)
     all [] h = tt
     all (row ∷ rows) h = (h.0, all rows h.1)
-
-pub some-not-none : {X : Type 0} (found : Option X) → is_none found ≡ false → is_some found ≡ true
-some-not-none None e = cc
-some-not-none (Some x) e = refl
 
 -- a report
 pub known-reported : {T E : Type 0} (reference : Tables) (firm : FirmId) (id match_id : Id) (symbol : Symbol) (lots : Lots) (price : Price) (given : Option Day) (side : Side) (account : AccountId) (day : Day) (old new : Totals) (r : Result T E)

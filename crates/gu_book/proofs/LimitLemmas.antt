@@ -11,14 +11,10 @@ use Rattle.gu_terms.specs.declared.limit_row.LimitRow.{LimitRow}
 use Rattle.gu_terms.proofs.Gathered.{filter_map-last}
 use Rattle.gu_ref.specs.Tables.{Tables}
 use Rattle.gu_limits.specs.Limits.{GroupLimit, has_limit, limit_in, row_in, used_in}
+use Rattle.gu_rules.specs.BookState.{BookState}
+use Rattle.gu_rules.specs.Limits.{keys_in_order, limit_of, limit_row, limit_rows, limit_set, use_of}
 use Rattle.gu_book.specs.Beside.{IsBeside}
-use Rattle.gu_book.specs.BookState.{BookState}
-use Rattle.gu_book.specs.Limits.{keys_in_order, limit_of, limit_row, limit_rows, limit_set, use_of}
 use Rattle.gu_book.specs.declared.totals.Totals.{Totals}
-
--- a limit that wasn't set
-pub limit_row-unset : (reference : Tables) (history : List Entry) (group : Group) (key : LimitKey) → limit_set history group key ≡ None → limit_row reference history group key ≡ None
-limit_row-unset reference history group key e = rw e refl
 
 -- what is kept of a limit is the limit as it stands
 pub row_in-is : (reference : Tables) (history : List Entry) (limits : List GroupLimit) (group : Group) (key : LimitKey)

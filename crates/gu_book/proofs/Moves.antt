@@ -1,8 +1,7 @@
 -- The takes of a sweep, moved one after another.
-use Rattle.std.proofs.Common.{◌≡◌, ◌≢◌, ℕ, zero, suc, ◌+◌, ◌<◌, ◌≤◌, ◌++◌, ◌||◌, Bool, true, false, List, [], ◌∷◌, length, take, get_or, slice_index_or, Option, Some, None, Ok, IfSome, is_none, is_some, refl, sym, ap, ◌∙◌, arith, append-nil, append_assoc, subst}
+use Rattle.std.proofs.Common.{◌≡◌, ℕ, ◌+◌, ◌<◌, ◌≤◌, ◌++◌, ◌||◌, Bool, true, false, List, [], ◌∷◌, length, take, get_or, slice_index_or, Option, Some, None, Ok, IfSome, is_some, refl, sym, ap, ◌∙◌, arith, append-nil, append_assoc, subst}
 use Rattle.std.specs.List.{AllByRecursion, list_any}
 use Rattle.std.specs.Option.{option_and_then, option_map, option_map_or}
-use Rattle.std.specs.Prelude.{slice_get, slice_set}
 use Rattle.std.proofs.lemmas.List.{map-append, take_more}
 use Rattle.std.proofs.lemmas.List.Sums.{sum_by-cons}
 use Rattle.gu_terms.proofs.Lists.{along, along2}
@@ -18,32 +17,34 @@ use Rattle.gu_terms.specs.declared.side.Side.TheVariants.{Buy, Sell}
 use Rattle.gu_terms.specs.declared.takes.Take.{Take}
 use Rattle.gu_ref.specs.Reference.{account_row}
 use Rattle.gu_ref.specs.Tables.{Tables}
+use Rattle.gu_limits.specs.Changes.{lots_under}
+use Rattle.gu_limits.specs.Limits.{room_in}
 use Rattle.gu_trades.specs.Reports.{is_by, report_by}
 use Rattle.gu_trades.specs.Terms.{terms_of}
 use Rattle.gu_trades.specs.declared.terms.Terms.{Terms}
-use Rattle.gu_limits.specs.Changes.{lots_under}
-use Rattle.gu_limits.specs.Limits.{room_in}
 use Rattle.gu_offers.specs.Changes.{changed, taken}
 use Rattle.gu_offers.specs.Rows.{Row, left_in, left_of, row_at}
 use Rattle.gu_positions.specs.Changes.{KeepsRows}
 use Rattle.gu_positions.specs.Rows.{has_row, lots_in}
 use Rattle.gu_view.specs.View.{offer_of}
 use Rattle.gu_view.specs.declared.view.ViewOffer.{ViewOffer as ShownOffer}
-use Rattle.gu_book.specs.Beside.{IsAccounted, IsKept, IsShown}
+use Rattle.gu_rules.specs.Orderly.{IsShown}
+use Rattle.gu_rules.specs.Limits.{path_after}
+use Rattle.gu_rules.specs.Sweeps.{part, parts}
+use Rattle.gu_rules.specs.Positions.{report_after}
+use Rattle.gu_rules.proofs.Facts.{IsThere, open-there, row_at-other, there}
+use Rattle.gu_rules.proofs.InOrder.{in_order}
+use Rattle.gu_rules.proofs.OrderedReports.{all-push}
+use Rattle.gu_rules.proofs.KnownOnes.{all-found}
+use Rattle.gu_rules.proofs.OrderlyLemmas.{all-at}
+use Rattle.gu_rules.proofs.ShownLemmas.{shown-taken}
+use Rattle.gu_rules.proofs.Takers.{part-takes}
+use Rattle.gu_book.specs.Beside.{IsAccounted, IsKept}
 use Rattle.gu_book.specs.Effects.{HoldsMoved, KeepsMade, OnlyRowsOf, SameAnswers, SameEntries, UsesMore}
-use Rattle.gu_book.specs.Limits.{path_after}
-use Rattle.gu_book.specs.Moving.{HasRows, MayMove, MovesAll, MovesOne, ShowsPath, given_by, lots_used, part, parts}
-use Rattle.gu_book.specs.Offers.{standing_of}
-use Rattle.gu_book.specs.Positions.{report_after}
+use Rattle.gu_book.specs.Moving.{HasRows, MayMove, MovesAll, MovesOne, ShowsPath, given_by, lots_used}
 use Rattle.gu_book.specs.declared.totals.Totals.{Totals}
 use Rattle.gu_book.proofs.Accepting.{IsSeen, key_at, lots-taken, seen-is, some-terms, taken-there}
-use Rattle.gu_book.proofs.Facts.{IsThere, open-left, left-is, there}
-use Rattle.gu_book.proofs.InOrder.{IsInOrder, in_order}
-use Rattle.gu_book.proofs.KeptReports.{all-push}
-use Rattle.gu_book.proofs.KnownAccounts.{all-found, known-moved, rows-known, seen-row}
-use Rattle.gu_book.proofs.OrderlyLemmas.{all-at}
-use Rattle.gu_book.proofs.ShownLemmas.{shown-taken}
-use Rattle.gu_book.proofs.Takers.{apart, part-takes}
+use Rattle.gu_book.proofs.KnownAccounts.{known-moved, rows-known, seen-row}
 
 -- ---- what is found
 
@@ -68,21 +69,6 @@ given-seen totals n offer report is = by (row_at totals.offers n) refl is
               shown = ap (λ (o : Offer). Some o) offers ∙ ap (λ (o : Option Row). option_map (λ (q : Row). q.offer) o) (sym e);
               found = ap (λ (q : Terms). Some q) reports ∙ ap (option_map terms_of) (sym f ∙ (λ i. report_by totals.trades (sym offers i).firm (sym offers i).report));
             }
-
--- an open offer of a history in order is there
-pub open-there : (history : List Entry) (n : ℕ) → IsInOrder history → 0 < left_in (standing_of history) n
-    → (row : Row) × (report : Report) × IsThere history n row report × (row.is_shut ≡ false) × (row.moved + left_in (standing_of history) n ≤ row.offer.lots)
-open-there history n o some =
-    let found = there history n o (is_there (row_at (standing_of history) n) some) in
-    let row = found.0 in
-    let it = found.2 in
-    let left = left_in (standing_of history) n in
-    let opens = open-left row left it.within (left-is (standing_of history) n row it.at) (apart left 0 (λ none. absurd (omega (arith, some, none)))) in
-    (row, found.1, it, opens.0, opens.1)
-  where
-    is_there : (found : Option Row) → 0 < option_map_or left_of found 0 → is_none found ≡ false
-    is_there None h = absurd (omega (arith, h))
-    is_there (Some row) h = refl
 
 -- and found by what is kept
 pub found-there : (reference : Tables) (history : List Entry) (totals : Totals) (n : ℕ) → IsKept reference history totals → 0 < left_in totals.offers n
@@ -247,23 +233,6 @@ moves-one reference old new shown one_take offer report is may same offers uses 
         either-first false c h = cc
 
 -- ---- one take after another
-
--- a take of another offer leaves an offer as it is
-pub row_at-other : (rows : List Row) (n m : ℕ) (change : Row → Row) → m ≢ n → row_at (changed rows n change) m ≡ row_at rows m
-row_at-other rows zero m change differ = refl
-row_at-other rows (suc place) zero change differ = refl
-row_at-other rows (suc place) (suc other) change differ = by (slice_get rows place) refl
-  where
-    elsewhere : (rows : List Row) (place other : ℕ) (row : Row) → other ≢ place → slice_get (slice_set rows place row) other ≡ slice_get rows other
-    elsewhere [] place other row differ = refl
-    elsewhere (first ∷ rows) zero zero row differ = absurd (differ refl)
-    elsewhere (first ∷ rows) zero (suc other) row differ = refl
-    elsewhere (first ∷ rows) (suc place) zero row differ = refl
-    elsewhere (first ∷ rows) (suc place) (suc other) row differ = elsewhere rows place other row (λ same. differ (ap suc same))
-
-    by : (found : Option Row) → slice_get rows place ≡ found → row_at (changed rows (suc place) change) (suc other) ≡ slice_get rows other
-    by None e = rw e refl
-    by (Some row) e = rw e (elsewhere rows place other (change row) (λ same. differ (ap suc same)))
 
 module _ (reference : Tables) (old new : Totals) (one_take : Take) (moves : MovesOne reference old new one_take) where
   -- so it does with those that come later

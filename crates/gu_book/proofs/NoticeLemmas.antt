@@ -1,17 +1,15 @@
 -- What is told, one thing after another.
-use Rattle.std.proofs.Common.{◌≡◌, ℕ, zero, suc, ◌+◌, ◌-◌, ◌<◌, ◌≤◌, ◌++◌, List, [], ◌∷◌, length, take, drop, map, filter, get_or, None, Some, Result, Ok, Err, refl, sym, ap, ◌∙◌, arith, append-nil, append_assoc, subst, nat_lt, inl, inr}
+use Rattle.std.proofs.Common.{◌≡◌, ℕ, zero, suc, ◌+◌, ◌-◌, ◌<◌, ◌≤◌, ◌++◌, List, [], ◌∷◌, length, take, drop, get_or, None, Some, Result, Ok, Err, refl, sym, ap, ◌∙◌, arith, append-nil, append_assoc, subst, nat_lt, inl, inr}
 use Rattle.std.specs.List.{flat_map, range_with_len}
 use Rattle.std.specs.Option.{option_map}
 use Rattle.std.specs.Prelude.{slice_get}
 use Rattle.std.proofs.lemmas.Bool.{cases_Bool, ltb-false, ltb-true}
-use Rattle.std.proofs.lemmas.List.{get_or-drop, length-drop, length-take, map-append, take_more}
+use Rattle.std.proofs.lemmas.List.{get_or-drop, length-drop, length-take, take_more}
 use Rattle.std.proofs.lemmas.List.Concat.{flat_map-append}
-use Rattle.std.proofs.lemmas.List.Elements.{filter-append}
 use Rattle.std.proofs.lemmas.Option.{get_or_from_slice_get, slice_get_past, slice_get_within}
 use Rattle.gu_terms.specs.Numbers.{IsOfferNo}
-use Rattle.gu_terms.specs.Same.{same_firm, same_side}
+use Rattle.gu_terms.specs.Same.{same_side}
 use Rattle.gu_terms.specs.declared.entry.Entry.{Entry}
-use Rattle.gu_terms.specs.declared.firm.FirmId.{FirmId}
 use Rattle.gu_terms.specs.declared.notice.Notice.{Notice}
 use Rattle.gu_terms.specs.declared.offer.Offer.{Offer}
 use Rattle.gu_terms.specs.declared.report.Report.{Report}
@@ -19,19 +17,14 @@ use Rattle.gu_terms.specs.declared.side.Side.{Side}
 use Rattle.gu_ref.specs.Tables.{Tables}
 use Rattle.gu_offers.proofs.NumberLists.{range_with_len-suc}
 use Rattle.gu_offers.specs.Rows.{Row, row_at}
+use Rattle.gu_rules.specs.Notices.{Register, Told, register_of, told_by, told_from, told_of_line, told_on, told_to}
+use Rattle.gu_rules.specs.Offers.{offers_of, standing_from, standing_of}
+use Rattle.gu_rules.specs.Versions.{offer_at}
+use Rattle.gu_rules.proofs.StretchLemmas.{told_to-append}
 use Rattle.gu_book.specs.Beside.{IsBeside}
-use Rattle.gu_book.specs.Notices.{Register, Told, register_of, told_by, told_from, told_of_line, told_on, told_to}
-use Rattle.gu_book.specs.Offers.{offers_of, standing_from, standing_of}
 use Rattle.gu_book.specs.Telling.{IsTold, register_in}
-use Rattle.gu_book.specs.Versions.{offer_at}
 use Rattle.gu_book.specs.declared.notices.Mailbox.{Mailbox}
 use Rattle.gu_book.specs.declared.totals.Totals.{Totals}
-
--- to a firm, of things told after others
-pub told_to-append : (firm : FirmId) (before after : List Told) → told_to firm (before ++ after) ≡ told_to firm before ++ told_to firm after
-told_to-append firm before after =
-    ap (map (λ (t : Told). t.notice)) (filter-append (λ (t : Told). same_firm t.firm firm) before after)
-    ∙ map-append (λ (t : Told). t.notice) (filter (λ (t : Told). same_firm t.firm firm) before) (filter (λ (t : Told). same_firm t.firm firm) after)
 
 -- things were told so far
 abbrev pub IsToldSoFar : Mailbox → Mailbox → List Told → Type 0

@@ -1,8 +1,7 @@
 -- What is kept beside a history takes openings, limits, reports and give-ups in.
-use Rattle.std.proofs.Common.{◌≡◌, ℕ, suc, ◌+◌, ◌-◌, ◌≤◌, ◌++◌, Bool, true, false, not, nat_lt, List, [], ◌∷◌, length, map, slice_get, Option, Some, None, is_none, unwrap_or, refl, sym, ap, ◌∙◌, arith, subst}
+use Rattle.std.proofs.Common.{◌≡◌, ℕ, suc, ◌+◌, ◌-◌, ◌≤◌, ◌++◌, Bool, false, not, nat_lt, List, [], ◌∷◌, length, map, slice_get, Option, Some, None, is_none, unwrap_or, refl, sym, ap, ◌∙◌, arith, subst}
 use Rattle.std.specs.Option.{option_and_then, option_map, option_map_or}
 use Rattle.std.proofs.lemmas.Bool.{ltb-false}
-use Rattle.gu_terms.proofs.SameNames.{same_firm-true, same_id-true}
 use Rattle.gu_terms.specs.Lines.{lots_in_all}
 use Rattle.gu_terms.specs.declared.account.AccountId.{AccountId}
 use Rattle.gu_terms.specs.declared.command.Command.TheVariants.{OpenDay, SetLimit, ReportSide, GiveUp}
@@ -17,7 +16,7 @@ use Rattle.gu_terms.specs.declared.lines.Line.{Line}
 use Rattle.gu_terms.specs.declared.lots.Lots.{Lots}
 use Rattle.gu_terms.specs.declared.price.Price.{Price}
 use Rattle.gu_terms.specs.declared.refusal.Refusal.{Refusal}
-use Rattle.gu_terms.specs.declared.refusal.Refusal.TheVariants.{DuplicateId, MatchConflict, NotMatched, TooManyLots, UnknownTrade}
+use Rattle.gu_terms.specs.declared.refusal.Refusal.TheVariants.{NotMatched, TooManyLots, UnknownTrade}
 use Rattle.gu_terms.specs.declared.reply.Done.{Done}
 use Rattle.gu_terms.specs.declared.reply.Done.TheVariants.{Offered, Opened}
 use Rattle.gu_terms.specs.declared.reply.Reply.{Reply}
@@ -27,24 +26,24 @@ use Rattle.gu_terms.specs.declared.side.Side.{Side}
 use Rattle.gu_terms.specs.declared.symbol.Symbol.{Symbol}
 use Rattle.gu_terms.proofs.SameValues.{both}
 use Rattle.gu_ref.specs.Tables.{Tables}
-use Rattle.gu_positions.proofs.Changed.{find-passes}
 use Rattle.gu_trades.specs.Counterparts.{standing_in}
-use Rattle.gu_trades.specs.Matching.{conflicts, is_of_trade}
+use Rattle.gu_trades.specs.Matching.{is_of_trade}
 use Rattle.gu_trades.specs.declared.standing.Standing.{Standing}
-use Rattle.gu_trades.specs.Reports.{has_report, is_by, report_by, report_of, with_match}
+use Rattle.gu_trades.specs.Reports.{report_by, report_of, with_match}
 use Rattle.gu_offers.specs.Changes.{next_day, with_lines}
 use Rattle.gu_offers.specs.Rows.{counted_under}
-use Rattle.gu_book.specs.Accepted.{IsAccepted, MayTakeIn, TakesIn, group_answered}
-use Rattle.gu_book.specs.Answer.{State, answer_in, done_of, given_up, group_of, lines_tests, report_tests, state_of, tests_of}
+use Rattle.gu_rules.specs.Answer.{State, answer_in, done_of, given_up, group_of, lines_tests, state_of, tests_of}
+use Rattle.gu_rules.specs.Offers.{standing_of}
+use Rattle.gu_rules.specs.Reports.{Fits, open_day, report_on, reports_of}
+use Rattle.gu_rules.proofs.AcceptedCommands.{fits-in, giving_up, names-are, not_not, report-is}
+use Rattle.gu_rules.proofs.Passing.{none_stands}
+use Rattle.gu_book.specs.Accepted.{MayTakeIn, TakesIn, group_answered}
 use Rattle.gu_book.specs.Beside.{IsKept, group_named_by, standing_given_up, state_in}
 use Rattle.gu_book.specs.Effects.{HoldsMore, SetsLimit, UsesNothing, made_a_trade}
-use Rattle.gu_book.specs.Offers.{standing_of}
-use Rattle.gu_book.specs.Reports.{Fits, open_day, report_on, reports_of}
 use Rattle.gu_book.specs.declared.totals.Totals.{Totals}
 use Rattle.gu_book.proofs.Accepting.{answer_is, few_offers, state_is}
-use Rattle.gu_book.proofs.KeptDays.{giving_up, kept-given_up, kept-opened, kept-set}
+use Rattle.gu_book.proofs.KeptDays.{kept-given_up, kept-opened, kept-set}
 use Rattle.gu_book.proofs.KeptReports.{kept-reported}
-use Rattle.gu_book.proofs.Passing.{none_stands}
 
 -- ---- openings and limits
 
@@ -75,25 +74,10 @@ module _
   abbrev made : Report
   made = report_of firm id match_id symbol lots price day side account
 
-  -- one that is accepted fits those before it
-  pub fits-in : (history : List Entry) → open_day history ≡ Some day → IsAccepted reference history (ReportSide firm id match_id symbol lots price given side account) → Fits (reports_of history) made
-  fits-in history opened is =
-      let state = state_of reference history in
-      let command = ReportSide firm id match_id symbol lots price given side account in
-      let tests = tests_of reference state command in
-      let done = done_of reference state command in
-      let tail : option_map_or (λ today. report_tests reference (reports_of history) (report_of firm id match_id symbol lots price today side account) given) (open_day history) [] ≡ report_tests reference (reports_of history) made given =
-      ap (λ (d : Option Day). option_map_or (λ today. report_tests reference (reports_of history) (report_of firm id match_id symbol lots price today side account) given) d []) opened in
-      let at : (k : ℕ) → slice_get tests (suc k) ≡ slice_get (report_tests reference (reports_of history) made given) k = λ k. ap (λ (ts : List (Bool × Refusal)). slice_get ts k) tail in
-      record {
-        new_id = none_stands tests done done is.accepted 5 (has_report (reports_of history) firm id) DuplicateId (at 4);
-        fits = none_stands tests done done is.accepted 6 (conflicts (with_match match_id (reports_of history)) made) MatchConflict (at 5);
-      }
-
   -- by what is kept
   pub report-fits : (totals : Totals) → totals.today ≡ Some day → MayTakeIn reference totals (ReportSide firm id match_id symbol lots price given side account) → Fits totals.trades made
   report-fits totals today may =
-      subst (λ (rs : List Report). Fits rs made) (sym may.kept.beside.reports) (fits-in may.history (sym may.kept.beside.today ∙ today) may.accepted)
+      subst (λ (rs : List Report). Fits rs made) (sym may.kept.beside.reports) (fits-in reference firm id match_id symbol lots price given side account day may.history (sym may.kept.beside.today ∙ today) may.accepted)
 
   -- it is taken in
   pub report-taken : (old new : Totals) → old.today ≡ Some day → new.today ≡ old.today → new.give_ups.keys ≡ old.give_ups.keys → new.offers ≡ old.offers → new.limits ≡ old.limits
@@ -104,30 +88,9 @@ module _
       let entry : Entry = Asked command (Accepted (done_of reference (state_of reference history) command)) in
       let opened : open_day history ≡ Some day = sym kept.beside.today ∙ day_is in
       kept-reported reference history entry old new made kept (ap (λ (d : Option Day). report_on d entry) opened) refl refl
-      (record { takes = λ n. refl; gives = λ n. refl; closed = λ n. refl }) (λ f i. refl) (λ g k. refl) (fits-in history opened accepted) today give_ups trades offers limits holds
+      (record { takes = λ n. refl; gives = λ n. refl; closed = λ n. refl }) (λ f i. refl) (λ g k. refl) (fits-in reference firm id match_id symbol lots price given side account day history opened accepted) today give_ups trades offers limits holds
 
 -- ---- give-ups
-
--- the report that is given up is the firm's with this id
-pub report-is : (reference : Tables) (state : State) (firm : FirmId) (own : Id) (report : Report) (group : Group) → given_up reference state firm own ≡ Some (report, group) → report_by state.reports firm own ≡ Some report
-report-is reference state firm own report group e = by (report_by state.reports firm own) e
-  where
-    by : (found : Option Report) → option_and_then {U = Report × Group} (λ r. option_map {U = Report × Group} (λ at. (r, at)) (group_of reference r)) found ≡ Some (report, group) → found ≡ Some report
-    by None e = cc
-    by (Some r) e = of (group_of reference r) e
-      where
-        of : (at : Option Group) → option_map {U = Report × Group} (λ g. (r, g)) at ≡ Some (report, group) → Some r ≡ Some report
-        of None e = cc
-        of (Some g) e = ap (λ (o : Option (Report × Group)). option_map {U = Report} (λ p. p.0) o) e
-
-pub names-are : (reports : List Report) (firm : FirmId) (own : Id) (report : Report) → report_by reports firm own ≡ Some report → (report.firm ≡ firm) × (report.id ≡ own)
-names-are reports firm own report found =
-    let parts = both _ _ (find-passes (is_by firm own) reports report found) in
-    (same_firm-true report.firm firm parts.0, same_id-true report.id own parts.1)
-
-pub not_not : (b : Bool) → not b ≡ false → b ≡ true
-not_not true e = refl
-not_not false e = cc
 
 -- the report of a known group
 pub group-given : (reference : Tables) (totals : Totals) (firm : FirmId) (own : Id) (group : Group) → option_map (λ (g : Report × Group). g.1) (given_up reference (state_in totals) firm own) ≡ Some group

@@ -1,37 +1,22 @@
 -- Machinery: an accepted command, as what is kept beside a history takes it in.
-use Rattle.std.specs.Prelude.{◌≡◌, ℕ, ◌<◌, ◌++◌, Bool, true, false, List, [], ◌∷◌, length, Option, Some, None}
+use Rattle.std.specs.Prelude.{ℕ, ◌++◌, List, [], ◌∷◌, Option, Some, None}
 use Rattle.gu_terms.specs.declared.command.Command.{Command}
 use Rattle.gu_terms.specs.declared.command.Command.TheVariants.{Claim, Reverse}
 use Rattle.gu_terms.specs.declared.entry.Entry.{Entry}
-use Rattle.gu_terms.specs.declared.entry.Entry.TheVariants.{Asked}
 use Rattle.gu_terms.specs.declared.firm.FirmId.{FirmId}
 use Rattle.gu_terms.specs.declared.group.Group.{Group}
 use Rattle.gu_terms.specs.declared.reply.Done.TheVariants.{Offered}
-use Rattle.gu_terms.specs.declared.reply.Reply.TheVariants.{Accepted, Denied}
+use Rattle.gu_terms.specs.declared.reply.Reply.TheVariants.{Accepted}
 use Rattle.gu_terms.specs.declared.reply.Reply.{Reply}
 use Rattle.gu_ref.specs.Tables.{Tables}
-use Rattle.gu_book.specs.Answer.{answer, done_of, state_of}
+use Rattle.gu_rules.specs.Legal.{IsAccepted, accepted_entry}
 use Rattle.gu_book.specs.Beside.{IsKept}
 use Rattle.gu_book.specs.declared.totals.Totals.{Totals}
-
--- a reply accepts
-abbrev pub accepts : Reply → Bool
-accepts (Accepted done) = true
-accepts (Denied why) = false
 
 -- the group that the answer to a give-up names
 abbrev pub group_answered : Reply → Option Group
 group_answered (Accepted (Offered group first count)) = Some group
 group_answered _ = None
-
--- a command is accepted after a history that isn't full
-pub record IsAccepted (reference : Tables) (history : List Entry) (command : Command) : Type 0 where
-  pub room : length history < 1000000
-  pub accepted : answer reference history command ≡ Accepted (done_of reference (state_of reference history) command)
-
--- the entry of an accepted command
-abbrev pub accepted_entry : Tables → List Entry → Command → Entry
-accepted_entry reference history command = Asked command (Accepted (done_of reference (state_of reference history) command))
 
 -- a command is accepted after a history beside which this is kept
 pub record MayTakeIn (reference : Tables) (totals : Totals) (command : Command) : Type 0 where

@@ -17,26 +17,26 @@ use Rattle.gu_terms.specs.declared.refusal.Refusal.TheVariants.{MatchConflict}
 use Rattle.gu_terms.specs.declared.reply.Done.TheVariants.{Reported}
 use Rattle.gu_terms.specs.declared.reply.Reply.{Reply}
 use Rattle.gu_terms.specs.declared.reply.Reply.TheVariants.{Accepted, Denied}
-use Rattle.gu_ref.specs.Reference.{account_row, agreement_between, instrument_row}
+use Rattle.gu_ref.specs.Reference.{account_row, instrument_row}
 use Rattle.gu_ref.specs.Tables.{Tables}
 use Rattle.gu_ref.specs.declared.instruments.Instrument.{Instrument}
+use Rattle.gu_limits.specs.Limits.{has_limit, limit_in, room_in, used_in}
 use Rattle.gu_trades.specs.Counterparts.{standing_in}
 use Rattle.gu_trades.specs.Reports.{report_by}
 use Rattle.gu_trades.specs.declared.counterpart.Counterpart.{Counterpart}
 use Rattle.gu_trades.specs.declared.counterpart.Counterpart.TheVariants.{Nobody, Waiting, Conflicting}
 use Rattle.gu_trades.specs.declared.standing.Standing.{Standing}
 use Rattle.gu_trades.specs.declared.terms.Terms.{Terms}
-use Rattle.gu_offers.specs.Rows.{Row, open_count, row_at}
-use Rattle.gu_limits.specs.Limits.{has_limit, limit_in, room_in, used_in}
+use Rattle.gu_offers.specs.Rows.{Row, row_at}
 use Rattle.gu_positions.specs.Rows.{has_row, lots_in, lots_on}
-use Rattle.gu_book.specs.Answer.{State}
+use Rattle.gu_rules.specs.Answer.{State}
+use Rattle.gu_rules.specs.Legal.{IsLegal}
+use Rattle.gu_rules.specs.Limits.{limit_of, limit_set, path_after, use_of}
+use Rattle.gu_rules.specs.Offers.{has_give_up, standing_of}
+use Rattle.gu_rules.specs.Orderly.{IsOrderly, IsShown}
+use Rattle.gu_rules.specs.Positions.{held_of}
+use Rattle.gu_rules.specs.Reports.{open_day, reports_of}
 use Rattle.gu_book.specs.Counted.{AreVersions}
-use Rattle.gu_book.specs.Legal.{IsLegal}
-use Rattle.gu_book.specs.Limits.{limit_of, limit_set, path_after, use_of}
-use Rattle.gu_book.specs.Offers.{has_give_up, standing_of}
-use Rattle.gu_book.specs.Orderly.{IsOrderly}
-use Rattle.gu_book.specs.Positions.{held_of}
-use Rattle.gu_book.specs.Reports.{open_day, reports_of}
 use Rattle.gu_book.specs.declared.totals.GiveUpKey.{GiveUpKey}
 use Rattle.gu_book.specs.declared.totals.Totals.{Totals}
 use Rattle.gu_book.specs.declared.versions.Versions.{Versions}
@@ -111,19 +111,6 @@ pub record IsAccounted (reference : Tables) (totals : Totals) : Type 0 where
   pub offers : AllByRecursion (λ (r : Row). is_some (account_row reference r.offer.account) ≡ true) totals.offers
   pub rows : (account : AccountId) (symbol : Symbol) → has_row totals.positions account symbol ≡ true → is_some (account_row reference account) ≡ true
   pub even : (symbol : Symbol) → lots_on totals.positions Buy symbol ≡ lots_on totals.positions Sell symbol
-
--- no product group has more than 4,096 open offers
-abbrev pub AreFew : List Row → Type 0
-AreFew rows = (group : Group) → open_count rows group ≤ 4096
-
--- each offer was made by an agreement
-abbrev pub AreAgreed : Tables → List Row → Type 0
-AreAgreed reference rows = AllByRecursion (λ (r : Row). is_some (agreement_between reference r.offer.firm r.offer.account) ≡ true) rows
-
--- the offers of each group make a view, and all of them are shown
-pub record IsShown (reference : Tables) (rows : List Row) : Type 0 where
-  pub few : AreFew rows
-  pub agreed : AreAgreed reference rows
 
 -- a legal history, with what is kept beside it
 pub record IsKeptLegal (reference : Tables) (history : List Entry) (totals : Totals) (versions : Versions) : Type 0 where

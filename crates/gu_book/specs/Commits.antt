@@ -4,9 +4,9 @@ use Rattle.gu_terms.specs.declared.entry.SweepEntry.{SweepEntry}
 use Rattle.gu_ref.specs.Reference.{is_group}
 use Rattle.gu_view.specs.View.{GroupView}
 use Rattle.gu_flow.specs.Proposals.{ProposedSweep}
-use Rattle.gu_book.specs.BookState.{BookState}
-use Rattle.gu_book.specs.Versions.{version_of}
-use Rattle.gu_book.specs.Views.{group_view}
+use Rattle.gu_rules.specs.BookState.{BookState}
+use Rattle.gu_rules.specs.Versions.{version_of}
+use Rattle.gu_rules.specs.Views.{group_view}
 use Rattle.gu_book.specs.declared.error.CommitError.{CommitError}
 use Rattle.gu_book.specs.declared.error.CommitError.TheVariants.{Memory, Full, Stale, Foreign}
 

@@ -12,7 +12,7 @@ use Rattle.gu_terms.specs.declared.reply.Done.TheVariants.{Opened, LimitSet, Rep
 use Rattle.gu_terms.specs.declared.reply.Reply.{Reply}
 use Rattle.gu_terms.specs.declared.reply.Reply.TheVariants.{Accepted, Denied}
 use Rattle.gu_offers.specs.Rows.{Row, row_at}
-use Rattle.gu_book.specs.Versions.{version_of}
+use Rattle.gu_rules.specs.Versions.{version_of}
 use Rattle.gu_book.specs.declared.versions.Touched.{Touched}
 use Rattle.gu_book.specs.declared.versions.Touched.TheVariants.{Nothing, Only, Every}
 use Rattle.gu_book.specs.declared.versions.Versions.{Versions}

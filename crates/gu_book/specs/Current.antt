@@ -7,7 +7,7 @@ use Rattle.gu_offers.specs.Rows.{open_numbers}
 use Rattle.gu_terms.specs.declared.group.Group.{Group}
 use Rattle.gu_view.specs.View.{GroupView}
 use Rattle.gu_view.specs.declared.view.Room.{Room}
-use Rattle.gu_book.specs.Shown.{shown_at}
+use Rattle.gu_rules.specs.Views.{shown_at}
 use Rattle.gu_book.specs.declared.totals.Totals.{Totals}
 
 -- each room is that of its key in the group

@@ -16,7 +16,7 @@ use Rattle.gu_limits.specs.Limits.{GroupLimit, has_limit, limit_in, same_place, 
 use Rattle.gu_positions.specs.Changes.{KeepsLots, lots_at}
 use Rattle.gu_positions.specs.Rows.{Row, has_row, lots_in, lots_on}
 use Rattle.gu_trades.specs.declared.terms.Terms.{Terms}
-use Rattle.gu_book.specs.Limits.{path_after}
+use Rattle.gu_rules.specs.Limits.{path_after}
 use Rattle.gu_book.specs.declared.totals.Totals.{Totals}
 
 -- the lots of reports on a side of an instrument, for an account

@@ -9,8 +9,8 @@ use Rattle.gu_ref.specs.Tables.{Tables}
 use Rattle.gu_trades.specs.Counterparts.{counterpart_of}
 use Rattle.gu_trades.specs.Reports.{with_match}
 use Rattle.gu_offers.specs.Rows.{Row, row_at}
+use Rattle.gu_rules.specs.Limits.{path_after}
 use Rattle.gu_book.specs.Beside.{waiting_of}
-use Rattle.gu_book.specs.Limits.{path_after}
 use Rattle.gu_book.specs.declared.met.Met.{Met}
 use Rattle.gu_book.specs.declared.met.MetOffer.{MetOffer}
 use Rattle.gu_book.specs.declared.totals.Totals.{Totals}

@@ -1,10 +1,9 @@
 -- Machinery: the takes of a sweep, as what is kept beside a history takes them in, one after another.
-use Rattle.std.specs.Prelude.{◌≡◌, ℕ, ◌<◌, ◌≤◌, ◌++◌, true, List, [], ◌∷◌, map, sum_by, Option, Some, IfSome}
+use Rattle.std.specs.Prelude.{◌≡◌, ℕ, ◌<◌, ◌≤◌, ◌++◌, true, List, [], ◌∷◌, sum_by, Option, Some, IfSome}
 use Rattle.std.specs.List.{AllByRecursion}
 use Rattle.std.specs.Option.{option_and_then, option_map, option_map_or}
 use Rattle.gu_terms.proofs.Lists.{Later}
 use Rattle.gu_terms.specs.declared.entry.Entry.{Entry}
-use Rattle.gu_terms.specs.declared.entry.Entry.TheVariants.{Swept}
 use Rattle.gu_terms.specs.declared.entry.SweepEntry.{SweepEntry}
 use Rattle.gu_terms.specs.declared.group.Group.{Group}
 use Rattle.gu_terms.specs.declared.limit_key.LimitKey.{LimitKey}
@@ -15,28 +14,22 @@ use Rattle.gu_terms.specs.declared.symbol.Symbol.{Symbol}
 use Rattle.gu_terms.specs.declared.takes.Take.{Take}
 use Rattle.gu_ref.specs.Tables.{Tables}
 use Rattle.gu_limits.specs.Changes.{lots_under}
+use Rattle.gu_limits.specs.Limits.{room_in}
 use Rattle.gu_trades.specs.Terms.{terms_of}
 use Rattle.gu_trades.specs.declared.terms.Terms.{Terms}
-use Rattle.gu_limits.specs.Limits.{room_in}
 use Rattle.gu_offers.specs.Changes.{changed, taken}
 use Rattle.gu_offers.specs.Rows.{Row, left_in, row_at}
 use Rattle.gu_positions.specs.Changes.{KeepsRows}
 use Rattle.gu_positions.specs.Rows.{has_row, lots_on}
 use Rattle.gu_view.specs.View.{offer_of}
 use Rattle.gu_view.specs.declared.view.ViewOffer.{ViewOffer as ShownOffer}
-use Rattle.gu_book.specs.Beside.{IsAccounted, IsKept, IsShown}
+use Rattle.gu_rules.specs.Orderly.{IsShown}
+use Rattle.gu_rules.specs.Limits.{path_after}
+use Rattle.gu_rules.specs.Positions.{report_after}
+use Rattle.gu_rules.specs.Sweeps.{part, parts}
+use Rattle.gu_book.specs.Beside.{IsAccounted, IsKept}
 use Rattle.gu_book.specs.Effects.{SameEntries, UsesMore}
-use Rattle.gu_book.specs.Limits.{path_after}
-use Rattle.gu_book.specs.Positions.{report_after}
 use Rattle.gu_book.specs.declared.totals.Totals.{Totals}
-
--- one take of a sweep, as a sweep of it alone
-abbrev pub part : SweepEntry → Take → Entry
-part sweep take = Swept (record { group = sweep.group; takes = take ∷ []; cut = sweep.cut; lots = take.lots })
-
--- the takes of a sweep, one after another
-abbrev pub parts : SweepEntry → List Take → List Entry
-parts sweep takes = map (part sweep) takes
 
 -- the offer of a number, and the terms of the report that it gives up
 abbrev pub given_by : Totals → ℕ → Option (Offer × Terms)

@@ -5,11 +5,11 @@ use Rattle.gu_terms.specs.declared.query.Query.TheVariants as asked
 use Rattle.gu_ref.specs.Reference.{is_group}
 use Rattle.gu_ref.specs.Tables.{Tables}
 use Rattle.gu_view.specs.View.{IsNested}
-use Rattle.gu_book.specs.BookState.{BookState}
-use Rattle.gu_book.specs.Notices.{notices_of}
-use Rattle.gu_book.specs.Positions.{is_of_firm, long_of, open_interest_of, position_rows, short_of}
-use Rattle.gu_book.specs.Reports.{open_day}
-use Rattle.gu_book.specs.Views.{group_view}
+use Rattle.gu_rules.specs.BookState.{BookState}
+use Rattle.gu_rules.specs.Notices.{notices_of}
+use Rattle.gu_rules.specs.Positions.{is_of_firm, long_of, open_interest_of, position_rows, short_of}
+use Rattle.gu_rules.specs.Reports.{open_day}
+use Rattle.gu_rules.specs.Views.{group_view}
 use Rattle.gu_book.specs.declared.asking.Answer.{Answer}
 use Rattle.gu_book.specs.declared.asking.Answer.TheVariants as answered
 

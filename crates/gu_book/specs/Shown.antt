@@ -1,27 +1,15 @@
 -- Machinery: views, as they are made of what a book keeps.
-use Rattle.std.specs.Prelude.{ℕ, List, map, Option}
-use Rattle.std.specs.List.{filter_map}
-use Rattle.std.specs.Option.{option_and_then}
+use Rattle.std.specs.Prelude.{List, map}
 use Rattle.gu_terms.specs.declared.group.Group.{Group}
 use Rattle.gu_terms.specs.declared.limit_key.LimitKey.{LimitKey}
-use Rattle.gu_limits.specs.Limits.{GroupLimit, room_in}
-use Rattle.gu_offers.specs.Rows.{Row, open_offer_at, open_offers}
 use Rattle.gu_ref.specs.Tables.{Tables}
+use Rattle.gu_limits.specs.Limits.{GroupLimit, room_in}
 use Rattle.gu_view.specs.View.{GroupView, keys_of}
-use Rattle.gu_view.specs.declared.view.ViewOffer.{ViewOffer}
 use Rattle.gu_view.specs.declared.view.Room.{Room}
+use Rattle.gu_rules.specs.Views.{offers_in}
 use Rattle.gu_book.specs.Counted.{version_in}
-use Rattle.gu_book.specs.Views.{shown}
 use Rattle.gu_book.specs.declared.totals.Totals.{Totals}
 use Rattle.gu_book.specs.declared.versions.Versions.{Versions}
-
--- the offer of a number, as a view shows it
-abbrev pub shown_at : Tables → List Row → ℕ → Option ViewOffer
-shown_at reference rows number = option_and_then (shown reference) (open_offer_at rows number)
-
--- a group's open offers, as a view shows them
-abbrev pub offers_in : Tables → List Row → Group → List ViewOffer
-offers_in reference rows group = filter_map (shown reference) (open_offers rows group)
 
 -- rooms of these keys in a group
 abbrev pub rooms_in : List GroupLimit → Group → List LimitKey → List Room

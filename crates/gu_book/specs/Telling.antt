@@ -10,7 +10,7 @@ use Rattle.gu_ref.specs.Reference.{account_row}
 use Rattle.gu_ref.specs.Tables.{Tables}
 use Rattle.gu_ref.specs.declared.accounts.Account.{Account}
 use Rattle.gu_offers.specs.Rows.{Row, row_at}
-use Rattle.gu_book.specs.Notices.{Register, Told, told_from, told_to}
+use Rattle.gu_rules.specs.Notices.{Register, Told, told_from, told_to}
 use Rattle.gu_book.specs.declared.notices.Mailbox.{Mailbox}
 use Rattle.gu_book.specs.declared.span.Span.{Span}
 use Rattle.gu_book.specs.declared.totals.Totals.{Totals}

@@ -12,12 +12,11 @@ ghost use Rattle.gu_trades.specs.Counterparts.{counterpart_of};
 ghost use Rattle.gu_trades.specs.Matching.{is_waiting};
 ghost use Rattle.gu_trades.specs.Reports.{with_match};
 ghost use Rattle.gu_trades.specs.Terms.{report_with};
-ghost use Rattle.gu_book.specs.Answer.{answer_in, claim_tests, first_standing, give_up_tests, has_unknown_account, is_another_firms, is_known_key, is_later, is_other_day};
-ghost use Rattle.gu_book.specs.Accepted.{accepts};
-ghost use Rattle.gu_book.specs.Answer.{lacks_agreement, limit_tests, offer_tests, opening_tests, refusal_in, refuse_tests, report_tests, reverse_tests, room_tests, tests_of_lines};
-ghost use Rattle.gu_book.specs.Beside.{answer_to_match, group_named_by, some_lots, standing_given_up, state_in, waiting_of};
+ghost use Rattle.gu_rules.specs.Answer.{answer_in, claim_tests, first_standing, give_up_tests, has_unknown_account, is_another_firms, is_known_key, is_later, is_other_day, lacks_agreement, limit_tests, offer_tests, opening_tests, refusal_in, refuse_tests, report_tests, reverse_tests, room_tests, tests_of_lines};
+ghost use Rattle.gu_rules.specs.Legal.{accepts};
+ghost use Rattle.gu_rules.specs.Limits.{path_after};
 ghost use Rattle.gu_offers.specs.Rows.{Row, left_in, row_at, today_in};
-ghost use Rattle.gu_book.specs.Limits.{path_after};
+ghost use Rattle.gu_book.specs.Beside.{answer_to_match, group_named_by, some_lots, standing_given_up, state_in, waiting_of};
 ghost use Rattle.gu_book.specs.Met.{IsMet};
 
 use crate::met::{Met, MetOffer};

@@ -3,16 +3,15 @@
 ghost use Rattle.std.specs.Prelude.{◌≡◌, ◌↔◌, ◌<◌, ◌≤◌, ◌+◌, ◌++◌, ◌∷◌, [], false, is_some, length, true, IfOk, IfErr, IfSome, MatchOption, OnOk, OnErr, IsErrOf};
 ghost use Rattle.gu_terms.specs.Histories.{lots_swept};
 ghost use Rattle.gu_ref.specs.Reference.{is_group};
-ghost use Rattle.gu_book.specs.Accepted.{accepts};
-ghost use Rattle.gu_book.specs.Answer.{answer};
+ghost use Rattle.gu_rules.specs.Legal.{IsLegal, MayFollow, StandsLast, accepts};
+ghost use Rattle.gu_rules.specs.Answer.{answer};
+ghost use Rattle.gu_rules.specs.Limits.{limit_rows};
+ghost use Rattle.gu_rules.specs.Notices.{IsStretch, notices_of};
+ghost use Rattle.gu_rules.specs.Orderly.{IsOrderly};
+ghost use Rattle.gu_rules.specs.Positions.{LongIsShort, is_of_firm, long_of, open_interest_of, position_rows, short_of};
+ghost use Rattle.gu_rules.specs.Reports.{open_day};
+ghost use Rattle.gu_rules.specs.Views.{group_view};
 ghost use Rattle.gu_book.specs.Commits.{IsCurrent, Refuses, sweep_of};
-ghost use Rattle.gu_book.specs.Legal.{IsLegal, MayFollow, StandsLast};
-ghost use Rattle.gu_book.specs.Limits.{limit_rows};
-ghost use Rattle.gu_book.specs.Notices.{IsStretch, notices_of};
-ghost use Rattle.gu_book.specs.Orderly.{IsOrderly};
-ghost use Rattle.gu_book.specs.Positions.{LongIsShort, is_of_firm, long_of, open_interest_of, position_rows, short_of};
-ghost use Rattle.gu_book.specs.Reports.{open_day};
-ghost use Rattle.gu_book.specs.Views.{group_view};
 ghost use Rattle.gu_view.specs.View.{IsNested};
 
 use crate::answering::answer_of;
@@ -68,7 +67,7 @@ impl Drop for Book {
 }
 
 impl Model for Book {
-    ghost use Rattle.gu_book.specs.BookState.{BookState};
+    ghost use Rattle.gu_rules.specs.BookState.{BookState};
 
     ghost Value = { BookState };
 

@@ -5,8 +5,8 @@ ghost use Rattle.std.specs.List.{filter_map};
 ghost use Rattle.std.specs.Option.{option_to_list};
 ghost use Rattle.gu_view.specs.View.{IsView};
 ghost use Rattle.gu_view.specs.declared.view.ViewOffer.{ViewOffer as OfferOf};
+ghost use Rattle.gu_rules.specs.Views.{shown_at};
 ghost use Rattle.gu_book.specs.Current.{HasRooms, ShowsAll};
-ghost use Rattle.gu_book.specs.Shown.{shown_at};
 
 use crate::met::MetRooms;
 use crate::totals::Totals;

@@ -6,8 +6,6 @@ mod asking;
 mod book;
 mod current;
 mod error;
-mod laws;
-mod laws_of_offers;
 mod limits;
 mod met;
 mod notices;
@@ -23,15 +21,13 @@ mod views;
 pub use asking::Answer;
 pub use book::Book;
 pub use error::{AskError, CommitError, EnterError};
-pub use laws::{
-    an_entry_elsewhere_leaves_the_view, equal_versions_are_untouched, later_touches_come_after,
-    stretches_join_to_the_whole, the_least_refusal_is_given,
-};
-pub use laws_of_offers::{
-    a_group_has_few_open_offers, an_entry_makes_few_offers, as_many_lots_are_held_long_as_short,
-    each_offer_gives_up_a_trade_by_an_agreement, entries_elsewhere_leave_the_view,
+pub use gu_rules::{
+    a_group_has_few_open_offers, an_entry_elsewhere_leaves_the_view, an_entry_makes_few_offers,
+    as_many_lots_are_held_long_as_short, each_offer_gives_up_a_trade_by_an_agreement,
+    entries_elsewhere_leave_the_view, equal_versions_are_untouched, later_touches_come_after,
     no_more_is_given_back_than_was_taken, no_more_is_given_up_than_was_traded,
     no_more_is_moved_than_an_offer_has, no_more_leaves_an_account_than_it_traded,
+    stretches_join_to_the_whole, the_least_refusal_is_given,
 };
 pub use span::LONGEST_STRETCH;
 pub use sweeping::{kept_sweep, swept_receipt};

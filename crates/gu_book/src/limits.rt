@@ -4,7 +4,7 @@ ghost use Rattle.std.specs.Prelude.{◌≡◌, ◌++◌, IfOk, OnOk, map};
 ghost use Rattle.std.specs.List.{filter_map};
 ghost use Rattle.std.specs.Option.{option_to_list};
 ghost use Rattle.gu_limits.specs.Limits.{row_in};
-ghost use Rattle.gu_book.specs.Limits.{keys_in_order};
+ghost use Rattle.gu_rules.specs.Limits.{keys_in_order};
 
 use gu_limits::LimitTable;
 use gu_ref::{Account, Agreement, Reference};

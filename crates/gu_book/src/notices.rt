@@ -4,7 +4,7 @@ ghost use Rattle.std.specs.Prelude.{◌≡◌, ◌+◌, ◌-◌, ◌<◌, ◌≤
 ghost use Rattle.std.specs.List.{flat_map, range_with_len};
 ghost use Rattle.gu_trades.specs.Reports.{with_match};
 ghost use Rattle.gu_trades.specs.Sides.{reports_in};
-ghost use Rattle.gu_book.specs.Notices.{IsStretchOf, offer_notice, to_both, to_carrier, told_by, told_from, told_of_event, told_of_line, told_of_take, told_of_trade, told_on, told_to};
+ghost use Rattle.gu_rules.specs.Notices.{IsStretchOf, offer_notice, to_both, to_carrier, told_by, told_from, told_of_event, told_of_line, told_of_take, told_of_trade, told_on, told_to};
 ghost use Rattle.gu_book.specs.Telling.{IsTold, IsWalked, is_party, is_party_to, register_in};
 
 use crate::span::Span;

@@ -6,7 +6,7 @@ ghost use Rattle.std.specs.Option.{option_to_list};
 ghost use Rattle.gu_positions.specs.Rows.{lots_in};
 ghost use Rattle.gu_ref.specs.declared.instruments.Instrument.{Instrument as InstrumentOf};
 ghost use Rattle.gu_terms.specs.declared.side.Side.TheVariants.{Buy, Sell};
-ghost use Rattle.gu_book.specs.Positions.{is_of_firm, row_of_lots};
+ghost use Rattle.gu_rules.specs.Positions.{is_of_firm, row_of_lots};
 
 use gu_positions::Positions;
 use gu_ref::{Instrument, Reference};

@@ -4,11 +4,11 @@ ghost use Rattle.std.specs.Prelude.{◌≡◌, ◌<◌, ◌^◌, ◌∷◌, [], 
 ghost use Rattle.std.specs.List.{AllByRecursion};
 ghost use Rattle.gu_terms.specs.Histories.{lots_swept};
 ghost use Rattle.gu_ref.specs.Tables.{Tables};
+ghost use Rattle.gu_rules.specs.Sweeps.{IsSweepOf};
 ghost use Rattle.gu_book.specs.Beside.{IsAccounted};
 ghost use Rattle.gu_book.specs.Effects.{KeepsMade, SameAnswers};
 ghost use Rattle.gu_book.specs.Commits.{sweep_of};
 ghost use Rattle.gu_book.specs.Moving.{HasRows, MayMove, MovesAll, MovesOne};
-ghost use Rattle.gu_book.specs.Sweeps.{IsSweepOf};
 
 use crate::met::MetRooms;
 use crate::totals::Totals;

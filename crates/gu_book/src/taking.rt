@@ -5,7 +5,7 @@ ghost use Rattle.std.specs.Option.{option_map};
 ghost use Rattle.gu_terms.specs.declared.alloc_reject.AllocReject.{AllocReject as AllocRejectOf};
 ghost use Rattle.gu_terms.specs.declared.firm.FirmId.{FirmId as FirmIdOf};
 ghost use Rattle.gu_ref.specs.Tables.{Tables};
-ghost use Rattle.gu_book.specs.Answer.{answer_in, given_up};
+ghost use Rattle.gu_rules.specs.Answer.{answer_in, given_up};
 ghost use Rattle.gu_book.specs.Beside.{IsAccounted, state_in};
 ghost use Rattle.gu_book.specs.Effects.{SameAnswers};
 ghost use Rattle.gu_book.specs.Accepted.{MayClaim, MayReverse, MayTakeIn, TakesIn, group_answered};

@@ -16,11 +16,11 @@ ghost use Rattle.gu_terms.specs.declared.symbol.Symbol.{Symbol as SymbolOf};
 ghost use Rattle.gu_trades.specs.Counterparts.{counterpart_of};
 ghost use Rattle.gu_trades.specs.Reports.{has_report, report_by, with_match};
 ghost use Rattle.gu_trades.specs.Terms.{report_with};
+ghost use Rattle.gu_rules.specs.Limits.{path_after};
+ghost use Rattle.gu_rules.specs.Reports.{Fits};
 ghost use Rattle.gu_book.specs.Beside.{is_kept_give_up, waiting_of};
 ghost use Rattle.gu_book.specs.Effects.{HoldsMore, HoldsMoved, IsEven, KeepsMade, OnlyRowsOf, SameAnswers, SameEntries, SetsLimit, UsesLess, UsesNothing, UsesUnder, made_a_trade};
-ghost use Rattle.gu_book.specs.Limits.{path_after};
 ghost use Rattle.gu_book.specs.Moving.{given_by};
-ghost use Rattle.gu_book.specs.Reports.{Fits};
 
 use crate::answering::path_of_offer;
 use crate::met::MetOffer;

@@ -3,10 +3,11 @@
 ghost use Rattle.std.specs.Prelude.{◌≡◌, ◌<◌, ◌^◌, ◌++◌, IfOk, OnOk};
 ghost use Rattle.std.specs.List.{filter_map};
 ghost use Rattle.std.specs.Option.{option_to_list};
-ghost use Rattle.gu_book.specs.Beside.{IsShown};
-ghost use Rattle.gu_book.specs.Counted.{version_in};
+ghost use Rattle.gu_rules.specs.Orderly.{IsShown};
+ghost use Rattle.gu_rules.specs.Views.{shown_at};
 ghost use Rattle.gu_view.specs.View.{IsNested};
-ghost use Rattle.gu_book.specs.Shown.{rooms_in, shown_at, view_in};
+ghost use Rattle.gu_book.specs.Counted.{version_in};
+ghost use Rattle.gu_book.specs.Shown.{rooms_in, view_in};
 
 use crate::totals::Totals;
 use crate::versions::Versions;

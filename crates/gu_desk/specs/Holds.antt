@@ -12,9 +12,9 @@ use Rattle.gu_terms.specs.declared.receipt.Receipt.{Receipt}
 use Rattle.gu_terms.specs.declared.reply.Reply.{Reply}
 use Rattle.gu_ref.specs.Tables.{Tables}
 use Rattle.gu_view.specs.View.{GroupView}
-use Rattle.gu_book.specs.BookState.{BookState}
-use Rattle.gu_book.specs.Legal.{IsLegal, StandsLast}
-use Rattle.gu_book.specs.Notices.{IsStretch}
+use Rattle.gu_rules.specs.BookState.{BookState}
+use Rattle.gu_rules.specs.Legal.{IsLegal, StandsLast}
+use Rattle.gu_rules.specs.Notices.{IsStretch}
 use Rattle.gu_book.specs.Questions.{IsAnswer}
 use Rattle.gu_book.specs.declared.asking.Answer.{Answer}
 use Rattle.gu_book.specs.declared.asking.Answer.TheVariants as answer

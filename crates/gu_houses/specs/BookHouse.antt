@@ -13,9 +13,9 @@ use Rattle.gu_session.specs.declared.input.Failure.{Failure}
 use Rattle.gu_session.specs.declared.input.Failure.TheVariants.{Memory, Full}
 use Rattle.gu_session.specs.declared.input.Outcome.{Outcome}
 use Rattle.gu_session.specs.declared.input.Outcome.TheVariants.{Replied, Positions, Failed}
-use Rattle.gu_book.specs.Answer.{answer}
-use Rattle.gu_book.specs.BookState.{BookState}
-use Rattle.gu_book.specs.Notices.{IsStretch}
+use Rattle.gu_rules.specs.Answer.{answer}
+use Rattle.gu_rules.specs.BookState.{BookState}
+use Rattle.gu_rules.specs.Notices.{IsStretch}
 use Rattle.gu_book.specs.Questions.{IsAnswer}
 use Rattle.gu_book.specs.declared.asking.Answer.TheVariants as answered
 use Rattle.gu_engine.specs.Houses.{HouseRules}

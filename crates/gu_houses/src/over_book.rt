@@ -24,7 +24,7 @@ impl Drop for OverBook {
 }
 
 impl Model for OverBook {
-    ghost use Rattle.gu_book.specs.BookState.{BookState};
+    ghost use Rattle.gu_rules.specs.BookState.{BookState};
 
     ghost Value = { BookState };
 

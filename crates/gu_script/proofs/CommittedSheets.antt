@@ -8,9 +8,9 @@ use Rattle.gu_terms.specs.declared.entry.Entry.{Entry}
 use Rattle.gu_terms.specs.declared.entry.Entry.TheVariants.{Swept}
 use Rattle.gu_ref.specs.Tables.{Tables}
 use Rattle.gu_view.proofs.Checked.{ok_from_right}
-use Rattle.gu_book.specs.Laws.{IsShort}
-use Rattle.gu_book.specs.Legal.{IsLegal, MayFollow}
-use Rattle.gu_book.specs.Views.{group_view}
+use Rattle.gu_rules.specs.Laws.{IsShort}
+use Rattle.gu_rules.specs.Legal.{IsLegal, MayFollow}
+use Rattle.gu_rules.specs.Views.{group_view}
 use Rattle.gu_script.specs.CommittedSheets.{AreTyped, HasLots, PrintRightSheets}
 use Rattle.gu_text.specs.WrittenSheets.{cut_of, takes_of}
 use Rattle.gu_script.proofs.GroupViews.{few_touches, is_view, named, nested}

@@ -45,25 +45,24 @@ use Rattle.gu_view.specs.Making.{bad_offer}
 use Rattle.gu_view.specs.View.{IsNested, IsView, firsts, keys_of}
 use Rattle.gu_view.specs.declared.view.ViewOffer.{ViewOffer}
 use Rattle.gu_view.specs.declared.view.Room.{Room}
-use Rattle.gu_book.specs.Answer.{done_of, most_limit, state_of, tests_of}
-use Rattle.gu_book.specs.Legal.{IsLegal, MayFollow}
-use Rattle.gu_book.specs.Limits.{limit_of, limit_set_by, room_of}
-use Rattle.gu_book.specs.Offers.{lines_by, offers_of, standing_from, standing_of}
-use Rattle.gu_book.specs.Orderly.{IsBalanced}
-use Rattle.gu_book.specs.Shown.{shown_at}
-use Rattle.gu_book.specs.Versions.{version_of}
-use Rattle.gu_book.specs.Views.{group_view, offers_shown}
-use Rattle.gu_book.proofs.AgreementPaths.{goes_through}
-use Rattle.gu_book.proofs.Beginning.{is-accepted}
-use Rattle.gu_book.proofs.Growing.{last-given, last-kept}
-use Rattle.gu_book.proofs.KnownAccounts.{all-found}
-use Rattle.gu_book.proofs.LegalLaws.{few_offers_made}
-use Rattle.gu_book.proofs.LegalOrder.{legal_ordered}
-use Rattle.gu_book.proofs.NestedViews.{is_nested}
-use Rattle.gu_book.proofs.Onward.{each_legal}
-use Rattle.gu_book.proofs.Passing.{none_stands}
-use Rattle.gu_book.proofs.VersionLemmas.{version-le}
-use Rattle.gu_book.proofs.ViewLemmas.{HasPath, have_paths, none_bad_offer, none_differs, offers-are, shows_offer}
+use Rattle.gu_rules.specs.Answer.{done_of, most_limit, state_of, tests_of}
+use Rattle.gu_rules.specs.Legal.{IsLegal, MayFollow}
+use Rattle.gu_rules.specs.Limits.{limit_of, limit_set_by, room_of}
+use Rattle.gu_rules.specs.Offers.{lines_by, offers_of, standing_from, standing_of}
+use Rattle.gu_rules.specs.Orderly.{IsBalanced}
+use Rattle.gu_rules.specs.Views.{group_view, offers_shown, shown_at}
+use Rattle.gu_rules.specs.Versions.{version_of}
+use Rattle.gu_rules.proofs.AgreementPaths.{goes_through}
+use Rattle.gu_rules.proofs.AcceptedCommands.{is-accepted}
+use Rattle.gu_rules.proofs.Growing.{last-given, last-kept}
+use Rattle.gu_rules.proofs.KnownOnes.{all-found}
+use Rattle.gu_rules.proofs.LegalLaws.{few_offers_made}
+use Rattle.gu_rules.proofs.LegalOrder.{legal_ordered}
+use Rattle.gu_rules.proofs.NestedViews.{is_nested}
+use Rattle.gu_rules.proofs.Onward.{each_legal}
+use Rattle.gu_rules.proofs.Passing.{none_stands}
+use Rattle.gu_rules.proofs.VersionLemmas.{version-le}
+use Rattle.gu_rules.proofs.ViewLemmas.{HasPath, have_paths, none_bad_offer, none_differs, offers-are, shows_offer}
 use Rattle.gu_script.specs.CommittedSheets.{AreTyped, HasLots}
 use Rattle.gu_text.specs.WrittenSheets.{IsNamed}
 

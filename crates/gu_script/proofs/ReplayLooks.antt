@@ -8,8 +8,8 @@ use Rattle.gu_terms.specs.declared.entry.SweepEntry.{SweepEntry}
 use Rattle.gu_terms.specs.declared.group.Group.{Group}
 use Rattle.gu_terms.specs.declared.receipt.Receipt.{Receipt}
 use Rattle.gu_ref.specs.Reference.{is_group}
-use Rattle.gu_book.specs.Answer.{answer}
-use Rattle.gu_book.specs.Versions.{version_of}
+use Rattle.gu_rules.specs.Answer.{answer}
+use Rattle.gu_rules.specs.Versions.{version_of}
 use Rattle.gu_world.specs.Runs.{Course, IsReached, IsRun}
 use Rattle.gu_world.specs.Steps.{LeadsTo, Look, ProposesOn, State, committed_for, committed_on, is_full, is_overtaken, look_of, next_receipt, seen_history, start, with_entry, with_look, with_proposal}
 use Rattle.gu_world.specs.declared.outcome.Outcome.{Outcome}

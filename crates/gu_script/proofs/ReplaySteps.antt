@@ -5,8 +5,8 @@ use Rattle.gu_terms.specs.declared.entry.Entry.TheVariants.{Swept as SweptEntry}
 use Rattle.gu_terms.specs.declared.group.Group.{Group}
 use Rattle.gu_ref.specs.Reference.{is_group}
 use Rattle.gu_view.specs.View.{GroupView}
-use Rattle.gu_book.specs.BookState.{BookState}
-use Rattle.gu_book.specs.Views.{group_view}
+use Rattle.gu_rules.specs.BookState.{BookState}
+use Rattle.gu_rules.specs.Views.{group_view}
 use Rattle.gu_world.specs.Runs.{Course, GoesOn, IsReached, IsRun}
 use Rattle.gu_world.specs.Steps.{LeadsTo, State, next_receipt, with_look}
 use Rattle.gu_world.specs.declared.outcome.Outcome.{Outcome}

@@ -15,8 +15,8 @@ use Rattle.gu_ref.specs.Rules.{IsSound}
 use Rattle.gu_ref.specs.Tables.{Tables}
 use Rattle.gu_view.specs.Check.{verdict}
 use Rattle.gu_view.specs.View.{GroupView}
-use Rattle.gu_book.specs.Laws.{AreShort}
-use Rattle.gu_book.specs.Views.{group_view}
+use Rattle.gu_rules.specs.Laws.{AreShort}
+use Rattle.gu_rules.specs.Views.{group_view}
 use Rattle.gu_text.specs.SheetText.{sheet_text}
 use Rattle.gu_text.specs.Sheets.{IsSheet}
 use Rattle.gu_text.specs.WrittenSheets.{cut_of, sheet_of, takes_of}

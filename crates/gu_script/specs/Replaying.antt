@@ -8,10 +8,10 @@ use Rattle.gu_terms.specs.declared.group.Group.{Group}
 use Rattle.gu_terms.specs.declared.symbol.Symbol.{Symbol}
 use Rattle.gu_ref.specs.Reference.{account_row, is_group, is_instrument}
 use Rattle.gu_view.specs.View.{GroupView}
-use Rattle.gu_book.specs.BookState.{BookState}
-use Rattle.gu_book.specs.Limits.{limit_rows}
-use Rattle.gu_book.specs.Positions.{long_of, open_interest_of, short_of}
-use Rattle.gu_book.specs.Views.{group_view}
+use Rattle.gu_rules.specs.BookState.{BookState}
+use Rattle.gu_rules.specs.Limits.{limit_rows}
+use Rattle.gu_rules.specs.Positions.{long_of, open_interest_of, short_of}
+use Rattle.gu_rules.specs.Views.{group_view}
 use Rattle.gu_world.specs.Runs.{Course, IsRun}
 use Rattle.gu_world.specs.declared.outcome.Outcome.{Outcome}
 use Rattle.gu_world.specs.declared.outcome.Outcome.TheVariants.{NoGroup, Swept}

@@ -2,7 +2,7 @@
 use Rattle.std.specs.Prelude.{◌≡◌, ℕ, false, List, ◌++◌, Option, Some, None}
 use Rattle.gu_terms.specs.declared.group.Group.{Group}
 use Rattle.gu_view.specs.View.{GroupView}
-use Rattle.gu_book.specs.Views.{group_view}
+use Rattle.gu_rules.specs.Views.{group_view}
 use Rattle.gu_world.specs.Runs.{Course, GoesOn}
 use Rattle.gu_world.specs.Steps.{Look, State, is_overtaken, look_of}
 use Rattle.gu_world.specs.declared.step.Step.{Step}

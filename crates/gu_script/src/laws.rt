@@ -3,7 +3,7 @@
 ghost use Rattle.std.specs.Prelude.{List};
 ghost use Rattle.gu_terms.specs.declared.entry.Entry.{Entry as EntryOf};
 ghost use Rattle.gu_ref.specs.Tables.{Tables};
-ghost use Rattle.gu_book.specs.Legal.{IsLegal};
+ghost use Rattle.gu_rules.specs.Legal.{IsLegal};
 ghost use Rattle.gu_world.specs.Runs.{Course, IsRunOf};
 ghost use Rattle.gu_world.specs.declared.step.Step.{Step as StepOf};
 ghost use Rattle.gu_script.specs.CommittedSheets.{AreTyped, PrintRightSheets};

@@ -16,12 +16,12 @@ use Rattle.gu_terms.specs.declared.lines.Line.{Line}
 use Rattle.gu_terms.specs.declared.offer.Offer.{Offer}
 use Rattle.gu_terms.specs.declared.reply.Done.TheVariants.{Offered}
 use Rattle.gu_terms.specs.declared.reply.Reply.TheVariants.{Accepted}
-use Rattle.gu_book.specs.Offers.{lines_by, offers_of}
-use Rattle.gu_book.specs.Versions.{is_of_group, touches, touching, touching_after}
-use Rattle.gu_book.proofs.StandingLemmas.{offers_of-push}
+use Rattle.gu_rules.specs.Offers.{lines_by, offers_of}
+use Rattle.gu_rules.specs.Versions.{is_of_group, touches, touching, touching_after}
+use Rattle.gu_rules.proofs.StandingLemmas.{offers_of-push}
 use Rattle.gu_world.specs.Blame.{own_of}
 use Rattle.gu_world.specs.Steps.{first_touch_above}
-use Rattle.gu_book.proofs.VersionLemmas.{touching_after-append}
+use Rattle.gu_rules.proofs.VersionLemmas.{touching_after-append}
 use Rattle.gu_world.proofs.Touches.{found_after, touching_at}
 
 -- of the offer of a number it is known whether it is of the group

@@ -9,10 +9,10 @@ use Rattle.gu_terms.specs.declared.group.Group.{Group}
 use Rattle.gu_terms.specs.declared.receipt.Receipt.{Receipt}
 use Rattle.gu_flow.specs.Proposals.{ProposedSweep}
 use Rattle.gu_view.specs.View.{GroupView}
+use Rattle.gu_rules.specs.BookState.{BookState}
+use Rattle.gu_rules.specs.Legal.{IsLegal}
+use Rattle.gu_rules.specs.Versions.{version_of}
 use Rattle.gu_book.specs.Commits.{IsCurrent, IsForeign, IsStale, sweep_of}
-use Rattle.gu_book.specs.BookState.{BookState}
-use Rattle.gu_book.specs.Legal.{IsLegal}
-use Rattle.gu_book.specs.Versions.{version_of}
 use Rattle.gu_world.specs.Looks.{IsTrueLook, look_by}
 use Rattle.gu_world.specs.Steps.{Look, committed_for, first_touch_above}
 use Rattle.gu_world.specs.declared.held.Work.TheVariants.{Ready}

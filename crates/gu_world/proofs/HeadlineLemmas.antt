@@ -10,11 +10,11 @@ use Rattle.gu_terms.specs.declared.entry.SweepEntry.{SweepEntry}
 use Rattle.gu_ref.specs.Reference.{is_group}
 use Rattle.gu_ref.specs.Tables.{Tables}
 use Rattle.gu_terms.specs.declared.side.Side.TheVariants.{Buy, Sell}
-use Rattle.gu_book.specs.Legal.{IsLegal}
-use Rattle.gu_book.specs.Offers.{standing_of}
-use Rattle.gu_book.specs.Orderly.{IsOrderly}
-use Rattle.gu_book.specs.Reports.{reports_of}
-use Rattle.gu_book.proofs.ChangedSums.{moved_out-le-traded}
+use Rattle.gu_rules.specs.Legal.{IsLegal}
+use Rattle.gu_rules.specs.Offers.{standing_of}
+use Rattle.gu_rules.specs.Orderly.{IsOrderly}
+use Rattle.gu_rules.specs.Reports.{reports_of}
+use Rattle.gu_rules.proofs.ChangedSums.{moved_out-le-traded}
 use Rattle.gu_world.specs.Headline.{AreGreatestSweeps, ArePositionsSums}
 use Rattle.gu_world.specs.Runs.{IsRun}
 use Rattle.gu_world.specs.Steps.{LeadsTo, Look, ProposesOn, State, committed_for, committed_on, is_full, is_overtaken, look_of, with_look}

@@ -6,10 +6,10 @@ use Rattle.std.proofs.lemmas.List.{length-set}
 use Rattle.gu_ref.specs.Reference.{is_group}
 use Rattle.gu_flow.specs.Proposals.{ProposedSweep}
 use Rattle.gu_view.specs.View.{GroupView, IsNested}
+use Rattle.gu_rules.specs.BookState.{BookState}
+use Rattle.gu_rules.specs.Sweeps.{IsSweepOf}
+use Rattle.gu_rules.specs.Views.{group_view}
 use Rattle.gu_book.specs.Commits.{sweep_of}
-use Rattle.gu_book.specs.BookState.{BookState}
-use Rattle.gu_book.specs.Sweeps.{IsSweepOf}
-use Rattle.gu_book.specs.Views.{group_view}
 use Rattle.gu_world.specs.Looks.{AreTrue, Grows, IsTrueLook, look_by, look_in, looks_in, state_in, view_in}
 use Rattle.gu_world.specs.Steps.{Look, ProposesOn, committed_for, committed_on, look_of, with_proposal}
 use Rattle.gu_world.specs.declared.held.Held.{Held}

@@ -11,12 +11,12 @@ use Rattle.gu_terms.specs.declared.group.Group.{Group}
 use Rattle.gu_ref.specs.Reference.{is_group}
 use Rattle.gu_ref.specs.Tables.{Tables}
 use Rattle.gu_view.specs.View.{GroupView}
-use Rattle.gu_book.specs.Answer.{answer}
-use Rattle.gu_book.specs.Legal.{IsLegal, MayFollow}
-use Rattle.gu_book.specs.Sweeps.{IsSweepOf, MaySweep}
-use Rattle.gu_book.specs.Versions.{version_of}
-use Rattle.gu_book.specs.Views.{group_view}
-use Rattle.gu_book.proofs.Growing.{legal_push}
+use Rattle.gu_rules.specs.Answer.{answer}
+use Rattle.gu_rules.specs.Legal.{IsLegal, MayFollow}
+use Rattle.gu_rules.specs.Sweeps.{IsSweepOf, MaySweep}
+use Rattle.gu_rules.specs.Versions.{version_of}
+use Rattle.gu_rules.specs.Views.{group_view}
+use Rattle.gu_rules.proofs.Growing.{legal_push}
 use Rattle.gu_world.specs.Runs.{Course, IsRun, IsRunOf}
 use Rattle.gu_world.specs.Steps.{LeadsTo, Look, ProposesOn, State, committed_for, committed_on, is_full, is_overtaken, look_of, start, with_entry, with_look, with_proposal}
 use Rattle.gu_world.specs.declared.outcome.Outcome.{Outcome}

@@ -8,9 +8,9 @@ use Rattle.gu_terms.specs.declared.entry.Entry.{Entry}
 use Rattle.gu_terms.specs.declared.entry.SweepEntry.{SweepEntry}
 use Rattle.gu_terms.specs.declared.receipt.Receipt.{Receipt}
 use Rattle.gu_ref.specs.Reference.{is_group}
-use Rattle.gu_book.specs.BookState.{BookState}
-use Rattle.gu_book.specs.Versions.{touching}
-use Rattle.gu_book.specs.Views.{group_view}
+use Rattle.gu_rules.specs.BookState.{BookState}
+use Rattle.gu_rules.specs.Versions.{touching}
+use Rattle.gu_rules.specs.Views.{group_view}
 use Rattle.gu_world.specs.Looks.{Grows}
 use Rattle.gu_world.specs.Runs.{blamed}
 use Rattle.gu_world.specs.Steps.{LeadsTo, Look, ProposesOn, State, committed_for, committed_on, first_touch_above, is_full, is_overtaken, look_of, seen_history, view_seen, with_look}

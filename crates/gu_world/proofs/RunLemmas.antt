@@ -6,9 +6,9 @@ use Rattle.gu_terms.specs.declared.entry.SweepEntry.{SweepEntry}
 use Rattle.gu_ref.specs.Reference.{is_group}
 use Rattle.gu_ref.specs.Tables.{Tables}
 use Rattle.gu_view.specs.View.{GroupView}
-use Rattle.gu_book.specs.BookState.{BookState}
-use Rattle.gu_book.specs.Legal.{IsLegal}
-use Rattle.gu_book.specs.Views.{group_view}
+use Rattle.gu_rules.specs.BookState.{BookState}
+use Rattle.gu_rules.specs.Legal.{IsLegal}
+use Rattle.gu_rules.specs.Views.{group_view}
 use Rattle.gu_world.specs.Looks.{AreTrue, IsKeptCourse, look_in, state_in, view_in}
 use Rattle.gu_world.specs.Outcomes.{AreNumbered, kept_of, outcome_in}
 use Rattle.gu_world.specs.Runs.{Course, GoesOn, IsRun, IsRunOf, beginning}

@@ -8,8 +8,8 @@ use Rattle.gu_terms.specs.declared.group.Group.{Group}
 use Rattle.gu_ref.specs.Reference.{is_group}
 use Rattle.gu_ref.specs.Tables.{Tables}
 use Rattle.gu_view.specs.View.{GroupView, IsNested}
-use Rattle.gu_book.specs.BookState.{BookState}
-use Rattle.gu_book.specs.Views.{group_view}
+use Rattle.gu_rules.specs.BookState.{BookState}
+use Rattle.gu_rules.specs.Views.{group_view}
 use Rattle.gu_world.specs.Looks.{AreTrue, Grows, IsTrueLook, look_in, looks_in, state_in, view_in}
 use Rattle.gu_world.specs.Steps.{Look, look_of, looked}
 use Rattle.gu_world.specs.declared.held.Held.{Held}

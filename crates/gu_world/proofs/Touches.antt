@@ -9,11 +9,11 @@ use Rattle.std.proofs.lemmas.List.{length-take}
 use Rattle.gu_terms.specs.declared.entry.Entry.{Entry}
 use Rattle.gu_terms.specs.declared.group.Group.{Group}
 use Rattle.gu_ref.specs.Tables.{Tables}
-use Rattle.gu_book.proofs.Elsewhere.{view-elsewhere}
-use Rattle.gu_book.proofs.VersionLemmas.{touching_after-append}
-use Rattle.gu_book.specs.Legal.{IsLegal, MayFollow}
-use Rattle.gu_book.specs.Versions.{touches, touching, touching_after, version_of}
-use Rattle.gu_book.specs.Views.{group_view}
+use Rattle.gu_rules.specs.Legal.{IsLegal, MayFollow}
+use Rattle.gu_rules.specs.Versions.{touches, touching, touching_after, version_of}
+use Rattle.gu_rules.specs.Views.{group_view}
+use Rattle.gu_rules.proofs.Elsewhere.{view-elsewhere}
+use Rattle.gu_rules.proofs.VersionLemmas.{touching_after-append}
 use Rattle.gu_world.specs.Steps.{first_touch_above}
 
 -- a number in front, where a test passes

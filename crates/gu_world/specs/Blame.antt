@@ -5,7 +5,7 @@ use Rattle.gu_terms.specs.Same.{same_group}
 use Rattle.gu_terms.specs.declared.entry.Entry.{Entry}
 use Rattle.gu_terms.specs.declared.group.Group.{Group}
 use Rattle.gu_terms.specs.declared.offer.Offer.{Offer}
-use Rattle.gu_book.specs.Offers.{offers_of}
+use Rattle.gu_rules.specs.Offers.{offers_of}
 use Rattle.gu_world.specs.Runs.{Course, GoesOn, blamed}
 use Rattle.gu_world.specs.Steps.{Look, State, first_touch_above, look_of}
 use Rattle.gu_world.specs.declared.outcome.Outcome.{Outcome}

@@ -12,10 +12,10 @@ use Rattle.gu_view.specs.Check.{has_offer, has_room}
 use Rattle.gu_view.specs.Cut.{Covers, room_of}
 use Rattle.gu_view.specs.Takes.{IsAdmissible, IsOldestFirst, total}
 use Rattle.gu_view.specs.View.{GroupView}
-use Rattle.gu_book.specs.Offers.{standing_of}
-use Rattle.gu_book.specs.Positions.{long_of, moved_into, moved_out, short_of, traded}
-use Rattle.gu_book.specs.Reports.{reports_of}
-use Rattle.gu_book.specs.Views.{group_view}
+use Rattle.gu_rules.specs.Offers.{standing_of}
+use Rattle.gu_rules.specs.Positions.{long_of, moved_into, moved_out, short_of, traded}
+use Rattle.gu_rules.specs.Reports.{reports_of}
+use Rattle.gu_rules.specs.Views.{group_view}
 
 -- a sweep of a view: it takes lots of the view's offers alone, no more of any offer than it has and no more under any key than its room,
 -- and the oldest offers of an agreement first; no admissible takes have more lots; and its cut names keys and offers of the view alone,

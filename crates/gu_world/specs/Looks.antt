@@ -4,9 +4,9 @@ use Rattle.std.specs.Option.{option_map}
 use Rattle.gu_terms.specs.declared.entry.Entry.{Entry}
 use Rattle.gu_ref.specs.Reference.{is_group}
 use Rattle.gu_view.specs.View.{GroupView, IsNested}
+use Rattle.gu_rules.specs.BookState.{BookState}
+use Rattle.gu_rules.specs.Views.{group_view}
 use Rattle.gu_book.specs.Commits.{sweep_of}
-use Rattle.gu_book.specs.BookState.{BookState}
-use Rattle.gu_book.specs.Views.{group_view}
 use Rattle.gu_world.specs.Runs.{IsReached}
 use Rattle.gu_world.specs.Steps.{Look, State}
 use Rattle.gu_world.specs.Outcomes.{AreNumbered, outcome_in}

@@ -11,11 +11,11 @@ use Rattle.gu_terms.specs.declared.receipt.Receipt.{Receipt}
 use Rattle.gu_ref.specs.Reference.{is_group}
 use Rattle.gu_ref.specs.Tables.{Tables}
 use Rattle.gu_view.specs.View.{GroupView}
-use Rattle.gu_book.specs.Answer.{answer}
-use Rattle.gu_book.specs.BookState.{BookState}
-use Rattle.gu_book.specs.Sweeps.{MaySweep}
-use Rattle.gu_book.specs.Versions.{touching, version_of}
-use Rattle.gu_book.specs.Views.{group_view}
+use Rattle.gu_rules.specs.Answer.{answer}
+use Rattle.gu_rules.specs.BookState.{BookState}
+use Rattle.gu_rules.specs.Sweeps.{MaySweep}
+use Rattle.gu_rules.specs.Versions.{touching, version_of}
+use Rattle.gu_rules.specs.Views.{group_view}
 use Rattle.gu_world.specs.declared.answered.Answered.{Answered}
 use Rattle.gu_world.specs.declared.outcome.Outcome.{Outcome}
 use Rattle.gu_world.specs.declared.outcome.Outcome.TheVariants.{Asked, Full, Seen, NoGroup, Proposed, Swept, Stale, Nothing}

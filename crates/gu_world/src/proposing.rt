@@ -1,9 +1,9 @@
 //! Proposals.
 
 ghost use Rattle.std.specs.Prelude.{◌≡◌, IfErr, IfOk, OnErr};
+ghost use Rattle.gu_rules.specs.BookState.{BookState};
+ghost use Rattle.gu_rules.specs.Sweeps.{IsSweepOf};
 ghost use Rattle.gu_book.specs.Commits.{sweep_of};
-ghost use Rattle.gu_book.specs.BookState.{BookState};
-ghost use Rattle.gu_book.specs.Sweeps.{IsSweepOf};
 ghost use Rattle.gu_view.specs.View.{IsNested};
 ghost use Rattle.gu_world.specs.Looks.{AreNested, AreTrue, state_in, view_in};
 ghost use Rattle.gu_world.specs.Steps.{ProposesOn, look_of};

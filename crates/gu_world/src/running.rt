@@ -1,8 +1,8 @@
 //! Runs.
 
 ghost use Rattle.std.specs.Prelude.{◌≡◌, ◌≢◌, All, IfOk, take};
-ghost use Rattle.gu_book.specs.Legal.{IsLegal};
-ghost use Rattle.gu_book.specs.Positions.{LongIsShort};
+ghost use Rattle.gu_rules.specs.Legal.{IsLegal};
+ghost use Rattle.gu_rules.specs.Positions.{LongIsShort};
 ghost use Rattle.gu_world.specs.Headline.{AreGreatestSweeps, ArePositionsSums};
 ghost use Rattle.gu_world.specs.Runs.{IsRunOf};
 ghost use Rattle.gu_world.specs.declared.outcome.Outcome.TheVariants.{Foreign};

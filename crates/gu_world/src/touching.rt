@@ -4,7 +4,7 @@ ghost use Rattle.std.specs.Prelude.{◌≡◌, ◌++◌, ◌∷◌, [], List, On
 ghost use Rattle.gu_terms.specs.declared.entry.Entry.{Entry as EntryOf};
 ghost use Rattle.gu_terms.specs.declared.entry.Entry.TheVariants.{Asked};
 ghost use Rattle.gu_terms.specs.declared.reply.Reply.TheVariants.{Accepted};
-ghost use Rattle.gu_book.specs.Versions.{is_of_group, touches};
+ghost use Rattle.gu_rules.specs.Versions.{is_of_group, touches};
 ghost use Rattle.gu_world.specs.Blame.{own_of};
 
 use gu_terms::{Command, Done, Entry, Group, OfferNo, Reply};

@@ -2,7 +2,7 @@
 
 ghost use Rattle.std.specs.Prelude.{◌≡◌, false, IfOk, OnOk, OnErr, Some};
 ghost use Rattle.std.specs.Option.{option_copied, option_map};
-ghost use Rattle.gu_book.specs.Views.{group_view};
+ghost use Rattle.gu_rules.specs.Views.{group_view};
 ghost use Rattle.gu_world.specs.Looks.{AreTrue, state_in};
 ghost use Rattle.gu_world.specs.Runs.{GoesOn, IsReached, beginning};
 ghost use Rattle.gu_world.specs.Steps.{LeadsTo, Look, is_overtaken, look_of, outcome_of, view_seen};

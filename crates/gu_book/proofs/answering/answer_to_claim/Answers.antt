@@ -7,9 +7,10 @@ use Rattle.gu_terms.specs.declared.reply.Done.TheVariants.{Claimed}
 use Rattle.gu_terms.specs.declared.reply.Reply.TheVariants.{Accepted}
 use Rattle.gu_limits.specs.Limits.{room_in}
 use Rattle.gu_offers.specs.Rows.{left_in}
-use Rattle.gu_book.specs.Answer.{claim_tests, offer_tests}
+use Rattle.gu_rules.specs.Answer.{claim_tests, offer_tests}
+use Rattle.gu_rules.proofs.Passing.{standing_after, standing_in, standing_none}
 use Rattle.gu_book.specs.Beside.{short_key, state_in}
-use Rattle.gu_book.proofs.Passing.{claim_refused, lots_are, short_key-of, standing_after, standing_in, standing_none}
+use Rattle.gu_book.proofs.ClaimLemmas.{claim_refused, lots_are, short_key-of}
 use Rattle.gu_book.proofs.answering.answer_to_claim.Goals as goal
 
 pub returns-in-Some-short_key-clause-reply : goal.returns-in-Some-short_key-clause-reply

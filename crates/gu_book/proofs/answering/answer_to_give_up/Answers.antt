@@ -1,9 +1,9 @@
 use Rattle.std.proofs.Common.{sym, ◌∙◌, ◌≡◌, length, ◌+◌, false, is_none, not, ap, arith, refl, None}
 use Rattle.gu_terms.specs.declared.reply.Done.TheVariants.{Offered}
 use Rattle.gu_terms.specs.declared.reply.Reply.TheVariants.{Accepted}
-use Rattle.gu_book.specs.Answer.{given_up, has_unknown_account, lacks_agreement, lines_tests, refusal_in, tests_of_lines}
+use Rattle.gu_rules.specs.Answer.{given_up, has_unknown_account, lacks_agreement, lines_tests, refusal_in, tests_of_lines}
+use Rattle.gu_rules.proofs.Passing.{standing_in, standing_none}
 use Rattle.gu_book.specs.Beside.{is_kept_give_up, state_in}
-use Rattle.gu_book.proofs.Passing.{standing_in, standing_none}
 use Rattle.gu_book.proofs.TakenIn.{standing-given, standing-none}
 use Rattle.gu_book.proofs.answering.answer_to_give_up.Goals as goal
 

@@ -3,7 +3,7 @@ use Rattle.gu_ref.specs.Reference.{account_row, is_instrument}
 use Rattle.gu_terms.specs.Same.{same_firm}
 use Rattle.gu_trades.specs.Reports.{has_report, with_match}
 use Rattle.gu_trades.specs.Terms.{report_with}
-use Rattle.gu_book.specs.Answer.{is_other_day}
+use Rattle.gu_rules.specs.Answer.{is_other_day}
 use Rattle.gu_book.specs.Beside.{answer_to_match, waiting_of}
 use Rattle.gu_book.proofs.Counterparts.{answer-met}
 use Rattle.gu_book.proofs.answering.answer_to_report.Goals as goal

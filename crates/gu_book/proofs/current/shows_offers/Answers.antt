@@ -1,6 +1,6 @@
 use Rattle.std.proofs.Common.{◌+◌, drop}
 use Rattle.std.specs.List.{filter_map}
-use Rattle.gu_book.specs.Shown.{shown_at}
+use Rattle.gu_rules.specs.Views.{shown_at}
 use Rattle.gu_book.proofs.CurrentLemmas.{given-next, rest-begins}
 use Rattle.gu_book.proofs.current.shows_offers.Goals as goal
 

@@ -5,7 +5,7 @@ use Rattle.gu_terms.specs.declared.query.PositionRow.{PositionRow}
 use Rattle.gu_terms.specs.declared.side.Side.TheVariants.{Buy, Sell}
 use Rattle.gu_ref.specs.declared.instruments.Instrument.{Instrument}
 use Rattle.gu_positions.specs.Rows.{lots_in}
-use Rattle.gu_book.specs.Positions.{row_of_lots}
+use Rattle.gu_rules.specs.Positions.{row_of_lots}
 use Rattle.gu_book.proofs.LimitLemmas.{filter_map_next}
 use Rattle.gu_book.proofs.positions.append_rows.Goals as goal
 

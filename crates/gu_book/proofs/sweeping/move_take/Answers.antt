@@ -5,8 +5,8 @@ use Rattle.gu_terms.specs.LimitKeys.{key_eq}
 use Rattle.gu_terms.specs.declared.limit_key.LimitKey.{LimitKey}
 use Rattle.gu_limits.specs.Changes.{lots_under}
 use Rattle.gu_limits.specs.Limits.{GroupLimit, room_in, used_in}
+use Rattle.gu_rules.proofs.AgreementPaths.{path_after-once}
 use Rattle.gu_book.specs.Effects.{UsesMore}
-use Rattle.gu_book.proofs.AgreementPaths.{path_after-once}
 use Rattle.gu_book.proofs.Moves.{moves-one, take-path, take-room, take-there}
 use Rattle.gu_book.proofs.sweeping.move_take.Goals as goal
 

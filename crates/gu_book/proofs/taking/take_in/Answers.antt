@@ -12,8 +12,8 @@ use Rattle.gu_terms.specs.declared.symbol.Symbol.{Symbol}
 use Rattle.gu_trades.specs.Counterparts.{counterpart_of}
 use Rattle.gu_trades.specs.Reports.{with_match}
 use Rattle.gu_trades.specs.declared.terms.Terms.{Terms}
+use Rattle.gu_rules.specs.Answer.{answer_in}
 use Rattle.gu_book.specs.Accepted.{MayTakeIn, TakesIn}
-use Rattle.gu_book.specs.Answer.{answer_in}
 use Rattle.gu_book.specs.Beside.{state_in, waiting_of}
 use Rattle.gu_book.specs.Met.{IsMet, IsMetOffer}
 use Rattle.gu_book.specs.declared.met.MetOffer.{MetOffer}

@@ -3,7 +3,7 @@ use Rattle.std.specs.List.{filter_map}
 use Rattle.std.specs.Option.{option_to_list}
 use Rattle.std.proofs.lemmas.List.{get_or_default}
 use Rattle.gu_view.specs.declared.view.ViewOffer.{ViewOffer}
-use Rattle.gu_book.specs.Shown.{shown_at}
+use Rattle.gu_rules.specs.Views.{shown_at}
 use Rattle.gu_book.proofs.LimitLemmas.{filter_map_next}
 use Rattle.gu_book.proofs.views.offers_of.Goals as goal
 

@@ -9,9 +9,11 @@ use Rattle.gu_offers.specs.Rows.{IsSound, open_numbers}
 use Rattle.gu_view.specs.Making.{bad_offer, path_differs}
 use Rattle.gu_view.specs.View.{GroupView, keys_of}
 use Rattle.gu_view.specs.declared.view.Room.{Room}
-use Rattle.gu_book.specs.Shown.{offers_in, rooms_in, shown_at}
-use Rattle.gu_book.proofs.ViewLemmas.{HasPath, have_paths, none_bad_offer, none_differs, offers-are, rooms_in-keys, rooms_in-limits}
-use Rattle.gu_book.proofs.NestedViews.{is_nested}
+use Rattle.gu_rules.specs.Views.{offers_in, shown_at}
+use Rattle.gu_rules.proofs.ViewLemmas.{HasPath, have_paths, none_bad_offer, none_differs, offers-are}
+use Rattle.gu_rules.proofs.NestedViews.{is_nested}
+use Rattle.gu_book.specs.Shown.{rooms_in}
+use Rattle.gu_book.proofs.KeptRooms.{rooms_in-keys, rooms_in-limits}
 use Rattle.gu_book.proofs.views.view_of.Goals as goal
 
 -- what two facts of a value that was made give

@@ -3,7 +3,7 @@ use Rattle.std.specs.Prelude.{slice_get}
 use Rattle.std.proofs.lemmas.List.{take_more}
 use Rattle.std.proofs.lemmas.Option.{get_or_from_slice_get, slice_get_within}
 use Rattle.gu_terms.specs.declared.entry.Entry.{Entry}
-use Rattle.gu_book.specs.Versions.{touches}
+use Rattle.gu_rules.specs.Versions.{touches}
 use Rattle.gu_world.specs.Blame.{own_of}
 use Rattle.gu_world.proofs.BlameLemmas.{touched-here, untouched-here}
 use Rattle.gu_world.proofs.blame.first_touch.Goals as goal

@@ -1,6 +1,6 @@
 use Rattle.std.proofs.Common.{◌≡◌, None, nat_lt, take}
 use Rattle.std.specs.List.{find}
-use Rattle.gu_book.specs.Versions.{touching}
+use Rattle.gu_rules.specs.Versions.{touching}
 use Rattle.gu_world.specs.Blame.{own_of}
 use Rattle.gu_world.proofs.blame.first_touch.Given as goal
 

@@ -1,6 +1,6 @@
 use Rattle.std.proofs.Common.{sym, subst, ap, ◌∙◌}
 use Rattle.std.specs.Prelude.{None, slice_set}
-use Rattle.gu_book.specs.BookState.{BookState}
+use Rattle.gu_rules.specs.BookState.{BookState}
 use Rattle.gu_world.specs.Looks.{AreTrue, IsTrueLook, looks_in}
 use Rattle.gu_world.specs.declared.held.Work.{Work}
 use Rattle.gu_world.specs.declared.held.Work.TheVariants.{Looking, Ready}

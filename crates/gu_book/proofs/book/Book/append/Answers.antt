@@ -2,20 +2,21 @@ use Rattle.std.proofs.Common.{◌≡◌, ◌∙◌, ◌++◌, ◌∷◌, ◌+◌
 use Rattle.gu_terms.specs.declared.entry.Entry.{Entry}
 use Rattle.gu_terms.specs.declared.entry.Entry.TheVariants.{Asked}
 use Rattle.gu_terms.specs.declared.group.Group.{Group}
-use Rattle.gu_book.specs.Answer.{answer}
+use Rattle.gu_rules.specs.Answer.{answer}
+use Rattle.gu_rules.specs.BookState.{BookState}
+use Rattle.gu_rules.specs.Legal.{StandsLast}
+use Rattle.gu_rules.specs.Versions.{touches}
+use Rattle.gu_rules.proofs.AcceptedCommands.{is-accepted}
+use Rattle.gu_rules.proofs.Growing.{stands_last}
 use Rattle.gu_book.specs.Beside.{IsKeptLegal}
 use Rattle.gu_book.specs.Counted.{AreVersions, is_touched, version_in}
-use Rattle.gu_book.specs.BookState.{BookState}
-use Rattle.gu_book.specs.Legal.{StandsLast}
-use Rattle.gu_book.specs.Versions.{touches}
 use Rattle.gu_book.specs.declared.book.Book.TheInside.{Inside}
 use Rattle.gu_book.specs.declared.versions.Touched.{Touched}
 use Rattle.gu_book.specs.declared.versions.Versions.{Versions}
 use Rattle.gu_book.proofs.Accepting.{answer_is, few_offers}
-use Rattle.gu_book.proofs.Beginning.{is-accepted, legal-accepted, legal-denied, legal-refused}
+use Rattle.gu_book.proofs.Beginning.{legal-accepted, legal-denied, legal-refused}
 use Rattle.gu_book.proofs.CountedLemmas.{touched-is, versions-fit, versions-push, versions-same}
-use Rattle.gu_book.proofs.Growing.{stands_last}
-use Rattle.gu_book.proofs.Passing.{truncated}
+use Rattle.gu_book.proofs.ClaimLemmas.{truncated}
 use Rattle.gu_book.proofs.book.Book.append.Goals as goal
 use Rattle.gu_book.proofs.book.Book.append.Goals.{then-accepts+in_default, else-accepts}
 

@@ -7,11 +7,11 @@ use Rattle.gu_terms.specs.declared.entry.SweepEntry.{SweepEntry}
 use Rattle.gu_terms.specs.declared.group.Group.{Group}
 use Rattle.gu_terms.specs.declared.takes.Take.{Take}
 use Rattle.gu_view.specs.View.{GroupView}
+use Rattle.gu_rules.specs.BookState.{BookState}
+use Rattle.gu_rules.specs.Legal.{StandsLast}
 use Rattle.gu_book.specs.Beside.{IsKeptLegal}
 use Rattle.gu_book.specs.Commits.{IsCurrent, sweep_of}
 use Rattle.gu_book.specs.Counted.{version_in}
-use Rattle.gu_book.specs.BookState.{BookState}
-use Rattle.gu_book.specs.Legal.{StandsLast}
 use Rattle.gu_book.specs.Moving.{HasRows, MovesAll}
 use Rattle.gu_book.proofs.Committing.{legal-still, legal-swept, may-move, swept-last}
 use Rattle.gu_book.proofs.CountedLemmas.{versions-fit, versions-same}

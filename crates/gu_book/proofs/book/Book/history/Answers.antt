@@ -1,5 +1,5 @@
 use Rattle.std.proofs.Common.{subst}
-use Rattle.gu_book.specs.Positions.{LongIsShort}
+use Rattle.gu_rules.specs.Positions.{LongIsShort}
 use Rattle.gu_book.proofs.Interest.{long_is_short}
 use Rattle.gu_book.proofs.book.Book.history.Goals as goal
 

@@ -3,8 +3,8 @@ use Rattle.std.specs.List.{AllByRecursion}
 use Rattle.std.proofs.lemmas.List.Elements.{recursion_from_All}
 use Rattle.gu_terms.specs.Histories.{lots_swept}
 use Rattle.gu_offers.specs.Rows.{IsSound}
-use Rattle.gu_book.specs.BookState.{BookState}
-use Rattle.gu_book.proofs.SweptLots.{few-swept, sound-small}
+use Rattle.gu_rules.specs.BookState.{BookState}
+use Rattle.gu_rules.proofs.SweptLots.{few-swept, sound-small}
 use Rattle.gu_book.proofs.book.Book.lots_swept.Goals as goal
 
 pub sum_swept-requires : goal.sum_swept-requires

@@ -1,6 +1,6 @@
 use Rattle.std.proofs.Common.{◌∙◌, ◌-◌, ap, drop, max}
-use Rattle.gu_book.specs.BookState.{BookState}
-use Rattle.gu_book.specs.Notices.{notices_of, told_from, told_to}
+use Rattle.gu_rules.specs.BookState.{BookState}
+use Rattle.gu_rules.specs.Notices.{notices_of, told_from, told_to}
 use Rattle.gu_book.proofs.NoticeLemmas.{register-is}
 use Rattle.gu_book.proofs.book.Book.notices.Goals as goal
 

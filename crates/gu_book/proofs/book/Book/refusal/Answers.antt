@@ -1,9 +1,9 @@
 use Rattle.std.proofs.Common.{◌≡◌, ◌∙◌, ◌+◌, ◌<◌, ◌^◌, ap, arith, subst, sym}
 use Rattle.gu_ref.specs.Reference.{is_group}
+use Rattle.gu_rules.specs.BookState.{BookState}
+use Rattle.gu_rules.specs.Versions.{version_of}
 use Rattle.gu_book.specs.Commits.{IsCurrent, IsForeign}
 use Rattle.gu_book.specs.Counted.{version_in}
-use Rattle.gu_book.specs.BookState.{BookState}
-use Rattle.gu_book.specs.Versions.{version_of}
 use Rattle.gu_book.proofs.CountedLemmas.{versions-fit}
 use Rattle.gu_book.proofs.CurrentViews.{shows-view, view-shows}
 use Rattle.gu_book.proofs.book.Book.refusal.Goals as goal

@@ -1,6 +1,6 @@
 use Rattle.std.proofs.Common.{IfOk, subst}
-use Rattle.gu_book.specs.BookState.{BookState}
-use Rattle.gu_book.specs.Notices.{IsStretch, IsStretchOf, Register}
+use Rattle.gu_rules.specs.BookState.{BookState}
+use Rattle.gu_rules.specs.Notices.{IsStretch, IsStretchOf, Register}
 use Rattle.gu_book.proofs.NoticeLemmas.{register-is}
 use Rattle.gu_book.proofs.book.Book.stretch.Goals as goal
 

@@ -1,7 +1,7 @@
 use Rattle.std.proofs.Common.{◌+◌, ◌<◌, ◌^◌, ◌∙◌, ap, arith}
+use Rattle.gu_rules.specs.BookState.{BookState}
+use Rattle.gu_rules.specs.Views.{group_view}
 use Rattle.gu_book.specs.Counted.{version_in}
-use Rattle.gu_book.specs.BookState.{BookState}
-use Rattle.gu_book.specs.Views.{group_view}
 use Rattle.gu_book.proofs.BookViews.{view-is}
 use Rattle.gu_book.proofs.CountedLemmas.{versions-fit}
 use Rattle.gu_book.proofs.book.Book.view.Goals as goal

@@ -1,5 +1,5 @@
 use Rattle.std.proofs.Common.{◌≡◌, ◌-◌, ◌+◌, ◌≤◌, ap, arith, drop, length, subst, take}
-use Rattle.gu_book.specs.Notices.{told_by, told_from}
+use Rattle.gu_rules.specs.Notices.{told_by, told_from}
 use Rattle.gu_book.specs.Telling.{register_in, told_at_places}
 use Rattle.gu_book.proofs.NoticeLemmas.{IsToldSoFar, told-so-far, told-then, told_at, told-nothing}
 use Rattle.gu_book.proofs.notices.Mailbox.tell_entries.Goals as goal

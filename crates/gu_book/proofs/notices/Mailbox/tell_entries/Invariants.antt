@@ -1,5 +1,5 @@
 use Rattle.std.proofs.Common.{◌+◌, ◌-◌, ◌<◌, ◌≤◌, drop, length, take}
-use Rattle.gu_book.specs.Notices.{told_from}
+use Rattle.gu_rules.specs.Notices.{told_from}
 use Rattle.gu_book.specs.Telling.{register_in, told_at_places}
 use Rattle.gu_book.proofs.NoticeLemmas.{IsToldSoFar}
 use Rattle.gu_book.proofs.notices.Mailbox.tell_entries.Lts.Given as given

@@ -1,6 +1,6 @@
 use Rattle.std.proofs.Common.{◌≡◌, ◌∙◌, ◌+◌, ◌-◌, ◌++◌, ℕ, suc, ap, arith, subst}
 use Rattle.std.specs.List.{flat_map, range_with_len}
-use Rattle.gu_book.specs.Notices.{told_of_line}
+use Rattle.gu_rules.specs.Notices.{told_of_line}
 use Rattle.gu_book.specs.Telling.{register_in}
 use Rattle.gu_book.proofs.NoticeLemmas.{IsToldSoFar, flat_map-range, told-then}
 use Rattle.gu_book.proofs.notices.Mailbox.tell_lines.Goals as goal

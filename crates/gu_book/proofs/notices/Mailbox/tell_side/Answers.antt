@@ -1,5 +1,5 @@
 use Rattle.std.proofs.Common.{◌++◌, ◌∷◌, []}
-use Rattle.gu_book.specs.Notices.{told_on}
+use Rattle.gu_rules.specs.Notices.{told_on}
 use Rattle.gu_book.proofs.NoticeLemmas.{told-same, told-then, told_on-two}
 use Rattle.gu_book.proofs.notices.Mailbox.tell_side.Goals as goal
 

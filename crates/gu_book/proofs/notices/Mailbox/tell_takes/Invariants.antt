@@ -1,6 +1,6 @@
 use Rattle.std.proofs.Common.{take}
 use Rattle.std.specs.List.{flat_map}
-use Rattle.gu_book.specs.Notices.{told_of_take}
+use Rattle.gu_rules.specs.Notices.{told_of_take}
 use Rattle.gu_book.specs.Telling.{register_in}
 use Rattle.gu_book.proofs.NoticeLemmas.{IsToldSoFar}
 use Rattle.gu_book.proofs.notices.Mailbox.tell_takes.Lts.Given as given

@@ -4,7 +4,7 @@ use Rattle.gu_terms.specs.declared.side.Side.TheVariants.{Buy, Sell}
 use Rattle.gu_trades.specs.Reports.{with_match}
 use Rattle.gu_trades.specs.Terms.{report_with}
 use Rattle.gu_book.specs.Effects.{OnlyRowsOf}
-use Rattle.gu_book.proofs.Even.{even-traded}
+use Rattle.gu_book.proofs.EvenRows.{even-traded}
 use Rattle.gu_book.proofs.Counterparts.{accounts-waiting, holds-both, holds-none, waits}
 use Rattle.gu_book.proofs.totals.Totals.report.Goals as goal
 

@@ -1,6 +1,6 @@
 use Rattle.std.proofs.Common.{refl, subst}
-use Rattle.gu_book.specs.BookState.{BookState}
-use Rattle.gu_book.specs.Notices.{IsStretch}
+use Rattle.gu_rules.specs.BookState.{BookState}
+use Rattle.gu_rules.specs.Notices.{IsStretch}
 use Rattle.gu_houses.proofs.over_book.OverBookHouse.notices.Goals as goal
 
 pub returns-clause-told : goal.returns-clause-told

@@ -1,0 +1,58 @@
+-- What is kept beside a history and the takes of a sweep is kept beside the history and the sweep.
+use Rattle.std.proofs.Common.{ℕ, ◌*◌, ◌≤◌, List, length, Option, is_some, unwrap_or, ap, ◌∙◌, ◌≡◌, [], ◌∷◌, ◌++◌, arith, length-append}
+use Rattle.gu_terms.specs.Takes.{IsAscending}
+use Rattle.gu_terms.specs.declared.entry.Entry.{Entry}
+use Rattle.gu_terms.specs.declared.entry.Entry.TheVariants.{Swept}
+use Rattle.gu_terms.specs.declared.entry.SweepEntry.{SweepEntry}
+use Rattle.gu_terms.specs.declared.offer.Offer.{Offer}
+use Rattle.gu_terms.specs.declared.report.Report.{Report}
+use Rattle.gu_terms.specs.declared.side.Side.{Side}
+use Rattle.gu_terms.specs.declared.symbol.Symbol.{Symbol}
+use Rattle.gu_ref.specs.Tables.{Tables}
+use Rattle.gu_offers.specs.Rows.{Row}
+use Rattle.gu_positions.specs.Rows.{lots_on}
+use Rattle.gu_rules.specs.Limits.{use_in}
+use Rattle.gu_rules.specs.Offers.{offers_of, standing_of}
+use Rattle.gu_rules.specs.Positions.{held_in}
+use Rattle.gu_rules.specs.Reports.{reports_of}
+use Rattle.gu_rules.specs.Sweeps.{parts}
+use Rattle.gu_rules.proofs.InOrder.{in_order, whole}
+use Rattle.gu_rules.proofs.Parts.{ComeToSame, alike-push, ordered-same, parts-same, standing_of-same}
+use Rattle.gu_rules.proofs.Takers.{sweep-takes}
+use Rattle.gu_book.specs.Beside.{IsBeside, IsKept}
+use Rattle.gu_book.specs.declared.totals.Totals.{Totals}
+
+module _ (one two : List Entry) (same : ComeToSame one two) where
+  -- what is kept beside the one is kept beside the other
+  beside-same : (reference : Tables) (totals : Totals) → IsBeside reference one totals → ((side : Side) (symbol : Symbol) → lots_on totals.positions side symbol ≤ 2000000 * length two)
+      → IsBeside reference two totals
+  beside-same reference totals b sums = record {
+    today = b.today ∙ same.alike.day;
+    reports = b.reports ∙ same.alike.reports;
+    offers = b.offers ∙ standing_of-same one two same;
+    give_ups = λ firm id. b.give_ups firm id ∙ same.alike.give_ups firm id;
+    set = λ group key. b.set group key ∙ ap (λ (o : Option ℕ). is_some o) (same.alike.sets group key);
+    limits = λ group key. b.limits group key ∙ ap (λ (o : Option ℕ). unwrap_or o 0) (same.alike.sets group key);
+    uses = λ group key. b.uses group key ∙ ap (λ (rs : List Row). use_in reference rs group key) (standing_of-same one two same);
+    positions = λ side account symbol.
+        b.positions side account symbol
+        ∙ ap (λ (rs : List Row). held_in (reports_of one) rs side account symbol) (standing_of-same one two same)
+        ∙ ap (λ (qs : List Report). held_in qs (standing_of two) side account symbol) same.alike.reports;
+    sums = sums;
+  }
+
+-- what is kept beside a history and the takes of a sweep is kept beside the history and the sweep
+pub kept-whole : (reference : Tables) (history : List Entry) (sweep : SweepEntry) (totals : Totals) → IsAscending sweep.takes → length (offers_of history) ≤ 16 * length history
+    → ((side : Side) (symbol : Symbol) → lots_on totals.positions side symbol ≤ 2000000 * length history)
+    → IsKept reference (history ++ parts sweep sweep.takes) totals → IsKept reference (history ++ Swept sweep ∷ []) totals
+kept-whole reference history sweep totals ascending few sums kept =
+    let same = parts-same history sweep ascending in
+    let longer = length-append history (Swept sweep ∷ []) in
+    let offers : length (offers_of (history ++ Swept sweep ∷ [])) ≡ length (offers_of history) =
+    ap {A = List Offer} length (alike-push history (Swept sweep) (sweep-takes sweep)).offers in
+    record {
+      orderly = whole (history ++ Swept sweep ∷ [])
+          (ordered-same (history ++ parts sweep sweep.takes) (history ++ Swept sweep ∷ []) same (in_order (history ++ parts sweep sweep.takes) kept.orderly)) (omega (arith, few, longer, offers));
+      beside = beside-same (history ++ parts sweep sweep.takes) (history ++ Swept sweep ∷ []) same reference totals kept.beside
+          (λ side symbol. omega (arith, sums side symbol, longer));
+    }

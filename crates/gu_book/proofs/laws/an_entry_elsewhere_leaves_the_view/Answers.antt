@@ -1,5 +1,0 @@
-use Rattle.gu_book.proofs.Elsewhere.{view-elsewhere}
-use Rattle.gu_book.proofs.laws.an_entry_elsewhere_leaves_the_view.Goals as goal
-
-pub returns : goal.returns
-returns c = view-elsewhere

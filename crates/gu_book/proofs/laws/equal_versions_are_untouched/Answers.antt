@@ -1,5 +1,0 @@
-use Rattle.gu_book.proofs.VersionLemmas.{equal_versions}
-use Rattle.gu_book.proofs.laws.equal_versions_are_untouched.Goals as goal
-
-pub returns : goal.returns
-returns c = equal_versions

@@ -1,5 +1,0 @@
-use Rattle.gu_book.proofs.VersionLemmas.{touching-append}
-use Rattle.gu_book.proofs.laws.later_touches_come_after.Goals as goal
-
-pub returns : goal.returns
-returns c = touching-append

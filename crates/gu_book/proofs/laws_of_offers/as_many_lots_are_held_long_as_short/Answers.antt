@@ -1,5 +1,0 @@
-use Rattle.gu_book.proofs.LegalLaws.{long_as_short}
-use Rattle.gu_book.proofs.laws_of_offers.as_many_lots_are_held_long_as_short.Goals as goal
-
-pub returns : goal.returns
-returns c = long_as_short

@@ -1,5 +1,0 @@
-use Rattle.gu_book.proofs.LegalOrder.{legal_ordered}
-use Rattle.gu_book.proofs.laws_of_offers.no_more_is_given_back_than_was_taken.Goals as goal
-
-pub returns : goal.returns
-returns c reference history legal = (legal_ordered reference history legal).order.balanced

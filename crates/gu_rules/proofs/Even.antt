@@ -1,0 +1,38 @@
+-- As many lots are held long as short once both sides of a trade are.
+use Rattle.std.proofs.Common.{◌≡◌, ℕ, ◌+◌, Bool, ◌==◌, not, true, false, refl, arith}
+use Rattle.std.specs.Ordering.{int_eq}
+use Rattle.std.proofs.lemmas.Bool.Decides.{Decides-eqb}
+use Rattle.gu_terms.specs.Same.{same_day, same_side, same_symbol}
+use Rattle.gu_terms.specs.declared.report.Report.{Report}
+use Rattle.gu_terms.specs.declared.side.Side.{Side}
+use Rattle.gu_terms.specs.declared.side.Side.TheVariants.{Buy, Sell}
+use Rattle.gu_terms.specs.declared.symbol.Symbol.{Symbol}
+use Rattle.gu_terms.proofs.SameNames.{same_symbol-true}
+use Rattle.gu_terms.proofs.SameValues.{both}
+use Rattle.gu_positions.specs.Changes.{lots_at_side}
+use Rattle.gu_trades.specs.Matching.{is_other_side}
+
+-- lots of both sides of one instrument count as many on either
+pub sides-even : (one other : Side) (symbol on : Symbol) (lots : ℕ) → same_side one other ≡ false
+    → lots_at_side one symbol lots Buy on + lots_at_side other symbol lots Buy on ≡ lots_at_side one symbol lots Sell on + lots_at_side other symbol lots Sell on
+sides-even Buy Buy symbol on lots apart = cc
+sides-even Buy Sell symbol on lots apart = omega arith
+sides-even Sell Buy symbol on lots apart = omega arith
+sides-even Sell Sell symbol on lots apart = cc
+
+-- the other side of a report has its instrument and its lots, and another side
+pub other-side : (first second : Report) → is_other_side first second ≡ true → (first.symbol ≡ second.symbol) × ((first.lots ≡ second.lots) × (same_side first.side second.side ≡ false))
+other-side first second is =
+    let a = both _ (not (same_side first.side second.side)) is in
+    let b = both _ (same_day first.day second.day) a.0 in
+    let c = both _ (int_eq first.price second.price) b.0 in
+    let d = both (same_symbol first.symbol second.symbol) (first.lots == second.lots) c.0 in
+    (same_symbol-true first.symbol second.symbol d.0, ((Decides-eqb first.lots second.lots).0 d.1, off (same_side first.side second.side) a.1))
+  where
+    off : (b : Bool) → not b ≡ true → b ≡ false
+    off true h = cc
+    off false h = refl
+
+-- and it has as many lots
+pub as-many : (waiting report : Report) → is_other_side waiting report ≡ true → waiting.lots ≡ report.lots
+as-many waiting report is = (other-side waiting report is).1.0

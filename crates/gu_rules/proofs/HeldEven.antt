@@ -1,0 +1,109 @@
+-- Over the accounts, as many lots are held long as short.
+use Rattle.std.proofs.Common.{◌≡◌, ℕ, ◌+◌, ◌&&◌, false, List, [], ◌∷◌, sum_by, Option, Some, if◌then◌else◌, refl, sym, ap, ◌∙◌, arith}
+use Rattle.std.specs.List.{AllByRecursion, IsDistinct}
+use Rattle.std.specs.Option.{option_map_or}
+use Rattle.std.proofs.lemmas.List.Sums.{sum_by-cons}
+use Rattle.gu_terms.proofs.Lists.{sum_by-add, sum_by-agree, sum_by-swap}
+use Rattle.gu_terms.specs.Same.{same_account}
+use Rattle.gu_terms.specs.declared.entry.Entry.{Entry}
+use Rattle.gu_terms.specs.declared.offer.Offer.{Offer}
+use Rattle.gu_terms.specs.declared.report.Report.{Report}
+use Rattle.gu_terms.specs.declared.side.Side.{Side}
+use Rattle.gu_terms.specs.declared.side.Side.TheVariants.{Buy, Sell}
+use Rattle.gu_terms.specs.declared.symbol.Symbol.{Symbol}
+use Rattle.gu_ref.specs.Tables.{Tables}
+use Rattle.gu_ref.specs.declared.accounts.Account.{Account}
+use Rattle.gu_offers.specs.Rows.{Row}
+use Rattle.gu_trades.specs.Reports.{is_by}
+use Rattle.gu_rules.specs.Laws.{GivesUpTrade}
+use Rattle.gu_rules.specs.Offers.{offers_of, standing_from, standing_of}
+use Rattle.gu_rules.specs.Orderly.{AreWithin, IsCovered}
+use Rattle.gu_rules.specs.Positions.{LongIsShort, held_in, is_from, is_on, moved_into, moved_out, report_after, traded}
+use Rattle.gu_rules.specs.Reports.{reports_of}
+use Rattle.gu_rules.proofs.ChangedSums.{moved_out-le-traded}
+use Rattle.gu_rules.proofs.GivenTrades.{IsSourced, alone-if, traded_on}
+use Rattle.gu_rules.proofs.KnownOnes.{all-found, is_there}
+
+-- an offer whose account is there, and the account of its report
+pub record IsBetween (reference : Tables) (reports : List Report) (row : Row) : Type 0 where
+  pub into : is_there reference row.offer.account
+  pub report : Report
+  pub behind : report_after reports row ≡ Some report
+  pub from : is_there reference report.account
+
+-- each offer of a history is such
+all-between : (reference : Tables) (history : List Entry) → IsSourced reference history → AllByRecursion (IsBetween reference (reports_of history)) (standing_of history)
+all-between reference history sourced = go 1 (offers_of history) sourced.offers
+  where
+    go : (n : ℕ) (offers : List Offer) → AllByRecursion (GivesUpTrade reference (reports_of history)) offers → AllByRecursion (IsBetween reference (reports_of history)) (standing_from history n offers)
+    go n [] all = tt
+    go n (o ∷ offers) all =
+        let f = all.0 in (
+          record {
+            into = f.account;
+            report = f.report;
+            behind = f.found;
+            from = all-found (λ (q : Report). is_there reference q.account) (is_by o.firm o.report) (reports_of history) f.report sourced.reports f.found;
+          },
+          go (n + 1) offers all.1,
+        )
+
+module _ (reference : Tables) (once : IsDistinct (λ a b. same_account a.account b.account) reference.accounts) (symbol : Symbol) (side : Side) (reports : List Report) where
+  -- what was moved of an offer of this side and this instrument
+  abbrev moved_on : Row → ℕ
+  moved_on row = if is_on reports side symbol row then row.moved else 0
+
+  -- is moved into one account
+  into-once : (row : Row) → IsBetween reference reports row → sum_by (λ (a : Account). if is_on reports side symbol row && same_account row.offer.account a.account then row.moved else 0) reference.accounts ≡ moved_on row
+  into-once row b = alone-if reference.accounts once symbol (is_on reports side symbol row) row.offer.account row.moved b.into
+
+  -- and out of one
+  out-once : (row : Row) → IsBetween reference reports row → sum_by (λ (a : Account). if is_on reports side symbol row && is_from reports a.account row then row.moved else 0) reference.accounts ≡ moved_on row
+  out-once row b =
+      sum_by-agree (λ (a : Account). if is_on reports side symbol row && is_from reports a.account row then row.moved else 0)
+      (λ (a : Account). if is_on reports side symbol row && same_account b.report.account a.account then row.moved else 0) reference.accounts
+      (λ a. ap (λ (q : Option Report). if is_on reports side symbol row && option_map_or (λ (r : Report). same_account r.account a.account) q false then row.moved else 0) b.behind)
+      ∙ alone-if reference.accounts once symbol (is_on reports side symbol row) b.report.account row.moved b.from
+
+  -- over the accounts, as many lots were moved into as out of them
+  same-moved : (rows : List Row) → AllByRecursion (IsBetween reference reports) rows
+      → sum_by (λ (a : Account). moved_into reports rows side a.account symbol) reference.accounts ≡ sum_by (λ (a : Account). moved_out reports rows side a.account symbol) reference.accounts
+  same-moved rows between =
+      let into : Account → Row → ℕ = λ a row. if is_on reports side symbol row && same_account row.offer.account a.account then row.moved else 0 in
+      let out : Account → Row → ℕ = λ a row. if is_on reports side symbol row && is_from reports a.account row then row.moved else 0 in
+      sum_by-swap into reference.accounts rows ∙ each rows between ∙ sym (sum_by-swap out reference.accounts rows)
+    where
+      each : (rows : List Row) → AllByRecursion (IsBetween reference reports) rows
+          → sum_by (λ (row : Row). sum_by (λ (a : Account). if is_on reports side symbol row && same_account row.offer.account a.account then row.moved else 0) reference.accounts) rows
+          ≡ sum_by (λ (row : Row). sum_by (λ (a : Account). if is_on reports side symbol row && is_from reports a.account row then row.moved else 0) reference.accounts) rows
+      each [] all = refl
+      each (row ∷ rows) all =
+          let f : Row → ℕ = λ row. sum_by (λ (a : Account). if is_on reports side symbol row && same_account row.offer.account a.account then row.moved else 0) reference.accounts in
+          let g : Row → ℕ = λ row. sum_by (λ (a : Account). if is_on reports side symbol row && is_from reports a.account row then row.moved else 0) reference.accounts in
+          let one : f row ≡ g row = into-once row all.0 ∙ sym (out-once row all.0) in
+          omega (arith, sum_by-cons f row rows, sum_by-cons g row rows, one, each rows all.1)
+
+  -- so that all that is held was brought by trades
+  held-traded : (rows : List Row) → AllByRecursion (IsBetween reference reports) rows → IsCovered reports rows → AreWithin rows
+      → sum_by (λ (a : Account). held_in reports rows side a.account symbol) reference.accounts ≡ traded_on reference.accounts once symbol reports side
+  held-traded rows between covered within =
+      let held : Account → ℕ = λ a. held_in reports rows side a.account symbol in
+      let brought : Account → ℕ = λ a. traded reports side a.account symbol in
+      let into : Account → ℕ = λ a. moved_into reports rows side a.account symbol in
+      let out : Account → ℕ = λ a. moved_out reports rows side a.account symbol in
+      omega (
+        arith,
+        sum_by-add held out reference.accounts,
+        sum_by-agree (λ a. held a + out a) (λ a. brought a + into a) reference.accounts (λ a. omega (arith, moved_out-le-traded reports rows side a.account symbol covered within)),
+        sum_by-add brought into reference.accounts,
+        same-moved rows between,
+      )
+
+-- as many lots are held long as short
+pub held-even : (reference : Tables) (history : List Entry) → IsDistinct (λ a b. same_account a.account b.account) reference.accounts → IsSourced reference history
+    → IsCovered (reports_of history) (standing_of history) → AreWithin (standing_of history) → LongIsShort (record { reference = reference; history = history })
+held-even reference history once sourced covered within symbol =
+    let between = all-between reference history sourced in
+    held-traded reference once symbol Buy (reports_of history) (standing_of history) between covered within
+    ∙ sourced.even once symbol
+    ∙ sym (held-traded reference once symbol Sell (reports_of history) (standing_of history) between covered within)

@@ -1,0 +1,34 @@
+-- Orderly histories, whatever number of offers they have.
+use Rattle.std.proofs.Common.{◌*◌, ◌≤◌, List, length, [], refl, arith}
+use Rattle.gu_terms.specs.declared.entry.Entry.{Entry}
+use Rattle.gu_rules.specs.Offers.{offers_of, standing_of}
+use Rattle.gu_rules.specs.Orderly.{AreFound, AreOwn, AreWithin, IsBalanced, IsCovered, IsNamed, IsOrderly}
+use Rattle.gu_rules.specs.Reports.{reports_of}
+
+-- all of it but how many offers there are
+pub record IsInOrder (history : List Entry) : Type 0 where
+  pub balanced : IsBalanced history
+  pub named : IsNamed history
+  pub covered : IsCovered (reports_of history) (standing_of history)
+  pub found : AreFound (reports_of history) (standing_of history)
+  pub within : AreWithin (standing_of history)
+  pub own : AreOwn (reports_of history)
+
+pub in_order : (history : List Entry) → IsOrderly history → IsInOrder history
+in_order history o = record { balanced = o.balanced; named = o.named; covered = o.covered; found = o.found; within = o.within; own = o.own }
+
+-- and that
+pub whole : (history : List Entry) → IsInOrder history → length (offers_of history) ≤ 16 * length history → IsOrderly history
+whole history o few = record { balanced = o.balanced; named = o.named; covered = o.covered; found = o.found; within = o.within; own = o.own; few = few }
+
+-- nothing is orderly
+pub nothing-orderly : IsOrderly []
+nothing-orderly = record {
+  balanced = record { all = λ n. omega arith; today = λ n. omega arith; within = λ n. omega arith };
+  named = record { takes = λ n beyond. refl; today = λ n beyond. refl; closed = λ n beyond. refl };
+  covered = tt;
+  found = tt;
+  within = tt;
+  own = tt;
+  few = omega arith;
+}

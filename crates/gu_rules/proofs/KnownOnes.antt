@@ -1,0 +1,38 @@
+-- What is found in a list of which each is known, and accounts that are in the reference.
+use Rattle.std.proofs.Common.{◌≡◌, true, is_some, Bool, List, [], ◌∷◌, Some, refl, sym, ◌∙◌, subst, inl, inr, false, filter, if◌then◌else◌, Option, None, is_none}
+use Rattle.std.proofs.lemmas.Bool.{cases_Bool}
+use Rattle.std.specs.List.{AllByRecursion, find}
+use Rattle.gu_terms.specs.declared.account.AccountId.{AccountId}
+use Rattle.gu_ref.specs.Reference.{account_row}
+use Rattle.gu_ref.specs.Tables.{Tables}
+
+-- an account is in the reference
+abbrev pub is_there : Tables → AccountId → Type 0
+is_there reference account = is_some (account_row reference account) ≡ true
+
+-- what holds of each holds of the one that is found
+pub all-found : {X : Type 0} (P : X → Type 0) (test : X → Bool) (xs : List X) (x : X) → AllByRecursion P xs → find test xs ≡ Some x → P x
+all-found P test [] x all is = cc
+all-found {X} P test (first ∷ xs) x all is =
+    elim (cases_Bool (test first)) [
+      | inl hit ↦
+          let here : Some first ≡ Some x = sym (rw hit refl) ∙ is in
+          let same : first ≡ x = cc in
+          subst P same all.0
+      | inr miss ↦
+          let there : find test xs ≡ Some x = sym (rw miss refl) ∙ is in
+          all-found P test xs x all.1 there
+    ]
+
+-- and of those that pass a test
+pub all-passing : {X : Type 0} (P : X → Type 0) (test : X → Bool) (xs : List X) → AllByRecursion P xs → AllByRecursion P (filter test xs)
+all-passing P test [] all = tt
+all-passing {X} P test (x ∷ xs) all = by (test x) (all-passing P test xs all.1)
+  where
+    by : (b : Bool) → AllByRecursion P (filter test xs) → AllByRecursion P (if b then x ∷ filter test xs else filter test xs)
+    by true rest = (all.0, rest)
+    by false rest = rest
+
+pub some-not-none : {X : Type 0} (found : Option X) → is_none found ≡ false → is_some found ≡ true
+some-not-none None e = cc
+some-not-none (Some x) e = refl

@@ -1,0 +1,89 @@
+-- Laws of legal histories.
+use Rattle.std.proofs.Common.{◌≡◌, ℕ, ◌+◌, ◌*◌, ◌≤◌, ◌++◌, true, false, List, [], ◌∷◌, length, take, slice_get, Option, Some, is_some, refl, sym, ap, ◌∙◌, arith, length-append, take-append-drop}
+use Rattle.std.proofs.lemmas.List.{length-map, length-take}
+use Rattle.std.proofs.lemmas.Option.{slice_get_within}
+use Rattle.std.specs.Prelude.{drop}
+use Rattle.gu_terms.specs.declared.account.AccountId.{AccountId}
+use Rattle.gu_terms.specs.declared.agreement.AgreementId.{AgreementId}
+use Rattle.gu_terms.specs.declared.command.Command.TheVariants.{GiveUp}
+use Rattle.gu_terms.specs.declared.entry.Entry.{Entry}
+use Rattle.gu_terms.specs.declared.entry.Entry.TheVariants.{Asked}
+use Rattle.gu_terms.specs.declared.firm.FirmId.{FirmId}
+use Rattle.gu_terms.specs.declared.group.Group.{Group}
+use Rattle.gu_terms.specs.declared.limit_key.LimitKey.{LimitKey}
+use Rattle.gu_terms.specs.declared.lines.Line.{Line}
+use Rattle.gu_terms.specs.declared.offer.Offer.{Offer}
+use Rattle.gu_terms.specs.declared.reply.Done.TheVariants.{Offered}
+use Rattle.gu_terms.specs.declared.reply.Reply.TheVariants.{Accepted}
+use Rattle.gu_terms.specs.declared.side.Side.{Side}
+use Rattle.gu_terms.specs.declared.symbol.Symbol.{Symbol}
+use Rattle.gu_limits.specs.Paths.{path_of}
+use Rattle.gu_ref.specs.Reference.{agreement_between}
+use Rattle.gu_ref.specs.Rules.{IsSound}
+use Rattle.gu_ref.specs.Tables.{Tables}
+use Rattle.gu_rules.specs.Laws.{AreShort, IsShort}
+use Rattle.gu_rules.specs.Legal.{IsLegal}
+use Rattle.gu_rules.specs.Offers.{lines_by, offers_of, standing_of}
+use Rattle.gu_rules.specs.Positions.{LongIsShort, moved_out, traded}
+use Rattle.gu_rules.specs.Reports.{reports_of}
+use Rattle.gu_rules.specs.Versions.{touches}
+use Rattle.gu_rules.specs.Views.{group_view}
+use Rattle.gu_rules.proofs.AgreementPaths.{path-there}
+use Rattle.gu_rules.proofs.ChangedSums.{moved_out-le-traded}
+use Rattle.gu_rules.proofs.Elsewhere.{view-elsewhere}
+use Rattle.gu_rules.proofs.GivenTrades.{sourced}
+use Rattle.gu_rules.proofs.HeldEven.{held-even}
+use Rattle.gu_rules.proofs.LegalOrder.{legal_ordered}
+use Rattle.gu_rules.proofs.Onward.{onward}
+
+-- what leaves an account
+pub leaves_less : (reference : Tables) (history : List Entry) (side : Side) (account : AccountId) (symbol : Symbol) → IsLegal reference history
+    → moved_out (reports_of history) (standing_of history) side account symbol ≤ traded (reports_of history) side account symbol
+leaves_less reference history side account symbol legal =
+    let o = (legal_ordered reference history legal).order in
+    moved_out-le-traded (reports_of history) (standing_of history) side account symbol o.covered o.within
+
+-- what is held
+pub long_as_short : (reference : Tables) (history : List Entry) → IsSound reference → IsLegal reference history → LongIsShort (record { reference = reference; history = history })
+long_as_short reference history sound legal =
+    let o = (legal_ordered reference history legal).order in held-even reference history sound.once.accounts (sourced reference history legal) o.covered o.within
+
+-- the path of an agreement
+pub has_path : (reference : Tables) (firm : FirmId) (account : AccountId) (agreement : AgreementId) → IsSound reference → agreement_between reference firm account ≡ Some agreement
+    → is_some (path_of reference agreement) ≡ true
+has_path reference firm account agreement sound between =
+    let found = path-there reference sound firm account agreement between in ap (λ (p : Option (List LimitKey)). is_some p) found.1
+
+-- ---- how many offers there are
+
+-- an entry makes an offer a line
+few-made : (entry : Entry) → IsShort entry → length (lines_by entry) ≤ 16
+few-made (Asked (GiveUp firm id report lines) (Accepted (Offered group first count))) short =
+    omega (arith, short, length-map {B = Offer} lines (λ (l : Line). record { firm = firm; report = report; group = group; account = l.account; lots = l.lots }))
+few-made entry short = omega arith
+
+pub few_offers_made : (history : List Entry) → AreShort history → length (offers_of history) ≤ 16 * length history
+few_offers_made [] short = omega arith
+few_offers_made (entry ∷ later) short =
+    let size : length (offers_of (entry ∷ later)) ≡ length (lines_by entry) + length (offers_of later) = length-append (lines_by entry) (offers_of later) in
+    omega (arith, size, few-made entry short.0, few_offers_made later short.1)
+
+-- ---- views
+
+-- where no entry from a place on touches a group, its view stays
+pub view-stays : (reference : Tables) (history : List Entry) (first : ℕ) (group : Group) → IsLegal reference history
+    → ((place : ℕ) (entry : Entry) → first ≤ place → slice_get history place ≡ Some entry → touches (take place history) group entry ≡ false)
+    → group_view reference history group ≡ group_view reference (take first history) group
+view-stays reference history first group legal quiet =
+    (onward history (λ h. (length (take first history) ≤ length h) × (group_view reference h group ≡ group_view reference (take first history) group)) next (take first history) (drop first history)
+    (sym (take-append-drop first history)) (omega arith, refl)).1
+  where
+    next : (k : ℕ) (entry : Entry) → slice_get history k ≡ Some entry
+        → (length (take first history) ≤ length (take k history)) × (group_view reference (take k history) group ≡ group_view reference (take first history) group)
+        → (length (take first history) ≤ length (take k history ++ entry ∷ [])) × (group_view reference (take k history ++ entry ∷ []) group ≡ group_view reference (take first history) group)
+    next k entry at holds =
+        let within = slice_get_within history k entry at in
+        let from : first ≤ k = omega (arith, length-take k history, length-take first history, within, holds.0) in (
+          omega (arith, length-append (take k history) (entry ∷ []), holds.0),
+          view-elsewhere reference (take k history) entry group (legal.each k entry at) (quiet k entry from at) ∙ holds.1,
+        )

@@ -1,0 +1,207 @@
+-- Every legal history is in order; no group has many open offers, and each offer was made by an agreement.
+use Rattle.std.proofs.Common.{◌≡◌, ℕ, ◌+◌, ◌<◌, ◌≤◌, ◌++◌, List, [], ◌∷◌, length, Option, Some, is_none, refl, sym, ap, ◌∙◌, arith, append-nil, append_assoc, subst}
+use Rattle.std.specs.List.{AllByRecursion}
+use Rattle.std.specs.Option.{option_map_or, option_to_list}
+use Rattle.gu_terms.proofs.Lists.{Later, Later-from_AllPairs, along, along2}
+use Rattle.gu_terms.specs.declared.account.AccountId.{AccountId}
+use Rattle.gu_terms.specs.declared.command.Command.{Command}
+use Rattle.gu_terms.specs.declared.command.Command.TheVariants.{OpenDay, SetLimit, ReportSide, GiveUp, Claim, Refuse, Reverse}
+use Rattle.gu_terms.specs.declared.day.Day.{Day}
+use Rattle.gu_terms.specs.declared.entry.Entry.{Entry}
+use Rattle.gu_terms.specs.declared.entry.Entry.TheVariants.{Asked, Swept}
+use Rattle.gu_terms.specs.declared.entry.SweepEntry.{SweepEntry}
+use Rattle.gu_terms.specs.declared.firm.FirmId.{FirmId}
+use Rattle.gu_terms.specs.declared.id.Id.{Id}
+use Rattle.gu_terms.specs.declared.lines.Line.{Line}
+use Rattle.gu_terms.specs.declared.lots.Lots.{Lots}
+use Rattle.gu_terms.specs.declared.price.Price.{Price}
+use Rattle.gu_terms.specs.declared.refusal.Refusal.{Refusal}
+use Rattle.gu_terms.specs.declared.refusal.Refusal.TheVariants.{NoDay}
+use Rattle.gu_terms.specs.declared.reply.Done.{Done}
+use Rattle.gu_terms.specs.declared.reply.Reply.{Reply}
+use Rattle.gu_terms.specs.declared.reply.Reply.TheVariants.{Accepted, Denied}
+use Rattle.gu_terms.specs.declared.report.Report.{Report}
+use Rattle.gu_terms.specs.declared.side.Side.{Side}
+use Rattle.gu_terms.specs.declared.symbol.Symbol.{Symbol}
+use Rattle.gu_terms.specs.declared.takes.Take.{Take}
+use Rattle.gu_ref.specs.Tables.{Tables}
+use Rattle.gu_trades.specs.Reports.{report_of}
+use Rattle.gu_offers.specs.Changes.{changed, taken}
+use Rattle.gu_offers.specs.Rows.{Row, left_in, left_of}
+use Rattle.gu_rules.specs.Legal.{IsAccepted, IsLegal, MayFollow, accepted_entry}
+use Rattle.gu_rules.specs.Answer.{done_of, state_of, tests_of}
+use Rattle.gu_rules.specs.Orderly.{IsShown}
+use Rattle.gu_rules.specs.Sweeps.{IsSweepOf, part, parts}
+use Rattle.gu_rules.specs.Offers.{standing_of}
+use Rattle.gu_rules.specs.Reports.{open_day, report_on, reports_of}
+use Rattle.gu_rules.specs.Views.{group_view, offers_shown}
+use Rattle.gu_rules.proofs.AcceptedCommands.{fits-in, giving_up, is-accepted, opening, setting}
+use Rattle.gu_rules.proofs.InOrder.{IsInOrder, in_order, nothing-orderly}
+use Rattle.gu_rules.proofs.Facts.{claimable, open-there, refusable, reversible, row_at-other, some-of, today-is}
+use Rattle.gu_rules.proofs.GivenUp.{givable}
+use Rattle.gu_rules.proofs.Growing.{reports_of-push}
+use Rattle.gu_rules.proofs.OrderedReports.{ordered-reported}
+use Rattle.gu_rules.proofs.Onward.{each_legal}
+use Rattle.gu_rules.proofs.OrderlyLemmas.{ordered-idle, ordered-lines, ordered-opened, ordered-refused, ordered-taken, ordered-taken_back}
+use Rattle.gu_rules.proofs.Parts.{ordered-same, parts-same, standing_of-same}
+use Rattle.gu_rules.proofs.Passing.{none_stands}
+use Rattle.gu_rules.proofs.Quiet.{denied-lines, denied-quiet, unreported}
+use Rattle.gu_rules.proofs.ShownLemmas.{shown-taken}
+use Rattle.gu_rules.proofs.Spoken.{denied-idle, taken_back}
+use Rattle.gu_rules.proofs.StandingLemmas.{IsIdle}
+use Rattle.gu_rules.proofs.Stepping.{standing_of-idle, standing_of-one}
+use Rattle.gu_rules.proofs.StillShown.{shown-accepted}
+use Rattle.gu_rules.proofs.SweptOffers.{TakesLeft, all-left}
+use Rattle.gu_rules.proofs.Takers.{claim-takes, claimed, part-takes, takes-others, takes-own}
+
+-- a history in order, of whose offers no group has many open ones, and each was made by an agreement
+pub record IsOrdered (reference : Tables) (history : List Entry) : Type 0 where
+  pub order : IsInOrder history
+  pub shown : IsShown reference (standing_of history)
+
+-- ---- commands
+
+-- a report
+module _
+    (reference : Tables)
+    (history : List Entry)
+    (firm : FirmId)
+    (id match_id : Id)
+    (symbol : Symbol)
+    (lots : Lots)
+    (price : Price)
+    (given : Option Day)
+    (side : Side)
+    (account : AccountId)
+    (is : IsAccepted reference history (ReportSide firm id match_id symbol lots price given side account)) where
+  -- is made on an open day
+  pub day-there : (day : Day) × (open_day history ≡ Some day)
+  day-there =
+      let command = ReportSide firm id match_id symbol lots price given side account in
+      let state = state_of reference history in
+      some-of (open_day history) (none_stands (tests_of reference state command) (done_of reference state command) (done_of reference state command) is.accepted 0 (is_none (open_day history)) NoDay refl)
+
+  reported : IsInOrder history → IsInOrder (history ++ accepted_entry reference history (ReportSide firm id match_id symbol lots price given side account) ∷ [])
+  reported o =
+      let entry = accepted_entry reference history (ReportSide firm id match_id symbol lots price given side account) in
+      let day = day-there.0 in
+      let r = report_of firm id match_id symbol lots price day side account in
+      let idle : IsIdle entry = record { takes = λ n. refl; gives = λ n. refl; closed = λ n. refl } in
+      let reports : report_on (open_day history) entry ≡ Some r = ap (λ (d : Option Day). report_on d entry) day-there.1 in
+      ordered-reported history entry r o refl idle (fits-in reference firm id match_id symbol lots price given side account day history day-there.1 is)
+      (reports_of-push history entry ∙ ap (λ (q : Option Report). reports_of history ++ option_to_list q) reports)
+      (standing_of-idle history entry refl refl o.balanced idle)
+
+-- a give-up
+gave_up : (reference : Tables) (history : List Entry) (firm : FirmId) (id own : Id) (lines : List Line) → IsInOrder history → IsAccepted reference history (GiveUp firm id own lines)
+    → IsInOrder (history ++ accepted_entry reference history (GiveUp firm id own lines) ∷ [])
+gave_up reference history firm id own lines o is =
+    let f = givable reference history firm id own lines is in
+    let report = f.0 in
+    let group = f.1 in
+    let may = f.2 in
+    let first = length (standing_of history) + 1 in
+    let entry = giving_up report.firm id report.id lines group first in
+    let idle : IsIdle entry = record { takes = λ n. refl; gives = λ n. refl; closed = λ n. refl } in
+    subst (λ (d : Done). IsInOrder (history ++ Asked (GiveUp firm id own lines) (Accepted d) ∷ [])) (sym may.did)
+    (subst (λ (f : FirmId). IsInOrder (history ++ giving_up f id own lines group first ∷ [])) may.of_firm
+    (subst (λ (o : Id). IsInOrder (history ++ giving_up report.firm id o lines group first ∷ [])) may.of_id
+    (ordered-lines history entry report group lines o (unreported entry (λ d. refl) (open_day history)) refl idle refl may.there may.matched may.free)))
+
+-- any command that is accepted
+accepted : (reference : Tables) (history : List Entry) (command : Command) → IsInOrder history → IsAccepted reference history command
+    → IsInOrder (history ++ accepted_entry reference history command ∷ [])
+accepted reference history (OpenDay day) o is =
+    ordered-opened history (opening day) day o (unreported (opening day) (λ d. refl) (open_day history)) refl refl (record { takes = λ n. refl; gives = λ n. refl; closed = λ n. refl })
+accepted reference history (SetLimit group key lots) o is =
+    ordered-idle history (setting group key lots) o (unreported (setting group key lots) (λ d. refl) (open_day history)) refl refl (record { takes = λ n. refl; gives = λ n. refl; closed = λ n. refl })
+accepted reference history (ReportSide firm id match_id symbol lots price day side account) o is = reported reference history firm id match_id symbol lots price day side account is o
+accepted reference history (GiveUp firm id own lines) o is = gave_up reference history firm id own lines o is
+accepted reference history (Claim firm n) o is =
+    let lots = left_in (standing_of history) n in
+    let f = claimable reference history firm n o is in
+    ordered-taken history (claimed firm n lots) n lots f.0 (claim-takes firm n lots) o f.2.there.at f.2.stands f.2.less
+accepted reference history (Refuse firm n why) o is =
+    let f = refusable reference history firm n why o is in
+    ordered-refused history firm n why (left_in (standing_of history) n) f.0 o f.2.at
+accepted reference history (Reverse firm n) o is =
+    let f = reversible reference history firm n o is in
+    subst (λ (lots : ℕ). IsInOrder (history ++ taken_back firm n lots ∷ [])) (sym (today-is (standing_of history) n f.0 f.2.there.at)) (ordered-taken_back history firm n f.0 o f.2.there.at)
+
+-- one that is refused
+denied : (reference : Tables) (history : List Entry) (command : Command) (why : Refusal) → IsOrdered reference history → IsOrdered reference (history ++ Asked command (Denied why) ∷ [])
+denied reference history command why ordered =
+    let entry = Asked command (Denied why) in
+    let quiet = denied-quiet history command why in
+    let idle = denied-idle command why in
+    record {
+      order = ordered-idle history entry ordered.order quiet.reports quiet.opens (denied-lines command why) idle;
+      shown = subst (IsShown reference) (sym (standing_of-idle history entry quiet.opens (denied-lines command why) ordered.order.balanced idle)) ordered.shown;
+    }
+
+-- ---- sweeps
+
+-- the lots of a take are left of its offer
+abbrev IsLeft : List Row → Take → Type 0
+IsLeft rows t = (0 < left_in rows t.offer) × (t.lots ≤ left_in rows t.offer)
+
+-- takes, one after another
+all-taken : (reference : Tables) (sweep : SweepEntry) (takes : List Take) (history : List Entry) → IsOrdered reference history → Later (λ (a b : Take). a.offer < b.offer) takes
+    → AllByRecursion (IsLeft (standing_of history)) takes → IsOrdered reference (history ++ parts sweep takes)
+all-taken reference sweep [] history ordered later left = subst (IsOrdered reference) (sym (append-nil history)) ordered
+all-taken reference sweep (take ∷ takes) history ordered later left =
+    let entry = part sweep take in
+    let old = standing_of history in
+    let new = standing_of (history ++ entry ∷ []) in
+    let f = open-there history take.offer ordered.order left.0.0 in
+    let one = part-takes sweep take in
+    let rows : new ≡ changed old take.offer (taken take.lots) =
+    standing_of-one history entry take.offer f.0 (taken take.lots) refl refl ordered.order.balanced (takes-others entry take.offer take.lots one) f.2.at (takes-own entry take.offer take.lots f.0 one) in
+    let next : IsOrdered reference (history ++ entry ∷ []) = record {
+      order = ordered-taken history entry take.offer take.lots f.0 one ordered.order f.2.at f.3 (omega (arith, f.4, left.0.1));
+      shown = subst (IsShown reference) (sym rows) (shown-taken reference old take.offer take.lots ordered.shown);
+    } in
+    let stays : (t : Take) → take.offer < t.offer → left_in new t.offer ≡ left_in old t.offer = λ t after.
+    ap (λ (rs : List Row). left_in rs t.offer) rows
+    ∙ ap (λ (o : Option Row). option_map_or left_of o 0) (row_at-other old take.offer t.offer (taken take.lots) (λ same. absurd (omega (arith, after, same)))) in
+    let still = along2 (λ (t : Take). take.offer < t.offer) (IsLeft old) (IsLeft new) takes (λ t after has. (omega (arith, has.0, stays t after), omega (arith, has.1, stays t after))) later.0 left.1 in
+    subst (IsOrdered reference) (append_assoc history (entry ∷ []) (parts sweep takes)) (all-taken reference sweep takes (history ++ entry ∷ []) next later.1 still)
+
+-- a sweep that may follow
+swept : (reference : Tables) (history : List Entry) (sweep : SweepEntry) → IsOrdered reference history → IsSweepOf (group_view reference history sweep.group) sweep
+    → IsOrdered reference (history ++ Swept sweep ∷ [])
+swept reference history sweep ordered right =
+    let rows = standing_of history in
+    let offers = offers_shown reference history sweep.group in
+    let left = along (TakesLeft reference rows sweep.group offers) (IsLeft rows) sweep.takes
+    (λ t takes.
+    let is : left_in rows t.offer ≡ left_of takes.stands.row = ap (left_in rows) (sym takes.number) ∙ ap (λ (o : Option Row). option_map_or left_of o 0) takes.stands.at in
+    (omega (arith, is, takes.stands.is_left), omega (arith, is, takes.lots, takes.stands.lots)))
+    (all-left reference history sweep right) in
+    let one = history ++ parts sweep sweep.takes in
+    let two = history ++ Swept sweep ∷ [] in
+    let same = parts-same history sweep right.ascending in
+    let all = all-taken reference sweep sweep.takes history ordered (Later-from_AllPairs (λ (a b : Take). a.offer < b.offer) sweep.takes right.ascending) left in
+    record {
+      order = ordered-same one two same all.order;
+      shown = subst (IsShown reference) (standing_of-same one two same) all.shown;
+    }
+
+-- ---- all of it
+
+-- an entry that may follow
+pub follows : (reference : Tables) (before : List Entry) (entry : Entry) → length before < 1000000 → MayFollow reference before entry → IsOrdered reference before → IsOrdered reference (before ++ entry ∷ [])
+follows reference before (Asked command (Denied why)) room may ordered = denied reference before command why ordered
+follows reference before (Asked command (Accepted done)) room may ordered =
+    let is = is-accepted reference before command (Accepted done) room may refl in
+    subst (λ (r : Reply). IsOrdered reference (before ++ Asked command r ∷ [])) (sym (may ∙ is.accepted))
+    (record { order = accepted reference before command ordered.order is; shown = shown-accepted reference before command ordered.order is ordered.shown })
+follows reference before (Swept sweep) room may ordered = swept reference before sweep ordered may.sweeps
+
+-- no entries
+pub none-ordered : (reference : Tables) → IsOrdered reference []
+none-ordered reference = record { order = in_order [] nothing-orderly; shown = record { few = λ group. omega arith; agreed = tt } }
+
+-- every legal history
+pub legal_ordered : (reference : Tables) (history : List Entry) → IsLegal reference history → IsOrdered reference history
+legal_ordered reference history legal = each_legal reference (IsOrdered reference) (none-ordered reference) (follows reference) history legal

@@ -1,0 +1,71 @@
+-- Entries that open no day, report nothing, give nothing up and set no limit.
+use Rattle.std.proofs.Common.{◌≡◌, ◌||◌, false, List, [], ◌∷◌, ◌++◌, Option, Some, None, refl, ap, ◌∙◌}
+use Rattle.std.proofs.lemmas.List.Folds.{list_any-append}
+use Rattle.gu_terms.specs.declared.command.Command.{Command}
+use Rattle.gu_terms.specs.declared.command.Command.TheVariants.{OpenDay, SetLimit, ReportSide, GiveUp, Claim, Refuse, Reverse}
+use Rattle.gu_terms.specs.declared.day.Day.{Day}
+use Rattle.gu_terms.specs.declared.entry.Entry.{Entry}
+use Rattle.gu_terms.specs.declared.entry.Entry.TheVariants.{Asked}
+use Rattle.gu_terms.specs.declared.firm.FirmId.{FirmId}
+use Rattle.gu_terms.specs.declared.group.Group.{Group}
+use Rattle.gu_terms.specs.declared.id.Id.{Id}
+use Rattle.gu_terms.specs.declared.limit_key.LimitKey.{LimitKey}
+use Rattle.gu_terms.specs.declared.refusal.Refusal.{Refusal}
+use Rattle.gu_terms.specs.declared.reply.Reply.TheVariants.{Denied}
+use Rattle.gu_rules.specs.Limits.{limit_set, limit_set_by}
+use Rattle.gu_rules.specs.Offers.{gave_up, has_give_up, lines_by}
+use Rattle.gu_rules.specs.Reports.{open_day, opened_day, report_on}
+use Rattle.gu_rules.proofs.Growing.{last-kept}
+use Rattle.gu_rules.proofs.StandingLemmas.{either-false}
+
+-- what one more entry leaves as it was, where it says nothing of it
+pub open_day-kept : (history : List Entry) (entry : Entry) → opened_day entry ≡ None → open_day (history ++ entry ∷ []) ≡ open_day history
+open_day-kept history entry none = last-kept opened_day history entry none
+
+pub limit_set-kept : (history : List Entry) (entry : Entry) (group : Group) (key : LimitKey) → limit_set_by group key entry ≡ None → limit_set (history ++ entry ∷ []) group key ≡ limit_set history group key
+limit_set-kept history entry group key none = last-kept (limit_set_by group key) history entry none
+
+-- a give-up by one more entry
+pub has_give_up-push : (history : List Entry) (entry : Entry) (firm : FirmId) (id : Id) → has_give_up (history ++ entry ∷ []) firm id ≡ (has_give_up history firm id || gave_up firm id entry)
+has_give_up-push history entry firm id =
+    list_any-append (gave_up firm id) history (entry ∷ []) ∙ ap (λ b. has_give_up history firm id || b) (either-false (gave_up firm id entry))
+
+pub has_give_up-kept : (history : List Entry) (entry : Entry) (firm : FirmId) (id : Id) → gave_up firm id entry ≡ false → has_give_up (history ++ entry ∷ []) firm id ≡ has_give_up history firm id
+has_give_up-kept history entry firm id none = has_give_up-push history entry firm id ∙ ap (λ b. has_give_up history firm id || b) none ∙ either-false (has_give_up history firm id)
+
+-- an entry that opens no day, reports nothing, gives nothing up and sets no limit
+pub record IsQuiet (history : List Entry) (entry : Entry) : Type 0 where
+  pub opens : opened_day entry ≡ None
+  pub reports : report_on (open_day history) entry ≡ None
+  pub gives_up : (firm : FirmId) (id : Id) → gave_up firm id entry ≡ false
+  pub sets : (group : Group) (key : LimitKey) → limit_set_by group key entry ≡ None
+
+-- reports are taken in while a day is open
+pub unreported : (entry : Entry) → ((day : Day) → report_on (Some day) entry ≡ None) → (today : Option Day) → report_on today entry ≡ None
+unreported entry none None = refl
+unreported entry none (Some day) = none day
+
+-- a command that is refused is such an entry
+pub denied-quiet : (history : List Entry) (command : Command) (why : Refusal) → IsQuiet history (Asked command (Denied why))
+denied-quiet history (OpenDay day) why = record { opens = refl; reports = unreported (Asked (OpenDay day) (Denied why)) (λ d. refl) (open_day history); gives_up = λ f i. refl; sets = λ g k. refl }
+denied-quiet history (SetLimit group key lots) why = record { opens = refl; reports = unreported (Asked (SetLimit group key lots) (Denied why)) (λ d. refl) (open_day history); gives_up = λ f i. refl; sets = λ g k. refl }
+denied-quiet history (ReportSide firm id match_id symbol lots price day side account) why = record {
+  opens = refl;
+  reports = unreported (Asked (ReportSide firm id match_id symbol lots price day side account) (Denied why)) (λ d. refl) (open_day history);
+  gives_up = λ f i. refl;
+  sets = λ g k. refl;
+}
+denied-quiet history (GiveUp firm id report lines) why = record { opens = refl; reports = unreported (Asked (GiveUp firm id report lines) (Denied why)) (λ d. refl) (open_day history); gives_up = λ f i. refl; sets = λ g k. refl }
+denied-quiet history (Claim firm offer) why = record { opens = refl; reports = unreported (Asked (Claim firm offer) (Denied why)) (λ d. refl) (open_day history); gives_up = λ f i. refl; sets = λ g k. refl }
+denied-quiet history (Refuse firm offer reason) why = record { opens = refl; reports = unreported (Asked (Refuse firm offer reason) (Denied why)) (λ d. refl) (open_day history); gives_up = λ f i. refl; sets = λ g k. refl }
+denied-quiet history (Reverse firm offer) why = record { opens = refl; reports = unreported (Asked (Reverse firm offer) (Denied why)) (λ d. refl) (open_day history); gives_up = λ f i. refl; sets = λ g k. refl }
+
+-- which makes no offers
+pub denied-lines : (command : Command) (why : Refusal) → lines_by (Asked command (Denied why)) ≡ []
+denied-lines (OpenDay day) why = refl
+denied-lines (SetLimit group key lots) why = refl
+denied-lines (ReportSide firm id match_id symbol lots price day side account) why = refl
+denied-lines (GiveUp firm id report lines) why = refl
+denied-lines (Claim firm offer) why = refl
+denied-lines (Refuse firm offer reason) why = refl
+denied-lines (Reverse firm offer) why = refl

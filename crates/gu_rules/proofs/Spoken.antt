@@ -1,0 +1,65 @@
+-- Entries that speak of one offer, and those that speak of none.
+use Rattle.std.proofs.Common.{◌≡◌, ℕ, ◌+◌, ◌-◌, ◌||◌, Bool, true, false, refl, arith}
+use Rattle.gu_terms.specs.declared.alloc_reject.AllocReject.{AllocReject}
+use Rattle.gu_terms.specs.declared.command.Command.{Command}
+use Rattle.gu_terms.specs.declared.command.Command.TheVariants.{OpenDay, SetLimit, ReportSide, GiveUp, Claim, Refuse, Reverse}
+use Rattle.gu_terms.specs.declared.entry.Entry.{Entry}
+use Rattle.gu_terms.specs.declared.entry.Entry.TheVariants.{Asked}
+use Rattle.gu_terms.specs.declared.firm.FirmId.{FirmId}
+use Rattle.gu_terms.specs.declared.refusal.Refusal.{Refusal}
+use Rattle.gu_terms.specs.declared.reply.Done.TheVariants.{Refused, Reversed}
+use Rattle.gu_terms.specs.declared.reply.Reply.TheVariants.{Accepted, Denied}
+use Rattle.gu_offers.specs.Changes.{closed, reversed}
+use Rattle.gu_offers.specs.Rows.{Row}
+use Rattle.gu_rules.specs.Offers.{closes, given_back_by, taken_by}
+use Rattle.gu_rules.proofs.Moved.{LeavesOthers}
+use Rattle.gu_rules.proofs.StandingLemmas.{IsIdle, stepped, stepped-still}
+use Rattle.gu_rules.proofs.Takers.{apart, same}
+
+-- an entry of a refusal, and of a reversal
+abbrev pub refused : FirmId → ℕ → AllocReject → ℕ → Entry
+refused firm n why lots = Asked (Refuse firm n why) (Accepted (Refused lots))
+
+abbrev pub taken_back : FirmId → ℕ → ℕ → Entry
+taken_back firm n lots = Asked (Reverse firm n) (Accepted (Reversed lots))
+
+-- each leaves the other offers
+pub refused-others : (firm : FirmId) (n : ℕ) (why : AllocReject) (lots : ℕ) → LeavesOthers (refused firm n why lots) n
+refused-others firm n why lots m differ row = stepped-still (refused firm n why lots) m row refl refl (apart n m differ)
+
+pub taken_back-others : (firm : FirmId) (n lots : ℕ) → LeavesOthers (taken_back firm n lots) n
+taken_back-others firm n lots m differ row = stepped-still (taken_back firm n lots) m row refl (rw (apart n m differ) refl) (apart n m differ)
+
+-- either, by the second
+pub either-true : (b c : Bool) → c ≡ true → (b || c) ≡ true
+either-true true c h = refl
+either-true false c h = h
+
+-- and does this to its own
+pub refused-own : (firm : FirmId) (n : ℕ) (why : AllocReject) (lots : ℕ) (row : Row) → stepped (refused firm n why lots) n row ≡ closed row
+refused-own firm n why lots row =
+    let moved : row.moved + 0 - 0 ≡ row.moved = omega arith in
+    let today : row.today + 0 - 0 ≡ row.today = omega arith in
+    let shut = either-true row.is_shut (closes n (refused firm n why lots)) (same n) in
+    λ i. record { offer = row.offer; moved = moved i; today = today i; is_shut = shut i }
+
+pub taken_back-own : (firm : FirmId) (n : ℕ) (row : Row) → stepped (taken_back firm n row.today) n row ≡ reversed row
+taken_back-own firm n row =
+    let gives : given_back_by n (taken_back firm n row.today) ≡ row.today = rw (same n) refl in
+    let moved : row.moved + 0 - given_back_by n (taken_back firm n row.today) ≡ row.moved - row.today = omega (arith, gives) in
+    let today : row.today + 0 - given_back_by n (taken_back firm n row.today) ≡ 0 = omega (arith, gives) in
+    let shut = either-true row.is_shut (closes n (taken_back firm n row.today)) (same n) in
+    λ i. record { offer = row.offer; moved = moved i; today = today i; is_shut = shut i }
+
+-- a command that is refused, an opening, a limit, a report and a give-up speak of no offer
+idle : (entry : Entry) → ((n : ℕ) → taken_by n entry ≡ 0) → ((n : ℕ) → given_back_by n entry ≡ 0) → ((n : ℕ) → closes n entry ≡ false) → IsIdle entry
+idle entry takes gives shut = record { takes = takes; gives = gives; closed = shut }
+
+pub denied-idle : (command : Command) (why : Refusal) → IsIdle (Asked command (Denied why))
+denied-idle (OpenDay day) why = idle _ (λ n. refl) (λ n. refl) (λ n. refl)
+denied-idle (SetLimit group key lots) why = idle _ (λ n. refl) (λ n. refl) (λ n. refl)
+denied-idle (ReportSide firm id match_id symbol lots price day side account) why = idle _ (λ n. refl) (λ n. refl) (λ n. refl)
+denied-idle (GiveUp firm id report lines) why = idle _ (λ n. refl) (λ n. refl) (λ n. refl)
+denied-idle (Claim firm offer) why = idle _ (λ n. refl) (λ n. refl) (λ n. refl)
+denied-idle (Refuse firm offer reason) why = idle _ (λ n. refl) (λ n. refl) (λ n. refl)
+denied-idle (Reverse firm offer) why = idle _ (λ n. refl) (λ n. refl) (λ n. refl)

@@ -1,0 +1,72 @@
+-- A group that the reference doesn't have has no limits.
+use Rattle.std.proofs.Common.{◌≡◌, ℕ, ◌&&◌, not, Bool, true, false, List, [], ◌∷◌, take, slice_get, zero, suc, Option, Some, None, inl, inr, refl, sym, ap, subst}
+use Rattle.std.specs.List.{filter_map, last_or}
+use Rattle.std.proofs.lemmas.Bool.{cases_Bool}
+use Rattle.gu_terms.proofs.SameNames.{same_group-true}
+use Rattle.gu_terms.specs.declared.command.Command.TheVariants.{OpenDay, SetLimit, ReportSide, GiveUp, Claim, Refuse, Reverse}
+use Rattle.gu_terms.specs.declared.entry.Entry.{Entry}
+use Rattle.gu_terms.specs.declared.entry.Entry.TheVariants.{Asked, Swept}
+use Rattle.gu_terms.specs.declared.group.Group.{Group}
+use Rattle.gu_terms.specs.declared.limit_key.LimitKey.{LimitKey}
+use Rattle.gu_terms.specs.declared.refusal.Refusal.TheVariants.{UnknownKey}
+use Rattle.gu_terms.specs.declared.reply.Done.TheVariants.{Opened, LimitSet, Reported, Offered, Claimed, Refused, Reversed}
+use Rattle.gu_terms.specs.declared.reply.Reply.TheVariants.{Accepted, Denied}
+use Rattle.gu_terms.specs.Same.{same_group}
+use Rattle.gu_ref.specs.Reference.{is_group}
+use Rattle.gu_ref.specs.Tables.{Tables}
+use Rattle.gu_rules.specs.Answer.{is_known_key, limit_tests}
+use Rattle.gu_rules.specs.BookState.{BookState}
+use Rattle.gu_rules.specs.Legal.{IsLegal, MayFollow}
+use Rattle.gu_rules.specs.Limits.{keys_in_order, limit_row, limit_rows, limit_set, limit_set_by}
+use Rattle.gu_rules.proofs.Passing.{none_stands}
+
+known : (a b : Bool) → not (a && b) ≡ false → a ≡ true
+known true b h = refl
+known false b h = cc
+
+-- a limit that is accepted is of a known group
+limit_group : (reference : Tables) (before : List Entry) (at : Group) (on : LimitKey) (lots : ℕ) → MayFollow reference before (Asked (SetLimit at on lots) (Accepted LimitSet)) → is_group reference at ≡ true
+limit_group reference before at on lots may =
+    known (is_group reference at) (is_known_key reference on)
+    (none_stands (limit_tests reference at on lots) LimitSet LimitSet (sym may) 0 (not (is_group reference at && is_known_key reference on)) UnknownKey refl)
+
+-- so that no entry sets one for an unknown group
+sets_nothing : (reference : Tables) (before : List Entry) (group : Group) (key : LimitKey) (entry : Entry) → is_group reference group ≡ false → MayFollow reference before entry
+    → limit_set_by group key entry ≡ None
+sets_nothing reference before group key (Swept sweep) unknown may = refl
+sets_nothing reference before group key (Asked (OpenDay day) reply) unknown may = refl
+sets_nothing reference before group key (Asked (ReportSide firm id match_id symbol lots price day side account) reply) unknown may = refl
+sets_nothing reference before group key (Asked (GiveUp firm id report lines) reply) unknown may = refl
+sets_nothing reference before group key (Asked (Claim firm offer) reply) unknown may = refl
+sets_nothing reference before group key (Asked (Refuse firm offer why) reply) unknown may = refl
+sets_nothing reference before group key (Asked (Reverse firm offer) reply) unknown may = refl
+sets_nothing reference before group key (Asked (SetLimit at on lots) (Accepted (Offered given first count))) unknown may = refl
+sets_nothing reference before group key (Asked (SetLimit at on lots) (Accepted (Claimed moved))) unknown may = refl
+sets_nothing reference before group key (Asked (SetLimit at on lots) (Accepted (Refused closed))) unknown may = refl
+sets_nothing reference before group key (Asked (SetLimit at on lots) (Accepted (Reversed moved))) unknown may = refl
+sets_nothing reference before group key (Asked (SetLimit at on lots) (Denied why)) unknown may = refl
+sets_nothing reference before group key (Asked (SetLimit at on lots) (Accepted Opened)) unknown may = refl
+sets_nothing reference before group key (Asked (SetLimit at on lots) (Accepted (Reported matched))) unknown may = refl
+sets_nothing reference before group key (Asked (SetLimit at on lots) (Accepted LimitSet)) unknown may =
+    elim (cases_Bool (same_group at group)) [
+      | inl hit ↦
+          let here : is_group reference group ≡ true = subst (λ (g : Group). is_group reference g ≡ true) (same_group-true at group hit) (limit_group reference before at on lots may) in
+          cc
+      | inr miss ↦ rw miss refl
+    ]
+
+gives_nothing : {X Y : Type 0} (given : X → Option Y) (items : List X) → ((k : ℕ) (x : X) → slice_get items k ≡ Some x → given x ≡ None) → filter_map given items ≡ []
+gives_nothing given [] none = refl
+gives_nothing given (x ∷ items) none = rw (none zero x refl) (gives_nothing given items (λ k. none (suc k)))
+
+-- a limit that wasn't set
+pub limit_row-unset : (reference : Tables) (history : List Entry) (group : Group) (key : LimitKey) → limit_set history group key ≡ None → limit_row reference history group key ≡ None
+limit_row-unset reference history group key e = rw e refl
+
+-- the limits of an unknown group
+pub unknown_group : (book : BookState) (group : Group) → IsLegal book.reference book.history → is_group book.reference group ≡ false → limit_rows book group ≡ []
+unknown_group book group legal unknown =
+    gives_nothing (limit_row book.reference book.history group) (keys_in_order book.reference)
+    (λ k key at. limit_row-unset book.reference book.history group key
+    (ap (last_or None)
+    (gives_nothing (limit_set_by group key) book.history (λ j entry there. sets_nothing book.reference (take j book.history) group key entry unknown (legal.each j entry there)))))

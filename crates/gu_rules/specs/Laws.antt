@@ -1,0 +1,40 @@
+-- Words of the laws of legal histories: give-ups as they are made, and what an offer gives up.
+use Rattle.std.specs.Prelude.{◌≡◌, ◌≤◌, true, List, length, Some, is_some}
+use Rattle.std.specs.List.{AllByRecursion}
+use Rattle.gu_terms.specs.declared.agreement.AgreementId.{AgreementId}
+use Rattle.gu_terms.specs.declared.command.Command.TheVariants.{GiveUp}
+use Rattle.gu_terms.specs.declared.entry.Entry.{Entry}
+use Rattle.gu_terms.specs.declared.entry.Entry.TheVariants.{Asked}
+use Rattle.gu_terms.specs.declared.offer.Offer.{Offer}
+use Rattle.gu_terms.specs.declared.report.Report.{Report}
+use Rattle.gu_ref.specs.Reference.{account_row, agreement_between}
+use Rattle.gu_ref.specs.Tables.{Tables}
+use Rattle.gu_trades.specs.Matching.{is_of_trade}
+use Rattle.gu_trades.specs.Reports.{report_by}
+use Rattle.gu_rules.specs.Answer.{group_of}
+use Rattle.gu_rules.specs.Offers.{offers_of}
+use Rattle.gu_rules.specs.Reports.{reports_of}
+
+-- an entry is no give-up of more than sixteen lines
+abbrev pub IsShort : Entry → Type 0
+IsShort (Asked (GiveUp firm id report lines) reply) = length lines ≤ 16
+IsShort entry = Unit {0}
+
+-- no give-up has more than sixteen lines, as none that is made has. (The lists of these definitions have no such bound.)
+abbrev pub AreShort : List Entry → Type 0
+AreShort history = AllByRecursion IsShort history
+
+-- an offer gives up a report that is a side of a trade, in the group of its instrument, to an account of the reference,
+-- by the agreement between it and the firm
+pub record GivesUpTrade (reference : Tables) (reports : List Report) (offer : Offer) : Type 0 where
+  pub report : Report
+  pub found : report_by reports offer.firm offer.report ≡ Some report
+  pub traded : is_of_trade reports report ≡ true
+  pub group : group_of reference report ≡ Some offer.group
+  pub account : is_some (account_row reference offer.account) ≡ true
+  pub agreement : AgreementId
+  pub between : agreement_between reference offer.firm offer.account ≡ Some agreement
+
+-- each offer does
+abbrev pub AllGiveUpTrades : Tables → List Entry → Type 0
+AllGiveUpTrades reference history = AllByRecursion (GivesUpTrade reference (reports_of history)) (offers_of history)

@@ -1,0 +1,40 @@
+-- A legal history: each entry may follow from those before it.
+use Rattle.std.specs.Prelude.{◌≡◌, ℕ, ◌+◌, ◌≤◌, List, [], ◌∷◌, ◌++◌, length, take, Some, slice_get, Bool, true, false, ◌<◌}
+use Rattle.gu_terms.specs.declared.entry.Entry.{Entry}
+use Rattle.gu_terms.specs.declared.entry.Entry.TheVariants.{Asked, Swept}
+use Rattle.gu_terms.specs.declared.reply.Reply.TheVariants.{Accepted, Denied}
+use Rattle.gu_terms.specs.declared.reply.Reply.{Reply}
+use Rattle.gu_terms.specs.declared.command.Command.{Command}
+use Rattle.gu_ref.specs.Tables.{Tables}
+use Rattle.gu_rules.specs.Answer.{answer, done_of, state_of}
+use Rattle.gu_rules.specs.Sweeps.{MaySweep}
+
+-- an entry that may come after these: a command with the answer that they give, or a sweep of a group as it stands
+abbrev pub MayFollow : Tables → List Entry → Entry → Type 0
+MayFollow reference before (Asked command reply) = reply ≡ answer reference before command
+MayFollow reference before (Swept sweep) = MaySweep reference before sweep
+
+-- at most a million entries, of which each may follow those before it
+pub record IsLegal (reference : Tables) (history : List Entry) : Type 0 where
+  pub within : length history ≤ 1000000
+  pub each : (k : ℕ) (entry : Entry) → slice_get history k ≡ Some entry → MayFollow reference (take k history) entry
+
+-- the entry is the last of some legal history of so many entries
+pub record StandsLast (reference : Tables) (number : ℕ) (entry : Entry) : Type 0 where
+  pub before : List Entry
+  pub legal : IsLegal reference (before ++ entry ∷ [])
+  pub number_is : number ≡ length before + 1
+
+-- a reply accepts
+abbrev pub accepts : Reply → Bool
+accepts (Accepted done) = true
+accepts (Denied why) = false
+
+-- a command is accepted after a history that isn't full
+pub record IsAccepted (reference : Tables) (history : List Entry) (command : Command) : Type 0 where
+  pub room : length history < 1000000
+  pub accepted : answer reference history command ≡ Accepted (done_of reference (state_of reference history) command)
+
+-- the entry of an accepted command
+abbrev pub accepted_entry : Tables → List Entry → Command → Entry
+accepted_entry reference history command = Asked command (Accepted (done_of reference (state_of reference history) command))

@@ -1,0 +1,13 @@
+pub mod Answer
+pub mod BookState
+pub mod Laws
+pub mod Legal
+pub mod Limits
+pub mod Notices
+pub mod Offers
+pub mod Orderly
+pub mod Positions
+pub mod Reports
+pub mod Sweeps
+pub mod Versions
+pub mod Views

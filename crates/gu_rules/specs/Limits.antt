@@ -1,0 +1,76 @@
+-- Limits: what was set, what is used of it today, and the room that is left.
+use Rattle.std.specs.Prelude.{ℕ, ◌-◌, ◌&&◌, ◌++◌, Bool, List, [], Option, Some, None, map, sum_by, unwrap_or, if◌then◌else◌}
+use Rattle.std.specs.List.{filter_map, last_or}
+use Rattle.std.specs.Option.{option_and_then, option_map}
+use Rattle.gu_terms.specs.LimitKeys.{has_key, key_eq}
+use Rattle.gu_terms.specs.declared.command.Command.TheVariants.{SetLimit}
+use Rattle.gu_terms.specs.declared.entry.Entry.{Entry}
+use Rattle.gu_terms.specs.declared.entry.Entry.TheVariants.{Asked}
+use Rattle.gu_terms.specs.declared.group.Group.{Group}
+use Rattle.gu_terms.specs.declared.limit_key.LimitKey.{LimitKey}
+use Rattle.gu_terms.specs.declared.limit_key.LimitKey.TheVariants.{Exec, Agr, Acct, Carry, Guar}
+use Rattle.gu_terms.specs.declared.limit_row.LimitRow.{LimitRow}
+use Rattle.gu_terms.specs.declared.reply.Done.TheVariants.{LimitSet}
+use Rattle.gu_terms.specs.declared.reply.Reply.TheVariants.{Accepted}
+use Rattle.gu_terms.specs.Same.{same_group}
+use Rattle.gu_terms.specs.declared.offer.Offer.{Offer}
+use Rattle.gu_ref.specs.Reference.{agreement_between}
+use Rattle.gu_ref.specs.Tables.{Tables}
+use Rattle.gu_limits.specs.Paths.{path_of}
+use Rattle.gu_offers.specs.Rows.{Row}
+use Rattle.gu_rules.specs.BookState.{BookState}
+use Rattle.gu_rules.specs.Offers.{standing_of}
+
+-- the lots that an entry sets for a key in a group
+abbrev pub limit_set_by : Group → LimitKey → Entry → Option ℕ
+limit_set_by group key (Asked (SetLimit at on lots) (Accepted LimitSet)) = if same_group at group && key_eq on key then Some lots else None
+limit_set_by group key _ = None
+
+-- the lots that were set last for a key in a group
+abbrev pub limit_set : List Entry → Group → LimitKey → Option ℕ
+limit_set history group key = last_or None (filter_map (limit_set_by group key) history)
+
+-- a limit: what was set last, and 0 where nothing was
+abbrev pub limit_of : List Entry → Group → LimitKey → ℕ
+limit_of history group key = unwrap_or (limit_set history group key) 0
+
+-- the keys that an offer comes under: the path of the agreement between its firm and its account
+abbrev pub path_after : Tables → Offer → List LimitKey
+path_after reference offer = unwrap_or (option_and_then (path_of reference) (agreement_between reference offer.firm offer.account)) []
+
+-- an offer comes under a key in a group
+abbrev pub is_under : Tables → Group → LimitKey → Row → Bool
+is_under reference group key row = same_group group row.offer.group && has_key (path_after reference row.offer) key
+
+-- what is used under a key in a group: what was moved since the last opening of the offers that come under it
+abbrev pub use_in : Tables → List Row → Group → LimitKey → ℕ
+use_in reference rows group key = sum_by (λ (row : Row). if is_under reference group key row then row.today else 0) rows
+
+-- the use of a limit
+abbrev pub use_of : Tables → List Entry → Group → LimitKey → ℕ
+use_of reference history group key = use_in reference (standing_of history) group key
+
+-- the room that is left, 0 where the limit was set below its use
+abbrev pub room_of : Tables → List Entry → Group → LimitKey → ℕ
+room_of reference history group key = limit_of history group key - use_of reference history group key
+
+-- a limit as it stands, where one was set
+abbrev pub limit_row : Tables → List Entry → Group → LimitKey → Option LimitRow
+limit_row reference history group key =
+    option_map
+    (λ limit. record { key = key; limit = limit; used = use_of reference history group key; room = limit - use_of reference history group key })
+    (limit_set history group key)
+
+-- all keys: executing firms, agreements, accounts, carrying firms, guarantors, each in the order of the reference,
+-- guarantors in that of the firms
+abbrev pub keys_in_order : Tables → List LimitKey
+keys_in_order reference =
+    map Exec reference.firms
+    ++ map (λ a. Agr a.id) reference.agreements
+    ++ map (λ a. Acct a.account) reference.accounts
+    ++ map Carry reference.firms
+    ++ map Guar reference.firms
+
+-- the limits of a group
+abbrev pub limit_rows : BookState → Group → List LimitRow
+limit_rows book group = filter_map (limit_row book.reference book.history group) (keys_in_order book.reference)
