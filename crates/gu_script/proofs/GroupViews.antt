@@ -25,7 +25,7 @@ use Rattle.gu_terms.specs.declared.group.Group.{Group}
 use Rattle.gu_terms.specs.declared.id.Id.{Id}
 use Rattle.gu_terms.specs.declared.limit_key.LimitKey.{LimitKey}
 use Rattle.gu_terms.specs.declared.lines.Line.{Line}
-use Rattle.gu_terms.specs.declared.offer.Offer.{ViewOffer as GivenUp}
+use Rattle.gu_terms.specs.declared.offer.Offer.{Offer as GivenUp}
 use Rattle.gu_terms.specs.declared.refusal.Refusal.TheVariants.{TooHigh}
 use Rattle.gu_terms.specs.declared.reply.Done.TheVariants.{LimitSet, Offered}
 use Rattle.gu_terms.specs.declared.reply.Reply.TheVariants.{Accepted}
