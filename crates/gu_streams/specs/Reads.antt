@@ -1,5 +1,5 @@
 -- Counted reads: what a reader has left, of bytes and of reads, and whether one of its reads failed.
-use Rattle.std.specs.Prelude.{◌≡◌, ◌<◌, ◌≤◌, ◌⊎◌, ℕ, ◌+◌, ◌==◌, Bool, true, List, Option, length, take}
+use Rattle.std.specs.Prelude.{◌≡◌, ◌<◌, ◌≤◌, ◌⊎◌, ℕ, ◌+◌, ◌-◌, ◌==◌, ◌||◌, Bool, true, not, List, Option, length, take}
 use Rattle.std.specs.Io.KnownBytes.{Consumes, IsAtEnd, Keeps}
 use Rattle.gu_streams.specs.declared.counted_reads.CountedReads.{CountedReads}
 use Rattle.gu_streams.specs.declared.turn.Turn.{Turn}
@@ -50,10 +50,12 @@ pub record Waited {R : Type 0} (remaining : R → Option (List ℕ)) (old new : 
   pub waits : waits_left new + 1 ≡ waits_left old
   pub failed : has_failed new ≡ has_failed old
 
--- a turn brought nothing more: reading has stopped
+-- a turn brought nothing more: no read was left and nothing changed, or the one that was made failed
 pub record Stopped {R : Type 0} (remaining : R → Option (List ℕ)) (old new : CountedReads R) : Type 0 where
   pub kept : Keeps (bytes_left remaining old) (bytes_left remaining new)
+  pub counted : reads_left new ≡ reads_left old - 1
   pub waits : waits_left new ≡ waits_left old
+  pub failed : has_failed new ≡ (has_failed old || not (is_spent old))
   pub stopped : HasStopped new
 
 -- what a turn brought

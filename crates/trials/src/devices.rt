@@ -1,5 +1,7 @@
 //! Readers and writers that give and take in pieces, and fail in the end. In a text `|` stands for SOH, and `/` for the end of a line.
 
+ghost use Rattle.std.specs.Prelude.{◌≡◌, Some};
+
 use std::alloc::{AllocError, Global};
 use std::io::{self, Read, Write};
 
@@ -14,8 +16,8 @@ pub fn shown(alloc: Global, bytes: &[u8]) -> Result<String, AllocError> {
     text.replace(alloc, "\x01", "|")?.replace(alloc, "\n", "/")
 }
 
-/// Gives its bytes in pieces of these lengths, and the rest in pieces of one length; it fails once it has no read left. Where a length
-/// is None it has nothing for now, once, which is no read.
+/// Gives its bytes in pieces of these lengths, each of at least a byte, since none is the end, and the rest in pieces of one length; it
+/// fails once it has no read left. Where a length is None it has nothing for now, once, which is no read.
 #[derive(Drop)]
 pub struct Source<'a> {
     pub bytes: &'a [u8],
@@ -26,7 +28,9 @@ pub struct Source<'a> {
 
 impl Source<'_> {
     /// How many bytes the next read gives at most, if it gives any.
-    fn next_length(&mut self) -> Option<usize> {
+    fn next_length(&mut self) -> Option<usize>
+        ensures { self.new.bytes ≡ self.old.bytes }
+    {
         match self.lengths {
             [length, later @ ..] => {
                 self.lengths = later;
@@ -38,6 +42,8 @@ impl Source<'_> {
 }
 
 impl Read for Source<'_> {
+    ghost remaining = { λ source. Some source.bytes.now };
+
     fn read(&mut self, buf: &mut [u8]) -> io::Result<usize> {
         if self.reads == 0 {
             return Err(io::Error::from(io::ErrorKind::BrokenPipe));
@@ -46,10 +52,8 @@ impl Read for Source<'_> {
             return Err(io::Error::from(io::ErrorKind::TimedOut));
         };
         self.reads = self.reads.saturating_sub(1);
-        let count = length.min(self.bytes.len()).min(buf.len());
-        buf[..count].copy_from_slice(&self.bytes[..count]);
-        self.bytes = &self.bytes[count..];
-        Ok(count)
+        let most = length.max(1).min(buf.len());
+        self.bytes.read(&mut buf[..most])
     }
 }
 
@@ -76,6 +80,8 @@ impl Sink {
 }
 
 impl Write for Sink {
+    ghost contents = { λ sink. Some sink.held.items };
+
     fn write(&mut self, buf: &[u8]) -> io::Result<usize> {
         if self.writes == 0 {
             return Err(io::Error::from(io::ErrorKind::BrokenPipe));
