@@ -24,6 +24,11 @@ fields_in-append bytes more (span ∷ spans) within =
     let others = fields_in-append bytes more spans within.1 in
     cc
 
+-- and each lies within it still
+pub within-append : (bytes more : List ℕ) (spans : List Span) → AreWithin bytes spans → AreWithin (bytes ++ more) spans
+within-append bytes more [] within = tt
+within-append bytes more (span ∷ spans) within = (omega (arith, within.0, length-append bytes more), within-append bytes more spans within.1)
+
 -- a value at the end of the buffer
 pub field_in-end : (bytes value : List ℕ) (span : Span) → span.start ≡ length bytes → span.len ≡ length value → field_in (bytes ++ value) span ≡ tag_value span.tag value
 field_in-end bytes value span start len =

@@ -1,7 +1,7 @@
 //! Fields in order: tags with their values, which lie in one buffer.
 ghost use Rattle.std.specs.Prelude.{◌≡◌, false, ◌+◌, ◌≤◌, ◌<◌, List, ℕ, [], ◌∷◌, ◌++◌, length, take, drop, slice_get, Some, IfOk, OnOk, OnErr, IsTrue, ◌↔◌};
 ghost use Rattle.std.specs.Iterator.{YieldsFirstBy, item_count};
-ghost use Rattle.std.specs.List.{list_any};
+ghost use Rattle.std.specs.List.{flat_map, list_any};
 ghost use Rattle.gu_fix.specs.Encoding.{has_soh};
 ghost use Rattle.gu_fix.specs.Spans.{AreWithin, fields_in};
 ghost use Rattle.gu_fix.specs.TagValue.{TagValue, tag_value};
@@ -46,6 +46,18 @@ impl Span {
             value: &bytes[self.start..self.start + self.len],
         }
     }
+}
+
+/// Appends parts, one after another.
+#[inline(always)]
+fn extend_by_each(bytes: &mut Vec<u8>, parts: &[&[u8]]) -> Result<(), AllocError>
+    ensures ok { OnOk result (bytes.new.items ≡ bytes.old.items ++ flat_map (λ part. part.now) parts.now) }
+    ensures err { OnErr result ((tail : List ℕ) × (bytes.new.items ≡ bytes.old.items ++ tail)) }
+{
+    for part in parts {
+        bytes.extend_from_slice(part)?;
+    }
+    Ok(())
 }
 
 /// Fields in order. To a contract they are the list of their tags and values.
@@ -159,6 +171,20 @@ impl Fields {
             start,
             len: value.len(),
         });
+        Ok(())
+    }
+
+    /// Appends a field whose value is these parts, one after another.
+    #[inline(always)]
+    pub fn push_joined(&mut self, tag: u32, parts: &[&[u8]]) -> Result<(), AllocError>
+        ensures ok { OnOk result (self.new ≡ self.old ++ tag_value tag (flat_map (λ part. part.now) parts.now) ∷ []) }
+        ensures err { OnErr result (self.new ≡ self.old) }
+    {
+        self.spans.reserve(1)?;
+        let start = self.bytes.len();
+        extend_by_each(&mut self.bytes, parts)?;
+        let len = self.bytes.len() - start;
+        self.spans.push_reserved(Span { tag, start, len });
         Ok(())
     }
 
