@@ -1,6 +1,7 @@
 //! A message that is being written.
 
 ghost use Rattle.std.specs.Prelude.{◌≡◌, ◌∷◌, ◌++◌, [], List, ℕ, IfOk, IsTrue, OnOk};
+ghost use Rattle.std.specs.List.{flat_map};
 ghost use Rattle.gu_fix.specs.TagValue.{tag_value};
 ghost use Rattle.gu_terms.specs.Names.{IsName};
 ghost use Rattle.gu_msgs.specs.Encodable.{ArePlain, is_plain};
@@ -10,7 +11,7 @@ ghost use Rattle.gu_msgs.specs.WrittenBodies.{number_field};
 
 use crate::rejection::Rejection;
 use crate::tags::TEXT;
-use crate::value_texts::{day_text, moment_text, price_text};
+use crate::value_texts::{UNIT, day_text, moment_text, sign_text, six_digits, size_of, trimmed};
 use gu_fix::Fields;
 use gu_terms::{Day, Id, Moment, Price};
 use itoa::Buffer;
@@ -100,12 +101,28 @@ impl Draft {
         self.push(tag, name)
     }
 
+    /// Appends a value of these parts, one after another, that can be encoded.
+    #[inline(always)]
+    pub fn push_joined(&mut self, tag: u32, parts: &[&[u8]]) -> Result<(), AllocError>
+        requires { IsTrue (is_plain (flat_map (λ part. part.now) parts.now)) }
+        ensures { OnOk result (self.new ≡ self.old ++ tag_value tag (flat_map (λ part. part.now) parts.now) ∷ []) }
+    {
+        self.fields.push_joined(tag, parts)
+    }
+
     /// Appends a price.
     pub fn push_price(&mut self, tag: u32, price: Price) -> Result<(), AllocError>
         ensures { OnOk result (self.new ≡ self.old ++ tag_value tag (price_text price) ∷ []) }
     {
-        let text = price_text(self.alloc, price)?;
-        self.push(tag, &text)
+        let sign = sign_text(price);
+        let size = size_of(price);
+        let mut digits = Buffer::new();
+        let whole = digits.format(size / UNIT).as_bytes();
+        let millionths = (size % UNIT) as u32;
+        if millionths == 0 {
+            return self.push_joined(tag, &[sign, whole]);
+        }
+        self.push_joined(tag, &[sign, whole, b".", trimmed(&six_digits(millionths))])
     }
 
     /// Appends a day.

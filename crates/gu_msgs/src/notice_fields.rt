@@ -1,9 +1,9 @@
 //! What notices of the book say, as fields.
 
-ghost use Rattle.std.specs.Prelude.{◌≡◌, ◌∷◌, ◌++◌, [], OnOk, IfOk, IsTrue};
+ghost use Rattle.std.specs.Prelude.{◌≡◌, ◌∷◌, ◌++◌, [], OnOk};
 ghost use Rattle.std.specs.Fmt.{decimal};
+ghost use Rattle.gu_fix.specs.TagValue.{tag_value};
 ghost use Rattle.gu_msgs.specs.CodedValues.{side_letter};
-ghost use Rattle.gu_msgs.specs.Encodable.{is_plain};
 ghost use Rattle.gu_msgs.specs.WrittenBodies.{allocation_fields, offer_fields, offered_fields, report_fields, trade_fields};
 
 use crate::alloc_status::AllocStatus;
@@ -15,23 +15,17 @@ use crate::tags::{
     ALLOC_TRANS_TYPE, AVG_PX, LAST_PX, LAST_QTY, MATCH_STATUS, NO_ALLOCS, NO_SIDES, QUANTITY, SIDE,
     SYMBOL, TRADE_DATE, TRADE_REPORT_ID, TRADE_REPORT_REF_ID, TRD_MATCH_ID,
 };
-use crate::value_texts::push_decimal;
 use gu_terms::Side;
-use std::alloc::{AllocError, Global};
+use itoa::Buffer;
+use std::alloc::AllocError;
 
-/// The bytes that the id of a side has at most: a number of 64 bits, `-`, and a letter.
-const LONGEST_SIDE_ID: usize = 22;
-
-/// The id of a side of a trade: the number of the entry that made it, and the side's letter.
-fn side_id(alloc: Global, entry: u64, side: Side) -> Result<Vec<u8>, AllocError>
-    ensures text { IfOk result (λ text. text.items ≡ decimal entry ++ 45 ∷ side_letter side ∷ []) }
-    ensures plain { IfOk result (λ text. IsTrue (is_plain text.items)) }
+/// Appends the id of a side of a trade: the number of the entry that made it, and the side's letter.
+fn push_side_id(draft: &mut Draft, entry: u64, side: Side) -> Result<(), AllocError>
+    ensures { OnOk result (draft.new ≡ draft.old ++ tag_value TRADE_REPORT_ID (decimal entry ++ 45 ∷ side_letter side ∷ []) ∷ []) }
 {
-    let mut text = Vec::with_capacity(alloc, LONGEST_SIDE_ID)?;
-    push_decimal(&mut text, entry)?;
-    text.push(b'-')?;
-    text.push(side_letter(side))?;
-    Ok(text)
+    let mut digits = Buffer::new();
+    let number = digits.format(entry).as_bytes();
+    draft.push_joined(TRADE_REPORT_ID, &[number, &[b'-', side_letter(side)]])
 }
 
 /// Appends the trade of a side.
@@ -50,8 +44,7 @@ fn push_trade(draft: &mut Draft, message: &TradeCaptureReport) -> Result<(), All
 pub fn push_report(draft: &mut Draft, message: &TradeCaptureReport) -> Result<(), AllocError>
     ensures { OnOk result (draft.new ≡ draft.old ++ report_fields message.now) }
 {
-    let id = side_id(draft.alloc(), message.entry, message.side)?;
-    draft.push(TRADE_REPORT_ID, &id)?;
+    push_side_id(draft, message.entry, message.side)?;
     draft.push_id(TRADE_REPORT_REF_ID, message.trade_report_ref_id)?;
     push_trade(draft, message)?;
     draft.push_number(NO_SIDES, 1)?;

@@ -1,11 +1,11 @@
 //! Prices, dates and moments as messages write them.
 
-ghost use Rattle.std.specs.Prelude.{◌≡◌, ◌≤◌, ◌<◌, ◌++◌, pos, codes, IfOk, OnOk};
+ghost use Rattle.std.specs.Prelude.{◌≡◌, ◌≤◌, ◌<◌, ◌++◌, [], pos, codes, int_lt, if◌then◌else◌, unsigned_abs, OnOk};
 ghost use Rattle.std.specs.Fmt.{decimal};
 ghost use Rattle.gu_terms.specs.Numbers.{IsPrice};
 ghost use Rattle.gu_fix.specs.WholeMessage.{three_digits};
 ghost use Rattle.jiff_core.specs.Date.{epoch_day};
-ghost use Rattle.gu_msgs.specs.ValueTexts.{WritesDateAfter, WritesMoment, date_text, fraction_text, price_text, six_digits, time_text, trimmed_digits, two_digits};
+ghost use Rattle.gu_msgs.specs.ValueTexts.{WritesDateAfter, WritesMoment, date_text, six_digits, time_text, trimmed_digits, two_digits};
 
 use gu_terms::{Day, Moment, Price};
 use itoa::Buffer;
@@ -13,10 +13,7 @@ use jiff_core::civil::Date;
 use std::alloc::{AllocError, Global};
 
 /// The millionths of a unit.
-const UNIT: u64 = 1_000_000;
-
-/// The bytes that a price has at most: `-`, nine digits, a point and six digits.
-const LONGEST_PRICE: usize = 17;
+pub const UNIT: u64 = 1_000_000;
 
 /// The milliseconds of a day.
 const DAY: u64 = 86_400_000;
@@ -38,7 +35,7 @@ fn three_digits(number: u16) -> [u8; 3]
     ]
 }
 
-fn six_digits(number: u32) -> [u8; 6]
+pub fn six_digits(number: u32) -> [u8; 6]
     requires { number < 1000000 }
     ensures { result ≡ six_digits number }
 {
@@ -48,8 +45,23 @@ fn six_digits(number: u32) -> [u8; 6]
     digits
 }
 
+/// What stands before a price's digits: `-` where it is negative.
+pub fn sign_text(price: Price) -> &'static [u8]
+    ensures { result.now ≡ (if int_lt price (pos 0) then codes "-" else []) }
+{
+    if price.get() < 0 { b"-" } else { b"" }
+}
+
+/// The millionths of a price, of either sign.
+pub fn size_of(price: Price) -> u64
+    ensures size { result ≡ unsigned_abs price }
+    ensures sound { IsPrice price }
+{
+    price.get().unsigned_abs()
+}
+
 /// Digits without the zeros at their end.
-fn trimmed(digits: &[u8]) -> &[u8]
+pub fn trimmed(digits: &[u8]) -> &[u8]
     ensures { result.now ≡ trimmed_digits digits.now }
 {
     let mut end = digits.len();
@@ -62,42 +74,12 @@ fn trimmed(digits: &[u8]) -> &[u8]
     &[]
 }
 
-/// Appends millionths after a point, where there are any.
-#[tactic(auto, unfolding(crate::specs::ValueTexts::fraction_text))]
-fn push_fraction(text: &mut Vec<u8>, millionths: u32) -> Result<(), AllocError>
-    requires { millionths < 1000000 }
-    ensures { OnOk result (text.new.items ≡ text.old.items ++ fraction_text millionths) }
-{
-    if millionths == 0 {
-        return Ok(());
-    }
-    text.push(b'.')?;
-    text.extend_from_slice(trimmed(&six_digits(millionths)))
-}
-
 /// Appends a number.
 pub fn push_decimal(text: &mut Vec<u8>, number: u64) -> Result<(), AllocError>
     ensures { OnOk result (text.new.items ≡ text.old.items ++ decimal number) }
 {
     let mut digits = Buffer::new();
     text.extend_from_slice(digits.format(number).as_bytes())
-}
-
-/// A price.
-#[tactic(auto, unfolding(crate::specs::ValueTexts::price_text))]
-pub fn price_text(alloc: Global, price: Price) -> Result<Vec<u8>, AllocError>
-    ensures text { IfOk result (λ text. text.items ≡ price_text price) }
-    ensures sound { IsPrice price }
-{
-    let mut text = Vec::with_capacity(alloc, LONGEST_PRICE)?;
-    let number = price.get();
-    if number < 0 {
-        text.push(b'-')?;
-    }
-    let size = number.unsigned_abs();
-    push_decimal(&mut text, size / UNIT)?;
-    push_fraction(&mut text, (size % UNIT) as u32)?;
-    Ok(text)
 }
 
 /// A date in eight digits.

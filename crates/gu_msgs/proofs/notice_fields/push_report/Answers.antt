@@ -4,9 +4,7 @@ use Rattle.gu_msgs.proofs.notice_fields.push_report.Goals as goal
 pub returns : goal.returns
 returns c =
     simp (
-      c.in_ok-push.ensures,
-      c.deref.ensures.value,
-      c.in_ok-id.ensures.text,
+      c.in_ok-push_side_id.ensures,
       c.in_ok-push_id.ensures,
       c.in_ok-push_trade.ensures,
       c.in_ok-push_number.ensures,
