@@ -5,6 +5,7 @@ pub mod Tables
 pub mod Runs
 pub mod Values
 pub mod StandardHeader
+pub mod HeaderWalk
 pub mod AllocStatuses
 pub mod TestReqIds
 pub mod Kept

@@ -1,14 +1,16 @@
 //! The header of a message, read whatever else is in it.
 
-ghost use Rattle.std.specs.Prelude.{◌≡◌, IfOk};
+ghost use Rattle.std.specs.Prelude.{◌≡◌, ◌∷◌, [], List, ℕ, IfOk};
+ghost use Rattle.gu_fix.specs.TagValue.{TagValue, tag_value};
+ghost use Rattle.gu_msgs.specs.HeaderWalk.{only_after};
 ghost use Rattle.gu_msgs.specs.StandardHeader.{IsHeader, IsHeaderIn};
 ghost use Rattle.std.specs.Option.{option_map};
 
-use crate::field_values::{first_value, only_value};
+use crate::field_values::first_value;
 use crate::run::Run;
 use crate::standard_header::{Header, HeaderRef};
 use crate::tags::{MSG_SEQ_NUM, POSS_DUP_FLAG, SENDER_COMP_ID, TARGET_COMP_ID};
-use gu_fix::{Fields, MSG_TYPE};
+use gu_fix::{Field, Fields, MSG_TYPE};
 use std::alloc::{AllocError, Global};
 
 /// The bytes in a buffer of their own.
@@ -21,17 +23,64 @@ fn bytes_of(alloc: Global, value: Option<&[u8]>) -> Result<Option<Vec<u8>>, Allo
     }
 }
 
-/// The header of a message, where it lies: the first MsgType, and of the others each that stands exactly once.
+/// What is found of a tag as fields are walked.
+#[derive(Clone, Copy)]
+enum Found<'a> {
+    /// It doesn't stand so far.
+    Nowhere,
+    /// It stands once, with this value.
+    Once(&'a [u8]),
+    /// It stands more than once.
+    Twice,
+}
+
+impl<'a> Found<'a> {
+    /// What is found of the tag with one more field.
+    #[inline(always)]
+    fn after(self, tag: u32, field: Field<'a>) -> Self
+        ensures { (rest : List TagValue) → only_after result tag rest
+            ≡ only_after self.entry tag (tag_value field.entry.tag field.entry.value.now ∷ rest) }
+    {
+        if field.tag != tag {
+            return self;
+        }
+        match self {
+            Found::Nowhere => Found::Once(field.value),
+            Found::Once(_) | Found::Twice => Found::Twice,
+        }
+    }
+
+    /// The value of the tag, where it stands exactly once.
+    fn only(self) -> Option<&'a [u8]>
+        ensures { (tag : ℕ) → option_map (λ bytes. bytes.now) result ≡ only_after self.entry tag [] }
+    {
+        match self {
+            Found::Once(value) => Some(value),
+            Found::Nowhere | Found::Twice => None,
+        }
+    }
+}
+
+/// The header of a message, where it lies: the first MsgType, and of the others each that stands exactly once. One walk finds these.
 pub fn header_in(fields: &Fields) -> HeaderRef<'_>
     ensures { IsHeaderIn fields.now result }
 {
-    let all = Run::of(fields);
+    let mut sender = Found::Nowhere;
+    let mut target = Found::Nowhere;
+    let mut number = Found::Nowhere;
+    let mut flag = Found::Nowhere;
+    for field in fields {
+        sender = sender.after(SENDER_COMP_ID, field);
+        target = target.after(TARGET_COMP_ID, field);
+        number = number.after(MSG_SEQ_NUM, field);
+        flag = flag.after(POSS_DUP_FLAG, field);
+    }
     HeaderRef {
-        msg_type: first_value(&all, MSG_TYPE),
-        sender_comp_id: only_value(&all, SENDER_COMP_ID),
-        target_comp_id: only_value(&all, TARGET_COMP_ID),
-        msg_seq_num: only_value(&all, MSG_SEQ_NUM),
-        poss_dup_flag: only_value(&all, POSS_DUP_FLAG),
+        msg_type: first_value(&Run::of(fields), MSG_TYPE),
+        sender_comp_id: sender.only(),
+        target_comp_id: target.only(),
+        msg_seq_num: number.only(),
+        poss_dup_flag: flag.only(),
     }
 }
 
