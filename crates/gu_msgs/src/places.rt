@@ -10,9 +10,10 @@ use crate::msg_type::MsgType;
 use crate::row::Row;
 use crate::tables::outer_rows;
 use crate::tags::{
-    LAST_PX, LAST_QTY, MSG_SEQ_NUM, NO_SIDES, ORIG_SENDING_TIME, POSS_DUP_FLAG, SENDER_COMP_ID,
-    SENDING_TIME, SYMBOL, TARGET_COMP_ID, TRADE_DATE, TRADE_REPORT_ID, TRADE_REPORT_TRANS_TYPE,
-    TRADE_REPORT_TYPE, TRD_MATCH_ID,
+    ALLOC_ID, ALLOC_TRANS_TYPE, LAST_PX, LAST_QTY, MSG_SEQ_NUM, NO_ALLOCS, NO_EXECS, NO_SIDES,
+    ORIG_SENDING_TIME, POSS_DUP_FLAG, QUANTITY, SENDER_COMP_ID, SENDING_TIME, SYMBOL,
+    TARGET_COMP_ID, TRADE_DATE, TRADE_REPORT_ID, TRADE_REPORT_TRANS_TYPE, TRADE_REPORT_TYPE,
+    TRD_MATCH_ID,
 };
 use gu_fix::{BEGIN_STRING, BODY_LENGTH, CHECK_SUM, MSG_TYPE};
 
@@ -41,6 +42,26 @@ fn place_from(rows: &[Row], from: usize, tag: u32) -> Option<usize>
     None
 }
 
+/// The place of a tag in a table: of the header's tags and CheckSum, or else of a type's own.
+macro_rules! place_in {
+    ($tag:expr, $($own:pat => $place:expr),* $(,)?) => {
+        match $tag {
+            BEGIN_STRING => Some(0),
+            BODY_LENGTH => Some(1),
+            MSG_TYPE => Some(2),
+            SENDER_COMP_ID => Some(3),
+            TARGET_COMP_ID => Some(4),
+            MSG_SEQ_NUM => Some(5),
+            SENDING_TIME => Some(6),
+            POSS_DUP_FLAG => Some(7),
+            ORIG_SENDING_TIME => Some(8),
+            CHECK_SUM => Some(9),
+            $($own => Some($place),)*
+            _ => None,
+        }
+    };
+}
+
 /// The place of a tag in the table of reports, of which there are more than of all other messages.
 #[tactic(auto, unfolding(crate::specs::Tables::header_rows, crate::specs::Tables::body_rows))]
 #[inline(always)]
@@ -48,28 +69,35 @@ fn report_place(tag: u32) -> Option<usize>
     ensures { MatchOption result (is_listed (outer_rows kind.TradeCaptureReport) tag ≡ false)
         (λ place. IsRowOf (outer_rows kind.TradeCaptureReport) tag place) }
 {
-    match tag {
-        BEGIN_STRING => Some(0),
-        BODY_LENGTH => Some(1),
-        MSG_TYPE => Some(2),
-        SENDER_COMP_ID => Some(3),
-        TARGET_COMP_ID => Some(4),
-        MSG_SEQ_NUM => Some(5),
-        SENDING_TIME => Some(6),
-        POSS_DUP_FLAG => Some(7),
-        ORIG_SENDING_TIME => Some(8),
-        CHECK_SUM => Some(9),
-        TRADE_REPORT_ID => Some(10),
-        TRADE_REPORT_TRANS_TYPE => Some(11),
-        TRADE_REPORT_TYPE => Some(12),
-        TRD_MATCH_ID => Some(13),
-        SYMBOL => Some(14),
-        LAST_QTY => Some(15),
-        LAST_PX => Some(16),
-        TRADE_DATE => Some(17),
-        NO_SIDES => Some(18),
-        _ => None,
-    }
+    place_in!(
+        tag,
+        TRADE_REPORT_ID => 10,
+        TRADE_REPORT_TRANS_TYPE => 11,
+        TRADE_REPORT_TYPE => 12,
+        TRD_MATCH_ID => 13,
+        SYMBOL => 14,
+        LAST_QTY => 15,
+        LAST_PX => 16,
+        TRADE_DATE => 17,
+        NO_SIDES => 18,
+    )
+}
+
+/// The place of a tag in the table of give-ups, in which groups are looked for again and again.
+#[tactic(auto, unfolding(crate::specs::Tables::header_rows, crate::specs::Tables::body_rows))]
+#[inline(always)]
+fn give_up_place(tag: u32) -> Option<usize>
+    ensures { MatchOption result (is_listed (outer_rows kind.AllocationInstruction) tag ≡ false)
+        (λ place. IsRowOf (outer_rows kind.AllocationInstruction) tag place) }
+{
+    place_in!(
+        tag,
+        ALLOC_ID => 10,
+        ALLOC_TRANS_TYPE => 11,
+        QUANTITY => 12,
+        NO_EXECS => 13,
+        NO_ALLOCS => 14,
+    )
 }
 
 /// The place of a tag among those that are read at the outer level of a message of this type.
@@ -79,6 +107,7 @@ pub fn outer_place(msg_type: MsgType, tag: u32) -> Option<usize>
 {
     match msg_type {
         MsgType::TradeCaptureReport => report_place(tag),
+        MsgType::AllocationInstruction => give_up_place(tag),
         _ => place_of(outer_rows(msg_type), tag),
     }
 }

@@ -56,7 +56,9 @@ fn read_well_made(
         MsgType::Logout => Ok(Inbound::Logout),
         MsgType::Logon => read_logon(fields),
         MsgType::TradeCaptureReport => read_trade_capture_report(fields, numbers, kept),
-        MsgType::AllocationInstruction => read_allocation_instruction(alloc, fields),
+        MsgType::AllocationInstruction => {
+            read_allocation_instruction(alloc, fields, numbers, kept)
+        }
         MsgType::AllocationReportAck => read_allocation_report_ack(fields),
         MsgType::RequestForPositions => read_request_for_positions(fields),
     }
@@ -79,13 +81,15 @@ fn read_of(alloc: Global, fields: &Run<'_>, msg_type: MsgType) -> Result<Inbound
     read_well_made(alloc, fields, msg_type, &numbers, &kept)
 }
 
-/// The same. Reports, of which there are more than of all other messages, are read by a copy of the code that has their table alone.
+/// The same. Reports and give-ups, of which there are more than of all other messages, are read by copies of the code that have their
+/// tables alone.
 fn read_typed(alloc: Global, fields: &Run<'_>, msg_type: MsgType) -> Result<Inbound, MsgFault>
     requires { first_value MSG_TYPE fields.now ≡ Some (code_of msg_type) }
     ensures { MatchResult result (Says fields.now) (IsTypedRefusal msg_type fields.now) }
 {
     match msg_type {
         MsgType::TradeCaptureReport => read_of(alloc, fields, MsgType::TradeCaptureReport),
+        MsgType::AllocationInstruction => read_of(alloc, fields, MsgType::AllocationInstruction),
         _ => read_of(alloc, fields, msg_type),
     }
 }
@@ -110,11 +114,11 @@ pub fn read(alloc: Global, fields: &Fields) -> Result<Inbound, MsgFault>
     let Some(text) = first_value(&all, MSG_TYPE) else {
         return Err(MsgFault::Rejected(untyped_fault(&all)));
     };
-    let Some(code) = TypeCode::new(text) else {
-        return Err(MsgFault::Rejected(fault_at(SessionRejectReason::InvalidMsgType, MSG_TYPE)));
-    };
-    match MsgType::of_code(text) {
-        Some(msg_type) => read_typed(alloc, &all, msg_type),
-        None => Ok(Inbound::Unread(code)),
+    if let Some(msg_type) = MsgType::of_code(text) {
+        return read_typed(alloc, &all, msg_type);
+    }
+    match TypeCode::new(text) {
+        Some(code) => Ok(Inbound::Unread(code)),
+        None => Err(MsgFault::Rejected(fault_at(SessionRejectReason::InvalidMsgType, MSG_TYPE))),
     }
 }

@@ -99,7 +99,8 @@ pub fn fields_after<'a>(fields: &Run<'a>, number: usize) -> Run<'a>
     fields.from(number)
 }
 
-/// The value of a tag of the outer level.
+/// The value of a tag of the outer level. Where the type and the tag are known to the compiler, so is the tag's place.
+#[inline(always)]
 pub fn outer_value<'a>(
     fields: &Run<'a>,
     msg_type: MsgType,

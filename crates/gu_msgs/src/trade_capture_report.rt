@@ -58,12 +58,23 @@ fn report(
     ensures { IsReport fields.now result }
 {
     TradeCaptureReport {
-        trade_report_id: id_in(fields, numbers, TRADE_REPORT_ID),
-        trd_match_id: id_in(fields, numbers, TRD_MATCH_ID),
-        symbol: symbol_in(fields, numbers, SYMBOL),
-        last_qty: lots_in(fields, numbers, kept, LAST_QTY),
-        last_px: price_in(fields, numbers, kept, LAST_PX),
-        trade_date: day_in(fields, numbers, kept, TRADE_DATE),
+        trade_report_id: id_in(
+            fields,
+            MsgType::TradeCaptureReport,
+            numbers,
+            TRADE_REPORT_ID,
+        ),
+        trd_match_id: id_in(fields, MsgType::TradeCaptureReport, numbers, TRD_MATCH_ID),
+        symbol: symbol_in(fields, MsgType::TradeCaptureReport, numbers, SYMBOL),
+        last_qty: lots_in(fields, MsgType::TradeCaptureReport, numbers, kept, LAST_QTY),
+        last_px: price_in(fields, MsgType::TradeCaptureReport, numbers, kept, LAST_PX),
+        trade_date: day_in(
+            fields,
+            MsgType::TradeCaptureReport,
+            numbers,
+            kept,
+            TRADE_DATE,
+        ),
         side: side_at(entry, SIDE),
         account: account_at(entry, ACCOUNT),
     }
