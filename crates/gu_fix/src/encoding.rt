@@ -85,29 +85,30 @@ fn has_soh_in_value(fields: &Fields) -> bool
     false
 }
 
-/// The digits of a number that has two.
-fn two_digits(number: u32) -> [u8; 2]
-    requires { (10 ≤ number) × (number < 100) }
-    ensures { result ≡ decimal number }
+/// The digits of a tag that has two, and `=`.
+fn two_digits(tag: u32) -> [u8; 3]
+    requires { (10 ≤ tag) × (tag < 100) }
+    ensures { result ≡ decimal tag ++ 61 ∷ [] }
 {
-    [b'0' + (number / 10) as u8, b'0' + (number % 10) as u8]
+    [b'0' + (tag / 10) as u8, b'0' + (tag % 10) as u8, b'=']
 }
 
-/// The digits of a number that has three.
-fn three_digits(number: u32) -> [u8; 3]
-    requires { (100 ≤ number) × (number < 1000) }
-    ensures { result ≡ decimal number }
+/// The digits of a tag that has three, and `=`.
+fn three_digits(tag: u32) -> [u8; 4]
+    requires { (100 ≤ tag) × (tag < 1000) }
+    ensures { result ≡ decimal tag ++ 61 ∷ [] }
 {
     [
-        b'0' + (number / 100) as u8,
-        b'0' + (number / 10 % 10) as u8,
-        b'0' + (number % 10) as u8,
+        b'0' + (tag / 100) as u8,
+        b'0' + (tag / 10 % 10) as u8,
+        b'0' + (tag % 10) as u8,
+        b'=',
     ]
 }
 
-/// Appends the digits of a tag, of which most have two or three.
+/// Appends a tag, of which most have two or three digits, and `=`.
 fn push_tag(out: &mut Vec<u8>, tag: u32) -> Result<(), AllocError>
-    ensures ok { OnOk result (out.new.items ≡ out.old.items ++ decimal tag) }
+    ensures ok { OnOk result (out.new.items ≡ out.old.items ++ decimal tag ++ 61 ∷ []) }
     ensures err { OnErr result ((tail : List ℕ) × (out.new.items ≡ out.old.items ++ tail)) }
 {
     if 10 <= tag {
@@ -119,7 +120,9 @@ fn push_tag(out: &mut Vec<u8>, tag: u32) -> Result<(), AllocError>
         }
     }
     let mut digits = Buffer::new();
-    out.extend_from_slice(digits.format(tag).as_bytes())
+    out.extend_from_slice(digits.format(tag).as_bytes())?;
+    out.push(b'=')?;
+    Ok(())
 }
 
 fn push_field(out: &mut Vec<u8>, field: Field) -> Result<(), AllocError>
@@ -127,7 +130,6 @@ fn push_field(out: &mut Vec<u8>, field: Field) -> Result<(), AllocError>
     ensures err { OnErr result ((tail : List ℕ) × (out.new.items ≡ out.old.items ++ tail)) }
 {
     push_tag(out, field.tag)?;
-    out.push(b'=')?;
     out.extend_from_slice(field.value)?;
     out.push(SOH)?;
     Ok(())

@@ -5,7 +5,7 @@ use Rattle.gu_fix.proofs.encoding.three_digits.Goals as goal
 
 pub returns : goal.returns
 returns c =
-    let n = c.args.number in
+    let n = c.args.tag in
     let tens : n / 10 % 10 ≡ n % 100 / 10 = omega arith in
     let ones : n % 10 ≡ n % 100 % 10 = omega arith in
     rw (decimal_pair n c.requires.0 (omega arith), decimal_digit (n / 100) (omega arith), tens, ones) refl
