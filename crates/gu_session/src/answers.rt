@@ -111,5 +111,6 @@ pub fn on_answer(
 pub fn on_notice(alloc: Global, at: &LoggedOn, notice: &Notice) -> Result<Course, AllocError>
     ensures { IfOk result (λ course. course ≡ on_notice at.now notice.now) }
 {
-    Ok(Course::Go(Plan::says(alloc, at, notice_body(notice))?))
+    let messages = Messages::one(alloc, notice_body(notice))?;
+    Ok(Course::Go(Plan::sends(at, messages)))
 }

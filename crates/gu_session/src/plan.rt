@@ -104,19 +104,26 @@ impl Plan {
         }
     }
 
-    /// A new message.
-    pub fn says(alloc: Global, at: &LoggedOn, body: Body) -> Result<Self, AllocError>
-        ensures { IfOk result (λ plan. plan ≡ says at.now (body ∷ [])) }
+    /// New messages.
+    pub fn sends(at: &LoggedOn, messages: Messages) -> Self
+        ensures { result ≡ says at.now messages }
     {
-        let messages = Messages::one(alloc, body)?;
-        Ok(Plan {
+        Plan {
             after: *at,
             again: None,
             messages,
             handed: None,
             answered: None,
             ends: false,
-        })
+        }
+    }
+
+    /// A new message.
+    pub fn says(alloc: Global, at: &LoggedOn, body: Body) -> Result<Self, AllocError>
+        ensures { IfOk result (λ plan. plan ≡ says at.now (body ∷ [])) }
+    {
+        let messages = Messages::one(alloc, body)?;
+        Ok(Plan::sends(at, messages))
     }
 
     /// New messages, and the end.

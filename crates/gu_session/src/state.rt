@@ -98,19 +98,6 @@ impl State {
         }
     }
 
-    /// A plan whose numbers suffice with all that takes memory to carry it out.
-    fn ready(&self, alloc: Global, plan: Plan, now: Moment) -> Result<Ready, AllocError>
-        requires within { is_over self.now.next plan ≡ false }
-        requires sound { IsSoundState self.now }
-        ensures plan { IfOk result (λ ready. ready.plan ≡ plan) }
-        ensures ready { IfOk result (IsReady (seen self.now) now) }
-    {
-        let firm = &plan.after.firm;
-        let again = repeats(alloc, firm, &now, &self.kept, self.next, &plan.again)?;
-        let room = room_for(alloc, &self.at)?;
-        Ok(Ready { plan, again, room })
-    }
-
     /// What is to be done on an input, with all that takes memory.
     pub fn prepare(&self, alloc: Global, input: Input, now: Moment) -> Result<Prepared, AllocError>
         requires open { self.now.is_closed ≡ false }
@@ -120,11 +107,15 @@ impl State {
         match self.course(alloc, input, now)? {
             Course::Stay => Ok(Prepared::Stay),
             Course::Leave => Ok(Prepared::Leave),
-            Course::Go(plan) if is_over(self.next, &plan) => {
-                drop(plan);
-                Ok(Prepared::Leave)
+            Course::Go(plan) => {
+                if is_over(self.next, &plan) {
+                    return Ok(Prepared::Leave);
+                }
+                let firm = &plan.after.firm;
+                let again = repeats(alloc, firm, &now, &self.kept, self.next, &plan.again)?;
+                let room = room_for(alloc, &self.at)?;
+                Ok(Prepared::Go(Ready { plan, again, room }))
             }
-            Course::Go(plan) => Ok(Prepared::Go(self.ready(alloc, plan, now)?)),
         }
     }
 
