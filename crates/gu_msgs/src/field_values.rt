@@ -1,7 +1,7 @@
 //! Values of fields, looked up by their tags.
 
 ghost use Rattle.std.specs.Prelude.{◌≡◌, Some, None, MatchOption, is_some};
-ghost use Rattle.gu_msgs.specs.Values.{behind, first_value, is_numeral, only_value, stands};
+ghost use Rattle.gu_msgs.specs.Values.{first_value, is_numeral, only_value, stands};
 
 use crate::run::Run;
 
@@ -22,19 +22,6 @@ pub fn stands(fields: &Run<'_>, tag: u32) -> bool
     ensures { result ≡ stands tag fields.now }
 {
     first_value(fields, tag).is_some()
-}
-
-/// What follows the first field with a tag.
-pub fn behind<'a>(fields: &Run<'a>, tag: u32) -> Run<'a>
-    ensures { result ≡ behind tag fields.now }
-{
-    let mut rest = fields.copy();
-    while let Some(field) = rest.next() {
-        if field.tag == tag {
-            break;
-        }
-    }
-    rest
 }
 
 /// The value of a tag that stands exactly once.

@@ -6,7 +6,6 @@ ghost use Rattle.gu_msgs.specs.Rows.{is_listed};
 ghost use Rattle.gu_msgs.specs.Standings.{IsStanding};
 ghost use Rattle.gu_msgs.specs.Tables.{outer_rows};
 
-use crate::field_values::behind;
 use crate::msg_type::MsgType;
 use crate::places::outer_place;
 use crate::run::Run;
@@ -56,14 +55,6 @@ fn up_to_outer<'a>(fields: &Run<'a>, msg_type: MsgType) -> Run<'a>
     ensures short { length result < 2 ^ 64 }
 {
     fields.first(fields.len() - left_from_outer(fields, msg_type))
-}
-
-/// The group with this counter.
-pub fn group_of<'a>(fields: &Run<'a>, msg_type: MsgType, counter: u32) -> Run<'a>
-    ensures fields { result ≡ group_of msg_type counter fields.now }
-    ensures short { length result < 2 ^ 64 }
-{
-    up_to_outer(&behind(fields, counter), msg_type)
 }
 
 /// The group after the field with this number, which is the first standing of its counter.
