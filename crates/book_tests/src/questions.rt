@@ -10,7 +10,7 @@ use gu_terms::{
 };
 use gu_text::texts::{append_last_number, append_last_word, append_number, append_word};
 use gu_text::{Line, TextError};
-use gu_view::{ViewOffer, View};
+use gu_view::{View, ViewOffer};
 use std::alloc::{AllocError, Global};
 
 /// Ends a line whose last word has a blank after it.

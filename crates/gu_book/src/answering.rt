@@ -180,6 +180,7 @@ fn has_unknown_account_without(reference: &Reference, lines: &[Line], lacks: boo
     requires { (firm : FirmIdOf) × (lacks ≡ lacks_agreement reference.now firm lines.now) }
     ensures { result ≡ has_unknown_account reference.now lines.now }
 {
+    // Shows the prover: what the type of the reference keeps.
     reference.rules();
     lacks && has_unknown_account(reference, lines)
 }
@@ -309,6 +310,7 @@ fn path_with(reference: &Reference, offer: &Offer, partner: &Option<Partner>) ->
     ensures keys { unwrap_or result [] ≡ path_after reference.now offer.now }
     ensures once { IfSome result (IsDistinct key_eq) }
 {
+    // Shows the prover: what the type of the reference keeps.
     reference.rules();
     match partner {
         Some(partner) => Some(path_by(reference, &offer.firm, &offer.account, partner)),
@@ -366,6 +368,7 @@ fn lots_left(totals: &Totals, number: OfferNo) -> Option<Lots>
     ensures { result ≡ some_lots (left_in totals.now.offers number) }
 {
     // No offer has more lots than there may be.
+    // Shows the prover: what the type of the offers keeps.
     totals.offers.rules();
     Lots::new(totals.offers.left(number))
 }
@@ -375,6 +378,7 @@ fn lots_moved_today(totals: &Totals, number: OfferNo) -> Option<Lots>
     ensures { result ≡ some_lots (today_in totals.now.offers number) }
 {
     // No offer has more lots than there may be.
+    // Shows the prover: what the type of the offers keeps.
     totals.offers.rules();
     Lots::new(totals.offers.moved_today(number))
 }

@@ -185,6 +185,7 @@ impl Book {
     pub fn open_interest(&self, symbol: Symbol) -> u64
         ensures { result ≡ open_interest_of self.now symbol }
     {
+        // Shows the prover: what the types of the reference and the positions keep.
         self.reference.rules();
         self.totals.positions.rules();
         self.totals.positions.open_interest(symbol)
@@ -412,6 +413,7 @@ impl Book {
         // Over the accounts, as many lots of each instrument are held long as short.
         ensures even { LongIsShort self.now }
     {
+        // Shows the prover: what the types of the reference and the positions keep.
         self.reference.rules();
         self.totals.positions.rules();
         &self.history

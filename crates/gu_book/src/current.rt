@@ -14,7 +14,7 @@ use crate::views::shown_offer;
 use gu_limits::LimitTable;
 use gu_ref::Reference;
 use gu_terms::Group;
-use gu_view::{ViewOffer, Room, View};
+use gu_view::{Room, View, ViewOffer};
 
 /// What comes after an offer, where offers begin with it.
 fn behind<'a>(offers: &'a [ViewOffer], first: &ViewOffer) -> Option<&'a [ViewOffer]>
@@ -45,7 +45,12 @@ fn behind_number<'a>(
 }
 
 /// Whether these offers are those of the numbers, as a view shows them.
-fn shows_offers(reference: &Reference, totals: &Totals, numbers: &[u64], offers: &[ViewOffer]) -> bool
+fn shows_offers(
+    reference: &Reference,
+    totals: &Totals,
+    numbers: &[u64],
+    offers: &[ViewOffer],
+) -> bool
     ensures { IsTrue result ↔ (offers.now ≡ filter_map (shown_at reference.now totals.now.offers) numbers.now) }
 {
     let mut rest = offers;

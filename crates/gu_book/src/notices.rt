@@ -96,6 +96,7 @@ impl Mailbox {
         ensures { IsTold self.old self.new result (told_of_line (register_in reference.now totals.now) number) }
     {
         // There are numbers for all offers.
+        // Shows the prover: what the type of the offers keeps.
         totals.offers.rules();
         let Some(number) = OfferNo::new(number) else {
             return Ok(());

@@ -15,7 +15,7 @@ use crate::totals::Totals;
 use gu_flow::Proposal;
 use gu_limits::Places;
 use gu_terms::{Entry, History, KeptSweep, OfferNo, Receipt, SweepEntry, Take};
-use gu_view::{ViewOffer, View};
+use gu_view::{View, ViewOffer};
 use std::alloc::{AllocError, Global};
 
 /// The sweep that a proposal asks for, as a history keeps it: made before `Book::enter_sweep`, which

@@ -14,7 +14,7 @@ use crate::versions::Versions;
 use gu_limits::{LimitTable, path_between};
 use gu_ref::Reference;
 use gu_terms::{Group, LimitKey, OfferNo};
-use gu_view::{KeyedOffers, ViewOffer, Room, View};
+use gu_view::{KeyedOffers, Room, View, ViewOffer};
 use std::alloc::{AllocError, Global};
 
 /// The keys that each path is expected to bring to a view: as many as there are on one without a guarantor.
@@ -25,6 +25,7 @@ pub fn shown_offer(reference: &Reference, totals: &Totals, number: u64) -> Optio
     ensures { result ≡ shown_at reference.now totals.now.offers number }
 {
     // There are numbers for all offers, and each agreement has a path.
+    // Shows the prover: what the types of the offers and the reference keep.
     totals.offers.rules();
     reference.rules();
     let number = OfferNo::new(number)?;
@@ -112,6 +113,7 @@ pub fn view_of(
     ensures view { IfOk result (λ view. view ≡ view_in reference.now totals.now versions.now group.now) }
     ensures nested { IfOk result (λ view. IsNested view) }
 {
+    // Shows the prover: what the types of the reference, the offers and the limits keep.
     reference.rules();
     totals.offers.rules();
     totals.limits.rules();

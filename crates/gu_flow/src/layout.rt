@@ -8,7 +8,7 @@ ghost use Rattle.gu_flow.specs.Networks.{capacity_of, IsArcOf, AreArcs, room_at,
 
 use crate::network::{Arc, SINK, SOURCE};
 use gu_terms::LimitKey;
-use gu_view::{ViewOffer, View};
+use gu_view::{View, ViewOffer};
 use std::alloc::{AllocError, Global};
 
 /// How many steps of a way come before that of a key.

@@ -34,6 +34,7 @@ pub fn path(reference: &Reference, agreement: AgreementId) -> Option<Path>
     ensures once { IfSome result (IsDistinct key_eq) }
     ensures unknown { IsNone result ↔ (agreement_row reference.now agreement ≡ None) }
 {
+    // Shows the prover: what the type of the reference keeps.
     reference.rules();
     let parties = reference.agreement(agreement)?;
     let carrying = reference.account(parties.account)?.firm;
@@ -57,6 +58,7 @@ pub fn path_by(
     ensures keys { path_of reference.now partner.now.agreement ≡ Some result }
     ensures once { IsDistinct key_eq result }
 {
+    // Shows the prover: what the type of the reference keeps.
     reference.rules();
     through(
         reference,
@@ -77,6 +79,7 @@ pub fn path_between(
     ensures keys { IfSome result (λ p. path_of reference.now p.0 ≡ Some p.1) }
     ensures once { IfSome result (λ p. IsDistinct key_eq p.1) }
 {
+    // Shows the prover: what the type of the reference keeps.
     reference.rules();
     let partner = reference.partner(executing, account)?;
     let path = path_by(reference, &executing, &account, &partner);

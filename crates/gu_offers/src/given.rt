@@ -45,6 +45,7 @@ impl Given {
         ensures on { self.new.moved_on ≡ day }
     {
         let today = self.moved_on(day);
+        // Shows the prover: lots are within their range.
         let _lots = self.offer.lots.get();
         self.moved += lots;
         self.today = today + lots;

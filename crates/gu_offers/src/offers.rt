@@ -103,6 +103,7 @@ fn are_lots(lines: &[Line])
     ensures { All (λ line. IsLots line.lots) lines.now }
 {
     for line in lines {
+        // Shows the prover: lots are within their range.
         let _lots = line.lots.get();
     }
 }

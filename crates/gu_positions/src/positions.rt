@@ -310,6 +310,7 @@ impl Positions {
         ensures sums { (on : SideOf) (another : Instrument) → lots_on self.new on another ≡ lots_on self.old on another }
         ensures still { from ≡ to → self.new ≡ self.old }
     {
+        // Shows the prover: what the type of the positions keeps.
         self.rules();
         self.take(&from, &symbol, side, lots);
         self.add(to, symbol, side, lots);

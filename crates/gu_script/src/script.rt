@@ -135,6 +135,7 @@ impl Script {
         ensures answered { AnswersPiece result self.old piece.now output.old.items self.new output.new.items }
         ensures counted { OnOk result (self.new.count ≤ self.old.count + length piece.now) }
     {
+        // Shows the prover: how long what waits may be.
         let _waiting = self.rest.len();
         let mut left = piece;
         'lines: while let Some((part, after)) = split_at_line_feed(left) {

@@ -61,6 +61,7 @@ pub fn answer_step(world: &mut World, step: Step, output: &mut Vec<u8>) -> Resul
 {
     let before = view_for(world, &step)?;
     let looked = looked(&step);
+    // Shows the prover: some steps led to this world.
     let _steps = world.outcomes().len();
     let outcome = world.take(step)?;
     let appended = append_outcome(output, before.as_ref(), looked, &outcome);
@@ -76,6 +77,7 @@ fn answer_command(
 ) -> Result<(), AllocError>
     ensures { OnOk result (AnswersStep world.old (Enter command.now) output.old.items world.new output.new.items) }
 {
+    // Shows the prover: some steps led to this world.
     let _steps = world.outcomes().len();
     let answered = world.enter(command)?;
     match answered {

@@ -8,8 +8,8 @@ ghost use Rattle.gu_terms.specs.PackedEntries.{end_of_last, entry_by, entry_of, 
 use crate::command::Command;
 use crate::entry::Entry;
 use crate::entry_ref::EntryRef;
-use crate::packed::{Body, Ids, Packed, body_of, ids_of};
 use crate::kept_sweep::KeptSweep;
+use crate::packed::{Body, Ids, Packed, body_of, ids_of};
 use crate::reply::Reply;
 use std::alloc::{AllocError, Global};
 use std::marker::Model;

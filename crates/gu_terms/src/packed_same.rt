@@ -7,9 +7,9 @@ ghost use Rattle.gu_terms.specs.PackedEntries.{entry_by, entry_of, first_id, sec
 use crate::command::{Command, is_same_day};
 use crate::entry::{Entry, SweepEntry};
 use crate::firm::FirmId;
-use crate::packed::{Body, Ids, Packed};
 use crate::lines::Line;
 use crate::offer_no::OfferNo;
+use crate::packed::{Body, Ids, Packed};
 use crate::reply::{Done, Reply};
 
 impl Ids {

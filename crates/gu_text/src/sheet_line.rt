@@ -10,7 +10,7 @@ use crate::lines::LONGEST_LINE;
 use crate::values::{key_said, name_of, number_of, offer_no_of};
 use crate::words::{first_three_words, first_word, is_ragged, three_words, two_words};
 use gu_terms::{AccountId, AgreementId, FirmId, Group, LimitKey, Name, OfferNo, Path, Take};
-use gu_view::{ViewOffer, Room};
+use gu_view::{Room, ViewOffer};
 
 const SHEET: &[u8] = b"SHEET";
 

@@ -11,7 +11,7 @@ use crate::sheet::Sheet;
 use crate::sheet_line::{Header, Part, SheetLine};
 use crate::takes_in_order::takes_in_order;
 use gu_terms::{Cut, OfferNo, Take};
-use gu_view::{ViewOffer, Room, View, ViewError};
+use gu_view::{Room, View, ViewError, ViewOffer};
 use indexmap::IndexSet;
 use std::alloc::{AllocError, Global};
 use std::marker::Model;

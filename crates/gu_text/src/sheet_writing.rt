@@ -12,7 +12,7 @@ use crate::reserved::{LINE_ROOM, put_last_number, put_last_word, put_number, put
 use crate::takes_in_order::{from_offer, lots_in_front};
 use crate::texts::append_last_word;
 use gu_terms::{Cut, OfferNo, Path, Take, Takes};
-use gu_view::{ViewOffer, Room, View};
+use gu_view::{Room, View, ViewOffer};
 use std::alloc::{AllocError, Global};
 
 /// Appends the head of a sheet: the group, and its version.
@@ -107,7 +107,11 @@ fn append_take(output: &mut Vec<u8>, offer: OfferNo, lots: u64) -> Result<(), Al
 }
 
 /// Appends a take for each offer, walking both side by side.
-fn append_takes(output: &mut Vec<u8>, takes: &[Take], offers: &[ViewOffer]) -> Result<(), AllocError>
+fn append_takes(
+    output: &mut Vec<u8>,
+    takes: &[Take],
+    offers: &[ViewOffer],
+) -> Result<(), AllocError>
     requires takes { IsAscending takes.now }
     requires offers { AllPairs (λ a b. a.number < b.number) offers.now }
     ensures { OnOk result (output.new.items ≡ output.old.items ++ flat_map (take_line takes.now) offers.now) }
@@ -158,7 +162,11 @@ fn append_cut_offer(output: &mut Vec<u8>, cut: &Cut, offer: &ViewOffer) -> Resul
 }
 
 /// Appends the offers of the cut, in the order of the offers.
-fn append_cut_offers(output: &mut Vec<u8>, cut: &Cut, offers: &[ViewOffer]) -> Result<(), AllocError>
+fn append_cut_offers(
+    output: &mut Vec<u8>,
+    cut: &Cut,
+    offers: &[ViewOffer],
+) -> Result<(), AllocError>
     ensures { OnOk result (output.new.items ≡ output.old.items ++ flat_map (cut_offer_line cut.now) offers.now) }
 {
     for offer in offers {

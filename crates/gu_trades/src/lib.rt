@@ -2,9 +2,9 @@
 #![tactic(auto)]
 
 mod counterpart;
-mod packed;
-mod matching;
 mod hash_index;
+mod matching;
+mod packed;
 mod reports;
 mod sides;
 mod standing;

@@ -13,8 +13,8 @@ ghost use Rattle.gu_trades.specs.Sides.{reports_in};
 ghost use Rattle.gu_trades.specs.Terms.{report_with, terms_of};
 
 use crate::counterpart::Counterpart;
-use crate::matching::Matching;
 use crate::hash_index::{HashIndex, number_of};
+use crate::matching::Matching;
 use crate::reports::Reports;
 use crate::sides::Sides;
 use crate::standing::Standing;

@@ -12,7 +12,7 @@ ghost use Rattle.gu_view.specs.View.{IsView};
 
 use crate::error::{CutFault, Unknown};
 use crate::takes::{fill_lots, not_oldest_first, over_limit, over_offer, sum_of};
-use crate::view::{MOST_ROOMS, ViewOffer, Room, View};
+use crate::view::{MOST_ROOMS, Room, View, ViewOffer};
 use gu_terms::{Cut, LimitKey, MOST_OPEN_OFFERS, OfferNo, Takes};
 
 /// Marks the rooms of these keys, or answers the first key that has no room.

@@ -18,4 +18,4 @@ pub use checker::check;
 pub use error::{CutFault, Unknown, ViewError};
 pub use keyed_offers::KeyedOffers;
 pub use laws::cut_bounds_takes;
-pub use view::{ViewOffer, Room, View};
+pub use view::{Room, View, ViewOffer};

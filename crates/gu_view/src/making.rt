@@ -9,7 +9,7 @@ ghost use Rattle.gu_terms.specs.declared.limit_key.LimitKey.{LimitKey};
 ghost use Rattle.gu_view.specs.Keeping.{IsGiven};
 ghost use Rattle.gu_view.specs.Making.{is_bad, is_own, numbered, bad_offer, path_differs, lots_given, AreRooms, in_order};
 
-use crate::view::{ViewOffer, Room};
+use crate::view::{Room, ViewOffer};
 use gu_terms::{AgreementId, LimitKey, MOST_LIMIT, MOST_LOTS, MOST_OPEN_OFFERS, OfferNo, Path};
 use indexmap::{IndexMap, IndexSet};
 use std::alloc::{AllocError, Global};

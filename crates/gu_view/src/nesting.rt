@@ -4,7 +4,7 @@ ghost use Rattle.std.specs.Prelude.{◌≡◌, ◌<◌, IfSome, length, slice_ge
 ghost use Rattle.std.specs.List.{list_all};
 ghost use Rattle.gu_view.specs.Paths.{are_kinds, behind, have_one_key, is_guarantor, is_whole, key_on, room_agrees, same_key};
 
-use crate::view::{ViewOffer, View};
+use crate::view::{View, ViewOffer};
 use gu_terms::{AgreementId, LimitKey};
 
 /// Whether keys are of an executing firm, of this agreement, of an account and of a carrying firm.

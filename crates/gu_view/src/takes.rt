@@ -7,7 +7,7 @@ ghost use Rattle.gu_view.specs.Takes.{lots_under};
 ghost use Rattle.gu_view.specs.Marks.{split_of, AreLots, AreMarks};
 
 use crate::error::{CutFault, Unknown};
-use crate::view::{MOST_ROOMS, ViewOffer, View};
+use crate::view::{MOST_ROOMS, View, ViewOffer};
 use gu_terms::{OfferNo, Take};
 
 /// The lots of the first take where it is of this offer, and the takes after it.

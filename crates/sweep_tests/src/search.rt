@@ -4,7 +4,7 @@ ghost use Rattle.std.specs.Prelude.{◌<◌};
 use crate::rows::{Subject, check_row, first_word, told};
 use crate::sheets::Question;
 use crate::sweep::Telling;
-use gu_view::{ViewOffer, Room, View};
+use gu_view::{Room, View, ViewOffer};
 use std::alloc::{AllocError, Global};
 
 /// The keys that offers may come under. No two kinds have a name in common.

@@ -1,7 +1,7 @@
 //! Which offers and rooms make a view.
 use crate::rows::{Subject, check, first_word, number};
 use gu_terms::{AgreementId, Group, LimitKey, Name, OfferNo, Path};
-use gu_view::{ViewOffer, Room, View, ViewError};
+use gu_view::{Room, View, ViewError, ViewOffer};
 use std::alloc::{AllocError, Global};
 
 /// The key of a kind with a name.
