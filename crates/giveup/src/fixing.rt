@@ -5,7 +5,7 @@ ghost use Rattle.gu_streams.specs.Reads.{HasStopped};
 ghost use Rattle.gu_streams.specs.Streams.{streams_of};
 ghost use Rattle.gu_engine.specs.Exchange.{Exchanged, ExchangedInPart, ExchangedSoFar};
 
-use gu_engine::{Clock, Connection, House, run};
+use gu_engine::{Clock, Connection, House, converse};
 use gu_streams::{CountedReads, StreamError};
 use std::alloc::Global;
 use std::io::{Read, Write};
@@ -29,7 +29,5 @@ pub fn fix<R: Read, W: Write, H: House, C: Clock>(
     ensures part { OnErr result (ExchangedInPart H.rules C.ahead C.has_failed connection.old
         (streams_of R.remaining W.contents reads.old reads.new writer.old writer.new)) }
 {
-    run(alloc, reads, writer, connection)?;
-    connection.end()?;
-    Ok(())
+    converse(alloc, connection, reads, writer)
 }

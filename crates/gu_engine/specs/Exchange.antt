@@ -58,7 +58,7 @@ module _ {H C : Type 0} where
   AnswersAny rules now old None text new = (text ≡ []) × (new ≡ old)
   AnswersAny rules now old (Some asked) text new = AnswersAsked rules now old asked text new
 
-  -- A frame: what the session sends, and the answer to what it asks. Then the firm is after with its notices.
+  -- A frame: what the session sends, and the answer to what it asks. Then notices for the firm may be due.
   pub record AnswersFrame (rules : HouseRules H) (now : ℕ) (old : Connection H C) (frame text : List ℕ) (new : Connection H C) : Type 0 where
     pub asked : Option Asked
     pub heard : Connection H C
@@ -70,7 +70,7 @@ module _ {H C : Type 0} where
     pub parts : text ≡ sent ++ answer
     pub new_is : new ≡ record answered { is_behind = true }
 
-  -- the reader has nothing for now: the firm is after with what others did
+  -- the reader has nothing for now: notices of what others did may be due
   pub record Waits (old : Connection H C) (text : List ℕ) (new : Connection H C) : Type 0 where
     pub text_is : text ≡ []
     pub new_is : new ≡ record old { is_behind = true }
@@ -80,7 +80,7 @@ module _ {H C : Type 0} where
     pub asked : Option Asked
     pub taken : TakesInput old (Notice notice) now asked text new
 
-  -- the firm that is logged on is sent a stretch of the notices that it hasn't had, and is after until it has had the last
+  -- the firm that is logged on is sent a stretch of the notices that it hasn't had, and more are due until it has had the last
   pub record TellsStretch (rules : HouseRules H) (now : ℕ) (old : Connection H C) (text : List ℕ) (new : Connection H C) : Type 0 where
     pub firm : FirmId
     pub logged_on : firm_of old.session ≡ Some firm
@@ -90,7 +90,7 @@ module _ {H C : Type 0} where
     pub sent : AnswersEach (SendsNotice now) (record old { house = house; next = stretch.notices.next; is_behind = not stretch.is_last })
         stretch.notices.list.items text new
 
-  -- notices are due where a firm that is logged on is after, unless the connection is over
+  -- notices are due to a firm that is logged on and hasn't had the last, unless the connection is over
   abbrev pub is_due : Connection H C → Bool
   is_due connection = connection.is_behind && not connection.is_over && is_some (firm_of connection.session)
 

@@ -1,4 +1,4 @@
-//! One connection of a firm: its session, the house after it, and a clock.
+//! One connection of a firm: its session, the house that answers it, and a clock.
 
 ghost use Rattle.std.specs.Prelude.{◌≡◌, ◌<◌, ◌^◌, ◌++◌, ◌||◌, List, ℕ, true, IfOk, OnOk};
 ghost use Rattle.gu_engine.specs.Exchange.{AnswersAny, AnswersAsked, AnswersFrame, EndsSession, IsNew, SendsNotice, TakesInput, TellsStretch, Ticks, is_due};
@@ -60,14 +60,14 @@ impl<H, C> Connection<H, C> {
         }
     }
 
-    /// The house after it.
+    /// Its house.
     pub fn house(&self) -> &H
         ensures { result.now ≡ self.now.house }
     {
         &self.house
     }
 
-    /// The house after it, which outlives it.
+    /// Its house, which outlives it.
     pub fn into_house(self) -> H
     where
         C: Drop,

@@ -4,6 +4,7 @@
 mod answerer;
 mod clock;
 mod connection;
+mod conversing;
 mod event;
 mod house;
 mod laws;
@@ -12,6 +13,7 @@ mod running;
 pub use answerer::Answerer;
 pub use clock::{Clock, ClockFault, SystemClock};
 pub use connection::Connection;
+pub use conversing::converse;
 pub use event::Event;
 pub use house::House;
 pub use laws::{reads_alone, turns_go_on};
