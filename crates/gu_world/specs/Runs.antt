@@ -1,10 +1,12 @@
 -- Runs: what steps lead to from a book without entries, and which entry is to blame for a stale commit.
 use Rattle.std.specs.Prelude.{◌≡◌, ℕ, ◌++◌, List, [], ◌∷◌, take, Option, Some, None, slice_get}
+use Rattle.std.specs.List.{filter_map}
 use Rattle.std.specs.Option.{option_and_then}
+use Rattle.gu_terms.specs.declared.receipt.Receipt.{Receipt}
 use Rattle.gu_ref.specs.Tables.{Tables}
 use Rattle.gu_world.specs.Steps.{Look, State, LeadsTo, first_touch_above, look_of, start}
 use Rattle.gu_world.specs.declared.outcome.Outcome.{Outcome}
-use Rattle.gu_world.specs.declared.outcome.Outcome.TheVariants.{Stale}
+use Rattle.gu_world.specs.declared.outcome.Outcome.TheVariants.{Asked, Stale, Swept}
 use Rattle.gu_world.specs.declared.step.Step.{Step}
 use Rattle.gu_world.specs.declared.step.Step.TheVariants.{Commit}
 
@@ -19,6 +21,16 @@ IsRun old (step ∷ steps) (outcome ∷ outcomes) new = (mid : State) × LeadsTo
 pub record Course : Type 0 where
   pub state : State
   pub outcomes : List Outcome
+
+-- the receipt in an outcome: of what was entered by its step, where something was
+abbrev pub receipt_of : Outcome → Option Receipt
+receipt_of (Asked receipt) = Some receipt
+receipt_of (Swept receipt) = Some receipt
+receipt_of _ = None
+
+-- the receipts in outcomes, in order
+abbrev pub receipts_in : List Outcome → List Receipt
+receipts_in outcomes = filter_map receipt_of outcomes
 
 -- before the first step
 abbrev pub beginning : Tables → Course

@@ -24,6 +24,7 @@ fn commit(book: &mut Book, proposal: Proposal) -> Result<Outcome, Proposal>
     ensures handed_back { IfErr result (λ back. back ≡ proposal) }
     ensures refused { OnErr result (book.new ≡ book.old) }
 {
+    // Shows the prover: the history is legal.
     let _entries = book.history().len();
     match book.commit(proposal) {
         Ok(receipt) => Ok(Outcome::Swept(receipt)),

@@ -99,6 +99,7 @@ impl Looks {
         ensures { self.new ≡ slice_set self.old worker (Some held) }
     {
         let place = usize::from(worker.get());
+        // Shows the prover: a worker is one of 64.
         let _within = worker.get();
         self.slots[place] = Some(held);
     }

@@ -1,5 +1,8 @@
 //! Outcomes.
 
+ghost use Rattle.std.specs.Prelude.{◌≡◌};
+ghost use Rattle.gu_world.specs.Runs.{receipt_of};
+
 use gu_terms::Receipt;
 
 /// What came of a step.
@@ -23,4 +26,16 @@ pub enum Outcome {
     Foreign,
     /// The worker had no look to propose for, or no proposal to commit.
     Nothing,
+}
+
+impl Outcome {
+    /// The receipt of what was entered, if anything was.
+    pub fn into_receipt(self) -> Option<Receipt>
+        ensures { result ≡ receipt_of self }
+    {
+        match self {
+            Outcome::Asked(receipt) | Outcome::Swept(receipt) => Some(receipt),
+            _ => None,
+        }
+    }
 }

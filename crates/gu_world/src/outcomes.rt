@@ -1,15 +1,17 @@
 //! The outcomes of a world, as they are kept and as they are shown.
 
-ghost use Rattle.std.specs.Prelude.{◌≡◌, ◌-◌, ◌≤◌, length, map, slice_get, IfOk, Some};
+ghost use Rattle.std.specs.Prelude.{◌≡◌, ◌++◌, ◌-◌, ◌≤◌, length, map, slice_get, IfOk, OnOk, Some};
+ghost use Rattle.std.specs.Option.{option_to_list};
 ghost use Rattle.gu_terms.specs.Histories.{entry_at};
 ghost use Rattle.gu_terms.specs.declared.command.Command.{Command as CommandOf};
 ghost use Rattle.gu_world.specs.Outcomes.{kept_of, outcome_in, AreNumbered, IsNumbered};
+ghost use Rattle.gu_world.specs.Runs.{receipt_of, receipts_in};
 ghost use Rattle.gu_world.specs.Steps.{outcome_of};
 
 use crate::answered::Answered;
 use crate::outcome::Outcome;
 use gu_terms::{History, Receipt};
-use std::alloc::AllocError;
+use std::alloc::{AllocError, Global};
 use std::marker::Model;
 
 /// An outcome as it is kept: of what was entered, the number alone.
@@ -86,6 +88,16 @@ fn receipt(history: &History, number: u64) -> Result<Receipt, AllocError>
     Ok(Receipt { number, entry })
 }
 
+/// Appends the receipt of what was entered, if anything was.
+fn append_receipt(receipts: &mut Vec<Receipt>, outcome: Outcome) -> Result<(), AllocError>
+    ensures { OnOk result (receipts.new.items ≡ receipts.old.items ++ option_to_list (receipt_of outcome)) }
+{
+    if let Some(receipt) = outcome.into_receipt() {
+        receipts.push(receipt)?;
+    }
+    Ok(())
+}
+
 /// The outcome of each step, in order. To a contract it is their list.
 #[derive(Drop)]
 pub struct Outcomes<'a> {
@@ -129,6 +141,17 @@ impl<'a> Outcomes<'a> {
             Some(kept) => Ok(Some(kept.outcome(self.history)?)),
             None => Ok(None),
         }
+    }
+
+    /// The receipts of what was entered, in order.
+    pub fn receipts(&self, alloc: Global) -> Result<Vec<Receipt>, AllocError>
+        ensures { IfOk result (λ receipts. receipts.items ≡ receipts_in self.now) }
+    {
+        let mut receipts = Vec::with_capacity(alloc, self.len())?;
+        for kept in self.kept {
+            append_receipt(&mut receipts, kept.outcome(self.history)?)?;
+        }
+        Ok(receipts)
     }
 
     /// The outcome of the last step.

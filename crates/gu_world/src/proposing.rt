@@ -22,6 +22,7 @@ fn proposed_lots(proposal: &Proposal) -> u64
     ensures lots { result ≡ proposal.now.lots }
     ensures sweeps { IsSweepOf proposal.now.view (sweep_of proposal.now) }
 {
+    // Shows the prover: the takes ascend, and the cut names each key and each offer once.
     let _takes = proposal.takes().as_slice();
     let _keys = proposal.cut().keys();
     let _offers = proposal.cut().offers();

@@ -41,6 +41,7 @@ pub fn run(alloc: Global, reference: Reference, steps: &[Step]) -> Result<World,
     ensures never_foreign { IfOk result (λ world. All (λ outcome. outcome ≢ Foreign) world.outcomes) }
 {
     let world = take_all(alloc, reference, steps)?;
+    // Shows the prover: the history is legal.
     let _entries = world.book().history().len();
     Ok(world)
 }

@@ -169,6 +169,7 @@ impl World {
         ensures current { (look : Look) → look_of self.now.state worker ≡ Some look → is_overtaken self.now.state look ≡ false
             → option_copied result ≡ Some (group_view self.now.state.book.reference self.now.state.book.history look.group) }
     {
+        // Shows the prover: the history is legal.
         let _entries = self.book.history().len();
         match self.looks.get(worker) {
             Some(held) => Some(held.view()),
