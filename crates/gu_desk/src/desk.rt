@@ -101,8 +101,8 @@ impl<E: EntryLedger, S: LotLedger> Desk<E, S> {
         Ok((desk, places))
     }
 
-    /// Enters a command in one hold of the lock, for which it may wait.
-    fn enter<R: Wait>(
+    /// Enters a command from a seat, and returns its number and the reply. It may wait for the lock, which it holds once.
+    pub fn enter<R: Wait>(
         &self,
         rt: &R,
         seat: &mut Seat<E, S>,

@@ -1,0 +1,2 @@
+pub mod DayEnds
+pub mod SeatHouse

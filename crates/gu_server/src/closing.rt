@@ -1,0 +1,128 @@
+//! The end of a day: the seats come back, the desk is closed, and there is a receipt for each entry.
+
+ghost use Rattle.std.specs.Prelude.{◌≡◌, ◌++◌, ◌≤◌, length, IfOk, Option, codes, decimal, is_none, string_bytes};
+ghost use Rattle.gu_terms.specs.Histories.{lots_swept};
+ghost use Rattle.gu_desk.specs.declared.error.AuditFault.{AuditFault as FaultOf};
+ghost use Rattle.gu_server.specs.DayEnds.{Finds, audit_text, day_text};
+
+use crate::floor::Ended;
+use crate::serving::Shift;
+use gu_book::Book;
+use gu_desk::{AuditFault, Desk, EntryLedger, LotLedger, Seat, audit};
+use gu_streams::StreamError;
+use gu_terms::Receipt;
+use std::alloc::{AllocError, Global};
+
+/// The book of a day that has ended, with its receipts, and why not every connection was accepted, where that is so.
+pub struct Closed {
+    pub book: Book,
+    pub receipts: Vec<Receipt>,
+    pub fault: Option<StreamError>,
+}
+
+// By hand, so that each exit of a caller drops it by one call.
+impl Drop for Closed {
+    fn drop(self) {
+        let Closed {
+            book,
+            receipts,
+            fault: _,
+        } = self;
+        drop(book);
+        drop(receipts);
+    }
+}
+
+/// What an audit found, in words.
+fn audit_text(alloc: Global, found: Option<AuditFault>) -> Result<String, AllocError>
+    ensures { IfOk result (λ text. string_bytes text ≡ audit_text found) }
+{
+    match found {
+        None => String::from_str(alloc, "OK"),
+        Some(AuditFault::Memory) => String::from_str(alloc, "0 Memory"),
+        Some(AuditFault::Missing(number)) => format!(in alloc; "1 Missing {number}"),
+        Some(AuditFault::Differs(number)) => format!(in alloc; "2 Differs {number}"),
+        Some(AuditFault::Twice(number)) => format!(in alloc; "3 Twice {number}"),
+        Some(AuditFault::Unclaimed(number)) => format!(in alloc; "4 Unclaimed {number}"),
+    }
+}
+
+/// What an audit of receipts finds. That it lacked memory is no finding.
+fn finding_of(
+    alloc: Global,
+    book: &Book,
+    receipts: &[Receipt],
+) -> Result<Option<AuditFault>, AllocError>
+    ensures { IfOk result (Finds book.now.history receipts.now) }
+{
+    match audit(alloc, book, receipts) {
+        Ok(()) => Ok(None),
+        Err(AuditFault::Memory) => Err(AllocError),
+        Err(fault) => Ok(Some(fault)),
+    }
+}
+
+/// The three lines of a day's end.
+fn lines(alloc: Global, entries: usize, swept: u64, audit: &str) -> Result<String, AllocError>
+    ensures { IfOk result (λ text. string_bytes text ≡ codes "ENTRIES " ++ (decimal entries
+        ++ (codes "\nSWEPT " ++ (decimal swept ++ (codes "\nAUDIT " ++ (audit.now ++ codes "\n")))))) }
+{
+    format!(in alloc; "ENTRIES {entries}\nSWEPT {swept}\nAUDIT {audit}\n")
+}
+
+impl Closed {
+    /// The three lines of the day's end, and whether the audit found nothing wrong: each entry has its receipt, once, and there are no
+    /// others.
+    pub fn text(&self, alloc: Global) -> Result<(String, bool), AllocError>
+        ensures { IfOk result (λ r. (found : Option FaultOf) × Finds self.now.book.history self.now.receipts.items found
+            × (string_bytes r.0 ≡ day_text self.now.book.history found) × (r.1 ≡ is_none found)) }
+    {
+        let found = finding_of(alloc, &self.book, &self.receipts)?;
+        let entries = self.book.history().len();
+        let swept = self.book.lots_swept();
+        let audit = audit_text(alloc, found)?;
+        let text = lines(alloc, entries, swept, &audit)?;
+        Ok((text, found.is_none()))
+    }
+}
+
+/// Adds what a thread handed back to the seats and the receipts.
+fn gather<E: EntryLedger, S: LotLedger>(
+    seats: &mut Vec<Seat<E, S>>,
+    receipts: &mut Vec<Receipt>,
+    ended: Ended<E, S>,
+) -> Result<(), AllocError> {
+    let (seat, more) = ended.into_parts();
+    seats.push(seat)?;
+    receipts.reserve(more.len())?;
+    for receipt in more {
+        receipts.push(receipt)?;
+    }
+    Ok(())
+}
+
+/// Closes a desk with what its threads handed back. The receipts come after those that there were before.
+pub fn close<E: EntryLedger, S: LotLedger>(
+    alloc: Global,
+    desk: Desk<E, S>,
+    shift: Shift<E, S>,
+    mut receipts: Vec<Receipt>,
+) -> Result<Closed, StreamError>
+    ensures reference { IfOk result (λ closed. closed.book.reference ≡ E.reference) }
+    ensures entries { IfOk result (λ closed. E.opening ≤ length closed.book.history) }
+    ensures lots { IfOk result (λ closed. S.opening ≤ lots_swept closed.book.history) }
+{
+    let (ended, fault) = shift.into_parts();
+    let mut seats = Vec::with_capacity(alloc, ended.len())?;
+    for end in ended {
+        gather(&mut seats, &mut receipts, end)?;
+    }
+    match desk.close(seats) {
+        Ok(book) => Ok(Closed {
+            book,
+            receipts,
+            fault,
+        }),
+        Err(_) => Err(StreamError::Memory),
+    }
+}

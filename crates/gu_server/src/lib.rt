@@ -1,0 +1,19 @@
+//! The server: firms' connections and sweepers at one desk, each in a thread of its own.
+#![tactic(auto)]
+
+mod accepting;
+mod at_desk;
+mod closing;
+mod day;
+mod floor;
+mod orders;
+mod serving;
+mod sweeping;
+mod talking;
+mod tally;
+mod telling;
+mod timed;
+
+pub use closing::Closed;
+pub use day::{Opening, serve_day};
+pub use timed::{LogonTimer, Timed};

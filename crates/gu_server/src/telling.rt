@@ -1,0 +1,52 @@
+//! The progress of a server, at a terminal.
+
+use crate::tally::{Counts, Tally};
+use crossbeam_channel::{Receiver, RecvTimeoutError};
+use std::io;
+use std::io::Write;
+use std::rt::Clock;
+use std::sync::{Wait, WaitMethods};
+use std::time::Duration;
+
+/// How many seconds there are at least from one line to the next.
+const PAUSE_S: u64 = 1;
+
+/// Writes the counts over the line before.
+fn tell<T: Write>(terminal: &mut T, counts: Counts) -> io::Result<()> {
+    let Counts {
+        begun,
+        ended,
+        failed,
+        entries,
+        lots,
+    } = counts;
+    write!(
+        terminal,
+        "\rgiveup: {begun} connections, {ended} ended, {failed} by a fault; {entries} entries, {lots} lots swept"
+    )?;
+    terminal.flush()
+}
+
+/// Tells the counts once a second, where they changed, until the other end of the channel is gone, and ends the line then. What can't
+/// be written is lost.
+pub fn tell_all<R: Wait + Clock, T: Write>(
+    rt: &R,
+    tally: &Tally,
+    terminal: &mut T,
+    until: &Receiver<()>,
+) {
+    let mut told = tally.counts();
+    for _ in rt.forever() {
+        let ends = until.recv_timeout(rt, Duration::from_secs(PAUSE_S))
+            != Err(RecvTimeoutError::Timeout);
+        let counts = tally.counts();
+        if counts != told {
+            told = counts;
+            let _ = tell(terminal, counts);
+        }
+        if ends {
+            break;
+        }
+    }
+    let _ = writeln!(terminal);
+}

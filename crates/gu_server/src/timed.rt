@@ -1,0 +1,89 @@
+//! Streams of a connection whose firm has to log on in time.
+
+ghost use Rattle.std.specs.Io.{ReadsAtMost, WritesAtMost};
+ghost use Rattle.std.specs.Io.KnownBytes.{ReadConsumes};
+
+use std::cell::Cell;
+use std::io;
+use std::io::{ErrorKind, Read, Write};
+use std::rt::Clock;
+use std::time::{Duration, Instant};
+
+/// How many seconds a firm may take from the accept of its connection to its Logon.
+const LOGON_WAIT_S: u64 = 30;
+
+/// The time that a firm has to log on. It is over once something is sent, since a session sends nothing before the Logon.
+#[derive(Drop)]
+pub struct LogonTimer<'a, R> {
+    rt: &'a R,
+    since: Instant,
+    is_over: Cell<bool>,
+}
+
+impl<'a, R: Clock> LogonTimer<'a, R> {
+    /// A timer that begins now.
+    pub fn new(rt: &'a R) -> io::Result<Self> {
+        Ok(LogonTimer {
+            rt,
+            since: Instant::now(rt)?,
+            is_over: Cell::new(false),
+        })
+    }
+
+    /// Whether the firm has not logged on in time. A clock that fails gives no more time.
+    fn is_late(&self) -> bool {
+        if self.is_over.get() {
+            return false;
+        }
+        match self.since.elapsed(self.rt) {
+            Ok(elapsed) => elapsed >= Duration::from_secs(LOGON_WAIT_S),
+            Err(_) => true,
+        }
+    }
+}
+
+/// A stream under a timer: once the firm is late, reads fail. A read that a signal cut short has nothing for now.
+#[derive(Drop)]
+pub struct Timed<'a, T, R> {
+    stream: T,
+    timer: &'a LogonTimer<'a, R>,
+}
+
+impl<'a, T, R> Timed<'a, T, R> {
+    /// A stream under a timer.
+    pub fn new(stream: T, timer: &'a LogonTimer<'a, R>) -> Self {
+        Timed { stream, timer }
+    }
+}
+
+impl<T: Read, R: Clock> Read for Timed<'_, T, R> {
+    ghost remaining = { λ timed. T.remaining timed.stream };
+
+    fn read(&mut self, buf: &mut [u8]) -> io::Result<usize>
+        ensures bound { ReadsAtMost result buf.new }
+        ensures bytes { ReadConsumes (T.remaining self.old.stream) (T.remaining self.new.stream) result buf.new }
+    {
+        if self.timer.is_late() {
+            return Err(io::Error::from(ErrorKind::ConnectionAborted));
+        }
+        match self.stream.read(buf) {
+            Err(error) if error.kind() == ErrorKind::Interrupted => {
+                Err(io::Error::from(ErrorKind::WouldBlock))
+            }
+            read => read,
+        }
+    }
+}
+
+impl<T: Write, R: Clock> Write for Timed<'_, T, R> {
+    ghost contents = { λ timed. T.contents timed.stream };
+
+    fn write(&mut self, buf: &[u8]) -> io::Result<usize> {
+        self.timer.is_over.set(true);
+        self.stream.write(buf)
+    }
+
+    fn flush(&mut self) -> io::Result<()> {
+        self.stream.flush()
+    }
+}
