@@ -2,10 +2,10 @@
 
 use crate::error::RunError;
 use crate::replaying::played;
-use gu_book::Book;
 use gu_ref::{RefFault, Reference};
 use gu_streams::{CountedReads, StreamError};
 use gu_terms::Seed;
+use gu_world::World;
 use std::alloc::Global;
 use std::fs::File;
 use std::io;
@@ -32,21 +32,18 @@ pub fn reference_at<R: Files + Alloc<A = Global>>(
     }
 }
 
-/// The book that the script of a file leads to, or one without entries.
-pub fn book_after<R: Files + Alloc<A = Global>>(
+/// The world that the script of a file leads to, or one without entries.
+pub fn world_after<R: Files + Alloc<A = Global>>(
     rt: &R,
     reference: Reference,
     script: Option<&str>,
     seed: Seed,
-) -> Result<Book, RunError> {
+) -> Result<World, RunError> {
     let Some(path) = script else {
-        return Ok(Book::seeded(rt.alloc(), reference, seed));
+        return Ok(World::seeded(rt.alloc(), reference, seed));
     };
     match file_at(rt, path) {
-        Ok(file) => {
-            let world = played(rt.alloc(), reference, seed, &mut CountedReads::new(file))?;
-            Ok(world.into_book())
-        }
+        Ok(file) => Ok(played(rt.alloc(), reference, seed, &mut CountedReads::new(file))?),
         Err(error) => {
             drop(reference);
             Err(RunError::from(error))

@@ -1,13 +1,15 @@
-//! A machine of the tests' own: words, files, standard streams, and a clock at nine on 2026-01-05.
+//! A machine of the tests' own: words, files, standard streams, a clock at nine on 2026-01-05, and no free port.
 
 use std::alloc::{Allocator, Global};
-use std::cell::Cell;
 use std::env::FillError;
 use std::fmt::Display;
 use std::fs::{Metadata, OpenFile, OpenOptions};
 use std::io::{self, BufRead, Error, ErrorKind, Lines, Read, Seek, SeekFrom, Write};
+use std::net::{Net, SocketAddr, TcpListener, TcpStream};
 use std::random::RandomSource;
 use std::rt::{Clock, Env, Files};
+use std::sync::{Mutex, Wait};
+use std::thread::Threads;
 use std::time::Duration;
 
 /// What a machine may lack.
@@ -20,27 +22,20 @@ pub enum Lack {
     StandardError,
 }
 
-/// What a machine is given, and what it is told.
+/// What a machine is given, and what it is told. It waits and starts threads as its host does.
 #[derive(Drop)]
-pub struct Machine<'a> {
+pub struct Machine<'a, R> {
+    pub host: &'a R,
     pub alloc: Global,
     pub words: &'a [&'a str],
     /// What each file holds, by its path.
     pub files: &'a [(&'a str, &'a [u8])],
     pub input: &'a [u8],
     pub lack: Lack,
-    pub out: Cell<Vec<u8>>,
-    pub err: Cell<Vec<u8>>,
+    pub out: Mutex<Vec<u8>>,
+    pub err: Mutex<Vec<u8>>,
     /// The paths that were opened, each with a blank after it.
-    pub opened: Cell<Vec<u8>>,
-}
-
-/// Appends bytes to what a cell holds.
-fn append(alloc: Global, held: &Cell<Vec<u8>>, bytes: &[u8]) -> io::Result<()> {
-    let mut all = held.replace(Vec::new(alloc));
-    let appended = all.extend_from_slice(bytes);
-    drop(held.replace(all));
-    Ok(appended?)
+    pub opened: Mutex<Vec<u8>>,
 }
 
 /// What no run asks of a machine.
@@ -48,7 +43,12 @@ fn unsupported<T>() -> io::Result<T> {
     Err(Error::from(ErrorKind::Unsupported))
 }
 
-impl Machine<'_> {
+impl<R: Wait> Machine<'_, R> {
+    /// Appends bytes to what is held.
+    fn append(&self, held: &Mutex<Vec<u8>>, bytes: &[u8]) -> io::Result<()> {
+        Ok(held.lock(self.host).extend_from_slice(bytes)?)
+    }
+
     /// Appends a value to standard error.
     fn say<D: Display + Drop>(&self, value: D, end: &str) -> io::Result<()> {
         if self.lack == Lack::StandardError {
@@ -56,11 +56,11 @@ impl Machine<'_> {
             return Err(Error::from(ErrorKind::BrokenPipe));
         }
         let text = format!(in self.alloc; "{value}{end}")?;
-        append(self.alloc, &self.err, text.as_bytes())
+        self.append(&self.err, text.as_bytes())
     }
 }
 
-impl Alloc for Machine<'_> {
+impl<R> Alloc for Machine<'_, R> {
     type A = Global;
 
     fn alloc(&self) -> Global {
@@ -68,23 +68,23 @@ impl Alloc for Machine<'_> {
     }
 }
 
-impl Print for Machine<'_> {
+impl<R: Wait> Print for Machine<'_, R> {
     fn print<D: Display + Drop>(&self, value: D) -> io::Result<()> {
         let text = format!(in self.alloc; "{value}")?;
-        append(self.alloc, &self.out, text.as_bytes())
+        self.append(&self.out, text.as_bytes())
     }
 
     fn println<D: Display + Drop>(&self, value: D) -> io::Result<()> {
         let text = format!(in self.alloc; "{value}\n")?;
-        append(self.alloc, &self.out, text.as_bytes())
+        self.append(&self.out, text.as_bytes())
     }
 
     fn write_all(&self, bytes: &[u8]) -> io::Result<()> {
-        append(self.alloc, &self.out, bytes)
+        self.append(&self.out, bytes)
     }
 }
 
-impl Eprint for Machine<'_> {
+impl<R: Wait> Eprint for Machine<'_, R> {
     fn eprint<D: Display + Drop>(&self, value: D) -> io::Result<()> {
         self.say(value, "")
     }
@@ -94,7 +94,7 @@ impl Eprint for Machine<'_> {
     }
 }
 
-impl<'a> Input for Machine<'a> {
+impl<'a, R> Input for Machine<'a, R> {
     type Reader = &'a [u8];
 
     fn read_line<A: Allocator + Clone>(&self, buf: &mut String<A>) -> io::Result<usize> {
@@ -110,7 +110,26 @@ impl<'a> Input for Machine<'a> {
     }
 }
 
-impl Clock for Machine<'_> {
+impl<R: Wait> Wait for Machine<'_, R> {}
+
+impl<R: Threads> Threads for Machine<'_, R> {}
+
+// No port of it can be had.
+impl<R> Net for Machine<'_, R> {
+    type Stream = TcpStream;
+
+    type Listener = TcpListener;
+
+    fn bind(&self, _addr: SocketAddr) -> io::Result<TcpListener> {
+        Err(Error::from(ErrorKind::AddrInUse))
+    }
+
+    fn connect(&self, _addr: SocketAddr) -> io::Result<TcpStream> {
+        unsupported()
+    }
+}
+
+impl<R> Clock for Machine<'_, R> {
     fn monotonic(&self) -> io::Result<Duration> {
         unsupported()
     }
@@ -120,7 +139,7 @@ impl Clock for Machine<'_> {
     }
 }
 
-impl RandomSource for Machine<'_> {
+impl<R> RandomSource for Machine<'_, R> {
     fn fill_bytes(&self, buf: &mut [u8]) -> io::Result<()> {
         if self.lack == Lack::Randomness {
             return unsupported();
@@ -130,7 +149,7 @@ impl RandomSource for Machine<'_> {
     }
 }
 
-impl Env for Machine<'_> {
+impl<R> Env for Machine<'_, R> {
     fn arg(&self, i: usize, buf: &mut [u8]) -> Result<usize, FillError> {
         let Some(word) = self.words.get(i) else {
             return Err(FillError::NotPresent);
@@ -198,14 +217,14 @@ impl OpenFile for Text<'_> {
     }
 }
 
-impl<'a> Files for Machine<'a> {
+impl<'a, R: Wait> Files for Machine<'a, R> {
     type File = Text<'a>;
 
     type Dir = Text<'a>;
 
     fn open_file(&self, _how: &OpenOptions, path: &str) -> io::Result<Text<'a>> {
-        append(self.alloc, &self.opened, path.as_bytes())?;
-        append(self.alloc, &self.opened, b" ")?;
+        self.append(&self.opened, path.as_bytes())?;
+        self.append(&self.opened, b" ")?;
         match self.files.iter().find(|file| file.0 == path) {
             Some(file) => Ok(Text { bytes: file.1 }),
             None => Err(Error::from(ErrorKind::NotFound)),

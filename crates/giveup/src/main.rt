@@ -30,6 +30,7 @@ mod running_tests;
 mod sample;
 #[cfg(test)]
 mod sample_tests;
+mod serving;
 mod status;
 #[cfg(test)]
 mod stream_tests;

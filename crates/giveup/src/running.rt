@@ -3,22 +3,26 @@
 use crate::capturing::capture;
 use crate::checking::check;
 use crate::error::RunError;
-use crate::files::{book_after, reference_at};
+use crate::files::{reference_at, world_after};
 use crate::fixing::fix;
 use crate::progress::Told;
 use crate::replaying::replay;
 use crate::sample::{sample_day, sample_reference};
+use crate::serving::{Serving, serve};
 use crate::status::Status;
 use crate::words::{Task, answer, firm_named, given, read};
 use gu_engine::{Connection, SystemClock};
 use gu_houses::OverBook;
-use gu_streams::{CountedReads, StreamError};
+use gu_streams::{CountedReads, StreamError, send};
 use gu_terms::{FirmId, Seed};
 use std::alloc::Global;
 use std::io;
 use std::io::Write;
+use std::net::{Net, TcpListener, TcpStream};
 use std::random::RandomSource;
 use std::rt::{Clock, Env, Files};
+use std::sync::Wait;
+use std::thread::Threads;
 
 /// A seed from the system, for tables of ids that firms choose. Where there is none, nothing is read.
 fn seed_from<R: RandomSource>(rt: &R) -> Result<Seed, StreamError> {
@@ -79,7 +83,8 @@ fn run_fix<R: Input + Print + Files + Clock + RandomSource + Alloc<A = Global>>(
 ) -> Result<Status, RunError> {
     let alloc = rt.alloc();
     let seed = seed_from(rt)?;
-    let house = OverBook::new(book_after(rt, reference_at(rt, path)?, script, seed)?);
+    let world = world_after(rt, reference_at(rt, path)?, script, seed)?;
+    let house = OverBook::new(world.into_book());
     let firms = Vec::from_slice(alloc, &[firm]).map_err(StreamError::from)?;
     let mut connection = Connection::new(alloc, firms, house, SystemClock::new(rt));
     let mut reads = CountedReads::patient(rt.reader());
@@ -88,15 +93,53 @@ fn run_fix<R: Input + Print + Files + Clock + RandomSource + Alloc<A = Global>>(
     Ok(Status::Done)
 }
 
+/// A server of firms on a port of this machine, on the reference of a file, after a script, where one is named. At its end the lines of
+/// the day are printed, also where not every connection could be accepted.
+fn run_serve<
+    R: Print
+        + Files
+        + Clock
+        + RandomSource
+        + Net<Listener = TcpListener, Stream = TcpStream>
+        + Threads
+        + Wait
+        + Sync
+        + Alloc<A = Global>,
+    T: Write + Send + Drop,
+>(rt: &R, serving: &Serving<'_>, terminal: Option<T>) -> Result<Status, RunError> {
+    let seed = seed_from(rt)?;
+    let reference = reference_at(rt, serving.reference)?;
+    let world = world_after(rt, reference, serving.script, seed)?;
+    let closed = serve(rt, world, serving, terminal)?;
+    let (text, is_well) = closed.text(rt.alloc()).map_err(StreamError::from)?;
+    send(&mut io::writer(rt), text.as_bytes())?;
+    match closed.fault {
+        Some(fault) => Err(RunError::from(fault)),
+        None if is_well => Ok(Status::Done),
+        None => Ok(Status::Fault),
+    }
+}
+
 /// Does what these words ask for.
 fn perform<
-    R: Input + Print + Eprint + Files + Clock + RandomSource + Alloc<A = Global>,
-    T: Write + Drop,
+    R: Input
+        + Print
+        + Eprint
+        + Files
+        + Clock
+        + RandomSource
+        + Net<Listener = TcpListener, Stream = TcpStream>
+        + Threads
+        + Wait
+        + Sync
+        + Alloc<A = Global>,
+    T: Write + Send + Drop,
 >(rt: &R, words: &[String], terminal: Option<T>) -> Result<Status, RunError> {
     match read(rt.alloc(), words) {
         Ok(Task::Capture) => run_capture(rt),
         Ok(Task::Check) => run_check(rt),
         Ok(Task::Replay { reference }) => run_replay(rt, reference, terminal),
+        Ok(Task::Serve(serving)) => run_serve(rt, &serving, terminal),
         Ok(
             Task::Fix {
                 firm,
@@ -113,8 +156,19 @@ fn perform<
 
 /// Does what the words of this run ask for.
 fn run<
-    R: Input + Print + Eprint + Env + Files + Clock + RandomSource + Alloc<A = Global>,
-    T: Write + Drop,
+    R: Input
+        + Print
+        + Eprint
+        + Env
+        + Files
+        + Clock
+        + RandomSource
+        + Net<Listener = TcpListener, Stream = TcpStream>
+        + Threads
+        + Wait
+        + Sync
+        + Alloc<A = Global>,
+    T: Write + Send + Drop,
 >(rt: &R, terminal: Option<T>) -> Result<Status, RunError> {
     match given(rt) {
         Ok(words) => perform(rt, words.as_slice(), terminal),
@@ -125,8 +179,19 @@ fn run<
 /// Does what the words of this run ask for, and gives its status; why it failed is said on standard error. The progress of a long
 /// script is noted at a terminal, where there is one.
 pub fn status_of<
-    R: Input + Print + Eprint + Env + Files + Clock + RandomSource + Alloc<A = Global>,
-    T: Write + Drop,
+    R: Input
+        + Print
+        + Eprint
+        + Env
+        + Files
+        + Clock
+        + RandomSource
+        + Net<Listener = TcpListener, Stream = TcpStream>
+        + Threads
+        + Wait
+        + Sync
+        + Alloc<A = Global>,
+    T: Write + Send + Drop,
 >(rt: &R, terminal: Option<T>) -> Status {
     match run(rt, terminal) {
         Ok(status) => status,

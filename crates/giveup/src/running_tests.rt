@@ -8,8 +8,9 @@ use crate::running::status_of;
 use crate::sample::ROWS;
 use crate::status::Status;
 use std::alloc::{AllocError, Global};
-use std::cell::Cell;
 use std::process::Abort;
+use std::sync::{Mutex, Wait};
+use std::thread::Threads;
 use trials::{columns, shown, wire};
 
 /// Each task, and each fault of one.
@@ -29,13 +30,18 @@ giveup fix E1 house --script two < x -> 1 house two ; ; giveup: bad line 2/
 giveup fix E1 lost --script gone < x -> 1 lost ; ; giveup: reference: ReadFault/
 giveup fix e1 lost < x -> 2 ; ; error: invalid value for '<FIRM>': a firm is 1 to 12 of A-Z, 0-9 and -//Usage: giveup [COMMAND]//For more information, try '--help'./
 giveup check --help < x -> 0 ; Checks the sweep sheet on standard input: prints OK and its lots, or its first fault//Usage: giveup check//Options:/  -h, --help  Print help/;
-giveup sweep < x -> 2 ; ; error: unrecognized subcommand 'sweep'//Usage: giveup [COMMAND]//For more information, try '--help'./
+giveup claim < x -> 2 ; ; error: unrecognized subcommand 'claim'//Usage: giveup [COMMAND]//For more information, try '--help'./
+giveup serve house 9878 < x -> 1 house ; ; giveup: read fault/
+giveup serve house 9878 --script day < x -> 1 house day ; ; giveup: read fault/
+giveup serve house 9878 --script two < x -> 1 house two ; ; giveup: bad line 2/
+giveup serve lost 9878 --script two < x -> 1 lost ; ; giveup: reference: ReadFault/
+giveup serve house 0 < x -> 2 ; ; error: invalid value '0' for '<PORT>': 0 is not in 1..=65535//For more information, try '--help'./
 ";
 
 /// The same where standard error takes nothing: the status alone shows the fault.
 const UNHEARD: &str = "\
 giveup check < SHEET G1 0/ -> 1 ; ;
-giveup sweep < x -> 2 ; ;
+giveup claim < x -> 2 ; ;
 ";
 
 /// The same where there are no random bytes: tables of ids would have no seed, so nothing is opened or read but a sheet.
@@ -43,32 +49,40 @@ const UNSEEDED: &str = "\
 giveup < x -> 1 ; ; giveup: read fault/
 giveup replay house < DAY 20260105/ -> 1 ; ; giveup: read fault/
 giveup fix E1 house < x -> 1 ; ; giveup: read fault/
+giveup serve house 9878 < x -> 1 ; ; giveup: read fault/
 giveup check < SHEET G1 0/END/ -> 0 ; OK 0/;
 ";
 
 /// What a run on a machine did.
-fn run(machine: Machine<'_>) -> Result<String, AllocError> {
+fn run<R: Threads + Wait + Sync>(machine: Machine<'_, R>) -> Result<String, AllocError> {
     let alloc = machine.alloc;
+    let host = machine.host;
     let number = match status_of(&machine, None::<Vec<u8>>) {
         Status::Done => 0,
         Status::Fault => 1,
         Status::Refused => 2,
     };
-    let opened = shown(alloc, &machine.opened.replace(Vec::new(alloc)))?;
-    let out = shown(alloc, &machine.out.replace(Vec::new(alloc)))?;
-    let err = shown(alloc, &machine.err.replace(Vec::new(alloc)))?;
+    let opened = shown(alloc, machine.opened.lock(host).as_slice())?;
+    let out = shown(alloc, machine.out.lock(host).as_slice())?;
+    let err = shown(alloc, machine.err.lock(host).as_slice())?;
     drop(machine);
     format!(in alloc; "{number} {opened}; {out}; {err}")
 }
 
 /// What a run with these words and this input does.
-fn told(alloc: Global, row: &str, lack: Lack) -> Result<String, AllocError> {
+fn told<R: Threads + Wait + Sync>(
+    host: &R,
+    alloc: Global,
+    row: &str,
+    lack: Lack,
+) -> Result<String, AllocError> {
     let (words, input) = row.split_once(" < ").unwrap_or((row, ""));
     let words = Vec::from_iter(alloc, words.split(' '))?;
     let input = wire(alloc, input)?;
     let mut bad = Vec::from_slice(alloc, ROWS)?;
     bad.extend_from_slice(b"FIRM\n")?;
     run(Machine {
+        host,
         alloc,
         words: &words,
         files: &[
@@ -79,17 +93,17 @@ fn told(alloc: Global, row: &str, lack: Lack) -> Result<String, AllocError> {
         ],
         input: input.as_bytes(),
         lack,
-        out: Cell::new(Vec::new(alloc)),
-        err: Cell::new(Vec::new(alloc)),
-        opened: Cell::new(Vec::new(alloc)),
+        out: Mutex::new(Vec::new(alloc)),
+        err: Mutex::new(Vec::new(alloc)),
+        opened: Mutex::new(Vec::new(alloc)),
     })
 }
 
 /// Asserts that the run of each row does what the row says.
-fn check(rt: &impl Abort, alloc: Global, lack: Lack, table: &str) {
+fn check<R: Abort + Threads + Wait + Sync>(rt: &R, alloc: Global, lack: Lack, table: &str) {
     for row in table.lines() {
         let (run, expected) = columns(row);
-        let told = told(alloc, run, lack).expect(rt, "memory");
+        let told = told(rt, alloc, run, lack).expect(rt, "memory");
         check_told(rt, row, String::from_str(alloc, told.trim_end()), expected);
     }
 }

@@ -3,6 +3,7 @@
 use crate::engines::end_text;
 use crate::error::RunError;
 use crate::rows::check_told;
+use crate::serving::Serving;
 use crate::words::{Task, answer, firm_named, read};
 use clap::Error;
 use std::alloc::{AllocError, Global};
@@ -96,6 +97,19 @@ fn error_text(alloc: Global, telling: Telling, error: &Error) -> Result<String, 
     }
 }
 
+/// What a server is started with, as words.
+fn serving_text(alloc: Global, serving: Serving<'_>) -> Result<String, AllocError> {
+    let Serving {
+        reference,
+        port,
+        script,
+        connections,
+        every,
+    } = serving;
+    let script = script.unwrap_or("no script");
+    format!(in alloc; "serve {reference} {port}, {script}, {connections}, {every}")
+}
+
 /// A task, with its words.
 fn task_text(alloc: Global, task: Task<'_>) -> Result<String, AllocError> {
     match task {
@@ -110,6 +124,7 @@ fn task_text(alloc: Global, task: Task<'_>) -> Result<String, AllocError> {
             let script = script.unwrap_or("no script");
             format!(in alloc; "fix {firm} {reference}, {script}")
         }
+        Task::Serve(serving) => serving_text(alloc, serving),
     }
 }
 
@@ -149,6 +164,16 @@ giveup check -> check
 giveup replay house.csv -> replay house.csv
 giveup fix E1 house.csv -> fix E1 house.csv, no script
 giveup fix E1 house.csv --script day -> fix E1 house.csv, day
+giveup serve house.csv 9878 -> serve house.csv 9878, no script, 8, 16
+giveup serve house.csv 1 -> serve house.csv 1, no script, 8, 16
+giveup serve house.csv 65535 -> serve house.csv 65535, no script, 8, 16
+giveup serve house.csv 09878 -> serve house.csv 9878, no script, 8, 16
+giveup serve house.csv 9878 --script day -> serve house.csv 9878, day, 8, 16
+giveup serve house.csv 9878 --connections 1 -> serve house.csv 9878, no script, 1, 16
+giveup serve house.csv 9878 --connections 32 -> serve house.csv 9878, no script, 32, 16
+giveup serve house.csv 9878 --every 0 -> serve house.csv 9878, no script, 8, 0
+giveup serve house.csv 9878 --every=1000 -> serve house.csv 9878, no script, 8, 1000
+giveup serve --every 1 --connections=2 --script day house.csv 9878 -> serve house.csv 9878, day, 2, 1
 ";
 
 /// Words that ask for help.
@@ -158,10 +183,14 @@ giveup -h -> DisplayHelp 0
 giveup help -> DisplayHelp 0
 giveup help check -> DisplayHelp 0
 giveup check --help -> DisplayHelp 0
+giveup serve --help -> DisplayHelp 0
+giveup serve house.csv 9878 -h -> DisplayHelp 0
+giveup help serve -> DisplayHelp 0
 ";
 
 /// Words that ask for nothing that there is.
 const OTHERS: &str = "\
+giveup claim -> InvalidSubcommand 2
 giveup sweep -> InvalidSubcommand 2
 giveup help sweep -> InvalidSubcommand 2
 giveup --sheet -> UnknownArgument 2
@@ -172,6 +201,27 @@ giveup fix -> MissingRequiredArgument 2
 giveup fix E1 -> MissingRequiredArgument 2
 giveup replay -> MissingRequiredArgument 2
 giveup replay house.csv day -> UnknownArgument 2
+giveup serve -> MissingRequiredArgument 2
+giveup serve house.csv -> MissingRequiredArgument 2
+giveup serve house.csv --script day -> MissingRequiredArgument 2
+giveup serve house.csv 0 -> ValueValidation 2
+giveup serve house.csv 65536 -> ValueValidation 2
+giveup serve house.csv 18446744073709551617 -> ValueValidation 2
+giveup serve house.csv x -> ValueValidation 2
+giveup serve house.csv  -> ValueValidation 2
+giveup serve 9878 house.csv -> ValueValidation 2
+giveup serve house.csv -1 -> UnknownArgument 2
+giveup serve house.csv 9878 9879 -> UnknownArgument 2
+giveup serve house.csv 9878 --connections 0 -> ValueValidation 2
+giveup serve house.csv 9878 --connections 33 -> ValueValidation 2
+giveup serve house.csv 9878 --connections many -> ValueValidation 2
+giveup serve house.csv 9878 --connections -> InvalidValue 2
+giveup serve house.csv 9878 --connections 8 --connections 8 -> ArgumentConflict 2
+giveup serve house.csv 9878 --every 1001 -> ValueValidation 2
+giveup serve house.csv 9878 --every=-1 -> ValueValidation 2
+giveup serve house.csv 9878 --every -> InvalidValue 2
+giveup serve house.csv 9878 --sweepers 2 -> UnknownArgument 2
+giveup serve house.csv 9878 --journal log -> UnknownArgument 2
 ";
 
 #[test]
@@ -212,37 +262,65 @@ fn a_word_that_names_no_firm_is_refused_with_status_2(rt: HostRuntime) {
 
 /// What is said of a word that is no command.
 const NO_COMMAND: &str =
-    "error: unrecognized subcommand 'sweep'\n\nUsage: giveup [COMMAND]\n\nFor more information, try '--help'.\n";
+    "error: unrecognized subcommand 'claim'\n\nUsage: giveup [COMMAND]\n\nFor more information, try '--help'.\n";
+
+/// What is said of a word that is almost a command.
+const ALMOST: &str =
+    "error: unrecognized subcommand 'sweep'\n\n  tip: a similar subcommand exists: 'serve'\n\nUsage: giveup [COMMAND]\n\nFor more information, try '--help'.\n";
 
 /// What is said of a word that `check` doesn't take.
 const UNEXPECTED: &str =
     "error: unexpected argument 'sheet' found\n\nUsage: giveup check\n\nFor more information, try '--help'.\n";
 
+/// What is said of a number that is no port.
+const NO_PORT: &str =
+    "error: invalid value '0' for '<PORT>': 0 is not in 1..=65535\n\nFor more information, try '--help'.\n";
+
+/// What is said of more connections than there may be.
+const MANY_CONNECTIONS: &str =
+    "error: invalid value '33' for '--connections <N>': 33 is not in 1..=32\n\nFor more information, try '--help'.\n";
+
 /// What help says.
 const HELP_TEXT: &str =
-    "The desk of a clearing house. Without a command: trade capture on the sample, from standard input\n\nUsage: giveup [COMMAND]\n\nCommands:\n  check   Checks the sweep sheet on standard input: prints OK and its lots, or its first fault\n  fix     Serves one session of a firm over standard input and output\n  replay  Answers the script on standard input, line by line\n  help    Print this message or the help of the given subcommand(s)\n\nOptions:\n  -h, --help  Print help\n";
+    "The desk of a clearing house. Without a command: trade capture on the sample, from standard input\n\nUsage: giveup [COMMAND]\n\nCommands:\n  check   Checks the sweep sheet on standard input: prints OK and its lots, or its first fault\n  fix     Serves one session of a firm over standard input and output\n  replay  Answers the script on standard input, line by line\n  serve   Serves firms on a port of this machine, with sweepers beside them: prints ENTRIES, SWEPT and AUDIT at the end\n  help    Print this message or the help of the given subcommand(s)\n\nOptions:\n  -h, --help  Print help\n";
+
+/// What help says of a server.
+const SERVE_TEXT: &str =
+    "Serves firms on a port of this machine, with sweepers beside them: prints ENTRIES, SWEPT and AUDIT at the end\n\nUsage: giveup serve [OPTIONS] <REF> <PORT>\n\nArguments:\n  <REF>   The path of the reference\n  <PORT>  The port on which it listens, 1 to 65535\n\nOptions:\n      --script <FILE>    The path of a script that is run first, without output\n      --connections <N>  How many connections it accepts, 1 to 32 [default: 8]\n      --every <K>        Each connection sends every K-th of its accepted give-ups to the sweepers, 0 to 1000; 0 sends none [default: 16]\n  -h, --help             Print help\n";
 
 #[test]
 fn a_refusal_says_why_and_how_to_call_and_help_names_each_task(rt: HostRuntime) {
     let text = Telling::Text;
-    let said = told(rt.alloc(), text, "giveup sweep");
+    let said = told(rt.alloc(), text, "giveup claim");
     check_told(&rt, "a refusal", said, NO_COMMAND);
+    let said = told(rt.alloc(), text, "giveup sweep");
+    check_told(&rt, "almost a command", said, ALMOST);
     let said = told(rt.alloc(), text, "giveup check sheet");
     check_told(&rt, "an argument", said, UNEXPECTED);
+    let said = told(rt.alloc(), text, "giveup serve house.csv 0");
+    check_told(&rt, "a port", said, NO_PORT);
+    let said = told(
+        rt.alloc(),
+        text,
+        "giveup serve house.csv 9878 --connections 33",
+    );
+    check_told(&rt, "connections", said, MANY_CONNECTIONS);
     let said = told(rt.alloc(), text, "giveup --help");
     check_told(&rt, "help", said, HELP_TEXT);
+    let said = told(rt.alloc(), text, "giveup serve --help");
+    check_told(&rt, "help of a server", said, SERVE_TEXT);
 }
 
 /// How many bytes of the texts above are shown on standard output and on standard error.
 const SHOWN: &str = "\
-giveup --help -> done 463 0
-giveup sweep -> refused 0 101
+giveup --help -> done 583 0
+giveup claim -> refused 0 101
 ";
 
 /// Help that can't be written is a fault; a refusal has its status all the same.
 const NOT_SHOWN: &str = "\
 giveup --help -> write fault 0 0
-giveup sweep -> refused 0 0
+giveup claim -> refused 0 0
 ";
 
 #[test]

@@ -1,11 +1,13 @@
 //! The words that the program is called with.
 
-ghost use Rattle.std.specs.Prelude.{◌≡◌, ◌∷◌, [], List, ℕ, Err, IfOk, codes, false, map, unwrap_or};
-ghost use Rattle.clap.specs.Words.{FailsBy, app_of, fault_of, first_value, found_of, kind_of, rule_of, shape_of, subcommand_rows_of, with_subcommand};
+ghost use Rattle.std.specs.Prelude.{◌≡◌, ◌≤◌, ◌∷◌, [], List, ℕ, Err, IfOk, codes, false, map, true, unwrap_or};
+ghost use Rattle.clap.specs.Words.{FailsBy, IsUnsignedIn, Shape, app_of, fault_of, first_value, found_of, kind_of, rows_of, rule_of, shape_of, subcommand_of, subcommand_rows_of, with_subcommand};
 ghost use Rattle.clap.specs.declared.error.kind.ErrorKind.TheVariants.{OutOfMemory};
-ghost use Rattle.giveup.specs.ProgramWords.{Captures, Checks, Reads, check_shape, fix_shape, needed, program, replay_shape, script_rule, status_of, wanted_by, wanted_in, wanted_of};
+ghost use Rattle.giveup.specs.ProgramWords.{Captures, Checks, HasNumbers, IsWithin, Reads, check_shape, fix_shape, needed, number_rule, number_of, path_rule, port_rule, program, replay_shape, serve_shape, served_by, status_of, wanted_by, wanted_in, wanted_of};
 
+use crate::serving::Serving;
 use crate::status::Status;
+use clap::builder::ValueParser;
 use clap::error::ErrorKind;
 use clap::{Arg, ArgMatches, Command, Error};
 use gu_streams::StreamError;
@@ -38,22 +40,62 @@ pub enum Task<'a> {
     Replay {
         reference: &'a str,
     },
+    /// A server of firms.
+    Serve(Serving<'a>),
 }
 
+/// What help says of a reference.
+const REFERENCE: &str = "The path of the reference";
+
+/// What help says of a script that is run first.
+const SCRIPT: &str = "The path of a script that is run first, without output";
+
 /// A word that must come after a command.
-fn needed<'a>(alloc: Global, name: &'a str) -> Arg<'a>
+fn needed<'a>(alloc: Global, name: &'a str, help: &'a str) -> Arg<'a>
     ensures rule { rule_of result ≡ needed name.entry.now }
     ensures local { result.global ≡ false }
 {
-    Arg::new(alloc, name).required(true)
+    Arg::new(alloc, name).required(true).help(help)
 }
 
-/// The path of a script that is run first, without output.
-fn script_option<'a>(alloc: Global) -> Arg<'a>
-    ensures rule { rule_of result ≡ script_rule }
+/// An option whose value is the path of a file.
+fn path_option<'a>(alloc: Global, name: &'a str, help: &'a str) -> Arg<'a>
+    ensures rule { rule_of result ≡ path_rule name.entry.now }
     ensures local { result.global ≡ false }
 {
-    Arg::new(alloc, "FILE").long("script")
+    Arg::new(alloc, name)
+        .long(name)
+        .value_name("FILE")
+        .help(help)
+}
+
+/// An option whose value is one of these numbers, and the usual one where none is given.
+fn number_option<'a>(
+    alloc: Global,
+    name: &'a str,
+    long: &'a str,
+    numbers: ValueParser<'a>,
+    usual: &'a str,
+    help: &'a str,
+) -> Arg<'a>
+    ensures rule { rule_of result ≡ number_rule name.entry.now long.entry.now numbers.entry usual.entry.now }
+    ensures local { result.global ≡ false }
+{
+    Arg::new(alloc, name)
+        .long(long)
+        .value_parser(numbers)
+        .default_value(usual)
+        .help(help)
+}
+
+/// The port of a server.
+fn port_word<'a>(alloc: Global) -> Arg<'a>
+    ensures rule { rule_of result ≡ port_rule }
+    ensures local { result.global ≡ false }
+{
+    needed(alloc, "PORT", "The port on which it listens, 1 to 65535").value_parser(
+        ValueParser::unsigned(1, 65535),
+    )
 }
 
 /// The command `check`.
@@ -72,11 +114,11 @@ fn fix_command<'a>(alloc: Global) -> Result<Command<'a>, AllocError>
     let bare = Command::new(alloc, "fix").about(
         "Serves one session of a firm over standard input and output",
     );
-    let firm = needed(alloc, "FIRM");
+    let firm = needed(alloc, "FIRM", "The name of the firm");
     let of_firm = bare.arg(firm)?;
-    let reference = needed(alloc, "REF");
+    let reference = needed(alloc, "REF", REFERENCE);
     let on_reference = of_firm.arg(reference)?;
-    let script = script_option(alloc);
+    let script = path_option(alloc, "script", SCRIPT);
     on_reference.arg(script)
 }
 
@@ -87,16 +129,53 @@ fn replay_command<'a>(alloc: Global) -> Result<Command<'a>, AllocError>
     let bare = Command::new(alloc, "replay").about(
         "Answers the script on standard input, line by line",
     );
-    let reference = needed(alloc, "REF");
+    let reference = needed(alloc, "REF", REFERENCE);
     bare.arg(reference)
 }
 
-/// A command, and `fix` after it.
-fn with_fix<'a>(alloc: Global, command: Command<'a>) -> Result<Command<'a>, AllocError>
-    ensures { IfOk result (λ with. app_of with ≡ with_subcommand (app_of command.entry) fix_shape) }
+/// The command `serve`.
+fn serve_command<'a>(alloc: Global) -> Result<Command<'a>, AllocError>
+    ensures { IfOk result (λ command. shape_of command ≡ serve_shape) }
 {
-    match fix_command(alloc) {
-        Ok(fix) => command.subcommand(fix),
+    let bare = Command::new(alloc, "serve").about(
+        "Serves firms on a port of this machine, with sweepers beside them: prints ENTRIES, SWEPT and AUDIT at the end",
+    );
+    let reference = needed(alloc, "REF", REFERENCE);
+    let on_reference = bare.arg(reference)?;
+    let port = port_word(alloc);
+    let on_port = on_reference.arg(port)?;
+    let script = path_option(alloc, "script", SCRIPT);
+    let after_script = on_port.arg(script)?;
+    let connections = number_option(
+        alloc,
+        "N",
+        "connections",
+        ValueParser::unsigned(1, 32),
+        "8",
+        "How many connections it accepts, 1 to 32",
+    );
+    let of_firms = after_script.arg(connections)?;
+    let every = number_option(
+        alloc,
+        "K",
+        "every",
+        ValueParser::unsigned(0, 1000),
+        "16",
+        "Each connection sends every K-th of its accepted give-ups to the sweepers, 0 to 1000; 0 sends none",
+    );
+    of_firms.arg(every)
+}
+
+/// A command, and one more after it, where that was made.
+fn with<'a>(
+    command: Command<'a>,
+    made: Result<Command<'a>, AllocError>,
+) -> Result<Command<'a>, AllocError>
+    ensures { (shape : Shape) → shape.is_plain ≡ true → IfOk made.entry (λ added. shape_of added ≡ shape)
+        → IfOk result (λ with. app_of with ≡ with_subcommand (app_of command.entry) shape) }
+{
+    match made {
+        Ok(added) => command.subcommand(added),
         Err(refused) => {
             drop(command);
             Err(refused)
@@ -104,20 +183,7 @@ fn with_fix<'a>(alloc: Global, command: Command<'a>) -> Result<Command<'a>, Allo
     }
 }
 
-/// A command, and `replay` after it.
-fn with_replay<'a>(alloc: Global, command: Command<'a>) -> Result<Command<'a>, AllocError>
-    ensures { IfOk result (λ with. app_of with ≡ with_subcommand (app_of command.entry) replay_shape) }
-{
-    match replay_command(alloc) {
-        Ok(replay) => command.subcommand(replay),
-        Err(refused) => {
-            drop(command);
-            Err(refused)
-        }
-    }
-}
-
-/// The program's command, a subcommand for each task but trade capture. No command is held while another is made.
+/// The program's command, a subcommand for each task but trade capture.
 fn program<'a>(alloc: Global) -> Result<Command<'a>, AllocError>
     ensures { IfOk result (λ command. app_of command ≡ program) }
 {
@@ -125,8 +191,9 @@ fn program<'a>(alloc: Global) -> Result<Command<'a>, AllocError>
         "The desk of a clearing house. Without a command: trade capture on the sample, from standard input",
     );
     let checking = bare.subcommand(check_command(alloc))?;
-    let fixing = with_fix(alloc, checking)?;
-    with_replay(alloc, fixing)
+    let fixing = with(checking, fix_command(alloc))?;
+    let replaying = with(fixing, replay_command(alloc))?;
+    with(replaying, serve_command(alloc))
 }
 
 /// The refusal of a word, for this reason, with how the program is called.
@@ -144,20 +211,47 @@ fn word<'a>(matches: &ArgMatches<'a>, name: &str) -> &'a str
     matches.get_str(name).unwrap_or("")
 }
 
+/// The number that a word means, where it is from `least` to `most`: a command that was read has no other word.
+fn number(word: &str, least: u16, most: u16) -> u16
+    requires { least ≤ most }
+    ensures number { IsUnsignedIn least most word.now → result ≡ number_of word.now }
+    ensures from_least { least ≤ result }
+    ensures to_most { result ≤ most }
+{
+    match word.parse::<u16>() {
+        Ok(number) if least <= number && number <= most => number,
+        _ => least,
+    }
+}
+
+/// What the words of `serve` ask for.
+fn serving_of<'a>(found: &ArgMatches<'a>) -> Serving<'a>
+    ensures { HasNumbers (rows_of (found_of found.now)) → wanted_of (Task.Serve result) ≡ served_by (rows_of (found_of found.now)) }
+{
+    Serving {
+        reference: word(found, "REF"),
+        port: number(word(found, "PORT"), 1, 65535),
+        script: found.get_str("script"),
+        connections: number(word(found, "N"), 1, 32),
+        every: number(word(found, "K"), 0, 1000),
+    }
+}
+
 /// The task of a command that was read.
 fn task_of<'a>(matches: &ArgMatches<'a>) -> Task<'a>
-    ensures { wanted_of result ≡ wanted_in (subcommand_rows_of matches.now) }
+    ensures { IsWithin (subcommand_rows_of matches.now) → wanted_of result ≡ wanted_in (subcommand_rows_of matches.now) }
 {
     match matches.subcommand() {
         Some(("check", _)) => Task::Check,
         Some(("fix", found)) => Task::Fix {
             firm: word(found, "FIRM"),
             reference: word(found, "REF"),
-            script: found.get_str("FILE"),
+            script: found.get_str("script"),
         },
         Some(("replay", found)) => Task::Replay {
             reference: word(found, "REF"),
         },
+        Some(("serve", found)) => Task::Serve(serving_of(found)),
         _ => Task::Capture,
     }
 }
@@ -166,6 +260,9 @@ fn task_of<'a>(matches: &ArgMatches<'a>) -> Task<'a>
 pub fn read<'a, S: AsStr>(alloc: Global, words: &'a [S]) -> Result<Task<'a>, Error>
     ensures task { IfOk result (λ task. wanted_of task ≡ wanted_by (map S.text words.now)) }
     ensures refused { FailsBy (fault_of program (map S.text words.now)) result }
+
+    // The numbers of a server are within their ranges.
+    ensures within { IfOk result (λ task. IsWithin (subcommand_of program (map S.text words.now))) }
 
     // The words of each task.
     ensures capture { (name : List ℕ) → map S.text words.now ≡ name ∷ [] → Reads result Captures }

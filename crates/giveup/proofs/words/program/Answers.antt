@@ -1,10 +1,12 @@
-use Rattle.std.proofs.Common.{rules, ◌≡◌, codes}
+use Rattle.std.proofs.Common.{rules, ◌≡◌, codes, refl}
 use Rattle.clap.specs.Words.{app_of, new_app}
-use Rattle.giveup.proofs.WordLemmas.{three_commands}
+use Rattle.giveup.specs.ProgramWords.{fix_shape, replay_shape, serve_shape}
+use Rattle.giveup.proofs.WordLemmas.{four_commands}
 use Rattle.giveup.proofs.words.program.Goals as goal
 
 pub returns : goal.returns
 returns c =
     let app : app_of c.about-bare.result ≡ new_app (codes "giveup") = search rules in
-    three_commands c.with_replay.result c.about-bare.result c.in_ok-checking.checking c.in_ok-fixing.fixing c.check_command.result app
-    c.in_ok-checking.ensures c.check_command.ensures c.in_ok-fixing.ensures c.with_replay.ensures
+    four_commands c.with-3.result c.about-bare.result c.in_ok-checking.checking c.in_ok-fixing.fixing c.in_ok-replaying.replaying c.check_command.result app
+    c.in_ok-checking.ensures c.check_command.ensures (c.in_ok-fixing.ensures fix_shape refl c.fix_command.ensures)
+    (c.in_ok-replaying.ensures replay_shape refl c.replay_command.ensures) (c.with-3.ensures serve_shape refl c.serve_command.ensures)
