@@ -2,6 +2,7 @@
 
 ghost use Rattle.std.specs.Prelude.{◌≡◌, length};
 ghost use Rattle.gu_terms.specs.Histories.{lots_swept};
+ghost use denote.Param.Send.{IsSend, IsSync};
 
 use crate::clients::{Client, Ending, Visit, converse};
 use crate::machine::Machine;
@@ -270,7 +271,12 @@ fn day<
     };
     let (closed, visited) = thread::join(
         rt,
-        || serve_day::<E, S, Machine<'_, R>, Vec<u8>>(&machine, alloc, opening, listener, None),
+        || -> Result<Closed, StreamError>
+            requires { (opening.book.reference ≡ E.reference) × (length opening.book.history ≡ E.opening)
+                × (lots_swept opening.book.history ≡ S.opening) × (opening.entries.name ≡ E.name) × (opening.entries.parts ≡ E.parts)
+                × (opening.swept.name ≡ S.name) × (opening.swept.parts ≡ S.parts)
+                × IsSync R.row × IsSend E.row × IsSync E.row × IsSend S.row × IsSync S.row }
+        { serve_day::<E, S, Machine<'_, R>, Vec<u8>>(&machine, alloc, opening, listener, None) },
         || do_all(rt, alloc, port, doing),
     );
     assert!(rt; visited);
