@@ -14,3 +14,5 @@ pub mod SameNames
 pub mod SameValues
 pub mod Standing
 pub mod RefusalTexts
+pub mod WrittenLemmas
+pub mod WrittenMeanings

@@ -15,3 +15,4 @@ pub mod Refusals
 pub mod Same
 pub mod Standing
 pub mod Takes
+pub mod WrittenNumbers

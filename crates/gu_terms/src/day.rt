@@ -4,7 +4,9 @@ ghost use Rattle.std.specs.Prelude.{◌≡◌, ◌↔◌, ◌<◌, ℕ, pos, ◌
 ghost use Rattle.std.specs.Str.Parse.{AllDigits, digits_value};
 ghost use Rattle.jiff.specs.Words.{IsDate};
 ghost use Rattle.gu_terms.specs.Days.{IsDay, IsDayText, WritesDay, date_number, year_of, month_of, day_of};
+ghost use Rattle.gu_terms.specs.WrittenNumbers.{date_text};
 
+use crate::digits::two_digits;
 use crate::number_text::{NumberError, are_digits, value_of};
 use jiff::civil::Date;
 
@@ -38,7 +40,7 @@ fn short_value(digits: &[u8]) -> u16
 }
 
 /// The number that two digits write.
-fn two_digits(digits: &[u8]) -> u8
+fn two_digit_value(digits: &[u8]) -> u8
     requires digits { AllDigits 10 digits.now }
     requires short { length digits.now ≤ 2 }
     ensures { result ≡ digits_value 10 digits.now }
@@ -54,6 +56,20 @@ fn is_day_text(text: &[u8]) -> bool
     ensures { IsTrue result ↔ IsDayText text.now }
 {
     text.len() == 8 && are_digits(text)
+}
+
+/// A date in eight digits.
+#[tactic(auto, unfolding(crate::specs::WrittenNumbers::date_text))]
+fn date_digits(year: u16, month: u8, day: u8) -> [u8; 8]
+    requires { (year ≤ 9999) × (month < 100) × (day < 100) }
+    ensures { result ≡ date_text year month day }
+{
+    let mut text = [b'0'; 8];
+    text[..2].copy_from_slice(&two_digits((year / 100) as u8));
+    text[2..4].copy_from_slice(&two_digits((year % 100) as u8));
+    text[4..6].copy_from_slice(&two_digits(month));
+    text[6..].copy_from_slice(&two_digits(day));
+    text
 }
 
 impl Day {
@@ -89,12 +105,20 @@ impl Day {
             return Err(NumberError::BadNumber);
         }
         let year = short_value(&text[..4]);
-        let month = two_digits(&text[4..6]);
-        let day = two_digits(&text[6..]);
+        let month = two_digit_value(&text[4..6]);
+        let day = two_digit_value(&text[6..]);
         match Day::new(year, month, day) {
             Some(day) => Ok(day),
             None => Err(NumberError::OutOfRange),
         }
+    }
+
+    /// It in eight digits: year, month, day of the month. Read again, they are the day.
+    pub fn text(self) -> [u8; 8]
+        ensures text { result ≡ date_text self.year self.month self.day }
+        ensures writes { WritesDay result self.year self.month self.day }
+    {
+        date_digits(self.year, self.month, self.day)
     }
 
     /// Whether two days are one.
