@@ -1,12 +1,14 @@
 -- The years of days that are counted from 1970-01-01.
 use Rattle.std.proofs.Common.{◌≡◌, ◌≤◌, ◌⊎◌, inl, inr, ℕ, ℤ, pos, arith}
-use Rattle.std.specs.Prelude.{◌<ℤ◌, ◌≤ℤ◌, negsuc}
+use Rattle.std.specs.Prelude.{◌<ℤ◌, ◌≤ℤ◌, negsuc, unsigned_abs}
 use Rattle.std.proofs.lemmas.Bool.{cases_order}
-use Rattle.jiff_core.specs.Calendar.{day_count, days_from_civil}
+use Rattle.std.proofs.lemmas.Int.{ints}
+use Rattle.jiff_core.specs.Calendar.{IsBetween, day_count, days_from_civil, days_in_month}
 use Rattle.jiff_core.specs.Date.{epoch_day}
 use Rattle.jiff_core.specs.declared.civil.date.Date.{Date}
 use Rattle.jiff_core.proofs.CalendarLemmas.{day_count-lt_year}
 use Rattle.jiff_core.proofs.SignedLemmas.{signed_arith}
+use Rattle.gu_terms.specs.Days.{IsDay}
 
 -- such a day doesn't come before 1970-01-01
 not_before : (d : Date) (n : ℕ) → epoch_day d ≡ pos n → day_count (pos 1970) 1 1 ≤ day_count d.year d.month d.day
@@ -32,3 +34,22 @@ late_year d n e =
           let after = not_before d n e in
           absurd (omega (arith, before, after))
     ]
+
+-- the year of such a day, as a number
+pub year_number : (d : Date) → pos 1970 ≤ℤ d.year → pos (unsigned_abs d.year) ≡ d.year
+year_number d late = omega (arith, ints)
+
+-- such a day is one of the years 1 to 9999
+pub is_day : (d : Date) → pos 1970 ≤ℤ d.year → IsDay (unsigned_abs d.year) d.month d.day
+is_day d late =
+    let range = d.year_in in
+    let m = d.month_in in
+    let days = d.day_in in
+    let same = year_number d late in
+    let month : IsBetween (pos 1) (pos 12) (pos d.month) = (omega (arith, ints, m.0), omega (arith, ints, m.1)) in
+    let day : IsBetween (pos 1) (pos (days_in_month d.year d.month)) (pos d.day) = (omega (arith, ints, days.0), omega (arith, ints, days.1)) in
+    record {
+      from = omega (arith, ints);
+      until = omega (arith, ints);
+      date = rw same (range, month, day);
+    }

@@ -7,7 +7,6 @@ mod ItemLemmas
 mod StandingLemmas
 mod TableLemmas
 mod HeldLemmas
-mod TextLemmas
 mod AllocLemmas
 mod DateLemmas
 pub mod NoFault

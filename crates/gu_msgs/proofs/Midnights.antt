@@ -9,8 +9,9 @@ use Rattle.jiff_core.proofs.CalendarLemmas.{day_count-lt_year}
 use Rattle.jiff_core.proofs.DateLemmas.{days_from_civil-next_year, epoch_day_injective}
 use Rattle.jiff_core.proofs.SignedLemmas.{signed_arith}
 use Rattle.gu_terms.specs.Days.{IsDay}
+use Rattle.gu_terms.specs.WrittenNumbers.{date_text}
 use Rattle.gu_msgs.specs.Midnight.{from_zero}
-use Rattle.gu_msgs.specs.ValueTexts.{WritesDateAfter, WritesMoment, date_text, time_text}
+use Rattle.gu_msgs.specs.MomentTexts.{WritesDateAfter, WritesMoment, time_text}
 
 -- the days of dates from 1970 on count from 0
 from_1970 : (d : Date) → pos 1970 ≤ℤ d.year → pos 0 ≤ℤ epoch_day d

@@ -16,11 +16,13 @@ use Rattle.std.proofs.lemmas.Fmt.{decimal_is_IsNumeral, length-decimal-le}
 use Rattle.gu_terms.specs.Names.{IsName, IsId, is_name_byte, is_id_byte}
 use Rattle.gu_terms.specs.Numbers.{IsPrice}
 use Rattle.gu_terms.specs.Refusals.{IsRefusalText, is_printed_byte}
+use Rattle.gu_terms.specs.WrittenNumbers.{date_text, fraction_text, price_text, six_digits, trimmed_digits}
+use Rattle.gu_terms.proofs.WrittenLemmas.{length-trimmed}
 use Rattle.gu_fix.specs.Encoding.{has_soh}
 use Rattle.gu_msgs.specs.Encodable.{is_plain}
 use Rattle.gu_msgs.specs.MsgTypes.{is_type_byte, is_type_text}
 use Rattle.gu_msgs.specs.TestReqIds.{IsTestReqId}
-use Rattle.gu_msgs.specs.ValueTexts.{WritesMoment, date_text, fraction_text, price_text, six_digits, time_text, trimmed_digits}
+use Rattle.gu_msgs.specs.MomentTexts.{WritesMoment, time_text}
 
 -- a byte above SOH
 abbrev IsAbove : ℕ → Type 0
@@ -113,14 +115,6 @@ trimmed_above [] all = tt
 trimmed_above (d ∷ ds) all =
     let P : Bool → Type 0 = λ b. AllByRecursion IsAbove (cond b [] (d ∷ trimmed_digits ds)) in
     let at : (b : Bool) → P b = λ b. elim b as P [ true ↦ tt | false ↦ (all.0, trimmed_above ds all.1) ] in
-    at (d == 48 && length (trimmed_digits ds) == 0)
-
-length-trimmed : (ds : List ℕ) → length (trimmed_digits ds) ≤ length ds
-length-trimmed [] = omega arith
-length-trimmed (d ∷ ds) =
-    let P : Bool → Type 0 = λ b. length (cond b [] (d ∷ trimmed_digits ds)) ≤ length (d ∷ ds) in
-    let fewer = length-trimmed ds in
-    let at : (b : Bool) → P b = λ b. elim b as P [ true ↦ omega arith | false ↦ omega (arith, fewer) ] in
     at (d == 48 && length (trimmed_digits ds) == 0)
 
 six_above : (n : ℕ) → AllByRecursion IsAbove (six_digits n)

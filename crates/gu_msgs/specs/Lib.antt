@@ -20,7 +20,7 @@ pub mod Messages
 pub mod Held
 pub mod Rejections
 pub mod CodedValues
-pub mod ValueTexts
+pub mod MomentTexts
 pub mod WrittenBodies
 pub mod Written
 pub mod Asking

@@ -4,7 +4,7 @@ use Rattle.std.specs.Option.{option_map_or}
 use Rattle.gu_fix.specs.TagValue.{TagValue, tag_value}
 use Rattle.gu_fix.specs.declared.tag.TheConstants.{MSG_TYPE}
 use Rattle.gu_msgs.specs.CodedValues.{logout_text}
-use Rattle.gu_msgs.specs.ValueTexts.{WritesMoment}
+use Rattle.gu_msgs.specs.MomentTexts.{WritesMoment}
 use Rattle.gu_msgs.specs.declared.outbound.Body.{Body}
 use Rattle.gu_msgs.specs.declared.outbound.Body.TheVariants as body
 use Rattle.gu_msgs.specs.declared.outbound.Outbound.{Outbound}

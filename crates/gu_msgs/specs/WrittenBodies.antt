@@ -9,7 +9,7 @@ use Rattle.gu_msgs.specs.Messages.{side_number}
 use Rattle.gu_msgs.specs.MsgTypes.{code_of}
 use Rattle.gu_msgs.specs.RejectReasons.{number_of}
 use Rattle.gu_msgs.specs.Rejections.{reason_number, reason_of, rejection_text}
-use Rattle.gu_msgs.specs.ValueTexts.{date_text, price_text}
+use Rattle.gu_terms.specs.WrittenNumbers.{date_text, price_text}
 use Rattle.gu_msgs.specs.declared.alloc_status.AllocStatus.TheVariants.{Accepted, Rejected}
 use Rattle.gu_msgs.specs.declared.coded_values.BusinessRejectReason.{BusinessRejectReason}
 use Rattle.gu_msgs.specs.declared.coded_values.BusinessRejectReason.TheVariants.{Other, UnsupportedMessageType}

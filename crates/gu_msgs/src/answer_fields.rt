@@ -1,6 +1,7 @@
 //! What answers to a firm say, as fields.
 
 ghost use Rattle.std.specs.Prelude.{◌≡◌, ◌++◌, OnOk, IfOk, IsTrue};
+ghost use Rattle.std.specs.Fmt.{decimal};
 ghost use Rattle.gu_msgs.specs.Encodable.{is_plain};
 ghost use Rattle.gu_msgs.specs.WrittenBodies.{answer_id, answer_ids, give_up_status, instruction_ack_fields, position_fields, quantity_fields, report_ack_fields, report_status, request_ack_fields};
 
@@ -16,8 +17,8 @@ use crate::tags::{
     SHORT_QTY, SYMBOL, TOTAL_NUM_POS_REPORTS, TRADE_REPORT_ID, TRADE_REPORT_REJECT_REASON,
     TRD_MATCH_ID, TRD_RPT_STATUS,
 };
-use crate::value_texts::push_decimal;
 use gu_terms::{AllocReject, Id};
+use itoa::Buffer;
 use std::alloc::{AllocError, Global};
 
 /// The one code of a rejected give-up (FIX: AllocRejCode, tag 88): the reason is in its text.
@@ -69,6 +70,14 @@ pub fn push_instruction_ack(
 {
     draft.push_id(ALLOC_ID, message.alloc_id)?;
     push_give_up_status(draft, &message.rejection)
+}
+
+/// Appends a number.
+fn push_decimal(text: &mut Vec<u8>, number: u64) -> Result<(), AllocError>
+    ensures { OnOk result (text.new.items ≡ text.old.items ++ decimal number) }
+{
+    let mut digits = Buffer::new();
+    text.extend_from_slice(digits.format(number).as_bytes())
 }
 
 /// The id of an answer to a question: the question's, and the answer's place.

@@ -6,12 +6,13 @@ ghost use Rattle.gu_fix.specs.TagValue.{tag_value};
 ghost use Rattle.gu_terms.specs.Names.{IsName};
 ghost use Rattle.gu_msgs.specs.Encodable.{ArePlain, is_plain};
 ghost use Rattle.gu_msgs.specs.Rejections.{rejection_text};
-ghost use Rattle.gu_msgs.specs.ValueTexts.{WritesMoment, date_text, price_text};
+ghost use Rattle.gu_terms.specs.WrittenNumbers.{date_text, price_text};
+ghost use Rattle.gu_msgs.specs.MomentTexts.{WritesMoment};
 ghost use Rattle.gu_msgs.specs.WrittenBodies.{number_field};
 
+use crate::moment_texts::moment_text;
 use crate::rejection::Rejection;
 use crate::tags::TEXT;
-use crate::value_texts::{UNIT, day_text, moment_text, sign_text, six_digits, size_of, trimmed};
 use gu_fix::Fields;
 use gu_terms::{Day, Id, Moment, Price};
 use itoa::Buffer;
@@ -114,22 +115,14 @@ impl Draft {
     pub fn push_price(&mut self, tag: u32, price: Price) -> Result<(), AllocError>
         ensures { OnOk result (self.new ≡ self.old ++ tag_value tag (price_text price) ∷ []) }
     {
-        let sign = sign_text(price);
-        let size = size_of(price);
-        let mut digits = Buffer::new();
-        let whole = digits.format(size / UNIT).as_bytes();
-        let millionths = (size % UNIT) as u32;
-        if millionths == 0 {
-            return self.push_joined(tag, &[sign, whole]);
-        }
-        self.push_joined(tag, &[sign, whole, b".", trimmed(&six_digits(millionths))])
+        self.push(tag, price.text().get())
     }
 
     /// Appends a day.
     pub fn push_day(&mut self, tag: u32, day: Day) -> Result<(), AllocError>
         ensures { OnOk result (self.new ≡ self.old ++ tag_value tag (date_text day.year day.month day.day) ∷ []) }
     {
-        self.push(tag, &day_text(day))
+        self.push(tag, &day.text())
     }
 
     /// Appends a moment.

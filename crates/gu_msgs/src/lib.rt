@@ -18,6 +18,7 @@ mod kept_values;
 mod kinds;
 mod laws;
 mod midnight;
+mod moment_texts;
 mod msg_type;
 mod notice_fields;
 pub mod outbound;
@@ -42,7 +43,6 @@ mod trade_capture_report;
 mod type_code;
 mod typed_values;
 mod value_faults;
-mod value_texts;
 mod whole_number;
 mod writing;
 

@@ -2,8 +2,9 @@
 
 ghost use Rattle.std.specs.Prelude.{◌≡◌, ◌≤◌, ◌++◌, ℕ, List, pos, codes};
 ghost use Rattle.jiff_core.specs.Date.{epoch_day};
+ghost use Rattle.gu_terms.specs.WrittenNumbers.{date_text};
 ghost use Rattle.gu_msgs.specs.Midnight.{from_zero, midnight_of};
-ghost use Rattle.gu_msgs.specs.ValueTexts.{WritesMoment, date_text};
+ghost use Rattle.gu_msgs.specs.MomentTexts.{WritesMoment};
 
 use gu_terms::{Day, Moment};
 use jiff_core::civil::Date;

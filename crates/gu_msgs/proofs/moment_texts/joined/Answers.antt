@@ -1,6 +1,6 @@
 use Rattle.std.proofs.Common.{◌≡◌, ◌++◌, ◌∷◌, [], ℕ, List, length, take, drop, append_assoc, arith, ap, sym}
 use Rattle.std.proofs.lemmas.List.{append-nil, drop_at, length-append, take_at}
-use Rattle.gu_msgs.proofs.value_texts.joined.Goals as goal
+use Rattle.gu_msgs.proofs.moment_texts.joined.Goals as goal
 
 -- twelve bytes that are written over
 abbrev filler : List ℕ
