@@ -19,4 +19,5 @@ mod TakesLemmas
 pub mod ViewsAgain
 mod WordLemmas
 pub mod Writable
+pub mod WrittenCommandLemmas
 pub mod WrittenTakes

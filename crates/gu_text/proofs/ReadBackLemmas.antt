@@ -103,7 +103,7 @@ read_back words are =
 
 -- ---- lines
 
-line_of-joined : (words : List (List ℕ)) → line_of words ≡ joined words ++ 10 ∷ []
+pub line_of-joined : (words : List (List ℕ)) → line_of words ≡ joined words ++ 10 ∷ []
 line_of-joined [] = refl
 line_of-joined (last ∷ []) = refl
 line_of-joined (first ∷ next ∷ others) = ap (λ (text : List ℕ). word first ++ text) (line_of-joined (next ∷ others)) ∙ sym (append_assoc (word first) (joined (next ∷ others)) (10 ∷ []))

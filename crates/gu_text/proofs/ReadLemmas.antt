@@ -59,14 +59,14 @@ number_back n small =
     ∙ ap Some (digits_value-decimal own n (wide n small))
 
 -- a byte above the blank may stand in a word
-high_in_word : (b : ℕ) → 33 ≤ b → is_word_byte b ≡ true
+pub high_in_word : (b : ℕ) → 33 ≤ b → is_word_byte b ≡ true
 high_in_word b high =
     let blank = ne_eqb b 32 (λ e. absurd (omega (arith, e, high))) in
     let end = ne_eqb b 10 (λ e. absurd (omega (arith, e, high))) in
     let return = ne_eqb b 13 (λ e. absurd (omega (arith, e, high))) in
     rw (blank, end, return) refl
 
-digit_in_word : (b : ℕ) → is_digit b 10 ≡ true → is_word_byte b ≡ true
+pub digit_in_word : (b : ℕ) → is_digit b 10 ≡ true → is_word_byte b ≡ true
 digit_in_word b h =
     let digits : AllDigits 10 (b ∷ []) = digits_from_test (b ∷ []) (rw h refl) in
     let range = digit_from_value b digits.0 in
@@ -150,12 +150,12 @@ line_back words said each some few speaks is =
 
 -- ---- the lines of a sheet
 
-literal : (w : List ℕ) → list_all is_word_byte w ≡ true → (nat_le 1 (length w) && nat_le (length w) 12) ≡ true → IsWord w × (length w ≤ 12)
+pub literal : (w : List ℕ) → list_all is_word_byte w ≡ true → (nat_le 1 (length w) && nat_le (length w) 12) ≡ true → IsWord w × (length w ≤ 12)
 literal w bytes h =
     let long = and_parts (nat_le 1 (length w)) (nat_le (length w) 12) h in
     (record { some = search (arith, long.0); each = AllPass-from_list_all is_word_byte w bytes }, search (arith, long.1))
 
-kind_word : (key : LimitKey) → IsWord (kind_of key) × (length (kind_of key) ≤ 12)
+pub kind_word : (key : LimitKey) → IsWord (kind_of key) × (length (kind_of key) ≤ 12)
 kind_word (Exec firm) = literal (codes "EXEC") refl refl
 kind_word (Agr agreement) = literal (codes "AGR") refl refl
 kind_word (Acct account) = literal (codes "ACCT") refl refl
@@ -169,11 +169,11 @@ kind_is_no_offer (Acct account) = refl
 kind_is_no_offer (Carry firm) = refl
 kind_is_no_offer (Guar firm) = refl
 
-offer_small : (n : ℕ) → IsOfferNo n → n < 10 ^ 12
+pub offer_small : (n : ℕ) → IsOfferNo n → n < 10 ^ 12
 offer_small n is = omega (arith, is.most)
 
 -- the number of an offer is read back
-offer_no_back : (n : ℕ) → IsOfferNo n → offer_no_of (decimal n) ≡ Some n
+pub offer_no_back : (n : ℕ) → IsOfferNo n → offer_no_of (decimal n) ≡ Some n
 offer_no_back n is =
     let low = le-leb 1 n is.some in
     let high = le-leb n 16000000 is.most in

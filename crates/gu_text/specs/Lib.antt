@@ -14,4 +14,5 @@ pub mod Sheets
 pub mod Texts
 pub mod Verdicts
 pub mod Words
+pub mod WrittenCommands
 pub mod WrittenSheets

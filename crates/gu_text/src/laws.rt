@@ -3,18 +3,26 @@
 ghost use Rattle.std.specs.Prelude.{◌≡◌, ◌<◌, ◌^◌, ℕ, List, All, IsTrue};
 ghost use Rattle.gu_text.specs.ReadBack.{AreWords, HasLines, IsReadAsWritten, IsReadBack, IsWritable};
 ghost use Rattle.gu_terms.specs.Cuts.{CutLists, has_number};
+ghost use Rattle.gu_terms.specs.Days.{IsDay};
 ghost use Rattle.gu_terms.specs.LimitKeys.{has_key};
+ghost use Rattle.gu_terms.specs.Names.{is_name};
 ghost use Rattle.gu_terms.specs.Takes.{lots_of};
+ghost use Rattle.gu_terms.specs.declared.command.Command.{Command as CommandOf};
+ghost use Rattle.gu_terms.specs.declared.day.Day.{Day as DayOf};
+ghost use Rattle.gu_terms.specs.declared.group.Group.{Group as GroupOf};
 ghost use Rattle.gu_terms.specs.declared.limit_key.LimitKey.{LimitKey as KeyOf};
 ghost use Rattle.gu_terms.specs.declared.takes.Take.{Take};
 ghost use Rattle.gu_text.specs.Scripts.{Says};
 ghost use Rattle.gu_text.specs.SheetText.{sheet_text};
 ghost use Rattle.gu_text.specs.Sheets.{IsSheet, Refuses};
+ghost use Rattle.gu_text.specs.WrittenCommands.{IsScriptLineOf, IsSilentLineOf, IsWritableCommand, command_words, remark_words, sweep_words, undated};
 ghost use Rattle.gu_text.specs.WrittenSheets.{IsNamed, cut_of, sheet_of, takes_of};
 ghost use Rattle.gu_text.specs.declared.error.TextError.{TextError as ErrorOf};
 ghost use Rattle.gu_text.specs.declared.error.TextError.TheVariants.{Memory};
 ghost use Rattle.gu_text.specs.declared.script_line.Line.{Line as LineOf};
+ghost use Rattle.gu_text.specs.declared.script_line.Line.TheVariants as line;
 ghost use Rattle.gu_text.specs.declared.sheet.Sheet.{Sheet as SheetOf};
+ghost use Rattle.gu_world.specs.declared.step.Step.TheVariants.{Enter};
 ghost use Rattle.gu_view.specs.Check.{IsRight, has_offer, has_room};
 ghost use Rattle.gu_view.specs.View.{GroupView, IsNested, IsView};
 
@@ -65,4 +73,13 @@ pub fn a_written_sheet_is_read_back()
         → view.version < 10 ^ 12
         → IsRight view takes cut lots
         → IsWritable view takes }
+{}
+
+/// A command that is written is read back as it is, a report as one of the open day, and so is a sweep. A remark says nothing.
+pub fn a_written_command_is_read_back()
+    ensures command { (command : CommandOf) → IsWritableCommand command
+        → IsScriptLineOf (command_words command) (line.Step (Enter (undated command))) }
+    ensures remark { (report : CommandOf) (day : DayOf) → IsWritableCommand report → IsDay day.year day.month day.day
+        → IsSilentLineOf (remark_words report day) }
+    ensures sweep { (group : GroupOf) → IsTrue (is_name group.name) → IsScriptLineOf (sweep_words group) (line.Sweep group) }
 {}

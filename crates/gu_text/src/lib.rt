@@ -1,6 +1,7 @@
 //! Texts of the desk: scripts and sweep sheets that are read; replies, outcomes, rows, sheets and verdicts that are written.
 #![tactic(auto)]
 
+mod command_lines;
 mod error;
 mod laws;
 mod line_feed;
@@ -21,10 +22,11 @@ mod values;
 mod verdicts;
 mod words;
 
+pub use command_lines::{append_command, append_remark, append_sweep};
 pub use error::TextError;
 pub use laws::{
-    a_line_says_one_thing, a_text_is_one_sheet, a_written_sheet_is_read_back,
-    a_written_sheet_says_what_it_is, written_words_are_read_back,
+    a_line_says_one_thing, a_text_is_one_sheet, a_written_command_is_read_back,
+    a_written_sheet_is_read_back, a_written_sheet_says_what_it_is, written_words_are_read_back,
 };
 pub use line_feed::{is_too_long, split_at_line_feed};
 pub use lines::without_return;

@@ -1,0 +1,86 @@
+-- Commands and sweeps that are written as lines of a script.
+use Rattle.std.specs.Prelude.{ℕ, ◌<◌, ◌^◌, List, [], ◌∷◌, ◌++◌, codes, None, IsTrue}
+use Rattle.std.specs.Fmt.{decimal}
+use Rattle.std.specs.List.{AllByRecursion}
+use Rattle.std.specs.Option.{ForSome}
+use Rattle.gu_terms.specs.AllocRejects.{reject_number}
+use Rattle.gu_terms.specs.Days.{IsDay}
+use Rattle.gu_terms.specs.LimitKeys.{kind_of, name_of_key}
+use Rattle.gu_terms.specs.Lines.{AreLines}
+use Rattle.gu_terms.specs.Names.{IsId, is_name}
+use Rattle.gu_terms.specs.Numbers.{IsLots, IsOfferNo, IsPrice}
+use Rattle.gu_terms.specs.WrittenNumbers.{date_text, price_text}
+use Rattle.gu_terms.specs.declared.command.Command.{Command}
+use Rattle.gu_terms.specs.declared.command.Command.TheVariants.{OpenDay, SetLimit, ReportSide, GiveUp, Claim, Refuse, Reverse}
+use Rattle.gu_terms.specs.declared.day.Day.{Day}
+use Rattle.gu_terms.specs.declared.group.Group.{Group}
+use Rattle.gu_terms.specs.declared.lines.Line.{Line as GiveUpLine}
+use Rattle.gu_text.specs.Lines.{is_silent}
+use Rattle.gu_text.specs.ReadBack.{AreWords, joined}
+use Rattle.gu_text.specs.Scripts.{Says, side_word}
+use Rattle.gu_text.specs.Texts.{line_of}
+use Rattle.gu_text.specs.declared.script_line.Line.{Line}
+
+-- the words of a give-up's lines: of each its account and its lots
+abbrev pub pair_words : List GiveUpLine → List (List ℕ)
+pair_words [] = []
+pair_words (first ∷ others) = first.account.name ∷ decimal first.lots ∷ pair_words others
+
+-- the words of a command: its own word, and after it names, ids and numbers; the day that a report names has none
+abbrev pub command_words : Command → List (List ℕ)
+command_words (OpenDay day) = codes "DAY" ∷ date_text day.year day.month day.day ∷ []
+command_words (SetLimit group key lots) = codes "LIMIT" ∷ group.name ∷ kind_of key ∷ name_of_key key ∷ decimal lots ∷ []
+command_words (ReportSide firm id match_id symbol lots price day side account) =
+    codes "REPORT" ∷ firm.name ∷ id ∷ match_id ∷ side_word side ∷ symbol.name ∷ decimal lots ∷ price_text price ∷ account.name ∷ []
+command_words (GiveUp firm id report lines) = codes "GIVEUP" ∷ firm.name ∷ id ∷ report ∷ pair_words lines
+command_words (Claim firm offer) = codes "CLAIM" ∷ firm.name ∷ decimal offer ∷ []
+command_words (Refuse firm offer why) = codes "REFUSE" ∷ firm.name ∷ decimal offer ∷ decimal (reject_number why) ∷ []
+command_words (Reverse firm offer) = codes "REVERSE" ∷ firm.name ∷ decimal offer ∷ []
+
+-- the words of a whole sweep
+abbrev pub sweep_words : Group → List (List ℕ)
+sweep_words group = codes "SWEEP" ∷ group.name ∷ []
+
+-- the words of a comment: a report, and the day that it names
+abbrev pub remark_words : Command → Day → List (List ℕ)
+remark_words report day = codes "#" ∷ command_words report ++ date_text day.year day.month day.day ∷ []
+
+-- the line of a command, of a whole sweep, and of a comment
+abbrev pub command_text : Command → List ℕ
+command_text command = line_of (command_words command)
+
+abbrev pub sweep_text : Group → List ℕ
+sweep_text group = line_of (sweep_words group)
+
+abbrev pub remark_text : Command → Day → List ℕ
+remark_text report day = line_of (remark_words report day)
+
+-- a report as one that names no day, so of the open one; any other command as it is
+abbrev pub undated : Command → Command
+undated (ReportSide firm id match_id symbol lots price day side account) = ReportSide firm id match_id symbol lots price None side account
+undated command = command
+
+-- what the types of commands keep: names are names, ids are ids, and days, lots, prices and numbers of offers are in their ranges; and what
+-- a script asks for besides: a limit has twelve digits at most
+abbrev pub IsWritableCommand : Command → Type 0
+IsWritableCommand (OpenDay day) = IsDay day.year day.month day.day
+IsWritableCommand (SetLimit group key lots) = IsTrue (is_name group.name) × IsTrue (is_name (name_of_key key)) × (lots < 10 ^ 12)
+IsWritableCommand (ReportSide firm id match_id symbol lots price day side account) =
+    IsTrue (is_name firm.name) × IsId id × IsId match_id × IsTrue (is_name symbol.name) × IsLots lots × IsPrice price × IsTrue (is_name account.name)
+    × ForSome day (λ (d : Day). IsDay d.year d.month d.day)
+IsWritableCommand (GiveUp firm id report lines) =
+    IsTrue (is_name firm.name) × IsId id × IsId report × AreLines lines
+    × AllByRecursion (λ (l : GiveUpLine). IsTrue (is_name l.account.name) × IsLots l.lots) lines
+IsWritableCommand (Claim firm offer) = IsTrue (is_name firm.name) × IsOfferNo offer
+IsWritableCommand (Refuse firm offer why) = IsTrue (is_name firm.name) × IsOfferNo offer
+IsWritableCommand (Reverse firm offer) = IsTrue (is_name firm.name) × IsOfferNo offer
+
+-- a line of these words is one, and says nothing in a script
+pub record IsSilentLineOf (words : List (List ℕ)) : Type 0 where
+  pub are : AreWords words
+  pub silent : IsTrue (is_silent (joined words))
+
+-- a line of these words is one, and says this in a script
+pub record IsScriptLineOf (words : List (List ℕ)) (said : Line) : Type 0 where
+  pub are : AreWords words
+  pub says : Says (joined words) said

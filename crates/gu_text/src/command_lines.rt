@@ -1,0 +1,173 @@
+//! Commands and sweeps as lines of a script.
+
+ghost use Rattle.std.specs.Prelude.{◌≡◌, ◌++◌, ◌∷◌, [], OnOk, codes};
+ghost use Rattle.std.specs.Fmt.{decimal};
+ghost use Rattle.std.specs.List.{flat_map};
+ghost use Rattle.gu_terms.specs.LimitKeys.{kind_of, name_of_key};
+ghost use Rattle.gu_terms.specs.WrittenNumbers.{price_text};
+ghost use Rattle.gu_text.specs.Scripts.{side_word};
+ghost use Rattle.gu_text.specs.Texts.{line_of, word};
+ghost use Rattle.gu_text.specs.WrittenCommands.{command_text, command_words, pair_words, remark_text, sweep_text};
+
+use crate::texts::{append_last_word, append_number, append_word};
+use gu_terms::{
+    Command, Day, FirmId, Group, Id, LimitKey, Line, Lots, OfferNo, Price, Side, Symbol,
+};
+use std::alloc::AllocError;
+
+/// The letter of a side.
+fn side_word(side: Side) -> &'static [u8]
+    ensures { result.now ≡ side_word side }
+{
+    match side {
+        Side::Buy => b"B",
+        Side::Sell => b"S",
+    }
+}
+
+/// Appends the words of a limit, each with a blank after it.
+fn append_limit(
+    output: &mut Vec<u8>,
+    group: Group,
+    key: &LimitKey,
+    lots: u64,
+) -> Result<(), AllocError>
+    ensures { OnOk result (output.new.items ≡ output.old.items
+        ++ flat_map word (codes "LIMIT" ∷ group.name ∷ kind_of key.now ∷ name_of_key key.now ∷ decimal lots ∷ [])) }
+{
+    append_word(output, b"LIMIT")?;
+    append_word(output, group.get())?;
+    append_word(output, key.kind().as_bytes())?;
+    append_word(output, key.name())?;
+    append_number(output, lots)
+}
+
+/// Appends the first words of what a firm gives an id of its own, with the other id, each with a blank after it.
+fn append_own(
+    output: &mut Vec<u8>,
+    name: &[u8],
+    firm: FirmId,
+    own: &Id,
+    other: &Id,
+) -> Result<(), AllocError>
+    ensures { OnOk result (output.new.items ≡ output.old.items ++ flat_map word (name.now ∷ firm.name ∷ own.now ∷ other.now ∷ [])) }
+{
+    append_word(output, name)?;
+    append_word(output, firm.get())?;
+    append_word(output, own.get())?;
+    append_word(output, other.get())
+}
+
+/// Appends the words of a side of a trade, each with a blank after it.
+fn append_side(
+    output: &mut Vec<u8>,
+    side: Side,
+    symbol: Symbol,
+    lots: Lots,
+    price: Price,
+) -> Result<(), AllocError>
+    ensures { OnOk result (output.new.items ≡ output.old.items
+        ++ flat_map word (side_word side ∷ symbol.name ∷ decimal lots ∷ price_text price ∷ [])) }
+{
+    append_word(output, side_word(side))?;
+    append_word(output, symbol.get())?;
+    append_number(output, lots.get())?;
+    append_word(output, price.text().get())
+}
+
+/// Appends the words of a give-up's lines, each with a blank after it.
+fn append_pairs(output: &mut Vec<u8>, lines: &[Line]) -> Result<(), AllocError>
+    ensures { OnOk result (output.new.items ≡ output.old.items ++ flat_map word (pair_words lines.now)) }
+{
+    for line in lines {
+        append_word(output, line.account.get())?;
+        append_number(output, line.lots.get())?;
+    }
+    Ok(())
+}
+
+/// Appends the words of a carrying firm's response to an offer, each with a blank after it.
+fn append_response(
+    output: &mut Vec<u8>,
+    name: &[u8],
+    firm: FirmId,
+    offer: OfferNo,
+) -> Result<(), AllocError>
+    ensures { OnOk result (output.new.items ≡ output.old.items ++ flat_map word (name.now ∷ firm.name ∷ decimal offer ∷ [])) }
+{
+    append_word(output, name)?;
+    append_word(output, firm.get())?;
+    append_number(output, offer.get())
+}
+
+/// Appends the words of a command, each with a blank after it.
+fn append_command_words(output: &mut Vec<u8>, command: &Command) -> Result<(), AllocError>
+    ensures { OnOk result (output.new.items ≡ output.old.items ++ flat_map word (command_words command.now)) }
+{
+    match command {
+        Command::OpenDay { day } => {
+            append_word(output, b"DAY")?;
+            append_word(output, &day.text())
+        }
+        Command::SetLimit { group, key, lots } => append_limit(output, *group, key, *lots),
+        Command::ReportSide {
+            firm,
+            id,
+            match_id,
+            symbol,
+            lots,
+            price,
+            day: _,
+            side,
+            account,
+        } => {
+            append_own(output, b"REPORT", *firm, id, match_id)?;
+            append_side(output, *side, *symbol, *lots, *price)?;
+            append_word(output, account.get())
+        }
+        Command::GiveUp {
+            firm,
+            id,
+            report,
+            lines,
+        } => {
+            append_own(output, b"GIVEUP", *firm, id, report)?;
+            append_pairs(output, lines.as_slice())
+        }
+        Command::Claim { firm, offer } => append_response(output, b"CLAIM", *firm, *offer),
+        Command::Refuse { firm, offer, why } => {
+            append_response(output, b"REFUSE", *firm, *offer)?;
+            append_number(output, why.number())
+        }
+        Command::Reverse { firm, offer } => append_response(output, b"REVERSE", *firm, *offer),
+    }
+}
+
+/// Appends the line of a script that makes a command. It is of the open day, whatever day a report names.
+pub fn append_command(output: &mut Vec<u8>, command: &Command) -> Result<(), AllocError>
+    ensures { OnOk result (output.new.items ≡ output.old.items ++ command_text command.now) }
+{
+    append_command_words(output, command)?;
+    // The last word has a blank after it, in whose place the line ends.
+    let _ = output.pop();
+    output.push(b'\n')?;
+    Ok(())
+}
+
+/// Appends a comment with a report and the day that it names.
+pub fn append_remark(output: &mut Vec<u8>, report: &Command, day: Day) -> Result<(), AllocError>
+    ensures { OnOk result (output.new.items ≡ output.old.items ++ remark_text report.now day) }
+{
+    append_word(output, b"#")?;
+    append_command_words(output, report)?;
+    append_last_word(output, &day.text())?;
+    Ok(())
+}
+
+/// Appends the line of a script that sweeps a group.
+pub fn append_sweep(output: &mut Vec<u8>, group: Group) -> Result<(), AllocError>
+    ensures { OnOk result (output.new.items ≡ output.old.items ++ sweep_text group) }
+{
+    append_word(output, b"SWEEP")?;
+    append_last_word(output, group.get())
+}
