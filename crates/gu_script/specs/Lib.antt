@@ -1,5 +1,6 @@
 pub mod CommittedSheets
 pub mod Faults
+pub mod Journals
 pub mod Replaying
 pub mod ScriptPieces
 pub mod ScriptRuns

@@ -1,13 +1,16 @@
 //! What holds of every script, and of the sheets of committed sweeps.
 
-ghost use Rattle.std.specs.Prelude.{List};
+ghost use Rattle.std.specs.Prelude.{List, None};
+ghost use Rattle.std.specs.List.{AllByRecursion};
+ghost use Rattle.std.specs.Str.Lines.{lines};
 ghost use Rattle.gu_terms.specs.declared.entry.Entry.{Entry as EntryOf};
 ghost use Rattle.gu_ref.specs.Tables.{Tables};
 ghost use Rattle.gu_rules.specs.Legal.{IsLegal};
 ghost use Rattle.gu_world.specs.Runs.{Course, IsRunOf};
 ghost use Rattle.gu_world.specs.declared.step.Step.{Step as StepOf};
 ghost use Rattle.gu_script.specs.CommittedSheets.{AreTyped, PrintRightSheets};
-ghost use Rattle.gu_script.specs.Replaying.{StepsAreARun};
+ghost use Rattle.gu_script.specs.Journals.{IsWritableEntry, journal_text, said_after};
+ghost use Rattle.gu_script.specs.Replaying.{SayAll, StepsAreARun};
 
 /// A script is one run of the steps of its lines. So what holds of every run holds of a script.
 pub fn a_script_is_a_run()
@@ -25,4 +28,9 @@ pub fn a_committed_sweep_prints_a_right_sheet()
         → AreTyped reference course.state.book.history
         → IsRunOf reference steps course
         → PrintRightSheets reference course.state.book.history }
+{}
+
+/// The lines of a journal are silent, or say the entries of its history, one after another.
+pub fn a_journal_says_its_entries()
+    ensures { (history : List EntryOf) → AllByRecursion IsWritableEntry history → SayAll (lines (journal_text history)) (said_after None history) }
 {}

@@ -2,6 +2,7 @@
 #![tactic(auto)]
 
 mod error;
+mod journal;
 mod laws;
 mod playing;
 mod questions;
@@ -9,5 +10,8 @@ mod script;
 mod stepping;
 
 pub use error::ScriptError;
-pub use laws::{a_committed_sweep_prints_a_right_sheet, a_script_is_a_run};
+pub use journal::write_journal;
+pub use laws::{
+    a_committed_sweep_prints_a_right_sheet, a_journal_says_its_entries, a_script_is_a_run,
+};
 pub use playing::play;

@@ -7,7 +7,7 @@ mod NumberLemmas
 mod OneLine
 mod OneMeaning
 mod Places
-mod ReadBackLemmas
+pub mod ReadBackLemmas
 mod ReadLemmas
 pub mod RightLines
 mod ScriptLemmas

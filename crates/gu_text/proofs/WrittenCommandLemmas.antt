@@ -241,7 +241,7 @@ pairs_write (first ∷ others) all = (refl, all.0.0, decimal_means_lots first.lo
 -- ---- commands and sweeps
 
 command_are_words : (command : Command) → IsWritableCommand command → AllByRecursion IsWord (command_words command)
-command_are_words (OpenDay day) is = ((literal (codes "DAY") refl refl).0, (day_word day.year day.month day.day is, tt))
+command_are_words (OpenDay day) is = ((literal (codes "DAY") refl refl).0, (day_word day.year day.month day.day day.there, tt))
 command_are_words (SetLimit group key lots) is =
     ((literal (codes "LIMIT") refl refl).0, ((name_word group.name is.0).0, ((kind_word key).0, ((name_word (name_of_key key) is.1).0, ((number_word lots is.2).0, tt)))))
 command_are_words (ReportSide firm id match_id symbol lots price day side account) is = (
@@ -274,7 +274,7 @@ command_are_words (Reverse firm offer) is =
 
 -- a command has less than half of the bytes that a line may have
 command_is_short : (command : Command) → IsWritableCommand command → size_of (command_words command) ≤ 500
-command_is_short (OpenDay day) is = omega (arith, (date_text_writes day.year day.month day.day is).is_text.eight)
+command_is_short (OpenDay day) is = omega (arith, (date_text_writes day.year day.month day.day day.there).is_text.eight)
 command_is_short (SetLimit group key lots) is = omega (arith, (name_word group.name is.0).1, (kind_word key).1, (name_word (name_of_key key) is.1).1, (number_word lots is.2).1)
 command_is_short (ReportSide firm id match_id symbol lots price day side account) is =
     omega (
@@ -304,7 +304,7 @@ command_speaks (Refuse firm offer why) = refl
 command_speaks (Reverse firm offer) = refl
 
 command_writes : (command : Command) → IsWritableCommand command → Writes (command_words command) (line.Step (Enter (undated command)))
-command_writes (OpenDay day) is = (date_text day.year day.month day.day, refl, date_text_writes day.year day.month day.day is)
+command_writes (OpenDay day) is = (date_text day.year day.month day.day, refl, date_text_writes day.year day.month day.day day.there)
 command_writes (SetLimit group key lots) is = (decimal lots, refl, rw (is.0, is.1) refl, number_back lots is.2)
 command_writes (ReportSide firm id match_id symbol lots price day side account) is =
     (decimal lots, price_text price, refl, rw (is.0, is.3, is.6) refl, is.1, is.2, decimal_means_lots lots is.4, price_text_means price is.5, refl)
@@ -348,16 +348,16 @@ comment_is_silent [] short = refl
 comment_is_silent (next ∷ others) short = rw (le-leb (length (joined (codes "#" ∷ next ∷ others))) longest_line short) refl
 
 -- a remark says nothing
-pub remark_is_silent : (report : Command) (day : Day) → IsWritableCommand report → IsDay day.year day.month day.day → IsSilentLineOf (remark_words report day)
-remark_is_silent report day is there =
+pub remark_is_silent : (report : Command) (day : Day) → IsWritableCommand report → IsSilentLineOf (remark_words report day)
+remark_is_silent report day is =
     let text = date_text day.year day.month day.day in
-    let date = day_word day.year day.month day.day there in
+    let date = day_word day.year day.month day.day day.there in
     let words = command_words report ++ text ∷ [] in
     let each : AllByRecursion IsWord words = both_are_words (command_words report) (text ∷ []) (command_are_words report is) (date, tt) in
     let mark : IsWord (codes "#") = (literal (codes "#") refl refl).0 in
     let size = size-append (command_words report) (text ∷ []) in
     let short : length (joined (codes "#" ∷ words)) ≤ longest_line =
-    omega (arith, length-joined-size (codes "#" ∷ words), size, command_is_short report is, (date_text_writes day.year day.month day.day there).is_text.eight) in
+    omega (arith, length-joined-size (codes "#" ∷ words), size, command_is_short report is, (date_text_writes day.year day.month day.day day.there).is_text.eight) in
     record {
       are = record { some = omega arith; each = All-from_recursion IsWord (codes "#" ∷ words) (mark, each) };
       silent = comment_is_silent words short;

@@ -2,9 +2,7 @@
 use Rattle.std.specs.Prelude.{ℕ, ◌<◌, ◌^◌, List, [], ◌∷◌, ◌++◌, codes, None, IsTrue}
 use Rattle.std.specs.Fmt.{decimal}
 use Rattle.std.specs.List.{AllByRecursion}
-use Rattle.std.specs.Option.{ForSome}
 use Rattle.gu_terms.specs.AllocRejects.{reject_number}
-use Rattle.gu_terms.specs.Days.{IsDay}
 use Rattle.gu_terms.specs.LimitKeys.{kind_of, name_of_key}
 use Rattle.gu_terms.specs.Lines.{AreLines}
 use Rattle.gu_terms.specs.Names.{IsId, is_name}
@@ -60,14 +58,13 @@ abbrev pub undated : Command → Command
 undated (ReportSide firm id match_id symbol lots price day side account) = ReportSide firm id match_id symbol lots price None side account
 undated command = command
 
--- what the types of commands keep: names are names, ids are ids, and days, lots, prices and numbers of offers are in their ranges; and what
--- a script asks for besides: a limit has twelve digits at most
+-- what the types of commands keep: names are names, ids are ids, and lots, prices and numbers of offers are in their ranges; and what a script
+-- asks for besides: a limit has twelve digits at most
 abbrev pub IsWritableCommand : Command → Type 0
-IsWritableCommand (OpenDay day) = IsDay day.year day.month day.day
+IsWritableCommand (OpenDay day) = Unit {0}
 IsWritableCommand (SetLimit group key lots) = IsTrue (is_name group.name) × IsTrue (is_name (name_of_key key)) × (lots < 10 ^ 12)
 IsWritableCommand (ReportSide firm id match_id symbol lots price day side account) =
     IsTrue (is_name firm.name) × IsId id × IsId match_id × IsTrue (is_name symbol.name) × IsLots lots × IsPrice price × IsTrue (is_name account.name)
-    × ForSome day (λ (d : Day). IsDay d.year d.month d.day)
 IsWritableCommand (GiveUp firm id report lines) =
     IsTrue (is_name firm.name) × IsId id × IsId report × AreLines lines
     × AllByRecursion (λ (l : GiveUpLine). IsTrue (is_name l.account.name) × IsLots l.lots) lines

@@ -3,7 +3,6 @@
 ghost use Rattle.std.specs.Prelude.{◌≡◌, ◌<◌, ◌^◌, ℕ, List, All, IsTrue};
 ghost use Rattle.gu_text.specs.ReadBack.{AreWords, HasLines, IsReadAsWritten, IsReadBack, IsWritable};
 ghost use Rattle.gu_terms.specs.Cuts.{CutLists, has_number};
-ghost use Rattle.gu_terms.specs.Days.{IsDay};
 ghost use Rattle.gu_terms.specs.LimitKeys.{has_key};
 ghost use Rattle.gu_terms.specs.Names.{is_name};
 ghost use Rattle.gu_terms.specs.Takes.{lots_of};
@@ -79,7 +78,7 @@ pub fn a_written_sheet_is_read_back()
 pub fn a_written_command_is_read_back()
     ensures command { (command : CommandOf) → IsWritableCommand command
         → IsScriptLineOf (command_words command) (line.Step (Enter (undated command))) }
-    ensures remark { (report : CommandOf) (day : DayOf) → IsWritableCommand report → IsDay day.year day.month day.day
+    ensures remark { (report : CommandOf) (day : DayOf) → IsWritableCommand report
         → IsSilentLineOf (remark_words report day) }
     ensures sweep { (group : GroupOf) → IsTrue (is_name group.name) → IsScriptLineOf (sweep_words group) (line.Sweep group) }
 {}
