@@ -1,4 +1,5 @@
 """The desk as a child process, and what /proc says of it."""
+import atexit
 import os
 import socket
 import subprocess
@@ -84,8 +85,9 @@ class Server:
 
 
 def written(text):
-    """A temporary file with this text."""
+    """A file with this text, which is removed at the end."""
     file = tempfile.NamedTemporaryFile('w', prefix='serve-', delete=False)
+    atexit.register(os.unlink, file.name)
     with file:
         file.write(text)
     return file.name
