@@ -15,7 +15,7 @@ ghost use Rattle.giveup.specs.Capture.{AnswersFrame, Captured, CapturedInPart, C
 use crate::position_lines::positions_text;
 use gu_book::{Book, EnterError};
 use gu_engine::{Answerer, ClockFault, Event, run};
-use gu_fix::{Fields, Frame, encode_onto, into_fields};
+use gu_fix::{BodyText, Fields, Frame, encode_onto, into_fields};
 use gu_msgs::inbound::TradeCaptureReport;
 use gu_msgs::{MsgFault, Outbound, Rejection, answer_to, midnight_of, read, sender, write_over};
 use gu_ref::Reference;
@@ -79,11 +79,11 @@ impl Capturing {
     /// The fields of the message that says to a firm what became of its report, in the room of the report's.
     fn ack_fields(
         &self,
-        room: Fields,
+        room: BodyText,
         firm: &FirmId,
         report: &TradeCaptureReport,
         rejection: Option<Rejection>,
-    ) -> Result<Fields, AllocError>
+    ) -> Result<BodyText, AllocError>
         ensures written { IfOk result (λ fields. IsWritten (message_to self.now firm.now report.now rejection) fields) }
         ensures encodable { IfOk result (λ fields. fault_of fields ≡ None) }
     {
@@ -100,7 +100,7 @@ impl Capturing {
     /// Appends the message that says to a firm what became of its report.
     fn answer_report(
         &mut self,
-        room: Fields,
+        room: BodyText,
         firm: &FirmId,
         report: &TradeCaptureReport,
         rejection: Option<Rejection>,
@@ -111,7 +111,7 @@ impl Capturing {
         ensures after { OnOk result (self.new ≡ record self.old { next = number_after self.old.next }) }
     {
         let fields = self.ack_fields(room, firm, report, rejection)?;
-        encode_onto(self.alloc, output, &fields)?;
+        encode_onto(output, &fields)?;
         self.next = (self.next + 1).min(LAST_NUMBER);
         Ok(())
     }
@@ -119,7 +119,7 @@ impl Capturing {
     /// Enters a firm's report, and appends its acknowledgement.
     fn acknowledge(
         &mut self,
-        room: Fields,
+        room: BodyText,
         firm: &FirmId,
         report: &TradeCaptureReport,
         output: &mut Vec<u8>,
@@ -150,7 +150,7 @@ impl Capturing {
             return Ok(());
         };
         match sender(&fields) {
-            Some(firm) => self.acknowledge(fields, &firm, &report, output),
+            Some(firm) => self.acknowledge(fields.into_room(), &firm, &report, output),
             None => Ok(()),
         }
     }

@@ -1,11 +1,12 @@
 -- Values in a buffer that grows.
 use Rattle.std.proofs.Common.{◌==◌, ◌||◌, Bool, true, false, zero, suc, ◌≡◌, ◌≤◌, ◌-◌, ◌+◌, ℕ, List, [], ◌∷◌, ◌++◌, length, take, drop, refl, sym, ap, ◌∙◌, append_assoc, arith}
-use Rattle.std.proofs.lemmas.List.{take-append-drop, take-append-le, drop-append-le, drop-drop, length-append, length-drop, drop_at, take_at, take_all, map-append}
+use Rattle.std.proofs.lemmas.List.{take-append-drop, take-append-le, drop-append-le, drop-drop, length-append, length-drop, drop_at, take_at, take_all, map-append, flat_map_more}
+use Rattle.std.specs.Fmt.{decimal}
 use Rattle.std.specs.List.{list_any}
-use Rattle.gu_fix.specs.Encoding.{has_soh}
+use Rattle.gu_fix.specs.Encoding.{field_text, fields_text, has_soh}
 use Rattle.gu_fix.specs.TagValue.{TagValue, tag_value}
 use Rattle.gu_fix.specs.WholeMessage.{soh}
-use Rattle.gu_fix.specs.Spans.{IsWithin, LiesBefore, field_in, AreWithin, fields_in}
+use Rattle.gu_fix.specs.Spans.{AreSpelled, IsWithin, LiesBefore, field_in, AreWithin, fields_in}
 use Rattle.gu_fix.specs.declared.field.Span.{Span}
 
 -- what is appended changes no value
@@ -107,3 +108,46 @@ left_on bytes rest n short left within =
     let k = length bytes - length rest in
     let place : k + n ≡ length bytes - length (drop n rest) = omega (arith, length-drop n rest) in
     ap (drop n) left ∙ drop-drop n k bytes ∙ ap (λ i. drop i bytes) place
+
+-- ---- values in a text that is written
+
+-- where the value of a field lies, whose text is at the end of the buffer
+pub record LiesAfter (bytes value : List ℕ) (tag : ℕ) (span : Span) : Type 0 where
+  pub tagged : span.tag ≡ tag
+  pub begins : span.start ≡ length bytes + length (decimal tag) + 1
+  pub sized : span.len ≡ length value
+
+-- that field
+field_in-text : (bytes value : List ℕ) (tag : ℕ) (span : Span) → LiesAfter bytes value tag span → field_in (bytes ++ field_text (tag_value tag value)) span ≡ tag_value tag value
+field_in-text bytes value tag span lies =
+    let digits = decimal tag in
+    let before = bytes ++ digits ++ 61 ∷ [] in
+    let all : bytes ++ field_text (tag_value tag value) ≡ before ++ (value ++ soh ∷ []) =
+    ap (λ (t : List ℕ). bytes ++ t) (append_assoc digits (61 ∷ value) (soh ∷ []))
+    ∙ sym (append_assoc bytes digits (61 ∷ value ++ soh ∷ []))
+    ∙ sym (append_assoc (bytes ++ digits) (61 ∷ []) (value ++ soh ∷ [])) in
+    let place : length before ≡ span.start = omega (arith, lies.begins, length-append (bytes ++ digits) (61 ∷ []), length-append bytes digits) in
+    let there = ap (drop span.start) all ∙ drop_at before (value ++ soh ∷ []) span.start place in
+    let cut = ap (take span.len) there ∙ take_at value (soh ∷ []) span.len (sym lies.sized) in
+    ap (λ k. tag_value k (take span.len (drop span.start (bytes ++ field_text (tag_value tag value))))) lies.tagged ∙ ap (tag_value tag) cut
+
+-- one more field, whose text is appended
+pub fields_in-text : (bytes value : List ℕ) (tag : ℕ) (spans : List Span) (span : Span) → AreWithin bytes spans → LiesAfter bytes value tag span
+    → fields_in (bytes ++ field_text (tag_value tag value)) (spans ++ span ∷ []) ≡ fields_in bytes spans ++ tag_value tag value ∷ []
+fields_in-text bytes value tag spans span within lies =
+    let text = field_text (tag_value tag value) in
+    fields_in-one_more (bytes ++ text) spans span (tag_value tag value) (field_in-text bytes value tag span lies)
+    ∙ ap (λ (t : List TagValue). t ++ tag_value tag value ∷ []) (fields_in-append bytes text spans within)
+
+-- the buffer is the text of all of them still
+pub spelled-text : (bytes value : List ℕ) (tag : ℕ) (spans : List Span) (span : Span) → AreSpelled bytes spans → LiesAfter bytes value tag span
+    → AreSpelled (bytes ++ field_text (tag_value tag value)) (spans ++ span ∷ [])
+spelled-text bytes value tag spans span spelled lies =
+    let field = tag_value tag value in
+    let text = field_text field in
+    let size : length text ≡ length (decimal tag) + length value + 2 =
+    omega (arith, length-append (decimal tag ++ 61 ∷ value) (soh ∷ []), length-append (decimal tag) (61 ∷ value)) in
+    record {
+      within = within-push (bytes ++ text) spans span (within-append bytes text spans spelled.within) (omega (arith, lies.begins, lies.sized, size, length-append bytes text));
+      text = ap (λ (t : List ℕ). t ++ text) spelled.text ∙ flat_map_more field_text [] (fields_in bytes spans) field ∙ ap fields_text (sym (fields_in-text bytes value tag spans span spelled.within lies));
+    }

@@ -2,6 +2,7 @@
 use Rattle.std.specs.Prelude.{◌≡◌, ℕ, ◌+◌, ◌<◌, ◌≤◌, List, length, slice_index, take, drop, map}
 use Rattle.std.specs.List.{AllByRecursion}
 use Rattle.std.specs.Str.Parse.{AllDigits, digits_value}
+use Rattle.gu_fix.specs.Encoding.{fields_text}
 use Rattle.gu_fix.specs.Fields.{equals}
 use Rattle.gu_fix.specs.TagValue.{TagValue, tag_value}
 use Rattle.gu_fix.specs.declared.field.Span.{Span}
@@ -21,6 +22,11 @@ AreWithin bytes spans = AllByRecursion (IsWithin bytes) spans
 -- the fields whose values lie there, in order
 abbrev pub fields_in : List ℕ → List Span → List TagValue
 fields_in bytes spans = map (field_in bytes) spans
+
+-- the buffer is the text of the fields whose values lie there
+pub record AreSpelled (bytes : List ℕ) (spans : List Span) : Type 0 where
+  pub within : AreWithin bytes spans
+  pub text : bytes ≡ fields_text (fields_in bytes spans)
 
 -- a byte stands at this place
 pub record StandsAt (byte place : ℕ) (bytes : List ℕ) : Type 0 where

@@ -7,13 +7,13 @@ ghost use Rattle.gu_fix.specs.TagValue.{TagValue, tag_value};
 ghost use Rattle.gu_fix.specs.Encoding.{field_text, fields_text, message_of, fault_of, is_body_tag, begins_with_type, is_empty, has_soh};
 ghost use Rattle.gu_fix.specs.SoundLength.{IsSound, IsFirstFault};
 
+use crate::body_text::BodyText;
 use crate::error::EncodeError;
 use crate::field::{Field, Fields};
 use crate::prefix::{FIXED_LENGTH, LONGEST, OPENING, SOH, checksum, trailer};
 use crate::tag::{BEGIN_STRING, BODY_LENGTH, CHECK_SUM, MSG_TYPE};
 use itoa::Buffer;
 use std::alloc::{AllocError, Global};
-use std::mem;
 
 /// Whether a field of a body may have this tag.
 fn is_free_tag(tag: u32) -> bool
@@ -86,6 +86,7 @@ fn has_soh_in_value(fields: &Fields) -> bool
 }
 
 /// The digits of a tag that has two, and `=`.
+#[inline(always)]
 fn two_digits(tag: u32) -> [u8; 3]
     requires { (10 ≤ tag) × (tag < 100) }
     ensures { result ≡ decimal tag ++ 61 ∷ [] }
@@ -94,6 +95,7 @@ fn two_digits(tag: u32) -> [u8; 3]
 }
 
 /// The digits of a tag that has three, and `=`.
+#[inline(always)]
 fn three_digits(tag: u32) -> [u8; 4]
     requires { (100 ≤ tag) × (tag < 1000) }
     ensures { result ≡ decimal tag ++ 61 ∷ [] }
@@ -107,7 +109,8 @@ fn three_digits(tag: u32) -> [u8; 4]
 }
 
 /// Appends a tag, of which most have two or three digits, and `=`.
-fn push_tag(out: &mut Vec<u8>, tag: u32) -> Result<(), AllocError>
+#[inline(always)]
+pub(crate) fn push_tag(out: &mut Vec<u8>, tag: u32) -> Result<(), AllocError>
     ensures ok { OnOk result (out.new.items ≡ out.old.items ++ decimal tag ++ 61 ∷ []) }
     ensures err { OnErr result ((tail : List ℕ) × (out.new.items ≡ out.old.items ++ tail)) }
 {
@@ -186,51 +189,32 @@ fn checksum_from(bytes: &[u8], start: usize) -> u8
     checksum(&bytes[start..])
 }
 
-/// Appends the message of these fields, whose text has this length with these digits.
-fn push_message(
-    out: &mut Vec<u8>,
-    len: usize,
-    digits: &[u8],
-    fields: &Fields,
-) -> Result<(), AllocError>
-    requires { FIXED_LENGTH + length digits.now + len ≤ LONGEST }
-    ensures ok { OnOk result (let front = front_of digits.now (fields_text fields.now) in out.new.items ≡ out.old.items ++ front ++ trailer_after front) }
+/// Appends the message of fields with this text, whose length has these digits.
+fn push_message(out: &mut Vec<u8>, digits: &[u8], text: &[u8]) -> Result<(), AllocError>
+    requires { FIXED_LENGTH + length digits.now + length text.now ≤ LONGEST }
+    ensures ok { OnOk result (let front = front_of digits.now text.now in out.new.items ≡ out.old.items ++ front ++ trailer_after front) }
     ensures err { OnErr result ((tail : List ℕ) × (out.new.items ≡ out.old.items ++ tail)) }
 {
-    out.reserve(FIXED_LENGTH + digits.len() + len)?;
+    out.reserve(FIXED_LENGTH + digits.len() + text.len())?;
     let start = out.len();
     out.extend_from_slice(OPENING)?;
     out.extend_from_slice(digits)?;
     out.push(SOH)?;
-    push_fields(out, fields)?;
+    out.extend_from_slice(text)?;
     let sum = checksum_from(out, start);
     out.extend_from_slice(&trailer(sum))?;
     Ok(())
 }
 
-/// Bytes with the message of these fields after them, whose text has this length with these digits. The bytes are held here while they
-/// grow, so that each part of a field is a few machine instructions.
-fn with_message(
-    mut out: Vec<u8>,
-    len: usize,
-    digits: &[u8],
-    fields: &Fields,
-) -> (Vec<u8>, Result<(), AllocError>)
-    requires { FIXED_LENGTH + length digits.now + len ≤ LONGEST }
-    ensures ok { OnOk result.1 (let front = front_of digits.now (fields_text fields.now) in result.0.items ≡ out.items ++ front ++ trailer_after front) }
-    ensures err { OnErr result.1 ((tail : List ℕ) × (result.0.items ≡ out.items ++ tail)) }
-{
-    let pushed = push_message(&mut out, len, digits, fields);
-    (out, pushed)
-}
-
-/// The message of these fields, whose text has this length with these digits.
-fn message(alloc: Global, len: usize, digits: &[u8], fields: &Fields) -> Result<Vec<u8>, AllocError>
-    requires { FIXED_LENGTH + length digits.now + len ≤ LONGEST }
+/// The message of these fields, the length of whose text has these digits.
+fn message(alloc: Global, digits: &[u8], fields: &Fields) -> Result<Vec<u8>, AllocError>
+    requires { FIXED_LENGTH + length digits.now + length (fields_text fields.now) ≤ LONGEST }
     ensures { IfOk result (λ v. let front = front_of digits.now (fields_text fields.now) in v.items ≡ front ++ trailer_after front) }
 {
-    let (out, pushed) = with_message(Vec::new(alloc), len, digits, fields);
-    pushed?;
+    let mut text = Vec::new(alloc);
+    push_fields(&mut text, fields)?;
+    let mut out = Vec::new(alloc);
+    push_message(&mut out, digits, &text)?;
     Ok(out)
 }
 
@@ -275,29 +259,25 @@ pub fn encode(alloc: Global, fields: &Fields) -> Result<Vec<u8>, EncodeError>
         Err(fault) => return Err(fault),
     };
     let mut digits = Buffer::new();
-    match message(alloc, len, digits.format(len).as_bytes(), fields) {
+    match message(alloc, digits.format(len).as_bytes(), fields) {
         Ok(out) => Ok(out),
         Err(_) => Err(EncodeError::Memory),
     }
 }
 
 /// Appends the message of fields that have no fault, so that none is looked for.
-pub fn encode_onto(alloc: Global, output: &mut Vec<u8>, fields: &Fields) -> Result<(), AllocError>
+pub fn encode_onto(output: &mut Vec<u8>, fields: &BodyText) -> Result<(), AllocError>
     requires { fault_of fields.now ≡ None }
     ensures message { OnOk result (output.new.items ≡ output.old.items ++ message_of fields.now) }
     ensures whole { IsWhole (message_of fields.now) }
     ensures refused { OnErr result (output.new.items ≡ output.old.items) }
 {
-    let Some(len) = body_length(fields) else {
-        unreachable!();
-    };
+    let text = fields.text();
     let mut digits = Buffer::new();
     let start = output.len();
-    let held = mem::replace(output, Vec::new(alloc));
-    let (mut held, pushed) = with_message(held, len, digits.format(len).as_bytes(), fields);
+    let pushed = push_message(output, digits.format(text.len()).as_bytes(), text);
     if pushed.is_err() {
-        held.truncate(start);
+        output.truncate(start);
     }
-    *output = held;
     pushed
 }

@@ -1,11 +1,12 @@
 //! Fields in order: tags with their values, which lie in one buffer.
-ghost use Rattle.std.specs.Prelude.{◌≡◌, false, ◌+◌, ◌≤◌, ◌<◌, List, ℕ, [], ◌∷◌, ◌++◌, length, take, drop, slice_get, Some, IfOk, OnOk, OnErr, IsTrue, ◌↔◌};
+ghost use Rattle.std.specs.Prelude.{◌≡◌, false, ◌+◌, ◌≤◌, ◌<◌, [], ◌∷◌, ◌++◌, length, take, drop, slice_get, Some, IfOk, OnOk, OnErr, IsTrue, ◌↔◌};
 ghost use Rattle.std.specs.Iterator.{YieldsFirstBy, item_count};
-ghost use Rattle.std.specs.List.{flat_map, list_any};
+ghost use Rattle.std.specs.List.{list_any};
 ghost use Rattle.gu_fix.specs.Encoding.{has_soh};
 ghost use Rattle.gu_fix.specs.Spans.{AreWithin, fields_in};
 ghost use Rattle.gu_fix.specs.TagValue.{TagValue, tag_value};
 
+use crate::body_text::BodyText;
 use crate::prefix::SOH;
 use std::alloc::{AllocError, Global};
 use std::marker::Model;
@@ -48,18 +49,6 @@ impl Span {
     }
 }
 
-/// Appends parts, one after another.
-#[inline(always)]
-fn extend_by_each(bytes: &mut Vec<u8>, parts: &[&[u8]]) -> Result<(), AllocError>
-    ensures ok { OnOk result (bytes.new.items ≡ bytes.old.items ++ flat_map (λ part. part.now) parts.now) }
-    ensures err { OnErr result ((tail : List ℕ) × (bytes.new.items ≡ bytes.old.items ++ tail)) }
-{
-    for part in parts {
-        bytes.extend_from_slice(part)?;
-    }
-    Ok(())
-}
-
 /// Fields in order. To a contract they are the list of their tags and values.
 #[derive(Drop)]
 pub struct Fields {
@@ -91,23 +80,12 @@ impl Fields {
         }
     }
 
-    /// No fields yet, with room for those of a message of so many bytes, sixteen bytes to a field.
-    pub fn with_room(alloc: Global, bytes: usize) -> Result<Self, AllocError>
-        ensures { IfOk result (λ fields. fields ≡ []) }
-    {
-        Ok(Fields {
-            bytes: Vec::with_capacity(alloc, bytes)?,
-            spans: Vec::with_capacity(alloc, bytes / 16)?,
-        })
-    }
-
-    /// No fields, with the room that these had.
-    pub fn cleared(mut self) -> Self
+    /// No fields yet of a body, with the room that these had.
+    pub fn into_room(self) -> BodyText
         ensures { result ≡ [] }
     {
-        self.bytes.clear();
-        self.spans.clear();
-        self
+        let Fields { bytes, spans } = self;
+        BodyText::over(bytes, spans)
     }
 
     /// The fields whose values lie there in a buffer.
@@ -171,20 +149,6 @@ impl Fields {
             start,
             len: value.len(),
         });
-        Ok(())
-    }
-
-    /// Appends a field whose value is these parts, one after another.
-    #[inline(always)]
-    pub fn push_joined(&mut self, tag: u32, parts: &[&[u8]]) -> Result<(), AllocError>
-        ensures ok { OnOk result (self.new ≡ self.old ++ tag_value tag (flat_map (λ part. part.now) parts.now) ∷ []) }
-        ensures err { OnErr result (self.new ≡ self.old) }
-    {
-        self.spans.reserve(1)?;
-        let start = self.bytes.len();
-        extend_by_each(&mut self.bytes, parts)?;
-        let len = self.bytes.len() - start;
-        self.spans.push_reserved(Span { tag, start, len });
         Ok(())
     }
 

@@ -1,6 +1,7 @@
 //! Frames and fields of FIX.
 #![tactic(auto)]
 
+mod body_text;
 mod encoding;
 mod error;
 mod feed;
@@ -13,6 +14,7 @@ mod splitting;
 mod tag;
 mod window;
 
+pub use body_text::BodyText;
 pub use encoding::{encode, encode_onto};
 pub use error::{EncodeError, FeedError, FieldFault, SessionRejectReason};
 pub use feed::Feed;

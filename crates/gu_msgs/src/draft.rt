@@ -13,7 +13,7 @@ ghost use Rattle.gu_msgs.specs.WrittenBodies.{number_field};
 use crate::moment_texts::moment_text;
 use crate::rejection::Rejection;
 use crate::tags::TEXT;
-use gu_fix::Fields;
+use gu_fix::BodyText;
 use gu_terms::{Day, Id, Moment, Price};
 use itoa::Buffer;
 use std::alloc::{AllocError, Global};
@@ -27,7 +27,7 @@ const ROOM: usize = 512;
 #[derive(Drop)]
 pub struct Draft {
     alloc: Global,
-    fields: Fields,
+    fields: BodyText,
 }
 
 impl Model for Draft {
@@ -48,12 +48,12 @@ impl Draft {
     pub fn new(alloc: Global) -> Result<Draft, AllocError>
         ensures { IfOk result (λ draft. draft ≡ []) }
     {
-        let fields = Fields::with_room(alloc, ROOM)?;
+        let fields = BodyText::with_room(alloc, ROOM)?;
         Ok(Draft { alloc, fields })
     }
 
     /// No fields yet, with the room of these.
-    pub fn over(alloc: Global, fields: Fields) -> Draft
+    pub fn over(alloc: Global, fields: BodyText) -> Draft
         ensures { result ≡ [] }
     {
         Draft {
@@ -145,7 +145,7 @@ impl Draft {
     }
 
     /// The fields.
-    pub fn into_fields(self) -> Fields
+    pub fn into_fields(self) -> BodyText
         ensures fields { result ≡ self }
         ensures plain { ArePlain self }
     {

@@ -20,7 +20,7 @@ use crate::tags::{
     BEGIN_SEQ_NO, END_SEQ_NO, GAP_FILL_FLAG, MSG_SEQ_NUM, NEW_SEQ_NO, ORIG_SENDING_TIME,
     POSS_DUP_FLAG, SENDER_COMP_ID, SENDING_TIME, TARGET_COMP_ID, TEST_REQ_ID, TEXT,
 };
-use gu_fix::{Fields, MSG_TYPE};
+use gu_fix::{BodyText, MSG_TYPE};
 use gu_terms::Moment;
 use std::alloc::{AllocError, Global};
 
@@ -122,7 +122,7 @@ fn push_message(draft: &mut Draft, message: &OutboundRef<'_>) -> Result<(), Allo
 
 /// The fields of a message in the room of a draft without fields, each with a value that can be encoded.
 #[inline(always)]
-fn fields_of(mut draft: Draft, message: &OutboundRef<'_>) -> Result<Fields, AllocError>
+fn fields_of(mut draft: Draft, message: &OutboundRef<'_>) -> Result<BodyText, AllocError>
     requires { draft ≡ [] }
     ensures written { IfOk result (λ fields. IsWritten (outbound_of message.now) fields) }
     ensures plain { IfOk result ArePlain }
@@ -133,7 +133,7 @@ fn fields_of(mut draft: Draft, message: &OutboundRef<'_>) -> Result<Fields, Allo
 
 /// The fields of a message in the room of a draft without fields. They can be encoded as a whole message, and are read back.
 #[inline(always)]
-fn written_in(draft: Draft, message: &OutboundRef<'_>) -> Result<Fields, AllocError>
+fn written_in(draft: Draft, message: &OutboundRef<'_>) -> Result<BodyText, AllocError>
     requires { draft ≡ [] }
     ensures written { IfOk result (λ fields. IsWritten (outbound_of message.now) fields) }
     ensures encodable { IfOk result (λ fields. fault_of fields ≡ None) }
@@ -144,7 +144,7 @@ fn written_in(draft: Draft, message: &OutboundRef<'_>) -> Result<Fields, AllocEr
 }
 
 /// The fields of a message. They can be encoded as a whole message, of 65,536 bytes at most, and are read back.
-pub fn write(alloc: Global, message: &Outbound) -> Result<Fields, AllocError>
+pub fn write(alloc: Global, message: &Outbound) -> Result<BodyText, AllocError>
     ensures written { IfOk result (λ fields. IsWritten message.now fields) }
     ensures encodable { IfOk result (λ fields. fault_of fields ≡ None) }
     ensures whole { IfOk result (λ fields. IsWhole (message_of fields)) }
@@ -157,9 +157,9 @@ pub fn write(alloc: Global, message: &Outbound) -> Result<Fields, AllocError>
 /// The same of a borrowed message, in the room of fields that aren't used any more.
 pub fn write_over(
     alloc: Global,
-    fields: Fields,
+    fields: BodyText,
     message: &OutboundRef<'_>,
-) -> Result<Fields, AllocError>
+) -> Result<BodyText, AllocError>
     ensures written { IfOk result (λ fields. IsWritten (outbound_of message.now) fields) }
     ensures encodable { IfOk result (λ fields. fault_of fields ≡ None) }
     ensures whole { IfOk result (λ fields. IsWhole (message_of fields)) }

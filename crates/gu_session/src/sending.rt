@@ -9,7 +9,7 @@ ghost use Rattle.gu_session.specs.Readiness.{sent_with};
 
 use crate::output::{Output, Taken};
 use crate::ready::Ready;
-use gu_fix::{Fields, encode_onto};
+use gu_fix::{BodyText, encode_onto};
 use gu_msgs::{OutboundRef, write_over};
 use gu_terms::Moment;
 use std::alloc::{AllocError, Global};
@@ -18,7 +18,7 @@ use std::mem;
 /// Writes messages, all in the same room for their fields.
 pub struct Pen {
     alloc: Global,
-    room: Fields,
+    room: BodyText,
 }
 
 impl Drop for Pen {
@@ -33,7 +33,7 @@ impl Pen {
     pub fn new(alloc: Global) -> Self {
         Pen {
             alloc,
-            room: Fields::new(alloc),
+            room: BodyText::new(alloc),
         }
     }
 
@@ -42,9 +42,9 @@ impl Pen {
         ensures pushed { OnOk result (FollowsText (outbound_of message.now) output.old.items output.new.items) }
         ensures refused { OnErr result (output.new.items ≡ output.old.items) }
     {
-        let room = mem::replace(&mut self.room, Fields::new(self.alloc));
+        let room = mem::replace(&mut self.room, BodyText::new(self.alloc));
         let fields = write_over(self.alloc, room, message)?;
-        encode_onto(self.alloc, output, &fields)?;
+        encode_onto(output, &fields)?;
         self.room = fields;
         Ok(())
     }

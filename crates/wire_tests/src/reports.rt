@@ -113,7 +113,7 @@ fn ack_to(w: &Values, firm: FirmId, words: &str) -> Option<Outbound> {
 fn on_the_wire(alloc: Global, message: &Outbound) -> Result<String, AllocError> {
     let fields = write(alloc, message)?;
     let mut output = Vec::from_slice(alloc, b"x")?;
-    encode_onto(alloc, &mut output, &fields)?;
+    encode_onto(&mut output, &fields)?;
     shown(alloc, &output)
 }
 

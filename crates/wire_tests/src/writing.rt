@@ -20,9 +20,9 @@ fn at_nine(w: &Values, body: Body) -> Outbound {
 
 /// The fields of a message that is written in the room of longer ones, as a text.
 fn written(alloc: Global, message: &Outbound) -> Result<String, AllocError> {
-    let room = fields_of(alloc, "{58=a longer text than any other|*30}")?;
+    let room = fields_of(alloc, "{58=a longer text than any other|*30}")?.into_room();
     let fields = write_over(alloc, room, &message.as_ref())?;
-    text_of(alloc, &fields)
+    text_of(alloc, &fields.into_fields())
 }
 
 /// What a message that is sent at nine is written as, but for those parts of the header that each has, where it has them.
@@ -57,7 +57,7 @@ fn message_of(w: &Values, words: &str) -> Outbound {
 /// What the message of a row is written as.
 pub fn told(alloc: Global, w: &Values, words: &str) -> Result<String, AllocError> {
     let fields = write(alloc, &message_of(w, words))?;
-    text_of(alloc, &fields)
+    text_of(alloc, &fields.into_fields())
 }
 
 #[test]

@@ -1,6 +1,6 @@
 use Rattle.std.proofs.Common.{◌≡◌, ◌++◌, List, ℕ, take}
 use Rattle.std.specs.List.{flat_map}
-use Rattle.gu_fix.proofs.field.extend_by_each.Given as goal
+use Rattle.gu_fix.proofs.body_text.extend_by_each.Given as goal
 
 abbrev pub invariant-loop-part : goal.invariant-loop-part
 invariant-loop-part l = record {

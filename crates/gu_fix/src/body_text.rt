@@ -1,0 +1,139 @@
+//! The body of a message that is being written: its fields, as a message has them.
+ghost use Rattle.std.specs.Prelude.{◌≡◌, ◌+◌, List, ℕ, [], ◌∷◌, ◌++◌, length, IfOk, OnOk, OnErr};
+ghost use Rattle.std.specs.Fmt.{decimal};
+ghost use Rattle.std.specs.List.{flat_map};
+ghost use Rattle.gu_fix.specs.Encoding.{field_text, fields_text};
+ghost use Rattle.gu_fix.specs.TagValue.{tag_value};
+
+use crate::encoding::push_tag;
+use crate::field::{Fields, Span};
+use crate::prefix::SOH;
+use std::alloc::{AllocError, Global};
+use std::marker::Model;
+
+/// Appends parts, one after another.
+#[inline(always)]
+fn extend_by_each(bytes: &mut Vec<u8>, parts: &[&[u8]]) -> Result<(), AllocError>
+    ensures ok { OnOk result (bytes.new.items ≡ bytes.old.items ++ flat_map (λ part. part.now) parts.now) }
+    ensures err { OnErr result ((tail : List ℕ) × (bytes.new.items ≡ bytes.old.items ++ tail)) }
+{
+    for part in parts {
+        bytes.extend_from_slice(part)?;
+    }
+    Ok(())
+}
+
+/// Appends the text of a field whose value is these parts, one after another, and returns where the value begins.
+#[inline(always)]
+fn push_parts(text: &mut Vec<u8>, tag: u32, parts: &[&[u8]]) -> Result<usize, AllocError>
+    ensures ok { OnOk result (text.new.items ≡ text.old.items ++ field_text (tag_value tag (flat_map (λ part. part.now) parts.now))) }
+    ensures start { IfOk result (λ start. start ≡ length text.old.items + length (decimal tag) + 1) }
+    ensures err { OnErr result ((tail : List ℕ) × (text.new.items ≡ text.old.items ++ tail)) }
+{
+    push_tag(text, tag)?;
+    let start = text.len();
+    extend_by_each(text, parts)?;
+    text.push(SOH)?;
+    Ok(start)
+}
+
+/// The fields of a body, which are kept as their text in a message. To a contract they are the list of their tags and values.
+#[derive(Drop)]
+pub struct BodyText {
+    text: Vec<u8>,
+    /// Where the values lie in the text.
+    spans: Vec<Span>,
+}
+
+impl Model for BodyText {
+    ghost use Rattle.std.specs.Prelude.{List};
+    ghost use Rattle.gu_fix.specs.TagValue.{TagValue};
+
+    ghost Value = { List TagValue };
+
+    ghost use Rattle.gu_fix.specs.Spans.{fields_in, AreSpelled};
+
+    ghost view = { λ b. fields_in b.text.items b.spans.items };
+
+    ghost invariant = { λ b. AreSpelled b.text.items b.spans.items };
+}
+
+impl BodyText {
+    /// No fields.
+    pub fn new(alloc: Global) -> Self
+        ensures { result ≡ [] }
+    {
+        BodyText {
+            text: Vec::new(alloc),
+            spans: Vec::new(alloc),
+        }
+    }
+
+    /// No fields yet, with room for a text of so many bytes, sixteen bytes to a field.
+    pub fn with_room(alloc: Global, bytes: usize) -> Result<Self, AllocError>
+        ensures { IfOk result (λ body. body ≡ []) }
+    {
+        Ok(BodyText {
+            text: Vec::with_capacity(alloc, bytes)?,
+            spans: Vec::with_capacity(alloc, bytes / 16)?,
+        })
+    }
+
+    /// No fields, in the room of others.
+    pub(crate) fn over(mut text: Vec<u8>, mut spans: Vec<Span>) -> Self
+        ensures { result ≡ [] }
+    {
+        text.clear();
+        spans.clear();
+        BodyText { text, spans }
+    }
+
+    /// No fields, with the room that these had.
+    pub fn cleared(self) -> Self
+        ensures { result ≡ [] }
+    {
+        let BodyText { text, spans } = self;
+        BodyText::over(text, spans)
+    }
+
+    /// Appends a field whose value is these parts, one after another.
+    #[inline(always)]
+    pub fn push_joined(&mut self, tag: u32, parts: &[&[u8]]) -> Result<(), AllocError>
+        ensures ok { OnOk result (self.new ≡ self.old ++ tag_value tag (flat_map (λ part. part.now) parts.now) ∷ []) }
+        ensures err { OnErr result (self.new ≡ self.old) }
+    {
+        self.spans.reserve(1)?;
+        let had = self.text.len();
+        let Ok(start) = push_parts(&mut self.text, tag, parts) else {
+            self.text.truncate(had);
+            return Err(AllocError);
+        };
+        let len = self.text.len() - 1 - start;
+        self.spans.push_reserved(Span::new(tag, start, len));
+        Ok(())
+    }
+
+    /// Appends a field with this value.
+    #[inline(always)]
+    pub fn push(&mut self, tag: u32, value: &[u8]) -> Result<(), AllocError>
+        ensures ok { OnOk result (self.new ≡ self.old ++ tag_value tag value.now ∷ []) }
+        ensures err { OnErr result (self.new ≡ self.old) }
+    {
+        self.push_joined(tag, &[value])
+    }
+
+    /// Their text in a message.
+    pub(crate) fn text(&self) -> &[u8]
+        ensures { result.now ≡ fields_text self.now }
+    {
+        &self.text
+    }
+
+    /// The same fields, to be looked at one by one.
+    pub fn into_fields(self) -> Fields
+        ensures { result ≡ self }
+    {
+        let BodyText { text, spans } = self;
+        Fields::lying_in(text, spans)
+    }
+}
