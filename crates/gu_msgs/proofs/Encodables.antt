@@ -16,6 +16,7 @@ use Rattle.gu_msgs.specs.Written.{IsWritten, MarksResend, body_fields, header_fi
 use Rattle.gu_msgs.specs.WrittenBodies.{give_up_status, number_field, optional_field, reason_fields, report_status}
 use Rattle.gu_msgs.specs.declared.coded_values.BusinessRejectReason.{BusinessRejectReason}
 use Rattle.gu_msgs.specs.declared.coded_values.BusinessRejectReason.TheVariants.{Other, UnsupportedMessageType}
+use Rattle.gu_msgs.specs.declared.outbound.Application.TheVariants as application
 use Rattle.gu_msgs.specs.declared.outbound.Body.{Body}
 use Rattle.gu_msgs.specs.declared.outbound.Body.TheVariants as body
 use Rattle.gu_msgs.specs.declared.outbound.Outbound.{Outbound}
@@ -63,13 +64,13 @@ body_laid_out (body.Reject m) = reject_laid_out (m.ref_tag_id == 0) m.ref_seq_nu
 body_laid_out (body.SequenceReset to) = refl
 body_laid_out (body.Logout None) = refl
 body_laid_out (body.Logout (Some reason)) = refl
-body_laid_out (body.BusinessMessageReject m) = reason_laid_out m.ref_seq_num m.reason
-body_laid_out (body.TradeCaptureReportAck m) = report_laid_out m.trade_report_id m.trd_match_id m.rejection
-body_laid_out (body.AllocationInstructionAck m) = give_up_laid_out m.alloc_id m.rejection
-body_laid_out (body.TradeCaptureReport m) = refl
-body_laid_out (body.AllocationReport m) = refl
-body_laid_out (body.RequestForPositionsAck m) = refl
-body_laid_out (body.PositionReport m) = refl
+body_laid_out (body.Application (application.BusinessMessageReject m)) = reason_laid_out m.ref_seq_num m.reason
+body_laid_out (body.Application (application.TradeCaptureReportAck m)) = report_laid_out m.trade_report_id m.trd_match_id m.rejection
+body_laid_out (body.Application (application.AllocationInstructionAck m)) = give_up_laid_out m.alloc_id m.rejection
+body_laid_out (body.Application (application.TradeCaptureReport m)) = refl
+body_laid_out (body.Application (application.AllocationReport m)) = refl
+body_laid_out (body.Application (application.RequestForPositionsAck m)) = refl
+body_laid_out (body.Application (application.PositionReport m)) = refl
 
 -- so have the marks of a resend
 marks_laid_out : (first : Option ℕ) (marks : List TagValue) → MarksResend first marks → HaveTags marks × (length marks ≤ 2)

@@ -18,6 +18,7 @@ use Rattle.gu_msgs.specs.declared.coded_values.PosReqResult.{PosReqResult}
 use Rattle.gu_msgs.specs.declared.coded_values.PosReqResult.TheVariants.{ValidRequest, NoPositionsFound, NotAuthorized}
 use Rattle.gu_msgs.specs.declared.inbound.RequestForPositions.{RequestForPositions}
 use Rattle.gu_msgs.specs.declared.inbound.TradeCaptureReport.{TradeCaptureReport}
+use Rattle.gu_msgs.specs.declared.outbound.Application.TheVariants as application
 use Rattle.gu_msgs.specs.declared.outbound.Body.{Body}
 use Rattle.gu_msgs.specs.declared.outbound.Body.TheVariants as body
 use Rattle.gu_msgs.specs.declared.rejection.Rejection.{Rejection}
@@ -33,7 +34,7 @@ rejection_of (Denied refusal) = Some (rejection.Refused refusal)
 -- the acknowledgement of a report with these ids that was taken, or was rejected so
 abbrev pub report_ack : List ℕ → List ℕ → Option Rejection → Body
 report_ack id match_id rejection =
-    body.TradeCaptureReportAck (record { trade_report_id = id; trd_match_id = match_id; rejection = rejection })
+    body.Application (application.TradeCaptureReportAck (record { trade_report_id = id; trd_match_id = match_id; rejection = rejection }))
 
 -- the acknowledgement of a report
 abbrev pub answer_to : TradeCaptureReport → Option Rejection → Body
@@ -41,13 +42,13 @@ answer_to report rejection = report_ack report.trade_report_id report.trd_match_
 
 -- the acknowledgement of a give-up with this id
 abbrev pub give_up_ack : List ℕ → Option Rejection → Body
-give_up_ack id rejection = body.AllocationInstructionAck (record { alloc_id = id; rejection = rejection })
+give_up_ack id rejection = body.Application (application.AllocationInstructionAck (record { alloc_id = id; rejection = rejection }))
 
 -- a word on an offer, by the message with this number, is answered only where it was rejected; else its notice tells
 abbrev pub offer_answer : ℕ → ℕ → Option Rejection → Option Body
 offer_answer offer number None = None
 offer_answer offer number (Some rejection) =
-    Some (body.BusinessMessageReject (record { ref_seq_num = number; reason = Other offer rejection }))
+    Some (body.Application (application.BusinessMessageReject (record { ref_seq_num = number; reason = Other offer rejection })))
 
 -- the answer to the message with this number that asked for a command, which was done, or was rejected so; a question for
 -- positions asks for none
@@ -73,11 +74,11 @@ is_done _ _ = false
 -- the acknowledgement of a question for positions
 abbrev pub positions_ack : RequestForPositions → PosReqResult → Body
 positions_ack m outcome =
-    body.RequestForPositionsAck (record { pos_req_id = m.pos_req_id; outcome = outcome; account = m.account })
+    body.Application (application.RequestForPositionsAck (record { pos_req_id = m.pos_req_id; outcome = outcome; account = m.account }))
 
 -- the report of a position, at its place among those of the question
 abbrev pub position_report : RequestForPositions → Day → ℕ → PositionRow → Body
-position_report m day place row = body.PositionReport (record {
+position_report m day place row = body.Application (application.PositionReport (record {
   pos_req_id = m.pos_req_id;
   place = place;
   clearing_business_date = day;
@@ -85,7 +86,7 @@ position_report m day place row = body.PositionReport (record {
   symbol = row.symbol;
   long_qty = row.long;
   short_qty = row.short;
-})
+}))
 
 -- a report for each row, with places from this one on
 abbrev pub reports_from : RequestForPositions → Day → ℕ → List PositionRow → List Body
@@ -110,7 +111,7 @@ positions_answer m (Some told) = told_on m told.day told.rows.items
 
 -- a report that is a side of a trade since this entry
 abbrev pub matched_body : ℕ → Report → Body
-matched_body entry report = body.TradeCaptureReport (record {
+matched_body entry report = body.Application (application.TradeCaptureReport (record {
   entry = entry;
   trade_report_ref_id = report.id;
   trd_match_id = report.match_id;
@@ -120,11 +121,11 @@ matched_body entry report = body.TradeCaptureReport (record {
   trade_date = report.day;
   side = report.side;
   account = report.account;
-})
+}))
 
 -- an event of an offer
 abbrev pub offer_body : OfferNotice → Body
-offer_body notice = body.AllocationReport (record {
+offer_body notice = body.Application (application.AllocationReport (record {
   alloc_report_id = notice.offer;
   event = notice.event;
   symbol = notice.symbol;
@@ -133,7 +134,7 @@ offer_body notice = body.AllocationReport (record {
   avg_px = notice.price;
   trade_date = notice.day;
   account = notice.account;
-})
+}))
 
 -- the message that a notice is sent as
 abbrev pub notice_body : Notice → Body

@@ -5,6 +5,8 @@ use Rattle.gu_fix.specs.TagValue.{TagValue, tag_value}
 use Rattle.gu_fix.specs.declared.tag.TheConstants.{MSG_TYPE}
 use Rattle.gu_msgs.specs.CodedValues.{logout_text}
 use Rattle.gu_msgs.specs.MomentTexts.{WritesMoment}
+use Rattle.gu_msgs.specs.declared.outbound.Application.{Application}
+use Rattle.gu_msgs.specs.declared.outbound.Application.TheVariants as application
 use Rattle.gu_msgs.specs.declared.outbound.Body.{Body}
 use Rattle.gu_msgs.specs.declared.outbound.Body.TheVariants as body
 use Rattle.gu_msgs.specs.declared.outbound.Outbound.{Outbound}
@@ -22,6 +24,16 @@ outbound_of m = record {
   body = m.body.now;
 }
 
+-- the code of an application message's type
+abbrev pub application_code : Application → List ℕ
+application_code (application.BusinessMessageReject m) = codes "j"
+application_code (application.TradeCaptureReportAck m) = codes "AR"
+application_code (application.AllocationInstructionAck m) = codes "P"
+application_code (application.TradeCaptureReport m) = codes "AE"
+application_code (application.AllocationReport m) = codes "AS"
+application_code (application.RequestForPositionsAck m) = codes "AO"
+application_code (application.PositionReport m) = codes "AP"
+
 -- the code of a message's type
 abbrev pub body_code : Body → List ℕ
 body_code (body.Logon interval resets) = codes "A"
@@ -31,13 +43,17 @@ body_code (body.ResendRequest from) = codes "2"
 body_code (body.Reject m) = codes "3"
 body_code (body.SequenceReset to) = codes "4"
 body_code (body.Logout reason) = codes "5"
-body_code (body.BusinessMessageReject m) = codes "j"
-body_code (body.TradeCaptureReportAck m) = codes "AR"
-body_code (body.AllocationInstructionAck m) = codes "P"
-body_code (body.TradeCaptureReport m) = codes "AE"
-body_code (body.AllocationReport m) = codes "AS"
-body_code (body.RequestForPositionsAck m) = codes "AO"
-body_code (body.PositionReport m) = codes "AP"
+body_code (body.Application m) = application_code m
+
+-- what an application message says after its header
+abbrev pub application_fields : Application → List TagValue
+application_fields (application.BusinessMessageReject m) = business_fields m
+application_fields (application.TradeCaptureReportAck m) = report_ack_fields m
+application_fields (application.AllocationInstructionAck m) = instruction_ack_fields m
+application_fields (application.TradeCaptureReport m) = report_fields m
+application_fields (application.AllocationReport m) = allocation_fields m
+application_fields (application.RequestForPositionsAck m) = request_ack_fields m
+application_fields (application.PositionReport m) = position_fields m
 
 -- what a message says after its header
 abbrev pub body_fields : Body → List TagValue
@@ -48,13 +64,7 @@ body_fields (body.ResendRequest from) = number_field BEGIN_SEQ_NO from ∷ numbe
 body_fields (body.Reject m) = reject_fields m
 body_fields (body.SequenceReset to) = tag_value GAP_FILL_FLAG (codes "Y") ∷ number_field NEW_SEQ_NO to ∷ []
 body_fields (body.Logout reason) = optional_field TEXT (option_map_or (λ r. Some (logout_text r)) reason None)
-body_fields (body.BusinessMessageReject m) = business_fields m
-body_fields (body.TradeCaptureReportAck m) = report_ack_fields m
-body_fields (body.AllocationInstructionAck m) = instruction_ack_fields m
-body_fields (body.TradeCaptureReport m) = report_fields m
-body_fields (body.AllocationReport m) = allocation_fields m
-body_fields (body.RequestForPositionsAck m) = request_ack_fields m
-body_fields (body.PositionReport m) = position_fields m
+body_fields (body.Application m) = application_fields m
 
 -- the marks of a message that is sent again: that it is, and when it was sent first
 abbrev pub MarksResend : Option ℕ → List TagValue → Type 0

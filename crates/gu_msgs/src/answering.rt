@@ -7,8 +7,9 @@ use crate::asking::Question;
 use crate::coded_values::{BusinessRejectReason, PosReqResult};
 use crate::inbound::{RequestForPositions, TradeCaptureReport};
 use crate::outbound::{
-    AllocationInstructionAck, AllocationReport, Body, BusinessMessageReject, PositionReport,
-    RequestForPositionsAck, TradeCaptureReport as MatchedReport, TradeCaptureReportAck,
+    AllocationInstructionAck, AllocationReport, Application, Body, BusinessMessageReject,
+    PositionReport, RequestForPositionsAck, TradeCaptureReport as MatchedReport,
+    TradeCaptureReportAck,
 };
 use crate::rejection::Rejection;
 use gu_terms::{
@@ -39,21 +40,21 @@ pub fn answer_to(report: &TradeCaptureReport, rejection: Option<Rejection>) -> B
 fn report_ack(id: Id, match_id: Id, rejection: Option<Rejection>) -> Body
     ensures { result ≡ report_ack id match_id rejection }
 {
-    Body::TradeCaptureReportAck(TradeCaptureReportAck {
+    Body::Application(Application::TradeCaptureReportAck(TradeCaptureReportAck {
         trade_report_id: id,
         trd_match_id: match_id,
         rejection,
-    })
+    }))
 }
 
 /// The acknowledgement of a give-up with this id.
 fn give_up_ack(id: Id, rejection: Option<Rejection>) -> Body
     ensures { result ≡ give_up_ack id rejection }
 {
-    Body::AllocationInstructionAck(AllocationInstructionAck {
+    Body::Application(Application::AllocationInstructionAck(AllocationInstructionAck {
         alloc_id: id,
         rejection,
-    })
+    }))
 }
 
 /// The answer to a word on an offer, by the message with this number: only where it was rejected.
@@ -63,10 +64,10 @@ fn offer_answer(offer: OfferNo, number: u64, rejection: Option<Rejection>) -> Op
     let Some(rejection) = rejection else {
         return None;
     };
-    Some(Body::BusinessMessageReject(BusinessMessageReject {
+    Some(Body::Application(Application::BusinessMessageReject(BusinessMessageReject {
         ref_seq_num: number,
         reason: BusinessRejectReason::Other { offer, rejection },
-    }))
+    })))
 }
 
 impl Question {
@@ -104,18 +105,18 @@ impl Question {
 fn positions_ack(question: &RequestForPositions, outcome: PosReqResult) -> Body
     ensures { result ≡ positions_ack question.now outcome }
 {
-    Body::RequestForPositionsAck(RequestForPositionsAck {
+    Body::Application(Application::RequestForPositionsAck(RequestForPositionsAck {
         pos_req_id: question.pos_req_id,
         outcome,
         account: question.account,
-    })
+    }))
 }
 
 /// The report of a position, at its place among those of the question.
 fn position_report(question: &RequestForPositions, day: Day, place: u64, row: &PositionRow) -> Body
     ensures { result ≡ position_report question.now day place row.now }
 {
-    Body::PositionReport(PositionReport {
+    Body::Application(Application::PositionReport(PositionReport {
         pos_req_id: question.pos_req_id,
         place,
         clearing_business_date: day,
@@ -123,7 +124,7 @@ fn position_report(question: &RequestForPositions, day: Day, place: u64, row: &P
         symbol: row.symbol,
         long_qty: row.long,
         short_qty: row.short,
-    })
+    }))
 }
 
 /// Appends a report for each row.
@@ -193,7 +194,7 @@ pub fn positions_answer(
 fn matched_body(entry: u64, report: &Report) -> Body
     ensures { result ≡ matched_body entry report.now }
 {
-    Body::TradeCaptureReport(MatchedReport {
+    Body::Application(Application::TradeCaptureReport(MatchedReport {
         entry,
         trade_report_ref_id: report.id,
         trd_match_id: report.match_id,
@@ -203,14 +204,14 @@ fn matched_body(entry: u64, report: &Report) -> Body
         trade_date: report.day,
         side: report.side,
         account: report.account,
-    })
+    }))
 }
 
 /// The notice of an event of an offer.
 fn offer_body(notice: &OfferNotice) -> Body
     ensures { result ≡ offer_body notice.now }
 {
-    Body::AllocationReport(AllocationReport {
+    Body::Application(Application::AllocationReport(AllocationReport {
         alloc_report_id: notice.offer,
         event: notice.event,
         symbol: notice.symbol,
@@ -219,7 +220,7 @@ fn offer_body(notice: &OfferNotice) -> Body
         avg_px: notice.price,
         trade_date: notice.day,
         account: notice.account,
-    })
+    }))
 }
 
 /// The message that a notice is sent as.

@@ -96,6 +96,19 @@ pub struct PositionReport {
     pub short_qty: u64,
 }
 
+/// What an application message says after its header, by its type: any message but those that serve the session itself (FIX: MsgType j,
+/// AR, P, AE, AS, AO, AP).
+#[derive(Clone, Copy)]
+pub enum Application {
+    BusinessMessageReject(BusinessMessageReject),
+    TradeCaptureReportAck(TradeCaptureReportAck),
+    AllocationInstructionAck(AllocationInstructionAck),
+    TradeCaptureReport(TradeCaptureReport),
+    AllocationReport(AllocationReport),
+    RequestForPositionsAck(RequestForPositionsAck),
+    PositionReport(PositionReport),
+}
+
 /// What a message says after its header, by its type.
 #[derive(Drop)]
 pub enum Body {
@@ -112,13 +125,7 @@ pub enum Body {
     /// To this number.
     SequenceReset(u64),
     Logout(Option<LogoutReason>),
-    BusinessMessageReject(BusinessMessageReject),
-    TradeCaptureReportAck(TradeCaptureReportAck),
-    AllocationInstructionAck(AllocationInstructionAck),
-    TradeCaptureReport(TradeCaptureReport),
-    AllocationReport(AllocationReport),
-    RequestForPositionsAck(RequestForPositionsAck),
-    PositionReport(PositionReport),
+    Application(Application),
 }
 
 /// A message to a firm.

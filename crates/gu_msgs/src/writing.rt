@@ -7,14 +7,14 @@ ghost use Rattle.gu_fix.specs.TagValue.{TagValue, tag_value};
 ghost use Rattle.gu_fix.specs.WholeMessage.{IsWhole};
 ghost use Rattle.gu_msgs.specs.Encodable.{ArePlain, is_plain};
 ghost use Rattle.gu_msgs.specs.WrittenBodies.{number_field};
-ghost use Rattle.gu_msgs.specs.Written.{IsWritten, MarksResend, body_code, body_fields, outbound_of};
+ghost use Rattle.gu_msgs.specs.Written.{IsWritten, MarksResend, application_code, application_fields, body_code, body_fields, outbound_of};
 
 use crate::answer_fields::{
     push_instruction_ack, push_position, push_report_ack, push_request_ack,
 };
 use crate::draft::Draft;
 use crate::notice_fields::{push_allocation, push_report};
-use crate::outbound::{Body, Outbound, OutboundRef};
+use crate::outbound::{Application, Body, Outbound, OutboundRef};
 use crate::session_fields::{push_business_reject, push_logon, push_reject};
 use crate::tags::{
     BEGIN_SEQ_NO, END_SEQ_NO, GAP_FILL_FLAG, MSG_SEQ_NUM, NEW_SEQ_NO, ORIG_SENDING_TIME,
@@ -26,6 +26,24 @@ use std::alloc::{AllocError, Global};
 
 /// The house's name as a sender.
 const HOUSE: &[u8] = b"GIVEUP";
+
+impl Application {
+    /// The code of its type.
+    fn code(&self) -> &'static str
+        ensures code { result.now ≡ application_code self.now }
+        ensures plain { IsTrue (is_plain result.now) }
+    {
+        match self {
+            Application::BusinessMessageReject(_) => "j",
+            Application::TradeCaptureReportAck(_) => "AR",
+            Application::AllocationInstructionAck(_) => "P",
+            Application::TradeCaptureReport(_) => "AE",
+            Application::AllocationReport(_) => "AS",
+            Application::RequestForPositionsAck(_) => "AO",
+            Application::PositionReport(_) => "AP",
+        }
+    }
+}
 
 impl Body {
     /// The code of its type.
@@ -41,13 +59,7 @@ impl Body {
             Body::Reject(_) => "3",
             Body::SequenceReset(_) => "4",
             Body::Logout(_) => "5",
-            Body::BusinessMessageReject(_) => "j",
-            Body::TradeCaptureReportAck(_) => "AR",
-            Body::AllocationInstructionAck(_) => "P",
-            Body::TradeCaptureReport(_) => "AE",
-            Body::AllocationReport(_) => "AS",
-            Body::RequestForPositionsAck(_) => "AO",
-            Body::PositionReport(_) => "AP",
+            Body::Application(message) => message.code(),
         }
     }
 }
@@ -68,6 +80,21 @@ fn push_gap_fill(draft: &mut Draft, to: u64) -> Result<(), AllocError>
     draft.push_number(NEW_SEQ_NO, to)
 }
 
+/// Appends what an application message says.
+fn push_application(draft: &mut Draft, message: &Application) -> Result<(), AllocError>
+    ensures { OnOk result (draft.new ≡ draft.old ++ application_fields message.now) }
+{
+    match message {
+        Application::BusinessMessageReject(message) => push_business_reject(draft, message),
+        Application::TradeCaptureReportAck(message) => push_report_ack(draft, message),
+        Application::AllocationInstructionAck(message) => push_instruction_ack(draft, message),
+        Application::TradeCaptureReport(message) => push_report(draft, message),
+        Application::AllocationReport(message) => push_allocation(draft, message),
+        Application::RequestForPositionsAck(message) => push_request_ack(draft, message),
+        Application::PositionReport(message) => push_position(draft, message),
+    }
+}
+
 /// Appends what a message says.
 fn push_body(draft: &mut Draft, body: &Body) -> Result<(), AllocError>
     ensures { OnOk result (draft.new ≡ draft.old ++ body_fields body.now) }
@@ -84,13 +111,7 @@ fn push_body(draft: &mut Draft, body: &Body) -> Result<(), AllocError>
         Body::Reject(message) => push_reject(draft, message),
         Body::SequenceReset(to) => push_gap_fill(draft, *to),
         Body::Logout(Some(reason)) => draft.push(TEXT, reason.text().as_bytes()),
-        Body::BusinessMessageReject(message) => push_business_reject(draft, message),
-        Body::TradeCaptureReportAck(message) => push_report_ack(draft, message),
-        Body::AllocationInstructionAck(message) => push_instruction_ack(draft, message),
-        Body::TradeCaptureReport(message) => push_report(draft, message),
-        Body::AllocationReport(message) => push_allocation(draft, message),
-        Body::RequestForPositionsAck(message) => push_request_ack(draft, message),
-        Body::PositionReport(message) => push_position(draft, message),
+        Body::Application(message) => push_application(draft, message),
     }
 }
 

@@ -5,7 +5,7 @@ use Rattle.gu_msgs.specs.declared.outbound.Body.{Body}
 use Rattle.gu_session.specs.Applications.{application_of}
 use Rattle.gu_session.specs.Resending.{sent_within}
 use Rattle.gu_session.specs.Sending.{numbered, sent_in}
-use Rattle.gu_session.specs.declared.application.Application.{Application}
+use Rattle.gu_msgs.specs.declared.outbound.Application.{Application}
 use Rattle.gu_session.specs.declared.sent_ring.Sent.{Sent}
 use Rattle.gu_session.specs.Ascending.{AreWithin}
 

@@ -3,23 +3,11 @@ use Rattle.std.proofs.Common.{◌≡◌, inl, inr, ℕ, ◌+◌, ◌≤◌, Bool
 use Rattle.std.proofs.lemmas.List.{append-nil}
 use Rattle.gu_terms.specs.declared.firm.FirmId.{FirmId}
 use Rattle.gu_msgs.specs.declared.outbound.Outbound.{Outbound}
-use Rattle.gu_session.specs.Applications.{application_of, body_of}
+use Rattle.gu_session.specs.Applications.{application_of}
 use Rattle.gu_session.specs.Ascending.{AreWithin}
 use Rattle.gu_session.specs.Laws.{Covers, HasLongestRuns}
 use Rattle.gu_session.specs.Resending.{again, gap, gap_fill, with_gaps}
-use Rattle.gu_session.specs.declared.application.Application.{Application}
-use Rattle.gu_session.specs.declared.application.Application.TheVariants as application
 use Rattle.gu_session.specs.declared.sent_ring.Sent.{Sent}
-
--- what was kept is an application message
-pub is_application : (message : Application) → is_some (application_of (body_of message)) ≡ true
-is_application (application.BusinessMessageReject m) = refl
-is_application (application.TradeCaptureReportAck m) = refl
-is_application (application.AllocationInstructionAck m) = refl
-is_application (application.TradeCaptureReport m) = refl
-is_application (application.AllocationReport m) = refl
-is_application (application.RequestForPositionsAck m) = refl
-is_application (application.PositionReport m) = refl
 
 -- a gap fill, and what covers the numbers after it
 pub gap_then : (firm : FirmId) (now from mid to : ℕ) (messages : List Outbound) → from ≤ mid → Covers mid to messages → Covers from to (gap firm now from mid ++ messages)
@@ -34,7 +22,7 @@ pub covers_with_gaps : (firm : FirmId) (now from to : ℕ) (kept : List Sent) �
 covers_with_gaps firm now from to [] within = subst (λ (messages : List Outbound). Covers from to messages) (append-nil (gap firm now from to)) (gap_then firm now from to to [] within refl)
 covers_with_gaps firm now from to (sent ∷ later) (above, within) =
     gap_then firm now from sent.number to (again firm now sent ∷ with_gaps firm now (sent.number + 1) to later) above
-    (refl, sent.number + 1, inl (is_application sent.message, refl), covers_with_gaps firm now (sent.number + 1) to later within)
+    (refl, sent.number + 1, inl (refl, refl), covers_with_gaps firm now (sent.number + 1) to later within)
 
 -- an application message in front
 pub longest-again : (message : Outbound) (messages : List Outbound) → is_some (application_of message.body) ≡ true → HasLongestRuns messages → HasLongestRuns (message ∷ messages)
@@ -58,5 +46,5 @@ longest_with_gaps firm now from to [] =
       | false ↦ tt
     ]
 longest_with_gaps firm now from to (sent ∷ later) =
-    longest-gap firm now from sent.number (again firm now sent) (with_gaps firm now (sent.number + 1) to later) (is_application sent.message)
-    (longest-again (again firm now sent) (with_gaps firm now (sent.number + 1) to later) (is_application sent.message) (longest_with_gaps firm now (sent.number + 1) to later))
+    longest-gap firm now from sent.number (again firm now sent) (with_gaps firm now (sent.number + 1) to later) refl
+    (longest-again (again firm now sent) (with_gaps firm now (sent.number + 1) to later) refl (longest_with_gaps firm now (sent.number + 1) to later))

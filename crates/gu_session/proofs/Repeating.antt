@@ -8,7 +8,7 @@ use Rattle.gu_msgs.specs.declared.inbound.ResendRequest.{ResendRequest}
 use Rattle.gu_msgs.specs.declared.outbound.Body.{Body}
 use Rattle.gu_msgs.specs.declared.outbound.Body.TheVariants as body
 use Rattle.gu_msgs.specs.declared.outbound.Outbound.{Outbound}
-use Rattle.gu_session.specs.Applications.{application_of, body_of}
+use Rattle.gu_session.specs.Applications.{application_of}
 use Rattle.gu_session.specs.Encoded.{Sends}
 use Rattle.gu_session.specs.Laws.{IsAmong, IsOnceMore, ResendsWhatWasSent, WasSent}
 use Rattle.gu_session.specs.Resending.{again, behind_last, gap, gap_fill, sent_within, with_gaps}
@@ -16,7 +16,7 @@ use Rattle.gu_session.specs.Runs.{if_again, new_message, repeated_message}
 use Rattle.gu_session.specs.Sending.{ending_of, given_by, is_over, new_of, numbered, repeats_of, sent_in}
 use Rattle.gu_session.specs.States.{SessionState}
 use Rattle.gu_session.specs.Steps.{responses_of}
-use Rattle.gu_session.specs.declared.application.Application.{Application}
+use Rattle.gu_msgs.specs.declared.outbound.Application.{Application}
 use Rattle.gu_session.specs.declared.sent_ring.Sent.{Sent}
 use Rattle.gu_session.specs.declared.plan.Course.{Course}
 use Rattle.gu_session.specs.declared.plan.Course.TheVariants.{Stay, Leave, Go}
@@ -24,32 +24,22 @@ use Rattle.gu_session.specs.declared.plan.Handed.{Handed}
 use Rattle.gu_session.specs.declared.plan.Plan.{Plan}
 use Rattle.gu_session.proofs.KeepingOn.{keeps_the_last}
 
--- a message that some is
-pub back : (known message : Application) → Some message ≡ Some known → body_of message ≡ body_of known
-back known message same = let one : message ≡ known = cc in ap body_of one
-
--- an application message is the message that it is of
-pub body_of-application : (content : Body) (message : Application) → application_of content ≡ Some message → body_of message ≡ content
-body_of-application (body.Logon interval resets) message is = absurd (cc)
-body_of-application (body.Heartbeat id) message is = absurd (cc)
-body_of-application body.TestRequest message is = absurd (cc)
-body_of-application (body.ResendRequest from) message is = absurd (cc)
-body_of-application (body.Reject m) message is = absurd (cc)
-body_of-application (body.SequenceReset to) message is = absurd (cc)
-body_of-application (body.Logout reason) message is = absurd (cc)
-body_of-application (body.BusinessMessageReject m) message is = back _ message (sym is)
-body_of-application (body.TradeCaptureReportAck m) message is = back _ message (sym is)
-body_of-application (body.AllocationInstructionAck m) message is = back _ message (sym is)
-body_of-application (body.TradeCaptureReport m) message is = back _ message (sym is)
-body_of-application (body.AllocationReport m) message is = back _ message (sym is)
-body_of-application (body.RequestForPositionsAck m) message is = back _ message (sym is)
-body_of-application (body.PositionReport m) message is = back _ message (sym is)
+-- the message whose application message is known
+pub application_is : (content : Body) (message : Application) → application_of content ≡ Some message → body.Application message ≡ content
+application_is (body.Logon interval resets) message is = absurd (cc)
+application_is (body.Heartbeat id) message is = absurd (cc)
+application_is body.TestRequest message is = absurd (cc)
+application_is (body.ResendRequest from) message is = absurd (cc)
+application_is (body.Reject m) message is = absurd (cc)
+application_is (body.SequenceReset to) message is = absurd (cc)
+application_is (body.Logout reason) message is = absurd (cc)
+application_is (body.Application known) message is = cc
 
 -- what is kept of a message
 pub record IsKeptOf (sent : Sent) (message : Outbound) : Type 0 where
   pub number : sent.number ≡ message.msg_seq_num
   pub time : sent.time ≡ message.sending_time
-  pub content : body_of sent.message ≡ message.body
+  pub content : body.Application sent.message ≡ message.body
 
 -- of each of these one message is kept
 abbrev pub AreKeptOf : List Outbound → List Sent → Type 0
@@ -65,7 +55,7 @@ pub kept-one : (message : Outbound) (messages : List Outbound) (found : Option A
     AreKeptOf messages (filter_map sent_in messages) → AreKeptOf (message ∷ messages) (filter_map sent_in (message ∷ messages))
 kept-one message messages None is rest = rw is (kept-more message messages (filter_map sent_in messages) rest)
 kept-one message messages (Some found) is rest =
-    rw is (inl (record { number = refl; time = refl; content = body_of-application message.body found is }), kept-more message messages (filter_map sent_in messages) rest)
+    rw is (inl (record { number = refl; time = refl; content = application_is message.body found is }), kept-more message messages (filter_map sent_in messages) rest)
 
 pub kept-all : (messages : List Outbound) → AreKeptOf messages (filter_map sent_in messages)
 kept-all [] = tt

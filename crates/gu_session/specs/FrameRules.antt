@@ -13,6 +13,7 @@ use Rattle.gu_msgs.specs.declared.inbound.Inbound.{Inbound}
 use Rattle.gu_msgs.specs.declared.inbound.Inbound.TheVariants as inbound
 use Rattle.gu_msgs.specs.declared.inbound.ResendRequest.{ResendRequest}
 use Rattle.gu_msgs.specs.declared.outbound.Body.{Body}
+use Rattle.gu_msgs.specs.declared.outbound.Application.TheVariants as application
 use Rattle.gu_msgs.specs.declared.outbound.Body.TheVariants as body
 use Rattle.gu_msgs.specs.declared.reject_reason.SessionRejectReason.{SessionRejectReason}
 use Rattle.gu_msgs.specs.declared.reject_reason.SessionRejectReason.TheVariants.{CompIdProblem, ValueIsIncorrect}
@@ -87,7 +88,7 @@ on_message at heading number (inbound.SequenceReset m) = on_gap_fill at heading 
 on_message at heading number inbound.Logout = leaves at (body.Logout None ∷ [])
 on_message at heading number (inbound.Logon m) = leaves at (body.Logout (Some logout.LoggedOn) ∷ [])
 on_message at heading number (inbound.Unread code) =
-    says at (body.BusinessMessageReject (record { ref_seq_num = number; reason = UnsupportedMessageType code }) ∷ [])
+    says at (body.Application (application.BusinessMessageReject (record { ref_seq_num = number; reason = UnsupportedMessageType code })) ∷ [])
 on_message at heading number message = on_request at number (request_of at.firm message) (question_in message)
 
 -- a message of the right parties, or its fault

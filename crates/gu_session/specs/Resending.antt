@@ -4,7 +4,6 @@ use Rattle.gu_terms.specs.declared.firm.FirmId.{FirmId}
 use Rattle.gu_msgs.specs.declared.inbound.ResendRequest.{ResendRequest}
 use Rattle.gu_msgs.specs.declared.outbound.Body.TheVariants as body
 use Rattle.gu_msgs.specs.declared.outbound.Outbound.{Outbound}
-use Rattle.gu_session.specs.Applications.{body_of}
 use Rattle.gu_session.specs.declared.sent_ring.Sent.{Sent}
 
 -- a message that was kept once more: with its number, what it said, and the moment of its first sending
@@ -14,7 +13,7 @@ again firm now sent = record {
   msg_seq_num = sent.number;
   sending_time = now;
   orig_sending_time = Some sent.time;
-  body = body_of sent.message;
+  body = body.Application sent.message;
 }
 
 -- a gap fill that stands for all numbers from one up to another

@@ -12,7 +12,7 @@ use Rattle.gu_session.specs.Encoded.{Response, Sends, Hands, Closes}
 use Rattle.gu_session.specs.Resending.{resent}
 use Rattle.gu_session.specs.SeqNums.{greatest}
 use Rattle.gu_session.specs.States.{SessionState}
-use Rattle.gu_session.specs.declared.application.Application.{Application}
+use Rattle.gu_msgs.specs.declared.outbound.Application.{Application}
 use Rattle.gu_session.specs.declared.sent_ring.Sent.{Sent}
 use Rattle.gu_session.specs.declared.plan.Handed.{Handed}
 use Rattle.gu_session.specs.declared.plan.Plan.{Plan}

@@ -2,6 +2,7 @@
 
 ghost use Rattle.std.specs.Prelude.{◌≡◌, IfOk};
 ghost use Rattle.gu_msgs.specs.declared.coded_values.BusinessRejectReason.TheVariants.{UnsupportedMessageType};
+ghost use Rattle.gu_msgs.specs.declared.outbound.Application.TheVariants as application;
 ghost use Rattle.gu_msgs.specs.declared.outbound.Body.TheVariants as body;
 ghost use Rattle.gu_session.specs.FrameRules.{as_expected, is_sender, on_content, on_gap_fill, on_message, on_request, wrong_party};
 
@@ -11,7 +12,7 @@ use crate::messages::Messages;
 use crate::plan::Plan;
 use crate::rejecting::reject;
 use crate::seq_num::SeqNum;
-use gu_msgs::outbound::{Body, BusinessMessageReject};
+use gu_msgs::outbound::{Application, Body, BusinessMessageReject};
 use gu_msgs::{
     BusinessRejectReason, Fault, Inbound, LogoutReason, NEW_SEQ_NO, Question, Request,
     SENDER_COMP_ID, SessionRejectReason, TARGET_COMP_ID, TypeCode,
@@ -83,12 +84,12 @@ fn on_request(
 
 /// The answer to a message of a type that isn't read.
 fn unsupported(number: SeqNum, code: TypeCode) -> Body
-    ensures { result ≡ body.BusinessMessageReject (record { ref_seq_num = number; reason = UnsupportedMessageType code }) }
+    ensures { result ≡ body.Application (application.BusinessMessageReject (record { ref_seq_num = number; reason = UnsupportedMessageType code })) }
 {
-    Body::BusinessMessageReject(BusinessMessageReject {
+    Body::Application(Application::BusinessMessageReject(BusinessMessageReject {
         ref_seq_num: number.get(),
         reason: BusinessRejectReason::UnsupportedMessageType(code),
-    })
+    }))
 }
 
 /// A sound message.

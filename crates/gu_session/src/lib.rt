@@ -2,7 +2,6 @@
 #![tactic(auto)]
 
 mod answers;
-mod application;
 mod ask_ref;
 mod carrying;
 mod content;

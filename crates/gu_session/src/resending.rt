@@ -21,7 +21,7 @@ fn again(firm: FirmId, now: Moment, sent: &Sent) -> Outbound
         msg_seq_num: sent.number.get(),
         sending_time: now,
         orig_sending_time: Some(sent.time),
-        body: sent.message.body(),
+        body: Body::Application(sent.message),
     }
 }
 

@@ -9,10 +9,10 @@ ghost use Rattle.gu_session.specs.SeqNums.{IsSeqNum};
 ghost use Rattle.gu_session.specs.Ascending.{AreBelow, AreFrom, IsAscending};
 ghost use Rattle.gu_session.specs.Sound.{extended};
 
-use crate::application::Application;
 use crate::seq_num::SeqNum;
 use circular_buffer::HeapCircularBuffer;
 use gu_msgs::OutboundRef;
+use gu_msgs::outbound::{Application, Body};
 use gu_terms::Moment;
 use std::alloc::{AllocError, Global};
 use std::marker::Model;
@@ -131,11 +131,13 @@ fn sent_in(message: &OutboundRef<'_>) -> Option<Sent>
     requires { IsSeqNum message.now.msg_seq_num }
     ensures { result ≡ sent_in (outbound_of message.now) }
 {
-    let application = Application::of(message.body)?;
+    let Body::Application(application) = message.body else {
+        return None;
+    };
     let number = SeqNum::new(message.msg_seq_num)?;
     Some(Sent {
         number,
         time: message.sending_time,
-        message: application,
+        message: *application,
     })
 }

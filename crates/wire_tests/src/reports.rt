@@ -4,7 +4,7 @@ use crate::reading::{answer, fields_in};
 use crate::rows::{Subject, check, first_word, number};
 use crate::words::{Values, rejection_of};
 use gu_fix::encode_onto;
-use gu_msgs::outbound::{Body, TradeCaptureReportAck};
+use gu_msgs::outbound::{Application, Body, TradeCaptureReportAck};
 use gu_msgs::{Outbound, midnight_of, sender, write};
 use gu_terms::{FirmId, Id};
 use std::alloc::{AllocError, Global};
@@ -101,11 +101,11 @@ fn ack_to(w: &Values, firm: FirmId, words: &str) -> Option<Outbound> {
         msg_seq_num: number(seq_num),
         sending_time: midnight_of(w.day),
         orig_sending_time: None,
-        body: Body::TradeCaptureReportAck(TradeCaptureReportAck {
+        body: Body::Application(Application::TradeCaptureReportAck(TradeCaptureReportAck {
             trade_report_id: Id::new(id.as_bytes())?,
             trd_match_id: w.match_id,
             rejection: rejection_of(w, outcome),
-        }),
+        })),
     })
 }
 
