@@ -125,7 +125,7 @@ impl<H: House, C> Connection<H, C> {
             × AnswersAsked H.rules now self.old asked text self.new) }
     {
         let Asked { what, reference } = asked;
-        let outcome = self.house.answer(what)?;
+        let outcome = self.house.answer(what.into_inner())?;
         let _ = self.take(Input::Answer(reference, outcome), now, output)?;
         Ok(())
     }

@@ -34,4 +34,5 @@ pub use laws::{
     references_go_up, resends_what_was_sent, serves_what_is_asked,
 };
 pub use output::{Asked, Output, Taken};
+pub use plan::BoxedRequest;
 pub use session::Session;

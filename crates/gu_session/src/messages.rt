@@ -37,7 +37,7 @@ impl Messages {
         ensures { IfOk result (λ messages. messages ≡ body ∷ []) }
     {
         let mut bodies = Vec::with_capacity(alloc, 1)?;
-        bodies.push(body)?;
+        bodies.push_reserved(body);
         Ok(Messages { bodies })
     }
 
@@ -46,8 +46,8 @@ impl Messages {
         ensures { IfOk result (λ messages. messages ≡ first ∷ second ∷ []) }
     {
         let mut bodies = Vec::with_capacity(alloc, 2)?;
-        bodies.push(first)?;
-        bodies.push(second)?;
+        bodies.push_reserved(first);
+        bodies.push_reserved(second);
         Ok(Messages { bodies })
     }
 

@@ -3,13 +3,13 @@
 ghost use Rattle.std.specs.Prelude.{◌≡◌, None, true, false};
 
 use crate::ask_ref::AskRef;
-use gu_msgs::Request;
+use crate::plan::BoxedRequest;
 
 /// What a session hands out.
 #[derive(Drop)]
 pub struct Asked {
     /// A command to enter, or a question.
-    pub what: Request,
+    pub what: BoxedRequest,
     /// What to name in the answer.
     pub reference: AskRef,
 }

@@ -53,11 +53,45 @@ impl Handing {
         self.boxed.waiting
     }
 
-    /// What is handed out.
-    pub fn into_handed(self) -> Handed
+    /// What is asked of the house.
+    pub fn into_request(self) -> BoxedRequest
+        ensures { result ≡ self.request }
+    {
+        BoxedRequest { boxed: self.boxed }
+    }
+}
+
+/// A request in the box in which it is handed out. To a contract it is the request.
+#[derive(Drop)]
+pub struct BoxedRequest {
+    boxed: Box<Handed>,
+}
+
+impl Model for BoxedRequest {
+    ghost use Rattle.gu_msgs.specs.declared.asking.Request.{Request};
+
+    ghost Value = { Request };
+
+    ghost view = { λ b. b.boxed.value.request };
+}
+
+impl BoxedRequest {
+    /// The request.
+    pub fn get(&self) -> &Request
+        ensures { result.now ≡ self.now }
+    {
+        &self.boxed.request
+    }
+
+    /// The request, taken out.
+    pub fn into_inner(self) -> Request
         ensures { result ≡ self }
     {
-        Box::into_inner(self.boxed)
+        let Handed {
+            request,
+            waiting: _,
+        } = Box::into_inner(self.boxed);
+        request
     }
 }
 

@@ -14,7 +14,7 @@ use crate::course::{answer_course, frame_course, notice_course, tick_course};
 use crate::input::Input;
 use crate::logged_on::{LoggedOn, Waiting};
 use crate::output::{Asked, Taken};
-use crate::plan::{Course, Handed, Handing, Plan};
+use crate::plan::{Course, Handing, Plan};
 use crate::ready::{Prepared, Ready};
 use crate::sent_ring::SentRing;
 use gu_terms::{FirmId, Moment};
@@ -59,10 +59,11 @@ fn beginning() -> Moment
 fn asked_in(handed: Option<Handing>) -> Option<Asked>
     ensures { result ≡ asked_in handed }
 {
-    let Handed { request, waiting } = handed?.into_handed();
+    let handed = handed?;
+    let reference = handed.waiting().reference;
     Some(Asked {
-        what: request,
-        reference: waiting.reference,
+        what: handed.into_request(),
+        reference,
     })
 }
 

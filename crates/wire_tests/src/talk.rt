@@ -190,7 +190,7 @@ impl Talk {
     fn told(&self, alloc: Global) -> Result<String, AllocError> {
         match self.given.last() {
             Some(Output::Send(bytes)) => shown(alloc, bytes),
-            Some(Output::Hand(asked)) => request_text(alloc, &asked.what),
+            Some(Output::Hand(asked)) => request_text(alloc, asked.what.get()),
             Some(Output::Close) => String::from_str(alloc, "the end"),
             None => String::from_str(alloc, "nothing"),
         }
