@@ -20,7 +20,7 @@ use crate::tags::{
     BEGIN_SEQ_NO, END_SEQ_NO, GAP_FILL_FLAG, MSG_SEQ_NUM, NEW_SEQ_NO, ORIG_SENDING_TIME,
     POSS_DUP_FLAG, SENDER_COMP_ID, SENDING_TIME, TARGET_COMP_ID, TEST_REQ_ID, TEXT,
 };
-use gu_fix::{BodyText, MSG_TYPE};
+use gu_fix::{BodyText, Fields, MSG_TYPE};
 use gu_terms::Moment;
 use std::alloc::{AllocError, Global};
 
@@ -165,17 +165,18 @@ fn written_in(draft: Draft, message: &OutboundRef<'_>) -> Result<BodyText, Alloc
 }
 
 /// The fields of a message. They can be encoded as a whole message, of 65,536 bytes at most, and are read back.
-pub fn write(alloc: Global, message: &Outbound) -> Result<BodyText, AllocError>
+pub fn write(alloc: Global, message: &Outbound) -> Result<Fields, AllocError>
     ensures written { IfOk result (λ fields. IsWritten message.now fields) }
     ensures encodable { IfOk result (λ fields. fault_of fields ≡ None) }
     ensures whole { IfOk result (λ fields. IsWhole (message_of fields)) }
     ensures read_back { IfOk result (λ fields. HasFields (message_of fields) (fields_of_message fields) None) }
 {
     let draft = Draft::new(alloc)?;
-    written_in(draft, &message.as_ref())
+    let body = written_in(draft, &message.as_ref())?;
+    Ok(body.into_fields())
 }
 
-/// The same of a borrowed message, in the room of fields that aren't used any more.
+/// The same of a borrowed message, as the text that `gu_fix::encode_onto` takes, in the room of fields that aren't used any more.
 pub fn write_over(
     alloc: Global,
     fields: BodyText,

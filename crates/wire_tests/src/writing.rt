@@ -57,7 +57,7 @@ fn message_of(w: &Values, words: &str) -> Outbound {
 /// What the message of a row is written as.
 pub fn told(alloc: Global, w: &Values, words: &str) -> Result<String, AllocError> {
     let fields = write(alloc, &message_of(w, words))?;
-    text_of(alloc, &fields.into_fields())
+    text_of(alloc, &fields)
 }
 
 #[test]
