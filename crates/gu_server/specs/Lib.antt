@@ -1,2 +1,3 @@
 pub mod DayEnds
+pub mod Receipts
 pub mod SeatHouse

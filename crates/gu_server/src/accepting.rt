@@ -1,17 +1,16 @@
 //! Accepting connections, each for a thread of its own.
 
-use crate::floor::{Ended, Floor};
+use crate::crew::Crew;
+use crate::floor::Floor;
+use crate::seat_receipts::SeatReceipts;
 use crate::talking::{Call, talk};
 use crossbeam_channel::{Receiver, Sender};
-use gu_desk::{EntryLedger, LotLedger, Seat, SweepOrder};
+use gu_desk::{EntryLedger, LotLedger, SweepOrder};
 use gu_streams::StreamError;
-use std::net::TcpListener;
+use std::net::{TcpListener, TcpStream};
 use std::rt::Clock;
 use std::sync::Wait;
-use std::thread::{JoinHandle, Scope, Threads};
-
-/// The threads of connections, each of which hands back its seat, or nothing where it had no call.
-pub type Talkers<E, S> = Vec<JoinHandle<Option<Ended<E, S>>>>;
+use std::thread::{Scope, Threads};
 
 /// The ends of the channels by which threads are reached: where calls go, where they come from, and where orders to sweepers go.
 pub struct Ends<E: EntryLedger, S: LotLedger> {
@@ -35,7 +34,7 @@ fn answer_call<'a, E: EntryLedger, S: LotLedger, R: Wait + Clock>(
     floor: &Floor<'a, E, S, R>,
     calls: Receiver<Call<E, S>>,
     orders: Sender<SweepOrder>,
-) -> Option<Ended<E, S>> {
+) -> Option<SeatReceipts<E, S>> {
     match calls.recv(floor.rt) {
         Ok(call) => {
             drop(calls);
@@ -60,40 +59,43 @@ fn start_talker<
     scope: &Scope<'s, X>,
     floor: &'s Floor<'s, E, S, R>,
     ends: &Ends<E, S>,
-    talkers: &mut Talkers<E, S>,
+    crew: &mut Crew<E, S>,
 ) -> Result<(), StreamError> {
-    talkers.reserve(1)?;
+    crew.reserve()?;
     let calls = ends.from.clone()?;
     let orders = ends.orders.clone()?;
     match scope.spawn(move || answer_call(floor, calls, orders)) {
         Ok(talker) => {
-            talkers.push_reserved(talker);
+            crew.add(talker);
             Ok(())
         }
         Err(_) => Err(StreamError::Memory),
     }
 }
 
-/// Gives a call to a thread that waits for one. Where it can't be given, the seat comes back.
+/// Gives a connection, with a seat, to a thread that waits for one. Where it can't be given, the seat is put back.
 fn send_call<E: EntryLedger, S: LotLedger, R: Wait>(
     floor: &Floor<'_, E, S, R>,
     ends: &Ends<E, S>,
-    seats: &mut Vec<Seat<E, S>>,
-    call: Call<E, S>,
+    crew: &mut Crew<E, S>,
+    stream: TcpStream,
 ) -> Result<(), StreamError> {
-    match ends.to.send(floor.rt, call) {
+    let Some(seat) = crew.take_seat() else {
+        return Ok(());
+    };
+    match ends.to.send(floor.rt, Call::new(stream, seat)) {
         Ok(()) => Ok(()),
         Err(refused) => {
             let (stream, seat) = refused.into_inner().into_parts();
             drop(stream);
-            let _ = seats.push(seat);
+            crew.put_back(seat);
             Err(StreamError::Memory)
         }
     }
 }
 
-/// Accepts a connection for each of so many calls: a thread is started first, so that the seat is given away only once a connection
-/// was accepted for it. The seats that are left stay where they are.
+/// Accepts a connection for each seat that no thread has: a thread is started first, so that the seat is given away only once a
+/// connection was accepted for it.
 pub fn accept_all<
     's,
     X,
@@ -105,17 +107,14 @@ pub fn accept_all<
     floor: &'s Floor<'s, E, S, R>,
     listener: &TcpListener,
     ends: &Ends<E, S>,
-    seats: &mut Vec<Seat<E, S>>,
-    talkers: &mut Talkers<E, S>,
+    crew: &mut Crew<E, S>,
 ) -> Result<(), StreamError> {
-    for _call in 0..seats.len() {
-        start_talker(scope, floor, ends, talkers)?;
+    for _call in 0..crew.idle() {
+        start_talker(scope, floor, ends, crew)?;
         let Ok((stream, _)) = listener.accept() else {
             return Err(StreamError::Read);
         };
-        if let Some(seat) = seats.pop() {
-            send_call(floor, ends, seats, Call::new(stream, seat))?;
-        }
+        send_call(floor, ends, crew, stream)?;
     }
     Ok(())
 }

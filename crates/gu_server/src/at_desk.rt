@@ -4,32 +4,30 @@ ghost use Rattle.std.specs.Prelude.{◌≡◌, ◌⊎◌, ◌+◌, ◌<◌, fals
 ghost use Rattle.gu_server.specs.SeatHouse.{IsEnteredAt, IsLeftOutAt};
 
 use crate::orders::Orders;
+use crate::seat_receipts::SeatReceipts;
 use crate::tally::Tally;
 use gu_book::{Answer, AskError, EnterError};
-use gu_desk::{Desk, EntryLedger, LotLedger, Seat};
+use gu_desk::{Desk, EntryLedger, LotLedger};
 use gu_engine::House;
 use gu_msgs::Request;
 use gu_session::{Failure, Outcome};
-use gu_terms::{Command, Entry, FirmId, Receipt, Stretch};
-use std::alloc::{AllocError, Global};
+use gu_terms::{Command, FirmId, Stretch};
+use std::alloc::AllocError;
 use std::marker::Model;
 use std::sync::Wait;
 
-/// A seat at a desk as a house, with the receipts of what was entered from it. To a contract it is the shares of the seat.
+/// A seat at a desk as a house. To a contract it is the shares of the seat.
 pub struct AtDesk<'a, E: EntryLedger, S: LotLedger, R: Wait> {
     rt: &'a R,
     desk: &'a Desk<E, S>,
     tally: &'a Tally,
-    seat: Seat<E, S>,
-    receipts: Vec<Receipt>,
+    seat: SeatReceipts<E, S>,
     orders: Orders,
 }
 
 impl<'a, E: EntryLedger, S: LotLedger, R: Wait> Drop for AtDesk<'a, E, S, R> {
     fn drop(self) {
-        let (seat, receipts) = self.into_parts();
-        drop(seat);
-        drop(receipts);
+        drop(self.into_seat());
     }
 }
 
@@ -42,13 +40,12 @@ impl<'a, E: EntryLedger, S: LotLedger, R: Wait> Model for AtDesk<'a, E, S, R> {
 }
 
 impl<'a, E: EntryLedger, S: LotLedger, R: Wait> AtDesk<'a, E, S, R> {
-    /// A seat from which nothing was entered for this connection yet.
+    /// A seat at a desk, whose give-ups count for these orders.
     pub fn new(
-        alloc: Global,
         rt: &'a R,
         desk: &'a Desk<E, S>,
         tally: &'a Tally,
-        seat: Seat<E, S>,
+        seat: SeatReceipts<E, S>,
         orders: Orders,
     ) -> Self
         ensures { result ≡ seat }
@@ -58,49 +55,43 @@ impl<'a, E: EntryLedger, S: LotLedger, R: Wait> AtDesk<'a, E, S, R> {
             desk,
             tally,
             seat,
-            receipts: Vec::new(alloc),
             orders,
         }
     }
 
-    /// The seat, and the receipts.
-    pub fn into_parts(self) -> (Seat<E, S>, Vec<Receipt>)
-        ensures { result.0 ≡ self.entry }
+    /// The seat, with the receipts.
+    pub fn into_seat(self) -> SeatReceipts<E, S>
+        ensures { result ≡ self.entry }
     {
         let AtDesk {
             rt: _,
             desk: _,
             tally: _,
             seat,
-            receipts,
             orders,
         } = self;
         drop(orders);
-        (seat, receipts)
+        seat
     }
 
-    /// Enters a command, for whose receipt there is room, and says what became of it.
+    /// Sends the order of what was entered last, if it is due.
+    fn order(&mut self)
+        ensures { self.new ≡ self.old }
+    {
+        if let Some(receipt) = self.seat.last() {
+            self.orders.note(self.rt, receipt);
+        }
+    }
+
+    /// Enters a command, and says what became of it.
     fn enter(&mut self, command: Command) -> Outcome
         ensures { IsEnteredAt E.reference E.opening self.old command result self.new ⊎ IsLeftOutAt self.old result self.new }
     {
-        // Room for the receipt first: once the command is entered, its receipt is kept without an allocation.
-        if self.receipts.reserve(1).is_err() {
-            return Outcome::Failed(Failure::Memory);
-        }
-        match self.desk.enter(self.rt, &mut self.seat, &command) {
-            Ok((number, reply)) => {
-                let reply = &reply;
-                let receipt = Receipt {
-                    number,
-                    entry: Entry::Asked {
-                        command,
-                        reply: *reply,
-                    },
-                };
+        match self.seat.enter(self.rt, self.desk, command) {
+            Ok(reply) => {
                 self.tally.add_entry();
-                self.orders.note(self.rt, &receipt);
-                self.receipts.push_reserved(receipt);
-                Outcome::Replied(*reply)
+                self.order();
+                Outcome::Replied(reply)
             }
             Err(EnterError::Full) => Outcome::Failed(Failure::Full),
             Err(EnterError::Memory) => Outcome::Failed(Failure::Memory),
@@ -116,7 +107,7 @@ impl<'a, E: EntryLedger, S: LotLedger, R: Wait> House for AtDesk<'a, E, S, R> {
     fn answer(&mut self, request: Request) -> Result<Outcome, AllocError> {
         match request {
             Request::Enter(command) => Ok(self.enter(command)),
-            Request::Ask(query) => match self.desk.ask(self.rt, &mut self.seat, query) {
+            Request::Ask(query) => match self.seat.ask(self.rt, self.desk, query) {
                 Ok(Answer::Positions(rows)) => Ok(Outcome::Positions(rows)),
                 Err(AskError::Memory) => Err(AllocError),
                 Ok(_) | Err(AskError::UnknownGroup) => Ok(Outcome::Positions(None)),
@@ -125,6 +116,6 @@ impl<'a, E: EntryLedger, S: LotLedger, R: Wait> House for AtDesk<'a, E, S, R> {
     }
 
     fn notices(&mut self, firm: &FirmId, from: u64) -> Result<Stretch, AllocError> {
-        self.desk.stretch(self.rt, &mut self.seat, *firm, from)
+        self.seat.stretch(self.rt, self.desk, *firm, from)
     }
 }

@@ -1,11 +1,12 @@
 //! The end of a day: the seats come back, the desk is closed, and there is a receipt for each entry.
 
-ghost use Rattle.std.specs.Prelude.{◌≡◌, ◌++◌, ◌≤◌, length, IfOk, Option, codes, decimal, is_none, string_bytes};
+ghost use Rattle.std.specs.Prelude.{◌≡◌, ◌++◌, ◌≤◌, length, sum_by, IfOk, OnOk, Option, codes, decimal, is_none, string_bytes};
 ghost use Rattle.gu_terms.specs.Histories.{lots_swept};
 ghost use Rattle.gu_desk.specs.declared.error.AuditFault.{AuditFault as FaultOf};
 ghost use Rattle.gu_server.specs.DayEnds.{Finds, audit_text, day_text};
+ghost use Rattle.gu_server.specs.Receipts.{AddsReceipts, HasReceipts};
 
-use crate::floor::Ended;
+use crate::seat_receipts::SeatReceipts;
 use crate::serving::Shift;
 use gu_book::Book;
 use gu_desk::{AuditFault, Desk, EntryLedger, LotLedger, Seat, audit};
@@ -86,19 +87,34 @@ impl Closed {
     }
 }
 
-/// Adds what a thread handed back to the seats and the receipts.
+/// Adds a seat and its receipts to seats and theirs.
 fn gather<E: EntryLedger, S: LotLedger>(
     seats: &mut Vec<Seat<E, S>>,
-    receipts: &mut Vec<Receipt>,
-    ended: Ended<E, S>,
-) -> Result<(), AllocError> {
-    let (seat, more) = ended.into_parts();
+    made: &mut Vec<Receipt>,
+    one: SeatReceipts<E, S>,
+) -> Result<(), AllocError>
+    requires { HasReceipts E.reference E.opening (sum_by (λ s. s.entries) seats.old.items) made.old.items }
+    ensures { OnOk result (HasReceipts E.reference E.opening (sum_by (λ s. s.entries) seats.new.items) made.new.items) }
+{
+    let (seat, mut more) = one.into_parts();
+    made.append(&mut more)?;
     seats.push(seat)?;
-    receipts.reserve(more.len())?;
-    for receipt in more {
-        receipts.push(receipt)?;
-    }
     Ok(())
+}
+
+/// The seats, and all their receipts.
+fn apart<E: EntryLedger, S: LotLedger>(
+    alloc: Global,
+    keeping: Vec<SeatReceipts<E, S>>,
+) -> Result<(Vec<Seat<E, S>>, Vec<Receipt>), AllocError>
+    ensures { IfOk result (λ r. HasReceipts E.reference E.opening (sum_by (λ s. s.entries) r.0.items) r.1.items) }
+{
+    let mut seats = Vec::with_capacity(alloc, keeping.len())?;
+    let mut made = Vec::new(alloc);
+    for one in keeping {
+        gather(&mut seats, &mut made, one)?;
+    }
+    Ok((seats, made))
 }
 
 /// Closes a desk with what its threads handed back. The receipts come after those that there were before.
@@ -111,12 +127,13 @@ pub fn close<E: EntryLedger, S: LotLedger>(
     ensures reference { IfOk result (λ closed. closed.book.reference ≡ E.reference) }
     ensures entries { IfOk result (λ closed. E.opening ≤ length closed.book.history) }
     ensures lots { IfOk result (λ closed. S.opening ≤ lots_swept closed.book.history) }
+    ensures receipts { IfOk result (λ closed. AddsReceipts E.reference E.opening receipts.items
+        closed.book.history closed.receipts.items) }
+    ensures count { length receipts.items ≡ E.opening → IfOk result (λ closed. length closed.receipts.items ≡ length closed.book.history) }
 {
-    let (ended, fault) = shift.into_parts();
-    let mut seats = Vec::with_capacity(alloc, ended.len())?;
-    for end in ended {
-        gather(&mut seats, &mut receipts, end)?;
-    }
+    let (keeping, fault) = shift.into_parts();
+    let (seats, mut made) = apart(alloc, keeping)?;
+    receipts.append(&mut made)?;
     match desk.close(seats) {
         Ok(book) => Ok(Closed {
             book,

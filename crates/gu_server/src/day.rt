@@ -1,11 +1,15 @@
 //! A day of the server.
 
-ghost use Rattle.std.specs.Prelude.{◌≡◌, ◌+◌, ◌≤◌, length, IfOk};
+ghost use Rattle.std.specs.Prelude.{◌≡◌, ◌+◌, ◌≤◌, All, length, IfOk};
 ghost use Rattle.gu_terms.specs.Histories.{lots_swept};
+ghost use Rattle.gu_desk.specs.Totals.{IsEmpty};
+ghost use Rattle.gu_server.specs.Receipts.{AddsReceipts};
 
 use crate::closing::{Closed, close};
 use crate::floor::Floor;
-use crate::serving::{SWEEPERS, shift_at};
+use crate::seat_receipts::SeatReceipts;
+use crate::serving::shift_at;
+use crate::sweeping::SWEEPERS;
 use crate::tally::Tally;
 use gu_book::Book;
 use gu_desk::{Desk, EntryLedger, LotLedger, Seat};
@@ -50,6 +54,7 @@ fn opened<E: EntryLedger, S: LotLedger>(
     requires opening { (length book.history ≡ E.opening) × (lots_swept book.history ≡ S.opening) }
     requires entries { (entries.name ≡ E.name) × (entries.parts ≡ E.parts) × (entries.parts ≡ seats + 1) }
     requires swept { (swept.name ≡ S.name) × (swept.parts ≡ S.parts) × (swept.parts ≡ seats + 1) }
+    ensures { IfOk result (λ r. All IsEmpty r.1.items) }
 {
     match Desk::new(alloc, book, seats, entries, swept) {
         Ok(made) => Ok(made),
@@ -58,6 +63,20 @@ fn opened<E: EntryLedger, S: LotLedger>(
             Err(refused)
         }
     }
+}
+
+/// Seats that keep their receipts.
+fn with_receipts<E: EntryLedger, S: LotLedger>(
+    alloc: Global,
+    seats: Vec<Seat<E, S>>,
+) -> Result<Vec<SeatReceipts<E, S>>, AllocError>
+    requires { All IsEmpty seats.items }
+{
+    let mut keeping = Vec::with_capacity(alloc, seats.len())?;
+    for seat in seats {
+        keeping.push(SeatReceipts::new(alloc, seat))?;
+    }
+    Ok(keeping)
 }
 
 /// Opens a desk over a book, serves the connections that come to a listener, and closes the desk after the last one. The listener is
@@ -83,6 +102,11 @@ pub fn serve_day<
     // What the book had at the opening it still has.
     ensures entries { IfOk result (λ closed. E.opening ≤ length closed.book.history) }
     ensures lots { IfOk result (λ closed. S.opening ≤ lots_swept closed.book.history) }
+
+    // There is a receipt for each entry that was made since; and for each entry of the book, if there was one for each at the opening.
+    ensures receipts { IfOk result (λ closed. AddsReceipts E.reference E.opening opening.receipts.items
+        closed.book.history closed.receipts.items) }
+    ensures count { length opening.receipts.items ≡ E.opening → IfOk result (λ closed. length closed.receipts.items ≡ length closed.book.history) }
 {
     let Opening {
         book,
@@ -95,6 +119,7 @@ pub fn serve_day<
     let firms = Vec::from_slice(alloc, book.reference().firms())?;
     let tally = Tally::new();
     let (desk, seats) = opened::<E, S>(alloc, book, connections + SWEEPERS, entries, swept)?;
+    let seats = with_receipts(alloc, seats)?;
     let floor = Floor {
         rt,
         alloc,
@@ -105,5 +130,5 @@ pub fn serve_day<
     };
     let shift = shift_at(&floor, listener, seats, terminal);
     drop(floor);
-    close(alloc, desk, shift?, receipts)
+    close(alloc, desk, shift, receipts)
 }

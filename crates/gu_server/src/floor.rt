@@ -1,8 +1,8 @@
 //! What the threads of a server share.
 
 use crate::tally::Tally;
-use gu_desk::{Desk, EntryLedger, LotLedger, Seat};
-use gu_terms::{FirmId, Receipt};
+use gu_desk::{Desk, EntryLedger, LotLedger};
+use gu_terms::FirmId;
 use std::alloc::Global;
 
 /// What the threads of a server share: the desk, the firms that may log on, and the counts.
@@ -26,33 +26,5 @@ impl<'a, E: EntryLedger, S: LotLedger, R> Drop for Floor<'a, E, S, R> {
             tally: _,
             every: _,
         } = self;
-    }
-}
-
-/// What a thread hands back as it ends: its seat, and the receipts of what was entered from it.
-pub struct Ended<E: EntryLedger, S: LotLedger> {
-    seat: Seat<E, S>,
-    receipts: Vec<Receipt>,
-}
-
-// By hand, so that each exit of a caller drops it by one call.
-impl<E: EntryLedger, S: LotLedger> Drop for Ended<E, S> {
-    fn drop(self) {
-        let Ended { seat, receipts } = self;
-        drop(seat);
-        drop(receipts);
-    }
-}
-
-impl<E: EntryLedger, S: LotLedger> Ended<E, S> {
-    /// What a thread hands back that entered this from its seat.
-    pub fn new(seat: Seat<E, S>, receipts: Vec<Receipt>) -> Self {
-        Ended { seat, receipts }
-    }
-
-    /// The seat, and the receipts.
-    pub fn into_parts(self) -> (Seat<E, S>, Vec<Receipt>) {
-        let Ended { seat, receipts } = self;
-        (seat, receipts)
     }
 }

@@ -4,9 +4,11 @@
 mod accepting;
 mod at_desk;
 mod closing;
+mod crew;
 mod day;
 mod floor;
 mod orders;
+mod seat_receipts;
 mod serving;
 mod sweeping;
 mod talking;

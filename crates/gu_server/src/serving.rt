@@ -1,15 +1,16 @@
-//! The threads of a day: one for each connection, and two sweepers beside them.
+//! The threads of a day: one for each connection, and sweepers beside them.
 
 ghost use denote.Param.Send.{IsSend, IsSync};
 
-use crate::accepting::{Ends, Talkers, accept_all};
-use crate::floor::{Ended, Floor};
-use crate::sweeping::sweep_all;
+use crate::accepting::{Ends, accept_all};
+use crate::crew::Crew;
+use crate::floor::Floor;
+use crate::seat_receipts::SeatReceipts;
+use crate::sweeping::start_sweepers;
 use crate::telling::tell_all;
-use crossbeam_channel::Receiver;
-use gu_desk::{EntryLedger, LotLedger, Seat, SweepOrder};
+use crossbeam_channel::Sender;
+use gu_desk::{EntryLedger, LotLedger};
 use gu_streams::StreamError;
-use std::alloc::{AllocError, Global};
 use std::io::Write;
 use std::net::TcpListener;
 use std::rt::Clock;
@@ -17,59 +18,49 @@ use std::sync::Wait;
 use std::thread;
 use std::thread::{JoinHandle, Scope, Threads};
 
-/// How many sweepers there are.
-pub const SWEEPERS: usize = 2;
-
-/// The threads of sweepers.
-type Sweepers<E, S> = Vec<JoinHandle<Ended<E, S>>>;
-
-/// What came back from each seat, and why not every connection was accepted, where that is so.
+/// The seats after a shift, and why not every connection was accepted, where that is so.
 pub struct Shift<E: EntryLedger, S: LotLedger> {
-    ended: Vec<Ended<E, S>>,
+    seats: Vec<SeatReceipts<E, S>>,
     fault: Option<StreamError>,
 }
 
 // By hand, so that each exit of a caller drops it by one call.
 impl<E: EntryLedger, S: LotLedger> Drop for Shift<E, S> {
     fn drop(self) {
-        let Shift { ended, fault: _ } = self;
-        drop(ended);
+        let Shift { seats, fault: _ } = self;
+        drop(seats);
     }
 }
 
 impl<E: EntryLedger, S: LotLedger> Shift<E, S> {
-    /// What came back from each seat, and the fault.
-    pub fn into_parts(self) -> (Vec<Ended<E, S>>, Option<StreamError>) {
-        let Shift { ended, fault } = self;
-        (ended, fault)
+    /// The seats, and the fault.
+    pub fn into_parts(self) -> (Vec<SeatReceipts<E, S>>, Option<StreamError>) {
+        let Shift { seats, fault } = self;
+        (seats, fault)
     }
 }
 
-/// Starts the sweepers, each with a seat.
-fn start_sweepers<
-    's,
-    X,
-    E: EntryLedger + Send + Sync + 's,
-    S: LotLedger + Send + Sync + 's,
-    R: Threads + Wait + Sync,
->(
-    scope: &Scope<'s, X>,
-    floor: &'s Floor<'s, E, S, R>,
-    seats: &mut Vec<Seat<E, S>>,
-    orders: Receiver<SweepOrder>,
-) -> Result<Sweepers<E, S>, StreamError> {
-    let mut sweepers = Vec::new(floor.alloc);
-    for _sweeper in 0..SWEEPERS {
-        sweepers.reserve(1)?;
-        let from = orders.clone()?;
-        if let Some(seat) = seats.pop() {
-            match scope.spawn(move || sweep_all(floor, seat, from)) {
-                Ok(sweeper) => sweepers.push_reserved(sweeper),
-                Err(_) => return Err(StreamError::Memory),
-            }
-        }
+/// The thread that tells the counts at a terminal, until its channel's end here is gone.
+struct Teller {
+    until: Sender<()>,
+    thread: JoinHandle<()>,
+}
+
+impl Drop for Teller {
+    fn drop(self) {
+        let Teller { until, thread } = self;
+        drop(until);
+        drop(thread);
     }
-    Ok(sweepers)
+}
+
+impl Teller {
+    /// Waits until the last counts were told.
+    fn end<R: Threads>(self, rt: &R) {
+        let Teller { until, thread } = self;
+        drop(until);
+        thread.join(rt);
+    }
 }
 
 /// Starts the thread that tells the counts at a terminal, where there is one. Where it can't be started, they aren't told.
@@ -80,59 +71,19 @@ fn start_teller<
     S: LotLedger,
     R: Threads + Wait + Clock + Sync,
     T: Write + Send + Drop + 's,
->(
-    scope: &Scope<'s, X>,
-    floor: &'s Floor<'s, E, S, R>,
-    terminal: Option<T>,
-    until: Receiver<()>,
-) -> Option<JoinHandle<()>> {
+>(scope: &Scope<'s, X>, floor: &'s Floor<'s, E, S, R>, terminal: Option<T>) -> Option<Teller> {
     let mut terminal = terminal?;
     let rt = floor.rt;
     let tally = floor.tally;
-    scope
-        .spawn(move || tell_all(rt, tally, &mut terminal, &until))
-        .ok()
+    let (until, over) = crossbeam_channel::bounded(floor.alloc, 1).ok()?;
+    let thread = scope
+        .spawn(move || tell_all(rt, tally, &mut terminal, &over))
+        .ok()?;
+    Some(Teller { until, thread })
 }
 
-/// Waits for the threads of connections, and keeps what they hand back.
-fn join_talkers<E: EntryLedger, S: LotLedger, R: Threads>(
-    rt: &R,
-    talkers: Talkers<E, S>,
-    ended: &mut Vec<Ended<E, S>>,
-) -> Result<(), AllocError> {
-    for talker in talkers {
-        if let Some(end) = talker.join(rt) {
-            ended.push(end)?;
-        }
-    }
-    Ok(())
-}
-
-/// Waits for the sweepers, and keeps what they hand back.
-fn join_sweepers<E: EntryLedger, S: LotLedger, R: Threads>(
-    rt: &R,
-    sweepers: Sweepers<E, S>,
-    ended: &mut Vec<Ended<E, S>>,
-) -> Result<(), AllocError> {
-    for sweeper in sweepers {
-        ended.push(sweeper.join(rt))?;
-    }
-    Ok(())
-}
-
-/// Keeps the seats for which no connection came.
-fn keep_idle<E: EntryLedger, S: LotLedger>(
-    alloc: Global,
-    seats: Vec<Seat<E, S>>,
-    ended: &mut Vec<Ended<E, S>>,
-) -> Result<(), AllocError> {
-    for seat in seats {
-        ended.push(Ended::new(seat, Vec::new(alloc)))?;
-    }
-    Ok(())
-}
-
-/// Accepts the connections, and waits until they and then the sweepers have ended. Returns why not every connection was accepted.
+/// Starts the sweepers, and accepts the connections. When it returns, the port is closed, and its ends of the channels are gone: so
+/// threads that had no call end, and the sweepers end with the last connection.
 fn serve_calls<
     's,
     X,
@@ -143,25 +94,16 @@ fn serve_calls<
     scope: &Scope<'s, X>,
     floor: &'s Floor<'s, E, S, R>,
     listener: TcpListener,
-    seats: &mut Vec<Seat<E, S>>,
-    ended: &mut Vec<Ended<E, S>>,
-) -> Result<Option<StreamError>, StreamError> {
+    crew: &mut Crew<E, S>,
+) -> Result<(), StreamError> {
     let (orders, ordered) = crossbeam_channel::unbounded(floor.alloc)?;
-    let sweepers = start_sweepers(scope, floor, seats, ordered)?;
+    start_sweepers(scope, floor, ordered, crew)?;
     let (to, from) = crossbeam_channel::bounded(floor.alloc, 1)?;
     let ends = Ends { to, from, orders };
-    let mut talkers = Vec::new(floor.alloc);
-    let fault = accept_all(scope, floor, &listener, &ends, seats, &mut talkers).err();
-    // Who comes later finds the port closed.
-    drop(listener);
-    // With its ends the threads that had no call end, and with the last connection the sweepers.
-    drop(ends);
-    join_talkers(floor.rt, talkers, ended)?;
-    join_sweepers(floor.rt, sweepers, ended)?;
-    Ok(fault)
+    accept_all(scope, floor, &listener, &ends, crew)
 }
 
-/// Serves from these seats, one for each connection and each sweeper.
+/// Serves from these seats, one for each connection and each sweeper. Each seat comes back.
 fn run_all<
     's,
     X,
@@ -173,20 +115,17 @@ fn run_all<
     scope: &Scope<'s, X>,
     floor: &'s Floor<'s, E, S, R>,
     listener: TcpListener,
-    mut seats: Vec<Seat<E, S>>,
+    seats: Vec<SeatReceipts<E, S>>,
     terminal: Option<T>,
-) -> Result<Shift<E, S>, StreamError> {
-    // Room for what each seat hands back, so that nothing is lost then.
-    let mut ended = Vec::with_capacity(floor.alloc, seats.len())?;
-    let (over, until) = crossbeam_channel::bounded(floor.alloc, 1)?;
-    let teller = start_teller(scope, floor, terminal, until);
-    let fault = serve_calls(scope, floor, listener, &mut seats, &mut ended)?;
-    drop(over);
+) -> Shift<E, S> {
+    let teller = start_teller(scope, floor, terminal);
+    let mut crew = Crew::new(floor.alloc, seats);
+    let fault = serve_calls(scope, floor, listener, &mut crew).err();
+    let seats = crew.join(floor.rt);
     if let Some(teller) = teller {
-        teller.join(floor.rt);
+        teller.end(floor.rt);
     }
-    keep_idle(floor.alloc, seats, &mut ended)?;
-    Ok(Shift { ended, fault })
+    Shift { seats, fault }
 }
 
 /// Serves connections that come to a listener, one from each seat but the sweepers', until the last has ended.
@@ -198,13 +137,13 @@ pub fn shift_at<
 >(
     floor: &Floor<'_, E, S, R>,
     listener: TcpListener,
-    seats: Vec<Seat<E, S>>,
+    seats: Vec<SeatReceipts<E, S>>,
     terminal: Option<T>,
-) -> Result<Shift<E, S>, StreamError> {
+) -> Shift<E, S> {
     thread::scope(
         thread::scope_env(),
         floor.rt,
-        |scope| -> Result<Shift<E, S>, StreamError>
+        |scope| -> Shift<E, S>
             requires { IsSync R.row × IsSend E.row × IsSync E.row × IsSend S.row × IsSync S.row × IsSend T.row }
         { run_all(scope, floor, listener, seats, terminal) },
     )

@@ -1,51 +1,129 @@
-//! The thread of a sweeper.
+//! The threads of sweepers.
 
-use crate::floor::{Ended, Floor};
-use crossbeam_channel::Receiver;
-use gu_desk::{Direct, EntryLedger, LotLedger, Seat, SweepOrder};
-use gu_terms::{Entry, Group, Receipt};
+use crate::crew::Crew;
+use crate::floor::Floor;
+use crate::seat_receipts::SeatReceipts;
+use crossbeam_channel::{Receiver, Sender};
+use gu_desk::{EntryLedger, LotLedger, SweepOrder};
+use gu_streams::StreamError;
 use std::sync::Wait;
+use std::thread::{Scope, Threads};
 
-/// How often a sweep is tried at most.
-const TRIES: u32 = 3;
+/// How many sweepers there are.
+pub const SWEEPERS: usize = 2;
 
-/// The lots of a sweep.
-fn lots_of(receipt: &Receipt) -> u64 {
-    match &receipt.entry {
-        Entry::Swept(sweep) => sweep.lots,
-        Entry::Asked { .. } => 0,
+/// The ends of the channels by which sweepers are reached: where their seats go, where these come from, and where orders come from.
+pub struct SweeperEnds<E: EntryLedger, S: LotLedger> {
+    pub to: Sender<SeatReceipts<E, S>>,
+    pub from: Receiver<SeatReceipts<E, S>>,
+    pub orders: Receiver<SweepOrder>,
+}
+
+// By hand, so that each exit of a caller drops it by one call.
+impl<E: EntryLedger, S: LotLedger> Drop for SweeperEnds<E, S> {
+    fn drop(self) {
+        let SweeperEnds { to, from, orders } = self;
+        drop(to);
+        drop(from);
+        drop(orders);
     }
 }
 
-/// Sweeps a group, where there is room for the receipt. A sweep that is refused is not made up for: an order that comes later may
-/// sweep what was left.
+/// Sweeps a group. A sweep that is refused is not made up for: an order that comes later may sweep what was left.
 fn sweep<E: EntryLedger, S: LotLedger, R: Wait>(
     floor: &Floor<'_, E, S, R>,
-    seat: &mut Seat<E, S>,
-    receipts: &mut Vec<Receipt>,
-    group: Group,
+    seat: &mut SeatReceipts<E, S>,
+    order: &SweepOrder,
 ) {
-    if receipts.reserve(1).is_err() {
-        return;
-    }
-    if let Ok(receipt) = floor
-        .desk
-        .sweep_until(floor.rt, seat, group, TRIES, &Direct)
-    {
-        floor.tally.add_sweep(lots_of(&receipt));
-        receipts.push_reserved(receipt);
+    if let Ok(lots) = seat.sweep(floor.rt, floor.desk, order.group()) {
+        floor.tally.add_sweep(lots);
     }
 }
 
 /// Sweeps the group of each order, until no connection is left that could send one.
-pub fn sweep_all<E: EntryLedger, S: LotLedger, R: Wait>(
+fn sweep_all<E: EntryLedger, S: LotLedger, R: Wait>(
     floor: &Floor<'_, E, S, R>,
-    mut seat: Seat<E, S>,
-    orders: Receiver<SweepOrder>,
-) -> Ended<E, S> {
-    let mut receipts = Vec::new(floor.alloc);
+    mut seat: SeatReceipts<E, S>,
+    orders: &Receiver<SweepOrder>,
+) -> SeatReceipts<E, S> {
     for order in orders.iter(floor.rt) {
-        sweep(floor, &mut seat, &mut receipts, order.group());
+        sweep(floor, &mut seat, &order);
     }
-    Ended::new(seat, receipts)
+    seat
+}
+
+/// Waits for a seat, and sweeps from it.
+fn take_orders<E: EntryLedger, S: LotLedger, R: Wait>(
+    floor: &Floor<'_, E, S, R>,
+    seats: Receiver<SeatReceipts<E, S>>,
+    orders: Receiver<SweepOrder>,
+) -> Option<SeatReceipts<E, S>> {
+    let seat = seats.recv(floor.rt).ok()?;
+    drop(seats);
+    Some(sweep_all(floor, seat, &orders))
+}
+
+/// Starts the thread of a sweeper.
+fn start_sweeper<
+    's,
+    X,
+    E: EntryLedger + Send + Sync + 's,
+    S: LotLedger + Send + Sync + 's,
+    R: Threads + Wait + Sync,
+>(
+    scope: &Scope<'s, X>,
+    floor: &'s Floor<'s, E, S, R>,
+    ends: &SweeperEnds<E, S>,
+    crew: &mut Crew<E, S>,
+) -> Result<(), StreamError> {
+    crew.reserve()?;
+    let seats = ends.from.clone()?;
+    let orders = ends.orders.clone()?;
+    match scope.spawn(move || take_orders(floor, seats, orders)) {
+        Ok(sweeper) => {
+            crew.add(sweeper);
+            Ok(())
+        }
+        Err(_) => Err(StreamError::Memory),
+    }
+}
+
+/// Gives a seat to a sweeper that waits for one. Where it can't be given, it is put back.
+fn seat_sweeper<E: EntryLedger, S: LotLedger, R: Wait>(
+    floor: &Floor<'_, E, S, R>,
+    ends: &SweeperEnds<E, S>,
+    crew: &mut Crew<E, S>,
+) -> Result<(), StreamError> {
+    let Some(seat) = crew.take_seat() else {
+        return Ok(());
+    };
+    match ends.to.send(floor.rt, seat) {
+        Ok(()) => Ok(()),
+        Err(refused) => {
+            crew.put_back(refused.into_inner());
+            Err(StreamError::Memory)
+        }
+    }
+}
+
+/// Starts the sweepers. A seat is given away only once there is a thread for it.
+pub fn start_sweepers<
+    's,
+    X,
+    E: EntryLedger + Send + Sync + 's,
+    S: LotLedger + Send + Sync + 's,
+    R: Threads + Wait + Sync,
+>(
+    scope: &Scope<'s, X>,
+    floor: &'s Floor<'s, E, S, R>,
+    orders: Receiver<SweepOrder>,
+    crew: &mut Crew<E, S>,
+) -> Result<(), StreamError> {
+    let (to, from) = crossbeam_channel::bounded(floor.alloc, 1)?;
+    let ends = SweeperEnds { to, from, orders };
+    for _sweeper in 0..SWEEPERS {
+        start_sweeper(scope, floor, &ends, crew)?;
+        seat_sweeper(floor, &ends, crew)?;
+    }
+    Ok(())
 }

@@ -1,11 +1,12 @@
 //! The thread of a connection.
 
 use crate::at_desk::AtDesk;
-use crate::floor::{Ended, Floor};
+use crate::floor::Floor;
 use crate::orders::Orders;
+use crate::seat_receipts::SeatReceipts;
 use crate::timed::{LogonTimer, Timed};
 use crossbeam_channel::Sender;
-use gu_desk::{EntryLedger, LotLedger, Seat, SweepOrder};
+use gu_desk::{EntryLedger, LotLedger, SweepOrder};
 use gu_engine::{Connection, SystemClock, converse};
 use gu_streams::{CountedReads, StreamError};
 use std::io;
@@ -30,7 +31,7 @@ const LAST_READS: u32 = 1_000_000;
 /// A connection that was accepted, and the seat from which it is served.
 pub struct Call<E: EntryLedger, S: LotLedger> {
     stream: TcpStream,
-    seat: Seat<E, S>,
+    seat: SeatReceipts<E, S>,
 }
 
 // By hand, so that each exit of a caller drops it by one call.
@@ -44,12 +45,12 @@ impl<E: EntryLedger, S: LotLedger> Drop for Call<E, S> {
 
 impl<E: EntryLedger, S: LotLedger> Call<E, S> {
     /// A connection, and the seat from which it is served.
-    pub fn new(stream: TcpStream, seat: Seat<E, S>) -> Self {
+    pub fn new(stream: TcpStream, seat: SeatReceipts<E, S>) -> Self {
         Call { stream, seat }
     }
 
     /// The connection, and its seat.
-    pub fn into_parts(self) -> (TcpStream, Seat<E, S>) {
+    pub fn into_parts(self) -> (TcpStream, SeatReceipts<E, S>) {
         let Call { stream, seat } = self;
         (stream, seat)
     }
@@ -117,14 +118,13 @@ pub fn talk<'a, E: EntryLedger, S: LotLedger, R: Wait + Clock>(
     floor: &Floor<'a, E, S, R>,
     call: Call<E, S>,
     orders: Sender<SweepOrder>,
-) -> Ended<E, S> {
+) -> SeatReceipts<E, S> {
     let (stream, seat) = call.into_parts();
     floor.tally.begin();
     let orders = Orders::new(orders, floor.every);
-    let house = AtDesk::new(floor.alloc, floor.rt, floor.desk, floor.tally, seat, orders);
+    let house = AtDesk::new(floor.rt, floor.desk, floor.tally, seat, orders);
     let (house, result) = exchange(floor, house, &stream);
     drop(stream);
     floor.tally.end(result.is_err());
-    let (seat, receipts) = house.into_parts();
-    Ended::new(seat, receipts)
+    house.into_seat()
 }

@@ -1,0 +1,50 @@
+-- Receipts: one more, and those of two seats together.
+use Rattle.std.proofs.Common.{◌≡◌, ℕ, ◌+◌, ◌<◌, ◌≤◌, List, [], ◌∷◌, ◌++◌, length, ap, arith, length-append}
+use Rattle.std.specs.Prelude.{All}
+use Rattle.std.proofs.lemmas.List.Elements.{All-push, All-append, All-nil}
+use Rattle.gu_terms.specs.declared.entry.Entry.{Entry}
+use Rattle.gu_terms.specs.declared.receipt.Receipt.{Receipt}
+use Rattle.gu_ref.specs.Tables.{Tables}
+use Rattle.gu_desk.specs.Holds.{IsEntered}
+use Rattle.gu_server.specs.Receipts.{AddsReceipts, HasReceipts}
+
+-- what is after more entries is after fewer
+entered_later : (reference : Tables) (opening more : ℕ) (r : Receipt) → IsEntered reference (opening + more) r → IsEntered reference opening r
+entered_later reference opening more r entered = record { last = entered.last; later = let later = entered.later in omega arith }
+
+-- nothing was entered, and there are no receipts
+pub no_receipts : (reference : Tables) (opening entries : ℕ) → entries ≡ 0 → HasReceipts reference opening entries []
+no_receipts reference opening entries none = record { count = omega arith; each = All-nil (IsEntered reference opening) }
+
+-- one entry more, and its receipt
+pub one_more : (reference : Tables) (opening entries : ℕ) (rs : List Receipt) (r : Receipt)
+    → HasReceipts reference opening entries rs → IsEntered reference (opening + entries) r
+    → HasReceipts reference opening (entries + 1) (rs ++ r ∷ [])
+one_more reference opening entries rs r have entered = record {
+  count = let count = have.count in omega (arith, length-append rs (r ∷ []));
+  each = All-push (IsEntered reference opening) rs r have.each (entered_later reference opening entries r entered);
+}
+
+-- the receipts of two seats
+pub together : (reference : Tables) (opening m n : ℕ) (rs ss : List Receipt)
+    → HasReceipts reference opening m rs → HasReceipts reference opening n ss
+    → HasReceipts reference opening (m + n) (rs ++ ss)
+together reference opening m n rs ss have also = record {
+  count = let count = have.count in let more = also.count in omega (arith, length-append rs ss);
+  each = All-append (IsEntered reference opening) rs ss have.each also.each;
+}
+
+-- the receipts of a day after those that there were
+pub added : (reference : Tables) (opening entries : ℕ) (before made after : List Receipt) (history : List Entry)
+    → HasReceipts reference opening entries made → length history ≡ opening + entries → after ≡ before ++ made
+    → AddsReceipts reference opening before history after
+added reference opening entries before made after history have long is = record { entries = entries; made = made; history_is = long; receipts_are = is; have = have }
+
+-- they are as many as the entries, if those before were
+pub as_many : (reference : Tables) (opening : ℕ) (before after : List Receipt) (history : List Entry)
+    → AddsReceipts reference opening before history after → length before ≡ opening → length after ≡ length history
+as_many reference opening before after history adds were =
+    let is = ap length adds.receipts_are in
+    let count = adds.have.count in
+    let long = adds.history_is in
+    omega (arith, length-append before adds.made)

@@ -1,0 +1,20 @@
+-- Receipts: what the threads of a day keep of the entries that they make.
+use Rattle.std.specs.Prelude.{◌≡◌, ℕ, ◌+◌, ◌++◌, All, List, length}
+use Rattle.gu_terms.specs.declared.entry.Entry.{Entry}
+use Rattle.gu_terms.specs.declared.receipt.Receipt.{Receipt}
+use Rattle.gu_ref.specs.Tables.{Tables}
+use Rattle.gu_desk.specs.Holds.{IsEntered}
+
+-- There is a receipt for each entry, by number: as many receipts as entries. Each is of the last entry of some legal history of the
+-- reference, which has more entries than the desk began with.
+pub record HasReceipts (reference : Tables) (opening : ℕ) (entries : ℕ) (receipts : List Receipt) : Type 0 where
+  pub count : length receipts ≡ entries
+  pub each : All (IsEntered reference opening) receipts
+
+-- the receipts at the end of a day are those that there were, and after them there is a receipt for each entry that was made since
+pub record AddsReceipts (reference : Tables) (opening : ℕ) (before : List Receipt) (history : List Entry) (receipts : List Receipt) : Type 0 where
+  pub entries : ℕ
+  pub made : List Receipt
+  pub history_is : length history ≡ opening + entries
+  pub receipts_are : receipts ≡ before ++ made
+  pub have : HasReceipts reference opening entries made

@@ -1,0 +1,87 @@
+//! The seats of a day, and the threads that have some of them.
+
+ghost use Rattle.std.specs.Prelude.{◌≡◌, ◌+◌, ◌<◌, ◌≤◌, vec_capacity, vec_len, IfSome, IsSome, OnOk};
+
+use crate::seat_receipts::SeatReceipts;
+use gu_desk::{EntryLedger, LotLedger};
+use std::alloc::{AllocError, Global};
+use std::thread::{JoinHandle, Threads};
+
+/// A thread that hands back its seat, or nothing where it was given none.
+pub type Seated<E, S> = JoinHandle<Option<SeatReceipts<E, S>>>;
+
+/// The seats that no thread has, and the threads. There is room for the seats of all threads beside those that none has.
+pub struct Crew<E: EntryLedger, S: LotLedger> {
+    seats: Vec<SeatReceipts<E, S>>,
+    threads: Vec<Seated<E, S>>,
+    ghost room: { vec_len seats + vec_len threads ≤ vec_capacity seats },
+}
+
+// By hand, so that each exit of a caller drops it by one call.
+impl<E: EntryLedger, S: LotLedger> Drop for Crew<E, S> {
+    fn drop(self) {
+        let Crew { seats, threads } = self;
+        drop(seats);
+        drop(threads);
+    }
+}
+
+impl<E: EntryLedger, S: LotLedger> Crew<E, S> {
+    /// These seats, and no thread yet.
+    pub fn new(alloc: Global, seats: Vec<SeatReceipts<E, S>>) -> Self {
+        Crew {
+            seats,
+            threads: Vec::new(alloc),
+        }
+    }
+
+    /// How many seats no thread has.
+    pub fn idle(&self) -> usize {
+        self.seats.len()
+    }
+
+    /// Makes room for one more thread, and for the seat that it will hand back.
+    pub fn reserve(&mut self) -> Result<(), AllocError>
+        ensures { OnOk result ((vec_len self.new.threads < vec_capacity self.new.threads)
+            × (vec_len self.new.seats + vec_len self.new.threads < vec_capacity self.new.seats)) }
+    {
+        self.threads.reserve(1)?;
+        self.seats.reserve(self.threads.len() + 1)
+    }
+
+    /// Adds a thread, for which there is room.
+    pub fn add(&mut self, thread: Seated<E, S>)
+        requires thread { vec_len self.old.threads < vec_capacity self.old.threads }
+        requires seat { vec_len self.old.seats + vec_len self.old.threads < vec_capacity self.old.seats }
+    {
+        self.threads.push_reserved(thread);
+    }
+
+    /// Takes a seat for a thread. There is room for it here, should it come back at once.
+    pub fn take_seat(&mut self) -> Option<SeatReceipts<E, S>>
+        ensures { IsSome result → vec_len self.new.seats + vec_len self.new.threads < vec_capacity self.new.seats }
+    {
+        self.seats.pop()
+    }
+
+    /// Puts back a seat that no thread got.
+    pub fn put_back(&mut self, seat: SeatReceipts<E, S>)
+        requires { vec_len self.old.seats + vec_len self.old.threads < vec_capacity self.old.seats }
+    {
+        self.seats.push_reserved(seat);
+    }
+
+    /// Waits for the threads. All seats are back then.
+    pub fn join<R: Threads>(self, rt: &R) -> Vec<SeatReceipts<E, S>> {
+        let Crew {
+            mut seats,
+            mut threads,
+        } = self;
+        while let Some(thread) = threads.pop() {
+            if let Some(seat) = thread.join(rt) {
+                seats.push_reserved(seat);
+            }
+        }
+        seats
+    }
+}

@@ -1,0 +1,155 @@
+//! A seat that keeps its receipts.
+
+ghost use Rattle.std.specs.Prelude.{◌≡◌, ◌↔◌, ℕ, ◌+◌, IfOk, IsErrOf, OnErr};
+ghost use Rattle.gu_terms.specs.Histories.{swept_by};
+ghost use Rattle.gu_book.specs.Questions.{IsUnknown};
+ghost use Rattle.gu_desk.specs.Holds.{IsAnswered, IsEntered, IsTold};
+ghost use Rattle.gu_desk.specs.Totals.{with_entry, with_sweep, IsEmpty};
+ghost use Rattle.gu_server.specs.Receipts.{HasReceipts};
+
+use gu_book::{Answer, AskError, EnterError};
+use gu_desk::{Desk, Direct, EntryLedger, LotLedger, Seat, SweepError};
+use gu_terms::{Command, Entry, FirmId, Group, Query, Receipt, Reply, Stretch};
+use std::alloc::{AllocError, Global};
+use std::marker::Model;
+use std::sync::Wait;
+
+/// How often a sweep is tried at most.
+const TRIES: u32 = 3;
+
+/// A seat that keeps a receipt for each entry that is made from it. To a contract it is the shares of the seat.
+pub struct SeatReceipts<E: EntryLedger, S: LotLedger> {
+    seat: Seat<E, S>,
+    receipts: Vec<Receipt>,
+}
+
+// By hand, so that each exit of a caller drops it by one call.
+impl<E: EntryLedger, S: LotLedger> Drop for SeatReceipts<E, S> {
+    fn drop(self) {
+        let SeatReceipts { seat, receipts } = self;
+        drop(seat);
+        drop(receipts);
+    }
+}
+
+impl<E: EntryLedger, S: LotLedger> Model for SeatReceipts<E, S> {
+    ghost use Rattle.gu_desk.specs.Totals.{Shares};
+    ghost use Rattle.gu_server.specs.Receipts.{HasReceipts};
+
+    ghost Value = { Shares };
+
+    ghost view = { λ s. s.seat };
+
+    ghost invariant = { λ s. HasReceipts E.reference E.opening s.seat.entries s.receipts.items };
+}
+
+/// The lots of a sweep.
+fn lots_of(receipt: &Receipt) -> u64
+    ensures { result ≡ swept_by receipt.now.entry }
+{
+    match &receipt.entry {
+        Entry::Swept(sweep) => sweep.lots,
+        Entry::Asked { .. } => 0,
+    }
+}
+
+impl<E: EntryLedger, S: LotLedger> SeatReceipts<E, S> {
+    /// A seat from which nothing was entered yet.
+    pub fn new(alloc: Global, seat: Seat<E, S>) -> Self
+        requires { IsEmpty seat }
+        ensures { result ≡ seat }
+    {
+        SeatReceipts {
+            seat,
+            receipts: Vec::new(alloc),
+        }
+    }
+
+    /// The seat, and the receipts.
+    pub fn into_parts(self) -> (Seat<E, S>, Vec<Receipt>)
+        ensures seat { result.0 ≡ self }
+        ensures receipts { HasReceipts E.reference E.opening self.entries result.1.items }
+    {
+        let SeatReceipts { seat, receipts } = self;
+        (seat, receipts)
+    }
+
+    /// Enters a command, for whose receipt there is room, and keeps the receipt.
+    pub fn enter<R: Wait>(
+        &mut self,
+        rt: &R,
+        desk: &Desk<E, S>,
+        command: Command,
+    ) -> Result<Reply, EnterError>
+        ensures entered { IfOk result (λ reply. (number : ℕ) × IsEntered E.reference (E.opening + self.old.entries)
+            (record { number = number; entry = Entry.Asked command reply })) }
+        ensures counted { IfOk result (λ reply. self.new ≡ with_entry self.old) }
+        ensures refused { OnErr result (self.new ≡ self.old) }
+    {
+        // Room for the receipt first: once the command is entered, its receipt is kept without an allocation.
+        if self.receipts.reserve(1).is_err() {
+            return Err(EnterError::Memory);
+        }
+        let (number, reply) = desk.enter(rt, &mut self.seat, &command)?;
+        let reply = &reply;
+        let receipt = Receipt {
+            number,
+            entry: Entry::Asked {
+                command,
+                reply: *reply,
+            },
+        };
+        self.receipts.push_reserved(receipt);
+        Ok(*reply)
+    }
+
+    /// Sweeps a group, where there is room for the receipt, and keeps the receipt. Returns the lots.
+    pub fn sweep<R: Wait>(
+        &mut self,
+        rt: &R,
+        desk: &Desk<E, S>,
+        group: Group,
+    ) -> Result<u64, SweepError>
+        ensures counted { IfOk result (λ lots. self.new ≡ with_sweep self.old lots) }
+        ensures refused { OnErr result (self.new ≡ self.old) }
+    {
+        self.receipts.reserve(1)?;
+        let swept = desk.sweep_until(rt, &mut self.seat, group, TRIES, &Direct)?;
+        let lots = lots_of(&swept);
+        self.receipts.push_reserved(swept);
+        Ok(lots)
+    }
+
+    /// Answers a query.
+    pub fn ask<R: Wait>(
+        &mut self,
+        rt: &R,
+        desk: &Desk<E, S>,
+        query: Query,
+    ) -> Result<Answer, AskError>
+        ensures answered { IfOk result (IsAnswered E.reference (E.opening + self.old.entries) query) }
+        ensures unknown { IsErrOf result AskError.UnknownGroup ↔ IsUnknown E.reference query }
+        ensures seat { self.new ≡ self.old }
+    {
+        desk.ask(rt, &mut self.seat, query)
+    }
+
+    /// A stretch of what a firm is told of the entries from a number on.
+    pub fn stretch<R: Wait>(
+        &mut self,
+        rt: &R,
+        desk: &Desk<E, S>,
+        firm: FirmId,
+        from: u64,
+    ) -> Result<Stretch, AllocError>
+        ensures told { IfOk result (IsTold E.reference (E.opening + self.old.entries) firm from) }
+        ensures seat { self.new ≡ self.old }
+    {
+        desk.stretch(rt, &mut self.seat, firm, from)
+    }
+
+    /// The receipt of what was entered last.
+    pub fn last(&self) -> Option<&Receipt> {
+        self.receipts.last()
+    }
+}
