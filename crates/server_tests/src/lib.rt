@@ -1,0 +1,13 @@
+//! Tests of the server: firms that connect to it, and sweepers beside them.
+#![tactic(auto)]
+
+#[cfg(test)]
+mod clients;
+#[cfg(test)]
+mod days;
+#[cfg(test)]
+mod machine;
+#[cfg(test)]
+mod opening;
+#[cfg(test)]
+mod timers;
