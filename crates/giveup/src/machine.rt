@@ -1,4 +1,4 @@
-//! A machine of the tests' own: words, files, standard streams, a clock at nine on 2026-01-05, and no free port.
+//! A machine of the tests' own: words, files, standard streams, a clock at nine on 2026-01-05, and one free port or none.
 
 use std::alloc::{Allocator, Global};
 use std::env::FillError;
@@ -32,6 +32,8 @@ pub struct Machine<'a, R> {
     pub files: &'a [(&'a str, &'a [u8])],
     pub input: &'a [u8],
     pub lack: Lack,
+    /// The one port that can be had, whichever is asked for.
+    pub port: Mutex<Option<TcpListener>>,
     pub out: Mutex<Vec<u8>>,
     pub err: Mutex<Vec<u8>>,
     /// The paths that were opened, each with a blank after it.
@@ -114,14 +116,16 @@ impl<R: Wait> Wait for Machine<'_, R> {}
 
 impl<R: Threads> Threads for Machine<'_, R> {}
 
-// No port of it can be had.
-impl<R> Net for Machine<'_, R> {
+impl<R: Wait> Net for Machine<'_, R> {
     type Stream = TcpStream;
 
     type Listener = TcpListener;
 
     fn bind(&self, _addr: SocketAddr) -> io::Result<TcpListener> {
-        Err(Error::from(ErrorKind::AddrInUse))
+        match self.port.lock(self.host).take() {
+            Some(listener) => Ok(listener),
+            None => Err(Error::from(ErrorKind::AddrInUse)),
+        }
     }
 
     fn connect(&self, _addr: SocketAddr) -> io::Result<TcpStream> {
@@ -131,7 +135,7 @@ impl<R> Net for Machine<'_, R> {
 
 impl<R> Clock for Machine<'_, R> {
     fn monotonic(&self) -> io::Result<Duration> {
-        unsupported()
+        Ok(Duration::ZERO)
     }
 
     fn since_1970(&self) -> io::Result<Duration> {

@@ -8,9 +8,13 @@ use crate::running::status_of;
 use crate::sample::ROWS;
 use crate::status::Status;
 use std::alloc::{AllocError, Global};
+use std::io::{Read, Write};
+use std::net::{Net, Shutdown, TcpListener, TcpStream};
 use std::process::Abort;
 use std::sync::{Mutex, Wait};
 use std::thread::Threads;
+use std::time::Duration;
+use std::{io, thread};
 use trials::{columns, shown, wire};
 
 /// Each task, and each fault of one.
@@ -53,6 +57,13 @@ giveup serve house 9878 < x -> 1 ; ; giveup: read fault/
 giveup check < SHEET G1 0/END/ -> 0 ; OK 0/;
 ";
 
+/// Days on the machine's port, to which one firm has connected: it sends this input, and waits for the end of its connection. Where a
+/// second connection is to be accepted, that fails.
+const SERVED: &str = "\
+giveup serve house 9878 --script day --connections 1 < 8=FIXT.1.1|9=66|35=A|49=E1|56=GIVEUP|34=1|52=20260105-09:00:00|98=0|108=30|1137=9|10=004|8=FIXT.1.1|9=112|35=AE|49=E1|56=GIVEUP|34=2|52=20260105-09:00:00|571=R1|880=M1|55=XF6|32=10|31=101.5|75=20260105|552=1|54=1|1=H1|10=236| -> 0 house day ; ENTRIES 2/SWEPT 0/AUDIT OK/;
+giveup serve house 9878 --script day --connections 2 < 8=FIXT.1.1|9=66|35=A|49=E1|56=GIVEUP|34=1|52=20260105-09:00:00|98=0|108=30|1137=9|10=004|8=FIXT.1.1|9=112|35=AE|49=E1|56=GIVEUP|34=2|52=20260105-09:00:00|571=R1|880=M1|55=XF6|32=10|31=101.5|75=20260105|552=1|54=1|1=H1|10=236| -> 1 house day ; ENTRIES 2/SWEPT 0/AUDIT OK/; giveup: read fault/
+";
+
 /// What a run on a machine did.
 fn run<R: Threads + Wait + Sync>(machine: Machine<'_, R>) -> Result<String, AllocError> {
     let alloc = machine.alloc;
@@ -69,12 +80,13 @@ fn run<R: Threads + Wait + Sync>(machine: Machine<'_, R>) -> Result<String, Allo
     format!(in alloc; "{number} {opened}; {out}; {err}")
 }
 
-/// What a run with these words and this input does.
+/// What a run with these words and this input does on a machine with this port.
 fn told<R: Threads + Wait + Sync>(
     host: &R,
     alloc: Global,
     row: &str,
     lack: Lack,
+    port: Option<TcpListener>,
 ) -> Result<String, AllocError> {
     let (words, input) = row.split_once(" < ").unwrap_or((row, ""));
     let words = Vec::from_iter(alloc, words.split(' '))?;
@@ -93,6 +105,7 @@ fn told<R: Threads + Wait + Sync>(
         ],
         input: input.as_bytes(),
         lack,
+        port: Mutex::new(port),
         out: Mutex::new(Vec::new(alloc)),
         err: Mutex::new(Vec::new(alloc)),
         opened: Mutex::new(Vec::new(alloc)),
@@ -103,9 +116,45 @@ fn told<R: Threads + Wait + Sync>(
 fn check<R: Abort + Threads + Wait + Sync>(rt: &R, alloc: Global, lack: Lack, table: &str) {
     for row in table.lines() {
         let (run, expected) = columns(row);
-        let told = told(rt, alloc, run, lack).expect(rt, "memory");
+        let told = told(rt, alloc, run, lack, None).expect(rt, "memory");
         check_told(rt, row, String::from_str(alloc, told.trim_end()), expected);
     }
+}
+
+/// A port, and the connection of a firm to it. An accept that finds no further connection fails.
+fn connected<R: Net<Listener = TcpListener, Stream = TcpStream>>(
+    rt: &R,
+) -> io::Result<(TcpListener, TcpStream)> {
+    let listener = TcpListener::bind(rt, ("127.0.0.1", 0))?;
+    let stream = TcpStream::connect(rt, listener.local_addr()?)?;
+    listener.set_nonblocking(true)?;
+    Ok((listener, stream))
+}
+
+/// Sends bytes, and reads until the connection is closed.
+fn send_all(alloc: Global, mut stream: TcpStream, bytes: &[u8]) -> io::Result<usize> {
+    stream.set_read_timeout(Some(Duration::from_secs(20)))?;
+    stream.write_all(bytes)?;
+    stream.shutdown(Shutdown::Write)?;
+    let mut rest = Vec::new(alloc);
+    stream.read_to_end(&mut rest)
+}
+
+/// What a run does on whose port a firm sends the input.
+fn served<R: Net<Listener = TcpListener, Stream = TcpStream> + Threads + Wait + Sync>(
+    rt: &R,
+    alloc: Global,
+    run: &str,
+) -> io::Result<String> {
+    let input = wire(alloc, run.split_once(" < ").map_or("", |words| words.1))?;
+    let (listener, stream) = connected(rt)?;
+    let (told, read) = thread::join(
+        rt,
+        || told(rt, alloc, run, Lack::Nothing, Some(listener)),
+        || send_all(alloc, stream, input.as_bytes()),
+    );
+    read?;
+    Ok(told?)
 }
 
 #[test]
@@ -121,4 +170,14 @@ fn a_fault_that_nobody_hears_has_its_status(rt: HostRuntime) {
 #[test]
 fn without_random_bytes_nothing_is_opened(rt: HostRuntime) {
     check(&rt, rt.alloc(), Lack::Randomness, UNSEEDED);
+}
+
+#[test]
+fn a_day_is_served_on_a_port_and_ends_with_its_lines(rt: HostRuntime) {
+    let alloc = rt.alloc();
+    for row in SERVED.lines() {
+        let (run, expected) = columns(row);
+        let told = served(&rt, alloc, run).ok().expect(&rt, "a day");
+        check_told(&rt, row, String::from_str(alloc, told.trim_end()), expected);
+    }
 }
