@@ -1,7 +1,7 @@
 //! Streams of a connection whose firm has to log on in time.
 
 ghost use Rattle.std.specs.Io.{ReadsAtMost, WritesAtMost};
-ghost use Rattle.std.specs.Io.KnownBytes.{ReadConsumes};
+ghost use Rattle.std.specs.Io.KnownBytes.{ReadConsumes, WriteAppends};
 
 use std::cell::Cell;
 use std::io;
@@ -11,6 +11,9 @@ use std::time::{Duration, Instant};
 
 /// How many seconds a firm may take from the accept of its connection to its Logon.
 const LOGON_WAIT_S: u64 = 30;
+
+/// How often a write that a signal cut short is made again at most.
+const MOST_INTERRUPTS: u32 = 1_000;
 
 /// The time that a firm has to log on. It is over once something is sent, since a session sends nothing before the Logon.
 #[derive(Drop)]
@@ -42,7 +45,8 @@ impl<'a, R: Clock> LogonTimer<'a, R> {
     }
 }
 
-/// A stream under a timer: once the firm is late, reads fail. A read that a signal cut short has nothing for now.
+/// A stream under a timer: once the firm is late, reads fail. A read that a signal cut short has nothing for now, and such a write is made
+/// again.
 #[derive(Drop)]
 pub struct Timed<'a, T, R> {
     stream: T,
@@ -54,6 +58,20 @@ impl<'a, T, R> Timed<'a, T, R> {
     pub fn new(stream: T, timer: &'a LogonTimer<'a, R>) -> Self {
         Timed { stream, timer }
     }
+}
+
+/// Writes to a stream, again where a signal cut a write short before anything was taken.
+fn write_past_signals<T: Write>(stream: &mut T, buf: &[u8]) -> io::Result<usize>
+    ensures appended { WriteAppends (T.contents stream.old) (T.contents stream.new) result buf.now }
+    ensures bound { WritesAtMost result buf.now }
+{
+    for _signal in 0..MOST_INTERRUPTS {
+        match stream.write(buf) {
+            Err(error) if error.kind() == ErrorKind::Interrupted => {}
+            written => return written,
+        }
+    }
+    Err(io::Error::from(ErrorKind::Interrupted))
 }
 
 impl<T: Read, R: Clock> Read for Timed<'_, T, R> {
@@ -80,7 +98,7 @@ impl<T: Write, R: Clock> Write for Timed<'_, T, R> {
 
     fn write(&mut self, buf: &[u8]) -> io::Result<usize> {
         self.timer.is_over.set(true);
-        self.stream.write(buf)
+        write_past_signals(&mut self.stream, buf)
     }
 
     fn flush(&mut self) -> io::Result<()> {
