@@ -4,6 +4,8 @@
 #[cfg(test)]
 mod commands;
 #[cfg(test)]
+mod journals;
+#[cfg(test)]
 mod largest;
 #[cfg(test)]
 mod memory;
