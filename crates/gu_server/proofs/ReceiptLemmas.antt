@@ -1,12 +1,11 @@
 -- Receipts: one more, and those of two seats together.
-use Rattle.std.proofs.Common.{◌≡◌, ℕ, ◌+◌, ◌<◌, ◌≤◌, List, [], ◌∷◌, ◌++◌, length, ap, arith, length-append}
-use Rattle.std.specs.Prelude.{All}
+use Rattle.std.proofs.Common.{◌≡◌, ◌∙◌, ℕ, ◌+◌, List, [], ◌∷◌, ◌++◌, length, ap, sym, arith, append_assoc, append-nil, length-append}
 use Rattle.std.proofs.lemmas.List.Elements.{All-push, All-append, All-nil}
 use Rattle.gu_terms.specs.declared.entry.Entry.{Entry}
 use Rattle.gu_terms.specs.declared.receipt.Receipt.{Receipt}
 use Rattle.gu_ref.specs.Tables.{Tables}
 use Rattle.gu_desk.specs.Holds.{IsEntered}
-use Rattle.gu_server.specs.Receipts.{AddsReceipts, HasReceipts}
+use Rattle.gu_server.specs.Receipts.{AddsReceipts, EndsWith, HasReceipts}
 
 -- what is after more entries is after fewer
 entered_later : (reference : Tables) (opening more : ℕ) (r : Receipt) → IsEntered reference (opening + more) r → IsEntered reference opening r
@@ -26,7 +25,7 @@ one_more reference opening entries rs r have entered = record {
 }
 
 -- the receipts of two seats
-pub together : (reference : Tables) (opening m n : ℕ) (rs ss : List Receipt)
+together : (reference : Tables) (opening m n : ℕ) (rs ss : List Receipt)
     → HasReceipts reference opening m rs → HasReceipts reference opening n ss
     → HasReceipts reference opening (m + n) (rs ++ ss)
 together reference opening m n rs ss have also = record {
@@ -34,17 +33,31 @@ together reference opening m n rs ss have also = record {
   each = All-append (IsEntered reference opening) rs ss have.each also.each;
 }
 
+-- the receipts of one seat more
+pub one_seat_more : (reference : Tables) (opening m n : ℕ) (before rs ss : List Receipt)
+    → EndsWith reference opening m before rs → HasReceipts reference opening n ss
+    → EndsWith reference opening (m + n) before (rs ++ ss)
+one_seat_more reference opening m n before rs ss ends also = record {
+  made = ends.made ++ ss;
+  receipts_are = ap (λ (l : List Receipt). l ++ ss) ends.receipts_are ∙ append_assoc before ends.made ss;
+  have = together reference opening m n ends.made ss ends.have also;
+}
+
+-- no seat's receipts yet
+pub no_seat : (reference : Tables) (opening entries : ℕ) (before : List Receipt) → entries ≡ 0 → EndsWith reference opening entries before before
+no_seat reference opening entries before none = record { made = []; receipts_are = sym (append-nil before); have = no_receipts reference opening entries none }
+
 -- the receipts of a day after those that there were
-pub added : (reference : Tables) (opening entries : ℕ) (before made after : List Receipt) (history : List Entry)
-    → HasReceipts reference opening entries made → length history ≡ opening + entries → after ≡ before ++ made
+pub added : (reference : Tables) (opening entries : ℕ) (before after : List Receipt) (history : List Entry)
+    → EndsWith reference opening entries before after → length history ≡ opening + entries
     → AddsReceipts reference opening before history after
-added reference opening entries before made after history have long is = record { entries = entries; made = made; history_is = long; receipts_are = is; have = have }
+added reference opening entries before after history ends long = record { entries = entries; history_is = long; ends = ends }
 
 -- they are as many as the entries, if those before were
 pub as_many : (reference : Tables) (opening : ℕ) (before after : List Receipt) (history : List Entry)
     → AddsReceipts reference opening before history after → length before ≡ opening → length after ≡ length history
 as_many reference opening before after history adds were =
-    let is = ap length adds.receipts_are in
-    let count = adds.have.count in
+    let is = ap length adds.ends.receipts_are in
+    let count = adds.ends.have.count in
     let long = adds.history_is in
-    omega (arith, length-append before adds.made)
+    omega (arith, length-append before adds.ends.made)

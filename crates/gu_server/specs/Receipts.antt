@@ -11,10 +11,14 @@ pub record HasReceipts (reference : Tables) (opening : ℕ) (entries : ℕ) (rec
   pub count : length receipts ≡ entries
   pub each : All (IsEntered reference opening) receipts
 
+-- receipts are those that there were, and after them there is a receipt for each of so many entries
+pub record EndsWith (reference : Tables) (opening : ℕ) (entries : ℕ) (before : List Receipt) (receipts : List Receipt) : Type 0 where
+  pub made : List Receipt
+  pub receipts_are : receipts ≡ before ++ made
+  pub have : HasReceipts reference opening entries made
+
 -- the receipts at the end of a day are those that there were, and after them there is a receipt for each entry that was made since
 pub record AddsReceipts (reference : Tables) (opening : ℕ) (before : List Receipt) (history : List Entry) (receipts : List Receipt) : Type 0 where
   pub entries : ℕ
-  pub made : List Receipt
   pub history_is : length history ≡ opening + entries
-  pub receipts_are : receipts ≡ before ++ made
-  pub have : HasReceipts reference opening entries made
+  pub ends : EndsWith reference opening entries before receipts

@@ -1,10 +1,11 @@
 //! The end of a day: the seats come back, the desk is closed, and there is a receipt for each entry.
 
-ghost use Rattle.std.specs.Prelude.{◌≡◌, ◌++◌, ◌≤◌, length, sum_by, IfOk, OnOk, Option, codes, decimal, is_none, string_bytes};
+ghost use Rattle.std.specs.Prelude.{◌≡◌, ◌++◌, ◌≤◌, length, sum_by, IfOk, List, OnOk, Option, codes, decimal, is_none, string_bytes};
 ghost use Rattle.gu_terms.specs.Histories.{lots_swept};
+ghost use Rattle.gu_terms.specs.declared.receipt.Receipt.{Receipt};
 ghost use Rattle.gu_desk.specs.declared.error.AuditFault.{AuditFault as FaultOf};
 ghost use Rattle.gu_server.specs.DayEnds.{Finds, audit_text, day_text};
-ghost use Rattle.gu_server.specs.Receipts.{AddsReceipts, HasReceipts};
+ghost use Rattle.gu_server.specs.Receipts.{AddsReceipts, EndsWith};
 
 use crate::seat_receipts::SeatReceipts;
 use crate::serving::Shift;
@@ -87,34 +88,34 @@ impl Closed {
     }
 }
 
-/// Adds a seat and its receipts to seats and theirs.
+/// Adds a seat and its receipts to seats and to receipts, of which the last are theirs.
 fn gather<E: EntryLedger, S: LotLedger>(
     seats: &mut Vec<Seat<E, S>>,
-    made: &mut Vec<Receipt>,
+    receipts: &mut Vec<Receipt>,
     one: SeatReceipts<E, S>,
 ) -> Result<(), AllocError>
-    requires { HasReceipts E.reference E.opening (sum_by (λ s. s.entries) seats.old.items) made.old.items }
-    ensures { OnOk result (HasReceipts E.reference E.opening (sum_by (λ s. s.entries) seats.new.items) made.new.items) }
+    ensures { (before : List Receipt) → EndsWith E.reference E.opening (sum_by (λ s. s.entries) seats.old.items) before receipts.old.items
+        → OnOk result (EndsWith E.reference E.opening (sum_by (λ s. s.entries) seats.new.items) before receipts.new.items) }
 {
     let (seat, mut more) = one.into_parts();
-    made.append(&mut more)?;
+    receipts.append(&mut more)?;
     seats.push(seat)?;
     Ok(())
 }
 
-/// The seats, and all their receipts.
+/// The seats; all their receipts come after those that there were.
 fn apart<E: EntryLedger, S: LotLedger>(
     alloc: Global,
     keeping: Vec<SeatReceipts<E, S>>,
-) -> Result<(Vec<Seat<E, S>>, Vec<Receipt>), AllocError>
-    ensures { IfOk result (λ r. HasReceipts E.reference E.opening (sum_by (λ s. s.entries) r.0.items) r.1.items) }
+    receipts: &mut Vec<Receipt>,
+) -> Result<Vec<Seat<E, S>>, AllocError>
+    ensures { IfOk result (λ seats. EndsWith E.reference E.opening (sum_by (λ s. s.entries) seats.items) receipts.old.items receipts.new.items) }
 {
     let mut seats = Vec::with_capacity(alloc, keeping.len())?;
-    let mut made = Vec::new(alloc);
     for one in keeping {
-        gather(&mut seats, &mut made, one)?;
+        gather(&mut seats, receipts, one)?;
     }
-    Ok((seats, made))
+    Ok(seats)
 }
 
 /// Closes a desk with what its threads handed back. The receipts come after those that there were before.
@@ -132,8 +133,7 @@ pub fn close<E: EntryLedger, S: LotLedger>(
     ensures count { length receipts.items ≡ E.opening → IfOk result (λ closed. length closed.receipts.items ≡ length closed.book.history) }
 {
     let (keeping, fault) = shift.into_parts();
-    let (seats, mut made) = apart(alloc, keeping)?;
-    receipts.append(&mut made)?;
+    let seats = apart(alloc, keeping, &mut receipts)?;
     match desk.close(seats) {
         Ok(book) => Ok(Closed {
             book,
