@@ -26,9 +26,10 @@ def is_listening(port):
 class Server:
     """`giveup serve` on a port of its own, until it ends by itself."""
 
-    def __init__(self, program, reference, script, connections, every=0):
+    def __init__(self, program, reference, script, connections, every=0, journal=None):
         self.port = free_port()
         words = [program, 'serve', reference, str(self.port), '--script', script, '--connections', str(connections), '--every', str(every)]
+        words += ['--journal', journal] if journal else []
         self.child = subprocess.Popen(words, stdin=subprocess.DEVNULL, stdout=subprocess.PIPE, stderr=subprocess.PIPE)
         self.out, self.err, self.peak_kb = b'', b'', 0
         self.threads = [threading.Thread(target=part, daemon=True) for part in (self.read_out, self.read_err, self.watch)]

@@ -114,11 +114,11 @@ pub numbered : (rows : List Row) (result least most : ℕ) (name word : Text) �
 numbered rows result least most name word means is within = means (subst (IsUnsignedIn least most) (sym is) within) ∙ ap number_of is
 
 -- what `serve` asks for, word by word
-pub asks_to_serve : (rows : List Row) (reference : Text) (port : ℕ) (script : Option Text) (connections every : ℕ)
+pub asks_to_serve : (rows : List Row) (reference : Text) (port : ℕ) (script : Option Text) (connections every : ℕ) (journal : Option Text)
     → reference ≡ word_in rows (codes "REF") → port ≡ number_of (word_in rows (codes "PORT")) → script ≡ first_of (codes "script") rows
     → connections ≡ number_of (word_in rows (codes "N")) → every ≡ number_of (word_in rows (codes "K"))
-    → Serves reference port script connections every ≡ served_by rows
-asks_to_serve rows reference port script connections every a b c d e = λ i. Serves (a i) (b i) (c i) (d i) (e i)
+    → journal ≡ first_of (codes "journal") rows → Serves reference port script connections every journal ≡ served_by rows
+asks_to_serve rows reference port script connections every journal a b c d e f = λ i. Serves (a i) (b i) (c i) (d i) (e i) (f i)
 
 -- the command `serve`, for a server
 pub serves : (sub : Option (Text × List Row)) (rows : List Row) (wanted : Wanted) → option_map (λ (p : Text × List Row). p.0) sub ≡ Some (codes "serve") → option_map (λ (p : Text × List Row). p.1) sub ≡ Some rows

@@ -53,8 +53,8 @@ replay_shape = (with_rule (new_app (codes "replay")) (needed (codes "REF"))).top
 -- the command `serve`, which takes the path of a reference and a port, and options
 abbrev pub serve_shape : Shape
 serve_shape =
-    (with_rule (with_rule (with_rule (with_rule (with_rule (new_app (codes "serve")) (needed (codes "REF"))) port_rule)
-    (path_rule (codes "script"))) connections_rule) every_rule).top
+    (with_rule (with_rule (with_rule (with_rule (with_rule (with_rule (new_app (codes "serve")) (needed (codes "REF"))) port_rule)
+    (path_rule (codes "script"))) connections_rule) every_rule) (path_rule (codes "journal"))).top
 
 -- the program's command line
 abbrev pub program : App
@@ -63,14 +63,14 @@ program =
     serve_shape
 
 -- what words may ask for: trade capture, the check of a sheet, one session of a firm on the reference of a file, perhaps after a script,
--- a script on such a reference, or a server on such a reference and a port, perhaps after a script, with how many connections it accepts
--- and which of their give-ups are swept
+-- a script on such a reference, or a server on such a reference and a port, perhaps after a script, with how many connections it accepts,
+-- which of their give-ups are swept, and perhaps the file of its journal
 pub data Wanted : Type 0 where
   Captures : Wanted
   Checks : Wanted
   Fixes : (firm reference : Text) (script : Option Text) → Wanted
   Replays : (reference : Text) → Wanted
-  Serves : (reference : Text) (port : ℕ) (script : Option Text) (connections every : ℕ) → Wanted
+  Serves : (reference : Text) (port : ℕ) (script : Option Text) (connections every : ℕ) (journal : Option Text) → Wanted
 
 -- what a task does
 abbrev pub wanted_of : Task → Wanted
@@ -79,7 +79,7 @@ wanted_of Check = Checks
 wanted_of (Fix firm reference script) = Fixes firm.now reference.now (option_map (λ word. word.now) script)
 wanted_of (Replay reference) = Replays reference.now
 wanted_of (Serve s) =
-    Serves s.reference.now s.port (option_map (λ word. word.now) s.script) s.connections s.every
+    Serves s.reference.now s.port (option_map (λ word. word.now) s.script) s.connections s.every (option_map (λ word. word.now) s.journal)
 
 -- the word that was given for a name
 abbrev pub word_in : List Row → Text → Text
@@ -99,7 +99,7 @@ pub record HasNumbers (rows : List Row) : Type 0 where
 abbrev pub served_by : List Row → Wanted
 served_by rows =
     Serves (word_in rows (codes "REF")) (number_of (word_in rows (codes "PORT"))) (first_of (codes "script") rows)
-    (number_of (word_in rows (codes "N"))) (number_of (word_in rows (codes "K")))
+    (number_of (word_in rows (codes "N"))) (number_of (word_in rows (codes "K"))) (first_of (codes "journal") rows)
 
 -- what a subcommand asks for
 abbrev pub wanted_of_command : Text → List Row → Wanted

@@ -1,6 +1,6 @@
 //! Trade capture without a session.
 
-ghost use Rattle.std.specs.Prelude.{◌≡◌, ◌++◌, IfOk, IsErrOf, List, MatchOption, None, OnOk, ℕ};
+ghost use Rattle.std.specs.Prelude.{◌≡◌, ◌≤◌, ◌++◌, IfOk, IsErrOf, IsOk, List, MatchOption, None, OnOk, length, ℕ};
 ghost use Rattle.gu_fix.specs.Encoding.{fault_of, message_of};
 ghost use Rattle.gu_fix.specs.WholeMessage.{IsWhole};
 ghost use Rattle.gu_streams.specs.Reads.{HasStopped};
@@ -68,6 +68,9 @@ impl Capturing {
     fn enter(&mut self, command: &Command) -> Result<Option<Rejection>, AllocError>
         ensures rejection { IfOk result (λ rejection. rejection ≡ rejection_in self.old.book command.now) }
         ensures after { OnOk result (self.new ≡ record self.old { book = book_after self.old.book command.now }) }
+
+        // That the book is full is said to the firm, and ends nothing.
+        ensures full { 1000000 ≤ length self.old.book.history → IsOk result }
     {
         match self.book.reply_to(command) {
             Ok(reply) => Ok(Rejection::of_reply(reply)),

@@ -1,10 +1,11 @@
-//! What the files of a run hold: a reference, and the world that a script leads to.
+//! The files of a run: a reference, a script that is run first, and a journal.
 
 use crate::error::RunError;
 use crate::replaying::played;
 use gu_ref::{RefFault, Reference};
+use gu_script::write_journal;
 use gu_streams::{CountedReads, StreamError};
-use gu_terms::Seed;
+use gu_terms::{History, Seed};
 use gu_world::World;
 use std::alloc::Global;
 use std::fs::File;
@@ -48,5 +49,19 @@ pub fn world_after<R: Files + Alloc<A = Global>>(
             drop(reference);
             Err(RunError::from(error))
         }
+    }
+}
+
+/// Writes the journal of a history to the file of a path, which is made, or loses what it had. A file that can't be made is a fault in
+/// writing.
+pub fn journal_at<R: Files + Alloc<A = Global>>(
+    rt: &R,
+    path: &str,
+    history: &History,
+) -> Result<(), StreamError> {
+    match File::create(rt, path) {
+        Ok(mut file) => write_journal(rt.alloc(), history, &mut file),
+        Err(error) if error.kind() == io::ErrorKind::OutOfMemory => Err(StreamError::Memory),
+        Err(_) => Err(StreamError::Write),
     }
 }

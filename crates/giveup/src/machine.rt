@@ -34,6 +34,8 @@ pub struct Machine<'a, R> {
     pub lack: Lack,
     /// The one port that can be had, whichever is asked for.
     pub port: Mutex<Option<TcpListener>>,
+    /// What is written to the file `log`.
+    pub log: &'a Mutex<Vec<u8>>,
     pub out: Mutex<Vec<u8>>,
     pub err: Mutex<Vec<u8>>,
     /// The paths that were opened, each with a blank after it.
@@ -175,35 +177,43 @@ impl<R> Env for Machine<'_, R> {
     }
 }
 
-/// A file that is only read.
+/// A file: what it holds, and where what is written to it goes. A file without such a place takes nothing.
 #[derive(Drop)]
-pub struct Text<'a> {
+pub struct Text<'a, R> {
+    host: &'a R,
     bytes: &'a [u8],
+    written: Option<&'a Mutex<Vec<u8>>>,
 }
 
-impl Read for Text<'_> {
+impl<R> Read for Text<'_, R> {
     fn read(&mut self, buf: &mut [u8]) -> io::Result<usize> {
         self.bytes.read(buf)
     }
 }
 
-impl Write for Text<'_> {
-    fn write(&mut self, _buf: &[u8]) -> io::Result<usize> {
-        Err(Error::from(ErrorKind::Unsupported))
+impl<R: Wait> Write for Text<'_, R> {
+    fn write(&mut self, buf: &[u8]) -> io::Result<usize> {
+        match self.written {
+            Some(written) => {
+                written.lock(self.host).extend_from_slice(buf)?;
+                Ok(buf.len())
+            }
+            None => unsupported(),
+        }
     }
 
     fn flush(&mut self) -> io::Result<()> {
-        unsupported()
+        Ok(())
     }
 }
 
-impl Seek for Text<'_> {
+impl<R> Seek for Text<'_, R> {
     fn seek(&mut self, _to: SeekFrom) -> io::Result<u64> {
         unsupported()
     }
 }
 
-impl OpenFile for Text<'_> {
+impl<R> OpenFile for Text<'_, R> {
     fn metadata(&self) -> io::Result<Metadata> {
         unsupported()
     }
@@ -222,20 +232,24 @@ impl OpenFile for Text<'_> {
 }
 
 impl<'a, R: Wait> Files for Machine<'a, R> {
-    type File = Text<'a>;
+    type File = Text<'a, R>;
 
-    type Dir = Text<'a>;
+    type Dir = Text<'a, R>;
 
-    fn open_file(&self, _how: &OpenOptions, path: &str) -> io::Result<Text<'a>> {
+    fn open_file(&self, _how: &OpenOptions, path: &str) -> io::Result<Text<'a, R>> {
         self.append(&self.opened, path.as_bytes())?;
         self.append(&self.opened, b" ")?;
         match self.files.iter().find(|file| file.0 == path) {
-            Some(file) => Ok(Text { bytes: file.1 }),
+            Some(file) => Ok(Text {
+                host: self.host,
+                bytes: file.1,
+                written: if path == "log" { Some(self.log) } else { None },
+            }),
             None => Err(Error::from(ErrorKind::NotFound)),
         }
     }
 
-    fn open_dir(&self, _path: &str) -> io::Result<Text<'a>> {
+    fn open_dir(&self, _path: &str) -> io::Result<Text<'a, R>> {
         unsupported()
     }
 

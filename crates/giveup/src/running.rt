@@ -3,7 +3,7 @@
 use crate::capturing::capture;
 use crate::checking::check;
 use crate::error::RunError;
-use crate::files::{reference_at, world_after};
+use crate::files::{journal_at, reference_at, world_after};
 use crate::fixing::fix;
 use crate::progress::Told;
 use crate::replaying::replay;
@@ -13,6 +13,7 @@ use crate::status::Status;
 use crate::words::{Task, answer, firm_named, given, read};
 use gu_engine::{Connection, SystemClock};
 use gu_houses::OverBook;
+use gu_server::Closed;
 use gu_streams::{CountedReads, StreamError, send};
 use gu_terms::{FirmId, Seed};
 use std::alloc::Global;
@@ -93,8 +94,28 @@ fn run_fix<R: Input + Print + Files + Clock + RandomSource + Alloc<A = Global>>(
     Ok(Status::Done)
 }
 
+/// Prints the lines of a day's end, and gives the status that the audit makes.
+fn print_end<R: Print + Alloc<A = Global>>(rt: &R, closed: &Closed) -> Result<Status, StreamError> {
+    let (text, is_well) = closed.text(rt.alloc())?;
+    send(&mut io::writer(rt), text.as_bytes())?;
+    Ok(if is_well { Status::Done } else { Status::Fault })
+}
+
+/// Writes the journal of a day, where a file for it is named.
+fn keep_journal<R: Files + Alloc<A = Global>>(
+    rt: &R,
+    path: Option<&str>,
+    closed: &Closed,
+) -> Result<(), StreamError> {
+    match path {
+        Some(path) => journal_at(rt, path, closed.book.history()),
+        None => Ok(()),
+    }
+}
+
 /// A server of firms on a port of this machine, on the reference of a file, after a script, where one is named. At its end the lines of
-/// the day are printed, also where not every connection could be accepted.
+/// the day are printed, also where not every connection could be accepted, and then its journal is written, where a file is named for it,
+/// also where the lines couldn't be printed.
 fn run_serve<
     R: Print
         + Files
@@ -111,12 +132,13 @@ fn run_serve<
     let reference = reference_at(rt, serving.reference)?;
     let world = world_after(rt, reference, serving.script, seed)?;
     let closed = serve(rt, world, serving, terminal)?;
-    let (text, is_well) = closed.text(rt.alloc()).map_err(StreamError::from)?;
-    send(&mut io::writer(rt), text.as_bytes())?;
+    let printed = print_end(rt, &closed);
+    let journaled = keep_journal(rt, serving.journal, &closed);
+    let status = printed?;
+    journaled?;
     match closed.fault {
         Some(fault) => Err(RunError::from(fault)),
-        None if is_well => Ok(Status::Done),
-        None => Ok(Status::Fault),
+        None => Ok(status),
     }
 }
 

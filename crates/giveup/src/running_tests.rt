@@ -1,6 +1,7 @@
 //! Runs of the program on a machine of the tests' own. A row is the words, ` < ` and standard input; and, after ` -> `, the status, the
-//! paths that were opened, `; `, standard output, `; ` and standard error. `/` ends a line, and `|` is SOH. The file `house` is the
-//! sample, `bad` has an eighteenth row that is none, `day` opens a day, and the second line of `two` is bad.
+//! paths that were opened, `; `, standard output, `; ` and standard error; and `; ` and what was written to the file `log`, if anything was.
+//! `/` ends a line, and `|` is SOH. The file `house` is the sample, `bad` has an eighteenth row that is none, `day` opens a day, and the
+//! second line of `two` is bad. Nothing can be written to these.
 
 use crate::machine::{Lack, Machine};
 use crate::rows::check_told;
@@ -61,7 +62,11 @@ giveup check < SHEET G1 0/END/ -> 0 ; OK 0/;
 /// second connection is to be accepted, that fails.
 const SERVED: &str = "\
 giveup serve house 9878 --script day --connections 1 < 8=FIXT.1.1|9=66|35=A|49=E1|56=GIVEUP|34=1|52=20260105-09:00:00|98=0|108=30|1137=9|10=004|8=FIXT.1.1|9=112|35=AE|49=E1|56=GIVEUP|34=2|52=20260105-09:00:00|571=R1|880=M1|55=XF6|32=10|31=101.5|75=20260105|552=1|54=1|1=H1|10=236| -> 0 house day ; ENTRIES 2/SWEPT 0/AUDIT OK/;
+giveup serve house 9878 --script day --connections 1 --journal log < 8=FIXT.1.1|9=66|35=A|49=E1|56=GIVEUP|34=1|52=20260105-09:00:00|98=0|108=30|1137=9|10=004|8=FIXT.1.1|9=112|35=AE|49=E1|56=GIVEUP|34=2|52=20260105-09:00:00|571=R1|880=M1|55=XF6|32=10|31=101.5|75=20260105|552=1|54=1|1=H1|10=236| -> 0 house day log ; ENTRIES 2/SWEPT 0/AUDIT OK/; ; DAY 20260105/REPORT E1 R1 M1 B XF6 10 101.5 H1/
+giveup serve house 9878 --script day --connections 1 --journal day < 8=FIXT.1.1|9=66|35=A|49=E1|56=GIVEUP|34=1|52=20260105-09:00:00|98=0|108=30|1137=9|10=004|8=FIXT.1.1|9=112|35=AE|49=E1|56=GIVEUP|34=2|52=20260105-09:00:00|571=R1|880=M1|55=XF6|32=10|31=101.5|75=20260105|552=1|54=1|1=H1|10=236| -> 1 house day day ; ENTRIES 2/SWEPT 0/AUDIT OK/; giveup: write fault/
+giveup serve house 9878 --script day --connections 1 --journal gone < 8=FIXT.1.1|9=66|35=A|49=E1|56=GIVEUP|34=1|52=20260105-09:00:00|98=0|108=30|1137=9|10=004|8=FIXT.1.1|9=112|35=AE|49=E1|56=GIVEUP|34=2|52=20260105-09:00:00|571=R1|880=M1|55=XF6|32=10|31=101.5|75=20260105|552=1|54=1|1=H1|10=236| -> 1 house day gone ; ENTRIES 2/SWEPT 0/AUDIT OK/; giveup: write fault/
 giveup serve house 9878 --script day --connections 2 < 8=FIXT.1.1|9=66|35=A|49=E1|56=GIVEUP|34=1|52=20260105-09:00:00|98=0|108=30|1137=9|10=004|8=FIXT.1.1|9=112|35=AE|49=E1|56=GIVEUP|34=2|52=20260105-09:00:00|571=R1|880=M1|55=XF6|32=10|31=101.5|75=20260105|552=1|54=1|1=H1|10=236| -> 1 house day ; ENTRIES 2/SWEPT 0/AUDIT OK/; giveup: read fault/
+giveup serve house 9878 --script day --connections 2 --journal log < 8=FIXT.1.1|9=66|35=A|49=E1|56=GIVEUP|34=1|52=20260105-09:00:00|98=0|108=30|1137=9|10=004|8=FIXT.1.1|9=112|35=AE|49=E1|56=GIVEUP|34=2|52=20260105-09:00:00|571=R1|880=M1|55=XF6|32=10|31=101.5|75=20260105|552=1|54=1|1=H1|10=236| -> 1 house day log ; ENTRIES 2/SWEPT 0/AUDIT OK/; giveup: read fault/; DAY 20260105/REPORT E1 R1 M1 B XF6 10 101.5 H1/
 ";
 
 /// What a run on a machine did.
@@ -76,8 +81,10 @@ fn run<R: Threads + Wait + Sync>(machine: Machine<'_, R>) -> Result<String, Allo
     let opened = shown(alloc, machine.opened.lock(host).as_slice())?;
     let out = shown(alloc, machine.out.lock(host).as_slice())?;
     let err = shown(alloc, machine.err.lock(host).as_slice())?;
+    let log = shown(alloc, machine.log.lock(host).as_slice())?;
     drop(machine);
-    format!(in alloc; "{number} {opened}; {out}; {err}")
+    let end = if log.is_empty() { "" } else { "; " };
+    format!(in alloc; "{number} {opened}; {out}; {err}{end}{log}")
 }
 
 /// What a run with these words and this input does on a machine with this port.
@@ -93,6 +100,7 @@ fn told<R: Threads + Wait + Sync>(
     let input = wire(alloc, input)?;
     let mut bad = Vec::from_slice(alloc, ROWS)?;
     bad.extend_from_slice(b"FIRM\n")?;
+    let log = Mutex::new(Vec::new(alloc));
     run(Machine {
         host,
         alloc,
@@ -102,10 +110,12 @@ fn told<R: Threads + Wait + Sync>(
             ("bad", &bad),
             ("day", b"DAY 20260105\n"),
             ("two", b"DAY 20260105\nDAY\n"),
+            ("log", b""),
         ],
         input: input.as_bytes(),
         lack,
         port: Mutex::new(port),
+        log: &log,
         out: Mutex::new(Vec::new(alloc)),
         err: Mutex::new(Vec::new(alloc)),
         opened: Mutex::new(Vec::new(alloc)),

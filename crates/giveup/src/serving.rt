@@ -27,6 +27,8 @@ pub struct Serving<'a> {
     pub connections: u16,
     /// Of how many accepted give-ups each connection sends the order of the last to the sweepers: 0 to 1,000, where 0 sends none.
     pub every: u16,
+    /// The path of the file to which the day is written as a script, where one is named.
+    pub journal: Option<&'a str>,
     ghost port_from_one: { 1 ≤ port },
     ghost one_connection: { 1 ≤ connections },
     ghost most_connections: { connections ≤ 32 },

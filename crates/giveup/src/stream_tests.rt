@@ -120,6 +120,23 @@ fn a_script_is_answered_alike_however_it_is_cut(rt: HostRuntime) {
     check_cuts(&rt, alloc, Engine::Replay, &script, &answers);
 }
 
+/// Two days, of 13 bytes each.
+const DAYS: &str = "DAY 20260105/DAY 20260106/";
+
+/// A line a read: the first is answered by a write of its own, before the second is read.
+const LINE_BY_LINE: &str = "\
+piece 13, writes 0 -> write fault: 0
+piece 13, writes 1 -> write fault: 5
+piece 13, writes 2 -> done: 10
+piece 13, reads 1 -> read fault: 5
+";
+
+#[test]
+fn a_line_is_answered_before_the_next_is_read(rt: HostRuntime) {
+    let alloc = rt.alloc();
+    check_terms(&rt, alloc, Engine::Replay, DAYS, "1 OK/2 OK/", LINE_BY_LINE);
+}
+
 /// Asserts that a script that comes byte by byte, and fails at one of these reads, is answered so.
 fn check_reads(
     rt: &impl Abort,

@@ -103,11 +103,13 @@ fn serving_text(alloc: Global, serving: Serving<'_>) -> Result<String, AllocErro
         reference,
         port,
         script,
+        journal,
         connections,
         every,
     } = serving;
     let script = script.unwrap_or("no script");
-    format!(in alloc; "serve {reference} {port}, {script}, {connections}, {every}")
+    let journal = journal.unwrap_or("no journal");
+    format!(in alloc; "serve {reference} {port}, {script}, {journal}, {connections}, {every}")
 }
 
 /// A task, with its words.
@@ -164,16 +166,18 @@ giveup check -> check
 giveup replay house.csv -> replay house.csv
 giveup fix E1 house.csv -> fix E1 house.csv, no script
 giveup fix E1 house.csv --script day -> fix E1 house.csv, day
-giveup serve house.csv 9878 -> serve house.csv 9878, no script, 8, 16
-giveup serve house.csv 1 -> serve house.csv 1, no script, 8, 16
-giveup serve house.csv 65535 -> serve house.csv 65535, no script, 8, 16
-giveup serve house.csv 09878 -> serve house.csv 9878, no script, 8, 16
-giveup serve house.csv 9878 --script day -> serve house.csv 9878, day, 8, 16
-giveup serve house.csv 9878 --connections 1 -> serve house.csv 9878, no script, 1, 16
-giveup serve house.csv 9878 --connections 32 -> serve house.csv 9878, no script, 32, 16
-giveup serve house.csv 9878 --every 0 -> serve house.csv 9878, no script, 8, 0
-giveup serve house.csv 9878 --every=1000 -> serve house.csv 9878, no script, 8, 1000
-giveup serve --every 1 --connections=2 --script day house.csv 9878 -> serve house.csv 9878, day, 2, 1
+giveup serve house.csv 9878 -> serve house.csv 9878, no script, no journal, 8, 16
+giveup serve house.csv 1 -> serve house.csv 1, no script, no journal, 8, 16
+giveup serve house.csv 65535 -> serve house.csv 65535, no script, no journal, 8, 16
+giveup serve house.csv 09878 -> serve house.csv 9878, no script, no journal, 8, 16
+giveup serve house.csv 9878 --script day -> serve house.csv 9878, day, no journal, 8, 16
+giveup serve house.csv 9878 --journal log -> serve house.csv 9878, no script, log, 8, 16
+giveup serve house.csv 9878 --journal=log --script day -> serve house.csv 9878, day, log, 8, 16
+giveup serve house.csv 9878 --connections 1 -> serve house.csv 9878, no script, no journal, 1, 16
+giveup serve house.csv 9878 --connections 32 -> serve house.csv 9878, no script, no journal, 32, 16
+giveup serve house.csv 9878 --every 0 -> serve house.csv 9878, no script, no journal, 8, 0
+giveup serve house.csv 9878 --every=1000 -> serve house.csv 9878, no script, no journal, 8, 1000
+giveup serve --every 1 --connections=2 --script day house.csv 9878 -> serve house.csv 9878, day, no journal, 2, 1
 ";
 
 /// Words that ask for help.
@@ -221,7 +225,10 @@ giveup serve house.csv 9878 --every 1001 -> ValueValidation 2
 giveup serve house.csv 9878 --every=-1 -> ValueValidation 2
 giveup serve house.csv 9878 --every -> InvalidValue 2
 giveup serve house.csv 9878 --sweepers 2 -> UnknownArgument 2
-giveup serve house.csv 9878 --journal log -> UnknownArgument 2
+giveup serve house.csv 9878 --journal -> InvalidValue 2
+giveup serve house.csv 9878 --journal log --journal log -> ArgumentConflict 2
+giveup serve house.csv 9878 --day log -> UnknownArgument 2
+giveup replay house.csv --journal log -> UnknownArgument 2
 ";
 
 #[test]
@@ -286,7 +293,7 @@ const HELP_TEXT: &str =
 
 /// What help says of a server.
 const SERVE_TEXT: &str =
-    "Serves firms on a port of this machine, with sweepers beside them: prints ENTRIES, SWEPT and AUDIT at the end\n\nUsage: giveup serve [OPTIONS] <REF> <PORT>\n\nArguments:\n  <REF>   The path of the reference\n  <PORT>  The port on which it listens, 1 to 65535\n\nOptions:\n      --script <FILE>    The path of a script that is run first, without output\n      --connections <N>  How many connections it accepts, 1 to 32 [default: 8]\n      --every <K>        Each connection sends every K-th of its accepted give-ups to the sweepers, 0 to 1000; 0 sends none [default: 16]\n  -h, --help             Print help\n";
+    "Serves firms on a port of this machine, with sweepers beside them: prints ENTRIES, SWEPT and AUDIT at the end\n\nUsage: giveup serve [OPTIONS] <REF> <PORT>\n\nArguments:\n  <REF>   The path of the reference\n  <PORT>  The port on which it listens, 1 to 65535\n\nOptions:\n      --script <FILE>    The path of a script that is run first, without output\n      --connections <N>  How many connections it accepts, 1 to 32 [default: 8]\n      --every <K>        Each connection sends every K-th of its accepted give-ups to the sweepers, 0 to 1000; 0 sends none [default: 16]\n      --journal <FILE>   The path of a file to which the day is written at its end, as a script that makes the same entries\n  -h, --help             Print help\n";
 
 #[test]
 fn a_refusal_says_why_and_how_to_call_and_help_names_each_task(rt: HostRuntime) {

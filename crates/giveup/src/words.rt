@@ -50,6 +50,10 @@ const REFERENCE: &str = "The path of the reference";
 /// What help says of a script that is run first.
 const SCRIPT: &str = "The path of a script that is run first, without output";
 
+/// What help says of a journal.
+const JOURNAL: &str =
+    "The path of a file to which the day is written at its end, as a script that makes the same entries";
+
 /// A word that must come after a command.
 fn needed<'a>(alloc: Global, name: &'a str, help: &'a str) -> Arg<'a>
     ensures rule { rule_of result ≡ needed name.entry.now }
@@ -163,7 +167,9 @@ fn serve_command<'a>(alloc: Global) -> Result<Command<'a>, AllocError>
         "16",
         "Each connection sends every K-th of its accepted give-ups to the sweepers, 0 to 1000; 0 sends none",
     );
-    of_firms.arg(every)
+    let with_sweeps = of_firms.arg(every)?;
+    let journal = path_option(alloc, "journal", JOURNAL);
+    with_sweeps.arg(journal)
 }
 
 /// A command, and one more after it, where that was made.
@@ -234,6 +240,7 @@ fn serving_of<'a>(found: &ArgMatches<'a>) -> Serving<'a>
         script: found.get_str("script"),
         connections: number(word(found, "N"), 1, 32),
         every: number(word(found, "K"), 0, 1000),
+        journal: found.get_str("journal"),
     }
 }
 

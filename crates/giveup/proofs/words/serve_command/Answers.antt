@@ -22,4 +22,7 @@ returns c =
     let script_made : app_of c.in_ok-after_script.after_script ≡ with_script = word_added c.in_ok-on_port.on_port c.in_ok-after_script.after_script c.path_option-script.result with_port (path_rule (codes "script")) c.in_ok-after_script.ensures c.path_option-script.ensures.local is_script port_made in
     let with_connections : App = with_rule with_script connections_rule in
     let connections_made : app_of c.in_ok-of_firms.of_firms ≡ with_connections = word_added c.in_ok-after_script.after_script c.in_ok-of_firms.of_firms c.number_option-connections.result with_script connections_rule c.in_ok-of_firms.ensures c.number_option-connections.ensures.local is_connections script_made in
-    last_word_added c.arg-5.result c.in_ok-of_firms.of_firms c.number_option-every.result with_connections every_rule connections_made c.number_option-every.ensures.local is_every c.arg-5.ensures
+    let with_every : App = with_rule with_connections every_rule in
+    let every_made : app_of c.in_ok-with_sweeps.with_sweeps ≡ with_every = word_added c.in_ok-of_firms.of_firms c.in_ok-with_sweeps.with_sweeps c.number_option-every.result with_connections every_rule c.in_ok-with_sweeps.ensures c.number_option-every.ensures.local is_every connections_made in
+    let is_journal : rule_of c.path_option-journal.result ≡ path_rule (codes "journal") = search rules in
+    last_word_added c.arg-6.result c.in_ok-with_sweeps.with_sweeps c.path_option-journal.result with_every (path_rule (codes "journal")) every_made c.path_option-journal.ensures.local is_journal c.arg-6.ensures
