@@ -198,7 +198,7 @@ impl<R: Wait> Write for Text<'_, R> {
                 written.lock(self.host).extend_from_slice(buf)?;
                 Ok(buf.len())
             }
-            None => unsupported(),
+            None => Err(Error::from(ErrorKind::Unsupported)),
         }
     }
 
