@@ -34,6 +34,8 @@ mod questions;
 #[cfg(test)]
 mod readers;
 #[cfg(test)]
+mod recipients;
+#[cfg(test)]
 mod reversals;
 #[cfg(test)]
 mod sample;

@@ -28,7 +28,7 @@ REPORT E2 R8 M7 S XF6 10 101.5 H2  = is of a trade
 ";
 
 /// The report that a firm asks for, on one day.
-fn report_of(command: &Command) -> Option<Report> {
+pub fn report_of(command: &Command) -> Option<Report> {
     let day = Day::new(2026, 1, 5)?;
     match command {
         Command::ReportSide {
@@ -81,7 +81,7 @@ fn read_report(alloc: Global, line: &str) -> Option<Report> {
 }
 
 /// Takes in a report where it is new and fits, and tells what becomes of it.
-fn take(trades: &mut Trades, report: &Report) -> Result<&'static str, AllocError> {
+pub fn take(trades: &mut Trades, report: &Report) -> Result<&'static str, AllocError> {
     if trades.side_of(report.firm, report.id).is_some() {
         return Ok("is known");
     }

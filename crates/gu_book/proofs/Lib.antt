@@ -18,6 +18,6 @@ pub mod KeptRooms
 pub mod KnownAccounts
 pub mod LimitLemmas
 pub mod Moves
-pub mod NoticeLemmas
 pub mod SweptMoves
 pub mod TakenIn
+pub mod TellingLemmas

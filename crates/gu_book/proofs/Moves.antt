@@ -32,7 +32,7 @@ use Rattle.gu_rules.specs.Orderly.{IsShown}
 use Rattle.gu_rules.specs.Limits.{path_after}
 use Rattle.gu_rules.specs.Sweeps.{part, parts}
 use Rattle.gu_rules.specs.Positions.{report_after}
-use Rattle.gu_rules.proofs.Facts.{IsThere, open-there, row_at-other, there}
+use Rattle.gu_rules.proofs.Facts.{IsThere, open-there, row_at-other}
 use Rattle.gu_rules.proofs.InOrder.{in_order}
 use Rattle.gu_rules.proofs.OrderedReports.{all-push}
 use Rattle.gu_rules.proofs.KnownOnes.{all-found}

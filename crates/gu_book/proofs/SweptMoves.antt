@@ -31,7 +31,7 @@ use Rattle.gu_rules.specs.Offers.{standing_of}
 use Rattle.gu_rules.specs.Sweeps.{IsSweepOf}
 use Rattle.gu_rules.specs.Views.{group_view, offers_shown}
 use Rattle.gu_rules.proofs.Parts.{lots_of-sum}
-use Rattle.gu_rules.proofs.SweptOffers.{TakesLeft, all-left, among}
+use Rattle.gu_rules.proofs.SweptOffers.{TakesLeft, all-left}
 use Rattle.gu_book.specs.Beside.{IsKept}
 use Rattle.gu_book.specs.Moving.{HasRows, MayMove, ShowsPath, lots_used}
 use Rattle.gu_book.specs.declared.totals.Totals.{Totals}

@@ -24,7 +24,6 @@ use Rattle.gu_terms.specs.declared.reply.Reply.TheVariants.{Accepted}
 use Rattle.gu_terms.specs.declared.report.Report.{Report}
 use Rattle.gu_terms.specs.declared.side.Side.{Side}
 use Rattle.gu_terms.specs.declared.symbol.Symbol.{Symbol}
-use Rattle.gu_terms.proofs.SameValues.{both}
 use Rattle.gu_ref.specs.Tables.{Tables}
 use Rattle.gu_trades.specs.Counterparts.{standing_in}
 use Rattle.gu_trades.specs.Matching.{is_of_trade}

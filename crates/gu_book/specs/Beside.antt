@@ -32,10 +32,13 @@ use Rattle.gu_positions.specs.Rows.{has_row, lots_in, lots_on}
 use Rattle.gu_rules.specs.Answer.{State}
 use Rattle.gu_rules.specs.Legal.{IsLegal}
 use Rattle.gu_rules.specs.Limits.{limit_of, limit_set, path_after, use_of}
+use Rattle.gu_rules.specs.Notices.{Register, register_of}
 use Rattle.gu_rules.specs.Offers.{has_give_up, standing_of}
 use Rattle.gu_rules.specs.Orderly.{IsOrderly, IsShown}
 use Rattle.gu_rules.specs.Positions.{held_of}
 use Rattle.gu_rules.specs.Reports.{open_day, reports_of}
+use Rattle.gu_notices.specs.Recipients.{AreRecipients}
+use Rattle.gu_notices.specs.declared.firm_filter.FirmFilter.{FirmFilter}
 use Rattle.gu_book.specs.Counted.{AreVersions}
 use Rattle.gu_book.specs.declared.totals.GiveUpKey.{GiveUpKey}
 use Rattle.gu_book.specs.declared.totals.Totals.{Totals}
@@ -119,3 +122,13 @@ pub record IsKeptLegal (reference : Tables) (history : List Entry) (totals : Tot
   pub known : IsAccounted reference totals
   pub shown : IsShown reference totals.offers
   pub counted : AreVersions history versions
+
+-- what is kept, as notices are written by it
+abbrev pub register_kept : Tables → Totals → Register
+register_kept reference totals =
+    record { reference = reference; reports = totals.trades; offer = λ n. option_map (λ (r : Row). r.offer) (row_at totals.offers n) }
+
+-- and with it, of each of the first entries, a set of firms that may hold whom it tells
+pub record IsKeptWhole (reference : Tables) (history : List Entry) (totals : Totals) (versions : Versions) (recipients : List FirmFilter) : Type 0 where
+  pub entries : IsKeptLegal reference history totals versions
+  pub told : AreRecipients (register_of (record { reference = reference; history = history })) history recipients

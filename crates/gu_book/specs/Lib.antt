@@ -8,4 +8,3 @@ pub mod Met
 pub mod Moving
 pub mod Questions
 pub mod Shown
-pub mod Telling

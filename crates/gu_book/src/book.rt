@@ -19,17 +19,18 @@ use crate::current::shows_all;
 use crate::error::{AskError, CommitError, EnterError};
 use crate::limits::rows_in_order;
 use crate::met::{Met, MetRooms};
-use crate::notices::{notices_of, stretch_of};
 use crate::positions::{is_of_firm, rows_of_account};
 use crate::sweeping::{
     asks_for_a_sweep, kept_sweep, make_ways, move_takes, sum_swept, swept_receipt,
 };
 use crate::taking::take_in;
+use crate::telling::register_of;
 use crate::totals::Totals;
 use crate::touching::{know, touch, touched_in};
 use crate::versions::{Touched, Versions};
 use crate::views::view_of;
 use gu_flow::Proposal;
+use gu_notices::{FirmFilter, Log, note_recipients, notices_of, stretch_of};
 use gu_ref::Reference;
 use gu_terms::{
     AccountId, Command, Day, Entry, FirmId, Group, History, KeptSweep, LimitRow, MOST_ENTRIES,
@@ -47,6 +48,8 @@ pub struct Book {
     totals: Totals,
     /// How many entries touched each group.
     versions: Versions,
+    /// Of the first entries the firms that each may tell something.
+    recipients: Vec<FirmFilter>,
     alloc: Global,
 }
 
@@ -57,12 +60,14 @@ impl Drop for Book {
             history,
             totals,
             versions,
+            recipients,
             alloc: _,
         } = self;
         drop(reference);
         drop(history);
         drop(totals);
         drop(versions);
+        drop(recipients);
     }
 }
 
@@ -71,11 +76,11 @@ impl Model for Book {
 
     ghost Value = { BookState };
 
-    ghost use Rattle.gu_book.specs.Beside.{IsKeptLegal};
+    ghost use Rattle.gu_book.specs.Beside.{IsKeptWhole};
 
     ghost view = { λ b. record { reference = b.reference; history = b.history } };
 
-    ghost invariant = { λ b. IsKeptLegal b.reference b.history b.totals b.versions };
+    ghost invariant = { λ b. IsKeptWhole b.reference b.history b.totals b.versions b.recipients.items };
 }
 
 /// Whether a reply accepts.
@@ -102,6 +107,7 @@ impl Book {
             history: History::new(alloc),
             totals: Totals::seeded(alloc, seed),
             versions: Versions::new(alloc),
+            recipients: Vec::new(alloc),
             alloc,
         }
     }
@@ -134,6 +140,8 @@ impl Book {
             }
         }
         touch(&mut self.versions, &touched, place);
+        // Shows the prover: no match id has more than two reports.
+        self.totals.trades.rules();
         Ok(reply)
     }
 
@@ -232,15 +240,22 @@ impl Book {
         ensures list { IfOk result (λ notices. notices.list.items ≡ notices_of self.now firm from) }
     {
         let next = self.history.len() as u64 + 1;
-        let list = notices_of(
-            self.alloc,
-            &self.reference,
-            &self.totals,
-            &self.history,
-            &firm,
-            from,
-        )?;
+        let register = register_of(&self.reference, &self.totals);
+        let log = Log {
+            history: &self.history,
+            recipients: &self.recipients,
+        };
+        let list = notices_of(self.alloc, &register, &log, &firm, from)?;
         Ok(Notices { next, list })
+    }
+
+    /// Notes of each entry the firms that it may tell something, so that a stretch looks into no others. No answer changes; where an
+    /// allocation fails, the later entries are looked into as before.
+    pub fn note_recipients(&mut self) -> Result<(), AllocError>
+        ensures { self.new ≡ self.old }
+    {
+        let register = register_of(&self.reference, &self.totals);
+        note_recipients(&register, &self.history, &mut self.recipients)
     }
 
     /// A stretch of what a firm is told of the entries from a number on. It looks at 1,024 entries at most, and at no further entry
@@ -248,14 +263,12 @@ impl Book {
     pub fn stretch(&self, firm: FirmId, from: u64) -> Result<Stretch, AllocError>
         ensures { IfOk result (IsStretch self.now firm from) }
     {
-        stretch_of(
-            self.alloc,
-            &self.reference,
-            &self.totals,
-            &self.history,
-            &firm,
-            from,
-        )
+        let register = register_of(&self.reference, &self.totals);
+        let log = Log {
+            history: &self.history,
+            recipients: &self.recipients,
+        };
+        stretch_of(self.alloc, &register, &log, &firm, from)
     }
 
     /// The view of a group as the book stands: its open offers, and the room of each key that they come under.
@@ -332,6 +345,8 @@ impl Book {
             rooms,
         );
         touch(&mut self.versions, &touched, place);
+        // Shows the prover: no match id has more than two reports.
+        self.totals.trades.rules();
         Ok(())
     }
 

@@ -8,11 +8,10 @@ mod current;
 mod error;
 mod limits;
 mod met;
-mod notices;
 mod positions;
-mod span;
 mod sweeping;
 mod taking;
+mod telling;
 mod totals;
 mod touching;
 mod versions;
@@ -21,6 +20,7 @@ mod views;
 pub use asking::Answer;
 pub use book::Book;
 pub use error::{AskError, CommitError, EnterError};
+pub use gu_notices::LONGEST_STRETCH;
 pub use gu_rules::{
     a_group_has_few_open_offers, an_entry_elsewhere_leaves_the_view, an_entry_makes_few_offers,
     as_many_lots_are_held_long_as_short, each_offer_gives_up_a_trade_by_an_agreement,
@@ -29,5 +29,4 @@ pub use gu_rules::{
     no_more_is_moved_than_an_offer_has, no_more_leaves_an_account_than_it_traded,
     stretches_join_to_the_whole, the_least_refusal_is_given,
 };
-pub use span::LONGEST_STRETCH;
 pub use sweeping::{kept_sweep, swept_receipt};

@@ -9,26 +9,33 @@ use Rattle.gu_terms.specs.declared.takes.Take.{Take}
 use Rattle.gu_view.specs.View.{GroupView}
 use Rattle.gu_rules.specs.BookState.{BookState}
 use Rattle.gu_rules.specs.Legal.{StandsLast}
-use Rattle.gu_book.specs.Beside.{IsKeptLegal}
+use Rattle.gu_notices.proofs.RecipientLemmas.{few_sides}
+use Rattle.gu_book.specs.Beside.{IsKeptWhole}
 use Rattle.gu_book.specs.Commits.{IsCurrent, sweep_of}
 use Rattle.gu_book.specs.Counted.{version_in}
 use Rattle.gu_book.specs.Moving.{HasRows, MovesAll}
 use Rattle.gu_book.proofs.Committing.{legal-still, legal-swept, may-move, swept-last}
 use Rattle.gu_book.proofs.CountedLemmas.{versions-fit, versions-same}
+use Rattle.gu_book.proofs.TellingLemmas.{whole-more}
 use Rattle.gu_book.proofs.book.Book.append_sweep.Goals as goal
 
 pub invariant_of-self-in_err-make_ways : goal.invariant_of-self-in_err-make_ways
 invariant_of-self-in_err-make_ways c =
     let old = c.self.inside in
-    legal-still old.reference old.history old.totals c.make_ways.new.totals old.versions c.know.new.versions c.self.invariant c.make_ways.ensures.same (c.make_ways.ensures.known old.reference) c.know.ensures.days
-    c.know.ensures.same
+    record {
+      entries = legal-still old.reference old.history old.totals c.make_ways.new.totals old.versions c.know.new.versions c.self.invariant.entries c.make_ways.ensures.same (c.make_ways.ensures.known old.reference)
+          c.know.ensures.days c.know.ensures.same;
+      told = c.self.invariant.told;
+    }
 
 pub invariant_of-self-in_err-push_swept : goal.invariant_of-self-in_err-push_swept
 invariant_of-self-in_err-push_swept c =
     let old = c.self.inside in
-    subst (λ (history : List Entry). IsKeptLegal old.reference history c.make_ways.new.totals c.know.new.versions) (sym c.in_err-push_swept.ensures.refused)
-    (legal-still old.reference old.history old.totals c.make_ways.new.totals old.versions c.know.new.versions c.self.invariant c.make_ways.ensures.same (c.make_ways.ensures.known old.reference)
-    c.know.ensures.days c.know.ensures.same)
+    let kept =
+    legal-still old.reference old.history old.totals c.make_ways.new.totals old.versions c.know.new.versions c.self.invariant.entries c.make_ways.ensures.same (c.make_ways.ensures.known old.reference)
+    c.know.ensures.days c.know.ensures.same in
+    subst (λ (history : List Entry). IsKeptWhole old.reference history c.make_ways.new.totals c.know.new.versions old.recipients.items) (sym c.in_err-push_swept.ensures.refused)
+    (record { entries = kept; told = c.self.invariant.told })
 
 pub move_takes-requires : goal.move_takes-requires
 move_takes-requires c =
@@ -38,14 +45,14 @@ move_takes-requires c =
     let current = subst (λ (k : BookState). IsCurrent k proposal.view) (sym c.self.view_is) c.requires.current in
     let made = subst (AllByRecursion (λ (t : Take). HasRows c.make_ways.new.totals t.offer)) (c.as_slice.ensures.takes ∙ c.takes.ensures.takes) c.in_ok-make_ways.ensures.rows in (
       old.reference,
-      may-move book proposal old.totals c.make_ways.new.totals old.versions c.view-2.result.now c.as_slice-2.result.now c.self.invariant current c.asks_for_a_sweep.ensures c.make_ways.ensures.same made
+      may-move book proposal old.totals c.make_ways.new.totals old.versions c.view-2.result.now c.as_slice-2.result.now c.self.invariant.entries current c.asks_for_a_sweep.ensures c.make_ways.ensures.same made
           c.view-2.ensures.view (c.as_slice-2.ensures.takes ∙ c.takes-2.ensures.takes),
     )
 
 pub touch-requires-clause-fits : goal.touch-requires-clause-fits
 touch-requires-clause-fits c group =
     let old = c.self.inside in
-    versions-fit old.history c.know.new.versions (versions-same old.history old.versions c.know.new.versions c.self.invariant.counted c.know.ensures.days c.know.ensures.same) c.self.invariant.legal.within group
+    versions-fit old.history c.know.new.versions (versions-same old.history old.versions c.know.new.versions c.self.invariant.entries.counted c.know.ensures.days c.know.ensures.same) c.self.invariant.entries.legal.within group
 
 pub invariant_of-self-2 : goal.invariant_of-self-2
 invariant_of-self-2 c =
@@ -54,22 +61,26 @@ invariant_of-self-2 c =
     let proposal = c.args.proposal.now in
     let current = subst (λ (k : BookState). IsCurrent k proposal.view) (sym c.self.view_is) c.requires.current in
     let still =
-    legal-still old.reference old.history old.totals c.make_ways.new.totals old.versions c.know.new.versions c.self.invariant c.make_ways.ensures.same (c.make_ways.ensures.known old.reference) c.know.ensures.days
+    legal-still old.reference old.history old.totals c.make_ways.new.totals old.versions c.know.new.versions c.self.invariant.entries c.make_ways.ensures.same (c.make_ways.ensures.known old.reference) c.know.ensures.days
     c.know.ensures.same in
     let made = subst (AllByRecursion (λ (t : Take). HasRows c.make_ways.new.totals t.offer)) (c.as_slice.ensures.takes ∙ c.takes.ensures.takes) c.in_ok-make_ways.ensures.rows in
     let takes = c.as_slice-2.ensures.takes ∙ c.takes-2.ensures.takes in
     let may =
-    may-move book proposal old.totals c.make_ways.new.totals old.versions c.view-2.result.now c.as_slice-2.result.now c.self.invariant current c.asks_for_a_sweep.ensures c.make_ways.ensures.same made
+    may-move book proposal old.totals c.make_ways.new.totals old.versions c.view-2.result.now c.as_slice-2.result.now c.self.invariant.entries current c.asks_for_a_sweep.ensures c.make_ways.ensures.same made
     c.view-2.ensures.view takes in
     let moves = subst (MovesAll old.reference c.make_ways.new.totals c.move_takes.new.totals) takes (c.move_takes.ensures old.reference may) in
     let is = c.requires.kept in
     let pushed = c.in_ok-push_swept.ensures.added ∙ ap (λ (s : SweepEntry). old.history ++ Swept s ∷ []) is in
-    subst (λ (history : List Entry). IsKeptLegal old.reference history c.move_takes.new.totals c.touch.new.versions) (sym pushed)
-    (legal-swept book proposal c.make_ways.new.totals c.move_takes.new.totals c.know.new.versions c.touch.new.versions still current c.asks_for_a_sweep.ensures moves c.touch.ensures.days
+    let kept =
+    legal-swept book proposal c.make_ways.new.totals c.move_takes.new.totals c.know.new.versions c.touch.new.versions still current c.asks_for_a_sweep.ensures moves c.touch.ensures.days
     (λ group.
     c.touch.ensures.touched group
     ∙ ap (λ (own : Group). if same_group own group then version_in c.know.new.versions group + 1 else version_in c.know.new.versions group)
-    (c.group-group.ensures ∙ ap (λ (v : GroupView). v.group) c.view.ensures.view)))
+    (c.group-group.ensures ∙ ap (λ (v : GroupView). v.group) c.view.ensures.view)) in
+    let whole =
+    whole-more old.reference old.history (Swept (sweep_of proposal)) c.move_takes.new.totals c.touch.new.versions old.recipients.items c.self.invariant.told kept
+    (λ id. few_sides _ (c.rules.ensures.sound.sides id)) in
+    subst (λ (history : List Entry). IsKeptWhole old.reference history c.move_takes.new.totals c.touch.new.versions old.recipients.items) (sym pushed) whole
 
 pub returns-clause-stands : goal.returns-clause-stands
 returns-clause-stands c =
@@ -78,4 +89,4 @@ returns-clause-stands c =
     let proposal = c.args.proposal.now in
     let current = subst (λ (k : BookState). IsCurrent k proposal.view) (sym c.self.view_is) c.requires.current in
     subst (λ (k : BookState). StandsLast k.reference (length k.history + 1) (Swept (sweep_of proposal))) c.self.view_is
-    (swept-last book proposal old.totals old.versions c.self.invariant current c.asks_for_a_sweep.ensures)
+    (swept-last book proposal old.totals old.versions c.self.invariant.entries current c.asks_for_a_sweep.ensures)

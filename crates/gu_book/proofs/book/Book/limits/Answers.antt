@@ -14,7 +14,7 @@ returns-clause-rows c =
     IfOk-weaker c.rows_in_order.result _ _
     (λ rows is.
     is
-    ∙ rows-are (record { reference = old.reference; history = old.history }) old.totals group c.self.invariant.kept.beside
+    ∙ rows-are (record { reference = old.reference; history = old.history }) old.totals group c.self.invariant.entries.kept.beside
     ∙ ap (λ (k : BookState). limit_rows k group) c.self.view_is)
     c.rows_in_order.ensures
 
@@ -25,5 +25,5 @@ returns-clause-unknown c unknown =
     let group = c.args.group.now in
     let inside = subst (λ (k : BookState). is_group k.reference group ≡ false) (sym c.self.view_is) unknown in
     IfOk-weaker c.rows_in_order.result _ _
-    (λ rows is. is ∙ rows-are book old.totals group c.self.invariant.kept.beside ∙ unknown_group book group c.self.invariant.legal inside)
+    (λ rows is. is ∙ rows-are book old.totals group c.self.invariant.entries.kept.beside ∙ unknown_group book group c.self.invariant.entries.legal inside)
     c.rows_in_order.ensures

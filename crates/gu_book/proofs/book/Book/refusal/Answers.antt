@@ -11,7 +11,7 @@ use Rattle.gu_book.proofs.book.Book.refusal.Goals as goal
 pub of-now-requires : goal.of-now-requires
 of-now-requires c =
     let old = c.self.inside in
-    let fits : version_in old.versions c.group.result + 1 < 2 ^ 64 = versions-fit old.history old.versions c.self.invariant.counted c.self.invariant.legal.within c.group.result in
+    let fits : version_in old.versions c.group.result + 1 < 2 ^ 64 = versions-fit old.history old.versions c.self.invariant.entries.counted c.self.invariant.entries.legal.within c.group.result in
     omega (arith, fits)
 
 pub returns-then-not-shows_all : goal.returns-then-not-shows_all
@@ -19,13 +19,13 @@ returns-then-not-shows_all c =
     let old = c.self.inside in
     let view = c.args.view.now in
     let version : view.version ≡ version_of old.history view.group =
-    sym c.version-seen.ensures ∙ c.if-seen-now.false ∙ c.of-now.ensures ∙ c.self.invariant.counted.each c.group.result ∙ ap (version_of old.history) c.group.ensures in
+    sym c.version-seen.ensures ∙ c.if-seen-now.false ∙ c.of-now.ensures ∙ c.self.invariant.entries.counted.each c.group.result ∙ ap (version_of old.history) c.group.ensures in
     subst (λ (k : BookState). IsForeign k view) c.self.view_is
     (record {
       room = omega (arith, c.if-len-ge-MOST_ENTRIES.false, c.len.ensures);
       untouched = version;
       other = λ current.
-          let shows = view-shows old.reference old.history old.totals c.self.invariant.kept.beside view current.same in
+          let shows = view-shows old.reference old.history old.totals c.self.invariant.entries.kept.beside view current.same in
           let no = c.shows_all.ensures.shown.1 shows in cc;
     })
 
@@ -34,10 +34,10 @@ returns c =
     let old = c.self.inside in
     let view = c.args.view.now in
     let version : view.version ≡ version_of old.history view.group =
-    sym c.version-seen.ensures ∙ c.if-seen-now.false ∙ c.of-now.ensures ∙ c.self.invariant.counted.each c.group.result ∙ ap (version_of old.history) c.group.ensures in
+    sym c.version-seen.ensures ∙ c.if-seen-now.false ∙ c.of-now.ensures ∙ c.self.invariant.entries.counted.each c.group.result ∙ ap (version_of old.history) c.group.ensures in
     subst (λ (k : BookState). IsCurrent k view) c.self.view_is
     (record {
       room = omega (arith, c.if-len-ge-MOST_ENTRIES.false, c.len.ensures);
       known = ap (is_group old.reference) (sym c.group-2.ensures) ∙ sym c.if-not-group.ensures;
-      same = shows-view old.reference old.history old.totals c.self.invariant.kept.beside view c.shows_all.ensures.sound version (c.shows_all.ensures.shown.0 c.if-not-shows_all.false);
+      same = shows-view old.reference old.history old.totals c.self.invariant.entries.kept.beside view c.shows_all.ensures.sound version (c.shows_all.ensures.shown.0 c.if-not-shows_all.false);
     })

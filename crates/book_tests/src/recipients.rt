@@ -1,0 +1,143 @@
+//! The firms that an entry may tell something: those that it tells, and no firm of another place.
+
+use crate::trades::{report_of, take};
+use crate::transcript::{Patience, follow, world_of};
+use gu_notices::{FirmFilter, FirmPlace, Register, recipients_of};
+use gu_offers::Offers;
+use gu_ref::Reference;
+use gu_terms::{Command, Done, Entry, EntryRef, Reply};
+use gu_trades::Trades;
+use gu_world::World;
+use std::alloc::{AllocError, Global};
+use std::process::Abort;
+
+/// Lines with what they are answered, and the firms of the sample that the line's entry may tell something.
+const ROWS: &str = "\
+DAY 20260105                      = 1 OK                              |
+LIMIT G1 EXEC E1 100              = 2 OK                              |
+LIMIT G1 CARRY C1 100             = 3 OK                              |
+LIMIT G1 ACCT A1 100              = 4 OK                              |
+LIMIT G1 AGR P1 100               = 5 OK                              |
+REPORT E1 R1 M1 B XF6 10 101.5 H1 = 6 OK OPEN                         |
+REPORT E1 R1 M2 B XF6 10 101.5 H1 = 7 NO 6 DuplicateId                |
+REPORT E2 R2 M1 S XF6 10 101.5 H2 = 8 OK MATCHED                      | E1 E2
+GIVEUP E1 L1 R1 A1 4 A1 3 A1 2    = 9 OK OFFERS 1 3                   | C1
+GIVEUP E2 L1 R2 A1 2 A3 3         = 10 OK OFFERS 4 5                  | C1 C2
+CLAIM C1 1                        = 11 OK LOTS 4                      | E1 C1
+REFUSE C2 5 2                     = 12 OK LOTS 3                      | E2 C2
+REFUSE C1 4 2                     = 13 OK LOTS 2                      | E2 C1
+REVERSE C1 1                      = 14 OK LOTS 4                      | E1 C1
+LIMIT G1 AGR P1 3                 = 15 OK                             |
+SWEEP G1                          = 16 SWEPT G1 3, TAKE 2 3, CUT AGR P1 | E1 C1
+SWEEP G2                          = 17 SWEPT G2 0                     |
+CLAIM C1 2                        = 18 NO 14 OfferClosed              |
+";
+
+/// What notices are written by, beside the reference.
+#[derive(Drop)]
+struct Kept {
+    trades: Trades,
+    offers: Offers,
+}
+
+/// Takes a give-up in.
+fn give_up(kept: &mut Kept, command: &Command, done: Done) -> Result<(), AllocError> {
+    match (command, done) {
+        (
+            Command::GiveUp {
+                firm,
+                id: _,
+                report,
+                lines,
+            },
+            Done::Offered { group, .. },
+        ) => {
+            // The lines tell how many they are.
+            let _ = lines.as_slice();
+            if kept.offers.count() < 1_000 {
+                kept.offers.give_up(*firm, *report, group, lines)?;
+            }
+            Ok(())
+        }
+        _ => Ok(()),
+    }
+}
+
+/// Takes an entry in, where it is of a report or a give-up that was accepted.
+fn take_in(kept: &mut Kept, entry: &Entry) -> Result<(), AllocError> {
+    match entry {
+        Entry::Asked {
+            command,
+            reply: Reply::Accepted(done),
+        } => {
+            if let Some(report) = report_of(command) {
+                take(&mut kept.trades, &report)?;
+            }
+            give_up(kept, command, *done)
+        }
+        _ => Ok(()),
+    }
+}
+
+/// The names of the firms of a reference that a filter may hold, each after a blank.
+fn names(alloc: Global, reference: &Reference, firms: FirmFilter) -> Result<Vec<u8>, AllocError> {
+    let mut text = Vec::new(alloc);
+    for firm in reference.firms() {
+        if firms.has(FirmPlace::of(firm)) {
+            text.push(b' ')?;
+            text.extend_from_slice(firm.get())?;
+        }
+    }
+    Ok(text)
+}
+
+/// The firms of the sample that an entry may tell something.
+fn recipients(
+    alloc: Global,
+    reference: &Reference,
+    kept: &Kept,
+    entry: &EntryRef,
+) -> Result<Vec<u8>, AllocError> {
+    let register = Register {
+        reference,
+        trades: &kept.trades,
+        offers: &kept.offers,
+    };
+    names(alloc, reference, recipients_of(&register, entry))
+}
+
+/// The firms that the last entry of a world's book may tell something, once it is taken in.
+fn last_recipients(
+    alloc: Global,
+    world: &World,
+    kept: &mut Kept,
+) -> Result<Option<Vec<u8>>, AllocError> {
+    let history = world.book().history();
+    let Some(entry) = history.entry(history.len() as u64)? else {
+        return Ok(None);
+    };
+    take_in(kept, &entry)?;
+    drop(entry);
+    let place = history.len() - 1;
+    let shown = recipients(alloc, world.book().reference(), kept, &history.show(place))?;
+    Ok(Some(shown))
+}
+
+#[test]
+fn an_entry_may_tell_the_firms_that_it_tells_and_no_others(rt: HostRuntime) {
+    let alloc = rt.alloc();
+    let mut world = world_of(&rt, alloc, "", "", Patience::Never);
+    let mut kept = Kept {
+        trades: Trades::new(alloc),
+        offers: Offers::new(alloc),
+    };
+    for row in ROWS.lines() {
+        let (line, firms) = row.split_once("|").unwrap_or((row, ""));
+        follow(&rt, alloc, &mut world, "recipients", line, Patience::Never);
+        let told = last_recipients(alloc, &world, &mut kept)
+            .ok()
+            .expect(&rt, "memory");
+        let told = told.expect(&rt, "an entry");
+        assert_eq!(rt; told.as_slice(), firms.trim_end().as_bytes(), "{row}");
+    }
+}

@@ -1,0 +1,79 @@
+-- What notices are written by, and whom entries tell, as a book keeps it.
+use Rattle.std.proofs.Common.{◌≡◌, ◌≤◌, ℕ, zero, suc, ◌+◌, ◌++◌, List, [], ◌∷◌, length, Some, refl, ap, ◌∙◌, subst}
+use Rattle.std.specs.Option.{option_map, option_to_list}
+use Rattle.std.specs.Prelude.{slice_get}
+use Rattle.gu_terms.specs.declared.entry.Entry.{Entry}
+use Rattle.gu_terms.specs.declared.id.Id.{Id}
+use Rattle.gu_terms.specs.declared.offer.Offer.{Offer}
+use Rattle.gu_terms.specs.declared.report.Report.{Report}
+use Rattle.gu_ref.specs.Tables.{Tables}
+use Rattle.gu_trades.specs.Reports.{with_match}
+use Rattle.gu_offers.specs.Rows.{Row, row_at}
+use Rattle.gu_rules.specs.Notices.{Register, register_of}
+use Rattle.gu_rules.specs.Offers.{lines_by, offers_of, standing_from, standing_of}
+use Rattle.gu_rules.specs.Reports.{open_day, report_on, reports_of}
+use Rattle.gu_rules.specs.Versions.{offer_at}
+use Rattle.gu_rules.proofs.Growing.{reports_of-push}
+use Rattle.gu_rules.proofs.StandingLemmas.{offers_of-push}
+use Rattle.gu_notices.specs.Recipients.{AreRecipients, Grows}
+use Rattle.gu_notices.specs.declared.firm_filter.FirmFilter.{FirmFilter}
+use Rattle.gu_notices.proofs.RecipientLemmas.{recipients-later, recipients-longer}
+use Rattle.gu_book.specs.Beside.{IsBeside, IsKeptLegal, IsKeptWhole, register_kept}
+use Rattle.gu_book.specs.Counted.{AreVersions}
+use Rattle.gu_book.specs.declared.totals.Totals.{Totals}
+use Rattle.gu_book.specs.declared.versions.Versions.{Versions}
+
+-- the offer of a number stands in its row
+offer_at-is : (history : List Entry) (n : ℕ) → option_map (λ (r : Row). r.offer) (row_at (standing_of history) n) ≡ offer_at history n
+offer_at-is history zero = refl
+offer_at-is history (suc place) = go 1 (offers_of history) place
+  where
+    go : (m : ℕ) (offers : List Offer) (at : ℕ) → option_map (λ (r : Row). r.offer) (slice_get (standing_from history m offers) at) ≡ slice_get offers at
+    go m [] at = refl
+    go m (offer ∷ offers) zero = refl
+    go m (offer ∷ offers) (suc at) = go (m + 1) offers at
+
+-- notices are written by what is kept as by the history
+pub register-is : (reference : Tables) (history : List Entry) (totals : Totals) → IsBeside reference history totals → register_kept reference totals ≡ register_of (record { reference = reference; history = history })
+register-is reference history totals beside =
+    λ i. record {
+      reference = reference;
+      reports = beside.reports i;
+      offer = λ n. (ap (λ (rows : List Row). option_map (λ (r : Row). r.offer) (row_at rows n)) beside.offers ∙ offer_at-is history n) i;
+    }
+
+-- what is at a place stays there
+stays : {X : Type 0} (xs ys : List X) (place : ℕ) (x : X) → slice_get xs place ≡ Some x → slice_get (xs ++ ys) place ≡ Some x
+stays [] ys place x is = cc
+stays (first ∷ xs) ys zero x is = is
+stays (first ∷ xs) ys (suc place) x is = stays xs ys place x is
+
+-- an offer stays what it was
+offer-stays : (history : List Entry) (entry : Entry) (n : ℕ) (o : Offer) → offer_at history n ≡ Some o → offer_at (history ++ entry ∷ []) n ≡ Some o
+offer-stays history entry zero o is = cc
+offer-stays history entry (suc place) o is = ap (λ (os : List Offer). slice_get os place) (offers_of-push history entry) ∙ stays (offers_of history) (lines_by entry) place o is
+
+-- one entry more leaves what notices are written by, and adds to it
+grows-by : (reference : Tables) (history : List Entry) (entry : Entry) → ((id : Id) → length (with_match id (reports_of (history ++ entry ∷ []))) ≤ 2)
+    → Grows (register_of (record { reference = reference; history = history })) (register_of (record { reference = reference; history = history ++ entry ∷ [] }))
+grows-by reference history entry few = record {
+  reference = refl;
+  reports = (option_to_list (report_on (open_day history) entry), reports_of-push history entry);
+  sides = few;
+  offers = offer-stays history entry;
+}
+
+-- what is kept, with one entry more
+pub whole-more : (reference : Tables) (history : List Entry) (entry : Entry) (totals : Totals) (versions : Versions) (recipients : List FirmFilter)
+    → AreRecipients (register_of (record { reference = reference; history = history })) history recipients → IsKeptLegal reference (history ++ entry ∷ []) totals versions
+    → ((id : Id) → length (with_match id totals.trades) ≤ 2) → IsKeptWhole reference (history ++ entry ∷ []) totals versions recipients
+whole-more reference history entry totals versions recipients are kept few =
+    let before : Register = register_of (record { reference = reference; history = history }) in
+    let after : Register = register_of (record { reference = reference; history = history ++ entry ∷ [] }) in
+    let sides = subst (λ (rs : List Report). (id : Id) → length (with_match id rs) ≤ 2) kept.kept.beside.reports few in
+    record { entries = kept; told = recipients-longer after history (entry ∷ []) recipients (recipients-later before after (grows-by reference history entry sides) history recipients are) }
+
+-- the same, with versions that are counted anew
+pub legal-counted : (reference : Tables) (history : List Entry) (totals : Totals) (before after : Versions) → IsKeptLegal reference history totals before → AreVersions history after
+    → IsKeptLegal reference history totals after
+legal-counted reference history totals before after kept counted = record { legal = kept.legal; kept = kept.kept; known = kept.known; shown = kept.shown; counted = counted }

@@ -1,9 +1,0 @@
-use Rattle.std.proofs.Common.{take}
-use Rattle.std.specs.List.{flat_map}
-use Rattle.gu_rules.specs.Notices.{told_of_take}
-use Rattle.gu_book.specs.Telling.{register_in}
-use Rattle.gu_book.proofs.NoticeLemmas.{IsToldSoFar}
-use Rattle.gu_book.proofs.notices.Mailbox.tell_takes.Lts.Given as given
-
-abbrev pub invariant-loop-take : given.Live-loop-take → Type 0
-invariant-loop-take l = IsToldSoFar l.fn.self l.self (flat_map (told_of_take (register_in l.reference l.totals)) (take l.take-index l.takes))

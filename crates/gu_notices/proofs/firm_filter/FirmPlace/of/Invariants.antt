@@ -1,0 +1,8 @@
+use Rattle.std.proofs.Common.{◌≡◌, ◌<◌, take}
+use Rattle.std.specs.List.{fold}
+use Rattle.gu_notices.specs.Filters.{next_place}
+use Rattle.gu_notices.proofs.firm_filter.FirmPlace.of.Lts.Given as given
+
+pub record invariant-loop-byte (l : given.Live-loop-byte) : Type 0 where
+  pub number : l.number ≡ fold next_place 0 (take l.byte-index l.byte-items)
+  pub few : l.number < 64

@@ -1,0 +1,9 @@
+use Rattle.std.proofs.Common.{◌-◌}
+use Rattle.std.specs.List.{flat_map, range_with_len}
+use Rattle.gu_rules.specs.Notices.{told_of_line}
+use Rattle.gu_notices.specs.Registers.{register_in}
+use Rattle.gu_notices.proofs.NoticeLemmas.{IsToldSoFar}
+use Rattle.gu_notices.proofs.mailbox.Mailbox.tell_lines.Lts.Given as given
+
+abbrev pub invariant-loop-number : given.Live-loop-number → Type 0
+invariant-loop-number l = IsToldSoFar l.fn.self l.self (flat_map (told_of_line (register_in l.register)) (range_with_len l.from (l.number - l.from)))

@@ -1,0 +1,8 @@
+use Rattle.std.proofs.Common.{◌≡◌, length}
+use Rattle.gu_notices.specs.Recipients.{AreRecipients}
+use Rattle.gu_notices.specs.Registers.{register_in}
+use Rattle.gu_notices.proofs.recipients.note_recipients.Lts.Given as given
+
+pub record invariant-loop-place (l : given.Live-loop-place) : Type 0 where
+  pub known : AreRecipients (register_in l.register) l.history l.recipients.items
+  pub next : length l.recipients.items ≡ l.place

@@ -1,0 +1,4 @@
+pub mod Filters
+pub mod Recipients
+pub mod Registers
+pub mod Telling

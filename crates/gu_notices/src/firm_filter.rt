@@ -1,0 +1,64 @@
+//! Sets of firms that fit in one number.
+
+ghost use Rattle.std.specs.Prelude.{◌≡◌, ◌<◌, true};
+ghost use Rattle.gu_terms.specs.declared.firm.FirmId.{FirmId as FirmOf};
+ghost use Rattle.gu_notices.specs.Filters.{Keeps, has_place, may_hold, place_of};
+
+use gu_terms::FirmId;
+
+/// How many places there are for firms.
+const PLACES: u32 = 64;
+
+/// The place of a firm. Some firms share one.
+#[derive(Clone, Copy, Debug)]
+pub struct FirmPlace {
+    number: u32,
+    ghost few: { number < 64 },
+}
+
+impl FirmPlace {
+    /// The place of a firm.
+    pub fn of(firm: &FirmId) -> Self
+        ensures { result.number ≡ place_of firm.now }
+    {
+        let mut number = 0;
+        for byte in firm.get() {
+            number = (number * 17 + u32::from(*byte)) % PLACES;
+        }
+        FirmPlace { number }
+    }
+}
+
+/// Firms, as a set that may hold more of them: with a firm it holds each one that shares its place.
+#[derive(Clone, Copy, Debug, PartialEq, Eq)]
+pub struct FirmFilter {
+    /// A bit for each place.
+    places: u64,
+}
+
+impl FirmFilter {
+    /// No firms.
+    pub const NONE: FirmFilter = FirmFilter { places: 0 };
+
+    /// Adds a firm.
+    pub fn add(&mut self, firm: &FirmId)
+        ensures added { may_hold self.new firm.now ≡ true }
+        ensures kept { Keeps self.old self.new }
+    {
+        self.places |= 1 << FirmPlace::of(firm).number;
+    }
+
+    /// Adds all firms.
+    pub fn add_all(&mut self)
+        ensures { (firm : FirmOf) → may_hold self.new firm ≡ true }
+    {
+        self.places = u64::MAX;
+    }
+
+    /// Whether it may hold the firms of a place.
+    pub fn has(self, place: FirmPlace) -> bool
+        ensures { result ≡ has_place self place.number }
+    {
+        self.places >> place.number & 1 != 0
+    }
+}
