@@ -1,6 +1,6 @@
 //! What is after a desk's lock: the book, and the ledgers of what its seats entered and swept. Each hold of the lock is one call.
 
-ghost use Rattle.std.specs.Prelude.{◌≡◌, ◌↔◌, ◌+◌, ◌<◌, ◌≤◌, length, sum_by, vec_len, false, IfErr, IfOk, IsErrOf, OnErr};
+ghost use Rattle.std.specs.Prelude.{◌≡◌, ◌↔◌, ◌+◌, ◌<◌, ◌≤◌, length, sum_by, vec_len, false, IfErr, IfOk, IfSome, IsErrOf, OnErr};
 ghost use Rattle.gu_terms.specs.Histories.{lots_swept};
 ghost use Rattle.gu_ref.specs.Reference.{is_group};
 ghost use Rattle.gu_book.specs.Commits.{sweep_of};
@@ -66,6 +66,9 @@ impl<E: EntryLedger, S: LotLedger> CountedBook<E, S> {
         requires entries { (entries.total ≡ 0) × (own.amount ≡ 0) × (own.parts ≡ 1) }
         requires swept { (swept.total ≡ 0) × (own_swept.amount ≡ 0) × (own_swept.parts ≡ 1) }
     {
+        let mut book = book;
+        // The opening's entries are noted before there is a lock to hold.
+        let _ = book.note_recipients();
         CountedBook {
             book,
             entries,
@@ -118,9 +121,31 @@ impl<E: EntryLedger, S: LotLedger> CountedBook<E, S> {
     {
         let CountedBook { book, entries, .. } = self;
         entries.audit(&mut seat.entries);
+        // The entries since the last stretch. Where this fails, more of them are looked into.
+        let _ = book.note_recipients();
         // Shows the prover: the history is legal.
         let _ = book.history();
         book.stretch(firm, from)
+    }
+
+    /// Enters a command from a seat, and answers the number of the entry, the reply, and a stretch of what a firm is told of the entries
+    /// from a number on, this entry among them; none where an allocation fails for it.
+    pub(crate) fn submit_and_tell(
+        &mut self,
+        seat: &mut Seat<E, S>,
+        command: &Command,
+        firm: &FirmId,
+        from: u64,
+    ) -> Result<(u64, Reply, Option<Stretch>), EnterError>
+        ensures entered { IfOk result (λ e. IsEntered E.reference (E.opening + seat.old.entries)
+            (record { number = e.0; entry = Entry.Asked command.now e.1 })) }
+        ensures told { IfOk result (λ e. IfSome e.2 (IsTold E.reference (E.opening + seat.new.entries) firm.now from)) }
+        ensures counted { IfOk result (λ e. seat.new ≡ with_entry seat.old) }
+        ensures refused { OnErr result (seat.new ≡ seat.old) }
+    {
+        let (number, reply) = self.submit(seat, command)?;
+        let stretch = self.stretch(seat, *firm, from).ok();
+        Ok((number, reply, stretch))
     }
 
     /// The view of a group. Nothing changes.

@@ -1,6 +1,6 @@
 //! The desk.
 
-ghost use Rattle.std.specs.Prelude.{◌≡◌, ◌↔◌, ◌+◌, ◌<◌, ◌≤◌, false, All, length, sum_by, vec_len, IfErr, IfOk, IsErr, IsErrOf, OnErr};
+ghost use Rattle.std.specs.Prelude.{◌≡◌, ◌↔◌, ◌+◌, ◌<◌, ◌≤◌, false, All, length, sum_by, vec_len, IfErr, IfOk, IfSome, IsErr, IsErrOf, OnErr};
 ghost use Rattle.gu_terms.specs.Histories.{lots_swept, swept_by};
 ghost use Rattle.gu_ref.specs.Reference.{is_group};
 ghost use Rattle.gu_view.specs.Boards.{Shows};
@@ -62,7 +62,7 @@ impl<E: EntryLedger, S: LotLedger> Model for Desk<E, S> {
 
 impl<E: EntryLedger, S: LotLedger> Desk<E, S> {
     /// A desk over a book, with its seats. The blanks are those of the two ledgers that the desk's type names, each of one part more
-    /// than there are seats. No entry is read.
+    /// than there are seats. Each entry is read once, to note whom it tells.
     pub fn new(
         alloc: Global,
         book: Book,
@@ -116,6 +116,28 @@ impl<E: EntryLedger, S: LotLedger> Desk<E, S> {
         self.locked.lock(rt).submit(seat, command)
     }
 
+    /// Enters a command from a seat, and returns its number, the reply, and a stretch of what a firm is told of the entries from a number
+    /// on, this entry among them; no stretch where an allocation fails for it. It may wait for the lock, which it holds once, while it looks
+    /// at 1,024 entries at most.
+    pub fn enter_and_tell<R: Wait>(
+        &self,
+        rt: &R,
+        seat: &mut Seat<E, S>,
+        command: &Command,
+        firm: &FirmId,
+        from: u64,
+    ) -> Result<(u64, Reply, Option<Stretch>), EnterError>
+        ensures entered { IfOk result (λ e. IsEntered E.reference (E.opening + seat.old.entries)
+            (record { number = e.0; entry = Entry.Asked command.now e.1 })) }
+        ensures told { IfOk result (λ e. IfSome e.2 (IsTold E.reference (E.opening + seat.new.entries) firm.now from)) }
+        ensures counted { IfOk result (λ e. seat.new ≡ with_entry seat.old) }
+        ensures refused { OnErr result (seat.new ≡ seat.old) }
+    {
+        self.locked
+            .lock(rt)
+            .submit_and_tell(seat, command, firm, from)
+    }
+
     /// Enters a command from a seat. It may wait for the lock, which it holds once; the receipt is made after the hold.
     pub fn submit<R: Wait>(
         &self,
@@ -150,7 +172,7 @@ impl<E: EntryLedger, S: LotLedger> Desk<E, S> {
     }
 
     /// A stretch of what a firm is told of the entries from a number on. It may wait for the lock, which it holds once, while it
-    /// looks at 1,024 entries at most.
+    /// looks at 1,024 entries at most, and notes whom those tell that came since any seat's last stretch.
     pub fn stretch<R: Wait>(
         &self,
         rt: &R,

@@ -1,8 +1,11 @@
 //! A seat at a desk as a house.
 
-ghost use Rattle.std.specs.Prelude.{◌≡◌, ◌⊎◌, ◌+◌, ◌<◌, false, IfOk};
+ghost use Rattle.std.specs.Prelude.{◌≡◌, ◌⊎◌, ◌+◌, ◌<◌, ℕ, false, IfOk, IfSome, OnErr};
+ghost use Rattle.gu_desk.specs.Holds.{IsEntered, IsTold};
+ghost use Rattle.gu_desk.specs.Totals.{with_entry};
 ghost use Rattle.gu_server.specs.SeatHouse.{IsEnteredAt, IsLeftOutAt};
 
+use crate::ahead::Next;
 use crate::orders::Orders;
 use crate::seat_receipts::SeatReceipts;
 use crate::tally::Tally;
@@ -11,18 +14,24 @@ use gu_desk::{Desk, EntryLedger, LotLedger};
 use gu_engine::House;
 use gu_msgs::Request;
 use gu_session::{Failure, Outcome};
-use gu_terms::{Command, FirmId, Stretch};
+use gu_terms::{Command, Entry, FirmId, Reply, Stretch};
 use std::alloc::AllocError;
 use std::marker::Model;
 use std::sync::Wait;
 
 /// A seat at a desk as a house. To a contract it is the shares of the seat.
+///
+/// The notices that a connection asks for after a command are had with it, in the one hold of the lock.
 pub struct AtDesk<'a, E: EntryLedger, S: LotLedger, R: Wait> {
     rt: &'a R,
     desk: &'a Desk<E, S>,
     tally: &'a Tally,
     seat: SeatReceipts<E, S>,
     orders: Orders,
+    /// The notices that will be asked for next, once some were.
+    next: Option<Next>,
+    /// Their stretch, where it was had with the command before.
+    ahead: Option<Stretch>,
 }
 
 impl<'a, E: EntryLedger, S: LotLedger, R: Wait> Drop for AtDesk<'a, E, S, R> {
@@ -32,11 +41,15 @@ impl<'a, E: EntryLedger, S: LotLedger, R: Wait> Drop for AtDesk<'a, E, S, R> {
 }
 
 impl<'a, E: EntryLedger, S: LotLedger, R: Wait> Model for AtDesk<'a, E, S, R> {
+    ghost use Rattle.std.specs.Prelude.{◌+◌, IfSome};
+    ghost use Rattle.gu_desk.specs.Holds.{IsTold};
     ghost use Rattle.gu_desk.specs.Totals.{Shares};
 
     ghost Value = { Shares };
 
     ghost view = { λ a. a.seat };
+
+    ghost invariant = { λ a. IfSome a.ahead (λ stretch. IfSome a.next (λ next. IsTold E.reference (E.opening + a.seat.entries) next.firm next.from stretch)) };
 }
 
 impl<'a, E: EntryLedger, S: LotLedger, R: Wait> AtDesk<'a, E, S, R> {
@@ -56,6 +69,8 @@ impl<'a, E: EntryLedger, S: LotLedger, R: Wait> AtDesk<'a, E, S, R> {
             tally,
             seat,
             orders,
+            next: None,
+            ahead: None,
         }
     }
 
@@ -69,8 +84,11 @@ impl<'a, E: EntryLedger, S: LotLedger, R: Wait> AtDesk<'a, E, S, R> {
             tally: _,
             seat,
             orders,
+            next: _,
+            ahead,
         } = self;
         drop(orders);
+        drop(ahead);
         seat
     }
 
@@ -83,11 +101,29 @@ impl<'a, E: EntryLedger, S: LotLedger, R: Wait> AtDesk<'a, E, S, R> {
         }
     }
 
+    /// Enters a command, with the notices that will be asked for next.
+    fn submit(&mut self, command: Command) -> Result<Reply, EnterError>
+        ensures entered { IfOk result (λ reply. (number : ℕ) × IsEntered E.reference (E.opening + self.old.entries)
+            (record { number = number; entry = Entry.Asked command reply })) }
+        ensures counted { IfOk result (λ reply. self.new ≡ with_entry self.old) }
+        ensures refused { OnErr result (self.new ≡ self.old) }
+    {
+        self.ahead = None;
+        let Some(next) = self.next else {
+            return self.seat.enter(self.rt, self.desk, command);
+        };
+        let (reply, ahead) = self
+            .seat
+            .enter_and_tell(self.rt, self.desk, command, &next)?;
+        self.ahead = ahead;
+        Ok(reply)
+    }
+
     /// Enters a command, and says what became of it.
     fn enter(&mut self, command: Command) -> Outcome
         ensures { IsEnteredAt E.reference E.opening self.old command result self.new ⊎ IsLeftOutAt self.old result self.new }
     {
-        match self.seat.enter(self.rt, self.desk, command) {
+        match self.submit(command) {
             Ok(reply) => {
                 self.tally.add_entry();
                 self.order();
@@ -95,6 +131,30 @@ impl<'a, E: EntryLedger, S: LotLedger, R: Wait> AtDesk<'a, E, S, R> {
             }
             Err(EnterError::Full) => Outcome::Failed(Failure::Full),
             Err(EnterError::Memory) => Outcome::Failed(Failure::Memory),
+        }
+    }
+
+    /// A firm's notices from a number on will be asked for next.
+    fn await_notices(&mut self, firm: &FirmId, from: u64)
+        ensures { self.new ≡ self.old }
+    {
+        self.ahead = None;
+        self.next = Some(Next { firm: *firm, from });
+    }
+
+    /// The stretch of a firm's notices from a number on, where it was had with the command before.
+    fn take_ahead(&mut self, firm: &FirmId, from: u64) -> Option<Stretch>
+        ensures told { IfSome result (IsTold E.reference (E.opening + self.old.entries) firm.now from) }
+        ensures seat { self.new ≡ self.old }
+    {
+        let ahead = self.ahead.take();
+        let Some(next) = self.next else {
+            return None;
+        };
+        if next.from == from && next.firm == *firm {
+            ahead
+        } else {
+            None
         }
     }
 }
@@ -116,6 +176,11 @@ impl<'a, E: EntryLedger, S: LotLedger, R: Wait> House for AtDesk<'a, E, S, R> {
     }
 
     fn notices(&mut self, firm: &FirmId, from: u64) -> Result<Stretch, AllocError> {
-        self.seat.stretch(self.rt, self.desk, *firm, from)
+        let stretch = match self.take_ahead(firm, from) {
+            Some(stretch) => stretch,
+            None => self.seat.stretch(self.rt, self.desk, *firm, from)?,
+        };
+        self.await_notices(firm, stretch.notices.next);
+        Ok(stretch)
     }
 }

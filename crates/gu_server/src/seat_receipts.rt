@@ -1,12 +1,15 @@
 //! A seat that keeps its receipts.
 
-ghost use Rattle.std.specs.Prelude.{◌≡◌, ◌↔◌, ℕ, ◌+◌, IfOk, IsErrOf, OnErr};
+ghost use Rattle.std.specs.Prelude.{◌≡◌, ◌↔◌, ℕ, ◌+◌, false, IfErr, IfOk, IfSome, IsErrOf, OnErr};
+ghost use Rattle.gu_ref.specs.Reference.{is_group};
 ghost use Rattle.gu_terms.specs.Histories.{swept_by};
 ghost use Rattle.gu_book.specs.Questions.{IsUnknown};
 ghost use Rattle.gu_desk.specs.Holds.{IsAnswered, IsEntered, IsTold};
+ghost use Rattle.gu_desk.specs.Sweeps.{DiffersIfStale};
 ghost use Rattle.gu_desk.specs.Totals.{with_entry, with_sweep, IsEmpty};
 ghost use Rattle.gu_server.specs.Receipts.{HasReceipts};
 
+use crate::ahead::Next;
 use gu_book::{Answer, AskError, EnterError};
 use gu_desk::{Desk, Direct, EntryLedger, LotLedger, Seat, SweepError};
 use gu_terms::{Command, Entry, FirmId, Group, Query, Receipt, Reply, Stretch};
@@ -53,6 +56,19 @@ fn lots_of(receipt: &Receipt) -> u64
     }
 }
 
+/// The receipt of a command that was entered.
+fn receipt_of(number: u64, command: Command, reply: &Reply) -> Receipt
+    ensures { result ≡ record { number = number; entry = Entry.Asked command reply.now } }
+{
+    Receipt {
+        number,
+        entry: Entry::Asked {
+            command,
+            reply: *reply,
+        },
+    }
+}
+
 impl<E: EntryLedger, S: LotLedger> SeatReceipts<E, S> {
     /// A seat from which nothing was entered yet.
     pub fn new(alloc: Global, seat: Seat<E, S>) -> Self
@@ -91,16 +107,39 @@ impl<E: EntryLedger, S: LotLedger> SeatReceipts<E, S> {
             return Err(EnterError::Memory);
         }
         let (number, reply) = desk.enter(rt, &mut self.seat, &command)?;
-        let reply = &reply;
-        let receipt = Receipt {
-            number,
-            entry: Entry::Asked {
-                command,
-                reply: *reply,
-            },
-        };
-        self.receipts.push_reserved(receipt);
-        Ok(*reply)
+        self.receipts
+            .push_reserved(receipt_of(number, command, &reply));
+        Ok(reply)
+    }
+
+    /// Enters a command, for whose receipt there is room, keeps the receipt, and has a stretch of what a firm is told from a number on, this
+    /// entry among the entries that it is of.
+    pub fn enter_and_tell<R: Wait>(
+        &mut self,
+        rt: &R,
+        desk: &Desk<E, S>,
+        command: Command,
+        next: &Next,
+    ) -> Result<(Reply, Option<Stretch>), EnterError>
+        ensures entered { IfOk result (λ r. (number : ℕ) × IsEntered E.reference (E.opening + self.old.entries)
+            (record { number = number; entry = Entry.Asked command r.0 })) }
+        ensures told { IfOk result (λ r. IfSome r.1 (IsTold E.reference (E.opening + self.new.entries) next.now.firm next.now.from)) }
+        ensures counted { IfOk result (λ r. self.new ≡ with_entry self.old) }
+        ensures refused { OnErr result (self.new ≡ self.old) }
+    {
+        if self.receipts.reserve(1).is_err() {
+            return Err(EnterError::Memory);
+        }
+        let (number, reply, stretch) = desk.enter_and_tell(
+            rt,
+            &mut self.seat,
+            &command,
+            &next.firm,
+            next.from,
+        )?;
+        self.receipts
+            .push_reserved(receipt_of(number, command, &reply));
+        Ok((reply, stretch))
     }
 
     /// Sweeps a group, where there is room for the receipt, and keeps the receipt. Returns the lots.
@@ -111,6 +150,8 @@ impl<E: EntryLedger, S: LotLedger> SeatReceipts<E, S> {
         group: Group,
     ) -> Result<u64, SweepError>
         ensures counted { IfOk result (λ lots. self.new ≡ with_sweep self.old lots) }
+        ensures unknown { IsErrOf result SweepError.UnknownGroup → is_group E.reference group ≡ false }
+        ensures stale { IfErr result DiffersIfStale }
         ensures refused { OnErr result (self.new ≡ self.old) }
     {
         self.receipts.reserve(1)?;
