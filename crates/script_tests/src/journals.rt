@@ -19,7 +19,7 @@ DAY 20260105/SEE 0 G1/PROPOSE 0/SEE 1 G9/COMMIT 0/COMMIT 1/SWEEP G2/SWEEP G9/ ->
 DAY 20260105/(REPORT E1 R% M% B XF6 10 101.5 H1/*2..20000) -> DAY 20260105/(REPORT E1 R% M% B XF6 10 101.5 H1/*2..20000)";
 
 /// The world that a script leads to.
-fn world_after(alloc: Global, script: &str) -> Result<World, ScriptError> {
+pub fn world_after(alloc: Global, script: &str) -> Result<World, ScriptError> {
     let script = meant(alloc, script)?.replace(alloc, "/", "\n")?;
     let script = Pieces {
         bytes: script.as_bytes(),

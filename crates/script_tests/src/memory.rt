@@ -1,6 +1,10 @@
-//! A script in which each allocation fails in turn (`rt try --test --fail-alloc N`). A failure outside the script shows nothing of it.
+//! A script, and a journal, in which each allocation fails in turn (`rt try --test --fail-alloc N`). A failure outside of them shows nothing
+//! of them.
 
+use crate::journals::world_after;
 use crate::plays::told;
+use gu_script::{ScriptError, write_journal};
+use gu_streams::StreamError;
 use std::alloc::{AllocError, Global};
 
 /// A short script.
@@ -27,5 +31,29 @@ fn is_played_or_stops(alloc: Global) -> Result<bool, AllocError> {
 fn a_failed_allocation_ends_a_script_after_a_prefix_of_the_text(rt: HostRuntime) {
     for _ in 0..2 {
         assert!(rt; is_played_or_stops(rt.alloc()).unwrap_or(true));
+    }
+}
+
+/// Whether the journal of the short script's day has its lines, or ends after a prefix of them. (What is written grows too, so that it may
+/// end as a writer does that fails.)
+fn is_written_or_stops(alloc: Global) -> Result<bool, ScriptError> {
+    let lines = SHORT.replace(alloc, "/", "\n")?;
+    let world = world_after(alloc, SHORT)?;
+    let mut written = Vec::new(alloc);
+    Ok(
+        match write_journal(alloc, world.book().history(), &mut written) {
+            Ok(()) => written.as_slice() == lines.as_bytes(),
+            Err(StreamError::Memory | StreamError::Write) => {
+                lines.as_bytes().starts_with(&written)
+            }
+            Err(StreamError::Read) => false,
+        },
+    )
+}
+
+#[test]
+fn a_failed_allocation_ends_a_journal_after_a_prefix_of_it(rt: HostRuntime) {
+    for _ in 0..2 {
+        assert!(rt; is_written_or_stops(rt.alloc()).unwrap_or(true));
     }
 }
