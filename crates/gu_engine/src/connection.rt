@@ -3,13 +3,14 @@
 ghost use Rattle.std.specs.Prelude.{◌≡◌, ◌<◌, ◌^◌, ◌++◌, ◌||◌, List, ℕ, true, IfOk, OnOk};
 ghost use Rattle.gu_engine.specs.Exchange.{AnswersAny, AnswersAsked, AnswersFrame, EndsSession, IsNew, SendsNotice, TakesInput, TellsStretch, Ticks, is_due};
 ghost use Rattle.gu_engine.specs.Running.{AnswersEach};
+ghost use Rattle.gu_session.specs.declared.input.Input.TheVariants.{Frame as FrameOf};
 
 use crate::answerer::Answerer;
 use crate::clock::{Clock, ClockFault};
 use crate::event::Event;
 use crate::house::House;
 use gu_fix::Frame;
-use gu_session::{Asked, Input, Session, Taken};
+use gu_session::{Asked, Session, Taken};
 use gu_terms::{FirmId, Moment, Notice, Stretch};
 use std::alloc::{AllocError, Global};
 
@@ -87,29 +88,78 @@ impl<H, C> Connection<H, C> {
         house
     }
 
-    /// Gives the session an input, appends the bytes that it sends, and returns what it asks of the house.
-    fn take(
+    /// Notes what a step gave besides its messages, and returns what it asks of the house.
+    fn note(&mut self, taken: Taken) -> Option<Asked>
+        ensures asked { result ≡ taken.handed }
+        ensures over { self.new ≡ record self.old { is_over = self.old.is_over || taken.is_closed } }
+    {
+        let Taken { handed, is_closed } = taken;
+        self.is_over = self.is_over || is_closed;
+        handed
+    }
+
+    /// Gives the session a frame, appends the bytes that it sends, and returns what it asks of the house.
+    fn hear(
         &mut self,
-        input: Input,
+        frame: Frame,
         now: Moment,
         output: &mut Vec<u8>,
     ) -> Result<Option<Asked>, AllocError>
         ensures { IfOk result (λ asked. (text : List ℕ) × (output.new.items ≡ output.old.items ++ text)
-            × TakesInput self.old input now asked text self.new) }
+            × TakesInput self.old (FrameOf frame) now asked text self.new) }
     {
-        let Taken { handed, is_closed } = self.session.step_onto(input, now, output)?;
-        self.is_over = self.is_over || is_closed;
-        Ok(handed)
+        let taken = self.session.frame_onto(frame, now, output)?;
+        Ok(self.note(taken))
+    }
+
+    /// Sends a notice.
+    fn send_one(
+        &mut self,
+        notice: &Notice,
+        now: Moment,
+        output: &mut Vec<u8>,
+    ) -> Result<(), AllocError>
+        ensures sent { OnOk result ((text : List ℕ) × (output.new.items ≡ output.old.items ++ text)
+            × SendsNotice now self.old notice.now text self.new) }
+    {
+        let taken = self.session.notice_onto(notice, now, output)?;
+        drop(self.note(taken));
+        Ok(())
+    }
+
+    /// Sends notices.
+    fn send_all(
+        &mut self,
+        notices: Vec<Notice>,
+        now: Moment,
+        output: &mut Vec<u8>,
+    ) -> Result<(), AllocError>
+        ensures sent { OnOk result ((text : List ℕ) × (output.new.items ≡ output.old.items ++ text)
+            × AnswersEach (SendsNotice now) self.old notices.items text self.new) }
+        ensures place { OnOk result ((self.new.next ≡ self.old.next) × (self.new.is_behind ≡ self.old.is_behind)) }
+    {
+        for notice in notices {
+            self.send_one(&notice, now, output)?;
+        }
+        Ok(())
+    }
+
+    /// Gives the session a tick.
+    fn tick(&mut self, now: Moment, output: &mut Vec<u8>) -> Result<(), AllocError>
+        ensures { OnOk result ((text : List ℕ) × (output.new.items ≡ output.old.items ++ text)
+            × Ticks now self.old text self.new) }
+    {
+        let taken = self.session.tick_onto(now, output)?;
+        drop(self.note(taken));
+        Ok(())
     }
 
     /// Tells the session that nothing more comes. It sends nothing then, whatever the moment.
-    pub fn end(&mut self) -> Result<(), AllocError>
-        ensures { OnOk result (EndsSession self.old self.new) }
+    pub fn end(&mut self)
+        ensures { EndsSession self.old self.new }
     {
-        let mut output = Vec::new(self.alloc);
-        let now = Moment::new(0).unwrap();
-        let _ = self.take(Input::End, now, &mut output)?;
-        Ok(())
+        let taken = self.session.end();
+        drop(self.note(taken));
     }
 }
 
@@ -126,7 +176,9 @@ impl<H: House, C> Connection<H, C> {
     {
         let Asked { what, reference } = asked;
         let outcome = self.house.answer(what.into_inner())?;
-        let _ = self.take(Input::Answer(reference, outcome), now, output)?;
+        let session = &mut self.session;
+        let taken = session.answer_onto(reference, &outcome, now, output)?;
+        drop(self.note(taken));
         Ok(())
     }
 
@@ -156,40 +208,9 @@ impl<H: House, C> Connection<H, C> {
         ensures { OnOk result ((text : List ℕ) × (output.new.items ≡ output.old.items ++ text)
             × AnswersFrame H.rules now self.old frame text self.new) }
     {
-        let asked = self.take(Input::Frame(frame), now, output)?;
+        let asked = self.hear(frame, now, output)?;
         self.answer_any(asked, now, output)?;
         self.is_behind = true;
-        Ok(())
-    }
-
-    /// Sends a notice.
-    fn send_one(
-        &mut self,
-        notice: Notice,
-        now: Moment,
-        output: &mut Vec<u8>,
-    ) -> Result<(), AllocError>
-        ensures sent { OnOk result ((text : List ℕ) × (output.new.items ≡ output.old.items ++ text)
-            × SendsNotice now self.old notice text self.new) }
-    {
-        let _ = self.take(Input::Notice(notice), now, output)?;
-        Ok(())
-    }
-
-    /// Sends notices.
-    fn send_all(
-        &mut self,
-        notices: Vec<Notice>,
-        now: Moment,
-        output: &mut Vec<u8>,
-    ) -> Result<(), AllocError>
-        ensures sent { OnOk result ((text : List ℕ) × (output.new.items ≡ output.old.items ++ text)
-            × AnswersEach (SendsNotice now) self.old notices.items text self.new) }
-        ensures place { OnOk result ((self.new.next ≡ self.old.next) × (self.new.is_behind ≡ self.old.is_behind)) }
-    {
-        for notice in notices {
-            self.send_one(notice, now, output)?;
-        }
         Ok(())
     }
 
@@ -208,15 +229,6 @@ impl<H: House, C> Connection<H, C> {
         self.next = notices.next;
         self.is_behind = !is_last;
         self.send_all(notices.list, now, output)
-    }
-
-    /// Gives the session a tick.
-    fn tick(&mut self, now: Moment, output: &mut Vec<u8>) -> Result<(), AllocError>
-        ensures { OnOk result ((text : List ℕ) × (output.new.items ≡ output.old.items ++ text)
-            × Ticks now self.old text self.new) }
-    {
-        let _ = self.take(Input::Tick, now, output)?;
-        Ok(())
     }
 }
 

@@ -33,6 +33,6 @@ pub fn converse<R: Read, W: Write, H: House, C: Clock>(
         (streams_of R.remaining W.contents reads.old reads.new writer.old writer.new)) }
 {
     run(alloc, reads, writer, connection)?;
-    connection.end()?;
+    connection.end();
     Ok(())
 }

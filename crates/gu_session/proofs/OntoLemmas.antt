@@ -1,5 +1,5 @@
 -- Messages after a text.
-use Rattle.std.proofs.Common.{◌≡◌, ◌<◌, ◌+◌, ◌^◌, ◌||◌, ℕ, Bool, true, false, List, [], ◌∷◌, ◌++◌, Option, None, Some, Result, Ok, Err, Vec, map, length, take, slice_get, refl, ap, sym, ◌∙◌, append_assoc, arith}
+use Rattle.std.proofs.Common.{◌≡◌, inr, ◌<◌, ◌+◌, ◌^◌, ◌||◌, ℕ, Bool, true, false, List, [], ◌∷◌, ◌++◌, Option, None, Some, Result, Ok, Err, Vec, map, length, take, slice_get, refl, ap, sym, ◌∙◌, append_assoc, arith}
 use Rattle.std.specs.Prelude.{OnErr}
 use Rattle.std.specs.List.{filter_map, flat_map, list_any}
 use Rattle.std.specs.Option.{option_to_list}
@@ -11,17 +11,20 @@ use Rattle.std.proofs.lemmas.List.Folds.{list_any-append}
 use Rattle.gu_msgs.specs.declared.outbound.Outbound.{Outbound}
 use Rattle.gu_session.specs.Appending.{FollowText, FollowsText}
 use Rattle.gu_session.specs.Encoded.{AreOutputs, Closes, Sends}
+use Rattle.gu_session.specs.Following.{FollowsOnto}
 use Rattle.gu_session.specs.Given.{asked_in, end_outputs, handed_outputs}
 use Rattle.gu_session.specs.Outputs.{StepsOnto, bytes_in, handed_in, is_close}
-use Rattle.gu_session.specs.Readiness.{IsStep, sent_with}
-use Rattle.gu_session.specs.Sending.{behind, closed, ending_of, given_by, new_of, numbered}
+use Rattle.gu_session.specs.Readiness.{IsReady, IsStep, sent_with}
+use Rattle.gu_session.specs.Sending.{behind, closed, ending_of, given_by, is_over, new_of, numbered}
 use Rattle.gu_session.specs.States.{SessionState}
-use Rattle.gu_session.specs.Steps.{Steps, StepsWith}
+use Rattle.gu_session.specs.Steps.{IsCourse, StepsWith, responses_of, session_after}
 use Rattle.gu_session.specs.declared.input.Input.{Input}
 use Rattle.gu_session.specs.declared.output.Asked.{Asked}
 use Rattle.gu_session.specs.declared.output.Output.{Output}
 use Rattle.gu_session.specs.declared.output.Output.TheVariants.{Send, Hand, Close}
 use Rattle.gu_session.specs.declared.output.Taken.{Taken}
+use Rattle.gu_session.specs.declared.plan.Course.{Course}
+use Rattle.gu_session.specs.declared.plan.Course.TheVariants.{Go}
 use Rattle.gu_session.specs.declared.ready.Ready.{Ready}
 use Rattle.gu_session.proofs.NumberLemmas.{length-numbered}
 use Rattle.gu_session.proofs.OutputLemmas.{AreOutputs-append, buffer_of, ending_is_given, one_more}
@@ -93,11 +96,11 @@ ending_closes (Some asked) true = refl
 ending_closes (Some asked) false = refl
 
 -- the outputs of a plan that is carried out
-pub plan_outputs : (s : SessionState) (input : Input) (now : ℕ) (ready : Ready) (outputs : List Output) (taken : Taken) → IsStep s input now ready →
+pub plan_outputs : (s : SessionState) (now : ℕ) (ready : Ready) (outputs : List Output) (taken : Taken) → IsReady s now ready →
     AreOutputs (map Sends (sent_with ready s.next now)) outputs → taken.handed ≡ asked_in ready.plan.handed → taken.is_closed ≡ ready.plan.ends →
     AreOutputs (given_by s now ready.plan) (outputs ++ (handed_outputs taken.handed ++ end_outputs taken.is_closed))
-plan_outputs s input now ready outputs taken is are handed ends =
-    let sent = ap (λ (ms : List Outbound). ms ++ new_of s now ready.plan) is.is_ready.again in
+plan_outputs s now ready outputs taken is are handed ends =
+    let sent = ap (λ (ms : List Outbound). ms ++ new_of s now ready.plan) is.again in
     rw (← sent, handed, ends)
     (AreOutputs-append (map Sends (sent_with ready s.next now)) (ending_of ready.plan.handed ready.plan.ends) outputs _ are (ending_is_given ready.plan.handed ready.plan.ends))
 
@@ -108,19 +111,21 @@ pub plan_steps : (old new : SessionState) (input : Input) (now : ℕ) (ready : R
 plan_steps old new input now ready outputs taken is are handed ends behind_is = record {
   given = given_by old now ready.plan;
   steps = rw behind_is is.steps;
-  are_outputs = plan_outputs old input now ready outputs taken is are handed ends;
+  are_outputs = plan_outputs old now ready outputs taken is.is_ready are handed ends;
 }
 
 -- a plan is carried out, with its messages after a text
-pub plan_steps_onto : (old new : SessionState) (input : Input) (now : ℕ) (ready : Ready) (before after : List ℕ) (taken : Taken) → IsStep old input now ready →
-    FollowText (sent_with ready old.next now) before after → taken.handed ≡ asked_in ready.plan.handed → taken.is_closed ≡ ready.plan.ends →
-    new ≡ behind old now ready.plan → StepsOnto old input now before after taken new
-plan_steps_onto old new input now ready before after taken is follow handed ends behind_is =
+pub plan_followed : (old new : SessionState) (now : ℕ) (ready : Ready) (before after : List ℕ) (taken : Taken) → IsReady old now ready →
+    is_over old.next ready.plan ≡ false → FollowText (sent_with ready old.next now) before after →
+    taken.handed ≡ asked_in ready.plan.handed → taken.is_closed ≡ ready.plan.ends →
+    new ≡ behind old now ready.plan → FollowsOnto old (Go ready.plan) now before after taken new
+plan_followed old new now ready before after taken is suffice follow handed ends behind_is =
     let ending = handed_outputs taken.handed ++ end_outputs taken.is_closed in
     let messages = sent_with ready old.next now in
     record {
       outputs = follow.outputs ++ ending;
-      steps = plan_steps old new input now ready follow.outputs taken is follow.are_outputs handed ends behind_is;
+      are_outputs = rw suffice (plan_outputs old now ready follow.outputs taken is follow.are_outputs handed ends);
+      leaves = rw suffice behind_is;
       text = follow.text ∙ ap (λ (t : List ℕ). before ++ t)
           (sym (append-nil (flat_map bytes_in follow.outputs)) ∙ ap (λ (t : List ℕ). flat_map bytes_in follow.outputs ++ t) (sym (ending_bytes taken.handed taken.is_closed))
           ∙ sym (flat_map-append bytes_in follow.outputs ending));
@@ -131,12 +136,28 @@ plan_steps_onto old new input now ready before after taken is follow handed ends
     }
 
 -- a session that leaves closes, and no bytes follow
-pub leaving_onto : (old new : SessionState) (input : Input) (now : ℕ) (text : List ℕ) (taken : Taken) → Steps old input now (Closes ∷ []) (closed old) →
-    new ≡ closed old → taken.handed ≡ None → taken.is_closed ≡ true → StepsOnto old input now text text taken new
-leaving_onto old new input now text taken is leaves handed close = record {
+pub leaving_followed : (old new : SessionState) (course : Course) (now : ℕ) (text : List ℕ) (taken : Taken) → responses_of old now course ≡ Closes ∷ [] →
+    session_after old now course ≡ closed old → new ≡ closed old → taken.handed ≡ None → taken.is_closed ≡ true → FollowsOnto old course now text text taken new
+leaving_followed old new course now text taken gives after leaves handed close = record {
   outputs = Close ∷ [];
-  steps = record { given = Closes ∷ []; steps = rw leaves is; are_outputs = (tt, tt) };
+  are_outputs = rw gives (tt, tt);
+  leaves = leaves ∙ sym after;
   text = sym (append-nil text);
   handed = ap (λ (asked : Option Asked). option_to_list asked) handed;
   close = close;
+}
+
+-- an open session that follows its course steps
+pub followed_steps : (old new : SessionState) (input : Input) (course : Course) (now : ℕ) (before after : List ℕ) (taken : Taken) → old.is_closed ≡ false →
+    IsCourse old input now course → FollowsOnto old course now before after taken new → StepsOnto old input now before after taken new
+followed_steps old new input course now before after taken is_open is follows = record {
+  outputs = follows.outputs;
+  steps = record {
+    given = responses_of old now course;
+    steps = inr (record { is_open = is_open; course = course; is_course = is; gives = refl; leaves = follows.leaves });
+    are_outputs = follows.are_outputs;
+  };
+  text = follows.text;
+  handed = follows.handed;
+  close = follows.close;
 }

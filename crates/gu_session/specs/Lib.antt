@@ -17,6 +17,7 @@ pub mod Sending
 pub mod Steps
 pub mod Readiness
 pub mod Outputs
+pub mod Following
 pub mod Appending
 pub mod Runs
 pub mod Laws

@@ -1,18 +1,25 @@
 //! A session.
 
-ghost use Rattle.std.specs.Prelude.{◌≡◌, List, IfOk, OnErr};
+ghost use Rattle.std.specs.Prelude.{◌≡◌, List, ℕ, IfOk, OnErr};
 ghost use Rattle.std.specs.Option.{option_map};
+ghost use Rattle.gu_session.specs.Following.{FollowsOnto};
 ghost use Rattle.gu_session.specs.Outputs.{StepsOnto};
 ghost use Rattle.gu_session.specs.States.{new_session};
 ghost use Rattle.gu_session.specs.Steps.{StepsWith};
+ghost use Rattle.gu_session.specs.declared.plan.Course.TheVariants.{Go};
 ghost use Rattle.gu_session.specs.declared.logged_on.LoggedOn.{LoggedOn as LoggedOnOf};
 
-use crate::input::Input;
+use crate::ask_ref::AskRef;
+use crate::carrying::is_over;
+use crate::course::{answer_course, frame_course, notice_course, tick_course};
+use crate::input::{Input, Outcome};
 use crate::output::{Output, Taken};
-use crate::ready::{Prepared, Ready};
+use crate::plan::{Course, Plan};
+use crate::ready::Prepared;
 use crate::sending::{Pen, close, push_taken};
 use crate::state::State;
-use gu_terms::{FirmId, Moment};
+use gu_fix::Frame;
+use gu_terms::{FirmId, Moment, Notice};
 use std::alloc::{AllocError, Global};
 use std::marker::Model;
 
@@ -93,29 +100,124 @@ impl Session {
         }
     }
 
-    /// Takes an input at a moment as `step` does, and appends the bytes that are sent. Where an allocation fails the session
-    /// and the output stay as they were.
-    pub fn step_onto(
+    /// Carries out a plan, and appends the bytes that are sent.
+    fn carry_out(
         &mut self,
-        input: Input,
+        plan: Plan,
         now: Moment,
         output: &mut Vec<u8>,
     ) -> Result<Taken, AllocError>
-        ensures steps { IfOk result (λ taken. StepsOnto self.old input now output.old.items output.new.items taken self.new) }
+        ensures done { IfOk result (λ taken. FollowsOnto self.old (Go plan) now output.old.items output.new.items taken self.new) }
         ensures refused { OnErr result (self.new ≡ self.old) }
         ensures kept { OnErr result (output.new.items ≡ output.old.items) }
     {
-        if self.state.is_closed {
-            return Ok(Taken::nothing());
+        if is_over(self.state.next, &plan) {
+            return Ok(self.state.close());
         }
         self.state.waiting.reserve(1)?;
-        match self.state.prepare(self.alloc, input, now)? {
-            Prepared::Stay => Ok(Taken::nothing()),
-            Prepared::Leave => Ok(self.state.close()),
-            Prepared::Go(ready) => {
-                self.pen.append(output, &ready, self.state.next, now)?;
-                Ok(self.state.commit(ready, now))
-            }
+        let ready = self.state.make_ready(self.alloc, plan, now)?;
+        self.pen.append(output, &ready, self.state.next, now)?;
+        Ok(self.state.commit(ready, now))
+    }
+
+    /// Does what is to be done, and appends the bytes that are sent.
+    fn follow(
+        &mut self,
+        course: Course,
+        now: Moment,
+        output: &mut Vec<u8>,
+    ) -> Result<Taken, AllocError>
+        ensures done { IfOk result (λ taken. FollowsOnto self.old course now output.old.items output.new.items taken self.new) }
+        ensures refused { OnErr result (self.new ≡ self.old) }
+        ensures kept { OnErr result (output.new.items ≡ output.old.items) }
+    {
+        match course {
+            Course::Stay => Ok(Taken::nothing()),
+            Course::Leave => Ok(self.state.close()),
+            Course::Go(plan) => self.carry_out(plan, now, output),
         }
+    }
+
+    /// Takes a frame at a moment as `step` does, and appends the bytes that are sent. Where an allocation fails the session and the
+    /// output stay as they were.
+    pub fn frame_onto(
+        &mut self,
+        frame: Frame,
+        now: Moment,
+        output: &mut Vec<u8>,
+    ) -> Result<Taken, AllocError>
+        ensures steps { IfOk result (λ taken. StepsOnto self.old (Input.Frame frame) now output.old.items output.new.items taken self.new) }
+        ensures refused { OnErr result (self.new ≡ self.old) }
+        ensures kept { OnErr result (output.new.items ≡ output.old.items) }
+    {
+        let state = &self.state;
+        if state.is_closed {
+            return Ok(Taken::nothing());
+        }
+        let course = frame_course(self.alloc, &state.firms, &state.at, frame, now)?;
+        self.follow(course, now, output)
+    }
+
+    /// Takes a notice in the same way.
+    pub fn notice_onto(
+        &mut self,
+        notice: &Notice,
+        now: Moment,
+        output: &mut Vec<u8>,
+    ) -> Result<Taken, AllocError>
+        ensures steps { IfOk result (λ taken. StepsOnto self.old (Input.Notice notice.now) now output.old.items output.new.items taken self.new) }
+        ensures refused { OnErr result (self.new ≡ self.old) }
+        ensures kept { OnErr result (output.new.items ≡ output.old.items) }
+    {
+        let state = &self.state;
+        if state.is_closed {
+            return Ok(Taken::nothing());
+        }
+        let course = notice_course(self.alloc, &state.at, notice)?;
+        self.follow(course, now, output)
+    }
+
+    /// Takes the answer to what was handed out with this reference in the same way.
+    pub fn answer_onto(
+        &mut self,
+        reference: AskRef,
+        outcome: &Outcome,
+        now: Moment,
+        output: &mut Vec<u8>,
+    ) -> Result<Taken, AllocError>
+        ensures steps { IfOk result (λ taken. StepsOnto self.old (Input.Answer reference outcome.now) now output.old.items output.new.items taken self.new) }
+        ensures refused { OnErr result (self.new ≡ self.old) }
+        ensures kept { OnErr result (output.new.items ≡ output.old.items) }
+    {
+        let state = &self.state;
+        if state.is_closed {
+            return Ok(Taken::nothing());
+        }
+        let course = answer_course(self.alloc, &state.at, &state.waiting, reference, outcome)?;
+        self.follow(course, now, output)
+    }
+
+    /// Takes it that time passes in the same way.
+    pub fn tick_onto(&mut self, now: Moment, output: &mut Vec<u8>) -> Result<Taken, AllocError>
+        ensures steps { IfOk result (λ taken. StepsOnto self.old Input.Tick now output.old.items output.new.items taken self.new) }
+        ensures refused { OnErr result (self.new ≡ self.old) }
+        ensures kept { OnErr result (output.new.items ≡ output.old.items) }
+    {
+        let state = &self.state;
+        if state.is_closed {
+            return Ok(Taken::nothing());
+        }
+        let course = tick_course(self.alloc, &state.at, state.sent_at, now)?;
+        self.follow(course, now, output)
+    }
+
+    /// Takes it that nothing more comes, whatever the moment. Nothing is sent.
+    pub fn end(&mut self) -> Taken
+        ensures { (now : ℕ) (text : List ℕ) → StepsOnto self.old Input.End now text text result self.new }
+    {
+        if self.state.is_closed {
+            return Taken::nothing();
+        }
+        self.state.close()
     }
 }

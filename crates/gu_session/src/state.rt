@@ -112,12 +112,22 @@ impl State {
                 if is_over(self.next, &plan) {
                     return Ok(Prepared::Leave);
                 }
-                let firm = &plan.after.firm;
-                let again = repeats(alloc, firm, &now, &self.kept, self.next, &plan.again)?;
-                let room = room_for(alloc, &self.at)?;
-                Ok(Prepared::Go(Ready { plan, again, room }))
+                Ok(Prepared::Go(self.make_ready(alloc, plan, now)?))
             }
         }
+    }
+
+    /// A plan for which numbers suffice, with all that takes memory to carry it out.
+    pub fn make_ready(&self, alloc: Global, plan: Plan, now: Moment) -> Result<Ready, AllocError>
+        requires numbers { is_over self.now.next plan ≡ false }
+        requires sound { IsSoundState self.now }
+        ensures plan { IfOk result (λ ready. ready.plan ≡ plan) }
+        ensures ready { IfOk result (IsReady (seen self.now) now) }
+    {
+        let firm = &plan.after.firm;
+        let again = repeats(alloc, firm, &now, &self.kept, self.next, &plan.again)?;
+        let room = room_for(alloc, &self.at)?;
+        Ok(Ready { plan, again, room })
     }
 
     /// The session ends.

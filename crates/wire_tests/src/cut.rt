@@ -22,7 +22,7 @@ fn add_key(cut: &mut Cut, name: &str) -> Option<bool> {
 }
 
 /// How many members were new of the offers and the accounts with so many numbers.
-fn add_all(alloc: Global, cut: &mut Cut, count: u64) -> Result<u64, AllocError> {
+pub fn add_all(alloc: Global, cut: &mut Cut, count: u64) -> Result<u64, AllocError> {
     let mut added: u64 = 0;
     for place in 0..count {
         let number = place + 1;

@@ -24,6 +24,8 @@ mod history;
 #[cfg(test)]
 mod logons;
 #[cfg(test)]
+mod memory;
+#[cfg(test)]
 mod messages;
 #[cfg(test)]
 mod names;
@@ -31,6 +33,8 @@ mod names;
 mod numbers;
 #[cfg(test)]
 mod reading;
+#[cfg(test)]
+mod receipts;
 #[cfg(test)]
 mod rejects;
 #[cfg(test)]

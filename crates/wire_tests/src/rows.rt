@@ -3,8 +3,8 @@
 use crate::messages::meant;
 use crate::words::{Values, sample};
 use crate::{
-    answering, cut, encoding, feed, fields, header, history, names, numbers, reading, reports,
-    takes, writing,
+    answering, cut, encoding, feed, fields, header, history, names, numbers, reading, receipts,
+    reports, takes, writing,
 };
 use std::alloc::{AllocError, Global};
 use std::process::Abort;
@@ -23,6 +23,8 @@ pub enum Subject {
     /// So many takes, and so many members of a cut.
     Takes,
     Cut,
+    /// How many takes a receipt has, and how many copies are that receipt.
+    Receipts,
     /// How many entries a history has.
     History,
     /// The messages that a feed gives after this front.
@@ -63,6 +65,7 @@ fn told(alloc: Global, w: &Values, subject: Subject, asked: &str) -> Result<Stri
         Subject::Ranges => numbers::ranges_told(alloc, asked),
         Subject::Takes => takes::told(alloc, asked),
         Subject::Cut => cut::told(alloc, asked),
+        Subject::Receipts => receipts::told(alloc, w, asked),
         Subject::History => history::told(alloc, w, asked),
         Subject::Fronts => feed::told(alloc, asked),
         Subject::Pieces => feed::pieces_told(alloc, asked),
@@ -105,12 +108,19 @@ fn fault_again(
     }
 }
 
-/// Asserts that what each row of a table asks is told as the row says.
+/// Whether there is memory.
+pub fn has_memory(alloc: Global) -> bool {
+    Vec::<u8>::with_capacity(alloc, 1).is_ok()
+}
+
+/// Asserts that what each row of a table asks is told as the row says. Nothing is told once there is no memory any more.
 pub fn check(rt: &impl Abort, alloc: Global, subject: Subject, table: &str) {
     let w = sample().expect(rt, "a sample");
     for row in table.lines() {
-        let fault = fault_again(alloc, &w, subject, row).expect(rt, "memory");
-        assert!(rt; fault.is_empty(), "{fault}");
+        match fault_again(alloc, &w, subject, row) {
+            Ok(fault) => assert!(rt; fault.is_empty(), "{fault}"),
+            Err(_) => assert!(rt; !has_memory(alloc), "no memory for {row}"),
+        }
     }
 }
 

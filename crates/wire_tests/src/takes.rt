@@ -13,7 +13,7 @@ fn add(takes: &mut Takes, number: u64) -> Option<bool> {
 }
 
 /// How many takes were new of so many offers, the last one first where they fall.
-fn add_all(takes: &mut Takes, count: u64, falls: bool) -> u64 {
+pub fn add_all(takes: &mut Takes, count: u64, falls: bool) -> u64 {
     let mut added: u64 = 0;
     for place in 0..count {
         let number = if falls { count - place } else { place + 1 };

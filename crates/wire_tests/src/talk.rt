@@ -11,7 +11,7 @@
 use crate::bodies::{message_at, message_of};
 use crate::messages::{frame_in, replaced, shown};
 use crate::requests::request_text;
-use crate::rows::{first_word, number, parts_at};
+use crate::rows::{first_word, has_memory, number, parts_at};
 use crate::words::{Values, notice_of, outcome_of, sample};
 use gu_fix::Feed;
 use gu_session::{AskRef, Input, Output, Session, Taken};
@@ -91,6 +91,22 @@ fn messages_in(alloc: Global, text: &[u8]) -> Result<Option<Vec<Output>>, AllocE
     Ok(if left == 0 { Some(given) } else { None })
 }
 
+/// Gives a session an input; its messages come after a text.
+fn take(
+    session: &mut Session,
+    input: Input,
+    now: Moment,
+    text: &mut Vec<u8>,
+) -> Result<Taken, AllocError> {
+    match input {
+        Input::Frame(frame) => session.frame_onto(frame, now, text),
+        Input::Notice(notice) => session.notice_onto(&notice, now, text),
+        Input::Answer(reference, outcome) => session.answer_onto(reference, &outcome, now, text),
+        Input::Tick => session.tick_onto(now, text),
+        Input::End => Ok(session.end()),
+    }
+}
+
 /// What a session gives that appends its messages, one output after another.
 fn step_onto(
     alloc: Global,
@@ -99,7 +115,7 @@ fn step_onto(
     now: Moment,
 ) -> Result<Option<Vec<Output>>, AllocError> {
     let mut text = Vec::from_slice(alloc, BEFORE)?;
-    let Taken { handed, is_closed } = session.step_onto(input, now, &mut text)?;
+    let Taken { handed, is_closed } = take(session, input, now, &mut text)?;
     let found = match messages_in(alloc, &text) {
         Ok(found) => found,
         Err(_) => messages_in(alloc, &text)?,
@@ -245,22 +261,33 @@ impl Talk {
     }
 }
 
-/// A conversation at nine, at the second try where the first is refused memory.
-fn begin(rt: &impl Abort, alloc: Global, call: Call) -> Talk {
+/// A conversation at nine, at the second try where the first is refused memory. Nothing comes of it once there is none any more.
+fn begin(rt: &impl Abort, alloc: Global, call: Call) -> Option<Talk> {
     let talk = match Talk::new(alloc, call) {
-        Ok(talk) => talk,
-        Err(_) => Talk::new(alloc, call).expect(rt, "memory"),
+        Ok(talk) => Ok(talk),
+        Err(_) => Talk::new(alloc, call),
     };
-    talk.expect(rt, "a sample")
+    match talk {
+        Ok(talk) => Some(talk.expect(rt, "a sample")),
+        Err(_) => {
+            assert!(rt; !has_memory(alloc), "no memory for a session");
+            None
+        }
+    }
 }
 
-/// Asserts that a line is right. One that is refused memory is tried once more.
-fn check_line(rt: &impl Abort, alloc: Global, talk: &mut Talk, name: &str, line: &str) {
-    let is_right = match talk.take(alloc, line) {
-        Ok(is_right) => is_right,
-        Err(_) => talk.take(alloc, line).expect(rt, "memory"),
+/// Asserts that a line is right. One that is refused memory is tried once more. It answers whether the conversation goes on, as it
+/// does as long as there is memory.
+fn check_line(rt: &impl Abort, alloc: Global, talk: &mut Talk, name: &str, line: &str) -> bool {
+    let told = match talk.take(alloc, line) {
+        Ok(is_right) => Ok(is_right),
+        Err(_) => talk.take(alloc, line),
     };
-    assert!(rt; is_right, "{line} of: {name}");
+    match told {
+        Ok(is_right) => assert!(rt; is_right, "{line} of: {name}"),
+        Err(_) => assert!(rt; !has_memory(alloc), "no memory for {line} of: {name}"),
+    }
+    told.is_ok()
 }
 
 /// Lines with a number in the place of `#`.
@@ -284,15 +311,21 @@ fn check_each(rt: &impl Abort, alloc: Global, talk: &mut Talk, name: &str, text:
 /// Asserts that each line of a conversation is right after its name, and that nothing is left at its end.
 fn follow_one(rt: &impl Abort, alloc: Global, talk: &'static str, call: Call) {
     let (name, lines) = parts_at(talk, "\n");
-    let mut talk = begin(rt, alloc, call);
+    let Some(mut talk) = begin(rt, alloc, call) else {
+        return;
+    };
+    let mut goes_on = true;
     for line in lines.lines() {
         match first_word(line) {
             ("now", time) => talk.set_clock(time),
             ("each", text) => check_each(rt, alloc, &mut talk, name, text),
-            _ => check_line(rt, alloc, &mut talk, name, line),
+            _ if goes_on => goes_on = check_line(rt, alloc, &mut talk, name, line),
+            _ => {}
         }
     }
-    check_line(rt, alloc, &mut talk, name, "done");
+    if goes_on {
+        check_line(rt, alloc, &mut talk, name, "done");
+    }
 }
 
 /// Asserts that each line of conversations is right, by either call.

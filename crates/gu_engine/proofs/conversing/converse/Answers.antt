@@ -15,8 +15,5 @@ returns-in_err-run-clause-stopped g c read =
 pub returns-in_err-run-clause-part : goal.returns-in_err-run-clause-part
 returns-in_err-run-clause-part g c = on_err_from _ c.run.ensures.part
 
-pub returns-in_err-end-clause-part : goal.returns-in_err-end-clause-part
-returns-in_err-end-clause-part g c = on_err_from _ c.run.ensures.part
-
 pub returns-clause-exchanged : goal.returns-clause-exchanged
-returns-clause-exchanged g c = record { mid = c.run.new.answerer; served = c.in_ok-run.ensures.done; ended = c.in_ok-end.ensures }
+returns-clause-exchanged g c = record { mid = c.run.new.answerer; served = c.in_ok-run.ensures.done; ended = c.end.ensures }

@@ -9,7 +9,7 @@ returns g c =
       each.1 ∙ ap (λ (t : List ℕ). t ++ each.0) hears.1 ∙ append_assoc c.args.output.now.items hears.0 each.0,
       record {
         asked = c.in_ok-asked.asked;
-        heard = c.take.new.self;
+        heard = c.hear.new.self;
         answered = c.answer_any.new.self;
         sent = hears.0;
         answer = each.0;
