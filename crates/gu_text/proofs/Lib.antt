@@ -6,7 +6,7 @@ mod LineLemmas
 mod NumberLemmas
 mod OneLine
 mod OneMeaning
-mod Places
+mod PieceLemmas
 pub mod ReadBackLemmas
 mod ReadLemmas
 pub mod RightLines
@@ -16,6 +16,7 @@ mod SheetBack
 mod SheetLemmas
 mod Splits
 mod TakesLemmas
+mod ViewBounds
 pub mod ViewsAgain
 mod WordLemmas
 pub mod Writable

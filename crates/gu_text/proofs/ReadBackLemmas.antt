@@ -12,7 +12,6 @@ use Rattle.gu_text.specs.ReadBack.{joined, AreWords, HasLines, IsReadBack, IsWor
 use Rattle.gu_text.specs.Texts.{word, line_of}
 use Rattle.gu_text.specs.Words.{is_blank, is_blank_at, is_empty, words_of}
 use Rattle.gu_text.proofs.LineLemmas.{first_of_parts}
-use Rattle.gu_text.proofs.Places.{suc_more, zero_more}
 use Rattle.gu_text.proofs.WordLemmas.{kept}
 
 none_of : (p q r : Bool) → not (p || q || r) ≡ true → (p ≡ false) × (q ≡ false) × (r ≡ false)
@@ -67,6 +66,14 @@ even_front : (words : List (List ℕ)) → AllByRecursion IsWord words → is_bl
 even_front [] each = refl
 even_front (last ∷ []) each = blank_nowhere last (no_blank last each.0) 0
 even_front (first ∷ next ∷ others) each = front_of_word first (joined (next ∷ others)) each.0
+
+-- no places after the front
+zero_more : (k : ℕ) → 0 + k ≡ k
+zero_more k = omega arith
+
+-- one place more
+suc_more : (n k : ℕ) → suc n + k ≡ suc (n + k)
+suc_more n k = omega arith
 
 slice_get-behind : (xs ys : List ℕ) (k : ℕ) → slice_get (xs ++ ys) (length xs + k) ≡ slice_get ys k
 slice_get-behind [] ys k = ap (slice_get ys) (zero_more k)

@@ -1,28 +1,29 @@
 -- A sheet is read line by line.
-use Rattle.std.proofs.Common.{◌≡◌, ◌≢◌, ◌+◌, ◌-◌, ◌⊎◌, ◌++◌, ◌∷◌, [], ◌∙◌, ◌&&◌, ◌||◌, not, ℕ, Bool, true, false, List, Option, None, Some, suc, length, map, take, drop, slice_get, IsSome, IsTrue, Result, Ok, Err, IfErr, IsErrAnd, refl, ap, sym, subst, inl, inr, arith}
-use Rattle.std.specs.List.{filter_map, cons_option, last_or}
+use Rattle.std.proofs.Common.{◌≡◌, ◌≢◌, ◌+◌, ◌<◌, ◌⊎◌, ◌++◌, ◌∷◌, [], ◌∙◌, ◌&&◌, ◌||◌, not, nat_lt, ℕ, Bool, true, false, cond, List, Option, None, Some, length, map, take, IsTrue, Result, Ok, Err, IsErrAnd, refl, ap, sym, subst, inl, inr, arith, length-append, length-take}
+use Rattle.std.specs.List.{filter_map, last_or}
+use Rattle.std.specs.Prelude.{IsErrOf}
 use Rattle.std.specs.Option.{option_map_or, option_or, option_to_list}
-use Rattle.std.specs.Str.Lines.{lines}
-use Rattle.std.proofs.Math.Seq.{take-add}
-use Rattle.std.proofs.lemmas.Bool.{cond-true, or_parts}
-use Rattle.std.proofs.lemmas.List.{append-nil, map-append, length-drop, take_all, take-append-drop, take-append-le}
-use Rattle.std.proofs.lemmas.List.Elements.{filter_map-append}
+use Rattle.std.proofs.lemmas.Bool.{cond-true, or_parts, ltb-false, ltb-true}
+use Rattle.std.proofs.lemmas.List.{append-nil, map-append, take_all, take-append-le}
 use Rattle.std.proofs.lemmas.Option.{same_Some}
 use Rattle.gu_terms.proofs.Gathered.{filter_map-last, last_or-given, last_or-last, push_each}
+use Rattle.gu_terms.specs.declared.takes.Take.{Take}
 use Rattle.gu_view.specs.Making.{MakesView, view_of}
+use Rattle.gu_view.specs.declared.view.ViewOffer.{ViewOffer}
+use Rattle.gu_view.specs.declared.view.Room.{Room}
 use Rattle.gu_text.specs.Lines.{is_silent}
 use Rattle.gu_text.specs.SheetLines.{says, spoken}
 use Rattle.gu_text.specs.SheetParts.{SheetParts, part_of, header_in, offer_in, room_in, take_in, key_in, number_in, parts_of}
-use Rattle.gu_text.specs.Sheets.{MayFollow, IsRightAfter, AreRight, said_in, comes_after, is_repeated, fits_after, IsFirstBad, IsUnended, IsSheet, AreTakes, Refuses}
-use Rattle.gu_text.specs.Reading.{with_line, with_text_line, line_fits, is_end, is_ended, AreSilent, BreaksSilence, EndsAt, IsMadeOf, MakesNone}
-use Rattle.gu_text.specs.declared.sheet.Sheet.{Sheet}
+use Rattle.gu_text.specs.Sheets.{MayFollow, IsRightAfter, AreRight, said_in, comes_after, is_repeated, fits_after, IsSheetOf, AreTakes}
+use Rattle.gu_text.specs.Reading.{no_parts, with_line, with_text_line, with_kept, with_kept_line, kept, most_offers, most_rooms, more_offers, more_rooms, line_fits, is_end, is_ended, AreOpen, IsMadeOf, MakesNone}
 use Rattle.gu_text.specs.declared.error.TextError.{TextError}
-use Rattle.gu_text.specs.declared.error.TextError.TheVariants.{Memory, BadLine}
+use Rattle.gu_text.specs.declared.error.TextError.TheVariants.{BadLine}
+use Rattle.gu_text.specs.declared.sheet.Sheet.{Sheet}
 use Rattle.gu_text.specs.declared.sheet_line.Part.{Part}
 use Rattle.gu_text.specs.declared.sheet_line.Part.TheVariants as part
 use Rattle.gu_text.specs.declared.sheet_line.SheetLine.{SheetLine}
 use Rattle.gu_text.specs.declared.sheet_line.SheetLine.TheVariants as line
-use Rattle.gu_text.proofs.Places.{at_either, taken_at, slice_get-drop}
+use Rattle.gu_text.proofs.ViewBounds.{all_kept, kept_all, offers_few}
 
 -- the parts with one more line
 pub parts_of-last : (said : List SheetLine) (next : SheetLine) → parts_of (said ++ next ∷ []) ≡ with_line (parts_of said) next
@@ -42,10 +43,6 @@ parts_of-said before text = ap parts_of (filter_map-last says before text) ∙ w
 -- lines that are right, and one more
 pub right_last : (before : List (List ℕ)) (text : List ℕ) → AreRight before → IsRightAfter (said_in before) text → AreRight (before ++ text ∷ [])
 right_last before text right last = push_each (λ ls line. IsRightAfter (said_in ls) line) before text right last
-
--- silent lines, and one more
-pub silent_last : (before : List (List ℕ)) (text : List ℕ) → AreSilent before → is_silent text ≡ true → AreSilent (before ++ text ∷ [])
-silent_last before text silent last = push_each (λ ls line. is_silent line ≡ true) before text silent last
 
 is_end-part : (next : SheetLine) → is_end (Some (part_of next)) ≡ false → next ≢ line.End
 is_end-part next h e = let ended : is_end (Some (part_of next)) ≡ true = rw e refl in cc
@@ -110,36 +107,6 @@ ends_said parts text fits unended ended =
       | inr speaks ↦ says_end parts (says text) speaks.1 ended
     ]
 
--- a line after right ones that isn't right is the first bad one
-pub first_bad : (all : List (List ℕ)) (n : ℕ) (text : List ℕ) → slice_get all n ≡ Some text → AreRight (take n all) → ¬ IsRightAfter (said_in (take n all)) text → IsFirstBad all (n + 1)
-first_bad all n text at before bad = record { place = n; line = text; at = at; before = before; bad = bad; number_is = refl }
-
--- where all is read and nothing ended it, the end is missing
-pub missing_end : (all : List (List ℕ)) (n : ℕ) → drop n all ≡ [] → length (take n all) ≡ n → AreRight (take n all) → is_ended (parts_of (said_in (take n all))) ≡ false → IsUnended all (n + 1)
-missing_end all n none count right unended =
-    let long : length all - n ≡ 0 = sym (length-drop n all) ∙ ap length none in
-    let whole : take n all ≡ all = take_all n all (omega (arith, long)) in
-    record {
-      right = rw (← whole) right;
-      unended = λ e. let ended : is_end (parts_of (said_in all)).last ≡ true = rw e refl in let still : is_end (parts_of (said_in all)).last ≡ false = ap (λ ls. is_end (parts_of (said_in ls)).last) (sym whole) ∙ unended in cc;
-      number_is = omega (arith, count, ap length whole);
-    }
-
--- silent lines after right ones are right
-pub right_silent : (before more : List (List ℕ)) → AreRight before → AreSilent more → AreRight (before ++ more)
-right_silent before more right silent place other at =
-    elim (at_either before more place other at) [
-      | inl inside ↦ rw (take-append-le place before more (omega (arith, inside.1))) (right place other inside.0)
-      | inr later ↦ inl (silent later.0 other later.1)
-    ]
-
--- and say nothing
-pub said_in-silent : (more : List (List ℕ)) → AreSilent more → said_in more ≡ []
-said_in-silent [] silent = refl
-said_in-silent (text ∷ more) silent =
-    ap (λ (o : Option SheetLine). cons_option o (said_in more)) (silent_says text (silent 0 text refl))
-    ∙ said_in-silent more (λ place other at. silent (suc place) other at)
-
 nothing : (next : SheetLine) (b : Bool) → (comes_after (Some part.End) (part_of next) && b) ≡ true → ⊥
 nothing (line.Sheet header) b h = cc
 nothing (line.Offer offer) b h = cc
@@ -153,103 +120,167 @@ nothing_after : (parts : SheetParts) (next : SheetLine) → parts.last ≡ Some 
 nothing_after parts next last fits =
     nothing next (not (is_repeated parts next)) (ap (λ (o : Option Part). comes_after o (part_of next) && not (is_repeated parts next)) (sym last) ∙ fits)
 
--- up to the end, where its view is one too
-module _ (text : List ℕ) (parts : SheetParts) (rest : List ℕ) (number : ℕ) (ends : EndsAt text parts rest number) where
-  said_before : List SheetLine
-  said_before = said_in (take ends.place (lines text))
+-- ---- what is kept
 
-  offers_are : parts.offers ≡ (parts_of said_before).offers
-  unfolding said_before
-  offers_are = ap (λ (p : SheetParts). p.offers) ends.parts_are ∙ append-nil (parts_of said_before).offers
+-- a line fits after what is kept where it fits after all
+fits_kept : (parts : SheetParts) (next : SheetLine) → fits_after (kept parts) next ≡ fits_after parts next
+fits_kept parts (line.Sheet header) = refl
+fits_kept parts (line.Offer offer) = refl
+fits_kept parts (line.Room room) = refl
+fits_kept parts (line.Take t) = refl
+fits_kept parts (line.CutKey key) = refl
+fits_kept parts (line.CutOffer number) = refl
+fits_kept parts line.End = refl
 
-  rooms_are : parts.rooms ≡ (parts_of said_before).rooms
-  unfolding said_before
-  rooms_are = ap (λ (p : SheetParts). p.rooms) ends.parts_are ∙ append-nil (parts_of said_before).rooms
+pub line_fits-kept : (parts : SheetParts) (text : List ℕ) → line_fits (kept parts) text ≡ line_fits parts text
+line_fits-kept parts text = ap (λ b. is_silent text || b) (by (says text))
+  where
+    by : (o : Option SheetLine) → option_map_or (fits_after (kept parts)) o false ≡ option_map_or (fits_after parts) o false
+    by None = refl
+    by (Some next) = fits_kept parts next
 
-  -- the lines up to the end
-  to_end : take number (lines text) ≡ take ends.place (lines text) ++ ends.end ∷ []
-  to_end = rw (ends.number_is) (taken_at (lines text) ends.place ends.end ends.at)
+-- the first of a list, with one more where there is room for it
+taken_more : {X : Type 0} (n : ℕ) (xs : List X) (x : X) (b : Bool) → nat_lt (length (take n xs)) n ≡ b → cond b (take n xs ++ x ∷ []) (take n xs) ≡ take n (xs ++ x ∷ [])
+taken_more n xs x true room =
+    let short : length xs < n = omega (arith, length-take n xs, ltb-true (length (take n xs)) n room) in
+    ap (λ ys. ys ++ x ∷ []) (take_all n xs (omega (arith, short))) ∙ sym (take_all n (xs ++ x ∷ []) (omega (arith, short, length-append xs (x ∷ []))))
+taken_more n xs x false full = sym (take-append-le n xs (x ∷ []) (omega (arith, length-take n xs, ltb-false (length (take n xs)) n full)))
 
-  -- some line was the last
-  pub last_given : IsSome parts.last
-  last_given = rw (ends.parts_are) refl
+offers_kept : (offers : List ViewOffer) (o : Option ViewOffer) → more_offers (take most_offers offers) o ≡ take most_offers (offers ++ option_to_list o)
+offers_kept offers None = ap (take most_offers) (sym (append-nil offers))
+offers_kept offers (Some offer) = taken_more most_offers offers offer (nat_lt (length (take most_offers offers)) most_offers) refl
 
-  -- where the parts make no view, the end is the first bad line
-  pub bad_end : ¬ MakesView parts.offers parts.rooms → IsFirstBad (lines text) number
-  unfolding said_before
-  bad_end none =
-      rw (ends.number_is) (first_bad (lines text) ends.place ends.end ends.at ends.before (λ right.
-      elim right [
-        | inl silent ↦ let e : Some line.End ≡ None = sym ends.says_end ∙ silent_says ends.end silent in cc
-        | inr speaks ↦
-            let is : speaks.0 ≡ line.End = same_Some speaks.0 line.End (sym speaks.1 ∙ ends.says_end) in
-            none (rw (offers_are, rooms_are) (speaks.2.view is))
-      ]))
+rooms_kept : (rooms : List Room) (o : Option Room) → more_rooms (take most_rooms rooms) o ≡ take most_rooms (rooms ++ option_to_list o)
+rooms_kept rooms None = ap (take most_rooms) (sym (append-nil rooms))
+rooms_kept rooms (Some room) = taken_more most_rooms rooms room (nat_lt (length (take most_rooms rooms)) most_rooms) refl
 
-  module _ (makes : MakesView parts.offers parts.rooms) where
-    right_end : AreRight (take number (lines text))
-    unfolding said_before
-    right_end =
-        rw to_end (right_last (take ends.place (lines text)) ends.end ends.before
-        (inr (line.End, ends.says_end, record { fits = ends.fits; view = λ e. rw (← offers_are, ← rooms_are) makes })))
+-- a line more of what is kept is what is kept of a line more
+with_kept-kept : (parts : SheetParts) (next : SheetLine) → with_kept (kept parts) next ≡ kept (with_line parts next)
+with_kept-kept parts next = rw (offers_kept parts.offers (offer_in next), rooms_kept parts.rooms (room_in next)) refl
 
-    said_to_end : parts_of (said_in (take number (lines text))) ≡ parts
-    said_to_end = ap (λ ls. parts_of (said_in ls)) to_end ∙ parts_of-said (take ends.place (lines text)) ends.end ∙ ap (λ (o : Option SheetLine). option_map_or (with_line (parts_of (said_in (take ends.place (lines text))))) o (parts_of (said_in (take ends.place (lines text))))) ends.says_end ∙ sym ends.parts_are
+pub with_kept_line-kept : (parts : SheetParts) (text : List ℕ) → with_kept_line (kept parts) text ≡ kept (with_text_line parts text)
+with_kept_line-kept parts text = by (says text)
+  where
+    by : (o : Option SheetLine) → option_map_or (with_kept (kept parts)) o (kept parts) ≡ kept (option_map_or (with_line parts) o parts)
+    by None = refl
+    by (Some next) = with_kept-kept parts next
 
-    -- a line that speaks after the end is the first bad one
-    pub bad_after : (error : TextError) → BreaksSilence (lines rest) number error → (n : ℕ) × (error ≡ BadLine n) × IsFirstBad (lines text) n
-    bad_after error breaks =
-        let place = number + breaks.place in
-        let taken : take place (lines text) ≡ take number (lines text) ++ take breaks.place (lines rest) = take-add number breaks.place (lines text) ∙ ap (λ ls. take number (lines text) ++ take breaks.place ls) ends.rest_are in
-        let at : slice_get (lines text) place ≡ Some breaks.line = sym (slice_get-drop (lines text) number breaks.place) ∙ ap (λ ls. slice_get ls breaks.place) ends.rest_are ∙ breaks.at in
-        let said : said_in (take place (lines text)) ≡ said_in (take number (lines text)) =
-        ap said_in taken ∙ filter_map-append says (take number (lines text)) (take breaks.place (lines rest)) ∙ ap (λ ls. said_in (take number (lines text)) ++ ls) (said_in-silent (take breaks.place (lines rest)) breaks.before) ∙ append-nil (said_in (take number (lines text))) in
-        let last : (parts_of (said_in (take place (lines text)))).last ≡ Some part.End = ap (λ ls. (parts_of ls).last) said ∙ ap (λ (p : SheetParts). p.last) said_to_end ∙ ap (λ (p : SheetParts). p.last) ends.parts_are in (
-          place + 1,
-          breaks.number_is,
-          first_bad (lines text) place breaks.line at (rw taken (right_silent (take number (lines text)) (take breaks.place (lines rest)) right_end breaks.before)) (λ right.
-              elim right [
-                | inl silent ↦ let e : true ≡ false = sym silent ∙ breaks.speaks in cc
-                | inr speaks ↦ nothing_after (parts_of (said_in (take place (lines text)))) speaks.0 last speaks.2.fits
-              ]),
-        )
+-- ---- errors that are passed on
 
-    -- where all is silent after it, the lines are a sheet's, and these are their parts
-    pub whole : AreSilent (lines rest) → AreRight (lines text) × (parts_of (said_in (lines text)) ≡ parts)
-    whole silent =
-        let all : lines text ≡ take number (lines text) ++ lines rest = sym (take-append-drop number (lines text)) ∙ ap (λ ls. take number (lines text) ++ ls) ends.rest_are in (
-          rw all (right_silent (take number (lines text)) (lines rest) right_end silent),
-          ap (λ ls. parts_of (said_in ls)) all
-              ∙ ap parts_of (filter_map-append says (take number (lines text)) (lines rest) ∙ ap (λ ls. said_in (take number (lines text)) ++ ls) (said_in-silent (lines rest) silent) ∙ append-nil (said_in (take number (lines text))))
-              ∙ said_to_end,
-        )
+pub passed : {T : Type 0} (result : Result T TextError) (error other : TextError) → IsErrAnd result (λ e. e ≡ error) → IsErrOf result other → error ≡ other
+passed (Ok x) error other h is = absurd h
+passed (Err e) error other h is = let same : e ≡ other = cc in sym h ∙ same
 
--- where the parts make a sheet, and all is silent after the end, the text is the sheet
-pub made_sheet : (text : List ℕ) (parts : SheetParts) (rest : List ℕ) (number : ℕ) → EndsAt text parts rest number → (sheet : Sheet) → IsMadeOf parts sheet → AreSilent (lines rest) → IsSheet text sheet
-made_sheet text parts rest number ends sheet made silent =
-    let all = whole text parts rest number ends made.makes silent in
-    let same : parts ≡ parts_of (said_in (lines text)) = sym all.1 in
-    record {
-      right = all.0;
-      ended = ap (λ (p : SheetParts). p.last) all.1 ∙ ap (λ (p : SheetParts). p.last) ends.parts_are;
-      header = ap (λ (p : SheetParts). p.header) all.1 ∙ made.header;
-      view = subst (λ (p : SheetParts). sheet.view ≡ view_of sheet.view.group sheet.view.version p.offers p.rooms) same made.view;
-      takes = subst (λ (p : SheetParts). AreTakes p.takes sheet.takes) same made.takes;
-      cut = made.cut ∙ ap (λ (p : SheetParts). p.cut) same;
+-- where parts make no sheet, and the error is passed on, they make no view
+pub none_made : (error : TextError) (parts : SheetParts) (number n : ℕ) → error ≡ BadLine n → MakesNone parts number error → ¬ MakesView parts.offers parts.rooms
+none_made error parts number n is none = let bad = subst (MakesNone parts number) is none in bad.1
+
+-- ---- one line more, where the end is still to come
+
+-- before the first line
+pub open_none : AreOpen [] no_parts
+open_none = record { right = λ place line at. absurd (let n : None ≡ Some line = at in cc); unended = refl; parts_are = refl }
+
+-- the end isn't among open lines
+pub unended_read : (lines : List (List ℕ)) (parts : SheetParts) → AreOpen lines parts → ¬ ((parts_of (said_in lines)).last ≡ Some part.End)
+unended_read lines parts open_is ended =
+    let was : is_ended parts ≡ true = ap is_ended open_is.parts_are ∙ ap is_end ended in
+    let both : true ≡ false = sym was ∙ open_is.unended in
+    cc
+
+-- after open lines, of whose parts these are kept
+module _ (before : List (List ℕ)) (parts : SheetParts) (open_is : AreOpen before parts) (text : List ℕ) where
+  abbrev given : SheetParts
+  given = parts_of (said_in before)
+
+  fits_all : line_fits parts text ≡ line_fits given text
+  fits_all = ap (λ p. line_fits p text) open_is.parts_are ∙ line_fits-kept given text
+
+  -- a line that doesn't fit is wrong
+  pub wrong_more : line_fits parts text ≡ false → ¬ IsRightAfter (said_in before) text
+  wrong_more unfit = unfit_wrong (said_in before) text (sym fits_all ∙ unfit)
+
+  module _ (new : SheetParts) (fits : line_fits parts text ≡ true) (new_is : new ≡ with_kept_line parts text) where
+    new_kept : new ≡ kept (with_text_line given text)
+    new_kept = new_is ∙ ap (λ p. with_kept_line p text) open_is.parts_are ∙ with_kept_line-kept given text
+
+    -- one that fits and isn't the end leaves them open
+    pub open_more : is_ended new ≡ false → AreOpen (before ++ text ∷ []) new
+    open_more unended = record {
+      right = right_last before text open_is.right (fits_right (said_in before) text (sym fits_all ∙ fits) (sym (ap is_ended new_kept) ∙ unended));
+      unended = unended;
+      parts_are = new_kept ∙ ap kept (sym (parts_of-said before text));
     }
 
--- why the parts make no sheet is why the text is none
-pub refused_end : (text : List ℕ) (parts : SheetParts) (rest : List ℕ) (number : ℕ) → EndsAt text parts rest number → (error : TextError) → MakesNone parts number error → Refuses text error
-refused_end text parts rest number ends Memory none = tt
-refused_end text parts rest number ends (BadLine n) none = inl (rw (none.0) (bad_end text parts rest number ends none.1))
+    module _ (ended : is_ended new ≡ true) where
+      the_end : (says text ≡ Some line.End) × IsTrue (fits_after given line.End) × (with_text_line given text ≡ with_line given line.End)
+      the_end = ends_said given text (sym fits_all ∙ fits) (sym (ap is_ended open_is.parts_are) ∙ open_is.unended) (sym (ap is_ended new_kept) ∙ ended)
 
--- and so is what speaks after the end
-pub refused_after : (text : List ℕ) (parts : SheetParts) (rest : List ℕ) (number : ℕ) → EndsAt text parts rest number → MakesView parts.offers parts.rooms → (error : TextError) → BreaksSilence (lines rest) number error → Refuses text error
-refused_after text parts rest number ends makes error breaks =
-    let bad = bad_after text parts rest number ends makes error breaks in
-    rw (bad.1) (inl bad.2)
+      -- what all lines give, the end too
+      abbrev all : SheetParts
+      all = parts_of (said_in (before ++ text ∷ []))
 
--- an error that is passed on
-pub passed_on : {T : Type 0} (text : List ℕ) (result : Result T TextError) (error : TextError) → IsErrAnd result (λ e. e ≡ error) → Refuses text error → IfErr result (Refuses text)
-passed_on text (Ok x) error h refused = tt
-passed_on text (Err e) error h refused = rw h refused
+      all_is : all ≡ with_line given line.End
+      all_is = parts_of-said before text ∙ the_end.2
+
+      offers_are : all.offers ≡ given.offers
+      offers_are = ap (λ (p : SheetParts). p.offers) all_is ∙ append-nil given.offers
+
+      rooms_are : all.rooms ≡ given.rooms
+      rooms_are = ap (λ (p : SheetParts). p.rooms) all_is ∙ append-nil given.rooms
+
+      new_all : new ≡ kept all
+      new_all = new_kept ∙ ap kept (sym (parts_of-said before text))
+
+      -- where they make no view, the end is wrong
+      pub wrong_end : ¬ MakesView new.offers new.rooms → ¬ IsRightAfter (said_in before) text
+      wrong_end none right =
+          elim right [
+            | inl silent ↦ let e : Some line.End ≡ None = sym the_end.0 ∙ silent_says text silent in cc
+            | inr speaks ↦
+                let is : speaks.0 ≡ line.End = same_Some speaks.0 line.End (sym speaks.1 ∙ the_end.0) in
+                let makes : MakesView all.offers all.rooms = rw (offers_are, rooms_are) (speaks.2.view is) in
+                let whole = all_kept all.offers all.rooms (offers_few (before ++ text ∷ [])) makes in
+                none (rw (new_all, whole.0, whole.1) makes)
+          ]
+
+      -- where they make a sheet, all lines do
+      pub sheet_made : (sheet : Sheet) → IsMadeOf new sheet → IsSheetOf (before ++ text ∷ []) sheet
+      sheet_made sheet made =
+          let of_kept : IsMadeOf (kept all) sheet = subst (λ (p : SheetParts). IsMadeOf p sheet) new_all made in
+          let whole = kept_all all.offers all.rooms (offers_few (before ++ text ∷ [])) of_kept.makes in
+          let makes : MakesView all.offers all.rooms = rw (whole.0, whole.1) at of_kept.makes in
+          let view : sheet.view ≡ view_of sheet.view.group sheet.view.version all.offers all.rooms = rw (whole.0, whole.1) at of_kept.view in
+          record {
+            right = right_last before text open_is.right (inr (line.End, the_end.0, record { fits = the_end.1; view = λ e. rw (← offers_are, ← rooms_are) makes }));
+            ended = ap (λ (p : SheetParts). p.last) all_is;
+            header = of_kept.header;
+            view = view;
+            takes = of_kept.takes;
+            cut = of_kept.cut;
+          }
+
+-- ---- one line more, where the end was read
+
+module _ (before : List (List ℕ)) (sheet : Sheet) (is_sheet : IsSheetOf before sheet) (text : List ℕ) where
+  -- one that says nothing changes nothing
+  pub silent_more : is_silent text ≡ true → IsSheetOf (before ++ text ∷ []) sheet
+  silent_more silent =
+      let same : said_in (before ++ text ∷ []) ≡ said_in before =
+      filter_map-last says before text ∙ ap (λ (o : Option SheetLine). said_in before ++ option_to_list o) (silent_says text silent) ∙ append-nil (said_in before) in
+      record {
+        right = right_last before text is_sheet.right (inl silent);
+        ended = ap (λ ls. (parts_of ls).last) same ∙ is_sheet.ended;
+        header = ap (λ ls. (parts_of ls).header) same ∙ is_sheet.header;
+        view = is_sheet.view ∙ ap (λ ls. view_of sheet.view.group sheet.view.version (parts_of ls).offers (parts_of ls).rooms) (sym same);
+        takes = subst (λ (ts : List Take). AreTakes ts sheet.takes) (ap (λ ls. (parts_of ls).takes) (sym same)) is_sheet.takes;
+        cut = is_sheet.cut ∙ ap (λ ls. (parts_of ls).cut) (sym same);
+      }
+
+  -- any other is wrong
+  pub spoken_more : is_silent text ≡ false → ¬ IsRightAfter (said_in before) text
+  spoken_more spoken right =
+      elim right [
+        | inl silent ↦ let e : true ≡ false = sym silent ∙ spoken in cc
+        | inr speaks ↦ nothing_after (parts_of (said_in before)) speaks.0 is_sheet.ended speaks.2.fits
+      ]

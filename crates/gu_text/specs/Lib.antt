@@ -9,6 +9,7 @@ pub mod ScriptForms
 pub mod Scripts
 pub mod SheetLines
 pub mod SheetParts
+pub mod SheetPieces
 pub mod SheetText
 pub mod Sheets
 pub mod Texts

@@ -1,21 +1,21 @@
--- Machinery: the parts of a sheet while it is read. (No other crate names this file.)
-use Rattle.std.specs.Prelude.{◌≡◌, ℕ, ◌+◌, ◌≤◌, ◌||◌, Bool, true, false, List, [], ◌++◌, drop, length, take, slice_get, Option, Some, None, IsTrue}
+-- Machinery: a sheet while its lines are read.
+use Rattle.std.specs.Prelude.{◌≡◌, ℕ, ◌||◌, nat_lt, Bool, true, false, List, [], ◌∷◌, ◌++◌, length, take, Option, Some, None, if◌then◌else◌}
 use Rattle.std.specs.Option.{option_map_or, option_or, option_to_list}
-use Rattle.std.specs.Str.Lines.{lines}
 use Rattle.gu_view.specs.Making.{MakesView, view_of}
 use Rattle.gu_view.specs.declared.view.ViewOffer.{ViewOffer}
 use Rattle.gu_view.specs.declared.view.Room.{Room}
 use Rattle.gu_text.specs.Lines.{is_silent}
 use Rattle.gu_text.specs.SheetLines.{says}
 use Rattle.gu_text.specs.SheetParts.{SheetParts, part_of, header_in, offer_in, room_in, take_in, key_in, number_in, parts_of}
-use Rattle.gu_text.specs.Sheets.{fits_after, said_in, AreRight, AreTakes}
+use Rattle.gu_text.specs.Sheets.{fits_after, said_in, AreRight, AreTakes, IsSheetOf}
 use Rattle.gu_text.specs.declared.sheet.Sheet.{Sheet}
+use Rattle.gu_text.specs.declared.sheet_so_far.SheetSoFar.{SheetSoFar}
+use Rattle.gu_text.specs.declared.sheet_so_far.SheetSoFar.TheVariants.{Open, Ended}
 use Rattle.gu_text.specs.declared.error.TextError.{TextError}
 use Rattle.gu_text.specs.declared.error.TextError.TheVariants.{Memory, BadLine}
 use Rattle.gu_text.specs.declared.sheet_line.Part.{Part}
 use Rattle.gu_text.specs.declared.sheet_line.Part.TheVariants as part
 use Rattle.gu_text.specs.declared.sheet_line.SheetLine.{SheetLine}
-use Rattle.gu_text.specs.declared.sheet_line.SheetLine.TheVariants as line
 
 -- the parts of no lines
 abbrev pub no_parts : SheetParts
@@ -30,6 +30,35 @@ with_line parts line = record {
   rooms = parts.rooms ++ option_to_list (room_in line);
   takes = parts.takes ++ option_to_list (take_in line);
   cut = record { keys = parts.cut.keys ++ option_to_list (key_in line); offers = parts.cut.offers ++ option_to_list (number_in line) };
+}
+
+-- one offer more than a view may have
+abbrev pub most_offers : ℕ
+most_offers = 4097
+
+-- one room more than a view may have
+abbrev pub most_rooms : ℕ
+most_rooms = 20481
+
+-- what is kept of parts: offers and rooms up to one more than a view may have, and all else
+abbrev pub kept : SheetParts → SheetParts
+kept parts = record parts { offers = take most_offers parts.offers; rooms = take most_rooms parts.rooms }
+
+-- offers that are kept, with one more
+abbrev pub more_offers : List ViewOffer → Option ViewOffer → List ViewOffer
+more_offers offers None = offers
+more_offers offers (Some offer) = if nat_lt (length offers) most_offers then offers ++ offer ∷ [] else offers
+
+-- rooms that are kept, with one more
+abbrev pub more_rooms : List Room → Option Room → List Room
+more_rooms rooms None = rooms
+more_rooms rooms (Some room) = if nat_lt (length rooms) most_rooms then rooms ++ room ∷ [] else rooms
+
+-- what is kept of parts, with one more line
+abbrev pub with_kept : SheetParts → SheetLine → SheetParts
+with_kept parts line = record (with_line parts line) {
+  offers = more_offers parts.offers (offer_in line);
+  rooms = more_rooms parts.rooms (room_in line);
 }
 
 -- a part is the end
@@ -49,31 +78,9 @@ line_fits parts line = is_silent line || option_map_or (fits_after parts) (says 
 abbrev pub with_text_line : SheetParts → List ℕ → SheetParts
 with_text_line parts line = option_map_or (with_line parts) (says line) parts
 
--- the line with this number says the end, and may apart from its view; those before are right; these are their parts, and the text after
-pub record EndsAt (text : List ℕ) (parts : SheetParts) (rest : List ℕ) (number : ℕ) : Type 0 where
-  pub place : ℕ
-  pub end : List ℕ
-  pub at : slice_get (lines text) place ≡ Some end
-  pub number_is : number ≡ place + 1
-  pub before : AreRight (take place (lines text))
-  pub says_end : says end ≡ Some line.End
-  pub fits : IsTrue (fits_after (parts_of (said_in (take place (lines text)))) line.End)
-  pub parts_are : parts ≡ with_line (parts_of (said_in (take place (lines text)))) line.End
-  pub rest_are : drop number (lines text) ≡ lines rest
-  pub short : number + length rest ≤ length text
-
--- each line of a text is silent
-abbrev pub AreSilent : List (List ℕ) → Type 0
-AreSilent lines = (place : ℕ) (line : List ℕ) → slice_get lines place ≡ Some line → is_silent line ≡ true
-
--- the first line that isn't silent stands so far after a line with this number
-pub record BreaksSilence (lines : List (List ℕ)) (from : ℕ) (error : TextError) : Type 0 where
-  pub place : ℕ
-  pub line : List ℕ
-  pub at : slice_get lines place ≡ Some line
-  pub before : AreSilent (take place lines)
-  pub speaks : is_silent line ≡ false
-  pub number_is : error ≡ BadLine (from + place + 1)
+-- what is kept of parts, with what a line says
+abbrev pub with_kept_line : SheetParts → List ℕ → SheetParts
+with_kept_line parts line = option_map_or (with_kept parts) (says line) parts
 
 -- the sheet that parts make
 pub record IsMadeOf (parts : SheetParts) (sheet : Sheet) : Type 0 where
@@ -91,3 +98,14 @@ MakesNoView offers rooms number (BadLine n) = (n ≡ number) × (¬ MakesView of
 -- why parts make no sheet at the end
 abbrev pub MakesNone : SheetParts → ℕ → TextError → Type 0
 MakesNone parts number error = MakesNoView parts.offers parts.rooms number error
+
+-- these lines are right, the end isn't among them, and that is what is kept of their parts
+pub record AreOpen (lines : List (List ℕ)) (parts : SheetParts) : Type 0 where
+  pub right : AreRight lines
+  pub unended : is_ended parts ≡ false
+  pub parts_are : parts ≡ kept (parts_of (said_in lines))
+
+-- what lines gave so far: parts, up to the end, and then the sheet
+abbrev pub IsReadTo : List (List ℕ) → SheetSoFar → Type 0
+IsReadTo lines (Open parts) = AreOpen lines parts
+IsReadTo lines (Ended sheet) = IsSheetOf lines sheet

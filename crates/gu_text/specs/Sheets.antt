@@ -76,12 +76,16 @@ pub record AreTakes (listed takes : List Take) : Type 0 where
   pub same : IsPermutation listed takes
   pub ascending : IsAscending takes
 
--- the sheet that a text is: its lines are right and the last is the end; they give the view, the takes and the cut
-pub record IsSheet (text : List ℕ) (sheet : Sheet) : Type 0 where
-  pub right : AreRight (lines text)
-  pub ended : (parts_of (said_in (lines text))).last ≡ Some part.End
-  pub header : (parts_of (said_in (lines text))).header ≡ Some (record { group = sheet.view.group; version = sheet.view.version })
+-- the sheet that lines make: they are right and the last is the end; they give the view, the takes and the cut
+pub record IsSheetOf (lines : List (List ℕ)) (sheet : Sheet) : Type 0 where
+  pub right : AreRight lines
+  pub ended : (parts_of (said_in lines)).last ≡ Some part.End
+  pub header : (parts_of (said_in lines)).header ≡ Some (record { group = sheet.view.group; version = sheet.view.version })
   pub view : sheet.view
-      ≡ view_of sheet.view.group sheet.view.version (parts_of (said_in (lines text))).offers (parts_of (said_in (lines text))).rooms
-  pub takes : AreTakes (parts_of (said_in (lines text))).takes sheet.takes
-  pub cut : sheet.cut ≡ (parts_of (said_in (lines text))).cut
+      ≡ view_of sheet.view.group sheet.view.version (parts_of (said_in lines)).offers (parts_of (said_in lines)).rooms
+  pub takes : AreTakes (parts_of (said_in lines)).takes sheet.takes
+  pub cut : sheet.cut ≡ (parts_of (said_in lines)).cut
+
+-- the sheet that a text is
+abbrev pub IsSheet : List ℕ → Sheet → Type 0
+IsSheet text sheet = IsSheetOf (lines text) sheet

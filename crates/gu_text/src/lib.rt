@@ -15,6 +15,8 @@ mod script_line;
 mod sheet;
 mod sheet_line;
 mod sheet_parts;
+mod sheet_reading;
+mod sheet_so_far;
 mod sheet_writing;
 mod takes_in_order;
 pub mod texts;
@@ -38,5 +40,6 @@ pub use rows::{
 };
 pub use script_line::Line;
 pub use sheet::Sheet;
+pub use sheet_reading::SheetReading;
 pub use sheet_writing::{append_sheet, sheet_text};
 pub use verdicts::verdict_text;

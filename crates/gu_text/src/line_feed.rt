@@ -1,7 +1,8 @@
 //! Lines of a text that still comes.
 
-ghost use Rattle.std.specs.Prelude.{MatchOption, IsTrue};
+ghost use Rattle.std.specs.Prelude.{◌+◌, ◌<◌, ◌↔◌, length, MatchOption, IsTrue};
 ghost use Rattle.gu_text.specs.LineFeeds.{HasNoLineFeed, IsParted, IsTooLong};
+ghost use Rattle.gu_text.specs.Lines.{longest_line};
 
 use crate::lines::{LONGEST_LINE, end_of_line};
 
@@ -22,4 +23,11 @@ pub fn is_too_long(bytes: &[u8]) -> bool
     ensures { IsTrue result → IsTooLong bytes.now }
 {
     bytes.len() > LONGEST_LINE + 1
+}
+
+/// Whether bytes with these after them are longer than the longest line and a CR.
+pub(crate) fn goes_past_a_line(bytes: &[u8], more: &[u8]) -> bool
+    ensures { IsTrue result ↔ (longest_line + 1 < length bytes.now + length more.now) }
+{
+    bytes.len() + more.len() > LONGEST_LINE + 1
 }

@@ -1,8 +1,8 @@
 //! The lines of a text.
 
-ghost use Rattle.std.specs.Prelude.{◌≡◌, ◌≢◌, ◌==◌, ◌<◌, ◌∷◌, [], length};
+ghost use Rattle.std.specs.Prelude.{◌≡◌, ◌==◌};
 ghost use Rattle.std.specs.List.{position};
-ghost use Rattle.std.specs.Str.Lines.{lines, strip_carriage_return};
+ghost use Rattle.std.specs.Str.Lines.{strip_carriage_return};
 ghost use Rattle.gu_text.specs.Lines.{is_silent};
 
 use memchr::memchr;
@@ -25,18 +25,6 @@ pub(crate) fn end_of_line(text: &[u8]) -> Option<usize>
     ensures { result ≡ position (λ b. b == 10) text.now }
 {
     memchr(b'\n', text)
-}
-
-/// The first line of a text, and the text after it.
-pub(crate) fn first_line(text: &[u8]) -> (&[u8], &[u8])
-    requires { text.now ≢ [] }
-    ensures lines { lines text.now ≡ result.0.now ∷ lines result.1.now }
-    ensures shorter { length result.1.now < length text.now }
-{
-    match end_of_line(text) {
-        Some(place) => (without_return(&text[..place]), &text[place + 1..]),
-        None => (text, &text[text.len()..]),
-    }
 }
 
 /// Whether a line says nothing: it is empty, or a comment.

@@ -3,20 +3,26 @@
 ghost use Rattle.std.specs.Prelude.{◌≡◌, ◌++◌, ◌∷◌, [], None, Some, not, map, nat_eq, IfOk, IfErr, OnOk, IsSome, IsTrue, if◌then◌else◌};
 ghost use Rattle.gu_terms.specs.Cuts.{has_number};
 ghost use Rattle.gu_text.specs.Sheets.{comes_after, is_repeated, fits_after};
-ghost use Rattle.gu_text.specs.Reading.{no_parts, with_line, is_ended, IsMadeOf, MakesNone, MakesNoView};
+ghost use Rattle.gu_text.specs.Reading.{no_parts, with_kept, is_ended, IsMadeOf, MakesNone, MakesNoView};
 ghost use Rattle.gu_view.specs.Making.{MakesView, view_of};
 
 use crate::error::TextError;
 use crate::sheet::Sheet;
 use crate::sheet_line::{Header, Part, SheetLine};
 use crate::takes_in_order::takes_in_order;
-use gu_terms::{Cut, OfferNo, Take};
+use gu_terms::{Cut, MOST_OPEN_OFFERS, OfferNo, Take};
 use gu_view::{Room, View, ViewError, ViewOffer};
 use indexmap::IndexSet;
 use std::alloc::{AllocError, Global};
 use std::marker::Model;
 
-/// What the lines so far give. To a contract it is that.
+/// The offers that are kept: one more than a view may have, so that it is refused.
+const MOST_KEPT_OFFERS: usize = MOST_OPEN_OFFERS + 1;
+
+/// The rooms that are kept, likewise: an offer has five keys at most, and each key one room.
+const MOST_KEPT_ROOMS: usize = 5 * MOST_OPEN_OFFERS + 1;
+
+/// What the lines so far give: of the offers and the rooms as many as are kept. To a contract it is that.
 pub(crate) struct Parts {
     last: Option<Part>,
     header: Option<Header>,
@@ -114,7 +120,7 @@ impl Parts {
     /// Adds what a line gives, and answers whether it repeats none.
     fn put(&mut self, line: SheetLine) -> Result<bool, AllocError>
         ensures new { IfOk result (λ new. new ≡ not (is_repeated self.old line)) }
-        ensures put { IfOk result (λ new. IsTrue new → self.new ≡ record (with_line self.old line) { last = self.old.last }) }
+        ensures put { IfOk result (λ new. IsTrue new → self.new ≡ record (with_kept self.old line) { last = self.old.last }) }
     {
         match line {
             SheetLine::Sheet(header) => {
@@ -122,11 +128,15 @@ impl Parts {
                 Ok(true)
             }
             SheetLine::Offer(offer) => {
-                self.offers.push(offer)?;
+                if self.offers.len() < MOST_KEPT_OFFERS {
+                    self.offers.push(offer)?;
+                }
                 Ok(true)
             }
             SheetLine::Room(room) => {
-                self.rooms.push(room)?;
+                if self.rooms.len() < MOST_KEPT_ROOMS {
+                    self.rooms.push(room)?;
+                }
                 Ok(true)
             }
             SheetLine::Take(take) => self.put_take(take),
@@ -139,7 +149,7 @@ impl Parts {
     /// Adds what a line gives, and answers whether the line may stand there.
     pub(crate) fn add(&mut self, line: SheetLine) -> Result<bool, AllocError>
         ensures fits { IfOk result (λ fits. fits ≡ fits_after self.old line) }
-        ensures parts { IfOk result (λ fits. IsTrue fits → self.new ≡ with_line self.old line) }
+        ensures parts { IfOk result (λ fits. IsTrue fits → self.new ≡ with_kept self.old line) }
     {
         if !comes_after(self.last, line.part()) || !self.put(line)? {
             return Ok(false);

@@ -1,0 +1,33 @@
+-- Sweep sheets that are read piece by piece.
+use Rattle.std.specs.Prelude.{◌≡◌, ℕ, List, ◌++◌, length}
+use Rattle.std.specs.Str.Lines.{lines}
+use Rattle.gu_text.specs.LineFeeds.{LeavesOpen}
+use Rattle.gu_text.specs.Reading.{IsReadTo}
+use Rattle.gu_text.specs.Sheets.{IsFirstBad}
+use Rattle.gu_text.specs.declared.sheet_so_far.SheetSoFar.{SheetSoFar}
+
+-- how far a sheet is read: what its lines gave, how many they are, and the bytes after the last LF
+pub record SheetPlace : Type 0 where
+  pub so_far : SheetSoFar
+  pub count : ℕ
+  pub rest : List ℕ
+
+-- so many lines of a text are ended and read, and these bytes of it are left
+pub record IsReadUpTo (text : List ℕ) (so_far : SheetSoFar) (count : ℕ) (left : List ℕ) : Type 0 where
+  pub ended : List (List ℕ)
+  pub leaves : LeavesOpen text ended left
+  pub read : IsReadTo ended so_far
+  pub count_is : count ≡ length ended
+
+-- a text is read: its ended lines, and its rest waits
+abbrev pub IsReadSoFar : List ℕ → SheetPlace → Type 0
+IsReadSoFar text place = IsReadUpTo text place.so_far place.count place.rest
+
+-- all lines of a text are read, which are so many
+pub record IsReadWhole (text : List ℕ) (so_far : SheetSoFar) (count : ℕ) : Type 0 where
+  pub read : IsReadTo (lines text) so_far
+  pub count_is : count ≡ length (lines text)
+
+-- whatever comes after a text, its first bad line has this number
+abbrev pub IsBadHowever : List ℕ → ℕ → Type 0
+IsBadHowever text number = (more : List ℕ) → IsFirstBad (lines (text ++ more)) number
