@@ -1,5 +1,5 @@
-//! A script, and a journal, in which each allocation fails in turn (`rt try --test --fail-alloc N`). A failure outside of them shows nothing
-//! of them.
+//! A script, and a journal, in which each allocation fails in turn, or all of them from one on (tools/each-growth). A failure outside of
+//! them shows nothing of them.
 
 use crate::journals::world_after;
 use crate::plays::told;

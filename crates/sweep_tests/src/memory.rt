@@ -1,5 +1,6 @@
-//! Growths that are refused: run with each allocation failing in turn. What is refused memory is asked again, and what a call
-//! answers then is as it would have been.
+//! Calls that are refused memory: run with each allocation failing in turn, and with all of them failing from one on
+//! (tools/each-growth). What is refused memory is asked again, and what a call answers then, where there is memory, is as it would have
+//! been.
 use crate::rows::{Subject, check_again};
 use crate::sheets::Question;
 use crate::sweep::Telling;
@@ -14,15 +15,18 @@ fn refused_to_a_view_or_its_copy_leaves_it_to_be_made_again(rt: HostRuntime) {
     check_again(&rt, rt.alloc(), Subject::Views, VIEWS);
 }
 
-/// A sweep of one agreement, and one with a surge: four accounts with room for 1,001 lots each, and firms with room for more.
-const SWEEPS: &str = "\
-shared: -> 7
-creeping: -> 4004";
+/// A sweep of one agreement: the line that a check answers, its takes and its cut.
+const SWEEP: &str = "shared: -> 7 OK 7|TAKE 1 5|TAKE 2 2|CUT AGR P1|END|";
+
+/// A sweep with a surge: four accounts with room for 1,001 lots each, and firms with room for more.
+const SURGE: &str = "creeping: -> 4004";
 
 #[test]
 fn refused_to_a_proposal_gives_the_view_back(rt: HostRuntime) {
-    let subject = Subject::Sheets(Question::Sweep(Telling::Lots));
-    check_again(&rt, rt.alloc(), subject, SWEEPS);
+    let takes = Subject::Sheets(Question::Sweep(Telling::Takes));
+    check_again(&rt, rt.alloc(), takes, SWEEP);
+    let lots = Subject::Sheets(Question::Sweep(Telling::Lots));
+    check_again(&rt, rt.alloc(), lots, SURGE);
 }
 
 const VERDICTS: &str = "shared:TAKE 2 2|TAKE 1 5|CUT AGR P1| -> OK 7|";
