@@ -5,7 +5,7 @@ ghost use Rattle.gu_desk.specs.Holds.{IsEntered, IsTold};
 ghost use Rattle.gu_desk.specs.Totals.{with_entry};
 ghost use Rattle.gu_server.specs.SeatHouse.{IsEnteredAt, IsLeftOutAt};
 
-use crate::ahead::Next;
+use crate::next::Next;
 use crate::orders::Orders;
 use crate::seat_receipts::SeatReceipts;
 use crate::tally::Tally;

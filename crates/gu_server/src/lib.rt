@@ -2,12 +2,13 @@
 #![tactic(auto)]
 
 mod accepting;
-mod ahead;
 mod at_desk;
 mod closing;
 mod crew;
 mod day;
 mod floor;
+mod line;
+mod next;
 mod orders;
 mod seat_receipts;
 mod serving;

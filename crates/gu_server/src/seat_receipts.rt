@@ -9,7 +9,7 @@ ghost use Rattle.gu_desk.specs.Sweeps.{DiffersIfStale};
 ghost use Rattle.gu_desk.specs.Totals.{with_entry, with_sweep, IsEmpty};
 ghost use Rattle.gu_server.specs.Receipts.{HasReceipts};
 
-use crate::ahead::Next;
+use crate::next::Next;
 use gu_book::{Answer, AskError, EnterError};
 use gu_desk::{Desk, Direct, EntryLedger, LotLedger, Seat, SweepError};
 use gu_terms::{Command, Entry, FirmId, Group, Query, Receipt, Reply, Stretch};

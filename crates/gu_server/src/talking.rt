@@ -2,6 +2,7 @@
 
 use crate::at_desk::AtDesk;
 use crate::floor::Floor;
+use crate::line::Line;
 use crate::orders::Orders;
 use crate::seat_receipts::SeatReceipts;
 use crate::timed::{LogonTimer, Timed};
@@ -106,11 +107,13 @@ fn exchange<'a, E: EntryLedger, S: LotLedger, R: Wait + Clock>(
     };
     let clock = SystemClock::new(floor.rt);
     let mut connection = Connection::new(floor.alloc, firms, house, clock);
-    let mut reads = CountedReads::patient(Timed::new(stream, &timer));
-    let mut writer = Timed::new(stream, &timer);
-    let result = converse(floor.alloc, &mut connection, &mut reads, &mut writer);
+    let line = Line::new(floor.alloc, stream);
+    let mut reads = CountedReads::patient(Timed::new(&line, &timer));
+    let mut writer = Timed::new(&line, &timer);
+    let talked = converse(floor.alloc, &mut connection, &mut reads, &mut writer);
+    let sent = line.send_held();
     hang_up(floor.rt, stream);
-    (connection.into_house(), result)
+    (connection.into_house(), talked.and(sent))
 }
 
 /// Serves a connection until it ends. A fault ends this connection alone.

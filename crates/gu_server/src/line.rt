@@ -1,0 +1,160 @@
+//! A connection's stream on which answers go out together, where messages came together.
+
+ghost use Rattle.std.specs.Io.{ReadsAtMost};
+
+use crate::timed::write_past_signals;
+use gu_streams::{StreamError, send};
+use std::alloc::Global;
+use std::cell::Cell;
+use std::io;
+use std::io::{ErrorKind, Read, Write};
+use std::net::TcpStream;
+
+/// How many bytes are held at most.
+const MOST_HELD: usize = 65_536;
+
+/// A connection's stream. While more has come on it than was read, what is written is held, up to 65,536 bytes, and then goes out in
+/// one write: at the latest before a read that may wait.
+///
+/// What is held when the line is let go isn't sent, unless `send_held` was called before.
+pub struct Line<'a> {
+    alloc: Global,
+    stream: &'a TcpStream,
+    held: Cell<Vec<u8>>,
+    /// Whether anything is held.
+    is_holding: Cell<bool>,
+    /// Whether the last read filled its room, so that more may have come.
+    may_have_more: Cell<bool>,
+}
+
+impl Drop for Line<'_> {
+    fn drop(self) {
+        let Line {
+            alloc: _,
+            stream: _,
+            held,
+            is_holding: _,
+            may_have_more: _,
+        } = self;
+        drop(held);
+    }
+}
+
+/// A stream whose writes are made again where a signal cut one short.
+#[derive(Drop)]
+struct Steady<'a> {
+    stream: &'a TcpStream,
+}
+
+impl Write for Steady<'_> {
+    fn write(&mut self, buf: &[u8]) -> io::Result<usize> {
+        write_past_signals(&mut self.stream, buf)
+    }
+
+    fn flush(&mut self) -> io::Result<()> {
+        self.stream.flush()
+    }
+}
+
+/// What a reader or a writer answers where what was held can't be sent: no kind that means that there is nothing for now.
+fn aborted() -> io::Error {
+    io::Error::from(ErrorKind::ConnectionAborted)
+}
+
+impl<'a> Line<'a> {
+    /// A line on which nothing has come yet.
+    pub fn new(alloc: Global, stream: &'a TcpStream) -> Self {
+        Line {
+            alloc,
+            stream,
+            held: Cell::new(Vec::new(alloc)),
+            is_holding: Cell::new(false),
+            may_have_more: Cell::new(false),
+        }
+    }
+
+    /// Holds a text after what is held, if there is room for it.
+    fn hold(&self, text: &[u8]) -> bool {
+        let mut held = self.held.replace(Vec::new(self.alloc));
+        let fits = text.len() <= MOST_HELD.saturating_sub(held.len());
+        let holds = fits && held.extend_from_slice(text).is_ok();
+        self.held.set(held);
+        self.is_holding.set(self.is_holding.get() || holds);
+        holds
+    }
+
+    /// Sends what is held.
+    pub fn send_held(&self) -> Result<(), StreamError> {
+        if !self.is_holding.get() {
+            return Ok(());
+        }
+        let mut held = self.held.replace(Vec::new(self.alloc));
+        let mut writer = Steady {
+            stream: self.stream,
+        };
+        let sent = send(&mut writer, &held);
+        held.clear();
+        self.held.set(held);
+        self.is_holding.set(false);
+        sent
+    }
+
+    /// Reads what has come, without waiting.
+    fn read_at_once(&self, buf: &mut [u8]) -> io::Result<usize>
+        ensures { ReadsAtMost result buf.new }
+    {
+        self.stream.set_nonblocking(true)?;
+        let mut stream = self.stream;
+        let read = stream.read(buf);
+        self.stream.set_nonblocking(false)?;
+        read
+    }
+
+    /// Reads what has come, without waiting where something is held that can be sent meanwhile.
+    fn read_some(&self, buf: &mut [u8]) -> io::Result<usize>
+        ensures { ReadsAtMost result buf.new }
+    {
+        if self.is_holding.get() && self.may_have_more.get() {
+            match self.read_at_once(buf) {
+                Err(error) if error.kind() == ErrorKind::WouldBlock => {}
+                read => return read,
+            }
+        }
+        if self.send_held().is_err() {
+            return Err(aborted());
+        }
+        let mut stream = self.stream;
+        stream.read(buf)
+    }
+}
+
+impl Read for &Line<'_> {
+    fn read(&mut self, buf: &mut [u8]) -> io::Result<usize> {
+        let room = buf.len();
+        let read = self.read_some(buf);
+        self.may_have_more
+            .set(matches!(read, Ok(count) if count == room));
+        read
+    }
+}
+
+impl Write for &Line<'_> {
+    fn write(&mut self, buf: &[u8]) -> io::Result<usize> {
+        let more = self.may_have_more.get();
+        if (more || self.is_holding.get()) && self.hold(buf) {
+            if !more && self.send_held().is_err() {
+                return Err(aborted());
+            }
+            return Ok(buf.len());
+        }
+        if self.send_held().is_err() {
+            return Err(aborted());
+        }
+        let mut stream = self.stream;
+        stream.write(buf)
+    }
+
+    fn flush(&mut self) -> io::Result<()> {
+        self.send_held().map_err(|_| aborted())
+    }
+}
