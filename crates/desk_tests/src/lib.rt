@@ -14,6 +14,8 @@ mod largest;
 #[cfg(test)]
 mod lone;
 #[cfg(test)]
+mod memory;
+#[cfg(test)]
 mod opening;
 #[cfg(test)]
 mod sample;

@@ -5,10 +5,10 @@ ghost use Rattle.gu_terms.specs.Histories.{lots_swept};
 
 use crate::opening::opened;
 use crate::sample::{book_of, command_of, group_of};
-use crate::transcript::{follow, view_text};
+use crate::transcript::{follow, stretch_text, view_text};
 use gu_book::Book;
 use gu_desk::{CloseFault, Desk, EntryLedger, LotLedger, Seat, SweepOrder};
-use gu_terms::Group;
+use gu_terms::{FirmId, Group};
 use std::alloc::{AllocError, Global};
 use std::marker::Brand;
 use std::process::Abort;
@@ -87,6 +87,22 @@ fn sweep_seen<E: EntryLedger, S: LotLedger, R: Wait + Abort>(
     assert_eq!(rt; text.as_str(), "VERSION 6, OFFER 1 7");
 }
 
+/// Gives the lots up once more, and asks in the same hold what the firm is told that carries the account: it is told of this entry's offer.
+fn offer_told<E: EntryLedger, S: LotLedger, R: Wait + Abort>(
+    rt: &R,
+    alloc: Global,
+    desk: &Desk<E, S>,
+    seat: &mut Seat<E, S>,
+) {
+    let command = command_of(alloc, "GIVEUP E1 L3 R1 A1 7").expect(rt, "a command");
+    let firm = FirmId::new(b"C1").expect(rt, "a firm");
+    let told = desk.enter_and_tell(rt, seat, &command, &firm, 16);
+    let (number, _, stretch) = told.ok().expect(rt, "memory");
+    let stretch = stretch.expect(rt, "a stretch");
+    let text = stretch_text(alloc, &stretch).ok().expect(rt, "memory");
+    assert_eq!(rt; (number, text.as_str()), (16, "NOTICES 1 NEXT 17 LAST"));
+}
+
 /// Closes a desk, first without a seat.
 fn close<E: EntryLedger, S: LotLedger, R: Abort>(
     rt: &R,
@@ -121,9 +137,10 @@ fn lone<E: EntryLedger, S: LotLedger, R: Wait + Abort>(
     follow(rt, alloc, &desk, &mut seat, OFFERED);
     sweep_seen(rt, alloc, &desk, &mut seat);
     follow(rt, alloc, &desk, &mut other, FROM_ANOTHER_SEAT);
+    offer_told(rt, alloc, &desk, &mut other);
     assert!(rt; seats.push(other).is_ok());
     let book = close(rt, desk, seats, seat);
-    assert_eq!(rt; (book.history().len(), book.lots_swept()), (15, 7));
+    assert_eq!(rt; (book.history().len(), book.lots_swept()), (16, 7));
 }
 
 #[test]

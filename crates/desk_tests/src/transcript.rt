@@ -24,7 +24,7 @@ pub fn view_text(alloc: Global, view: &View) -> Result<String, AllocError> {
 }
 
 /// A receipt: the reply to a command, or the lots of a sweep.
-fn receipt_text(alloc: Global, receipt: &Receipt) -> Result<String, AllocError> {
+pub fn receipt_text(alloc: Global, receipt: &Receipt) -> Result<String, AllocError> {
     match &receipt.entry {
         Entry::Asked { reply, .. } => {
             let text = reply_text(alloc, receipt.number, reply)?;
@@ -52,7 +52,7 @@ fn answer_text(alloc: Global, answer: &Answer) -> Result<String, AllocError> {
 }
 
 /// A stretch of notices.
-fn stretch_text(alloc: Global, stretch: &Stretch) -> Result<String, AllocError> {
+pub fn stretch_text(alloc: Global, stretch: &Stretch) -> Result<String, AllocError> {
     let Notices { next, list } = &stretch.notices;
     let end = if stretch.is_last { "LAST" } else { "MORE" };
     format!(in alloc; "NOTICES {} NEXT {next} {end}", list.len())
@@ -161,7 +161,7 @@ fn answer_to_query<E: EntryLedger, S: LotLedger, R: Wait>(
 }
 
 /// What is answered to a line.
-fn answer_to<E: EntryLedger, S: LotLedger, R: Wait>(
+pub fn answer_to<E: EntryLedger, S: LotLedger, R: Wait>(
     rt: &R,
     alloc: Global,
     desk: &Desk<E, S>,

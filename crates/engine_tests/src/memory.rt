@@ -1,4 +1,5 @@
-//! A connection in which each allocation fails in turn. A failure outside the engine shows nothing of it.
+//! A connection in which each allocation fails in turn, or all of them from one on (tools/each-growth). A failure outside the engine shows
+//! nothing of it.
 
 use crate::exchanges::told_after;
 use std::alloc::{AllocError, Global};
