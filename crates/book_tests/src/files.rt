@@ -131,7 +131,7 @@ fn push_row(file: &mut Vec<u8>, words: &[&[u8]]) -> Result<(), AllocError> {
 }
 
 /// Adds the rows of a reference, in its order.
-fn push_rows(file: &mut Vec<u8>, reference: &Reference) -> Result<(), AllocError> {
+pub fn push_rows(file: &mut Vec<u8>, reference: &Reference) -> Result<(), AllocError> {
     for firm in reference.firms() {
         push_row(file, &[b"FIRM", firm.get()])?;
     }

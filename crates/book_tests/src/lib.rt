@@ -36,6 +36,8 @@ mod readers;
 #[cfg(test)]
 mod recipients;
 #[cfg(test)]
+mod retries;
+#[cfg(test)]
 mod reversals;
 #[cfg(test)]
 mod sample;

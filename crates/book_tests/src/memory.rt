@@ -1,161 +1,349 @@
-//! Growths that are refused. Each of these tests passes with each of its allocations refused in turn: what is refused memory says
-//! so, leaves all as it was, and succeeds at the second try.
+//! Calls that are refused memory, one a test, with few allocations before them. Each of these tests passes whichever of its allocations
+//! fails, and where all of them fail from one on (tools/each-growth): a call that is refused memory says so, leaves what it has as it
+//! was, hands back what it was given, and does at the second try what it would have done, where there is memory then.
 
 use crate::blame::steps;
+use crate::files::push_rows;
+use crate::questions::tell_view;
 use crate::sample::reference_of;
-use crate::transcript::{Patience, follow_all};
+use crate::steps::command_of;
+use crate::transcript::shown;
+use gu_book::{AskError, Book, CommitError, EnterError};
+use gu_flow::{Proposal, propose};
+use gu_ref::{RefFault, Reference};
+use gu_streams::CountedReads;
+use gu_terms::{Command, Entry, Group, Receipt};
+use gu_text::reply_text;
+use gu_view::View;
 use gu_world::{Outcome, run};
-use std::alloc::Global;
+use std::alloc::{AllocError, Global};
+use std::process::Abort;
+use std::str;
 
-/// Each growth is refused where a vector or a map is full: after 4, 8, 16, 32, 64 and 128 entries.
-const TRANSCRIPTS: &str = "\
-== reports and limits
-ROWS GUARANTOR,E2,C1; GUARANTOR,E2,C2; GUARANTOR,C1,E1
-DAY 20260105                      = 1 OK
-DAY 20260105                      = 2 NO 2 WrongDay
-REPORT E1 R1 M1 B XF6 10 101.5 H1 = 3 OK OPEN
-REPORT E2 R2 M1 S XF6 10 101.5 H2 = 4 OK MATCHED
-REPORT E1 R1 M2 B XF6 10 101.5 H1 = 5 NO 6 DuplicateId
-REPORT E1 R3 M2 B XF6 5 101.5 H1  = 6 OK OPEN
-REPORT E2 R4 M2 S XF6 5 101.5 H2  = 7 OK MATCHED
-REPORT E1 R5 M3 B YF6 1 101.5 H1  = 8 OK OPEN
-REPORT E2 R6 M3 S YF6 1 101.5 H2  = 9 OK MATCHED
-REPORT E1 R7 M4 B YF6 1 101.5 H1  = 10 OK OPEN
-LIMIT G1 EXEC E1 100              = 11 OK
-LIMIT G1 AGR P1 100               = 12 OK
-LIMIT G1 ACCT A1 100              = 13 OK
-LIMIT G1 CARRY C1 100             = 14 OK
-LIMIT G1 GUAR E2 100              = 15 OK
-EACH 16 17 1: DAY 20250101        = # NO 2 WrongDay
-LIMIT G1 GUAR E2 90               = 17 OK
-EACH 18 33 1: DAY 20250101        = # NO 2 WrongDay
-REPORT E1 R8 M5 B YF6 1 101.5 H1  = 33 OK OPEN
-EACH 34 65 1: DAY 20250101        = # NO 2 WrongDay
-DAY 20260106                      = 65 OK
-POSITION H1 XF6                   = 15 0
-POSITION H2 YF6                   = 0 1
-LIMITS G1 = EXEC E1 100 0 100, AGR P1 100 0 100, ACCT A1 100 0 100, CARRY C1 100 0 100, GUAR E2 90 0 90
-== give-ups and what follows
-ROWS GUARANTOR,E2,C1; GUARANTOR,E2,C2; GUARANTOR,C1,E1
-DAY 20260105                      = 1 OK
-REPORT E1 R1 M1 B XF6 30 101.5 H1 = 2 OK OPEN
-REPORT E2 R2 M1 S XF6 30 101.5 H2 = 3 OK MATCHED
-EACH 4 5 1: DAY 20250101          = # NO 2 WrongDay
-GIVEUP E1 L1 R1 A1 6 A2 4         = 5 OK OFFERS 1 2
-GIVEUP E2 L1 R2 A3 5              = 6 OK OFFERS 3 3
-GIVEUP E1 L2 R1 A1 21             = 7 NO 11 TooManyLots
-LIMIT G1 EXEC E1 100              = 8 OK
-GIVEUP E1 L2 R1 A1 1 A1 2 A1 3    = 9 OK OFFERS 4 6
-LIMIT G1 AGR P1 100               = 10 OK
-LIMIT G1 ACCT A1 100              = 11 OK
-LIMIT G1 CARRY C1 100             = 12 OK
-LIMIT G1 GUAR E2 100              = 13 OK
-GIVEUP E1 L3 R1 A2 1              = 14 OK OFFERS 7 7
-GIVEUP E1 L4 R1 A2 1              = 15 OK OFFERS 8 8
-EACH 16 17 1: DAY 20250101        = # NO 2 WrongDay
-GIVEUP E1 L5 R1 A2 1              = 17 OK OFFERS 9 9
-VIEW G9                           = UNKNOWN GROUP
-CLAIM C1 1                        = 18 OK LOTS 6
-POSITION A1 XF6                   = 6 0
-EACH 19 33 1: DAY 20250101        = # NO 2 WrongDay
-CLAIM C1 4                        = 33 OK LOTS 1
-REFUSE C1 5 1                     = 34 OK LOTS 2
-EACH 35 65 1: DAY 20250101        = # NO 2 WrongDay
-REFUSE C1 6 2                     = 65 OK LOTS 3
-REVERSE C1 4                      = 66 OK LOTS 1
-EACH 67 129 1: DAY 20250101       = # NO 2 WrongDay
-REVERSE C1 1                      = 129 OK LOTS 6
-GIVEUP E1 L6 R1 A1 19             = 130 OK OFFERS 10 10
-GIVEUP E1 L7 R1 A1 4              = 131 OK OFFERS 11 11
-GIVEUP E1 L7 R1 A1 1              = 132 NO 6 DuplicateId
-GIVEUP E1 L8 R1 A1 1              = 133 NO 11 TooManyLots
-CLAIM C1 10                       = 134 OK LOTS 19
-CLAIM C1 3                        = 135 NO 5 NotYours
-CLAIM C2 3                        = 136 NO 15 LimitReached EXEC E2
-LIMIT G1 AGR P2 100               = 137 OK
-LIMIT G1 ACCT A2 100              = 138 OK
-LIMIT G1 EXEC E2 100              = 139 OK
-LIMIT G1 AGR P4 100               = 140 OK
-LIMIT G1 ACCT A3 100              = 141 OK
-LIMIT G1 CARRY C2 100             = 142 OK
-CLAIM C1 2                        = 143 OK LOTS 4
-CLAIM C2 3                        = 144 OK LOTS 5
-POSITION H1 XF6                   = 7 0
-POSITION H2 XF6                   = 0 25
-POSITION A1 XF6                   = 19 0
-POSITION A2 XF6                   = 4 0
-POSITION A3 XF6                   = 0 5
-VIEW G1 = 29, OFFER 7 1 P2 E1 A2 C1 E2, OFFER 8 1 P2 E1 A2 C1 E2, OFFER 9 1 P2 E1 A2 C1 E2, OFFER 11 4 P1 E1 A1 C1 E2, ROOM EXEC E1 77, ROOM AGR P2 96, ROOM ACCT A2 96, ROOM CARRY C1 77, ROOM GUAR E2 72, ROOM AGR P1 81, ROOM ACCT A1 81
-LIMITS G1 = EXEC E1 100 23 77, EXEC E2 100 5 95, AGR P1 100 19 81, AGR P2 100 4 96, AGR P4 100 5 95, ACCT A1 100 19 81, ACCT A2 100 4 96, ACCT A3 100 5 95, CARRY C1 100 23 77, CARRY C2 100 5 95, GUAR E2 100 28 72
-== nine trades
-DAY 20260105   = 1 OK
-EACH 1 10 1: REPORT E1 T# T# B XF6 10 101.5 H1 = OK OPEN
-EACH 1 10 1: REPORT E2 T# T# S XF6 10 101.5 H2 = OK MATCHED
-EACH 1 10 1: REPORT E1 T# V# B XF6 10 101.5 H1 = NO 6 DuplicateId
-BOOK            = 28 20260105
-POSITION H1 XF6 = 90 0
-== eleven limits
-ROWS GUARANTOR,E2,C1; GUARANTOR,E2,C2; GUARANTOR,C1,E1
-LIMIT G1 EXEC E1 9  = 1 OK
-LIMIT G1 EXEC E2 9  = 2 OK
-LIMIT G1 AGR P1 9   = 3 OK
-LIMIT G1 AGR P2 9   = 4 OK
-LIMIT G1 ACCT A1 9  = 5 OK
-LIMIT G1 ACCT A2 9  = 6 OK
-LIMIT G1 CARRY C1 9 = 7 OK
-LIMIT G1 CARRY C2 9 = 8 OK
-LIMIT G1 GUAR E2 9  = 9 OK
-LIMIT G2 GUAR E2 9  = 10 OK
-LIMIT G1 EXEC E1 9  = 11 OK
-LIMITS G1 = EXEC E1 9 0 9, EXEC E2 9 0 9, AGR P1 9 0 9, AGR P2 9 0 9, ACCT A1 9 0 9, ACCT A2 9 0 9, CARRY C1 9 0 9, CARRY C2 9 0 9, GUAR E2 9 0 9
-LIMITS G2           = GUAR E2 9 0 9
-== sixteen lines, and what is taken of them
-DAY 20260105                      = 1 OK
-REPORT E1 R1 M1 B XF6 40 101.5 H1 = 2 OK OPEN
-REPORT E2 R2 M1 S XF6 40 101.5 H2 = 3 OK MATCHED
-LIMIT G1 EXEC E1 100              = 4 OK
-LIMIT G1 AGR P1 3                 = 5 OK
-LIMIT G1 ACCT A1 100              = 6 OK
-LIMIT G1 CARRY C1 100             = 7 OK
-GIVEUP E1 L1 R1 A1 2 A1 2 A1 2 A1 2 A1 2 A1 2 A1 2 A1 2 A1 2 A1 2 A1 2 A1 2 A1 2 A1 2 A1 2 A1 2 = 8 OK OFFERS 1 16
-EXTENT G1                         = 1 16 16 4
-SEE 0 G1                          = SEEN 6
-PROPOSE 0                         = PROPOSED 3
-COMMIT 0                          = 9 SWEPT G1 3, TAKE 1 2, TAKE 2 1, CUT AGR P1
-EXTENT G1                         = 2 16 15 4
-REFUSE C1 2 1                     = 10 OK LOTS 1
-REVERSE C1 2                      = 11 OK LOTS 1
-DAY 20260106                      = 12 OK
-REVERSE C1 1                      = 13 NO 19 NothingToReverse
-GIVEUP E1 L2 R1 A1 11             = 14 NO 11 TooManyLots
-GIVEUP E1 L2 R1 A1 10             = 15 OK OFFERS 17 17
-== a sweep, and one that it overtakes
-DAY 20260105                      = 1 OK
-LIMIT G1 EXEC E1 10               = 2 OK
-LIMIT G1 EXEC E2 20               = 3 OK
-LIMIT G1 AGR P1 100               = 4 OK
-LIMIT G1 AGR P2 100               = 5 OK
-LIMIT G1 AGR P3 100               = 6 OK
-LIMIT G1 ACCT A1 10               = 7 OK
-LIMIT G1 ACCT A2 20               = 8 OK
-LIMIT G1 CARRY C1 100             = 9 OK
-REPORT E1 R1 M1 B XF6 22 101.5 H1 = 10 OK OPEN
-REPORT E2 R2 M1 S XF6 22 101.5 H2 = 11 OK MATCHED
-GIVEUP E1 L1 R1 A1 10 A2 12       = 12 OK OFFERS 1 2
-GIVEUP E2 L2 R2 A1 15             = 13 OK OFFERS 3 3
-SEE 0 G1                          = SEEN 11
-SEE 1 G1                          = SEEN 11
-PROPOSE 0                         = PROPOSED 20
-PROPOSE 1                         = PROPOSED 20
-COMMIT 0                          = 14 SWEPT G1 20, TAKE 2 10, TAKE 3 10, CUT EXEC E1, CUT ACCT A1
-COMMIT 1                          = STALE 11 12
-BOOK                              = 14 20260105
-NOTICES C1 1 = next 15, 1 OFFERED 10 A1 B XF6, 2 OFFERED 12 A2 B XF6, 3 OFFERED 15 A1 S XF6, 2 CLAIMED 10 A2 B XF6, 3 CLAIMED 10 A1 S XF6
-";
+/// Whether there is memory.
+fn has_memory(alloc: Global) -> bool {
+    Vec::<u8>::with_capacity(alloc, 1).is_ok()
+}
+
+/// Files, and what becomes of each. One that is accepted has these rows.
+const FILES: [(&str, &str); 4] = [
+    (
+        "FIRM,E1\nFIRM,C1\nGROUP,G1\nINSTRUMENT,XF6,G1\nACCOUNT,A1,C1\nAGREEMENT,P1,E1,A1\nGUARANTOR,E1,C1\n",
+        "OK",
+    ),
+    ("FIRM,E1\nFIRM,e3\n", "BadRow 2"),
+    ("FIRM,E1\nACCOUNT,A1,C1\n", "Unknown 2"),
+    ("FIRM,E1\nGROUP,G1\nFIRM,E1\n", "Twice 3"),
+];
+
+/// What becomes of a file.
+fn read(alloc: Global, file: &str) -> Result<Reference, RefFault> {
+    Reference::read(alloc, &mut CountedReads::new(file.as_bytes()))
+}
+
+/// Whether a reference has the rows of a file, in its order.
+fn has_rows(alloc: Global, reference: &Reference, file: &str) -> Result<bool, AllocError> {
+    let mut rows = Vec::new(alloc);
+    push_rows(&mut rows, reference)?;
+    Ok(rows.as_slice() == file.as_bytes())
+}
+
+/// Whether a file is accepted with its rows, or refused for its fault.
+fn is_answered(alloc: Global, file: &str, want: &str) -> Result<bool, AllocError> {
+    match read(alloc, file) {
+        Ok(reference) => Ok(want == "OK" && has_rows(alloc, &reference, file)?),
+        Err(RefFault::Memory) => Err(AllocError),
+        Err(fault) => {
+            let told = format!(in alloc; "{fault}")?;
+            Ok(told.as_str() == want)
+        }
+    }
+}
 
 #[test]
-fn what_is_refused_memory_is_said_again(rt: HostRuntime) {
-    follow_all(&rt, rt.alloc(), TRANSCRIPTS, Patience::Once);
+fn refused_to_a_file_leaves_it_to_be_read_again(rt: HostRuntime) {
+    for (file, want) in FILES {
+        let told = match is_answered(rt.alloc(), file, want) {
+            Ok(told) => Ok(told),
+            Err(_) => is_answered(rt.alloc(), file, want),
+        };
+        match told {
+            Ok(is_right) => assert!(rt; is_right, "{file}"),
+            Err(_) => assert!(rt; !has_memory(rt.alloc()), "no memory for {file}"),
+        }
+    }
+}
+
+/// The command of a line, at the second try where memory is refused to the first.
+fn command_again(alloc: Global, line: &str) -> Option<Command> {
+    match command_of(alloc, line) {
+        Some(command) => Some(command),
+        None => command_of(alloc, line),
+    }
+}
+
+/// Enters the command of a line.
+fn enter(alloc: Global, book: &mut Book, line: &str) -> Option<()> {
+    let receipt = book.enter(command_of(alloc, line)?).ok()?;
+    drop(receipt);
+    Some(())
+}
+
+/// Enters the commands of lines.
+fn enter_all(alloc: Global, book: &mut Book, lines: &str) -> Option<()> {
+    for line in lines.lines() {
+        enter(alloc, book, line)?;
+    }
+    Some(())
+}
+
+/// A day with limits on the path of P1, and a trade of ten lots, of which seven are given up.
+const BEFORE: &str = "\
+DAY 20260105
+LIMIT G1 EXEC E1 100
+LIMIT G1 AGR P1 100
+LIMIT G1 ACCT A1 100
+LIMIT G1 CARRY C1 100
+REPORT E1 R1 M1 B XF6 10 101.5 H1
+REPORT E2 R2 M1 S XF6 10 101.5 H2
+GIVEUP E1 L1 R1 A1 7
+";
+
+/// A trade of another instrument: the positions have four rows then, so that they grow by the row of a sweep.
+const ANOTHER_TRADE: &str = "\
+REPORT E1 R3 M2 B YF6 1 101.5 H1
+REPORT E2 R4 M2 S YF6 1 101.5 H2
+";
+
+/// A book of the sample after them, and after further lines.
+fn book_after(alloc: Global, lines: &str) -> Option<Book> {
+    let mut book = Book::new(alloc, reference_of(alloc, "", "").ok()?);
+    let entered = match enter_all(alloc, &mut book, BEFORE) {
+        Some(()) => enter_all(alloc, &mut book, lines),
+        None => None,
+    };
+    match entered {
+        Some(()) => Some(book),
+        None => {
+            drop(book);
+            None
+        }
+    }
+}
+
+/// The same, at the second try where memory is refused to the first. Nothing comes of it once there is no memory.
+fn book_again(rt: &impl Abort, alloc: Global, lines: &str) -> Option<Book> {
+    let book = match book_after(alloc, lines) {
+        Some(book) => Some(book),
+        None => book_after(alloc, lines),
+    };
+    assert!(rt;
+        book.is_some() || !has_memory(alloc),
+        "no memory for a book"
+    );
+    book
+}
+
+/// Commands after these, each with what answers it.
+const COMMANDS: &str = "\
+LIMIT G2 EXEC E1 5               = 9 OK
+REPORT E1 R3 M2 B XF6 5 101.5 H1 = 10 OK OPEN
+REPORT E2 R4 M2 S XF6 5 101.5 H2 = 11 OK MATCHED
+REPORT E2 R4 M2 S XF6 5 101.5 H2 = 12 NO 6 DuplicateId
+GIVEUP E1 L2 R3 A1 2 A2 3        = 13 OK OFFERS 2 3
+CLAIM C1 1                       = 14 OK LOTS 7
+REFUSE C1 2 1                    = 15 OK LOTS 2
+REVERSE C1 1                     = 16 OK LOTS 7
+CLAIM C1 9                       = 17 NO 13 UnknownOffer
+DAY 20260106                     = 18 OK
+";
+
+/// The receipt of a command, at the second try where memory is refused to the first, which changes nothing.
+fn entered(rt: &impl Abort, alloc: Global, book: &mut Book, line: &str) -> Option<Receipt> {
+    let before = shown(alloc, book)?;
+    let command = command_again(alloc, line)?;
+    match book.enter(command) {
+        Ok(receipt) => Some(receipt),
+        Err(why) => {
+            assert_eq!(rt; why, EnterError::Memory, "{line}");
+            let after = shown(alloc, book)?;
+            assert!(rt; after == before, "{line} is refused and changes something");
+            book.enter(command_again(alloc, line)?).ok()
+        }
+    }
+}
+
+/// The text of a receipt.
+fn receipt_text(alloc: Global, receipt: &Receipt) -> Result<Vec<u8>, AllocError> {
+    match &receipt.entry {
+        Entry::Asked { reply, .. } => reply_text(alloc, receipt.number, reply),
+        Entry::Swept(_) => Ok(Vec::new(alloc)),
+    }
+}
+
+/// The same, at the second try where memory is refused to the first.
+fn receipt_text_again(alloc: Global, receipt: &Receipt) -> Option<Vec<u8>> {
+    match receipt_text(alloc, receipt) {
+        Ok(text) => Some(text),
+        Err(_) => receipt_text(alloc, receipt).ok(),
+    }
+}
+
+/// What answers the command of a line.
+fn answer_to(rt: &impl Abort, alloc: Global, book: &mut Book, line: &str) -> Option<Vec<u8>> {
+    let receipt = entered(rt, alloc, book, line)?;
+    let text = receipt_text_again(alloc, &receipt);
+    drop(receipt);
+    text
+}
+
+#[test]
+fn refused_to_a_command_leaves_it_to_be_entered_again(rt: HostRuntime) {
+    let Some(mut book) = book_again(&rt, rt.alloc(), "") else {
+        return;
+    };
+    for row in COMMANDS.lines() {
+        let (line, want) = row.split_once("=").unwrap_or((row, ""));
+        match answer_to(&rt, rt.alloc(), &mut book, line.trim()) {
+            Some(text) => {
+                let told = str::from_utf8(&text).unwrap_or("?");
+                assert_eq!(rt; told.trim_end(), want.trim(), "{row}");
+            }
+            None => assert!(rt; !has_memory(rt.alloc()), "no memory for {row}"),
+        }
+    }
+}
+
+/// The view of G1 then.
+const VIEW: &str = "\
+6
+OFFER 1 7 P1 E1 A1 C1
+ROOM EXEC E1 100
+ROOM AGR P1 100
+ROOM ACCT A1 100
+ROOM CARRY C1 100
+";
+
+/// The view of G1, at the second try where memory is refused to the first.
+fn seen(rt: &impl Abort, book: &Book) -> Option<View> {
+    let group = &Group::new(b"G1")?;
+    match book.view(group) {
+        Ok(view) => Some(view),
+        Err(why) => {
+            assert_eq!(rt; why, AskError::Memory, "a view");
+            book.view(group).ok()
+        }
+    }
+}
+
+/// The text of a view, at the second try where memory is refused to the first.
+fn view_text(alloc: Global, view: &View) -> Option<Vec<u8>> {
+    let mut text = Vec::new(alloc);
+    if tell_view(&mut text, view).is_err() {
+        text.clear();
+        tell_view(&mut text, view).ok()?;
+    }
+    Some(text)
+}
+
+/// The text of the view of G1.
+fn seen_text(rt: &impl Abort, alloc: Global, book: &Book) -> Option<Vec<u8>> {
+    let view = seen(rt, book)?;
+    let text = view_text(alloc, &view);
+    drop(view);
+    text
+}
+
+#[test]
+fn refused_to_a_view_leaves_it_to_be_seen_again(rt: HostRuntime) {
+    let Some(book) = book_again(&rt, rt.alloc(), "") else {
+        return;
+    };
+    match seen_text(&rt, rt.alloc(), &book) {
+        Some(text) => assert_eq!(rt; str::from_utf8(&text).unwrap_or("?"), VIEW),
+        None => assert!(rt; !has_memory(rt.alloc()), "no memory for a view"),
+    }
+}
+
+/// The proposal for a view, at the second try where memory is refused to the first.
+fn proposal_for(alloc: Global, view: View) -> Option<Proposal> {
+    if !view.nested() {
+        return None;
+    }
+    match propose(alloc, view) {
+        Ok(proposal) => Some(proposal),
+        Err((_, given)) if given.nested() => propose(alloc, given).ok(),
+        Err(_) => None,
+    }
+}
+
+/// The same of G1's.
+fn proposed(rt: &impl Abort, alloc: Global, book: &Book) -> Option<Proposal> {
+    proposal_for(alloc, seen(rt, book)?)
+}
+
+/// A copy of a proposal, at the second try where memory is refused to the first.
+fn copy_of(proposal: &Proposal) -> Option<Proposal> {
+    match proposal.copy() {
+        Ok(copy) => Some(copy),
+        Err(_) => proposal.copy().ok(),
+    }
+}
+
+/// Whether a proposal is the same as another.
+fn is_same(proposal: &Proposal, other: &Proposal) -> bool {
+    proposal.view().is_same(other.view())
+        && proposal.takes().is_same(other.takes())
+        && proposal.cut().is_same(other.cut())
+        && proposal.lots() == other.lots()
+}
+
+/// Commits a proposal, at the second try where memory is refused to the first, which changes nothing and hands the proposal back.
+fn committed(
+    rt: &impl Abort,
+    alloc: Global,
+    book: &mut Book,
+    proposal: Proposal,
+    copy: &Proposal,
+) -> Option<Receipt> {
+    let before = shown(alloc, book)?;
+    match book.commit(proposal) {
+        Ok(receipt) => Some(receipt),
+        Err((why, given)) => {
+            assert_eq!(rt; why, CommitError::Memory, "a commit");
+            assert!(rt; is_same(&given, copy), "another proposal");
+            let after = shown(alloc, book)?;
+            assert!(rt;
+                after == before,
+                "a commit is refused and changes something"
+            );
+            book.commit(given).ok()
+        }
+    }
+}
+
+/// The receipt of a sweep of G1.
+fn swept(rt: &impl Abort, alloc: Global, book: &mut Book) -> Option<Receipt> {
+    let proposal = proposed(rt, alloc, book)?;
+    let copy = copy_of(&proposal)?;
+    let receipt = committed(rt, alloc, book, proposal, &copy);
+    drop(copy);
+    receipt
+}
+
+#[test]
+fn refused_to_a_proposal_leaves_it_to_be_committed_again(rt: HostRuntime) {
+    let Some(mut book) = book_again(&rt, rt.alloc(), ANOTHER_TRADE) else {
+        return;
+    };
+    match swept(&rt, rt.alloc(), &mut book) {
+        Some(receipt) => {
+            let is_last = book.history().is_entry(11, &receipt.entry);
+            let found = (receipt.number, is_last, book.lots_swept());
+            assert_eq!(rt; found, (11, Some(true), 7), "a commit");
+        }
+        None => assert!(rt; !has_memory(rt.alloc()), "no memory for a commit"),
+    }
 }
 
 /// A sweep, and one that it overtakes.
@@ -198,7 +386,9 @@ fn run_told(alloc: Global, script: &str) -> Option<(usize, usize, bool)> {
 }
 
 #[test]
-fn a_run_is_made_again(rt: HostRuntime) {
-    let told = run_told(rt.alloc(), SCRIPT).or_else(|| run_told(rt.alloc(), SCRIPT));
-    assert_eq!(rt; told, Some((19, 14, true)));
+fn refused_to_a_run_leaves_it_to_be_made_again(rt: HostRuntime) {
+    match run_told(rt.alloc(), SCRIPT).or_else(|| run_told(rt.alloc(), SCRIPT)) {
+        Some(told) => assert_eq!(rt; told, (19, 14, true)),
+        None => assert!(rt; !has_memory(rt.alloc()), "no memory for a run"),
+    }
 }

@@ -1,6 +1,12 @@
 //! Offers: what is taken of them, closed and reversed, and how much more of a report may be given up.
 
+use crate::recipients::give_up;
+use crate::steps::command_of;
 use crate::transcript::{Patience, follow_all};
+use gu_offers::Offers;
+use gu_terms::{Command, Group};
+use std::alloc::Global;
+use std::process::Abort;
 
 const TRANSCRIPTS: &str = "\
 == an offer is taken and closed
@@ -72,4 +78,55 @@ GIVEUP E1 X1 R1 A1 1808              = 1631 OK OFFERS 4097 4097
 #[test]
 fn offers_are_taken_closed_and_reversed_so(rt: HostRuntime) {
     follow_all(&rt, rt.alloc(), TRANSCRIPTS, Patience::Never);
+}
+
+/// A give-up of sixteen lines.
+const SIXTEEN: &str =
+    "GIVEUP E1 L1 R1 A1 1 A1 1 A1 1 A1 1 A1 1 A1 1 A1 1 A1 1 A1 1 A1 1 A1 1 A1 1 A1 1 A1 1 A1 1 A1 1";
+
+/// Gives up so often in a group.
+fn give_up_again(
+    rt: &impl Abort,
+    offers: &mut Offers,
+    command: &Command,
+    group: &Group,
+    times: u64,
+) {
+    for _ in 0..times {
+        assert!(rt; give_up(offers, command, *group).is_ok());
+    }
+}
+
+/// How many open offers of a group are listed, with the number of the last one and the lots of all.
+fn listed(rt: &impl Abort, offers: &Offers, group: &Group) -> (usize, u64, u64) {
+    let list = offers.of_group(*group).ok().expect(rt, "memory");
+    let mut last: u64 = 0;
+    let mut left: u64 = 0;
+    for row in &list {
+        last = row.number.get();
+        left = left.saturating_add(row.left);
+    }
+    (list.len(), last, left)
+}
+
+/// Offers of two groups, as many as a group may have and sixteen more.
+fn offers_of_two(rt: &impl Abort, alloc: Global, group: &Group, other: &Group) -> Offers {
+    let command = command_of(alloc, SIXTEEN).expect(rt, "a command");
+    let mut offers = Offers::new(alloc);
+    give_up_again(rt, &mut offers, &command, group, 256);
+    give_up_again(rt, &mut offers, &command, other, 1);
+    drop(command);
+    offers
+}
+
+#[test]
+fn open_offers_of_a_group_are_listed_thousands_of_times(rt: HostRuntime) {
+    let group = &Group::new(b"G1").expect(&rt, "a group");
+    let other = &Group::new(b"G2").expect(&rt, "a group");
+    let offers = offers_of_two(&rt, rt.alloc(), group, other);
+    assert_eq!(rt; listed(&rt, &offers, group), (4_096, 4_096, 4_096));
+    for _ in 0..3_000 {
+        assert_eq!(rt; listed(&rt, &offers, other), (16, 4_112, 16));
+    }
+    drop(offers);
 }

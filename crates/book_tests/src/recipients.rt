@@ -2,14 +2,15 @@
 
 use crate::trades::{report_of, take};
 use crate::transcript::{Patience, follow, world_of};
-use gu_notices::{FirmFilter, FirmPlace, Register, recipients_of};
+use gu_book::Book;
+use gu_notices::{FirmFilter, FirmPlace, Register, note_recipients};
 use gu_offers::Offers;
 use gu_ref::Reference;
-use gu_terms::{Command, Done, Entry, EntryRef, Reply};
+use gu_terms::{Command, Done, Entry, Group, Reply};
 use gu_trades::Trades;
-use gu_world::World;
 use std::alloc::{AllocError, Global};
 use std::process::Abort;
+use std::str;
 
 /// Lines with what they are answered, and the firms of the sample that the line's entry may tell something.
 const ROWS: &str = "\
@@ -40,27 +41,22 @@ struct Kept {
     offers: Offers,
 }
 
-/// Takes a give-up in.
-fn give_up(kept: &mut Kept, command: &Command, done: Done) -> Result<(), AllocError> {
-    match (command, done) {
-        (
-            Command::GiveUp {
-                firm,
-                id: _,
-                report,
-                lines,
-            },
-            Done::Offered { group, .. },
-        ) => {
-            // The lines tell how many they are.
-            let _ = lines.as_slice();
-            if kept.offers.count() < 1_000 {
-                kept.offers.give_up(*firm, *report, group, lines)?;
-            }
-            Ok(())
+/// Takes a give-up in, whose offers are of a group.
+pub fn give_up(offers: &mut Offers, command: &Command, group: Group) -> Result<(), AllocError> {
+    if let Command::GiveUp {
+        firm,
+        id: _,
+        report,
+        lines,
+    } = command
+    {
+        // The lines tell how many they are.
+        let _ = lines.as_slice();
+        if offers.count() < 10_000 {
+            offers.give_up(*firm, *report, group, lines)?;
         }
-        _ => Ok(()),
     }
+    Ok(())
 }
 
 /// Takes an entry in, where it is of a report or a give-up that was accepted.
@@ -73,54 +69,75 @@ fn take_in(kept: &mut Kept, entry: &Entry) -> Result<(), AllocError> {
             if let Some(report) = report_of(command) {
                 take(&mut kept.trades, &report)?;
             }
-            give_up(kept, command, *done)
+            match done {
+                Done::Offered { group, .. } => give_up(&mut kept.offers, command, *group),
+                _ => Ok(()),
+            }
         }
         _ => Ok(()),
     }
 }
 
-/// The names of the firms of a reference that a filter may hold, each after a blank.
-fn names(alloc: Global, reference: &Reference, firms: FirmFilter) -> Result<Vec<u8>, AllocError> {
-    let mut text = Vec::new(alloc);
+/// Takes the last entry of a book in.
+fn take_last(kept: &mut Kept, book: &Book) -> Result<(), AllocError> {
+    let history = book.history();
+    match history.entry(history.len() as u64)? {
+        Some(entry) => {
+            let taken = take_in(kept, &entry);
+            drop(entry);
+            taken
+        }
+        None => Ok(()),
+    }
+}
+
+/// Adds the names of the firms of a reference that a filter may hold, each after a blank.
+fn append_names(
+    text: &mut Vec<u8>,
+    reference: &Reference,
+    firms: FirmFilter,
+) -> Result<(), AllocError> {
     for firm in reference.firms() {
         if firms.has(FirmPlace::of(firm)) {
             text.push(b' ')?;
             text.extend_from_slice(firm.get())?;
         }
     }
-    Ok(text)
+    Ok(())
 }
 
-/// The firms of the sample that an entry may tell something.
-fn recipients(
-    alloc: Global,
-    reference: &Reference,
-    kept: &Kept,
-    entry: &EntryRef,
-) -> Result<Vec<u8>, AllocError> {
+/// The firms of the sample that each entry of a book may tell something, a line for each entry.
+fn recipients(alloc: Global, book: &Book, kept: &Kept) -> Result<Vec<u8>, AllocError> {
     let register = Register {
-        reference,
+        reference: book.reference(),
         trades: &kept.trades,
         offers: &kept.offers,
     };
-    names(alloc, reference, recipients_of(&register, entry))
+    let mut noted = Vec::new(alloc);
+    note_recipients(&register, book.history(), &mut noted)?;
+    let mut text = Vec::new(alloc);
+    for firms in &noted {
+        append_names(&mut text, book.reference(), *firms)?;
+        text.push(b'\n')?;
+    }
+    Ok(text)
 }
 
-/// The firms that the last entry of a world's book may tell something, once it is taken in.
-fn last_recipients(
-    alloc: Global,
-    world: &World,
-    kept: &mut Kept,
-) -> Result<Option<Vec<u8>>, AllocError> {
-    let history = world.book().history();
-    let Some(entry) = history.entry(history.len() as u64)? else {
-        return Ok(None);
-    };
-    take_in(kept, &entry)?;
-    drop(entry);
-    let place = history.len() - 1;
-    let shown = recipients(alloc, world.book().reference(), kept, &history.show(place))?;
-    Ok(Some(shown))
+/// A row's line, and its firms.
+fn columns(row: &str) -> (&str, &str) {
+    let (line, firms) = row.split_once("|").unwrap_or((row, ""));
+    (line, firms.trim_end())
+}
+
+/// The firms of the rows, a line for each row.
+fn firms_of_rows(alloc: Global) -> Result<Vec<u8>, AllocError> {
+    let mut text = Vec::new(alloc);
+    for row in ROWS.lines() {
+        let (_, firms) = columns(row);
+        text.extend_from_slice(firms.as_bytes())?;
+        text.push(b'\n')?;
+    }
+    Ok(text)
 }
 
 #[test]
@@ -132,12 +149,13 @@ fn an_entry_may_tell_the_firms_that_it_tells_and_no_others(rt: HostRuntime) {
         offers: Offers::new(alloc),
     };
     for row in ROWS.lines() {
-        let (line, firms) = row.split_once("|").unwrap_or((row, ""));
+        let (line, _) = columns(row);
         follow(&rt, alloc, &mut world, "recipients", line, Patience::Never);
-        let told = last_recipients(alloc, &world, &mut kept)
-            .ok()
-            .expect(&rt, "memory");
-        let told = told.expect(&rt, "an entry");
-        assert_eq!(rt; told.as_slice(), firms.trim_end().as_bytes(), "{row}");
+        assert!(rt; take_last(&mut kept, world.book()).is_ok(), "{row}");
     }
+    let told = recipients(alloc, world.book(), &kept)
+        .ok()
+        .expect(&rt, "memory");
+    let want = firms_of_rows(alloc).ok().expect(&rt, "memory");
+    assert!(rt; told == want, "{}", str::from_utf8(&told).unwrap_or("?"));
 }

@@ -60,6 +60,14 @@ fn dated(alloc: Global, line: &str) -> Option<Step> {
     step
 }
 
+/// The command of a line.
+pub fn command_of(alloc: Global, line: &str) -> Option<Command> {
+    match Line::read(alloc, line.as_bytes(), 0) {
+        Ok(Some(Line::Step(Step::Enter(command)))) => Some(command),
+        _ => None,
+    }
+}
+
 /// Takes a step.
 fn take_step(world: &mut World, step: Step) -> Option<()> {
     world.step(step).ok()

@@ -53,7 +53,7 @@ POSITION A1 XF6           = 1000000 0
 STRETCHES C1 1            = 110 112002
 STRETCHES E1 1            = 79 64002
 STRETCHES C2 1            = 79 0
-== an account holds a thousand instruments
+== an account holds a thousand instruments, and each of a hundred groups has a view
 FILE the largest
 DAY 20260105              = 1 OK
 EACH 0 1000 1: REPORT N0 B# M# B N# 3 101.5 N5; REPORT N0 S# M# S N# 3 101.5 N6 = OK
@@ -62,6 +62,9 @@ ROWS N0 N6                = 1000 0 3000
 ROWS N0 N7                = 0 0 0
 ROWS N1 N5                = NONE
 STRETCHES N0 1            = 2 2000
+EACH 0 100 1: LIMIT N# EXEC N0 7 = OK
+EACH 0 100 1: COUNT N#    = 1 7 7
+EACH 0 100 1: VIEW N#     = 2
 ";
 
 #[test]

@@ -60,6 +60,10 @@ LIMITS G1
 LIMITS G2
 VIEW G1
 VIEW G2
+NOTICES E1 1
+NOTICES E2 1
+NOTICES C1 1
+NOTICES C2 1
 ";
 
 /// Adds what a book of the sample shows.
@@ -70,14 +74,19 @@ fn show(text: &mut Vec<u8>, alloc: Global, book: &Book) -> Option<()> {
     Some(())
 }
 
-/// What a book of the sample shows, at the second try where memory is refused to the first.
-pub fn picture(rt: &impl Abort, alloc: Global, book: &Book) -> Vec<u8> {
+/// What a book of the sample shows, at the second try where memory is refused to the first; nothing where it is refused to both.
+pub fn shown(alloc: Global, book: &Book) -> Option<Vec<u8>> {
     let mut text = Vec::new(alloc);
     if show(&mut text, alloc, book).is_none() {
         text.clear();
-        assert!(rt; show(&mut text, alloc, book).is_some());
+        show(&mut text, alloc, book)?;
     }
-    text
+    Some(text)
+}
+
+/// The same, where memory may be refused once.
+pub fn picture(rt: &impl Abort, alloc: Global, book: &Book) -> Vec<u8> {
+    shown(alloc, book).expect(rt, "memory")
 }
 
 /// Tells what a worker saw, from a line as `LOOK 0`.

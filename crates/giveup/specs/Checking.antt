@@ -2,6 +2,7 @@
 use Rattle.std.specs.Prelude.{◌≡◌, ℕ, ◌⊎◌, List, [], OnOk, Option, Result, Ok, Err}
 use Rattle.std.specs.Io.KnownBytes.{Consumes, Appends, Keeps, IsAtEnd}
 use Rattle.gu_streams.specs.Written.{WrotePart}
+use Rattle.gu_text.specs.SheetPieces.{IsBadHowever}
 use Rattle.gu_text.specs.Sheets.{IsSheet, Refuses}
 use Rattle.gu_text.specs.Verdicts.{verdict_text}
 use Rattle.gu_text.specs.declared.error.TextError.TheVariants as text_error
@@ -11,9 +12,30 @@ use Rattle.gu_view.specs.Check.{verdict}
 use Rattle.gu_view.specs.Takes.{IsGreatest}
 use Rattle.gu_view.specs.declared.error.CutFault.{CutFault}
 use Rattle.gu_streams.specs.Streams.{Streams}
-use Rattle.giveup.specs.Input.{ReadsAll}
 use Rattle.giveup.specs.declared.status.Status.{Status}
 use Rattle.giveup.specs.declared.status.Status.TheVariants.{Done, Fault}
+
+-- all that the reader had is this sheet
+pub record ReadsSheet (sheet : Sheet) (input_old input_new : Option (List ℕ)) : Type 0 where
+  pub read : List ℕ
+  pub consumed : Consumes input_old input_new read
+  pub at_end : IsAtEnd input_new
+  pub is_sheet : IsSheet read sheet
+
+-- this is the first bad line of what was read, whatever may follow it, or else of all that the reader had
+abbrev pub IsBadThere : List ℕ → Option (List ℕ) → ℕ → Type 0
+IsBadThere read input number = IsBadHowever read number ⊎ (IsAtEnd input × Refuses read (text_error.BadLine number))
+
+-- what was read has this bad line
+pub record ReadsBadLine (number : ℕ) (input_old input_new : Option (List ℕ)) : Type 0 where
+  pub read : List ℕ
+  pub consumed : Consumes input_old input_new read
+  pub bad : IsBadThere read input_new number
+
+-- some text was read, all that the reader had or less
+pub record ReadsPart (input_old input_new : Option (List ℕ)) : Type 0 where
+  pub read : List ℕ
+  pub consumed : Consumes input_old input_new read
 
 -- a text is a sheet, and this is the verdict on its takes and its cut; takes that are right are greatest
 pub record IsVerdictOn (text : List ℕ) (answer : Result ℕ CutFault) : Type 0 where
@@ -31,16 +53,15 @@ status_after (Err fault) = Fault
 pub record Checked (status : Status) (streams : Streams) : Type 0 where
   pub read : List ℕ
   pub answer : Result ℕ CutFault
-  pub all : ReadsAll streams.input_old streams.input_new read
+  pub consumed : Consumes streams.input_old streams.input_new read
+  pub at_end : IsAtEnd streams.input_new
   pub on_sheet : IsVerdictOn read answer
   pub appended : Appends streams.output_old streams.output_new (verdict_text answer)
   pub status_is : status ≡ status_after answer
 
--- all that the reader had is no sheet, because of this line, and nothing was written
+-- what was read has this bad line, and nothing was written
 pub record HasBadLine (number : ℕ) (streams : Streams) : Type 0 where
-  pub read : List ℕ
-  pub all : ReadsAll streams.input_old streams.input_new read
-  pub refused : Refuses read (text_error.BadLine number)
+  pub bad_line : ReadsBadLine number streams.input_old streams.input_new
   pub nothing : Keeps streams.output_old streams.output_new
 
 -- a line says nothing, or it is the line of the verdict on what was read, where this is all that the reader had

@@ -1,6 +1,5 @@
 pub mod Capture
 pub mod Checking
-pub mod Input
 pub mod PositionText
 pub mod ProgramWords
 pub mod RunErrors

@@ -83,7 +83,25 @@ TAKE 1 5/CUT AGR P1/END/ -> bad line 8:
 takes of an offer twice
 SHEET G1 6/OFFER 1 5 P1 E1 A1 C1/OFFER 2 5 P1 E1 A1 C1/
 ROOM EXEC E1 100/ROOM AGR P1 7/ROOM ACCT A1 100/ROOM CARRY C1 100/
-TAKE 1 2/TAKE 1 2/TAKE 2 5/CUT AGR P1/END/ -> bad line 9: ";
+TAKE 1 2/TAKE 1 2/TAKE 2 5/CUT AGR P1/END/ -> bad line 9: 
+
+takes twice of an offer that there isn't
+SHEET G1 0/TAKE 9 1/TAKE 9 1/END/ -> bad line 3: 
+
+a key that no offer has twice in the cut
+SHEET G1 0/CUT EXEC E1/CUT OFFER 9/CUT EXEC E1/END/ -> bad line 4: 
+
+a line of 1,025 bytes, though it is a comment
+SHEET G1 0/(#*1025)/END/ -> bad line 2: 
+
+the same with a CR
+SHEET G1 0/(#*1025)\r/END/ -> bad line 2: 
+
+a bad line before the end whose view is none
+SHEET G1 6/OFFER 1 5 P1 E1 A1 C1/TAKE 1 x/END/ -> bad line 3: 
+
+a line that isn't silent after an end whose view is none
+SHEET G1 6/OFFER 1 5 P1 E1 A1 C1/END/END/ -> bad line 3: ";
 
 /// What the check tells of a sheet that begins with this view.
 fn told(alloc: Global, view: &str, sheet: &str) -> Result<String, AllocError> {

@@ -12,7 +12,6 @@ mod error;
 mod error_tests;
 mod files;
 mod fixing;
-mod input;
 #[cfg(test)]
 mod largest_tests;
 #[cfg(test)]

@@ -44,6 +44,80 @@ fn two_reports_make_a_trade_however_they_are_cut_and_what_was_answered_stays(rt:
     check_cuts(&rt, alloc, Engine::Capture, REPORTS, POSITIONS);
 }
 
+/// What a run tells whose input comes byte by byte, with so many reads.
+fn told_by_bytes(
+    alloc: Global,
+    engine: Engine,
+    input: &str,
+    reads: usize,
+) -> Result<String, AllocError> {
+    let terms = Terms {
+        first: 1,
+        piece: 1,
+        reads,
+        ..AMPLE
+    };
+    told_of_text(alloc, engine, input, terms)
+}
+
+/// How a capture of the reports ends that has fewer reads than this, and at least as many as the row before says: the first report has
+/// 141 bytes, both have 277, and one read more finds the end.
+const BYTE_BY_BYTE: [(usize, &str); 4] = [
+    (141, "read fault: 0"),
+    (277, "read fault: 95"),
+    (278, "read fault: 190"),
+    (279, "done: 232"),
+];
+
+#[test]
+fn the_reports_that_came_are_answered_where_the_reader_fails(rt: HostRuntime) {
+    let alloc = rt.alloc();
+    let mut from: usize = 0;
+    for (to, end) in BYTE_BY_BYTE {
+        let expected = front_told(alloc, end, POSITIONS).expect(&rt, "memory");
+        for reads in from..to {
+            let told = told_by_bytes(alloc, Engine::Capture, REPORTS, reads);
+            check_numbered(&rt, alloc, reads, told, &expected);
+        }
+        from = to;
+    }
+}
+
+/// What is to be told where a byte is taken by each of so many writes, and no more.
+fn front_of_bytes(alloc: Global, writes: usize) -> Result<String, AllocError> {
+    let end = format!(in alloc; "write fault: {writes}")?;
+    front_told(alloc, &end, POSITIONS)
+}
+
+#[test]
+fn what_is_taken_byte_by_byte_is_a_prefix_of_the_answers(rt: HostRuntime) {
+    let alloc = rt.alloc();
+    for writes in 0..232 {
+        let expected = front_of_bytes(alloc, writes).expect(&rt, "memory");
+        let terms = Terms {
+            most: 1,
+            writes,
+            ..AMPLE
+        };
+        let told = told_of_text(alloc, Engine::Capture, REPORTS, terms);
+        check_numbered(&rt, alloc, writes, told, &expected);
+    }
+    let enough = "most 1, writes 232 -> done: 232";
+    check_terms(&rt, alloc, Engine::Capture, REPORTS, POSITIONS, enough);
+}
+
+/// Bytes that begin no message, one a read: of 999,999 the last read finds the end, and after 1,000,000 no read is left.
+const MOST_READS: &str = "\
+(x*999999) -> done: 
+(x*1000000) -> read fault: 
+(x*1000001) -> read fault: 
+";
+
+#[test]
+fn a_million_reads_are_the_most(rt: HostRuntime) {
+    check(&rt, rt.alloc(), Engine::Capture, "piece 1", MOST_READS);
+}
+
 /// Bytes that begin no message, one a read, and then the two reports.
 fn told_after_thousands(alloc: Global) -> Result<String, AllocError> {
     let input = format!(in alloc; "(x*3000){REPORTS}")?;
@@ -84,6 +158,72 @@ fn a_sheet_may_come_in_pieces_and_a_failing_read_leaves_nothing_written(rt: Host
     let alloc = rt.alloc();
     check_terms(&rt, alloc, Engine::Check, SHEET, "OK 0/", CHECKS);
     check_cuts(&rt, alloc, Engine::Check, SHEET, "OK 0/");
+}
+
+/// Sheets of which one read gives all but their end, or one line is bad: then it is named, whatever the reader has behind it.
+const BAD_LINES: &str = "\
+X/SHEET G1 0/END/(#/*5000) -> bad line 1: 
+SHEET G1 0/X -> read fault: 
+SHEET G1 0/X/END/ -> bad line 2: 
+SHEET G1 0/END/END/ -> bad line 3: 
+SHEET G1 0/END/X -> read fault: 
+SHEET G1 0/END -> read fault: 
+SHEET G1 6/OFFER 1 5 P1 E1 A1 C1/END/ -> bad line 3: 
+SHEET G1 6/OFFER 1 5 P1 E1 A1 C1/END -> read fault: 
+SHEET G1 0/ -> read fault: 
+";
+
+/// The same sheets, where a second read finds the end.
+const BAD_AT_THE_END: &str = "\
+SHEET G1 0/X -> bad line 2: 
+SHEET G1 0/END/X -> bad line 3: 
+SHEET G1 0/END -> done: OK 0/
+SHEET G1 6/OFFER 1 5 P1 E1 A1 C1/END -> bad line 3: 
+SHEET G1 0/ -> bad line 2: 
+SHEET G1 0/#/ -> bad line 3: 
+ -> bad line 1: 
+";
+
+/// And byte by byte.
+const BAD_BY_BYTES: &str = "\
+X -> bad line 1: 
+SHEET G1 0/X/END/ -> bad line 2: 
+SHEET G1 0//#\r/END/END/ -> bad line 5: 
+SHEET G1 0/END\r/ -> done: OK 0/
+SHEET G1 0/END\r -> bad line 2: 
+SHEET G1 0/(#*1025)/END/ -> bad line 2: 
+SHEET G1 0/(#*1024)\r/END/ -> done: OK 0/
+";
+
+#[test]
+fn a_bad_line_of_a_sheet_is_named_whatever_comes_after_it(rt: HostRuntime) {
+    let alloc = rt.alloc();
+    check(&rt, alloc, Engine::Check, "reads 1", BAD_LINES);
+    check(&rt, alloc, Engine::Check, "reads 2", BAD_AT_THE_END);
+    check(&rt, alloc, Engine::Check, "piece 1", BAD_BY_BYTES);
+}
+
+/// Sheets that come in three pieces of 512 bytes, after which the reader fails: a line that may end well waits, and one that can't is bad.
+const LONG_LINES: &str = "\
+(x*10000) -> bad line 1: 
+(#*1025) -> read fault: 
+(#*1026) -> bad line 1: 
+SHEET G1 0/(#*1025) -> read fault: 
+SHEET G1 0/(#*1026) -> bad line 2: 
+SHEET G1 0/END/(#*1026) -> bad line 3: 
+";
+
+#[test]
+fn a_line_of_a_sheet_that_is_too_long_is_bad_before_it_ends(rt: HostRuntime) {
+    let alloc = rt.alloc();
+    check(&rt, alloc, Engine::Check, "piece 512, reads 3", LONG_LINES);
+    check(
+        &rt,
+        alloc,
+        Engine::Check,
+        "piece 512, reads 2",
+        "(x*10000) -> read fault: ",
+    );
 }
 
 /// A script with comments, empty lines and a CR before an LF, and, on lines that begin with `< `, what answers it.
@@ -148,13 +288,7 @@ fn check_reads(
 ) {
     let expected = front_told(alloc, "read fault: all", answers).expect(rt, "memory");
     for reads in from..to {
-        let terms = Terms {
-            first: 1,
-            piece: 1,
-            reads,
-            ..AMPLE
-        };
-        let told = told_of_text(alloc, Engine::Replay, script, terms);
+        let told = told_by_bytes(alloc, Engine::Replay, script, reads);
         check_numbered(rt, alloc, reads, told, &expected);
     }
 }

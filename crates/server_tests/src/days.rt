@@ -110,6 +110,28 @@ out AS 2 755=1|71=0|794=8|87=6|55=XF6|54=1|53=10|6=101.5|75=20260105|78=1|79=A1|
     ending: Ending::LogsOut(2),
 };
 
+/// What the firm sends comes in bursts: 4,019 bytes that begin no message and then a TestRequest of 77, which fill a read to its last
+/// byte; and two TestRequests that lie some reads apart. Each is answered, though nothing more comes.
+const COMES_IN_BURSTS: Visit = Visit {
+    firm: "C1",
+    parts: &[
+        LOGON,
+        "\
+raw (x*4019)
+in 1 2 112=T1|
+out 0 2 112=T1|
+",
+        "\
+in 1 3 112=T2|
+raw (x*9000)
+in 1 4 112=T3|
+out 0 3 112=T2|
+out 0 4 112=T3|
+",
+    ],
+    ending: Ending::LogsOut(5),
+};
+
 /// A firm that the reference lacks; nothing is sent to it.
 const STRANGER: Visit = Visit {
     firm: "E9",
@@ -169,7 +191,7 @@ struct Row {
 }
 
 /// Connections to the book of a trade of ten lots, which has seven entries.
-const ROWS: [Row; 11] = [
+const ROWS: [Row; 12] = [
     Row {
         doing: Doing::Visits(&[GIVES_UP, IS_OFFERED]),
         connections: 2,
@@ -219,6 +241,12 @@ const ROWS: [Row; 11] = [
         connections: 1,
         every: 1,
         end: "ENTRIES 11\nSWEPT 4\nAUDIT OK\n",
+    },
+    Row {
+        doing: Doing::Visits(&[COMES_IN_BURSTS]),
+        connections: 1,
+        every: 0,
+        end: "ENTRIES 7\nSWEPT 0\nAUDIT OK\n",
     },
     Row {
         doing: Doing::Visits(&[STRANGER, HASTY]),

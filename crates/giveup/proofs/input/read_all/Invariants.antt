@@ -1,9 +1,0 @@
-use Rattle.std.specs.Io.KnownBytes.{Consumes}
-use Rattle.gu_streams.specs.Reads.{bytes_left, reads_left}
-use Rattle.giveup.proofs.input.read_all.Given as goal
-
-abbrev pub invariant-reading : goal.invariant-reading
-invariant-reading g l = Consumes (bytes_left g.R.Read.remaining l.initial.reads) (bytes_left g.R.Read.remaining l.reads) l.text.items
-
-abbrev pub decreases-reading : goal.decreases-reading
-decreases-reading g l = reads_left l.reads
