@@ -176,34 +176,43 @@ fn counts_at(alloc: Global, stream: &[u8], cut: usize) -> Result<(usize, usize),
     counts_of(&mut Feed::new(alloc), front, rest)
 }
 
-/// How many messages a new feed gives of a stream that is changed at a place: before a cut, and after it.
-fn counts_with(
+/// The messages that a new feed gives of a stream whose byte at a place is one higher, called by their names.
+fn left_with(alloc: Global, stream: &[u8], place: usize) -> Result<String, AllocError> {
+    let mut bytes = Vec::from_slice(alloc, stream)?;
+    if let Some(byte) = bytes.get_mut(place) {
+        *byte = byte.wrapping_add(1);
+    }
+    let given = given_of(alloc, &mut Feed::new(alloc), &bytes)?;
+    let text = shown(alloc, &given)?;
+    let text = replaced(alloc, text.as_str(), FIRST, "FIRST ")?;
+    replaced(alloc, text.as_str(), SECOND, "SECOND ")
+}
+
+/// What a new feed gives of a stream that is changed at a place.
+fn told_at(
     alloc: Global,
     stream: &[u8],
     change: Change,
     place: usize,
-) -> Result<(usize, usize), AllocError> {
+) -> Result<String, AllocError> {
     match change {
-        Change::Cut => counts_at(alloc, stream, place),
-        Change::Raise => {
-            let mut bytes = Vec::from_slice(alloc, stream)?;
-            if let Some(byte) = bytes.get_mut(place) {
-                *byte = byte.wrapping_add(1);
-            }
-            counts_at(alloc, &bytes, 0)
+        Change::Cut => {
+            let counts = counts_at(alloc, stream, place)?;
+            format!(in alloc; "{counts:?} ")
         }
+        Change::Raise => left_with(alloc, stream, place),
     }
 }
 
 /// The same by the place of the change, where it isn't as at the place before.
 fn places_in(alloc: Global, stream: &[u8], change: Change) -> Result<String, AllocError> {
     let mut text = String::new(alloc);
-    let mut last = (9, 9);
+    let mut last = String::new(alloc);
     for place in 0..278 {
-        let counts = counts_with(alloc, stream, change, place)?;
-        if counts != last {
-            write!(text, "{place}: {counts:?} ")?;
-            last = counts;
+        let told = told_at(alloc, stream, change, place)?;
+        if told.as_str() != last.as_str() {
+            write!(text, "{place}: {told}")?;
+            last = told;
         }
     }
     Ok(text)
@@ -219,6 +228,6 @@ pub fn places_told(alloc: Global, change: Change) -> Result<String, AllocError> 
 fn a_message_is_given_once_its_last_byte_has_come_and_only_as_it_is(rt: HostRuntime) {
     let cut = " -> 0: (0, 2) 141: (1, 1) 277: (2, 0) ";
     check(&rt, rt.alloc(), Subject::Places(Change::Cut), cut);
-    let raised = " -> 0: (0, 1) 277: (0, 2) ";
+    let raised = " -> 0: SECOND 141: FIRST 277: FIRST SECOND ";
     check(&rt, rt.alloc(), Subject::Places(Change::Raise), raised);
 }

@@ -31,7 +31,7 @@ pub enum Subject {
     Fronts,
     /// How many messages a feed gives of a stream in pieces.
     Pieces,
-    /// How many messages a feed gives wherever a stream is cut, or a byte of it is another.
+    /// How many messages a feed gives wherever a stream is cut, or which ones where a byte of it is another.
     Places(feed::Change),
     /// The fields of this message, and its first malformed one.
     Fields(fields::Holder),
