@@ -1,7 +1,7 @@
 -- A sheet is read line by line.
-use Rattle.std.proofs.Common.{◌≡◌, ◌≢◌, ◌+◌, ◌<◌, ◌⊎◌, ◌++◌, ◌∷◌, [], ◌∙◌, ◌&&◌, ◌||◌, not, nat_lt, ℕ, Bool, true, false, cond, List, Option, None, Some, length, map, take, IsTrue, Result, Ok, Err, IsErrAnd, refl, ap, sym, subst, inl, inr, arith, length-append, length-take}
+use Rattle.std.proofs.Common.{◌≡◌, ◌≢◌, ◌<◌, ◌⊎◌, ◌++◌, ◌∷◌, [], ◌∙◌, ◌&&◌, ◌||◌, not, nat_lt, ℕ, Bool, true, false, cond, List, Option, None, Some, length, map, take, IsTrue, Result, Ok, Err, IsErrAnd, refl, ap, sym, subst, inl, inr, arith, length-append, length-take}
 use Rattle.std.specs.List.{filter_map, last_or}
-use Rattle.std.specs.Prelude.{IsErrOf}
+use Rattle.std.specs.Prelude.{IfErr, IsErrOf, OnOk}
 use Rattle.std.specs.Option.{option_map_or, option_or, option_to_list}
 use Rattle.std.proofs.lemmas.Bool.{cond-true, or_parts, ltb-false, ltb-true}
 use Rattle.std.proofs.lemmas.List.{append-nil, map-append, take_all, take-append-le}
@@ -19,6 +19,7 @@ use Rattle.gu_text.specs.Reading.{no_parts, with_line, with_text_line, with_kept
 use Rattle.gu_text.specs.declared.error.TextError.{TextError}
 use Rattle.gu_text.specs.declared.error.TextError.TheVariants.{BadLine}
 use Rattle.gu_text.specs.declared.sheet.Sheet.{Sheet}
+use Rattle.gu_text.specs.declared.sheet_so_far.SheetSoFar.TheVariants.{Open}
 use Rattle.gu_text.specs.declared.sheet_line.Part.{Part}
 use Rattle.gu_text.specs.declared.sheet_line.Part.TheVariants as part
 use Rattle.gu_text.specs.declared.sheet_line.SheetLine.{SheetLine}
@@ -171,9 +172,16 @@ pub passed : {T : Type 0} (result : Result T TextError) (error other : TextError
 passed (Ok x) error other h is = absurd h
 passed (Err e) error other h is = let same : e ≡ other = cc in sym h ∙ same
 
--- where parts make no sheet, and the error is passed on, they make no view
-pub none_made : (error : TextError) (parts : SheetParts) (number n : ℕ) → error ≡ BadLine n → MakesNone parts number error → ¬ MakesView parts.offers parts.rooms
-none_made error parts number n is none = let bad = subst (MakesNone parts number) is none in bad.1
+-- what holds where a call succeeds, by what the call says then
+pub on_ok_then : {T A B : Type 0} (result : Result T TextError) → (A → B) → OnOk result A → OnOk result B
+on_ok_then (Ok x) then given = then given
+on_ok_then (Err error) then given = tt
+
+-- parts that make no sheet at the end are refused by its number, and make no view
+pub none_made : {T : Type 0} (result : Result T TextError) (parts : SheetParts) (number n : ℕ) → IfErr result (λ error. (p : SheetParts) → Open parts ≡ Open p → MakesNone p number error) → IsErrOf result (BadLine n)
+    → (n ≡ number) × (¬ MakesView parts.offers parts.rooms)
+none_made (Ok x) parts number n none is = cc
+none_made (Err error) parts number n none is = let same : error ≡ BadLine n = cc in subst (MakesNone parts number) same (none parts refl)
 
 -- ---- one line more, where the end is still to come
 

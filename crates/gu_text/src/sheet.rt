@@ -32,7 +32,8 @@ impl Sheet {
         ensures sheet { IfOk result (IsSheet text.now) }
         ensures refused { IfErr result (Refuses text.now) }
     {
-        let reading = SheetReading::new(alloc).take(text)?;
+        let mut reading = SheetReading::new(alloc);
+        reading.take(text)?;
         reading.end()
     }
 }

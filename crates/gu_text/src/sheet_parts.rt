@@ -151,10 +151,11 @@ impl Parts {
         ensures fits { IfOk result (λ fits. fits ≡ fits_after self.old line) }
         ensures parts { IfOk result (λ fits. IsTrue fits → self.new ≡ with_kept self.old line) }
     {
-        if !comes_after(self.last, line.part()) || !self.put(line)? {
+        let part = line.part();
+        if !comes_after(self.last, part) || !self.put(line)? {
             return Ok(false);
         }
-        self.last = Some(line.part());
+        self.last = Some(part);
         Ok(true)
     }
 

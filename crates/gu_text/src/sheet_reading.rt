@@ -1,6 +1,6 @@
 //! A sheet that is read piece by piece.
 
-ghost use Rattle.std.specs.Prelude.{◌≡◌, ◌+◌, ◌^◌, ◌<◌, ◌≤◌, ◌++◌, ◌∷◌, [], ℕ, List, length, IfOk, IfErr, IsErrOf};
+ghost use Rattle.std.specs.Prelude.{◌≡◌, ◌+◌, ◌^◌, ◌<◌, ◌≤◌, ◌++◌, ◌∷◌, [], ℕ, List, length, IfOk, IfErr, IsErrOf, OnOk};
 ghost use Rattle.std.specs.Str.Lines.{strip_carriage_return};
 ghost use Rattle.gu_text.specs.LineFeeds.{HasNoLineFeed};
 ghost use Rattle.gu_text.specs.Lines.{longest_line};
@@ -68,90 +68,89 @@ impl SheetReading {
     }
 
     /// Reads a line that an LF ends: the rest, and what comes before the LF. A line that is too long isn't copied.
-    fn end_line(self, part: &[u8]) -> Result<Self, TextError>
-        requires room { self.count + 1 < 2 ^ 64 }
+    fn end_line(&mut self, part: &[u8]) -> Result<(), TextError>
+        requires room { self.old.count + 1 < 2 ^ 64 }
         requires none { HasNoLineFeed part.now }
-        ensures read { IfOk result (λ new. (before : List (List ℕ)) → IsReadTo before self.so_far
-            → IsReadTo (before ++ strip_carriage_return (self.rest ++ part.now) ∷ []) new.so_far) }
-        ensures counted { IfOk result (λ new. new.count ≡ self.count + 1) }
-        ensures done { IfOk result (λ new. new.rest ≡ []) }
-        ensures number { (n : ℕ) → IsErrOf result (TextError.BadLine n) → n ≡ self.count + 1 }
-        ensures bad { (n : ℕ) → IsErrOf result (TextError.BadLine n) → (before : List (List ℕ)) → IsReadTo before self.so_far
-            → ¬ IsRightAfter (said_in before) (strip_carriage_return (self.rest ++ part.now)) }
+        ensures read { OnOk result ((before : List (List ℕ)) → IsReadTo before self.old.so_far
+            → IsReadTo (before ++ strip_carriage_return (self.old.rest ++ part.now) ∷ []) self.new.so_far) }
+        ensures counted { OnOk result (self.new.count ≡ self.old.count + 1) }
+        ensures done { OnOk result (self.new.rest ≡ []) }
+        ensures number { (n : ℕ) → IsErrOf result (TextError.BadLine n) → n ≡ self.old.count + 1 }
+        ensures bad { (n : ℕ) → IsErrOf result (TextError.BadLine n) → (before : List (List ℕ)) → IsReadTo before self.old.so_far
+            → ¬ IsRightAfter (said_in before) (strip_carriage_return (self.old.rest ++ part.now)) }
     {
-        let SheetReading {
-            alloc,
-            so_far,
-            count,
-            mut rest,
-        } = self;
-        if goes_past_a_line(&rest, part) {
-            return Err(TextError::BadLine(count + 1));
+        if goes_past_a_line(&self.rest, part) {
+            return Err(TextError::BadLine(self.count + 1));
         }
-        rest.extend_from_slice(part)?;
-        let so_far = so_far.after(alloc, without_return(&rest), count + 1)?;
-        rest.clear();
-        Ok(SheetReading {
-            alloc,
-            so_far,
-            count: count + 1,
-            rest,
-        })
+        self.rest.extend_from_slice(part)?;
+        let line = without_return(&self.rest);
+        self.so_far.take(self.alloc, line, self.count + 1)?;
+        self.rest.clear();
+        self.count += 1;
+        Ok(())
     }
 
     /// Keeps what comes after the last LF, unless it is longer than any good line.
-    fn keep(self, bytes: &[u8]) -> Result<Self, TextError>
-        requires room { self.count + 1 < 2 ^ 64 }
+    fn keep(&mut self, bytes: &[u8]) -> Result<(), TextError>
+        requires room { self.old.count + 1 < 2 ^ 64 }
         requires none { HasNoLineFeed bytes.now }
-        ensures kept { IfOk result (λ new. new ≡ record self { rest = self.rest ++ bytes.now }) }
-        ensures number { (n : ℕ) → IsErrOf result (TextError.BadLine n) → n ≡ self.count + 1 }
-        ensures long { (n : ℕ) → IsErrOf result (TextError.BadLine n) → longest_line + 1 < length (self.rest ++ bytes.now) }
+        ensures kept { OnOk result (self.new ≡ record self.old { rest = self.old.rest ++ bytes.now }) }
+        ensures number { (n : ℕ) → IsErrOf result (TextError.BadLine n) → n ≡ self.old.count + 1 }
+        ensures long { (n : ℕ) → IsErrOf result (TextError.BadLine n) → longest_line + 1 < length (self.old.rest ++ bytes.now) }
     {
         if goes_past_a_line(&self.rest, bytes) {
             return Err(TextError::BadLine(self.count + 1));
         }
-        let mut reading = self;
-        reading.rest.extend_from_slice(bytes)?;
-        Ok(reading)
+        self.rest.extend_from_slice(bytes)?;
+        Ok(())
     }
 
-    /// Reads the lines that a piece ends, and keeps what comes after the last LF.
-    pub fn take(self, piece: &[u8]) -> Result<Self, TextError>
-        requires { self.count + length piece.now + 1 < 2 ^ 64 }
-        ensures read { IfOk result (λ new. (text : List ℕ) → IsReadSoFar text self → IsReadSoFar (text ++ piece.now) new) }
-        ensures counted { IfOk result (λ new. new.count ≤ self.count + length piece.now) }
+    /// Reads the lines that a piece ends, and keeps what comes after the last LF. After an error nothing is known of the reading.
+    pub fn take(&mut self, piece: &[u8]) -> Result<(), TextError>
+        requires { self.old.count + length piece.now + 1 < 2 ^ 64 }
+        ensures read { OnOk result ((text : List ℕ) → IsReadSoFar text self.old → IsReadSoFar (text ++ piece.now) self.new) }
+        ensures counted { OnOk result (self.new.count ≤ self.old.count + length piece.now) }
 
         // A bad line is bad whatever comes after the piece.
         ensures bad { (n : ℕ) → IsErrOf result (TextError.BadLine n)
-            → (text : List ℕ) → IsReadSoFar text self → IsBadHowever (text ++ piece.now) n }
+            → (text : List ℕ) → IsReadSoFar text self.old → IsBadHowever (text ++ piece.now) n }
     {
-        let mut reading = self;
+        // Shows the prover: what waits has no LF.
+        let _waiting = self.rest.len();
         let mut left = piece;
         'lines: while let Some((part, after)) = split_at_line_feed(left) {
-            reading = reading.end_line(part)?;
+            self.end_line(part)?;
             left = after;
         }
-        reading.keep(left)
+        self.keep(left)
     }
 
-    /// Reads what came after the last LF, where nothing more comes: the sheet so far, and how many lines it has.
-    fn end_last(self) -> Result<(SheetSoFar, u64), TextError>
-        requires { self.count + 1 < 2 ^ 64 }
-        ensures read { IfOk result (λ all. (text : List ℕ) → IsReadSoFar text self → IsReadWhole text all.0 all.1) }
-        ensures counted { IfOk result (λ all. all.1 ≤ self.count + 1) }
-        ensures refused { IfErr result (λ error. (text : List ℕ) → IsReadSoFar text self → Refuses text error) }
+    /// Reads what came after the last LF, where nothing more comes, and gives how many lines there are.
+    fn end_last(&mut self) -> Result<u64, TextError>
+        requires { self.old.count + 1 < 2 ^ 64 }
+        ensures read { IfOk result (λ count. (text : List ℕ) → IsReadSoFar text self.old → IsReadWhole text self.new.so_far count) }
+        ensures counted { IfOk result (λ count. count ≤ self.old.count + 1) }
+        ensures refused { IfErr result (λ error. (text : List ℕ) → IsReadSoFar text self.old → Refuses text error) }
+    {
+        if self.rest.is_empty() {
+            return Ok(self.count);
+        }
+        self.so_far.take(self.alloc, &self.rest, self.count + 1)?;
+        Ok(self.count + 1)
+    }
+
+    /// What the lines gave so far.
+    fn into_so_far(self) -> SheetSoFar
+        ensures { result ≡ self.so_far }
     {
         let SheetReading {
-            alloc,
+            alloc: _,
             so_far,
-            count,
+            count: _,
             rest,
         } = self;
-        if rest.is_empty() {
-            return Ok((so_far, count));
-        }
-        let so_far = so_far.after(alloc, &rest, count + 1)?;
-        Ok((so_far, count + 1))
+        drop(rest);
+        so_far
     }
 
     /// The sheet, where nothing more comes.
@@ -160,7 +159,8 @@ impl SheetReading {
         ensures sheet { IfOk result (λ sheet. (text : List ℕ) → IsReadSoFar text self → IsSheet text sheet) }
         ensures refused { IfErr result (λ error. (text : List ℕ) → IsReadSoFar text self → Refuses text error) }
     {
-        let (so_far, count) = self.end_last()?;
-        so_far.into_sheet(count + 1)
+        let mut reading = self;
+        let count = reading.end_last()?;
+        reading.into_so_far().into_sheet(count + 1)
     }
 }

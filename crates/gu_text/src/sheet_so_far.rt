@@ -1,9 +1,12 @@
 //! A sheet as far as its lines have come.
 
-ghost use Rattle.std.specs.Prelude.{◌≡◌, ◌++◌, ◌∷◌, [], ℕ, List, IfOk, IfErr, IsErrOf, IsTrue};
-ghost use Rattle.gu_text.specs.Reading.{line_fits, no_parts, with_kept_line, AreOpen, IsReadTo};
+ghost use Rattle.std.specs.Prelude.{◌≡◌, ◌++◌, ◌∷◌, [], false, ℕ, List, IfOk, IfErr, IsErrOf, IsSome, IsTrue, OnOk};
+ghost use Rattle.std.specs.Option.{option_map_or};
+ghost use Rattle.gu_text.specs.Lines.{is_silent};
+ghost use Rattle.gu_text.specs.Reading.{is_ended, line_fits, no_parts, with_kept, with_kept_line, AreOpen, IsMadeOf, IsReadTo, MakesNone};
+ghost use Rattle.gu_text.specs.SheetLines.{spoken};
 ghost use Rattle.gu_text.specs.SheetParts.{SheetParts};
-ghost use Rattle.gu_text.specs.Sheets.{said_in, IsRightAfter, IsSheetOf};
+ghost use Rattle.gu_text.specs.Sheets.{fits_after, said_in, IsRightAfter};
 
 use crate::error::TextError;
 use crate::lines::is_silent;
@@ -11,6 +14,7 @@ use crate::sheet::Sheet;
 use crate::sheet_line::spoken;
 use crate::sheet_parts::Parts;
 use std::alloc::{AllocError, Global};
+use std::mem;
 
 /// A sheet as far as its lines have come.
 pub(crate) enum SheetSoFar {
@@ -30,6 +34,17 @@ impl Drop for SheetSoFar {
     }
 }
 
+/// Adds what a line of words says, and answers whether the line may stand there.
+fn add_spoken(parts: &mut Parts, line: &[u8]) -> Result<bool, AllocError>
+    ensures fits { IfOk result (λ fits. fits ≡ option_map_or (fits_after parts.old) (spoken line.now) false) }
+    ensures parts { IfOk result (λ fits. IsTrue fits → parts.new ≡ option_map_or (with_kept parts.old) (spoken line.now) parts.old) }
+{
+    match spoken(line) {
+        Some(said) => parts.add(said),
+        None => Ok(false),
+    }
+}
+
 /// Adds what a line says, and answers whether the line may stand there.
 fn add_line(parts: &mut Parts, line: &[u8]) -> Result<bool, AllocError>
     ensures fits { IfOk result (λ fits. fits ≡ line_fits parts.old line.now) }
@@ -38,43 +53,32 @@ fn add_line(parts: &mut Parts, line: &[u8]) -> Result<bool, AllocError>
     if is_silent(line) {
         return Ok(true);
     }
-    match spoken(line) {
-        Some(said) => parts.add(said),
-        None => Ok(false),
-    }
+    add_spoken(parts, line)
 }
 
-/// The sheet with one line more, which has this number, where the end is still to come.
-fn after_parts(
-    alloc: Global,
-    mut parts: Parts,
-    line: &[u8],
-    number: u64,
-) -> Result<SheetSoFar, TextError>
-    ensures read { IfOk result (λ so_far. (before : List (List ℕ)) → AreOpen before parts → IsReadTo (before ++ line.now ∷ []) so_far) }
+/// Adds what a line says, which has this number, and answers whether it is the end.
+fn take_open(parts: &mut Parts, line: &[u8], number: u64) -> Result<bool, TextError>
+    ensures fits { OnOk result (IsTrue (line_fits parts.old line.now)) }
+    ensures parts { OnOk result (parts.new ≡ with_kept_line parts.old line.now) }
+    ensures ended { IfOk result (λ ended. ended ≡ is_ended parts.new) }
     ensures number { (n : ℕ) → IsErrOf result (TextError.BadLine n) → n ≡ number }
     ensures bad { (n : ℕ) → IsErrOf result (TextError.BadLine n)
-        → (before : List (List ℕ)) → AreOpen before parts → ¬ IsRightAfter (said_in before) line.now }
+        → (before : List (List ℕ)) → AreOpen before parts.old → ¬ IsRightAfter (said_in before) line.now }
 {
-    if !add_line(&mut parts, line)? {
+    if !add_line(parts, line)? {
         return Err(TextError::BadLine(number));
     }
-    if parts.are_ended() {
-        let sheet = parts.into_sheet(alloc, number)?;
-        return Ok(SheetSoFar::Ended(sheet));
-    }
-    Ok(SheetSoFar::Open(parts))
+    Ok(parts.are_ended())
 }
 
-/// The sheet with one line more, which has this number, where the end was read: such a line says nothing.
-fn after_end(sheet: Sheet, line: &[u8], number: u64) -> Result<SheetSoFar, TextError>
-    ensures read { IfOk result (λ so_far. (before : List (List ℕ)) → IsSheetOf before sheet → IsReadTo (before ++ line.now ∷ []) so_far) }
+/// A line after the end, which has this number: it says nothing.
+fn take_ended(line: &[u8], number: u64) -> Result<(), TextError>
+    ensures silent { OnOk result (IsTrue (is_silent line.now)) }
     ensures number { (n : ℕ) → IsErrOf result (TextError.BadLine n) → n ≡ number }
-    ensures bad { (n : ℕ) → IsErrOf result (TextError.BadLine n)
-        → (before : List (List ℕ)) → IsSheetOf before sheet → ¬ IsRightAfter (said_in before) line.now }
+    ensures bad { (n : ℕ) → IsErrOf result (TextError.BadLine n) → is_silent line.now ≡ false }
 {
     if is_silent(line) {
-        Ok(SheetSoFar::Ended(sheet))
+        Ok(())
     } else {
         Err(TextError::BadLine(number))
     }
@@ -88,17 +92,51 @@ impl SheetSoFar {
         SheetSoFar::Open(Parts::new(alloc))
     }
 
-    /// The sheet with one line more, which has this number.
-    pub(crate) fn after(self, alloc: Global, line: &[u8], number: u64) -> Result<Self, TextError>
-        ensures read { IfOk result (λ so_far. (before : List (List ℕ)) → IsReadTo before self → IsReadTo (before ++ line.now ∷ []) so_far) }
-        ensures number { (n : ℕ) → IsErrOf result (TextError.BadLine n) → n ≡ number }
-        ensures bad { (n : ℕ) → IsErrOf result (TextError.BadLine n)
-            → (before : List (List ℕ)) → IsReadTo before self → ¬ IsRightAfter (said_in before) line.now }
+    /// The sheet of the parts, whose last line was the end, which has this number.
+    fn closed(self, alloc: Global, number: u64) -> Result<Self, TextError>
+        requires { (parts : SheetParts) → self ≡ SheetSoFar.Open parts → IsSome parts.last }
+        ensures made { IfOk result (λ new. (parts : SheetParts) → self ≡ SheetSoFar.Open parts
+            → (sheet : Sheet) × (new ≡ SheetSoFar.Ended sheet) × IsMadeOf parts sheet) }
+        ensures refused { IfErr result (λ error. (parts : SheetParts) → self ≡ SheetSoFar.Open parts → MakesNone parts number error) }
     {
         match self {
-            SheetSoFar::Open(parts) => after_parts(alloc, parts, line, number),
-            SheetSoFar::Ended(sheet) => after_end(sheet, line, number),
+            SheetSoFar::Open(parts) => {
+                let sheet = parts.into_sheet(alloc, number)?;
+                Ok(SheetSoFar::Ended(sheet))
+            }
+            SheetSoFar::Ended(sheet) => Ok(SheetSoFar::Ended(sheet)),
         }
+    }
+
+    /// Makes the sheet of the parts, whose last line was the end, which has this number. It is a function of its own, since each call
+    /// clears room for the sheet, and only the end needs it.
+    fn close(&mut self, alloc: Global, number: u64) -> Result<(), TextError>
+        requires { (parts : SheetParts) → self.old ≡ SheetSoFar.Open parts → IsSome parts.last }
+        ensures made { OnOk result ((parts : SheetParts) → self.old ≡ SheetSoFar.Open parts
+            → (sheet : Sheet) × (self.new ≡ SheetSoFar.Ended sheet) × IsMadeOf parts sheet) }
+        ensures refused { IfErr result (λ error. (parts : SheetParts) → self.old ≡ SheetSoFar.Open parts → MakesNone parts number error) }
+    {
+        let open = mem::replace(self, SheetSoFar::new(alloc));
+        *self = open.closed(alloc, number)?;
+        Ok(())
+    }
+
+    /// Takes a line more, which has this number. After an error nothing is known of the sheet.
+    pub(crate) fn take(&mut self, alloc: Global, line: &[u8], number: u64) -> Result<(), TextError>
+        ensures read { OnOk result ((before : List (List ℕ)) → IsReadTo before self.old → IsReadTo (before ++ line.now ∷ []) self.new) }
+        ensures number { (n : ℕ) → IsErrOf result (TextError.BadLine n) → n ≡ number }
+        ensures bad { (n : ℕ) → IsErrOf result (TextError.BadLine n)
+            → (before : List (List ℕ)) → IsReadTo before self.old → ¬ IsRightAfter (said_in before) line.now }
+    {
+        match self {
+            SheetSoFar::Open(parts) => {
+                if !take_open(parts, line, number)? {
+                    return Ok(());
+                }
+            }
+            SheetSoFar::Ended(_) => return take_ended(line, number),
+        }
+        self.close(alloc, number)
     }
 
     /// The sheet, where its end was read; else this is the number of the line that is missing.

@@ -3,7 +3,7 @@ use Rattle.gu_text.proofs.PieceLemmas.{Taking}
 use Rattle.gu_text.proofs.sheet_reading.SheetReading.take.Given as goal
 
 abbrev pub invariant-lines : goal.invariant-lines
-invariant-lines l = Taking l.fn.self l.piece l.reading l.left
+invariant-lines l = Taking l.initial.self l.piece l.self l.left
 
 abbrev pub decreases-lines : goal.decreases-lines
 decreases-lines l = length l.left
