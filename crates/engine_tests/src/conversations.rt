@@ -155,6 +155,41 @@ fn gaps_are_filled_on_both_sides(rt: HostRuntime) {
     check_cases(&rt, rt.alloc(), "", GAPS);
 }
 
+/// Openings of the longest message, at the end of the input, before a message, and with one inside.
+const OPENINGS: &str = "\
+an opening of the longest message alone is answered by nothing: DAY 20260105/ -> 1
+firm E1
+raw 8=FIXT.1.1|9=65510|
+
+nothing is lost but the opening where the input ends: DAY 20260105/ -> 2
+firm E1
+in A 1 98=0|108=0|1137=9|
+out A 1 98=0|108=0|1137=9|
+in AE 2 571=R1|880=M1|55=XF6|32=10|31=101.5|75=20260105|552=1|54=1|1=H1|
+out AR 2 571=R1|880=M1|939=0|
+raw 8=FIXT.1.1|9=65510|
+
+nor where a message comes: DAY 20260105/ -> 2
+firm E1
+raw 8=FIXT.1.1|9=65510|
+in A 1 98=0|108=0|1137=9|
+out A 1 98=0|108=0|1137=9|
+raw 8=FIXT.1.1|9=65510|
+in AE 2 571=R1|880=M1|55=XF6|32=10|31=101.5|75=20260105|552=1|54=1|1=H1|
+out AR 2 571=R1|880=M1|939=0|
+
+what may be inside the message waits with it: DAY 20260105/ -> 1
+firm E1
+in A 1 98=0|108=0|1137=9|
+out A 1 98=0|108=0|1137=9|
+raw 8=FIXT.1.1|9=65510|35=
+in AE 2 571=R1|880=M1|55=XF6|32=10|31=101.5|75=20260105|552=1|54=1|1=H1|";
+
+#[test]
+fn an_opening_of_the_longest_message_keeps_the_stream_open(rt: HostRuntime) {
+    check_cases(&rt, rt.alloc(), "", OPENINGS);
+}
+
 /// The counterpart of a report is entered as soon as the Logon was answered.
 const TOLD_LATER: &str = "\
 what was entered since the last notices is told behind the next message, and not at a read without one: DAY 20260105/REPORT E1 R1 M1 B XF6 10 101.5 H1/ -> 3

@@ -103,12 +103,17 @@ fn told_of(
     }
 }
 
-/// What the exchange of a firm's connection tells.
-pub fn told(desk: Desk<'_>, firm: &str, talk: &Talk, terms: Terms) -> Result<String, AllocError> {
+/// What the exchange of a firm's connection tells that reads these bytes.
+fn told_on(
+    desk: Desk<'_>,
+    firm: &str,
+    input: &[u8],
+    talk: &Talk,
+    terms: Terms,
+) -> Result<String, AllocError> {
     let alloc = desk.alloc;
-    let input = wire(alloc, &talk.input)?;
     let source = Source {
-        bytes: input.as_bytes(),
+        bytes: input,
         lengths: &talk.lengths,
         later: terms.piece,
         reads: terms.reads,
@@ -116,6 +121,12 @@ pub fn told(desk: Desk<'_>, firm: &str, talk: &Talk, terms: Terms) -> Result<Str
     let mut sink = Sink::new(alloc, terms.most, terms.writes);
     let end = exchanged(desk, firm, source, talk, terms, &mut sink);
     told_of(alloc, end, &sink.held)
+}
+
+/// What the exchange of a firm's connection tells.
+pub fn told(desk: Desk<'_>, firm: &str, talk: &Talk, terms: Terms) -> Result<String, AllocError> {
+    let input = wire(desk.alloc, &talk.input)?;
+    told_on(desk, firm, input.as_bytes(), talk, terms)
 }
 
 /// The longest text that a connection of a firm writes at once, and how much it writes in all.
@@ -180,10 +191,11 @@ pub fn check_cases(rt: &impl Abort, alloc: Global, besides: &str, table: &str) {
     }
 }
 
-/// What a connection of E1 to a book after a script tells, after how many entries the book has then.
-pub fn told_after(
+/// What a connection of E1 to a book after a script tells that reads these bytes, after how many entries the book has then.
+fn told_after_on(
     alloc: Global,
     script: &str,
+    input: &[u8],
     talk: &Talk,
     terms: Terms,
 ) -> Result<String, AllocError> {
@@ -196,9 +208,35 @@ pub fn told_after(
         house: &mut house,
         besides: "",
     };
-    let told = told(desk, "E1", talk, terms);
+    let told = told_on(desk, "E1", input, talk, terms);
     let entries = house.book().history().len();
     drop(house);
     let told = told?;
     format!(in alloc; "{entries} entries, {told}")
+}
+
+/// What a connection of E1 to a book after a script tells, after how many entries the book has then.
+pub fn told_after(
+    alloc: Global,
+    script: &str,
+    talk: &Talk,
+    terms: Terms,
+) -> Result<String, AllocError> {
+    let input = wire(alloc, &talk.input)?;
+    told_after_on(alloc, script, input.as_bytes(), talk, terms)
+}
+
+/// The same where the byte at a place of the input is one higher.
+pub fn told_raised(
+    alloc: Global,
+    script: &str,
+    talk: &Talk,
+    place: usize,
+) -> Result<String, AllocError> {
+    let input = wire(alloc, &talk.input)?;
+    let mut bytes = Vec::from_slice(alloc, input.as_bytes())?;
+    if let Some(byte) = bytes.get_mut(place) {
+        *byte = byte.wrapping_add(1);
+    }
+    told_after_on(alloc, script, &bytes, talk, AMPLE)
 }

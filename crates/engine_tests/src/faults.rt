@@ -1,6 +1,6 @@
-//! A connection over streams: cut into pieces, with a reader, a writer or a clock that fails, and a long one.
+//! A connection over streams: cut into pieces, with a byte that is another, with a reader, a writer or a clock that fails, and a long one.
 
-use crate::exchanges::told_after;
+use crate::exchanges::{told_after, told_raised};
 use crate::rows::check_told;
 use std::alloc::Global;
 use std::process::Abort;
@@ -66,6 +66,41 @@ fn a_session_may_be_cut_anywhere(rt: HostRuntime) {
     let mut talk = Talk::of(rt.alloc(), "E1", ENTERED_ONCE).expect(&rt, "memory");
     talk.cut().expect(&rt, "memory");
     check(&rt, rt.alloc(), "DAY 20260105/", &talk, CUT);
+}
+
+/// Two Logons of 89 bytes each, which ask for two intervals, and a report.
+const TWO_LOGONS: &str = "\
+raw 8=FIXT.1.1|9=66|35=A|49=E1|56=GIVEUP|34=1|52=20260105-09:00:00|98=0|108=20|1137=9|10=003|
+raw 8=FIXT.1.1|9=66|35=A|49=E1|56=GIVEUP|34=1|52=20260105-09:00:00|98=0|108=30|1137=9|10=004|
+in AE 2 571=R1|880=M1|55=XF6|32=10|31=101.5|75=20260105|552=1|54=1|1=H1|
+";
+
+/// What is sent where the second Logon is the first message.
+const BY_THE_SECOND: &str = "\
+out A 1 98=0|108=30|1137=9|
+out AR 2 571=R1|880=M1|939=0|";
+
+/// What is sent where the second Logon is garbled.
+const BY_THE_FIRST: &str = "\
+out A 1 98=0|108=20|1137=9|
+out AR 2 571=R1|880=M1|939=0|";
+
+/// Asserts that two Logons and a report, with a byte one higher at each of these places, enter the report and are answered by this.
+fn check_raised(rt: &impl Abort, alloc: Global, from: usize, to: usize, answers: &str) {
+    let talk = Talk::of(alloc, "E1", TWO_LOGONS).expect(rt, "memory");
+    let answers = Talk::of(alloc, "E1", answers).expect(rt, "memory");
+    let expected = front_told(alloc, "2 entries, done: all", &answers.output).expect(rt, "memory");
+    for place in from..to {
+        let row = format!(in alloc; "byte {place}").expect(rt, "memory");
+        let told = told_raised(alloc, "DAY 20260105/", &talk, place);
+        check_told(rt, &row, told, &expected);
+    }
+}
+
+#[test]
+fn a_garbled_message_changes_nothing_whichever_byte_is_another(rt: HostRuntime) {
+    check_raised(&rt, rt.alloc(), 0, 89, BY_THE_SECOND);
+    check_raised(&rt, rt.alloc(), 89, 178, BY_THE_FIRST);
 }
 
 /// 4,200 reports on no day, each refused, and a ResendRequest for all that was sent: the last 4,096 refusals once more, after one gap fill.

@@ -32,7 +32,7 @@ fn read_sheet<R: Read>(alloc: Global, reads: &mut CountedReads<R>) -> Result<She
     'reading: while !reads.is_spent() {
         match reads.read(&mut buffer) {
             Ok(0) => return Ok(reading.end()?),
-            Ok(count) => reading = reading.take(&buffer[..count])?,
+            Ok(count) => reading.take(&buffer[..count])?,
             Err(_) => return Err(ScriptError::Read),
         }
     }

@@ -29,6 +29,7 @@ giveup replay house < DAY 20260105/DAY/ -> 1 house ; 1 OK/; giveup: bad line 2/
 giveup replay gone < DAY 20260105/ -> 1 gone ; ; giveup: reference: ReadFault/
 giveup replay bad < DAY 20260105/ -> 1 bad ; ; giveup: reference: BadRow 18/
 giveup fix E1 house < 8=FIXT.1.1|9=66|35=A|49=E1|56=GIVEUP|34=1|52=20260105-09:00:00|98=0|108=30|1137=9|10=004| -> 0 house ; 8=FIXT.1.1|9=70|35=A|49=GIVEUP|56=E1|34=1|52=20260105-09:00:00.000|98=0|108=30|1137=9|10=189|;
+giveup fix E1 house < 8=FIXT.1.1|9=66|35=A|49=E2|56=GIVEUP|34=1|52=20260105-09:00:00|98=0|108=30|1137=9|10=005| -> 0 house ; ;
 giveup fix E1 house --script day < 8=FIXT.1.1|9=66|35=A|49=E1|56=GIVEUP|34=1|52=20260105-09:00:00|98=0|108=30|1137=9|10=004|8=FIXT.1.1|9=112|35=AE|49=E1|56=GIVEUP|34=2|52=20260105-09:00:00|571=R1|880=M1|55=XF6|32=10|31=101.5|75=20260105|552=1|54=1|1=H1|10=236| -> 0 house day ; 8=FIXT.1.1|9=70|35=A|49=GIVEUP|56=E1|34=1|52=20260105-09:00:00.000|98=0|108=30|1137=9|10=189|8=FIXT.1.1|9=72|35=AR|49=GIVEUP|56=E1|34=2|52=20260105-09:00:00.000|571=R1|880=M1|939=0|10=131|;
 giveup fix E1 house --script gone < x -> 1 house gone ; ; giveup: read fault/
 giveup fix E1 house --script two < x -> 1 house two ; ; giveup: bad line 2/
