@@ -9,8 +9,8 @@ ghost use Rattle.gu_rules.specs.Views.{shown_at};
 ghost use Rattle.gu_book.specs.Current.{HasRooms, ShowsAll};
 
 use crate::met::MetRooms;
+use crate::showing::Showing;
 use crate::totals::Totals;
-use crate::views::shown_offer;
 use gu_limits::LimitTable;
 use gu_ref::Reference;
 use gu_terms::Group;
@@ -30,32 +30,27 @@ fn behind<'a>(offers: &'a [ViewOffer], first: &ViewOffer) -> Option<&'a [ViewOff
 
 /// What comes after the offer of a number, where offers begin with it as a view shows it; all of them, where a view shows none.
 fn behind_number<'a>(
-    reference: &Reference,
-    totals: &Totals,
+    showing: &mut Showing<'_>,
     number: u64,
     offers: &'a [ViewOffer],
 ) -> Option<&'a [ViewOffer]>
-    ensures begins { IfSome result (λ rest. offers.now ≡ option_to_list (shown_at reference.now totals.now.offers number) ++ rest.now) }
-    ensures exactly { (rest : List OfferOf) → offers.now ≡ option_to_list (shown_at reference.now totals.now.offers number) ++ rest → IsSome result }
+    ensures begins { IfSome result (λ rest. offers.now ≡ option_to_list (shown_at showing.old.0 showing.old.1 number) ++ rest.now) }
+    ensures exactly { (rest : List OfferOf) → offers.now ≡ option_to_list (shown_at showing.old.0 showing.old.1 number) ++ rest → IsSome result }
+    ensures same { showing.new ≡ showing.old }
 {
-    match shown_offer(reference, totals, number) {
+    match showing.offer(number) {
         Some(shown) => behind(offers, &shown),
         None => Some(offers),
     }
 }
 
 /// Whether these offers are those of the numbers, as a view shows them.
-fn shows_offers(
-    reference: &Reference,
-    totals: &Totals,
-    numbers: &[u64],
-    offers: &[ViewOffer],
-) -> bool
-    ensures { IsTrue result ↔ (offers.now ≡ filter_map (shown_at reference.now totals.now.offers) numbers.now) }
+fn shows_offers(showing: &mut Showing<'_>, numbers: &[u64], offers: &[ViewOffer]) -> bool
+    ensures { IsTrue result ↔ (offers.now ≡ filter_map (shown_at showing.old.0 showing.old.1) numbers.now) }
 {
     let mut rest = offers;
     for number in numbers {
-        let Some(others) = behind_number(reference, totals, *number, rest) else {
+        let Some(others) = behind_number(showing, *number, rest) else {
             return false;
         };
         rest = others;
@@ -85,6 +80,6 @@ pub fn shows_all(reference: &Reference, totals: &Totals, view: &View, met: &mut 
 {
     let group = view.group();
     let numbers = totals.offers.open_numbers(group);
-    shows_offers(reference, totals, numbers, view.offers())
+    shows_offers(&mut Showing::new(reference, totals), numbers, view.offers())
         && shows_rooms(&totals.limits, &group, view.rooms(), met)
 }

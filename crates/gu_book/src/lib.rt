@@ -9,6 +9,7 @@ mod error;
 mod limits;
 mod met;
 mod positions;
+mod showing;
 mod sweeping;
 mod taking;
 mod telling;

@@ -9,36 +9,14 @@ ghost use Rattle.gu_view.specs.View.{IsNested};
 ghost use Rattle.gu_book.specs.Counted.{version_in};
 ghost use Rattle.gu_book.specs.Shown.{rooms_in, view_in};
 
+use crate::showing::Showing;
 use crate::totals::Totals;
 use crate::versions::Versions;
-use gu_limits::{LimitTable, path_between};
+use gu_limits::LimitTable;
 use gu_ref::Reference;
-use gu_terms::{Group, LimitKey, OfferNo};
+use gu_terms::{Group, LimitKey};
 use gu_view::{KeyedOffers, Room, View, ViewOffer};
 use std::alloc::{AllocError, Global};
-
-/// The keys that each path is expected to bring to a view: as many as there are on one without a guarantor.
-const EXPECTED_KEYS: usize = 4;
-
-/// The offer of a number, as a view shows it: what is left of it, its agreement and its path. It takes no memory.
-pub fn shown_offer(reference: &Reference, totals: &Totals, number: u64) -> Option<ViewOffer>
-    ensures { result ≡ shown_at reference.now totals.now.offers number }
-{
-    // There are numbers for all offers, and each agreement has a path.
-    // Shows the prover: what the types of the offers and the reference keep.
-    totals.offers.rules();
-    reference.rules();
-    let number = OfferNo::new(number)?;
-    let offer = totals.offers.get(number)?;
-    let (agreement, path) = path_between(reference, offer.firm, offer.account)?;
-    let lots = totals.offers.left(number);
-    Some(ViewOffer {
-        number,
-        lots,
-        agreement,
-        path,
-    })
-}
 
 /// Appends an offer, if there is one.
 fn append_offer(offers: &mut Vec<ViewOffer>, offer: Option<ViewOffer>) -> Result<(), AllocError>
@@ -74,9 +52,10 @@ fn offers_of(
 ) -> Result<Vec<ViewOffer>, AllocError>
     ensures { IfOk result (λ offers. offers.items ≡ filter_map (shown_at reference.now totals.now.offers) numbers.now) }
 {
+    let mut showing = Showing::new(reference, totals);
     let mut offers = Vec::with_capacity(alloc, numbers.len())?;
     for number in numbers {
-        append_offer(&mut offers, shown_offer(reference, totals, *number))?;
+        append_offer(&mut offers, showing.offer(*number))?;
     }
     Ok(offers)
 }
@@ -119,7 +98,7 @@ pub fn view_of(
     totals.limits.rules();
     let numbers = totals.offers.open_numbers(*group);
     let offers = offers_of(alloc, reference, totals, numbers)?;
-    let offers = KeyedOffers::new(alloc, offers, numbers.len().saturating_mul(EXPECTED_KEYS))?;
+    let offers = KeyedOffers::new(alloc, offers)?;
     let rooms = rooms_of(alloc, &totals.limits, group, offers.keys())?;
     View::of(alloc, *group, versions.of(group), offers, rooms)
 }

@@ -1,6 +1,7 @@
 -- The `==` of keys and agreements, by which sets find them.
-use Rattle.std.proofs.Common.{◌≡◌, Bool, List, ◌∙◌, rules}
+use Rattle.std.proofs.Common.{◌≡◌, ℕ, Bool, true, List, ap, ◌∙◌, rules}
 use Rattle.std.specs.List.{list_any}
+use Rattle.std.proofs.lemmas.Slice.Eq.{bytes_eq-Decides}
 use Rattle.gu_terms.specs.LimitKeys.{key_eq, has_key}
 use Rattle.gu_terms.specs.contracts.agreement.AgreementIdPartialEq.TheImpl as agreement
 use Rattle.gu_terms.specs.declared.agreement.AgreementId.{AgreementId}
@@ -19,3 +20,7 @@ same = agreement.eq-value.it
 
 pub same_is : (a b : AgreementId) → same a b ≡ key_eq (Agr a) (Agr b)
 same_is a b = search rules
+
+-- agreements that it finds equal are one
+pub same-one : (a b : AgreementId) → same a b ≡ true → a ≡ b
+same-one a b hit = ap (λ (name : List ℕ). record { name = name }) ((bytes_eq-Decides a.name b.name).0 hit)

@@ -1,8 +1,10 @@
 -- Lists that lie one after another in one list.
 use Rattle.std.proofs.Common.{◌≡◌, ℕ, zero, suc, ◌-◌, ◌<◌, ◌≤◌, List, [], ◌∷◌, ◌++◌, Some, length, take, drop, get_or, arith, length-append, ap, ◌∙◌, refl}
+use Rattle.std.specs.List.{AllByRecursion}
 use Rattle.std.specs.Prelude.{slice_range, slice_get}
-use Rattle.std.proofs.lemmas.List.{drop_at, drop-append-le, take_all, take-append-le, length-drop}
-use Rattle.gu_view.specs.Keeping.{lists_from, AreEnds}
+use Rattle.std.proofs.Math.Seq.{get_or-append_seam}
+use Rattle.std.proofs.lemmas.List.{get_or_append_left, drop_at, drop-append-le, take_all, take-append-le, length-drop}
+use Rattle.gu_view.specs.Keeping.{lists_at, lists_from, AreEnds}
 
 -- what lies after the first list of a joined pair
 range-behind : (joined list : List ℕ) (from : ℕ) → from ≡ length joined → slice_range (joined ++ list) from (length (joined ++ list)) ≡ list
@@ -32,6 +34,14 @@ lists_from-push joined list from (end ∷ ends) h =
 pub AreEnds-push : (whole more from : ℕ) (ends : List ℕ) → whole ≤ more → AreEnds whole from ends → AreEnds more from (ends ++ more ∷ [])
 AreEnds-push whole more from [] le h = (omega arith, refl)
 AreEnds-push whole more from (end ∷ ends) le h = (h.0, AreEnds-push whole more end ends le h.1)
+
+-- and so it does where lists are kept once, the others at their places among those
+pub lists_at-push : (kept : List (List ℕ)) (list at : List ℕ) → AllByRecursion (λ place. place < length kept) at
+    → lists_at (kept ++ list ∷ []) (at ++ length kept ∷ []) ≡ lists_at kept at ++ list ∷ []
+lists_at-push kept list [] within = ap (λ l. l ∷ []) (get_or-append_seam kept list [] [])
+lists_at-push kept list (place ∷ at) within =
+    ap (λ l. l ∷ lists_at (kept ++ list ∷ []) (at ++ length kept ∷ [])) (get_or_append_left kept (list ∷ []) [] place within.0)
+    ∙ ap (λ ls. get_or kept place [] ∷ ls) (lists_at-push kept list at within.1)
 
 -- as many lists as ends
 pub length-lists_from : (joined : List ℕ) (from : ℕ) (ends : List ℕ) → length (lists_from joined from ends) ≡ length ends

@@ -1,15 +1,16 @@
 -- Keys as they are mentioned: their order, and their places.
-use Rattle.std.proofs.Common.{◌≡◌, ℕ, ◌+◌, ◌<◌, ◌≤◌, ◌||◌, not, Bool, true, false, cond, List, [], ◌∷◌, ◌++◌, length, map, take, get_or, refl, sym, ap, ◌∙◌, arith, inl, inr, append-nil, append_assoc, length-append}
+use Rattle.std.proofs.Common.{◌≡◌, ℕ, ◌+◌, ◌-◌, ◌<◌, ◌≤◌, ◌||◌, not, Bool, true, false, cond, List, [], ◌∷◌, ◌++◌, length, map, take, get_or, refl, sym, ap, ◌∙◌, subst, arith, inl, inr, append-nil, append_assoc, length-append}
 use Rattle.std.specs.Prelude.{filter}
 use Rattle.std.specs.List.{AllByRecursion, flat_map, list_any, position_or_len}
 use Rattle.std.proofs.lemmas.Bool.{cases_Bool, or_left, or_right}
-use Rattle.std.proofs.lemmas.List.{flat_map_more, map_more, take_more}
-use Rattle.std.proofs.lemmas.List.Elements.{recursion_from_All, filter-append}
+use Rattle.std.proofs.lemmas.List.{flat_map_more, get_or-map, get_or-take, length-map, length-take, map_more, take_more}
+use Rattle.std.proofs.lemmas.List.Elements.{All-from_recursion, recursion_from_All, filter-append}
 use Rattle.std.proofs.lemmas.List.Folds.{list_any_at, list_any-append}
 use Rattle.gu_terms.proofs.KeyLemmas.{eq, eq_is, key_eq-refl, key_eq-sym}
 use Rattle.gu_terms.proofs.Lists.{along, list_any-agree, position_or_len-agree}
 use Rattle.gu_terms.specs.LimitKeys.{key_eq, has_key}
 use Rattle.gu_terms.specs.declared.limit_key.LimitKey.{LimitKey}
+use Rattle.gu_view.specs.Keeping.{AreMentioned}
 use Rattle.gu_view.specs.View.{firsts, keys_of, place_among}
 use Rattle.gu_view.specs.declared.view.ViewOffer.{ViewOffer}
 use Rattle.gu_view.proofs.RoomLemmas.{has_key-others, has_key-keys_of, on_own_path}
@@ -32,6 +33,15 @@ firsts_more (x ∷ keys) k = go (firsts_more keys k) (has_key (firsts keys) k) r
           | inl same ↦ rw (before, filter-append (λ j. not (key_eq x j)) (firsts keys) (k ∷ []), same) (ap (λ l. x ∷ l) (append-nil (filter (λ j. not (key_eq x j)) (firsts keys))))
           | inr other ↦ rw (before, filter-append (λ j. not (key_eq x j)) (firsts keys) (k ∷ []), other, has_key-others x k (firsts keys) other, missing) refl
         ]
+
+-- keys that are mentioned already are mentioned once more
+pub firsts-known : (keys path : List LimitKey) → AllByRecursion (λ k. has_key (firsts keys) k ≡ true) path → firsts (keys ++ path) ≡ firsts keys
+firsts-known keys [] known = ap firsts (append-nil keys)
+firsts-known keys (k ∷ path) known =
+    let same : firsts (keys ++ k ∷ []) ≡ firsts keys = firsts_more keys k ∙ rw known.0 refl in
+    ap firsts (sym (append_assoc keys (k ∷ []) path))
+    ∙ firsts-known (keys ++ k ∷ []) path (subst (λ (firsts' : List LimitKey). AllByRecursion (λ k. has_key firsts' k ≡ true) path) (sym same) known.1)
+    ∙ same
 
 -- keys with one more, where it isn't one of them
 abbrev pub with_key : List LimitKey → LimitKey → List LimitKey
@@ -142,3 +152,25 @@ pub all_places-more : (keys : List LimitKey) (offers : List ViewOffer) (made : L
 all_places-more keys offers made i o list inside is are at =
     let places : ViewOffer → List ℕ = λ o. map (place_among keys) o.path in
     ap (λ l. l ++ list ∷ []) are ∙ ap (λ l. map places (take i offers) ++ l ∷ []) (at ∙ ap places is) ∙ sym (map_more places offers i o inside)
+
+-- so is one more offer, of the path of the one before it: its keys are mentioned, and its list is the last
+pub mentioned_again : (offers : List ViewOffer) (keys : List LimitKey) (places : List (List ℕ)) (i : ℕ) (before o : ViewOffer) → 0 < i → i < length offers
+    → before ≡ get_or offers (i - 1) before → o ≡ get_or offers i o → before.path ≡ o.path → AreMentioned (take i offers) keys places
+    → AreMentioned (take (i + 1) offers) keys (places ++ get_or places (length places - 1) [] ∷ [])
+mentioned_again offers keys places i before o some inside before_is is same h =
+    let seen = take i offers in
+    let list_of : ViewOffer → List ℕ = λ o. map (place_among keys) o.path in
+    let IsKnown : ViewOffer → Type 0 = λ o. AllByRecursion (λ k. has_key (keys_of seen) k ≡ true) o.path in
+    let long : length seen ≡ i = omega (arith, length-take i offers) in
+    let many : length places ≡ i = omega (arith, ap length h.places_are, length-map seen list_of) in
+    let last : get_or seen (i - 1) before ≡ before = get_or-take i offers (i - 1) before (omega arith) ∙ sym before_is in
+    let known : IsKnown before = subst IsKnown last (All-from_recursion IsKnown seen (all_known seen) (i - 1) before (omega arith)) in
+    record {
+      keys_are = h.keys_are
+          ∙ sym (firsts-known (flat_map (λ (o : ViewOffer). o.path) seen) o.path (subst (AllByRecursion (λ k. has_key (keys_of seen) k ≡ true)) same known))
+          ∙ keys_of-more offers i o inside is;
+      few = omega (arith, h.few, long, length-take (i + 1) offers);
+      places_are = all_places-more keys offers places i o (get_or places (length places - 1) []) inside is h.places_are
+          (ap (λ n. get_or places (n - 1) []) many ∙ ap (λ (lists : List (List ℕ)). get_or lists (i - 1) []) h.places_are
+          ∙ get_or-map list_of seen (i - 1) before [] (omega arith) ∙ ap list_of last ∙ ap (map (place_among keys)) same);
+    }

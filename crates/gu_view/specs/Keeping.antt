@@ -1,5 +1,5 @@
 -- Machinery: what a view keeps beside what it shows, and what is known while it is made.
-use Rattle.std.specs.Prelude.{◌≡◌, ◌≢◌, ℕ, ◌+◌, ◌<◌, ◌≤◌, List, [], ◌∷◌, ◌==◌, Option, None, All, AllPairs, IsTrue, length, map, slice_index, slice_range}
+use Rattle.std.specs.Prelude.{◌≡◌, ◌≢◌, ℕ, ◌+◌, ◌*◌, ◌<◌, ◌≤◌, List, [], ◌∷◌, ◌==◌, Option, None, All, AllPairs, IsTrue, length, map, slice_index, slice_index_or, slice_range}
 use Rattle.std.specs.List.{list_any}
 use Rattle.gu_terms.specs.LimitKeys.{has_key}
 use Rattle.gu_terms.specs.declared.limit_key.LimitKey.{LimitKey}
@@ -18,6 +18,16 @@ lists_from joined from (end ∷ ends) = slice_range joined from end ∷ lists_fr
 abbrev pub AreEnds : ℕ → ℕ → List ℕ → Type 0
 AreEnds whole from [] = from ≡ whole
 AreEnds whole from (end ∷ ends) = (from ≤ end) × AreEnds whole end ends
+
+-- the lists at these places
+abbrev pub lists_at : List (List ℕ) → List ℕ → List (List ℕ)
+lists_at lists places = map (λ place. slice_index_or lists place []) places
+
+-- the keys of these offers' paths in order of first mention, beside the places of each path's keys
+pub record AreMentioned (offers : List ViewOffer) (keys : List LimitKey) (places : List (List ℕ)) : Type 0 where
+  pub keys_are : keys ≡ keys_of offers
+  pub few : length keys ≤ 5 * length offers
+  pub places_are : places ≡ map (λ o. map (place_among keys) o.path) offers
 
 -- offers of which none is bad and no path differs, beside their keys, and the places of each path's keys
 pub record IsKeyed (offers : List ViewOffer) (keys : List LimitKey) (places : List (List ℕ)) : Type 0 where

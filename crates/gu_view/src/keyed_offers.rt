@@ -1,13 +1,13 @@
 //! Offers with the keys of their paths, in order of first mention.
 
-ghost use Rattle.std.specs.Prelude.{◌≡◌, ◌+◌, ◌*◌, ◌≤◌, ◌^◌, ◌++◌, ◌∷◌, [], None, List, IfOk, IsTrue, OnOk, length, map};
+ghost use Rattle.std.specs.Prelude.{◌≡◌, ◌+◌, ◌<◌, ◌≤◌, ◌^◌, ◌++◌, ◌∷◌, [], None, List, AllPairs, IfOk, IsTrue, OnOk, length, map, take};
 ghost use Rattle.gu_terms.specs.LimitKeys.{has_key};
 ghost use Rattle.gu_terms.specs.declared.limit_key.LimitKey.{LimitKey};
-ghost use Rattle.gu_view.specs.Keeping.{IsKeyed};
+ghost use Rattle.gu_view.specs.Keeping.{AreMentioned, IsKeyed};
 ghost use Rattle.gu_view.specs.Making.{bad_offer, path_differs};
 ghost use Rattle.gu_view.specs.View.{firsts, keys_of, place_among};
 
-use crate::place_lists::PlaceLists;
+use crate::shared_lists::SharedLists;
 use crate::view::ViewOffer;
 use gu_terms::LimitKey;
 use indexmap::IndexSet;
@@ -23,7 +23,7 @@ pub struct KeyedOffers {
     offers: Vec<ViewOffer>,
     keys: IndexSet<LimitKey>,
     /// For each offer the places of its path's keys among the keys.
-    places: PlaceLists,
+    places: SharedLists,
 }
 
 impl Model for KeyedOffers {
@@ -55,7 +55,7 @@ impl Drop for KeyedOffers {
 /// Mentions the keys of a path, and adds the list of their places.
 fn mention(
     keys: &mut IndexSet<LimitKey>,
-    places: &mut PlaceLists,
+    places: &mut SharedLists,
     path: &[LimitKey],
 ) -> Result<(), AllocError>
     requires room { length keys.old.keys + length path.now ≤ 2 ^ 32 }
@@ -77,40 +77,54 @@ fn mention(
     places.push(&list[..path.len()])
 }
 
+/// Mentions the keys of the path of the offer at a place, after those before it. Where the offer before it is of the same agreement,
+/// both share the list of places.
+fn mention_offer(
+    keys: &mut IndexSet<LimitKey>,
+    places: &mut SharedLists,
+    offers: &[ViewOffer],
+    at: usize,
+) -> Result<(), AllocError>
+    requires inside { (at < length offers.now) × (length offers.now ≤ 4096) }
+    requires one_path { AllPairs (λ a b. a.agreement ≡ b.agreement → a.path ≡ b.path) offers.now }
+    requires before { AreMentioned (take at offers.now) keys.old.keys places.old }
+    ensures { OnOk result (AreMentioned (take (at + 1) offers.now) keys.new.keys places.new) }
+{
+    if at > 0 && offers[at - 1].agreement == offers[at].agreement {
+        return places.push_again();
+    }
+    mention(keys, places, offers[at].path.keys())?;
+    Ok(())
+}
+
 /// Mentions the keys of the offers' paths, in order, and adds for each offer the list of their places.
 fn mention_all(
     keys: &mut IndexSet<LimitKey>,
-    places: &mut PlaceLists,
+    places: &mut SharedLists,
     offers: &[ViewOffer],
 ) -> Result<(), AllocError>
-    requires none { keys.old.keys ≡ [] }
-    requires nowhere { places.old ≡ [] }
+    requires none { (keys.old.keys ≡ []) × (places.old ≡ []) }
     requires few { length offers.now ≤ 4096 }
-    ensures keys { OnOk result (keys.new.keys ≡ keys_of offers.now) }
-    ensures few { OnOk result (length keys.new.keys ≤ 5 * length offers.now) }
-    ensures places { OnOk result (places.new ≡ map (λ o. map (place_among keys.new.keys) o.path) offers.now) }
+    requires one_path { AllPairs (λ a b. a.agreement ≡ b.agreement → a.path ≡ b.path) offers.now }
+    ensures { OnOk result (AreMentioned offers.now keys.new.keys places.new) }
 {
-    for offer in offers {
-        let path = offer.path.keys();
-        mention(keys, places, path)?;
+    for at in 0..offers.len() {
+        mention_offer(keys, places, offers, at)?;
     }
     Ok(())
 }
 
-/// The keys of the offers' paths, in order of first mention, and for each offer the places of its path's keys. So many keys are
-/// expected.
+/// The keys of the offers' paths, in order of first mention, and for each offer the places of its path's keys.
 fn keyed(
     alloc: Global,
     offers: &[ViewOffer],
-    expected: usize,
-) -> Result<(IndexSet<LimitKey>, PlaceLists), AllocError>
-    requires { length offers.now ≤ 4096 }
-    ensures keys { IfOk result (λ made. made.0.keys ≡ keys_of offers.now) }
-    ensures few { IfOk result (λ made. length made.0.keys ≤ 5 * length offers.now) }
-    ensures places { IfOk result (λ made. made.1 ≡ map (λ o. map (place_among made.0.keys) o.path) offers.now) }
+) -> Result<(IndexSet<LimitKey>, SharedLists), AllocError>
+    requires few { length offers.now ≤ 4096 }
+    requires one_path { AllPairs (λ a b. a.agreement ≡ b.agreement → a.path ≡ b.path) offers.now }
+    ensures { IfOk result (λ made. AreMentioned offers.now made.0.keys made.1) }
 {
-    let mut places = PlaceLists::with_room(alloc, offers.len(), offers.len() * MOST_KEYS)?;
-    let mut keys = IndexSet::with_capacity(alloc, expected)?;
+    let mut places = SharedLists::with_room(alloc, offers.len())?;
+    let mut keys = IndexSet::new(alloc);
     match mention_all(&mut keys, &mut places, offers) {
         Ok(()) => Ok((keys, places)),
         Err(refused) => {
@@ -121,13 +135,13 @@ fn keyed(
 }
 
 impl KeyedOffers {
-    /// These offers with their keys, of which so many are expected.
-    pub fn new(alloc: Global, offers: Vec<ViewOffer>, expected: usize) -> Result<Self, AllocError>
+    /// These offers with their keys.
+    pub fn new(alloc: Global, offers: Vec<ViewOffer>) -> Result<Self, AllocError>
         requires numbers { bad_offer offers.items ≡ None }
         requires paths { path_differs offers.items ≡ None }
         ensures { IfOk result (λ made. made ≡ offers.items) }
     {
-        let (keys, places) = keyed(alloc, &offers, expected)?;
+        let (keys, places) = keyed(alloc, &offers)?;
         Ok(KeyedOffers {
             offers,
             keys,
@@ -150,7 +164,7 @@ impl KeyedOffers {
     }
 
     /// The offers, their keys, and the places of each path's keys.
-    pub(crate) fn into_parts(self) -> (Vec<ViewOffer>, IndexSet<LimitKey>, PlaceLists)
+    pub(crate) fn into_parts(self) -> (Vec<ViewOffer>, IndexSet<LimitKey>, SharedLists)
         ensures offers { result.0.items ≡ self }
         ensures keyed { IsKeyed self result.1.keys result.2 }
     {

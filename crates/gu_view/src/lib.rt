@@ -10,6 +10,7 @@ mod making;
 mod members;
 mod nesting;
 mod place_lists;
+mod shared_lists;
 mod takes;
 mod view;
 

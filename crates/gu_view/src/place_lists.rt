@@ -42,13 +42,14 @@ fn part(joined: &[u32], start: usize, end: usize) -> &[u32]
 }
 
 impl PlaceLists {
-    /// No lists, with room for so many of so many places together.
-    pub fn with_room(alloc: Global, lists: usize, places: usize) -> Result<Self, AllocError>
-        ensures { IfOk result (λ made. made ≡ []) }
+    /// No lists.
+    pub fn new(alloc: Global) -> Self
+        ensures { result ≡ [] }
     {
-        let joined = Vec::with_capacity(alloc, places)?;
-        let ends = Vec::with_capacity(alloc, lists)?;
-        Ok(PlaceLists { joined, ends })
+        PlaceLists {
+            joined: Vec::new(alloc),
+            ends: Vec::new(alloc),
+        }
     }
 
     /// The lists that end at these places of one list.
@@ -57,6 +58,13 @@ impl PlaceLists {
         ensures { result ≡ lists_from joined.items 0 ends.items }
     {
         PlaceLists { joined, ends }
+    }
+
+    /// How many lists there are.
+    pub fn count(&self) -> usize
+        ensures { result ≡ length self.now }
+    {
+        self.ends.len()
     }
 
     /// Adds a list after the others.

@@ -14,6 +14,7 @@ use crate::making::{bad_offer, path_differs, rooms_in_order};
 use crate::members::all_members;
 use crate::nesting::{are_whole, keys_agree};
 use crate::place_lists::PlaceLists;
+use crate::shared_lists::SharedLists;
 use gu_terms::{AgreementId, Group, LimitKey, MOST_LIMIT, OfferNo, Path};
 use indexmap::IndexSet;
 use std::alloc::{AllocError, Global};
@@ -47,7 +48,7 @@ pub struct View {
     /// The rooms' keys, to look one up.
     keys: IndexSet<LimitKey>,
     /// For each offer the places of its path's keys among the rooms.
-    places: PlaceLists,
+    places: SharedLists,
     /// For each room the places of the offers with its key.
     members: PlaceLists,
 }
@@ -107,7 +108,7 @@ impl View {
         if let Some(number) = path_differs(alloc, &offers, rooms.len().min(offers.len()))? {
             return Err(ViewError::PathDiffers(number));
         }
-        let offers = KeyedOffers::new(alloc, offers, rooms.len().min(MOST_ROOMS))?;
+        let offers = KeyedOffers::new(alloc, offers)?;
         View::with_rooms(alloc, group, version, offers, &rooms)?.ok_or(ViewError::BadRooms)
     }
 

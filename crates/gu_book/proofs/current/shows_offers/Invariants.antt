@@ -3,5 +3,6 @@ use Rattle.std.specs.List.{filter_map}
 use Rattle.gu_rules.specs.Views.{shown_at}
 use Rattle.gu_book.proofs.current.shows_offers.Lts.Given as given
 
-abbrev pub invariant-loop-number : given.Live-loop-number → Type 0
-invariant-loop-number l = l.offers ≡ filter_map (shown_at l.reference l.totals.offers) (take l.number-index l.numbers) ++ l.rest
+pub record invariant-loop-number (l : given.Live-loop-number) : Type 0 where
+  pub same : l.showing ≡ l.fn.showing
+  pub begins : l.offers ≡ filter_map (shown_at l.fn.showing.0 l.fn.showing.1) (take l.number-index l.numbers) ++ l.rest

@@ -1,7 +1,9 @@
-use Rattle.std.proofs.Common.{◌++◌, ◌∙◌, List, ap, get_or, sym, take}
+use Rattle.std.proofs.Common.{◌≡◌, ◌++◌, ◌∙◌, List, ap, get_or, sym, take}
 use Rattle.std.specs.List.{filter_map}
 use Rattle.std.specs.Option.{option_to_list}
 use Rattle.std.proofs.lemmas.List.{get_or_default}
+use Rattle.gu_ref.specs.Tables.{Tables}
+use Rattle.gu_offers.specs.Rows.{Row}
 use Rattle.gu_view.specs.declared.view.ViewOffer.{ViewOffer}
 use Rattle.gu_rules.specs.Views.{shown_at}
 use Rattle.gu_book.proofs.LimitLemmas.{filter_map_next}
@@ -13,7 +15,12 @@ loop-number-preserved c =
     let numbers = c.args.numbers.now in
     let number = get_or numbers c.loop-number.number-index 0 in
     let so_far = filter_map given (take c.loop-number.number-index numbers) in
-    c.in_ok-append_offer.ensures
-    ∙ ap (λ (offers : List ViewOffer). offers ++ option_to_list c.shown_offer.result) c.loop-number.invariant
-    ∙ ap (λ (offer : List ViewOffer). so_far ++ offer) (ap option_to_list c.shown_offer.ensures)
-    ∙ sym (filter_map_next given numbers c.loop-number.number-index number c.loop-number-test.true (get_or_default numbers c.loop-number.number-index 0 number c.loop-number-test.true))
+    let same = c.loop-number.invariant.same in
+    let shown : c.offer.result ≡ given number = c.offer.ensures.shown ∙ ap (λ (s : Tables × List Row). shown_at s.0 s.1 number) same in
+    record {
+      same = c.offer.ensures.same ∙ same;
+      so_far = c.in_ok-append_offer.ensures
+          ∙ ap (λ (offers : List ViewOffer). offers ++ option_to_list c.offer.result) c.loop-number.invariant.so_far
+          ∙ ap (λ (offer : List ViewOffer). so_far ++ offer) (ap option_to_list shown)
+          ∙ sym (filter_map_next given numbers c.loop-number.number-index number c.loop-number-test.true (get_or_default numbers c.loop-number.number-index 0 number c.loop-number-test.true));
+    }

@@ -1,0 +1,106 @@
+//! Open offers, as a view shows them.
+
+ghost use Rattle.std.specs.Prelude.{◌≡◌, IfSome};
+ghost use Rattle.std.specs.Option.{option_map};
+ghost use Rattle.gu_ref.specs.Reference.{agreement_between};
+ghost use Rattle.gu_rules.specs.Views.{shown_at};
+ghost use Rattle.gu_book.specs.Shown.{IsWay};
+
+use crate::totals::Totals;
+use gu_limits::path_between;
+use gu_ref::Reference;
+use gu_terms::{AccountId, AgreementId, FirmId, OfferNo, Path};
+use gu_view::ViewOffer;
+use std::marker::Model;
+
+/// The agreement between an executing firm and an account, and its path.
+#[derive(Clone, Copy)]
+pub struct Way {
+    firm: FirmId,
+    account: AccountId,
+    agreement: AgreementId,
+    path: Path,
+}
+
+/// Shows open offers as a view does. The last agreement is kept with its path, since the next offer is mostly of the same one.
+/// To a contract it is the reference and the offers that it shows.
+#[derive(Drop)]
+pub struct Showing<'a> {
+    reference: &'a Reference,
+    totals: &'a Totals,
+    last: Option<Way>,
+}
+
+impl<'a> Model for Showing<'a> {
+    ghost use Rattle.std.specs.Prelude.{List, IfSome};
+    ghost use Rattle.gu_ref.specs.Tables.{Tables};
+    ghost use Rattle.gu_offers.specs.Rows.{Row};
+    ghost use Rattle.gu_book.specs.Shown.{IsWay};
+
+    ghost Value = { Tables × List Row };
+
+    ghost view = { λ s. (s.reference.now, s.totals.now.offers) };
+
+    ghost invariant = { λ s. IfSome s.last (IsWay s.reference.now) };
+}
+
+/// The agreement between an executing firm and an account, with its path: the last one, where it is theirs.
+fn way_between(
+    reference: &Reference,
+    last: &Option<Way>,
+    firm: FirmId,
+    account: AccountId,
+) -> Option<Way>
+    requires { IfSome last.now (IsWay reference.now) }
+    ensures agreement { option_map (λ w. w.agreement) result ≡ agreement_between reference.now firm account }
+    ensures way { IfSome result (IsWay reference.now) }
+{
+    if let Some(way) = last {
+        if way.firm == firm && way.account == account {
+            return Some(*way);
+        }
+    }
+    let (agreement, path) = path_between(reference, firm, account)?;
+    Some(Way {
+        firm,
+        account,
+        agreement,
+        path,
+    })
+}
+
+impl<'a> Showing<'a> {
+    /// Shows the offers of these totals.
+    pub fn new(reference: &'a Reference, totals: &'a Totals) -> Self
+        ensures { result ≡ (reference.now, totals.now.offers) }
+    {
+        Showing {
+            reference,
+            totals,
+            last: None,
+        }
+    }
+
+    /// The offer of a number, as a view shows it: what is left of it, its agreement and its path. It takes no memory.
+    pub fn offer(&mut self, number: u64) -> Option<ViewOffer>
+        ensures shown { result ≡ shown_at self.old.0 self.old.1 number }
+        ensures same { self.new ≡ self.old }
+    {
+        // There are numbers for all offers, and each agreement has a path.
+        // Shows the prover: what the types of the offers and the reference keep.
+        self.totals.offers.rules();
+        self.reference.rules();
+        let number = OfferNo::new(number)?;
+        let offer = self.totals.offers.get(number)?;
+        let reference = self.reference;
+        let way = way_between(reference, &self.last, offer.firm, offer.account)?;
+        let shown = ViewOffer {
+            number,
+            lots: self.totals.offers.left(number),
+            agreement: way.agreement,
+            path: way.path,
+        };
+        self.last = Some(way);
+        Some(shown)
+    }
+}
