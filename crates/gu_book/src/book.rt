@@ -10,6 +10,7 @@ ghost use Rattle.gu_rules.specs.Notices.{IsStretch, notices_of};
 ghost use Rattle.gu_rules.specs.Orderly.{IsOrderly};
 ghost use Rattle.gu_rules.specs.Positions.{LongIsShort, is_of_firm, long_of, open_interest_of, position_rows, short_of};
 ghost use Rattle.gu_rules.specs.Reports.{open_day};
+ghost use Rattle.gu_rules.specs.Versions.{version_of};
 ghost use Rattle.gu_rules.specs.Views.{group_view};
 ghost use Rattle.gu_book.specs.Commits.{IsCurrent, Refuses, sweep_of};
 ghost use Rattle.gu_view.specs.View.{IsNested};
@@ -21,7 +22,7 @@ use crate::limits::rows_in_order;
 use crate::met::{Met, MetRooms};
 use crate::positions::{is_of_firm, rows_of_account};
 use crate::sweeping::{
-    asks_for_a_sweep, kept_sweep, make_ways, move_takes, sum_swept, swept_receipt,
+    asks_for_a_sweep, kept_sweep, make_ways, move_takes, receipt_and_view, sum_swept,
 };
 use crate::taking::take_in;
 use crate::telling::register_of;
@@ -295,10 +296,11 @@ impl Book {
         MetRooms::none(self.alloc)
     }
 
-    /// Why a proposal for a view may not be committed, where it may not. It needs no memory; where there is some, the
-    /// places of the limits of its rooms are noted.
-    fn refusal(&self, view: &View, rooms: &mut MetRooms) -> Option<CommitError>
-        ensures { MatchOption result (IsCurrent self.now view.now) (λ why. Refuses self.now view.now why) }
+    /// Why no sweep of a view may be entered, where the book is full or the view is stale.
+    fn outdated(&self, view: &View) -> Option<CommitError>
+        ensures { MatchOption result
+            ((length self.now.history < 1000000) × (view.now.version ≡ version_of self.now.history view.now.group))
+            (λ why. Refuses self.now view.now why) }
     {
         if MOST_ENTRIES <= self.history.len() {
             return Some(CommitError::Full);
@@ -307,6 +309,17 @@ impl Book {
         let now = self.versions.of(&view.group());
         if seen != now {
             return Some(CommitError::Stale { seen, now });
+        }
+        None
+    }
+
+    /// Why a proposal for a view may not be committed, where it may not. It needs no memory; where there is some, the
+    /// places of the limits of its rooms are noted.
+    fn refusal(&self, view: &View, rooms: &mut MetRooms) -> Option<CommitError>
+        ensures { MatchOption result (IsCurrent self.now view.now) (λ why. Refuses self.now view.now why) }
+    {
+        if let Some(why) = self.outdated(view) {
+            return Some(why);
         }
         if !self.reference.group(view.group()) {
             return Some(CommitError::Foreign);
@@ -375,6 +388,31 @@ impl Book {
         Ok(self.history.len() as u64)
     }
 
+    /// Enters the sweep that a proposal asks for, whose view is current, and hands the view back.
+    fn enter_current(
+        &mut self,
+        proposal: Proposal,
+        rooms: &MetRooms,
+    ) -> Result<(Receipt, View), (CommitError, Proposal)>
+        requires current { IsCurrent self.old proposal.view }
+        ensures entered { IfOk result (λ r. self.new.history ≡ self.old.history ++ r.0.entry ∷ []) }
+        ensures number { IfOk result (λ r. r.0.number ≡ length self.old.history + 1) }
+        ensures entry { IfOk result (λ r. r.0.entry ≡ Entry.Swept (sweep_of proposal)) }
+        ensures stands { IfOk result (λ r. StandsLast self.old.reference r.0.number r.0.entry) }
+        ensures view { IfOk result (λ r. r.1 ≡ proposal.view) }
+        ensures memory { IfErr result (λ e. (e.0 ≡ CommitError.Memory) × (e.1 ≡ proposal)) }
+        ensures reference { self.new.reference ≡ self.old.reference }
+        ensures refused { OnErr result (self.new.history ≡ self.old.history) }
+    {
+        let Ok(kept) = kept_sweep(self.alloc, &proposal) else {
+            return Err((CommitError::Memory, proposal));
+        };
+        if let Err(AllocError) = self.append_sweep(&proposal, kept, rooms) {
+            return Err((CommitError::Memory, proposal));
+        }
+        Ok(receipt_and_view(self.history.len() as u64, proposal))
+    }
+
     /// Commits a proposal: its sweep is entered, and its takes are claimed, where the group still stands as the proposal's view shows it.
     pub fn commit(&mut self, proposal: Proposal) -> Result<Receipt, (CommitError, Proposal)>
         ensures entered { IfOk result (λ r. self.new.history ≡ self.old.history ++ r.entry ∷ []) }
@@ -393,13 +431,42 @@ impl Book {
         if let Some(why) = self.refusal(proposal.view(), &mut rooms) {
             return Err((why, proposal));
         }
-        let Ok(kept) = kept_sweep(self.alloc, &proposal) else {
-            return Err((CommitError::Memory, proposal));
-        };
-        if let Err(AllocError) = self.append_sweep(&proposal, kept, &rooms) {
-            return Err((CommitError::Memory, proposal));
+        match self.enter_current(proposal, &rooms) {
+            Ok((receipt, view)) => {
+                drop(view);
+                Ok(receipt)
+            }
+            Err(refused) => Err(refused),
         }
-        Ok(swept_receipt(self.history.len() as u64, proposal))
+    }
+
+    /// Commits a proposal whose view is known to be its group's as long as their versions are equal, as that of a look is: the view
+    /// isn't compared with the book, and is handed back beside the receipt.
+    pub fn commit_seen(
+        &mut self,
+        proposal: Proposal,
+    ) -> Result<(Receipt, View), (CommitError, Proposal)>
+        requires known { is_group self.old.reference proposal.view.group ≡ true }
+        requires honest { proposal.view.version ≡ version_of self.old.history proposal.view.group
+            → proposal.view ≡ group_view self.old.reference self.old.history proposal.view.group }
+        ensures entered { IfOk result (λ r. self.new.history ≡ self.old.history ++ r.0.entry ∷ []) }
+        ensures number { IfOk result (λ r. r.0.number ≡ length self.old.history + 1) }
+        ensures entry { IfOk result (λ r. r.0.entry ≡ Entry.Swept (sweep_of proposal)) }
+        ensures stands { IfOk result (λ r. StandsLast self.old.reference r.0.number r.0.entry) }
+        ensures view { IfOk result (λ r. r.1 ≡ proposal.view) }
+        ensures current { OnOk result (IsCurrent self.old proposal.view) }
+
+        // What each refusal says. The proposal is handed back, and the book is as it was.
+        ensures why { IfErr result (λ e. Refuses self.old proposal.view e.0) }
+        ensures handed_back { IfErr result (λ e. e.1 ≡ proposal) }
+        ensures reference { self.new.reference ≡ self.old.reference }
+        ensures refused { OnErr result (self.new.history ≡ self.old.history) }
+    {
+        let rooms = self.no_rooms();
+        if let Some(why) = self.outdated(proposal.view()) {
+            return Err((why, proposal));
+        }
+        self.enter_current(proposal, &rooms)
     }
 
     /// The lots that all sweeps took, over the whole history. It takes no memory, and reads each

@@ -33,11 +33,11 @@ pub fn kept_sweep(alloc: Global, proposal: &Proposal) -> Result<KeptSweep, Alloc
     )
 }
 
-/// The receipt for a proposal whose sweep was entered as the entry of this number. It takes no
-/// memory. The proposal's view is let go here, and not where a book is held.
-pub fn swept_receipt(number: u64, proposal: Proposal) -> Receipt
-    ensures number { result.number ≡ number }
-    ensures entry { result.entry ≡ Entry.Swept (sweep_of proposal) }
+/// The receipt for a proposal whose sweep was entered as the entry of this number, and the proposal's view. It takes no memory.
+pub fn receipt_and_view(number: u64, proposal: Proposal) -> (Receipt, View)
+    ensures number { result.0.number ≡ number }
+    ensures entry { result.0.entry ≡ Entry.Swept (sweep_of proposal) }
+    ensures view { result.1 ≡ proposal.view }
 {
     let (view, takes, cut, lots) = proposal.into_parts();
     let sweep = SweepEntry {
@@ -46,10 +46,21 @@ pub fn swept_receipt(number: u64, proposal: Proposal) -> Receipt
         cut,
         lots,
     };
-    Receipt {
+    let receipt = Receipt {
         number,
         entry: Entry::Swept(sweep),
-    }
+    };
+    (receipt, view)
+}
+
+/// The receipt alone. The proposal's view is dropped here, and not where a book is held.
+pub fn swept_receipt(number: u64, proposal: Proposal) -> Receipt
+    ensures number { result.number ≡ number }
+    ensures entry { result.entry ≡ Entry.Swept (sweep_of proposal) }
+{
+    let (receipt, view) = receipt_and_view(number, proposal);
+    drop(view);
+    receipt
 }
 
 /// The lots that all sweeps of a history took.

@@ -1,14 +1,15 @@
 -- What is appended of steps and of whole sweeps.
 use Rattle.std.proofs.Common.{◌≡◌, ◌∙◌, ℕ, true, false, List, [], ◌∷◌, ◌++◌, Option, Some, None, refl, sym, ap, subst, inl, inr, append-nil, append_assoc}
-use Rattle.std.specs.Prelude.{IsTrue, MatchOption}
+use Rattle.std.specs.Prelude.{IsSome, IsTrue, MatchOption}
 use Rattle.gu_terms.specs.declared.entry.Entry.TheVariants.{Swept as SweptEntry}
+use Rattle.gu_terms.specs.declared.entry.SweepEntry.{SweepEntry}
 use Rattle.gu_terms.specs.declared.group.Group.{Group}
 use Rattle.gu_ref.specs.Reference.{is_group}
 use Rattle.gu_view.specs.View.{GroupView}
 use Rattle.gu_rules.specs.BookState.{BookState}
 use Rattle.gu_rules.specs.Views.{group_view}
 use Rattle.gu_world.specs.Runs.{Course, GoesOn, IsReached, IsRun}
-use Rattle.gu_world.specs.Steps.{LeadsTo, State, next_receipt, with_look}
+use Rattle.gu_world.specs.Steps.{LeadsTo, ShowsProposed, State, next_receipt, with_look}
 use Rattle.gu_world.specs.declared.outcome.Outcome.{Outcome}
 use Rattle.gu_world.specs.declared.outcome.Outcome.TheVariants.{NoGroup, Swept}
 use Rattle.gu_world.specs.declared.step.Step.{Step}
@@ -19,13 +20,13 @@ use Rattle.gu_text.specs.Scripts.{Says}
 use Rattle.gu_text.specs.declared.script_line.Line.{Line}
 use Rattle.gu_text.specs.declared.script_line.Line.TheVariants as line
 use Rattle.gu_script.specs.Replaying.{IsTextOfLines, line_text, looked, step_text, steps_of, sweep_text, sweeper}
-use Rattle.gu_script.specs.ScriptSteps.{Proposes, ShowsFor, ShowsLook, AnswersLine, AnswersLines, AnswersSaid, AnswersStep}
+use Rattle.gu_script.specs.ScriptSteps.{Proposes, ShowsFor, AnswersLine, AnswersLines, AnswersSaid, AnswersStep}
 use Rattle.gu_script.proofs.ReplayLooks.{AreOwn, IsCommitted, IsUncommitted, own_reached, step_committed, step_entered, step_looked, step_proposed}
 use Rattle.gu_script.proofs.ReplayTexts.{line_said, line_silent}
 
 -- ---- one step
 
--- an outcome has one text for the view that is copied and for the view that is defined
+-- an outcome has one text for the view that is handed back and for the view that is defined
 abbrev HasOneText : State → Step → Option GroupView → Outcome → Type 0
 HasOneText old step view outcome = outcome_text view (looked step) outcome ≡ step_text old.book step outcome
 
@@ -35,11 +36,11 @@ uncommitted_text old worker view outcome (inr (inl is)) = subst (HasOneText old 
 uncommitted_text old worker view outcome (inr (inr (seen, now, is))) = subst (HasOneText old (Commit worker) view) (sym is) refl
 
 -- the view that a sweep's worker saw is that of the sweep's group in the book
-committed_text : (old : State) (worker : ℕ) (view : Option GroupView) (outcome : Outcome) → AreOwn old.looks → ShowsLook old worker view → IsCommitted old worker outcome → HasOneText old (Commit worker) view outcome
+committed_text : (old : State) (worker : ℕ) (view : Option GroupView) (outcome : Outcome) → AreOwn old.looks → ShowsProposed old worker view → IsCommitted old worker outcome → HasOneText old (Commit worker) view outcome
 committed_text old worker view outcome own shows is =
     let group : is.sweep.group ≡ is.look.group = own worker is.look is.sweep is.found is.has in
     let seen : view ≡ Some (group_view old.book.reference old.book.history is.sweep.group) =
-    shows is.look is.found is.fresh ∙ ap (λ (g : Group). Some (group_view old.book.reference old.book.history g)) (sym group) in
+    shows is.look is.found (subst (λ (p : Option SweepEntry). IsSome p) (sym is.has) refl) is.fresh ∙ ap (λ (g : Group). Some (group_view old.book.reference old.book.history g)) (sym group) in
     let receipt = next_receipt (with_look old worker None) (SweptEntry is.sweep) in
     subst (HasOneText old (Commit worker) view) (sym is.swept) (ap (λ (v : Option GroupView). outcome_text v None (Swept receipt)) seen)
 

@@ -1,24 +1,17 @@
 -- Machinery: the steps of a script, and the texts that are appended for them.
-use Rattle.std.specs.Prelude.{◌≡◌, ℕ, false, List, ◌++◌, Option, Some, None}
+use Rattle.std.specs.Prelude.{◌≡◌, ℕ, List, ◌++◌, Option, None}
 use Rattle.gu_terms.specs.declared.group.Group.{Group}
 use Rattle.gu_view.specs.View.{GroupView}
-use Rattle.gu_rules.specs.Views.{group_view}
 use Rattle.gu_world.specs.Runs.{Course, GoesOn}
-use Rattle.gu_world.specs.Steps.{Look, State, is_overtaken, look_of}
+use Rattle.gu_world.specs.Steps.{ShowsProposed, State}
 use Rattle.gu_world.specs.declared.step.Step.{Step}
 use Rattle.gu_world.specs.declared.step.Step.TheVariants.{See, Propose, Commit}
 use Rattle.gu_text.specs.declared.script_line.Line.{Line}
 use Rattle.gu_script.specs.Replaying.{HasLineText, IsTextOfLines, step_text, sweeper}
 
--- where a worker's look wasn't overtaken, this is the view of its group as the book is now
-abbrev pub ShowsLook : State → ℕ → Option GroupView → Type 0
-ShowsLook state worker view =
-    (look : Look) → look_of state worker ≡ Some look → is_overtaken state look ≡ false
-    → view ≡ Some (group_view state.book.reference state.book.history look.group)
-
--- of a commit this is that view, and of another step there is none
+-- of a commit this is the view that the worker has a proposal for, and of another step there is none
 abbrev pub ShowsFor : State → Step → Option GroupView → Type 0
-ShowsFor state (Commit worker) view = ShowsLook state worker view
+ShowsFor state (Commit worker) view = ShowsProposed state worker view
 ShowsFor state step view = view ≡ None
 
 -- a step is taken, and its text is appended to what was there before

@@ -1,17 +1,16 @@
 //! Steps of a script, and their texts.
 
-ghost use Rattle.std.specs.Prelude.{◌≡◌, ◌++◌, IfOk, None, OnOk};
+ghost use Rattle.std.specs.Prelude.{◌≡◌, ◌++◌, None, OnOk};
 ghost use Rattle.gu_world.specs.declared.outcome.Outcome.TheVariants.{NoGroup};
-ghost use Rattle.gu_world.specs.declared.step.Step.TheVariants.{Enter};
+ghost use Rattle.gu_world.specs.declared.step.Step.TheVariants.{Commit, Enter};
 ghost use Rattle.gu_text.specs.Outcomes.{outcome_text};
 ghost use Rattle.gu_text.specs.declared.script_line.Line.TheVariants as line;
 ghost use Rattle.gu_script.specs.Replaying.{looked, sweeper};
-ghost use Rattle.gu_script.specs.ScriptSteps.{Proposes, ShowsFor, ShowsLook, AnswersLine, AnswersStep};
+ghost use Rattle.gu_script.specs.ScriptSteps.{Proposes, ShowsFor, AnswersLine, AnswersStep};
 
 use gu_terms::{Command, Group};
 use gu_text::texts::{append_last_word, append_word};
 use gu_text::{append_outcome, append_reply};
-use gu_view::View;
 use gu_world::{Answered, Step, Worker, World};
 use std::alloc::AllocError;
 
@@ -35,37 +34,30 @@ fn sweeper() -> Worker
     }
 }
 
-/// A copy of the view that a worker saw.
-fn view_seen(world: &World, worker: Worker) -> Result<Option<View>, AllocError>
-    ensures { IfOk result (λ view. ShowsLook world.now.state worker view) }
-{
-    match world.look(worker) {
-        Some(view) => Ok(Some(view.copy()?)),
-        None => Ok(None),
-    }
-}
-
-/// The view that a sheet shows, should the step commit a sweep.
-fn view_for(world: &World, step: &Step) -> Result<Option<View>, AllocError>
-    ensures { IfOk result (λ view. ShowsFor world.now.state step.now view) }
-{
-    match step {
-        Step::Commit(worker) => view_seen(world, *worker),
-        _ => Ok(None),
-    }
-}
-
-/// Takes a step, and appends what came of it.
-pub fn answer_step(world: &mut World, step: Step, output: &mut Vec<u8>) -> Result<(), AllocError>
+/// Takes a step that shows no view, and appends what came of it.
+fn answer_step(world: &mut World, step: Step, output: &mut Vec<u8>) -> Result<(), AllocError>
+    requires { ShowsFor world.old.state step None }
     ensures { OnOk result (AnswersStep world.old step output.old.items world.new output.new.items) }
 {
-    let before = view_for(world, &step)?;
     let looked = looked(&step);
     // Shows the prover: some steps led to this world.
     let _steps = world.outcomes().len();
     let outcome = world.take(step)?;
-    let appended = append_outcome(output, before.as_ref(), looked, &outcome);
+    let appended = append_outcome(output, None, looked, &outcome);
     drop(outcome);
+    appended
+}
+
+/// Has a worker commit, and appends what came of it. The sheet of a sweep shows the view that it was proposed for.
+fn answer_commit(world: &mut World, worker: Worker, output: &mut Vec<u8>) -> Result<(), AllocError>
+    ensures { OnOk result (AnswersStep world.old (Commit worker) output.old.items world.new output.new.items) }
+{
+    // Shows the prover: some steps led to this world.
+    let _steps = world.outcomes().len();
+    let (outcome, view) = world.commit(worker)?;
+    let appended = append_outcome(output, view.as_ref(), None, &outcome);
+    drop(outcome);
+    drop(view);
     appended
 }
 
@@ -86,7 +78,7 @@ fn answer_command(
     }
 }
 
-/// Takes a borrowed step, and appends what came of it. Only a step without a command is copied.
+/// Takes a borrowed step, and appends what came of it. A command isn't copied.
 pub fn answer_borrowed(
     world: &mut World,
     step: &Step,
@@ -96,10 +88,9 @@ pub fn answer_borrowed(
 {
     match step {
         Step::Enter(command) => answer_command(world, command, output),
-        _ => {
-            let step = step.copy()?;
-            answer_step(world, step, output)
-        }
+        Step::See(worker, group) => answer_step(world, Step::See(*worker, *group), output),
+        Step::Propose(worker) => answer_step(world, Step::Propose(*worker), output),
+        Step::Commit(worker) => answer_commit(world, *worker, output),
     }
 }
 
@@ -126,7 +117,7 @@ pub fn answer_sweep(world: &mut World, group: Group, output: &mut Vec<u8>) -> Re
     let is_known = world.book().reference().group(group);
     propose(world, &group)?;
     if is_known {
-        return answer_step(world, Step::Commit(sweeper()), output);
+        return answer_commit(world, sweeper(), output);
     }
     world.step(Step::Commit(sweeper()))?;
     append_unknown_group(output)

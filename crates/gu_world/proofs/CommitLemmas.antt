@@ -12,6 +12,7 @@ use Rattle.gu_view.specs.View.{GroupView}
 use Rattle.gu_rules.specs.BookState.{BookState}
 use Rattle.gu_rules.specs.Legal.{IsLegal}
 use Rattle.gu_rules.specs.Versions.{version_of}
+use Rattle.gu_rules.specs.Views.{group_view}
 use Rattle.gu_book.specs.Commits.{IsCurrent, IsForeign, IsStale, sweep_of}
 use Rattle.gu_world.specs.Looks.{IsTrueLook, look_by}
 use Rattle.gu_world.specs.Steps.{Look, committed_for, first_touch_above}
@@ -62,8 +63,10 @@ module _ (book new : BookState) (seen : ℕ) (looks : List (Option Look)) (propo
       let first : then ≡ version_of (take seen book.history) proposal.view.group = stale.of_view ∙ sym version_seen in
       rw (full, some) (λ i. (Stale (first i) (stale.of_group i), record { book = record { reference = reference i; history = history i }; looks = looks }))
 
+  -- while its version is that of now, its view is
+  pub still_true : IsLegal book.reference book.history → proposal.view.version ≡ version_of book.history proposal.view.group → proposal.view ≡ group_view book.reference book.history proposal.view.group
+  still_true legal same = one.view ∙ equal_views book.history seen proposal.view.group book.reference legal one.seen (version_seen ∙ same)
+
   -- no look is foreign
   pub never_foreign : IsLegal book.reference book.history → IsForeign book proposal.view → ⊥
-  never_foreign legal foreign =
-      let views = equal_views book.history seen proposal.view.group book.reference legal one.seen (version_seen ∙ foreign.untouched) in
-      foreign.other (record { room = foreign.room; known = one.known; same = one.view ∙ views })
+  never_foreign legal foreign = foreign.other (record { room = foreign.room; known = one.known; same = still_true legal foreign.untouched })

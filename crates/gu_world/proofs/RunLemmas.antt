@@ -1,6 +1,6 @@
 -- Runs, one step on.
 use Rattle.std.proofs.Common.{◌≤◌, arith, ◌≡◌, ℕ, suc, Bool, true, false, List, [], ◌∷◌, ◌++◌, length, map, Option, Some, None, refl, sym, ap, ◌∙◌, subst, if◌then◌else◌}
-use Rattle.std.specs.Prelude.{slice_index_or, slice_set, take}
+use Rattle.std.specs.Prelude.{IsSome, slice_index_or, slice_set, take}
 use Rattle.std.specs.Option.{option_map, option_map_or}
 use Rattle.gu_terms.specs.declared.entry.SweepEntry.{SweepEntry}
 use Rattle.gu_ref.specs.Reference.{is_group}
@@ -9,11 +9,13 @@ use Rattle.gu_view.specs.View.{GroupView}
 use Rattle.gu_rules.specs.BookState.{BookState}
 use Rattle.gu_rules.specs.Legal.{IsLegal}
 use Rattle.gu_rules.specs.Views.{group_view}
-use Rattle.gu_world.specs.Looks.{AreTrue, IsKeptCourse, look_in, state_in, view_in}
+use Rattle.gu_world.specs.Looks.{AreTrue, IsKeptCourse, look_by, look_in, state_in, view_in, view_proposed, view_ready}
 use Rattle.gu_world.specs.Outcomes.{AreNumbered, kept_of, outcome_in}
 use Rattle.gu_world.specs.Runs.{Course, GoesOn, IsRun, IsRunOf, beginning}
-use Rattle.gu_world.specs.Steps.{LeadsTo, Look, ProposesOn, State, committed_for, committed_on, is_full, is_overtaken, look_of, view_seen, with_look}
+use Rattle.gu_world.specs.Steps.{LeadsTo, Look, ProposesOn, ShowsProposed, State, committed_for, committed_on, is_full, is_overtaken, look_of, view_seen, with_look}
 use Rattle.gu_world.specs.declared.held.Held.{Held}
+use Rattle.gu_world.specs.declared.held.Work.{Work}
+use Rattle.gu_world.specs.declared.held.Work.TheVariants.{Looking, Ready}
 use Rattle.gu_world.specs.declared.outcome.Outcome.{Outcome}
 use Rattle.gu_world.specs.declared.outcome.Outcome.TheVariants.{Nothing}
 use Rattle.gu_world.specs.declared.step.Step.{Step}
@@ -162,3 +164,30 @@ pub no-current : (book : BookState) (slots : List (Option Held)) (worker : ℕ) 
 no-current book slots worker at look looks still =
     let here : None ≡ Some look = sym (look_of-held book slots worker ∙ ap (option_map look_in) at) ∙ looks in
     cc
+
+-- the view that a worker has a proposal for, where nothing touched its group since
+pub proposed-current : (book : BookState) (slots : List (Option Held)) (worker : ℕ) → IsLegal book.reference book.history → AreTrue book slots
+    → ShowsProposed (state_in book slots) worker (view_proposed (slice_index_or slots worker None))
+proposed-current book slots worker legal trues look looks has still = by (slice_index_or slots worker None) refl
+  where
+    Shown : Option GroupView → Type 0
+    Shown view = view ≡ Some (group_view book.reference book.history look.group)
+
+    of : (seen : ℕ) (work : Work) → slice_index_or slots worker None ≡ Some (record { seen = seen; work = work }) → Shown (view_ready work)
+    of seen (Looking view) at =
+        let here : Some look ≡ Some (look_by seen (Looking view)) = sym looks ∙ look_of-held book slots worker ∙ ap (option_map look_in) at in
+        let none : look.proposal ≡ None = ap (λ (l : Look). l.proposal) (same here) in
+        let no : IsSome {T = SweepEntry} None = subst (λ (p : Option SweepEntry). IsSome p) none has in
+        cc
+      where
+        same : {a b : Look} → Some a ≡ Some b → a ≡ b
+        same h = cc
+    of seen (Ready proposal) at = kept-current book slots worker (record { seen = seen; work = Ready proposal }) proposal.view legal trues at refl look looks still
+
+    by : (slot : Option Held) → slice_index_or slots worker None ≡ slot → Shown (view_proposed slot)
+    by None at = no-current book slots worker at look looks still
+    by (Some held) at = of held.seen held.work at
+
+-- one outcome more, written over another that was put there for it
+pub one_more : (outcomes pushed : List KeptOutcome) (last kept : KeptOutcome) → pushed ≡ outcomes ++ last ∷ [] → last ≡ kept → slice_set (outcomes ++ noted.Nothing ∷ []) (length outcomes) kept ≡ pushed
+one_more outcomes pushed last kept is same = last-set outcomes noted.Nothing kept ∙ ap (λ (k : KeptOutcome). outcomes ++ k ∷ []) (sym same) ∙ sym is

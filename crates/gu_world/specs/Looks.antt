@@ -20,7 +20,17 @@ abbrev pub view_in : Work → GroupView
 view_in (Looking view) = view
 view_in (Ready proposal) = proposal.view
 
--- the look that is kept for it
+-- the view of a proposal
+abbrev pub view_ready : Work → Option GroupView
+view_ready (Looking view) = None
+view_ready (Ready proposal) = Some proposal.view
+
+-- the view that a worker has a proposal for
+abbrev pub view_proposed : Option Held → Option GroupView
+view_proposed None = None
+view_proposed (Some held) = view_ready held.work
+
+-- the look that is kept for a view or a proposal
 abbrev pub look_by : ℕ → Work → Look
 look_by seen (Looking view) = record { group = view.group; seen = seen; proposal = None }
 look_by seen (Ready proposal) = record { group = proposal.view.group; seen = seen; proposal = Some (sweep_of proposal) }

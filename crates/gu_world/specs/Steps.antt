@@ -1,5 +1,5 @@
 -- Steps: commands are entered, and workers look at groups, propose sweeps of what they saw, and commit them.
-use Rattle.std.specs.Prelude.{◌≡◌, ℕ, ◌+◌, ◌++◌, nat_le, nat_lt, Bool, List, [], ◌∷◌, length, take, replicate, Option, Some, None, is_some, slice_index_or, slice_set, if◌then◌else◌}
+use Rattle.std.specs.Prelude.{◌≡◌, ℕ, ◌+◌, ◌++◌, nat_le, nat_lt, Bool, false, IsSome, List, [], ◌∷◌, length, take, replicate, Option, Some, None, is_some, slice_index_or, slice_set, if◌then◌else◌}
 use Rattle.std.specs.List.{find}
 use Rattle.std.specs.Option.{option_map_or}
 use Rattle.gu_terms.specs.declared.command.Command.{Command}
@@ -72,6 +72,12 @@ first_touch_above history group n = find (nat_lt n) (touching history group)
 -- an entry after those that a worker saw touches its group
 abbrev pub is_overtaken : State → Look → Bool
 is_overtaken state look = is_some (first_touch_above state.book.history look.group look.seen)
+
+-- where a worker's look has a proposal and wasn't overtaken, this is the view of its group as the book is now
+abbrev pub ShowsProposed : State → ℕ → Option GroupView → Type 0
+ShowsProposed state worker view =
+    (look : Look) → look_of state worker ≡ Some look → IsSome look.proposal → is_overtaken state look ≡ false
+    → view ≡ Some (group_view state.book.reference state.book.history look.group)
 
 -- what came of a command, by what is told of it: the receipt of its entry, and where nothing is told, that the book was full
 abbrev pub outcome_of : Command → Option Answered → Outcome

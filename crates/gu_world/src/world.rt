@@ -5,8 +5,8 @@ ghost use Rattle.std.specs.Option.{option_copied, option_map};
 ghost use Rattle.gu_rules.specs.Views.{group_view};
 ghost use Rattle.gu_world.specs.Looks.{AreTrue, state_in};
 ghost use Rattle.gu_world.specs.Runs.{GoesOn, IsReached, beginning};
-ghost use Rattle.gu_world.specs.Steps.{LeadsTo, Look, is_overtaken, look_of, outcome_of, view_seen};
-ghost use Rattle.gu_world.specs.declared.step.Step.TheVariants.{Enter};
+ghost use Rattle.gu_world.specs.Steps.{LeadsTo, Look, ShowsProposed, is_overtaken, look_of, outcome_of, view_seen};
+ghost use Rattle.gu_world.specs.declared.step.Step.TheVariants.{Commit, Enter};
 
 use crate::answered::Answered;
 use crate::committing::commit_for;
@@ -40,7 +40,11 @@ fn take(
         Step::Enter(command) => enter(book, command),
         Step::See(worker, group) => see(book, looks, worker, group),
         Step::Propose(worker) => propose_for(alloc, looks, worker),
-        Step::Commit(worker) => commit_for(book, looks, worker),
+        Step::Commit(worker) => {
+            let (outcome, view) = commit_for(book, looks, worker)?;
+            drop(view);
+            Ok(outcome)
+        }
     }
 }
 
@@ -132,6 +136,22 @@ impl World {
         let answered = ask(&mut self.book, command)?;
         let _ = self.outcomes.push(KeptOutcome::of_answer(&answered));
         Ok(answered)
+    }
+
+    /// Has a worker commit, adds the outcome, and reports it with the view of the worker's proposal.
+    pub fn commit(&mut self, worker: Worker) -> Result<(Outcome, Option<View>), AllocError>
+        ensures taken { IfOk result (λ r. (goes : GoesOn self.old (Commit worker) self.new) × (goes.outcome ≡ r.0)) }
+
+        // Where no entry touched the group of the look that has the proposal, the view is the group's.
+        ensures view { IfOk result (λ r. ShowsProposed self.old.state worker r.1) }
+        ensures refused { OnErr result (self.new ≡ self.old) }
+    {
+        // Shows the prover: the history is legal.
+        let _entries = self.book.history().len();
+        self.outcomes.reserve(1)?;
+        let (outcome, view) = commit_for(&mut self.book, &mut self.looks, worker)?;
+        let _ = self.outcomes.push(KeptOutcome::of(&outcome));
+        Ok((outcome, view))
     }
 
     /// Takes one step, and adds its outcome.

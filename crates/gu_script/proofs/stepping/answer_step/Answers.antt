@@ -1,7 +1,5 @@
-use Rattle.std.proofs.Common.{◌≡◌, ◌++◌, ◌∙◌, Option, ap, rules}
-use Rattle.std.specs.Option.{option_copied}
+use Rattle.std.proofs.Common.{◌++◌, ◌∙◌, Option, None, ap}
 use Rattle.gu_terms.specs.declared.group.Group.{Group}
-use Rattle.gu_view.specs.View.{GroupView}
 use Rattle.gu_text.specs.Outcomes.{outcome_text}
 use Rattle.gu_script.proofs.ReplaySteps.{step_answered}
 use Rattle.gu_streams.proofs.Writing.{on_ok_then}
@@ -11,10 +9,7 @@ pub returns : goal.returns
 returns c =
     let outcome = c.in_ok-outcome.outcome in
     let before = c.args.output.now.items in
-    let seen : option_copied c.as_ref.result ≡ c.in_ok-before.before = search (rules, c.as_ref.ensures.value) in
     on_ok_then c.append_outcome-appended.result
-    (λ text. step_answered c.args.world.now c.take.new.self c.args.step c.in_ok-before.before outcome before c.append_outcome-appended.new.output.items
-    c.outcomes.ensures.reached c.in_ok-outcome.ensures.taken c.in_ok-before.ensures
-    (text ∙ ap (λ (v : Option GroupView). before ++ outcome_text v c.looked-looked.result outcome) seen
-    ∙ ap (λ (g : Option Group). before ++ outcome_text c.in_ok-before.before g outcome) c.looked-looked.ensures))
+    (λ text. step_answered c.args.world.now c.take.new.self c.args.step None outcome before c.append_outcome-appended.new.output.items c.outcomes.ensures.reached c.in_ok-outcome.ensures.taken c.requires
+    (text ∙ ap (λ (g : Option Group). before ++ outcome_text None g outcome) c.looked-looked.ensures))
     c.append_outcome-appended.ensures.text

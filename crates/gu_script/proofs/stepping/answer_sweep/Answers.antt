@@ -10,10 +10,10 @@ use Rattle.gu_script.proofs.stepping.answer_sweep.Goals as goal
 pub returns-then-is_known : goal.returns-then-is_known
 returns-then-is_known c =
     let known : is_group c.args.world.now.state.book.reference c.args.group ≡ true = search rules in
-    on_ok_then c.answer_step.result
-    (λ answers. line_of_sweep c.args.world.now c.propose.new.world c.answer_step.new.world c.args.group c.args.output.now.items c.answer_step.new.output.items known c.in_ok-propose.ensures
-    (subst (λ (w : ℕ). AnswersStep c.propose.new.world (Commit w) c.args.output.now.items c.answer_step.new.world c.answer_step.new.output.items) c.sweeper.ensures answers))
-    c.answer_step.ensures
+    on_ok_then c.answer_commit.result
+    (λ answers. line_of_sweep c.args.world.now c.propose.new.world c.answer_commit.new.world c.args.group c.args.output.now.items c.answer_commit.new.output.items known c.in_ok-propose.ensures
+    (subst (λ (w : ℕ). AnswersStep c.propose.new.world (Commit w) c.args.output.now.items c.answer_commit.new.world c.answer_commit.new.output.items) c.sweeper.ensures answers))
+    c.answer_commit.ensures
 
 pub returns : goal.returns
 returns c =

@@ -51,3 +51,9 @@ returns-in-Err-clause-refused c = (
   put-back c.args.looks.now c.take.new.self c.args.worker c.take.ensures.left c.in-Some.held.seen c.in-Some.held.work (sym c.in-Some.ensures.held) c.put-in-Err.new.self (Ready c.in-Err.proposal)
       (c.in-Ready.is ∙ ap Ready (sym c.in-Err.ensures.handed_back)) c.put-in-Err.ensures,
 )
+
+pub commit-requires : goal.commit-requires
+commit-requires c = (
+  c.in-Some.held.seen,
+  subst (λ (w : Work). IsTrueLook c.args.book.now (record { seen = c.in-Some.held.seen; work = w })) c.in-Ready.is (c.requires c.args.worker c.in-Some.held (sym c.in-Some.ensures.held)),
+)

@@ -1,4 +1,4 @@
-use Rattle.std.proofs.Common.{◌≡◌, ◌∙◌, ◌++◌, ◌∷◌, [], List, ap, length, map, refl, rules, subst, sym}
+use Rattle.std.proofs.Common.{◌≡◌, ◌++◌, ◌∷◌, [], List, length, map, refl, rules, subst}
 use Rattle.std.specs.Prelude.{slice_set}
 use Rattle.gu_world.specs.Looks.{IsKeptCourse, looks_in, state_in}
 use Rattle.gu_world.specs.Outcomes.{kept_of, outcome_in}
@@ -7,13 +7,9 @@ use Rattle.gu_world.specs.Steps.{outcome_of}
 use Rattle.gu_world.specs.declared.outcomes.KeptOutcome.{KeptOutcome}
 use Rattle.gu_world.specs.declared.outcomes.KeptOutcome.TheVariants as noted
 use Rattle.gu_world.specs.declared.step.Step.TheVariants.{Enter}
-use Rattle.gu_world.proofs.RunLemmas.{last-set, taken-kept, taken-told}
+use Rattle.gu_world.proofs.RunLemmas.{one_more, taken-kept, taken-told}
 use Rattle.gu_world.proofs.SlotLemmas.{true-grown}
 use Rattle.gu_world.proofs.world.World.enter.Goals as goal
-
--- one outcome more, written over another that was put there for it
-one_more : (outcomes pushed : List KeptOutcome) (last kept : KeptOutcome) → pushed ≡ outcomes ++ last ∷ [] → last ≡ kept → slice_set (outcomes ++ noted.Nothing ∷ []) (length outcomes) kept ≡ pushed
-one_more outcomes pushed last kept is same = last-set outcomes noted.Nothing kept ∙ ap (λ (k : KeptOutcome). outcomes ++ k ∷ []) (sym same) ∙ sym is
 
 pub invariant_of-self-2 : goal.invariant_of-self-2
 invariant_of-self-2 c =
