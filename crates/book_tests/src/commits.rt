@@ -3,7 +3,7 @@
 
 use crate::beginnings::beginning;
 use crate::transcript::{Patience, follow, picture, world_of};
-use gu_book::{Book, CommitError, kept_sweep, swept_receipt};
+use gu_book::{Book, kept_sweep, swept_receipt};
 use gu_flow::{Proposal, propose};
 use gu_text::Sheet;
 use std::alloc::Global;
@@ -13,7 +13,7 @@ use std::process::Abort;
 /// that is lent and what comes of the proposal itself, in a book in which G1 has version 6 and offer
 /// 1 of seven lots.
 const VIEWS: &str = "\
-== foreign, foreign
+== Foreign, Foreign
 SHEET G1 6
 OFFER 1 6 P1 E1 A1 C1
 ROOM EXEC E1 100
@@ -21,16 +21,16 @@ ROOM AGR P1 100
 ROOM ACCT A1 100
 ROOM CARRY C1 100
 END
-== foreign, foreign
+== Foreign, Foreign
 SHEET G1 6
 END
-== foreign, foreign
+== Foreign, Foreign
 SHEET G9 1
 END
-== stale 0 1, stale 0 1
+== Stale 0 1, Stale 0 1
 SHEET G9 0
 END
-== entry 9, stale 6 7
+== entry 9, Stale 6 7
 SHEET G1 6
 OFFER 1 7 P1 E1 A1 C1
 ROOM EXEC E1 100
@@ -51,16 +51,6 @@ fn proposal_for(alloc: Global, sheet: &str) -> Option<Proposal> {
     }
 }
 
-/// Why a proposal is refused, in words.
-fn why_told(alloc: Global, why: CommitError) -> Option<String> {
-    match why {
-        CommitError::Foreign => format!(in alloc; "foreign").ok(),
-        CommitError::Stale { seen, now } => format!(in alloc; "stale {seen} {now}").ok(),
-        CommitError::Full => format!(in alloc; "full").ok(),
-        CommitError::Memory => None,
-    }
-}
-
 /// What comes of a proposal: the number of its entry, or why it is refused.
 fn commit_told(rt: &impl Abort, alloc: Global, book: &mut Book, proposal: Proposal) -> String {
     let before = picture(rt, alloc, book);
@@ -70,7 +60,7 @@ fn commit_told(rt: &impl Abort, alloc: Global, book: &mut Book, proposal: Propos
         Err((why, proposal)) => {
             assert_eq!(rt; proposal.lots(), lots);
             assert!(rt; picture(rt, alloc, book) == before);
-            why_told(alloc, why)
+            format!(in alloc; "{why}").ok()
         }
     };
     told.expect(rt, "memory")
@@ -92,7 +82,7 @@ fn lent_told(rt: &impl Abort, alloc: Global, book: &mut Book, proposal: Proposal
         }
         Err(why) => {
             assert!(rt; picture(rt, alloc, book) == before);
-            why_told(alloc, why)
+            format!(in alloc; "{why}").ok()
         }
     };
     told.expect(rt, "memory")

@@ -1,5 +1,5 @@
 -- What is known of a message whose shape and values are sound.
-use Rattle.std.proofs.Common.{◌≡◌, ◌≢◌, ◌≤◌, ◌++◌, ◌==◌, not, ℕ, Bool, true, false, cond, List, [], ◌∷◌, Option, Some, None, MatchOption, length, is_some, refl, ap, sym, ◌∙◌, arith}
+use Rattle.std.proofs.Common.{◌≡◌, ◌≢◌, ◌≤◌, ◌++◌, ◌==◌, not, ℕ, Bool, true, false, cond, List, [], ◌∷◌, Option, Some, None, MatchOption, length, is_some, refl, sym, ◌∙◌}
 use Rattle.std.proofs.lemmas.Bool.{eqb-true}
 use Rattle.std.specs.List.{AllByRecursion, flat_map}
 use Rattle.std.specs.Option.{option_map, option_map_or, option_or}
@@ -32,11 +32,11 @@ number_held tag least most fields h = rw h.first (h.such.from, h.such.to)
 
 -- ---- options
 
-none_of_either : {X : Type 0} (a b : Option X) → option_or a b ≡ None → (a ≡ None) × (b ≡ None)
+pub none_of_either : {X : Type 0} (a b : Option X) → option_or a b ≡ None → (a ≡ None) × (b ≡ None)
 none_of_either None b h = (refl, h)
 none_of_either (Some x) b h = cc
 
-none_mapped : {X Y : Type 0} (f : X → Y) (o : Option X) → option_map f o ≡ None → o ≡ None
+pub none_mapped : {X Y : Type 0} (f : X → Y) (o : Option X) → option_map f o ≡ None → o ≡ None
 none_mapped f None h = refl
 none_mapped f (Some x) h = cc
 
@@ -106,7 +106,7 @@ entries_absent : (kind : MsgType) (counter : ℕ) (fields : List TagValue) → f
 entries_absent kind counter fields none = rw (behind_absent counter fields none) (entries_of_none (entry_rows counter))
 
 -- a counter without a fault counts the entries
-counted : (counter : ℕ) (text : List ℕ) (entries : ℕ) → count_fault counter text entries ≡ None → digits_value 10 text ≡ entries
+pub counted : (counter : ℕ) (text : List ℕ) (entries : ℕ) → count_fault counter text entries ≡ None → digits_value 10 text ≡ entries
 counted counter text entries none =
     let n = digits_value 10 text in
     let P : Bool → Bool → Type 0 = λ b same. cond (not b) (Some (fault_at IncorrectDataFormat counter)) (cond same None (Some (fault_at IncorrectNumInGroupCount counter))) ≡ None → same ≡ true in
@@ -161,10 +161,3 @@ well_made kind fields code shape values =
       held = held (body_rows kind) fields body_none.1 (front_values kind fields (body_rows kind) body);
       groups = has_groups kind fields (body_rows kind) parts.1 body;
     }
-
--- ---- groups of one entry
-
--- the first of one is all
-pub one_left : (xs : List (List TagValue)) (x : List TagValue) (ys : List (List TagValue)) → length xs ≡ 1 → xs ≡ x ∷ ys → xs ≡ x ∷ []
-one_left xs x [] one is = is
-one_left xs x (y ∷ ys) one is = let more = ap length is in absurd (omega arith)

@@ -7,6 +7,7 @@ mod ItemLemmas
 mod StandingLemmas
 mod TableLemmas
 mod HeldLemmas
+mod OutlineLemmas
 mod AllocLemmas
 mod DateLemmas
 pub mod NoFault

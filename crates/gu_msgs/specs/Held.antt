@@ -1,10 +1,9 @@
 -- Machinery: what is known of a message whose shape and values are sound. No other crate names this file.
-use Rattle.std.specs.Prelude.{◌≡◌, ◌≢◌, List, [], length, None, Some, ⊤}
+use Rattle.std.specs.Prelude.{◌≡◌, ◌≢◌, List, [], length, None, Some}
 use Rattle.std.specs.List.{AllByRecursion}
 use Rattle.gu_fix.specs.TagValue.{TagValue}
 use Rattle.gu_fix.specs.declared.tag.TheConstants.{MSG_TYPE}
 use Rattle.gu_msgs.specs.Agreement.{number_at}
-use Rattle.gu_msgs.specs.Faults.{IsDisagreement, IsFirstFault}
 use Rattle.gu_msgs.specs.Groups.{entries_of}
 use Rattle.gu_msgs.specs.Items.{AreSound, message_items}
 use Rattle.gu_msgs.specs.Kinds.{IsSound}
@@ -13,8 +12,6 @@ use Rattle.gu_msgs.specs.Rows.{tag_of}
 use Rattle.gu_msgs.specs.Shape.{shape_fault}
 use Rattle.gu_msgs.specs.Tables.{body_rows, entry_rows}
 use Rattle.gu_msgs.specs.Values.{Holds, MayHold, first_value}
-use Rattle.gu_msgs.specs.declared.fault.MsgFault.{MsgFault}
-use Rattle.gu_msgs.specs.declared.fault.MsgFault.TheVariants.{Memory, Rejected}
 use Rattle.gu_msgs.specs.declared.msg_type.MsgType.{MsgType}
 use Rattle.gu_msgs.specs.declared.row.Row.{Row}
 use Rattle.gu_msgs.specs.declared.row.Row.TheVariants.{Required, Optional}
@@ -44,13 +41,3 @@ pub record IsWellMade (kind : MsgType) (fields : List TagValue) : Type 0 where
   pub values : AreSound (message_items kind fields)
   pub held : AreHeld (body_rows kind) fields
   pub groups : HasGroups kind fields
-
--- what is refused of such a message: values that don't agree
-abbrev pub IsDisagreed : MsgType → List TagValue → MsgFault → Type 0
-IsDisagreed kind fields Memory = ⊤
-IsDisagreed kind fields (Rejected fault) = IsDisagreement kind fields fault
-
--- what is refused of a message of this type: its first fault
-abbrev pub IsTypedRefusal : MsgType → List TagValue → MsgFault → Type 0
-IsTypedRefusal kind fields Memory = ⊤
-IsTypedRefusal kind fields (Rejected fault) = IsFirstFault kind fields fault

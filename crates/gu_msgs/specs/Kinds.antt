@@ -1,5 +1,5 @@
 -- What the text of a field must be, and what is wrong with one that isn't.
-use Rattle.std.specs.Prelude.{◌≡◌, ◌≤◌, ◌⊎◌, ℕ, List, codes, IsTrue, ⊤, ℤ}
+use Rattle.std.specs.Prelude.{◌≡◌, ◌≢◌, ◌≤◌, ◌⊎◌, ◌^◌, ℕ, Bool, true, false, List, Option, Some, None, Result, Ok, Err, codes, IsTrue, ⊤, ℤ}
 use Rattle.std.specs.Str.Parse.{digits_value}
 use Rattle.gu_terms.specs.Days.{IsDay, IsDayText, year_of, month_of, day_of}
 use Rattle.gu_terms.specs.Names.{IsName, IsId}
@@ -64,3 +64,26 @@ abbrev pub IsAtFault : Kind → List ℕ → SessionRejectReason → Type 0
 IsAtFault kind text IncorrectDataFormat = ¬ IsFormatted kind text
 IsAtFault kind text ValueIsIncorrect = IsFormatted kind text × (¬ IsSound kind text)
 IsAtFault kind text _ = ⊥
+
+-- ---- machinery: what reading a text answers
+
+-- a value, where the text is allowed, or why it isn't
+abbrev pub IsJudged : {T : Type 0} → Kind → List ℕ → Result T SessionRejectReason → Type 0
+IsJudged kind text (Ok value) = IsSound kind text
+IsJudged kind text (Err reason) = IsAtFault kind text reason
+
+-- a value, where there is one
+abbrev pub allowed : {T : Type 0} → Option T → Result T SessionRejectReason
+allowed (Some value) = Ok value
+allowed None = Err ValueIsIncorrect
+
+-- the text of yes, or of no
+abbrev pub SaysYes : List ℕ → Bool → Type 0
+SaysYes text true = text ≡ codes "Y"
+SaysYes text false = text ≢ codes "Y"
+
+-- why a text isn't that of a whole number of 64 bits
+abbrev pub IsNoNumber : List ℕ → SessionRejectReason → Type 0
+IsNoNumber text IncorrectDataFormat = ¬ IsTrue (is_numeral text)
+IsNoNumber text ValueIsIncorrect = IsTrue (is_numeral text) × (2 ^ 64 ≤ digits_value 10 text)
+IsNoNumber text _ = ⊥

@@ -8,7 +8,6 @@ pub mod StandardHeader
 pub mod HeaderWalk
 pub mod AllocStatuses
 pub mod TestReqIds
-pub mod Kept
 pub mod Kinds
 pub mod Groups
 pub mod Shape
@@ -18,6 +17,7 @@ pub mod Agreement
 pub mod Faults
 pub mod Messages
 pub mod Held
+pub mod Outlines
 pub mod Rejections
 pub mod CodedValues
 pub mod MomentTexts

@@ -1,138 +1,117 @@
-//! Give-ups, from fields without a fault (FIX: AllocationInstruction).
+//! Give-ups (FIX: AllocationInstruction).
 
-ghost use Rattle.std.specs.Prelude.{◌≡◌, ◌∷◌, [], IfOk, MatchResult};
-ghost use Rattle.std.specs.List.{AllByRecursion};
+ghost use Rattle.std.specs.Prelude.{◌≡◌, ◌<◌, ◌≤◌, ◌^◌, length, None, Some, MatchResult};
 ghost use Rattle.gu_msgs.specs.Groups.{entries_by, entries_of};
-ghost use Rattle.gu_msgs.specs.Held.{AreHeld, IsDisagreed, IsWellMade};
-ghost use Rattle.gu_msgs.specs.Kept.{AreKept};
-ghost use Rattle.gu_msgs.specs.Messages.{AreAllocs, HasAllocs, IsAlloc, Says};
-ghost use Rattle.gu_msgs.specs.Standings.{AreStandings};
-ghost use Rattle.gu_msgs.specs.Tables.{body_rows, entry_rows, outer_rows};
+ghost use Rattle.gu_msgs.specs.Messages.{AreAllocs, IsAlloc, Says};
+ghost use Rattle.gu_msgs.specs.Outlines.{AreJudged, HasExec, IsShaped, IsTypedRefusal, ReadsEntriesOrMemory, ReadsEntry, ReadsTo, ReadsToOrMemory};
+ghost use Rattle.gu_msgs.specs.Shape.{entries_fault, tags_fault};
+ghost use Rattle.gu_msgs.specs.Tables.{entry_rows};
+ghost use Rattle.gu_msgs.specs.Values.{first_value};
 ghost use Rattle.gu_msgs.specs.declared.msg_type.MsgType.TheVariants as kind;
 
-use crate::fault::MsgFault;
-use crate::groups::{group_after, next_entry};
+use crate::fault::{Fault, MsgFault};
+use crate::groups::{next_entry, text_at, value_at};
 use crate::inbound::{AllocationInstruction, Inbound};
-use crate::kept_values::KeptValues;
-use crate::msg_type::MsgType;
+use crate::kinds;
+use crate::outline::Outline;
 use crate::reject_reason::SessionRejectReason;
 use crate::run::Run;
 use crate::shape::fault_at;
-use crate::standing_values::{id_in, lots_in};
-use crate::standings::Standings;
-use crate::tags::{ALLOC_ACCOUNT, ALLOC_ID, ALLOC_QTY, EXEC_ID, NO_ALLOCS, NO_EXECS, QUANTITY};
-use crate::typed_values::{account_at, id_at, lots_at};
-use gu_terms::{Line, Lines, MOST_LINES};
-use std::alloc::{AllocError, Global};
+use crate::tags::{ALLOC_ACCOUNT, ALLOC_QTY, EXEC_ID, NO_ALLOCS, NO_EXECS, QUANTITY};
+use gu_terms::{Id, Line, Lines, MOST_LINES};
+use std::alloc::Global;
 
-/// The places of NoExecs and of NoAllocs in the table of give-ups.
+/// The places of the rows of its table.
+const ALLOC_ID_ROW: usize = 10;
+
+const ALLOC_TRANS_TYPE_ROW: usize = 11;
+
+const QUANTITY_ROW: usize = 12;
+
 const NO_EXECS_ROW: usize = 13;
 
 const NO_ALLOCS_ROW: usize = 14;
 
-/// The line that an entry says.
-#[tactic(auto, unfolding(crate::specs::Tables::entry_rows))]
-fn line_of(entry: &Run<'_>) -> Line
-    requires { AreHeld (entry_rows NO_ALLOCS) entry.now }
-    ensures { IsAlloc entry.now result }
+/// The id of a report that an entry says.
+fn entry_exec(entry: &Run<'_>) -> Result<Id, Fault>
+    requires { tags_fault (entry_rows NO_EXECS) entry.now ≡ None }
+    ensures { ReadsEntry (entry_rows NO_EXECS) entry.now (λ id. first_value EXEC_ID entry.now ≡ Some id) result }
 {
-    Line {
-        account: account_at(entry, ALLOC_ACCOUNT),
-        lots: lots_at(entry, ALLOC_QTY),
-    }
+    let id = value_at(EXEC_ID, kinds::id(text_at(entry, EXEC_ID)))?;
+    Ok(id)
 }
 
-/// The lines that a group's entries say.
-fn lines_of(alloc: Global, group: &Run<'_>) -> Result<Vec<Line>, AllocError>
-    requires { AllByRecursion (AreHeld (entry_rows NO_ALLOCS)) (entries_by ALLOC_ACCOUNT group.now) }
-    ensures { IfOk result (λ lines. AreAllocs (entries_by ALLOC_ACCOUNT group.now) lines.items) }
+/// The id of the one report of a give-up.
+#[tactic(auto, unfolding(crate::specs::Tables::header_rows, crate::specs::Tables::body_rows, crate::specs::Tables::entry_rows))]
+fn exec_id(outline: &Outline<'_, '_>) -> Result<Id, Fault>
+    requires kind { outline.now.kind ≡ kind.AllocationInstruction }
+    requires judged { AreJudged outline.now 13 }
+    ensures { ReadsTo outline.now 14 (HasExec outline.now.fields) result }
+{
+    entry_exec(&outline.only_entry(NO_EXECS_ROW, EXEC_ID)?)
+}
+
+/// The line that an entry says.
+fn entry_line(entry: &Run<'_>) -> Result<Line, Fault>
+    requires { tags_fault (entry_rows NO_ALLOCS) entry.now ≡ None }
+    ensures { ReadsEntry (entry_rows NO_ALLOCS) entry.now (IsAlloc entry.now) result }
+{
+    let account = value_at(ALLOC_ACCOUNT, kinds::account(text_at(entry, ALLOC_ACCOUNT)))?;
+    let lots = value_at(ALLOC_QTY, kinds::lots(text_at(entry, ALLOC_QTY)))?;
+    Ok(Line { account, lots })
+}
+
+/// The lines that the entries of a group say.
+fn lines_of(alloc: Global, group: &Run<'_>) -> Result<Vec<Line>, MsgFault>
+    requires few { length (entries_by ALLOC_ACCOUNT group.now) ≤ 16 }
+    requires tags { entries_fault (entry_rows NO_ALLOCS) (entries_by ALLOC_ACCOUNT group.now) ≡ None }
+    ensures { ReadsEntriesOrMemory (entry_rows NO_ALLOCS) (entries_by ALLOC_ACCOUNT group.now)
+        (λ lines. AreAllocs (entries_by ALLOC_ACCOUNT group.now) lines.items) result }
 {
     let mut lines = Vec::with_capacity(alloc, MOST_LINES)?;
     let mut rest = group.copy();
     while let Some(entry) = next_entry(&mut rest, ALLOC_ACCOUNT) {
-        lines.push(line_of(&entry))?;
+        lines.push_reserved(entry_line(&entry)?);
     }
     Ok(lines)
-}
-
-/// The entry of the one report.
-fn exec_entry<'a>(fields: &Run<'a>, numbers: &Standings) -> Run<'a>
-    requires made { IsWellMade kind.AllocationInstruction fields.now }
-    requires standings { AreStandings (outer_rows kind.AllocationInstruction) fields.now numbers.now }
-    ensures one { entries_of kind.AllocationInstruction NO_EXECS fields.now ≡ result ∷ [] }
-    ensures held { AreHeld (entry_rows NO_EXECS) result }
-{
-    let mut group = group_after(
-        fields,
-        MsgType::AllocationInstruction,
-        numbers[NO_EXECS_ROW],
-    );
-    let Some(entry) = next_entry(&mut group, EXEC_ID) else {
-        unreachable!();
-    };
-    entry
 }
 
 /// The lines of a give-up.
-fn read_lines(alloc: Global, fields: &Run<'_>, numbers: &Standings) -> Result<Lines, AllocError>
-    requires made { IsWellMade kind.AllocationInstruction fields.now }
-    requires standings { AreStandings (outer_rows kind.AllocationInstruction) fields.now numbers.now }
-    ensures { IfOk result (λ lines. AreAllocs (entries_of kind.AllocationInstruction NO_ALLOCS fields.now) lines) }
+#[tactic(auto, unfolding(crate::specs::Tables::header_rows, crate::specs::Tables::body_rows, crate::specs::Tables::entry_rows))]
+fn lines(alloc: Global, outline: &Outline<'_, '_>) -> Result<Lines, MsgFault>
+    requires kind { outline.now.kind ≡ kind.AllocationInstruction }
+    requires judged { AreJudged outline.now 14 }
+    ensures { ReadsToOrMemory outline.now 15 (AreAllocs (entries_of kind.AllocationInstruction NO_ALLOCS outline.now.fields)) result }
 {
-    let group = group_after(
-        fields,
-        MsgType::AllocationInstruction,
-        numbers[NO_ALLOCS_ROW],
-    );
-    let Some(lines) = Lines::new(lines_of(alloc, &group)?) else {
+    outline.count(NO_ALLOCS_ROW, 1, 16)?;
+    let list = lines_of(alloc, &outline.group(NO_ALLOCS_ROW))?;
+    let Some(lines) = Lines::new(list) else {
         unreachable!();
     };
     Ok(lines)
 }
 
-/// What a give-up says but for its quantity.
-#[tactic(auto, unfolding(crate::specs::Tables::body_rows, crate::specs::Tables::entry_rows))]
-fn instruction(
-    alloc: Global,
-    fields: &Run<'_>,
-    numbers: &Standings,
-) -> Result<AllocationInstruction, AllocError>
-    requires made { IsWellMade kind.AllocationInstruction fields.now }
-    requires standings { AreStandings (outer_rows kind.AllocationInstruction) fields.now numbers.now }
-    ensures { IfOk result (λ m. HasAllocs fields.now m) }
-{
-    let exec = exec_entry(fields, numbers);
-    let lines = read_lines(alloc, fields, numbers)?;
-    Ok(AllocationInstruction {
-        alloc_id: id_in(fields, MsgType::AllocationInstruction, numbers, ALLOC_ID),
-        exec_id: id_at(&exec, EXEC_ID),
-        lines,
-    })
-}
-
-#[tactic(auto, unfolding(crate::specs::Tables::body_rows))]
+/// What a give-up says.
+#[tactic(auto, unfolding(crate::specs::Tables::header_rows, crate::specs::Tables::body_rows, crate::specs::Tables::entry_rows))]
 pub fn read_allocation_instruction(
     alloc: Global,
-    fields: &Run<'_>,
-    numbers: &Standings,
-    kept: &KeptValues,
+    outline: &Outline<'_, '_>,
 ) -> Result<Inbound, MsgFault>
-    requires kept { AreKept fields.now kept.now }
-    requires made { IsWellMade kind.AllocationInstruction fields.now }
-    requires standings { AreStandings (outer_rows kind.AllocationInstruction) fields.now numbers.now }
-    ensures { MatchResult result (Says fields.now) (IsDisagreed kind.AllocationInstruction fields.now) }
+    requires shaped { IsShaped kind.AllocationInstruction outline.now }
+    requires judged { AreJudged outline.now 10 }
+    ensures { MatchResult result (Says outline.now.fields) (IsTypedRefusal kind.AllocationInstruction outline.now.fields) }
 {
-    let message = instruction(alloc, fields, numbers)?;
-    let quantity = lots_in(
-        fields,
-        MsgType::AllocationInstruction,
-        numbers,
-        kept,
-        QUANTITY,
-    );
-    if quantity.get() == message.lines.lots() {
-        Ok(Inbound::AllocationInstruction(message))
-    } else {
-        Err(MsgFault::Rejected(fault_at(SessionRejectReason::ValueIsIncorrect, QUANTITY)))
+    let alloc_id = outline.id(ALLOC_ID_ROW)?;
+    outline.may_number(ALLOC_TRANS_TYPE_ROW, 0, 0)?;
+    let quantity = outline.lots(QUANTITY_ROW)?;
+    let exec_id = exec_id(outline)?;
+    let lines = lines(alloc, outline)?;
+    if quantity.get() != lines.lots() {
+        return Err(MsgFault::Rejected(fault_at(SessionRejectReason::ValueIsIncorrect, QUANTITY)));
     }
+    Ok(Inbound::AllocationInstruction(AllocationInstruction {
+        alloc_id,
+        exec_id,
+        lines,
+    }))
 }

@@ -1,32 +1,30 @@
-//! What the carrying firm says to an offer, from fields without a fault (FIX: AllocationReportAck).
+//! What the carrying firm says to an offer (FIX: AllocationReportAck).
 
 ghost use Rattle.std.specs.Prelude.{MatchResult};
-ghost use Rattle.gu_msgs.specs.Held.{AreHeld, IsDisagreed, IsWellMade};
-ghost use Rattle.gu_msgs.specs.Messages.{IsReportAck, Says};
-ghost use Rattle.gu_msgs.specs.Tables.{body_rows};
+ghost use Rattle.gu_msgs.specs.Messages.{Says};
+ghost use Rattle.gu_msgs.specs.Outlines.{AreJudged, IsShaped, IsTypedRefusal};
 ghost use Rattle.gu_msgs.specs.declared.msg_type.MsgType.TheVariants as kind;
 
 use crate::fault::MsgFault;
 use crate::inbound::{AllocationReportAck, Inbound};
-use crate::run::Run;
-use crate::tags::{ALLOC_REPORT_ID, ALLOC_STATUS};
-use crate::typed_values::{offer_at, status_at};
+use crate::outline::Outline;
+
+/// The places of the rows of its table.
+const ALLOC_REPORT_ID_ROW: usize = 10;
+
+const ALLOC_STATUS_ROW: usize = 11;
 
 /// What is said, and to which offer.
-#[tactic(auto, unfolding(crate::specs::Tables::body_rows))]
-fn report_ack(fields: &Run<'_>) -> AllocationReportAck
-    requires { AreHeld (body_rows kind.AllocationReportAck) fields.now }
-    ensures { IsReportAck fields.now result }
+#[tactic(auto, using(crate::proofs::OutlineLemmas::of_type), unfolding(crate::specs::Tables::header_rows, crate::specs::Tables::body_rows, crate::specs::Tables::entry_rows))]
+pub fn read_allocation_report_ack(outline: &Outline<'_, '_>) -> Result<Inbound, MsgFault>
+    requires shaped { IsShaped kind.AllocationReportAck outline.now }
+    requires judged { AreJudged outline.now 10 }
+    ensures { MatchResult result (Says outline.now.fields) (IsTypedRefusal kind.AllocationReportAck outline.now.fields) }
 {
-    AllocationReportAck {
-        alloc_report_id: offer_at(fields, ALLOC_REPORT_ID),
-        alloc_status: status_at(fields, ALLOC_STATUS),
-    }
-}
-
-pub fn read_allocation_report_ack(fields: &Run<'_>) -> Result<Inbound, MsgFault>
-    requires { IsWellMade kind.AllocationReportAck fields.now }
-    ensures { MatchResult result (Says fields.now) (IsDisagreed kind.AllocationReportAck fields.now) }
-{
-    Ok(Inbound::AllocationReportAck(report_ack(fields)))
+    let alloc_report_id = outline.offer(ALLOC_REPORT_ID_ROW)?;
+    let alloc_status = outline.status(ALLOC_STATUS_ROW)?;
+    Ok(Inbound::AllocationReportAck(AllocationReportAck {
+        alloc_report_id,
+        alloc_status,
+    }))
 }

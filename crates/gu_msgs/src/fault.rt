@@ -32,3 +32,14 @@ impl From<AllocError> for MsgFault {
         MsgFault::Memory
     }
 }
+
+impl From<Fault> for MsgFault {
+    ghost use Rattle.std.specs.Prelude.{◌≡◌};
+    ghost use Rattle.gu_msgs.specs.declared.fault.MsgFault.TheVariants.{Rejected};
+
+    ghost from_gives = { λ found fault. fault ≡ Rejected found };
+
+    fn from(fault: Fault) -> MsgFault {
+        MsgFault::Rejected(fault)
+    }
+}

@@ -1,13 +1,17 @@
 //! Groups: a counter, and entries after it.
 
-ghost use Rattle.std.specs.Prelude.{◌≡◌, ◌∷◌, ◌==◌, ◌+◌, ◌<◌, ◌≤◌, ◌^◌, ℕ, [], length, MatchOption};
+ghost use Rattle.std.specs.Prelude.{◌≡◌, ◌∷◌, ◌==◌, ◌+◌, ◌<◌, ◌≤◌, ◌^◌, ℕ, [], length, Some, Ok, Err, IsTrue, MatchOption, MatchResult};
 ghost use Rattle.gu_msgs.specs.Groups.{entries_by, group_of, up_to};
 ghost use Rattle.gu_msgs.specs.Rows.{is_listed};
 ghost use Rattle.gu_msgs.specs.Standings.{IsStanding};
 ghost use Rattle.gu_msgs.specs.Tables.{outer_rows};
+ghost use Rattle.gu_msgs.specs.Values.{first_value, stands};
 
+use crate::fault::Fault;
+use crate::field_values::first_value;
 use crate::msg_type::MsgType;
 use crate::places::outer_place;
+use crate::reject_reason::SessionRejectReason;
 use crate::run::Run;
 use crate::standings::fields_after;
 
@@ -96,4 +100,25 @@ pub fn has_entries(group: &Run<'_>, first: u32, number: u64) -> bool
         }
     }
     left == 0
+}
+
+/// The text of a tag that stands in an entry.
+pub fn text_at<'a>(entry: &Run<'a>, tag: u32) -> &'a [u8]
+    requires { IsTrue (stands tag entry.now) }
+    ensures { first_value tag entry.now ≡ Some result.now }
+{
+    let Some(text) = first_value(entry, tag) else {
+        unreachable!();
+    };
+    text
+}
+
+/// What was read of the text of a tag of an entry, or its fault.
+pub fn value_at<T: Drop>(tag: u32, read: Result<T, SessionRejectReason>) -> Result<T, Fault>
+    ensures { MatchResult result (λ value. read ≡ Ok value) (λ fault. (read ≡ Err fault.reason) × (fault.tag ≡ tag)) }
+{
+    match read {
+        Ok(value) => Ok(value),
+        Err(reason) => Err(Fault { tag, reason }),
+    }
 }

@@ -1,39 +1,71 @@
-//! What is wrong with the text of a field.
+//! What the text of a field says where a value of a kind is wanted, or why it isn't allowed.
 
-ghost use Rattle.std.specs.Prelude.{◌≡◌, ◌↔◌, IsTrue, MatchOption, MatchResult, if◌then◌else◌, Some, None};
+ghost use Rattle.std.specs.Prelude.{◌≡◌, IfOk, MatchResult};
 ghost use Rattle.gu_terms.specs.Days.{WritesDay};
 ghost use Rattle.gu_terms.specs.NumberText.{MeansLots, MeansPrice};
-ghost use Rattle.gu_msgs.specs.Kinds.{IsAtFault, IsSound, IsYesOrNo};
+ghost use Rattle.gu_msgs.specs.AllocStatuses.{status_number};
+ghost use Rattle.gu_msgs.specs.Kinds.{IsJudged, IsNoNumber, IsNumber, SaysYes, allowed};
+ghost use Rattle.gu_msgs.specs.Messages.{side_number};
 ghost use Rattle.gu_msgs.specs.declared.row.Kind.TheVariants as kind;
 
 use crate::alloc_status::AllocStatus;
 use crate::reject_reason::SessionRejectReason;
-use crate::row::Kind;
-use crate::test_req_id::is_test_req_id;
+use crate::test_req_id::TestReqId;
 use crate::whole_number::{is_numeral, number_of};
-use gu_terms::{Day, FirmId, Id, Lots, NumberError, Price, read_lots, read_price};
+use gu_terms::{
+    AccountId, Day, Id, Lots, NumberError, OfferNo, Price, Side, Symbol, read_lots, read_price,
+};
+use std::alloc::{AllocError, Global};
 
-/// Whether a text is `Y` or `N`.
-fn is_yes_or_no(text: &[u8]) -> bool
-    ensures { IsTrue result ↔ IsYesOrNo text.now }
+/// What was read, or that the value isn't allowed.
+fn allowed<T: Drop>(value: Option<T>) -> Result<T, SessionRejectReason>
+    ensures { result ≡ allowed value }
 {
-    matches!(text, [b'Y'] | [b'N'])
-}
-
-/// A value that isn't allowed, unless it is.
-fn unless(is_sound: bool) -> Option<SessionRejectReason>
-    ensures { result ≡ (if is_sound then None else Some SessionRejectReason.ValueIsIncorrect) }
-{
-    if is_sound {
-        None
-    } else {
-        Some(SessionRejectReason::ValueIsIncorrect)
+    match value {
+        Some(value) => Ok(value),
+        None => Err(SessionRejectReason::ValueIsIncorrect),
     }
 }
 
-/// The lots of a text, or what is wrong with it.
-pub fn sound_lots(text: &[u8]) -> Result<Lots, SessionRejectReason>
-    ensures { MatchResult result (MeansLots text.now) (λ reason. IsAtFault kind.Lots text.now reason) }
+/// The id.
+pub fn id(text: &[u8]) -> Result<Id, SessionRejectReason>
+    ensures judged { IsJudged kind.Id text.now result }
+    ensures means { IfOk result (λ id. text.now ≡ id) }
+{
+    allowed(Id::new(text))
+}
+
+/// The account.
+pub fn account(text: &[u8]) -> Result<AccountId, SessionRejectReason>
+    ensures judged { IsJudged kind.Name text.now result }
+    ensures means { IfOk result (λ account. text.now ≡ account.name) }
+{
+    allowed(AccountId::new(text))
+}
+
+/// The instrument.
+pub fn symbol(text: &[u8]) -> Result<Symbol, SessionRejectReason>
+    ensures judged { IsJudged kind.Name text.now result }
+    ensures means { IfOk result (λ symbol. text.now ≡ symbol.name) }
+{
+    allowed(Symbol::new(text))
+}
+
+/// The id of a TestRequest.
+pub fn test_req_id(
+    alloc: Global,
+    text: &[u8],
+) -> Result<Result<TestReqId, SessionRejectReason>, AllocError>
+    ensures judged { IfOk result (IsJudged kind.TestReqId text.now) }
+    ensures means { IfOk result (λ read. IfOk read (λ id. text.now ≡ id)) }
+{
+    Ok(allowed(TestReqId::new(alloc, text)?))
+}
+
+/// The lots.
+pub fn lots(text: &[u8]) -> Result<Lots, SessionRejectReason>
+    ensures judged { IsJudged kind.Lots text.now result }
+    ensures means { IfOk result (MeansLots text.now) }
 {
     match read_lots(text) {
         Ok(lots) => Ok(lots),
@@ -42,9 +74,10 @@ pub fn sound_lots(text: &[u8]) -> Result<Lots, SessionRejectReason>
     }
 }
 
-/// The price of a text, or what is wrong with it.
-pub fn sound_price(text: &[u8]) -> Result<Price, SessionRejectReason>
-    ensures { MatchResult result (MeansPrice text.now) (λ reason. IsAtFault kind.Price text.now reason) }
+/// The price.
+pub fn price(text: &[u8]) -> Result<Price, SessionRejectReason>
+    ensures judged { IsJudged kind.Price text.now result }
+    ensures means { IfOk result (MeansPrice text.now) }
 {
     match read_price(text) {
         Ok(price) => Ok(price),
@@ -53,9 +86,10 @@ pub fn sound_price(text: &[u8]) -> Result<Price, SessionRejectReason>
     }
 }
 
-/// The day of a text, or what is wrong with it.
-pub fn sound_day(text: &[u8]) -> Result<Day, SessionRejectReason>
-    ensures { MatchResult result (λ d. WritesDay text.now d.year d.month d.day) (λ reason. IsAtFault kind.Date text.now reason) }
+/// The day.
+pub fn day(text: &[u8]) -> Result<Day, SessionRejectReason>
+    ensures judged { IsJudged kind.Date text.now result }
+    ensures means { IfOk result (λ d. WritesDay text.now d.year d.month d.day) }
 {
     match Day::read(text) {
         Ok(day) => Ok(day),
@@ -64,51 +98,63 @@ pub fn sound_day(text: &[u8]) -> Result<Day, SessionRejectReason>
     }
 }
 
-/// What is wrong with the text of a whole number from one number to another.
-fn number_fault(text: &[u8], least: u64, most: u64) -> Option<SessionRejectReason>
-    ensures { MatchOption result (IsSound (kind.Number least most) text.now)
-        (λ reason. IsAtFault (kind.Number least most) text.now reason) }
+/// Whether it says yes.
+pub fn yes_or_no(text: &[u8]) -> Result<bool, SessionRejectReason>
+    ensures judged { IsJudged kind.YesOrNo text.now result }
+    ensures means { IfOk result (SaysYes text.now) }
 {
-    if !is_numeral(text) {
-        return Some(SessionRejectReason::IncorrectDataFormat);
-    }
-    match number_of(text) {
-        Some(number) if least <= number && number <= most => None,
-        _ => Some(SessionRejectReason::ValueIsIncorrect),
+    match text {
+        [b'Y'] => Ok(true),
+        [b'N'] => Ok(false),
+        _ => Err(SessionRejectReason::ValueIsIncorrect),
     }
 }
 
-/// What is wrong with the text of an AllocStatus.
-fn status_fault(text: &[u8]) -> Option<SessionRejectReason>
-    ensures { MatchOption result (IsSound kind.Status text.now) (λ reason. IsAtFault kind.Status text.now reason) }
+/// The whole number of 64 bits.
+fn whole_number(text: &[u8]) -> Result<u64, SessionRejectReason>
+    ensures { MatchResult result (IsNumber text.now) (IsNoNumber text.now) }
 {
     if !is_numeral(text) {
-        return Some(SessionRejectReason::IncorrectDataFormat);
+        return Err(SessionRejectReason::IncorrectDataFormat);
     }
-    let Some(number) = number_of(text) else {
-        return Some(SessionRejectReason::ValueIsIncorrect);
-    };
-    match AllocStatus::of_number(number) {
-        Some(_) => None,
-        None => Some(SessionRejectReason::ValueIsIncorrect),
+    allowed(number_of(text))
+}
+
+/// The whole number from one number to another.
+pub fn number(text: &[u8], least: u64, most: u64) -> Result<u64, SessionRejectReason>
+    ensures judged { IsJudged (kind.Number least most) text.now result }
+    ensures means { IfOk result (IsNumber text.now) }
+{
+    match whole_number(text)? {
+        number if least <= number && number <= most => Ok(number),
+        _ => Err(SessionRejectReason::ValueIsIncorrect),
     }
 }
 
-/// What is wrong with a text where a value of this kind is wanted.
-#[inline(always)]
-pub fn text_fault(kind: Kind, text: &[u8]) -> Option<SessionRejectReason>
-    ensures { MatchOption result (IsSound kind text.now) (λ reason. IsAtFault kind text.now reason) }
+/// The number of an offer.
+pub fn offer(text: &[u8]) -> Result<OfferNo, SessionRejectReason>
+    ensures judged { IsJudged (kind.Number 1 16000000) text.now result }
+    ensures means { IfOk result (IsNumber text.now) }
 {
-    match kind {
-        Kind::Lots => sound_lots(text).err(),
-        Kind::Price => sound_price(text).err(),
-        Kind::Date => sound_day(text).err(),
-        Kind::Number(least, most) => number_fault(text, least, most),
-        Kind::Status => status_fault(text),
-        Kind::Text => None,
-        Kind::TestReqId => unless(is_test_req_id(text)),
-        Kind::YesOrNo => unless(is_yes_or_no(text)),
-        Kind::Id => unless(Id::new(text).is_some()),
-        Kind::Name => unless(FirmId::new(text).is_some()),
+    allowed(OfferNo::new(whole_number(text)?))
+}
+
+/// The side.
+pub fn side(text: &[u8]) -> Result<Side, SessionRejectReason>
+    ensures judged { IsJudged (kind.Number 1 2) text.now result }
+    ensures means { IfOk result (λ side. IsNumber text.now (side_number side)) }
+{
+    match whole_number(text)? {
+        1 => Ok(Side::Buy),
+        2 => Ok(Side::Sell),
+        _ => Err(SessionRejectReason::ValueIsIncorrect),
     }
+}
+
+/// The status of an allocation.
+pub fn status(text: &[u8]) -> Result<AllocStatus, SessionRejectReason>
+    ensures judged { IsJudged kind.Status text.now result }
+    ensures means { IfOk result (λ status. IsNumber text.now (status_number status)) }
+{
+    allowed(AllocStatus::of_number(whole_number(text)?))
 }

@@ -29,19 +29,6 @@ fn place_of(rows: &[Row], tag: u32) -> Option<usize>
     None
 }
 
-/// The place of the row with a tag, from a place on.
-#[inline(always)]
-fn place_from(rows: &[Row], from: usize, tag: u32) -> Option<usize>
-    ensures { IfSome result (λ place. IsRowOf rows.now tag place) }
-{
-    for place in from..rows.len() {
-        if rows[place].tag() == tag {
-            return Some(place);
-        }
-    }
-    None
-}
-
 /// The place of a tag in a table: of the header's tags and CheckSum, or else of a type's own.
 macro_rules! place_in {
     ($tag:expr, $($own:pat => $place:expr),* $(,)?) => {
@@ -114,24 +101,12 @@ pub fn outer_place(msg_type: MsgType, tag: u32) -> Option<usize>
 
 /// The place of a tag among rows, which are those of the outer level of messages of a type where one is named.
 #[inline(always)]
-fn place_among(rows: &[Row], outer: Option<MsgType>, tag: u32) -> Option<usize>
+pub fn row_of(rows: &[Row], outer: Option<MsgType>, tag: u32) -> Option<usize>
     requires { IfSome outer (λ msg_type. rows.now ≡ outer_rows msg_type) }
     ensures { MatchOption result (is_listed rows.now tag ≡ false) (λ place. IsRowOf rows.now tag place) }
 {
     match outer {
         Some(msg_type) => outer_place(msg_type, tag),
         None => place_of(rows, tag),
-    }
-}
-
-/// The same. Tags mostly come in the order of a table, so it is looked for from a place on first.
-#[inline(always)]
-pub fn row_of(rows: &[Row], outer: Option<MsgType>, next: usize, tag: u32) -> Option<usize>
-    requires { IfSome outer (λ msg_type. rows.now ≡ outer_rows msg_type) }
-    ensures { MatchOption result (is_listed rows.now tag ≡ false) (λ place. IsRowOf rows.now tag place) }
-{
-    match place_from(rows, next, tag) {
-        Some(place) => Some(place),
-        None => place_among(rows, outer, tag),
     }
 }

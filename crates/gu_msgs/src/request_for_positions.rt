@@ -1,32 +1,33 @@
-//! Questions for positions, from fields without a fault (FIX: RequestForPositions).
+//! Questions for positions (FIX: RequestForPositions).
 
 ghost use Rattle.std.specs.Prelude.{MatchResult};
-ghost use Rattle.gu_msgs.specs.Held.{AreHeld, IsDisagreed, IsWellMade};
-ghost use Rattle.gu_msgs.specs.Messages.{IsRequest, Says};
-ghost use Rattle.gu_msgs.specs.Tables.{body_rows};
+ghost use Rattle.gu_msgs.specs.Messages.{Says};
+ghost use Rattle.gu_msgs.specs.Outlines.{AreJudged, IsShaped, IsTypedRefusal};
 ghost use Rattle.gu_msgs.specs.declared.msg_type.MsgType.TheVariants as kind;
 
 use crate::fault::MsgFault;
 use crate::inbound::{Inbound, RequestForPositions};
-use crate::run::Run;
-use crate::tags::{ACCOUNT, POS_REQ_ID};
-use crate::typed_values::{account_at, id_at};
+use crate::outline::Outline;
+
+/// The places of the rows of its table.
+const POS_REQ_ID_ROW: usize = 10;
+
+const POS_REQ_TYPE_ROW: usize = 11;
+
+const ACCOUNT_ROW: usize = 12;
 
 /// The question's id, and its account.
-#[tactic(auto, unfolding(crate::specs::Tables::body_rows))]
-fn request(fields: &Run<'_>) -> RequestForPositions
-    requires { AreHeld (body_rows kind.RequestForPositions) fields.now }
-    ensures { IsRequest fields.now result }
+#[tactic(auto, using(crate::proofs::OutlineLemmas::of_type), unfolding(crate::specs::Tables::header_rows, crate::specs::Tables::body_rows, crate::specs::Tables::entry_rows))]
+pub fn read_request_for_positions(outline: &Outline<'_, '_>) -> Result<Inbound, MsgFault>
+    requires shaped { IsShaped kind.RequestForPositions outline.now }
+    requires judged { AreJudged outline.now 10 }
+    ensures { MatchResult result (Says outline.now.fields) (IsTypedRefusal kind.RequestForPositions outline.now.fields) }
 {
-    RequestForPositions {
-        pos_req_id: id_at(fields, POS_REQ_ID),
-        account: account_at(fields, ACCOUNT),
-    }
-}
-
-pub fn read_request_for_positions(fields: &Run<'_>) -> Result<Inbound, MsgFault>
-    requires { IsWellMade kind.RequestForPositions fields.now }
-    ensures { MatchResult result (Says fields.now) (IsDisagreed kind.RequestForPositions fields.now) }
-{
-    Ok(Inbound::RequestForPositions(request(fields)))
+    let pos_req_id = outline.id(POS_REQ_ID_ROW)?;
+    outline.number(POS_REQ_TYPE_ROW, 0, 0)?;
+    let account = outline.account(ACCOUNT_ROW)?;
+    Ok(Inbound::RequestForPositions(RequestForPositions {
+        pos_req_id,
+        account,
+    }))
 }

@@ -1,7 +1,7 @@
 //! What is read of a message, a row for each tag.
 
 ghost use Rattle.std.specs.Prelude.{◌≡◌};
-ghost use Rattle.gu_msgs.specs.Rows.{tag_of, kind_of, is_required};
+ghost use Rattle.gu_msgs.specs.Rows.{tag_of, is_required};
 
 /// What the text of a field must be.
 #[derive(Clone, Copy)]
@@ -44,15 +44,6 @@ impl Row {
     {
         match self {
             Row::Required(tag, _) | Row::Optional(tag, _) => tag,
-        }
-    }
-
-    /// What the text must be.
-    pub fn kind(self) -> Kind
-        ensures { result ≡ kind_of self }
-    {
-        match self {
-            Row::Required(_, kind) | Row::Optional(_, kind) => kind,
         }
     }
 

@@ -5,8 +5,7 @@ ghost use Rattle.gu_terms.specs.declared.firm.FirmId.{FirmId as FirmOf};
 ghost use Rattle.gu_msgs.specs.Sender.{IsNumbered, IsSentBy};
 
 use crate::field_values::only_value;
-use crate::kinds::text_fault;
-use crate::row::Kind;
+use crate::kinds::number;
 use crate::run::Run;
 use crate::tables::GREATEST;
 use crate::tags::{MSG_SEQ_NUM, SENDER_COMP_ID};
@@ -18,7 +17,7 @@ fn is_numbered(fields: &Run<'_>) -> bool
     ensures { IsTrue result ↔ IsNumbered fields.now }
 {
     match only_value(fields, MSG_SEQ_NUM) {
-        Some(text) => text_fault(Kind::Number(1, GREATEST), text).is_none(),
+        Some(text) => number(text, 1, GREATEST).is_ok(),
         None => false,
     }
 }

@@ -1,55 +1,59 @@
-//! Messages of the session, from fields without a fault.
+//! Messages of the session.
 
 ghost use Rattle.std.specs.Prelude.{◌≡◌, ◌⊎◌, ◌≤◌, ◌↔◌, IsTrue, MatchResult};
-ghost use Rattle.gu_msgs.specs.Held.{AreHeld, IsDisagreed, IsWellMade};
-ghost use Rattle.gu_msgs.specs.Messages.{IsLogon, IsResendRequest, IsSequenceReset, Says};
-ghost use Rattle.gu_msgs.specs.Tables.{body_rows};
+ghost use Rattle.gu_msgs.specs.Messages.{IsResendRequest, Says};
+ghost use Rattle.gu_msgs.specs.Outlines.{AreJudged, IsShaped, IsTypedRefusal, ReadsTo};
 ghost use Rattle.gu_msgs.specs.declared.msg_type.MsgType.TheVariants as kind;
 
-use crate::fault::MsgFault;
+use crate::fault::{Fault, MsgFault};
 use crate::inbound::{Inbound, Logon, ResendRequest, SequenceReset, TestRequest};
+use crate::outline::Outline;
 use crate::reject_reason::SessionRejectReason;
-use crate::run::Run;
 use crate::shape::fault_at;
-use crate::tags::{
-    BEGIN_SEQ_NO, END_SEQ_NO, GAP_FILL_FLAG, HEART_BT_INT, NEW_SEQ_NO, RESET_SEQ_NUM_FLAG,
-    TEST_REQ_ID,
-};
-use crate::typed_values::{is_set, number_at, test_req_id_at};
+use crate::tables::GREATEST;
+use crate::tags::END_SEQ_NO;
 use std::alloc::Global;
 
-pub fn read_test_request(alloc: Global, fields: &Run<'_>) -> Result<Inbound, MsgFault>
-    requires { IsWellMade kind.TestRequest fields.now }
-    ensures { MatchResult result (Says fields.now) (IsDisagreed kind.TestRequest fields.now) }
+/// The id of a TestRequest.
+#[tactic(auto, using(crate::proofs::OutlineLemmas::of_type), unfolding(crate::specs::Tables::header_rows, crate::specs::Tables::body_rows, crate::specs::Tables::entry_rows))]
+pub fn read_test_request(alloc: Global, outline: &Outline<'_, '_>) -> Result<Inbound, MsgFault>
+    requires shaped { IsShaped kind.TestRequest outline.now }
+    requires judged { AreJudged outline.now 10 }
+    ensures { MatchResult result (Says outline.now.fields) (IsTypedRefusal kind.TestRequest outline.now.fields) }
 {
-    let test_req_id = test_req_id_at(alloc, fields, TEST_REQ_ID)?;
+    let test_req_id = outline.test_req_id(alloc, 10)?;
     Ok(Inbound::TestRequest(TestRequest { test_req_id }))
 }
 
-/// What a ResendRequest asks for.
-#[tactic(auto, unfolding(crate::specs::Tables::body_rows))]
-fn resend_request(fields: &Run<'_>) -> ResendRequest
-    requires { AreHeld (body_rows kind.ResendRequest) fields.now }
-    ensures { IsResendRequest fields.now result }
+/// The numbers of a ResendRequest.
+#[tactic(auto, unfolding(crate::specs::Tables::header_rows, crate::specs::Tables::body_rows, crate::specs::Tables::entry_rows))]
+fn numbers_asked(outline: &Outline<'_, '_>) -> Result<ResendRequest, Fault>
+    requires kind { outline.now.kind ≡ kind.ResendRequest }
+    requires judged { AreJudged outline.now 10 }
+    ensures { ReadsTo outline.now 12 (IsResendRequest outline.now.fields) result }
 {
-    ResendRequest {
-        begin_seq_no: number_at(fields, BEGIN_SEQ_NO),
-        end_seq_no: number_at(fields, END_SEQ_NO),
-    }
+    let begin_seq_no = outline.number(10, 1, GREATEST)?;
+    let end_seq_no = outline.number(11, 0, GREATEST)?;
+    Ok(ResendRequest {
+        begin_seq_no,
+        end_seq_no,
+    })
 }
 
-/// Whether the last number that is asked for stands for all, or isn't below the first.
+/// Whether the last number that is asked for is 0, for all, or isn't below the first.
 fn ends_right(request: ResendRequest) -> bool
     ensures { IsTrue result ↔ ((request.end_seq_no ≡ 0) ⊎ (request.begin_seq_no ≤ request.end_seq_no)) }
 {
     request.end_seq_no == 0 || request.begin_seq_no <= request.end_seq_no
 }
 
-pub fn read_resend_request(fields: &Run<'_>) -> Result<Inbound, MsgFault>
-    requires { IsWellMade kind.ResendRequest fields.now }
-    ensures { MatchResult result (Says fields.now) (IsDisagreed kind.ResendRequest fields.now) }
+/// What a ResendRequest asks for.
+pub fn read_resend_request(outline: &Outline<'_, '_>) -> Result<Inbound, MsgFault>
+    requires shaped { IsShaped kind.ResendRequest outline.now }
+    requires judged { AreJudged outline.now 10 }
+    ensures { MatchResult result (Says outline.now.fields) (IsTypedRefusal kind.ResendRequest outline.now.fields) }
 {
-    let request = resend_request(fields);
+    let request = numbers_asked(outline)?;
     if ends_right(request) {
         Ok(Inbound::ResendRequest(request))
     } else {
@@ -58,39 +62,33 @@ pub fn read_resend_request(fields: &Run<'_>) -> Result<Inbound, MsgFault>
 }
 
 /// What a SequenceReset sets.
-#[tactic(auto, unfolding(crate::specs::Tables::body_rows))]
-fn sequence_reset(fields: &Run<'_>) -> SequenceReset
-    requires { AreHeld (body_rows kind.SequenceReset) fields.now }
-    ensures { IsSequenceReset fields.now result }
+#[tactic(auto, using(crate::proofs::OutlineLemmas::of_type), unfolding(crate::specs::Tables::header_rows, crate::specs::Tables::body_rows, crate::specs::Tables::entry_rows))]
+pub fn read_sequence_reset(outline: &Outline<'_, '_>) -> Result<Inbound, MsgFault>
+    requires shaped { IsShaped kind.SequenceReset outline.now }
+    requires judged { AreJudged outline.now 10 }
+    ensures { MatchResult result (Says outline.now.fields) (IsTypedRefusal kind.SequenceReset outline.now.fields) }
 {
-    SequenceReset {
-        is_gap_fill: is_set(fields, GAP_FILL_FLAG),
-        new_seq_no: number_at(fields, NEW_SEQ_NO),
-    }
-}
-
-pub fn read_sequence_reset(fields: &Run<'_>) -> Result<Inbound, MsgFault>
-    requires { IsWellMade kind.SequenceReset fields.now }
-    ensures { MatchResult result (Says fields.now) (IsDisagreed kind.SequenceReset fields.now) }
-{
-    Ok(Inbound::SequenceReset(sequence_reset(fields)))
+    let is_gap_fill = outline.flag(10)?;
+    let new_seq_no = outline.number(11, 1, GREATEST)?;
+    Ok(Inbound::SequenceReset(SequenceReset {
+        is_gap_fill,
+        new_seq_no,
+    }))
 }
 
 /// What a Logon asks for.
-#[tactic(auto, unfolding(crate::specs::Tables::body_rows))]
-fn logon(fields: &Run<'_>) -> Logon
-    requires { AreHeld (body_rows kind.Logon) fields.now }
-    ensures { IsLogon fields.now result }
+#[tactic(auto, using(crate::proofs::OutlineLemmas::of_type), unfolding(crate::specs::Tables::header_rows, crate::specs::Tables::body_rows, crate::specs::Tables::entry_rows))]
+pub fn read_logon(outline: &Outline<'_, '_>) -> Result<Inbound, MsgFault>
+    requires shaped { IsShaped kind.Logon outline.now }
+    requires judged { AreJudged outline.now 10 }
+    ensures { MatchResult result (Says outline.now.fields) (IsTypedRefusal kind.Logon outline.now.fields) }
 {
-    Logon {
-        heart_bt_int: number_at(fields, HEART_BT_INT),
-        resets_seq_num: is_set(fields, RESET_SEQ_NUM_FLAG),
-    }
-}
-
-pub fn read_logon(fields: &Run<'_>) -> Result<Inbound, MsgFault>
-    requires { IsWellMade kind.Logon fields.now }
-    ensures { MatchResult result (Says fields.now) (IsDisagreed kind.Logon fields.now) }
-{
-    Ok(Inbound::Logon(logon(fields)))
+    outline.number(10, 0, 0)?;
+    let heart_bt_int = outline.number(11, 0, 3600)?;
+    outline.number(12, 9, 9)?;
+    let resets_seq_num = outline.flag(13)?;
+    Ok(Inbound::Logon(Logon {
+        heart_bt_int,
+        resets_seq_num,
+    }))
 }

@@ -6,11 +6,9 @@ ghost use Rattle.gu_msgs.specs.Rows.{is_listed};
 ghost use Rattle.gu_msgs.specs.Shape.{missing, repeated};
 ghost use Rattle.gu_msgs.specs.Standings.{AreStandings, IsTable, Notes, fields_after, value_numbered};
 ghost use Rattle.gu_msgs.specs.Tables.{outer_rows};
-ghost use Rattle.gu_msgs.specs.Values.{first_value};
 
-use crate::field_values::first_value;
 use crate::msg_type::MsgType;
-use crate::places::{outer_place, row_of};
+use crate::places::row_of;
 use crate::row::Row;
 use crate::run::Run;
 
@@ -28,7 +26,6 @@ pub const NONE_STANDS: Standings = [0; MOST_ROWS];
 fn note(
     rows: &[Row],
     outer: Option<MsgType>,
-    next: &mut usize,
     numbers: &mut Standings,
     tag: u32,
     number: usize,
@@ -37,14 +34,13 @@ fn note(
     requires outer { IfSome outer (λ msg_type. rows.now ≡ outer_rows msg_type) }
     ensures { Notes result rows.now tag number numbers.old numbers.new }
 {
-    let Some(place) = row_of(rows, outer, *next, tag) else {
+    let Some(place) = row_of(rows, outer, tag) else {
         return true;
     };
     if numbers[place] != 0 {
         return false;
     }
     numbers[place] = number;
-    *next = place + 1;
     true
 }
 
@@ -63,11 +59,10 @@ pub fn standings(
     ensures first { MatchOption result (AreStandings rows.now fields.now numbers.new) (λ tag. ⊤) }
 {
     *numbers = NONE_STANDS;
-    let mut next = 0;
     let mut seen = 0;
     for field in fields {
         seen += 1;
-        if !note(rows, outer, &mut next, numbers, field.tag, seen) {
+        if !note(rows, outer, numbers, field.tag, seen) {
             return Some(field.tag);
         }
     }
@@ -97,23 +92,6 @@ pub fn fields_after<'a>(fields: &Run<'a>, number: usize) -> Run<'a>
         return fields.first(0);
     }
     fields.from(number)
-}
-
-/// The value of a tag of the outer level. Where the type and the tag are known to the compiler, so is the tag's place.
-#[inline(always)]
-pub fn outer_value<'a>(
-    fields: &Run<'a>,
-    msg_type: MsgType,
-    numbers: &Standings,
-    tag: u32,
-) -> Option<&'a [u8]>
-    requires { AreStandings (outer_rows msg_type) fields.now numbers.now }
-    ensures { MatchOption result (first_value tag fields.now ≡ None) (λ value. first_value tag fields.now ≡ Some value.now) }
-{
-    match outer_place(msg_type, tag) {
-        Some(place) => value_numbered(fields, numbers[place]),
-        None => first_value(fields, tag),
-    }
 }
 
 /// The value of the field with this number.

@@ -1,8 +1,7 @@
 //! The table of messages that are read.
 
 ghost use Rattle.std.specs.Prelude.{◌≡◌};
-ghost use Rattle.gu_msgs.specs.Rows.{is_listed};
-ghost use Rattle.gu_msgs.specs.Tables.{body_rows, entry_rows, header_rows, outer_rows};
+ghost use Rattle.gu_msgs.specs.Tables.{entry_rows, header_rows, outer_rows};
 
 use crate::msg_type::MsgType;
 use crate::row::Kind::{Date, Id, Lots, Name, Number, Price, Status, TestReqId, Text, YesOrNo};
@@ -131,14 +130,6 @@ pub fn outer_rows(msg_type: MsgType) -> &'static [Row]
     }
 }
 
-/// The tags of a type's own.
-#[tactic(auto, unfolding(crate::specs::Tables::header_rows))]
-pub fn body_rows(msg_type: MsgType) -> &'static [Row]
-    ensures { result.now ≡ body_rows msg_type }
-{
-    &outer_rows(msg_type)[HEADER_ROWS..]
-}
-
 /// The tags of an entry of the group with this counter, none where the tag counts nothing.
 #[tactic(auto, unfolding(crate::specs::Tables::entry_rows))]
 #[inline(always)]
@@ -151,11 +142,4 @@ pub fn entry_rows(counter: u32) -> &'static [Row]
         NO_ALLOCS => &ALLOCS,
         _ => &[],
     }
-}
-
-/// Whether a tag is one of a table.
-pub fn is_listed(rows: &[Row], tag: u32) -> bool
-    ensures { result ≡ is_listed rows.now tag }
-{
-    rows.iter().any(|row| row.tag() == tag)
 }

@@ -1,96 +1,84 @@
-//! Reports of one side of a trade, from fields without a fault (FIX: TradeCaptureReport).
+//! Reports of one side of a trade (FIX: TradeCaptureReport).
 
-ghost use Rattle.std.specs.Prelude.{◌≡◌, ◌∷◌, [], List, MatchResult};
-ghost use Rattle.gu_fix.specs.TagValue.{TagValue};
-ghost use Rattle.gu_msgs.specs.Groups.{entries_of};
-ghost use Rattle.gu_msgs.specs.Held.{AreHeld, IsDisagreed, IsWellMade};
-ghost use Rattle.gu_msgs.specs.Kept.{AreKept};
-ghost use Rattle.gu_msgs.specs.Messages.{IsReport, Says};
-ghost use Rattle.gu_msgs.specs.Standings.{AreStandings};
-ghost use Rattle.gu_msgs.specs.Tables.{body_rows, entry_rows, outer_rows};
+ghost use Rattle.std.specs.Prelude.{◌≡◌, MatchResult, None};
+ghost use Rattle.gu_msgs.specs.Messages.{Says};
+ghost use Rattle.gu_msgs.specs.Outlines.{AreJudged, HasSide, IsShaped, IsTypedRefusal, ReadsEntry, ReadsTo, SaysSide};
+ghost use Rattle.gu_msgs.specs.Shape.{tags_fault};
+ghost use Rattle.gu_msgs.specs.Tables.{entry_rows};
 ghost use Rattle.gu_msgs.specs.declared.msg_type.MsgType.TheVariants as kind;
 
-use crate::fault::MsgFault;
-use crate::groups::{group_after, next_entry};
+use crate::fault::{Fault, MsgFault};
+use crate::groups::{text_at, value_at};
 use crate::inbound::{Inbound, TradeCaptureReport};
-use crate::kept_values::KeptValues;
-use crate::msg_type::MsgType;
+use crate::kinds;
+use crate::outline::Outline;
 use crate::run::Run;
-use crate::standing_values::{day_in, id_in, lots_in, price_in, symbol_in};
-use crate::standings::Standings;
-use crate::tags::{
-    ACCOUNT, LAST_PX, LAST_QTY, NO_SIDES, SIDE, SYMBOL, TRADE_DATE, TRADE_REPORT_ID, TRD_MATCH_ID,
-};
-use crate::typed_values::{account_at, side_at};
+use crate::tags::{ACCOUNT, NO_SIDES, SIDE};
+use gu_terms::{AccountId, Side};
 
-/// The place of NoSides in the table of reports.
+/// The places of the rows of its table.
+const TRADE_REPORT_ID_ROW: usize = 10;
+
+const TRADE_REPORT_TRANS_TYPE_ROW: usize = 11;
+
+const TRADE_REPORT_TYPE_ROW: usize = 12;
+
+const TRD_MATCH_ID_ROW: usize = 13;
+
+const SYMBOL_ROW: usize = 14;
+
+const LAST_QTY_ROW: usize = 15;
+
+const LAST_PX_ROW: usize = 16;
+
+const TRADE_DATE_ROW: usize = 17;
+
 const NO_SIDES_ROW: usize = 18;
 
-/// The entry of the one side.
-#[inline(always)]
-fn side_entry<'a>(fields: &Run<'a>, numbers: &Standings) -> Run<'a>
-    requires made { IsWellMade kind.TradeCaptureReport fields.now }
-    requires standings { AreStandings (outer_rows kind.TradeCaptureReport) fields.now numbers.now }
-    ensures one { entries_of kind.TradeCaptureReport NO_SIDES fields.now ≡ result ∷ [] }
-    ensures held { AreHeld (entry_rows NO_SIDES) result }
+/// The side and the account that an entry says.
+fn entry_side(entry: &Run<'_>) -> Result<(Side, AccountId), Fault>
+    requires { tags_fault (entry_rows NO_SIDES) entry.now ≡ None }
+    ensures { ReadsEntry (entry_rows NO_SIDES) entry.now (λ s. SaysSide entry.now s.0 s.1) result }
 {
-    let mut group = group_after(fields, MsgType::TradeCaptureReport, numbers[NO_SIDES_ROW]);
-    let Some(entry) = next_entry(&mut group, SIDE) else {
-        unreachable!();
-    };
-    entry
+    let side = value_at(SIDE, kinds::side(text_at(entry, SIDE)))?;
+    let account = value_at(ACCOUNT, kinds::account(text_at(entry, ACCOUNT)))?;
+    Ok((side, account))
 }
 
-/// What a report says, with the entry of its side.
-#[tactic(auto, unfolding(crate::specs::Tables::body_rows, crate::specs::Tables::entry_rows))]
-#[inline(always)]
-fn report(
-    fields: &Run<'_>,
-    numbers: &Standings,
-    kept: &KeptValues,
-    entry: &Run<'_>,
-) -> TradeCaptureReport
-    requires kept { AreKept fields.now kept.now }
-    requires standings { AreStandings (outer_rows kind.TradeCaptureReport) fields.now numbers.now }
-    requires held { AreHeld (body_rows kind.TradeCaptureReport) fields.now }
-    requires one { entries_of kind.TradeCaptureReport NO_SIDES fields.now ≡ entry.now ∷ [] }
-    requires side { AreHeld (entry_rows NO_SIDES) entry.now }
-    ensures { IsReport fields.now result }
+/// The side of a report, and its account.
+#[tactic(auto, unfolding(crate::specs::Tables::header_rows, crate::specs::Tables::body_rows, crate::specs::Tables::entry_rows))]
+fn one_side(outline: &Outline<'_, '_>) -> Result<(Side, AccountId), Fault>
+    requires kind { outline.now.kind ≡ kind.TradeCaptureReport }
+    requires judged { AreJudged outline.now 18 }
+    ensures { ReadsTo outline.now 19 (λ s. HasSide outline.now.fields s.0 s.1) result }
 {
-    TradeCaptureReport {
-        trade_report_id: id_in(
-            fields,
-            MsgType::TradeCaptureReport,
-            numbers,
-            TRADE_REPORT_ID,
-        ),
-        trd_match_id: id_in(fields, MsgType::TradeCaptureReport, numbers, TRD_MATCH_ID),
-        symbol: symbol_in(fields, MsgType::TradeCaptureReport, numbers, SYMBOL),
-        last_qty: lots_in(fields, MsgType::TradeCaptureReport, numbers, kept, LAST_QTY),
-        last_px: price_in(fields, MsgType::TradeCaptureReport, numbers, kept, LAST_PX),
-        trade_date: day_in(
-            fields,
-            MsgType::TradeCaptureReport,
-            numbers,
-            kept,
-            TRADE_DATE,
-        ),
-        side: side_at(entry, SIDE),
-        account: account_at(entry, ACCOUNT),
-    }
+    entry_side(&outline.only_entry(NO_SIDES_ROW, SIDE)?)
 }
 
-#[inline(always)]
-pub fn read_trade_capture_report(
-    fields: &Run<'_>,
-    numbers: &Standings,
-    kept: &KeptValues,
-) -> Result<Inbound, MsgFault>
-    requires kept { AreKept fields.now kept.now }
-    requires made { IsWellMade kind.TradeCaptureReport fields.now }
-    requires standings { AreStandings (outer_rows kind.TradeCaptureReport) fields.now numbers.now }
-    ensures { MatchResult result (Says fields.now) (IsDisagreed kind.TradeCaptureReport fields.now) }
+/// What a report says.
+#[tactic(auto, using(crate::proofs::OutlineLemmas::of_type), unfolding(crate::specs::Tables::header_rows, crate::specs::Tables::body_rows, crate::specs::Tables::entry_rows))]
+pub fn read_trade_capture_report(outline: &Outline<'_, '_>) -> Result<Inbound, MsgFault>
+    requires shaped { IsShaped kind.TradeCaptureReport outline.now }
+    requires judged { AreJudged outline.now 10 }
+    ensures { MatchResult result (Says outline.now.fields) (IsTypedRefusal kind.TradeCaptureReport outline.now.fields) }
 {
-    let entry = side_entry(fields, numbers);
-    Ok(Inbound::TradeCaptureReport(report(fields, numbers, kept, &entry)))
+    let trade_report_id = outline.id(TRADE_REPORT_ID_ROW)?;
+    outline.may_number(TRADE_REPORT_TRANS_TYPE_ROW, 0, 0)?;
+    outline.may_number(TRADE_REPORT_TYPE_ROW, 0, 0)?;
+    let trd_match_id = outline.id(TRD_MATCH_ID_ROW)?;
+    let symbol = outline.symbol(SYMBOL_ROW)?;
+    let last_qty = outline.lots(LAST_QTY_ROW)?;
+    let last_px = outline.price(LAST_PX_ROW)?;
+    let trade_date = outline.day(TRADE_DATE_ROW)?;
+    let (side, account) = one_side(outline)?;
+    Ok(Inbound::TradeCaptureReport(TradeCaptureReport {
+        trade_report_id,
+        trd_match_id,
+        symbol,
+        last_qty,
+        last_px,
+        trade_date,
+        side,
+        account,
+    }))
 }

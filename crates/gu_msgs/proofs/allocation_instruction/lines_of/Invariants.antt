@@ -1,17 +1,24 @@
-use Rattle.std.proofs.Common.{◌++◌, List, length}
-use Rattle.std.specs.List.{AllByRecursion}
+use Rattle.std.specs.Vec.{vec_capacity, vec_len}
+use Rattle.std.proofs.Common.{◌≡◌, ◌≤◌, ◌+◌, ◌++◌, List, Option, None, length}
+use Rattle.std.specs.List.{flat_map}
 use Rattle.gu_terms.specs.declared.lines.Line.{Line}
 use Rattle.gu_msgs.specs.Groups.{entries_by}
-use Rattle.gu_msgs.specs.Held.{AreHeld}
+use Rattle.gu_msgs.specs.Items.{items_of}
 use Rattle.gu_msgs.specs.Messages.{AreAllocs}
+use Rattle.gu_msgs.specs.Shape.{entries_fault}
 use Rattle.gu_msgs.specs.Tables.{entry_rows}
+use Rattle.gu_msgs.specs.declared.fault.Fault.{Fault}
 use Rattle.gu_msgs.specs.declared.tags.TheConstants.{ALLOC_ACCOUNT, NO_ALLOCS}
+use Rattle.gu_msgs.proofs.ItemLemmas.{HasFirst}
 use Rattle.gu_msgs.proofs.allocation_instruction.lines_of.Given as goal
 
 abbrev pub invariant-loop-entry : goal.invariant-loop-entry
 invariant-loop-entry l = record {
-  held : AllByRecursion (AreHeld (entry_rows NO_ALLOCS)) (entries_by ALLOC_ACCOUNT l.rest);
+  tags : entries_fault (entry_rows NO_ALLOCS) (entries_by ALLOC_ACCOUNT l.rest) ≡ None;
   so_far : (later : List Line) → AreAllocs (entries_by ALLOC_ACCOUNT l.rest) later → AreAllocs (entries_by ALLOC_ACCOUNT l.group) (l.lines.items ++ later);
+  first : (found : Option Fault) → HasFirst (flat_map (items_of (entry_rows NO_ALLOCS)) (entries_by ALLOC_ACCOUNT l.rest)) found
+      → HasFirst (flat_map (items_of (entry_rows NO_ALLOCS)) (entries_by ALLOC_ACCOUNT l.group)) found;
+  room : length (entries_by ALLOC_ACCOUNT l.rest) + vec_len l.lines ≤ vec_capacity l.lines;
 }
 
 abbrev pub decreases-loop-entry : goal.decreases-loop-entry

@@ -1,0 +1,35 @@
+use Rattle.std.proofs.Common.{◌≡◌, ◌<◌, ◌∙◌, List, ap, arith, false, length, refl, subst, true}
+use Rattle.std.proofs.lemmas.Result.{err_from_is_err_and}
+use Rattle.std.specs.List.{flat_map}
+use Rattle.gu_terms.specs.Lines.{AreLines}
+use Rattle.gu_msgs.specs.Groups.{entries_by}
+use Rattle.gu_msgs.specs.Items.{Item, items_of}
+use Rattle.gu_msgs.specs.Outlines.{IsRefusedOf, entries_at, entry_rows_at}
+use Rattle.gu_msgs.specs.Tables.{body_rows, entry_rows, header_rows, outer_rows}
+use Rattle.gu_msgs.specs.declared.tags.TheConstants.{ALLOC_ACCOUNT, NO_ALLOCS}
+use Rattle.gu_msgs.proofs.AllocLemmas.{length-allocs}
+use Rattle.gu_msgs.proofs.OutlineLemmas.{group_refused}
+use Rattle.gu_msgs.proofs.allocation_instruction.lines.Goals as goal
+
+pub returns-in_err-list : goal.returns-in_err-list
+unfolding header_rows body_rows entry_rows
+returns-in_err-list c =
+    let m = c.args.outline.now in
+    let within : 14 < length (outer_rows m.kind) = rw c.requires.kind (omega arith) in
+    let e = c.in_err-list.field-0.0 in
+    let same : flat_map (items_of (entry_rows NO_ALLOCS)) (entries_by ALLOC_ACCOUNT c.group.result) ≡ flat_map (items_of (entry_rows_at m 14)) (entries_at m 14) =
+    rw (c.group.ensures.fields, c.requires.kind) refl in
+    group_refused m 14 _ e c.from_residual-in_err-list.result within c.requires.judged c.in_ok-count.ensures.sound (err_from_is_err_and _ c.from_residual-in_err-list.ensures.1)
+    (subst (λ (items : List Item). IsRefusedOf items e) same c.in_err-list.ensures)
+
+pub unreachable-requires : goal.unreachable-requires
+unfolding header_rows body_rows entry_rows
+unreachable-requires c =
+    let m = c.args.outline.now in
+    let entries : entries_at m 14 ≡ entries_by ALLOC_ACCOUNT c.group.result = rw (c.group.ensures.fields, c.requires.kind) refl in
+    let as_many = length-allocs (entries_by ALLOC_ACCOUNT c.group.result) c.in_ok-list.list.items c.in_ok-list.ensures.0 in
+    let count = c.in_ok-count.ensures in
+    let same = count.counted ∙ ap length entries ∙ as_many in
+    let some : AreLines c.in_ok-list.list.items = record { some = omega (arith, count.from, same); most = omega (arith, count.to, same) } in
+    let none : false ≡ true = c.in_default.ensures.sound.1 some in
+    cc
