@@ -1,5 +1,5 @@
 -- Machinery: the steps of a script, and the texts that are appended for them.
-use Rattle.std.specs.Prelude.{◌≡◌, ℕ, List, ◌++◌, Option, None}
+use Rattle.std.specs.Prelude.{◌≡◌, ℕ, List, ◌++◌, Option, Some, None}
 use Rattle.gu_terms.specs.declared.group.Group.{Group}
 use Rattle.gu_view.specs.View.{GroupView}
 use Rattle.gu_world.specs.Runs.{Course, GoesOn}
