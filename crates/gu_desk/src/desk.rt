@@ -21,9 +21,14 @@ use gu_flow::Proposal;
 use gu_terms::{Command, Entry, FirmId, Group, KeptSweep, Query, Receipt, Reply, Stretch};
 use gu_view::{Board, View, ViewToken};
 use std::alloc::{AllocError, Global};
+use std::hint::spin_loop;
 use std::marker::Model;
 use std::sync::ledger::Blank;
-use std::sync::{Mutex, Wait};
+use std::sync::{Mutex, MutexGuard, Wait};
+
+/// How often the lock is tried before a thread sleeps for it. The hold of a command is mostly over within these tries, and waking
+/// a thread takes longer than such a hold.
+const TRIES: usize = 200;
 
 /// A book behind a lock, for threads that each have a seat, and beside the lock a board of the views that were looked at.
 /// To a contract it is how many seats it has, and the board. The board keeps each view as long as the desk lives: one for each
@@ -101,6 +106,17 @@ impl<E: EntryLedger, S: LotLedger> Desk<E, S> {
         Ok((desk, places))
     }
 
+    /// The lock, held until what is returned is dropped. It may wait.
+    fn hold<R: Wait>(&self, rt: &R) -> MutexGuard<'_, CountedBook<E, S>> {
+        for _ in 0..TRIES {
+            if let Some(held) = self.locked.try_lock() {
+                return held;
+            }
+            spin_loop();
+        }
+        self.locked.lock(rt)
+    }
+
     /// Enters a command from a seat, and returns its number and the reply. It may wait for the lock, which it holds once.
     pub fn enter<R: Wait>(
         &self,
@@ -113,7 +129,7 @@ impl<E: EntryLedger, S: LotLedger> Desk<E, S> {
         ensures counted { IfOk result (λ e. seat.new ≡ with_entry seat.old) }
         ensures refused { OnErr result (seat.new ≡ seat.old) }
     {
-        self.locked.lock(rt).submit(seat, command)
+        self.hold(rt).submit(seat, command)
     }
 
     /// Enters a command from a seat, and returns its number, the reply, and a stretch of what a firm is told of the entries from a number
@@ -133,9 +149,7 @@ impl<E: EntryLedger, S: LotLedger> Desk<E, S> {
         ensures counted { IfOk result (λ e. seat.new ≡ with_entry seat.old) }
         ensures refused { OnErr result (seat.new ≡ seat.old) }
     {
-        self.locked
-            .lock(rt)
-            .submit_and_tell(seat, command, firm, from)
+        self.hold(rt).submit_and_tell(seat, command, firm, from)
     }
 
     /// Enters a command from a seat. It may wait for the lock, which it holds once; the receipt is made after the hold.
@@ -168,7 +182,7 @@ impl<E: EntryLedger, S: LotLedger> Desk<E, S> {
         ensures unknown { IsErrOf result AskError.UnknownGroup ↔ IsUnknown E.reference query }
         ensures seat { seat.new ≡ seat.old }
     {
-        self.locked.lock(rt).ask(seat, query)
+        self.hold(rt).ask(seat, query)
     }
 
     /// A stretch of what a firm is told of the entries from a number on. It may wait for the lock, which it holds once, while it
@@ -183,7 +197,7 @@ impl<E: EntryLedger, S: LotLedger> Desk<E, S> {
         ensures told { IfOk result (IsTold E.reference (E.opening + seat.old.entries) firm from) }
         ensures seat { seat.new ≡ seat.old }
     {
-        self.locked.lock(rt).stretch(seat, firm, from)
+        self.hold(rt).stretch(seat, firm, from)
     }
 
     /// The view of a group, in one hold of the lock, for which it may wait.
@@ -192,7 +206,7 @@ impl<E: EntryLedger, S: LotLedger> Desk<E, S> {
         ensures unknown { IsErrOf result AskError.UnknownGroup ↔ (is_group E.reference group.now ≡ false) }
         ensures seat { seat.new ≡ seat.old }
     {
-        self.locked.lock(rt).view(seat, group)
+        self.hold(rt).view(seat, group)
     }
 
     /// Looks at a group: its view is taken in one hold of the lock, and published on the desk's board after it. It may wait for the lock
@@ -238,7 +252,7 @@ impl<E: EntryLedger, S: LotLedger> Desk<E, S> {
         ensures stale { IfErr result (λ e. DiffersIfStale (refusal_of_second_hold e)) }
         ensures refused { OnErr result (seat.new ≡ seat.old) }
     {
-        self.locked.lock(rt).commit(seat, proposal, kept)
+        self.hold(rt).commit(seat, proposal, kept)
     }
 
     /// Sweeps a group: its view is taken in one hold of the lock and published, the gate proposes from a copy of it while no lock is
