@@ -4,6 +4,7 @@ mod JoinedWords
 pub mod LineFeedLaws
 mod LineLemmas
 mod NumberLemmas
+mod OfferSetLemmas
 mod OneLine
 mod OneMeaning
 mod PieceLemmas

@@ -1,5 +1,6 @@
 pub mod LineFeeds
 pub mod Lines
+pub mod OfferSets
 pub mod Outcomes
 pub mod ReadBack
 pub mod Reading

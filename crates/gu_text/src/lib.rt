@@ -6,6 +6,8 @@ mod error;
 mod laws;
 mod line_feed;
 mod lines;
+mod listed_takes;
+mod offer_set;
 mod outcomes;
 mod replies;
 mod reserved;

@@ -1,18 +1,17 @@
 //! The parts of a sheet, as far as its lines have come.
 
-ghost use Rattle.std.specs.Prelude.{◌≡◌, ◌++◌, ◌∷◌, [], None, Some, not, map, nat_eq, IfOk, IfErr, OnOk, IsSome, IsTrue, if◌then◌else◌};
-ghost use Rattle.gu_terms.specs.Cuts.{has_number};
+ghost use Rattle.std.specs.Prelude.{◌≡◌, not, IfOk, IfErr, OnOk, IsSome, IsTrue};
 ghost use Rattle.gu_text.specs.Sheets.{comes_after, is_repeated, fits_after};
 ghost use Rattle.gu_text.specs.Reading.{no_parts, with_kept, is_ended, IsMadeOf, MakesNone, MakesNoView};
 ghost use Rattle.gu_view.specs.Making.{MakesView, view_of};
 
 use crate::error::TextError;
+use crate::listed_takes::ListedTakes;
 use crate::sheet::Sheet;
 use crate::sheet_line::{Header, Part, SheetLine};
 use crate::takes_in_order::takes_in_order;
-use gu_terms::{Cut, MOST_OPEN_OFFERS, OfferNo, Take};
+use gu_terms::{Cut, MOST_OPEN_OFFERS};
 use gu_view::{Room, View, ViewError, ViewOffer};
-use indexmap::IndexSet;
 use std::alloc::{AllocError, Global};
 use std::marker::Model;
 
@@ -28,15 +27,12 @@ pub(crate) struct Parts {
     header: Option<Header>,
     offers: Vec<ViewOffer>,
     rooms: Vec<Room>,
-    takes: Vec<Take>,
-    /// The offers of the takes.
-    taken: IndexSet<OfferNo>,
+    takes: ListedTakes,
     cut: Cut,
 }
 
 impl Model for Parts {
-    ghost use Rattle.std.specs.Prelude.{◌≡◌, map, nat_eq, IsSome};
-    ghost use Rattle.std.specs.List.{IsDistinct};
+    ghost use Rattle.std.specs.Prelude.{IsSome};
     ghost use Rattle.gu_text.specs.SheetParts.{SheetParts};
 
     ghost Value = { SheetParts };
@@ -46,13 +42,11 @@ impl Model for Parts {
       header = p.header;
       offers = p.offers.items;
       rooms = p.rooms.items;
-      takes = p.takes.items;
+      takes = p.takes;
       cut = p.cut;
     } };
 
-    ghost invariant = { λ p. (IsSome p.last → IsSome p.header)
-        × (p.taken.keys ≡ map (λ t. t.offer) p.takes.items)
-        × IsDistinct nat_eq (map (λ t. t.offer) p.takes.items) };
+    ghost invariant = { λ p. IsSome p.last → IsSome p.header };
 }
 
 // By hand, so that who holds parts lets them go by one call.
@@ -64,13 +58,11 @@ impl Drop for Parts {
             offers,
             rooms,
             takes,
-            taken,
             cut,
         } = self;
         drop(offers);
         drop(rooms);
         drop(takes);
-        drop(taken);
         drop(cut);
     }
 }
@@ -95,26 +87,9 @@ impl Parts {
             header: None,
             offers: Vec::new(alloc),
             rooms: Vec::new(alloc),
-            takes: Vec::new(alloc),
-            taken: IndexSet::new(alloc),
+            takes: ListedTakes::new(alloc),
             cut: Cut::new(alloc),
         }
-    }
-
-    /// Adds a take, and answers whether its offer was new.
-    fn put_take(&mut self, take: Take) -> Result<bool, AllocError>
-        ensures new { IfOk result (λ new. new ≡ not (has_number (map (λ t. t.offer) self.old.takes) take.offer)) }
-        ensures put { IfOk result (λ new. self.new ≡ (if new then record self.old { takes = self.old.takes ++ take ∷ [] } else self.old)) }
-    {
-        if self.taken.contains(&take.offer) {
-            return Ok(false);
-        }
-        self.takes.push(take)?;
-        if self.taken.insert(take.offer).is_err() {
-            self.takes.pop();
-            return Err(AllocError);
-        }
-        Ok(true)
     }
 
     /// Adds what a line gives, and answers whether it repeats none.
@@ -139,7 +114,7 @@ impl Parts {
                 }
                 Ok(true)
             }
-            SheetLine::Take(take) => self.put_take(take),
+            SheetLine::Take(take) => self.takes.add(take),
             SheetLine::CutKey(key) => self.cut.add_key(key),
             SheetLine::CutOffer(number) => self.cut.add_offer(number),
             SheetLine::End => Ok(true),
@@ -178,15 +153,13 @@ impl Parts {
             offers,
             rooms,
             takes,
-            taken,
             cut,
         } = self;
-        drop(taken);
         let Some(header) = header else {
             unreachable!();
         };
         let view = view_at(alloc, header, offers, rooms, number)?;
-        let takes = takes_in_order(alloc, takes)?;
+        let takes = takes_in_order(alloc, takes.into_list())?;
         Ok(Sheet { view, takes, cut })
     }
 }

@@ -119,6 +119,7 @@ SHEET   G1  0|END| -> a sheet
 # a comment||SHEET G1 0|\r|#|END||# more| -> a sheet
 SHEET G1 999999999999|END| -> a sheet
 SHEET G1 000000000001|END| -> a sheet
+SHEET G1 0|TAKE 64 1|TAKE 16000000 1|TAKE 63 1|TAKE 65 1|TAKE 1 1|TAKE 128 1|END| -> a sheet
 ";
 
 /// Texts whose end is missing: bad is the number after the last line, with those that are skipped.
@@ -138,6 +139,8 @@ SHEET G1 0|TAKE 1 0|ROOM EXEC E1 5|END| -> bad at 3
 SHEET G1 0|END|END| -> bad at 3
 SHEET G1 0|END||TAKE 1 0| -> bad at 4
 SHEET G1 0|TAKE 1 2|TAKE 2 5|TAKE 1 2|END| -> bad at 4
+SHEET G1 0|TAKE 64 1|TAKE 16000000 1|TAKE 63 1|TAKE 64 2|END| -> bad at 5
+SHEET G1 0|TAKE 16000000 1|TAKE 15999999 1|TAKE 16000000 1|END| -> bad at 4
 SHEET G1 0|CUT EXEC E1|CUT OFFER 1|CUT EXEC E1|END| -> bad at 4
 SHEET G1 0|CUT OFFER 1|CUT OFFER 1|END| -> bad at 3
 ";
