@@ -20,7 +20,8 @@ pub fn split_at_line_feed(bytes: &[u8]) -> Option<(&[u8], &[u8])>
 /// (One byte more than the longest line may be the CR that is dropped.)
 pub fn is_too_long(bytes: &[u8]) -> bool
     requires { HasNoLineFeed bytes.now }
-    ensures { IsTrue result → IsTooLong bytes.now }
+    ensures exact { IsTrue result ↔ (longest_line + 1 < length bytes.now) }
+    ensures long { IsTrue result → IsTooLong bytes.now }
 {
     bytes.len() > LONGEST_LINE + 1
 }

@@ -13,4 +13,4 @@ returns-then-is_too_long-clause-bad c n is =
     c.deref.ensures.value ∙ c.in_ok-extend_from_slice.ensures.items ∙ ap (λ (p : Place). p.rest ++ c.args.bytes.now) c.self.view_is in
     let count : c.self.inside.count + 1 ≡ c.args.self.now.count + 1 = ap (λ (p : Place). p.count + 1) c.self.view_is in
     let number : c.self.inside.count + 1 ≡ n = search (rules, is) in
-    (sym number ∙ count, subst (λ (b : List ℕ). IsTooLong b) bytes (c.is_too_long.ensures (search (rules, c.if-is_too_long.true))))
+    (sym number ∙ count, subst (λ (b : List ℕ). IsTooLong b) bytes (c.is_too_long.ensures.long (search (rules, c.if-is_too_long.true))))
