@@ -23,6 +23,16 @@ AreEnds whole from (end ∷ ends) = (from ≤ end) × AreEnds whole end ends
 abbrev pub lists_at : List (List ℕ) → List ℕ → List (List ℕ)
 lists_at lists places = map (λ place. slice_index_or lists place []) places
 
+-- a list has the numbers of another, each once
+pub record IsOnce (list once : List ℕ) : Type 0 where
+  pub same : (n : ℕ) → list_any (λ m. m == n) once ≡ list_any (λ m. m == n) list
+  pub apart : AllPairs (λ a b. a ≢ b) once
+
+-- so have lists, each those of the list at its place
+pub record AreOnce (lists once : List (List ℕ)) : Type 0 where
+  pub long : length once ≡ length lists
+  pub each : (place : ℕ) → place < length lists → IsOnce (slice_index_or lists place []) (slice_index_or once place [])
+
 -- the keys of these offers' paths in order of first mention, beside the places of each path's keys
 pub record AreMentioned (offers : List ViewOffer) (keys : List LimitKey) (places : List (List ℕ)) : Type 0 where
   pub keys_are : keys ≡ keys_of offers

@@ -1,7 +1,7 @@
 //! Lists of places, one after another in one buffer.
 
 ghost use Rattle.std.specs.Prelude.{◌≡◌, ◌<◌, ◌≤◌, ◌∷◌, ◌++◌, [], length, OnOk, OnErr, IfOk, slice_get, slice_index, slice_range};
-ghost use Rattle.gu_view.specs.Keeping.{lists_from, AreEnds};
+ghost use Rattle.gu_view.specs.Keeping.{lists_from, AreEnds, AreOnce, IsOnce};
 
 use std::alloc::{AllocError, Global};
 use std::marker::Model;
@@ -39,6 +39,19 @@ fn part(joined: &[u32], start: usize, end: usize) -> &[u32]
     ensures { result.now ≡ slice_range joined.now start end }
 {
     &joined[start..end]
+}
+
+/// Appends the numbers of a list to none, each where it first comes.
+fn append_once(once: &mut Vec<u32>, list: &[u32]) -> Result<(), AllocError>
+    requires { once.old.items ≡ [] }
+    ensures { OnOk result (IsOnce list.now once.new.items) }
+{
+    for number in list {
+        if !once.contains(number) {
+            once.push(*number)?;
+        }
+    }
+    Ok(())
 }
 
 impl PlaceLists {
@@ -93,5 +106,19 @@ impl PlaceLists {
         let joined = self.joined.clone()?;
         let ends = self.ends.clone()?;
         Ok(PlaceLists { joined, ends })
+    }
+
+    /// The same lists, each without the numbers that came before in it.
+    pub fn each_once(&self, alloc: Global) -> Result<PlaceLists, AllocError>
+        ensures { IfOk result (λ lists. AreOnce self.now lists) }
+    {
+        let mut lists = PlaceLists::new(alloc);
+        let mut once = Vec::new(alloc);
+        for place in 0..self.count() {
+            once.clear();
+            append_once(&mut once, self.list(place))?;
+            lists.push(&once)?;
+        }
+        Ok(lists)
     }
 }

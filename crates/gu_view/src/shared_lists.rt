@@ -1,6 +1,7 @@
 //! Lists of places, of which those that follow one another may be one.
 
 ghost use Rattle.std.specs.Prelude.{◌≡◌, ◌-◌, ◌<◌, ◌++◌, ◌∷◌, [], IfOk, OnOk, Some, length, slice_get, slice_index_or};
+ghost use Rattle.gu_view.specs.Keeping.{AreOnce};
 
 use crate::place_lists::PlaceLists;
 use std::alloc::{AllocError, Global};
@@ -72,6 +73,15 @@ impl SharedLists {
     {
         let at = self.at.clone()?;
         let kept = self.kept.copy()?;
+        Ok(SharedLists { kept, at })
+    }
+
+    /// The same lists, each without the numbers that came before in it.
+    pub fn each_once(&self, alloc: Global) -> Result<SharedLists, AllocError>
+        ensures { IfOk result (λ lists. AreOnce self.now lists) }
+    {
+        let at = self.at.clone()?;
+        let kept = self.kept.each_once(alloc)?;
         Ok(SharedLists { kept, at })
     }
 }
