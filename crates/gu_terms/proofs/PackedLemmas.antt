@@ -1,14 +1,24 @@
--- Entries as a history keeps them: what comes after their ids, or is taken off there, leaves them as they are.
+-- Entries as a history keeps them: what comes after their texts, or is taken off there, leaves them as they are.
 use Rattle.std.proofs.Common.{◌≡◌, ℕ, suc, ◌+◌, ◌-◌, ◌<◌, ◌≤◌, ◌^◌, List, [], ◌∷◌, ◌++◌, All, length, map, min, take, drop, Some, arith, refl, sym, ap, inl, inr, subst, ◌∙◌, get_or, take-append-drop}
 use Rattle.std.specs.List.{AllPairs, slice_get}
 use Rattle.std.specs.Option.{option_map}
 use Rattle.std.proofs.lemmas.Bool.{cases_eq}
 use Rattle.std.proofs.lemmas.Option.{slice_get-get_or, slice_get-map, slice_get_read}
-use Rattle.std.proofs.lemmas.List.{append_assoc, drop-append-le, length-append, get_or-take, length-drop, length-take, length-take-le, map-append, take-append-le, take_all, take-map}
+use Rattle.std.proofs.lemmas.List.{append-nil, append_assoc, drop-append-le, length-append, get_or-take, length-drop, length-take, length-take-le, map-append, nil_from_length, take-append-le, take-map}
 use Rattle.std.proofs.lemmas.List.Elements.{All-push, All-take}
 use Rattle.std.proofs.lemmas.List.Quantifiers.{all_pairs_push}
-use Rattle.std.proofs.Math.Seq.{drop-append_seam, drop-append-add, take-append_seam}
-use Rattle.gu_terms.specs.PackedEntries.{AreIdsOf, AreKept, IsWithin, end_of, end_of_last, entry_by, entry_of, first_id, second_id, text_at}
+use Rattle.std.proofs.Math.Seq.{drop-append_seam, take-append_seam}
+use Rattle.gu_terms.specs.PackedEntries.{AreKept, AreShort, AreSound, HasTexts, HaveRoom, IsBodyOf, IsGroupOf, IsWithin, Texts, end_of, end_of_last, entry_by, entry_of, group_in, joined, reply_by, size_of, span_of, text_at, texts_at, texts_of}
+use Rattle.gu_terms.specs.declared.command.Command.{Command}
+use Rattle.gu_terms.specs.declared.command.Command.TheVariants as command
+use Rattle.gu_terms.specs.declared.entry.Entry.TheVariants.{Asked}
+use Rattle.gu_terms.specs.declared.group.Group.{Group}
+use Rattle.gu_terms.specs.declared.kept_reply.KeptReply.{KeptReply}
+use Rattle.gu_terms.specs.declared.kept_reply.KeptReply.TheVariants as kept_as
+use Rattle.gu_terms.specs.declared.kept_texts.Span.{Span}
+use Rattle.gu_terms.specs.declared.reply.Done.TheVariants as done
+use Rattle.gu_terms.specs.declared.reply.Reply.{Reply}
+use Rattle.gu_terms.specs.declared.reply.Reply.TheVariants.{Accepted}
 use Rattle.gu_terms.specs.declared.packed.Body.{Body}
 use Rattle.gu_terms.specs.declared.packed.Packed.{Packed}
 
@@ -18,29 +28,27 @@ text_at-front texts more at len within =
     ap (take len) (drop-append-le at texts more (omega (arith, within)))
     ∙ take-append-le len (drop at texts) more (omega (arith, length-drop at texts, within))
 
+-- and so do the texts of an entry
+texts_at-front : (texts more : List ℕ) (s : Span) → s.at + size_of s ≤ length texts → texts_at (texts ++ more) s ≡ texts_at texts s
+texts_at-front texts more s h =
+    let first = text_at-front texts more s.at s.first (omega (arith, h)) in
+    let second = text_at-front texts more (s.at + s.first) s.second (omega (arith, h)) in
+    let third = text_at-front texts more (s.at + s.first + s.second) s.third (omega (arith, h)) in
+    let fourth = text_at-front texts more (s.at + s.first + s.second + s.third) s.fourth (omega (arith, h)) in
+    rw (first, second, third, fourth) refl
+
 module _ (texts more : List ℕ) (kept : Packed) (h : end_of kept ≤ length texts) where
-  first-front : first_id (texts ++ more) kept.ids ≡ first_id texts kept.ids
-  first-front = text_at-front texts more kept.ids.at kept.ids.first (omega (arith, h))
-
-  second-front : second_id (texts ++ more) kept.ids ≡ second_id texts kept.ids
-  second-front = text_at-front texts more (kept.ids.at + kept.ids.first) kept.ids.second h
-
-  -- and so do the entries whose ids they are
+  -- so that the entry is the same
   entry_of-front : entry_of (texts ++ more) kept ≡ entry_of texts kept
-  entry_of-front =
-      ap (λ first. entry_by first (second_id (texts ++ more) kept.ids) kept.body) first-front
-      ∙ ap (λ second. entry_by (first_id texts kept.ids) second kept.body) second-front
+  entry_of-front = ap (λ (t : Texts). entry_by t kept.body kept.reply) (texts_at-front texts more kept.span h)
 
-  AreIdsOf-front : AreIdsOf kept.body (first_id texts kept.ids) (second_id texts kept.ids)
-      ≡ AreIdsOf kept.body (first_id (texts ++ more) kept.ids) (second_id (texts ++ more) kept.ids)
-  AreIdsOf-front =
-      ap (λ first. AreIdsOf kept.body first (second_id texts kept.ids)) (sym first-front)
-      ∙ ap (λ second. AreIdsOf kept.body (first_id (texts ++ more) kept.ids) second) (sym second-front)
+  AreSound-front : AreSound (texts_at texts kept.span) kept.body kept.reply ≡ AreSound (texts_at (texts ++ more) kept.span) kept.body kept.reply
+  AreSound-front = ap (λ (t : Texts). AreSound t kept.body kept.reply) (sym (texts_at-front texts more kept.span h))
 
 IsWithin-front : (texts more : List ℕ) (kept : Packed) → IsWithin texts kept → IsWithin (texts ++ more) kept
 IsWithin-front texts more kept h = record {
   within = omega (arith, length-append texts more, h.within);
-  ids = subst (λ X. X) (AreIdsOf-front texts more kept h.within) h.ids;
+  sound = subst (λ X. X) (AreSound-front texts more kept h.within) h.sound;
 }
 
 map-front : (texts more : List ℕ) (entries : List Packed) → All (λ k. end_of k ≤ length texts) entries
@@ -50,44 +58,70 @@ map-front texts more (k ∷ ks) h =
     ap (λ e. e ∷ map (entry_of (texts ++ more)) ks) (entry_of-front texts more k (h 0 k (omega arith)))
     ∙ ap (λ es. entry_of texts k ∷ es) (map-front texts more ks (λ i d within. h (suc i) d (omega arith)))
 
--- an entry more, whose ids come after the texts
-module _ (texts first second : List ℕ) (entries : List Packed) (body : Body) (h : AreKept texts entries)
-    (short : length first + length second + length texts < 2 ^ 32) (ids : AreIdsOf body first second) where
-  abbrev pub new : Packed
-  new = record { ids = record { at = length texts; first = length first; second = length second }; body = body }
+-- texts without bytes change nothing
+pub none_joined : (all : List ℕ) (t : Texts) → length (joined t) ≡ 0 → all ++ joined t ≡ all
+none_joined all t none = rw (nil_from_length (joined t) none) (append-nil all)
 
+-- a text after others is found where it stands
+text_at-new : (before text more all : List ℕ) (at : ℕ) → all ≡ before ++ (text ++ more) → at ≡ length before → text_at all at (length text) ≡ text
+text_at-new before text more all at is there = rw (is, there, drop-append_seam before (text ++ more), take-append_seam text more) refl
+
+-- the bytes of texts together
+size_of-new : (t : Texts) → length t.first + length t.second + length t.third + length t.fourth ≡ length (joined t)
+size_of-new t =
+    omega (arith, length-append t.first (t.second ++ (t.third ++ t.fourth)), length-append t.second (t.third ++ t.fourth), length-append t.third t.fourth)
+
+-- and so are those of an entry
+module _ (texts : List ℕ) (t : Texts) where
+  texts_at-new : texts_at (texts ++ joined t) (span_of (length texts) t) ≡ t
+  texts_at-new =
+      let all : List ℕ = texts ++ joined t in
+      let first : text_at all (length texts) (length t.first) ≡ t.first =
+      text_at-new texts t.first (t.second ++ (t.third ++ t.fourth)) all (length texts) refl refl in
+      let second : text_at all (length texts + length t.first) (length t.second) ≡ t.second =
+      text_at-new (texts ++ t.first) t.second (t.third ++ t.fourth) all (length texts + length t.first) (simp append_assoc) (simp length-append) in
+      let third : text_at all (length texts + length t.first + length t.second) (length t.third) ≡ t.third =
+      text_at-new ((texts ++ t.first) ++ t.second) t.third t.fourth all (length texts + length t.first + length t.second) (simp append_assoc) (simp length-append) in
+      let fourth : text_at all (length texts + length t.first + length t.second + length t.third) (length t.fourth) ≡ t.fourth =
+      text_at-new (((texts ++ t.first) ++ t.second) ++ t.third) t.fourth [] all (length texts + length t.first + length t.second + length t.third)
+      (simp (append_assoc, append-nil)) (simp length-append) in
+      rw (first, second, third, fourth) refl
+
+-- an entry more, whose texts come after the others
+module _ (texts : List ℕ) (t : Texts) (entries : List Packed) (new : Packed) (h : AreKept texts entries)
+    (short : length (joined t) + length texts < 2 ^ 32) (span : new.span ≡ span_of (length texts) t) (sound : AreSound t new.body new.reply) where
   abbrev pub all : List ℕ
-  all = (texts ++ first) ++ second
+  all = texts ++ joined t
 
-  regrouped : all ≡ texts ++ (first ++ second)
-  regrouped = append_assoc texts first second
+  texts-new : texts_at all new.span ≡ t
+  texts-new = rw span (texts_at-new texts t)
 
-  first-new : first_id all new.ids ≡ first
-  first-new = rw regrouped (rw (drop-append_seam texts (first ++ second)) (take-append_seam first second))
+  entry-new : entry_of all new ≡ entry_by t new.body new.reply
+  entry-new = ap (λ (t : Texts). entry_by t new.body new.reply) texts-new
 
-  second-new : second_id all new.ids ≡ second
-  second-new = rw regrouped (rw (drop-append-add texts (first ++ second) (length first), drop-append_seam first second) (take_all (length second) second (omega arith)))
+  long : length all ≡ length texts + length (joined t)
+  long = length-append texts (joined t)
 
-  entry-new : entry_of all new ≡ entry_by first second body
-  entry-new = rw (first-new, second-new) refl
+  end-new : end_of new ≡ length all
+  end-new = rw span (omega (arith, long, size_of-new t))
 
-  long : length all ≡ length texts + length first + length second
-  long = omega (arith, length-append (texts ++ first) second, length-append texts first)
+  start-new : new.span.at ≡ length texts
+  start-new = rw span refl
 
   IsWithin-new : IsWithin all new
-  IsWithin-new = record { within = omega (arith, long); ids = rw (first-new, second-new) ids }
+  IsWithin-new = record { within = omega (arith, end-new); sound = rw texts-new sound }
 
   AreKept-more : AreKept all (entries ++ new ∷ [])
   AreKept-more = record {
     short = omega (arith, long, short);
-    within = All-push (IsWithin all) entries new (λ i d inside. rw regrouped (IsWithin-front texts (first ++ second) (get_or entries i d) (h.within i d inside))) IsWithin-new;
-    behind = all_pairs_push (λ earlier later. end_of earlier ≤ end_of later) entries new h.behind (λ i d inside. omega (arith, (h.within i d inside).within));
+    within = All-push (IsWithin all) entries new (λ i d inside. IsWithin-front texts (joined t) (get_or entries i d) (h.within i d inside)) IsWithin-new;
+    behind = all_pairs_push (λ earlier later. end_of earlier ≤ end_of later) entries new h.behind (λ i d inside. omega (arith, (h.within i d inside).within, end-new, long));
   }
 
-  pub entries_more : map (entry_of all) (entries ++ new ∷ []) ≡ map (entry_of texts) entries ++ entry_by first second body ∷ []
+  pub entries_more : map (entry_of all) (entries ++ new ∷ []) ≡ map (entry_of texts) entries ++ entry_by t new.body new.reply ∷ []
   entries_more =
       map-append (entry_of all) entries (new ∷ [])
-      ∙ ap (λ es. es ++ entry_of all new ∷ []) (rw regrouped (map-front texts (first ++ second) entries (λ i d inside. (h.within i d inside).within)))
+      ∙ ap (λ es. es ++ entry_of all new ∷ []) (map-front texts (joined t) entries (λ i d inside. (h.within i d inside).within))
       ∙ ap (λ e. map (entry_of texts) entries ++ e ∷ []) entry-new
 
 module _ {X : Type 0} (R : X → X → Type 0) (n : ℕ) (xs : List X) (h : AllPairs R xs) where
@@ -97,13 +131,13 @@ module _ {X : Type 0} (R : X → X → Type 0) (n : ℕ) (xs : List X) (h : AllP
       rw (get_or-take n xs i d (omega (arith, long, before, inside)), get_or-take n xs j d (omega (arith, long, inside)))
       (h i j d before (omega (arith, long, inside)))
 
-module _ (texts later first second : List ℕ) (entries more : List Packed) (body : Body) (h : AreKept texts entries)
-    (short : length first + length second + length texts < 2 ^ 32) (ids : AreIdsOf body first second)
-    (longer : later ≡ texts ++ first ++ second) (one : more ≡ entries ++ new texts first second entries body h short ids ∷ []) where
+module _ (texts later : List ℕ) (t : Texts) (entries more : List Packed) (new : Packed) (h : AreKept texts entries)
+    (short : length (joined t) + length texts < 2 ^ 32) (span : new.span ≡ span_of (length texts) t) (sound : AreSound t new.body new.reply)
+    (longer : later ≡ texts ++ joined t) (one : more ≡ entries ++ new ∷ []) where
   pub kept_more : AreKept later more
-  kept_more = rw (longer, one) (AreKept-more texts first second entries body h short ids)
+  kept_more = rw (longer, one) (AreKept-more texts t entries new h short span sound)
 
--- texts of which a front is kept, with the ids of all entries in it
+-- texts of which a front is kept, with those of all entries in it
 module _ (texts : List ℕ) (entries : List Packed) (h : AreKept texts entries) (end : ℕ) (inside : end ≤ length texts)
     (below : All (λ k. end_of k ≤ end) entries) where
   front-behind : take end texts ++ drop end texts ≡ texts
@@ -120,9 +154,9 @@ module _ (texts : List ℕ) (entries : List Packed) (h : AreKept texts entries) 
       let k : Packed = get_or entries i d in
       record {
         within = within-front i d within;
-        ids =
-            subst (λ X. X) (sym (AreIdsOf-front (take end texts) (drop end texts) k (within-front i d within)))
-            (rw front-behind (h.within i d within).ids);
+        sound =
+            subst (λ X. X) (sym (AreSound-front (take end texts) (drop end texts) k (within-front i d within)))
+            (rw front-behind (h.within i d within).sound);
       }
 
   AreKept-front : AreKept (take end texts) entries
@@ -131,7 +165,7 @@ module _ (texts : List ℕ) (entries : List Packed) (h : AreKept texts entries) 
   entries-front : map (entry_of (take end texts)) entries ≡ map (entry_of texts) entries
   entries-front = sym (map-front (take end texts) (drop end texts) entries within-front) ∙ rw front-behind refl
 
--- the ids of all entries end where those of the last do, or before
+-- the texts of all entries end where those of the last do, or before
 below_last : (texts : List ℕ) (entries : List Packed) → AreKept texts entries → All (λ k. end_of k ≤ end_of_last entries) entries
 below_last texts entries h i d inside =
     let last : ℕ = length entries - 1 in
@@ -148,7 +182,7 @@ last_within texts (k ∷ ks) h =
     let is : slice_get (k ∷ ks) last ≡ Some (get_or (k ∷ ks) last k) = slice_get-get_or (k ∷ ks) last k (omega arith) in
     rw is (h.within last k (omega arith)).within
 
--- some entries are taken off, with their ids
+-- some entries are taken off, with their texts
 module _ (texts later : List ℕ) (entries fewer : List Packed) (count : ℕ) (h : AreKept texts entries) (first : fewer ≡ take count entries)
     (cut : later ≡ take (end_of_last fewer) texts) where
   still : AreKept texts fewer
@@ -174,3 +208,44 @@ pub entry_there : (texts : List ℕ) (entries : List Packed) (place : ℕ) (kept
 entry_there texts entries place kept within is =
     slice_get-map (entry_of texts) entries place
     ∙ ap (option_map (entry_of texts)) (slice_get_read entries (length entries) place kept refl within is)
+
+-- where a command has room for the group of its reply, the reply is read back
+module _ (reply : Reply) (kept : KeptReply) (is : reply_by (group_in reply) kept ≡ reply) (group : IsGroupOf (group_in reply) kept) where
+  -- without a group it is read back by any name
+  by_any : (name : List ℕ) (none : (group : Group) (first : ℕ) (count : ℕ) → Accepted (done.Offered group first count) ≡ reply → ⊥)
+      → (reply_by name kept ≡ reply) × IsGroupOf name kept
+  by_any name none =
+      let Any : KeptReply → Type 0 = λ k. reply_by (group_in reply) k ≡ reply → IsGroupOf (group_in reply) k → (reply_by name k ≡ reply) × IsGroupOf name k in
+      (elim kept as Any [
+        | kept_as.Opened ↦ (λ same sound. (same, sound))
+        | kept_as.LimitSet ↦ (λ same sound. (same, sound))
+        | kept_as.Reported matched ↦ (λ same sound. (same, sound))
+        | kept_as.Offered first count ↦ (λ same sound. absurd (none (record { name = group_in reply }) first count same))
+        | kept_as.Claimed lots ↦ (λ same sound. (same, sound))
+        | kept_as.Refused lots ↦ (λ same sound. (same, sound))
+        | kept_as.Reversed lots ↦ (λ same sound. (same, sound))
+        | kept_as.Denied refusal ↦ (λ same sound. (same, sound))
+      ]) is group
+
+  pub reply_apart : (command : Command) → HaveRoom command reply → (reply_by (texts_of command reply).third kept ≡ reply) × IsGroupOf (texts_of command reply).third kept
+  reply_apart (command.OpenDay day) room = (is, group)
+  reply_apart (command.SetLimit g key lots) room = (is, group)
+  reply_apart (command.ReportSide firm id match_id symbol lots price day side account) room = by_any symbol.name
+      (λ g first count offered. subst (HaveRoom (command.ReportSide firm id match_id symbol lots price day side account)) (sym offered) room)
+  reply_apart (command.GiveUp firm id report lines) room = (is, group)
+  reply_apart (command.Claim firm offer) room = (is, group)
+  reply_apart (command.Refuse firm offer why) room = (is, group)
+  reply_apart (command.Reverse firm offer) room = (is, group)
+
+-- the entry of what is kept of a command and its reply is they
+module _ (command : Command) (reply : Reply) (kept : KeptReply) (body : Body) (t : Texts) (room : HaveRoom command reply) (texts : t ≡ texts_of command reply)
+    (sound : HasTexts command) (is : reply_by (group_in reply) kept ≡ reply) (group : IsGroupOf (group_in reply) kept) (of : IsBodyOf command body) where
+  pub sound_apart : AreSound t body kept
+  sound_apart = rw texts (record { texts = of.texts reply sound; group = (reply_apart reply kept is group command room).1 })
+
+  pub entry_apart : entry_by t body kept ≡ Asked command reply
+  entry_apart = rw texts (of.entry reply kept ∙ ap (Asked command) (reply_apart reply kept is group command room).0)
+
+-- the texts of an entry together are not long
+pub joined_short : (t : Texts) → AreShort t → length (joined t) ≤ 1020
+joined_short t h = omega (arith, size_of-new t, h.first, h.second, h.third, h.fourth)

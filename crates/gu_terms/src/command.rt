@@ -1,6 +1,7 @@
 //! What is asked of the house.
 
 ghost use Rattle.std.specs.Prelude.{◌≡◌, ◌↔◌, IsTrue, IfOk};
+ghost use Rattle.gu_terms.specs.PackedEntries.{IsReport};
 
 use crate::account::AccountId;
 use crate::alloc_reject::AllocReject;
@@ -146,34 +147,24 @@ impl Command {
         }
     }
 
-    /// Whether two commands are the same.
-    pub fn is_same(&self, other: &Command) -> bool
+    /// Whether both are one report.
+    fn is_same_report(&self, other: &Command) -> bool
+        requires { IsReport self.now }
         ensures { IsTrue result ↔ (self.now ≡ other.now) }
     {
-        match self {
-            Command::OpenDay { day } => match other {
-                Command::OpenDay { day: day_of_other } => day.is_same(*day_of_other),
-                _ => false,
-            },
-            Command::SetLimit { group, key, lots } => match other {
-                Command::SetLimit {
-                    group: group_of_other,
-                    key: key_of_other,
-                    lots: lots_of_other,
-                } => *group == *group_of_other && *key == *key_of_other && *lots == *lots_of_other,
-                _ => false,
-            },
-            Command::ReportSide {
-                firm,
-                id,
-                match_id,
-                symbol,
-                lots,
-                price,
-                day,
-                side,
-                account,
-            } => match other {
+        match (self, other) {
+            (
+                Command::ReportSide {
+                    firm,
+                    id,
+                    match_id,
+                    symbol,
+                    lots,
+                    price,
+                    day,
+                    side,
+                    account,
+                },
                 Command::ReportSide {
                     firm: firm_of_other,
                     id: id_of_other,
@@ -184,7 +175,9 @@ impl Command {
                     day: day_of_other,
                     side: side_of_other,
                     account: account_of_other,
-                } => *firm == *firm_of_other
+                },
+            ) => {
+                *firm == *firm_of_other
                     && *id == *id_of_other
                     && *match_id == *match_id_of_other
                     && *symbol == *symbol_of_other
@@ -192,48 +185,71 @@ impl Command {
                     && *price == *price_of_other
                     && is_same_day(*day, *day_of_other)
                     && *side == *side_of_other
-                    && *account == *account_of_other,
-                _ => false,
-            },
-            Command::GiveUp {
-                firm,
-                id,
-                report,
-                lines,
-            } => match other {
+                    && *account == *account_of_other
+            }
+            _ => false,
+        }
+    }
+
+    /// Whether two commands are the same.
+    pub fn is_same(&self, other: &Command) -> bool
+        ensures { IsTrue result ↔ (self.now ≡ other.now) }
+    {
+        match (self, other) {
+            (Command::ReportSide { .. }, _) => self.is_same_report(other),
+            (Command::OpenDay { day }, Command::OpenDay { day: of_other }) => day.is_same(
+                *of_other,
+            ),
+            (
+                Command::SetLimit { group, key, lots },
+                Command::SetLimit {
+                    group: group_of_other,
+                    key: key_of_other,
+                    lots: lots_of_other,
+                },
+            ) => *group == *group_of_other && *key == *key_of_other && *lots == *lots_of_other,
+            (
+                Command::GiveUp {
+                    firm,
+                    id,
+                    report,
+                    lines,
+                },
                 Command::GiveUp {
                     firm: firm_of_other,
                     id: id_of_other,
                     report: report_of_other,
                     lines: lines_of_other,
-                } => *firm == *firm_of_other
+                },
+            ) => {
+                *firm == *firm_of_other
                     && *id == *id_of_other
                     && *report == *report_of_other
-                    && lines.is_same(lines_of_other),
-                _ => false,
-            },
-            Command::Claim { firm, offer } => match other {
+                    && lines.is_same(lines_of_other)
+            }
+            (
+                Command::Claim { firm, offer },
                 Command::Claim {
                     firm: firm_of_other,
                     offer: offer_of_other,
-                } => *firm == *firm_of_other && *offer == *offer_of_other,
-                _ => false,
-            },
-            Command::Refuse { firm, offer, why } => match other {
+                },
+            )
+            | (
+                Command::Reverse { firm, offer },
+                Command::Reverse {
+                    firm: firm_of_other,
+                    offer: offer_of_other,
+                },
+            ) => *firm == *firm_of_other && *offer == *offer_of_other,
+            (
+                Command::Refuse { firm, offer, why },
                 Command::Refuse {
                     firm: firm_of_other,
                     offer: offer_of_other,
                     why: why_of_other,
-                } => *firm == *firm_of_other && *offer == *offer_of_other && *why == *why_of_other,
-                _ => false,
-            },
-            Command::Reverse { firm, offer } => match other {
-                Command::Reverse {
-                    firm: firm_of_other,
-                    offer: offer_of_other,
-                } => *firm == *firm_of_other && *offer == *offer_of_other,
-                _ => false,
-            },
+                },
+            ) => *firm == *firm_of_other && *offer == *offer_of_other && *why == *why_of_other,
+            _ => false,
         }
     }
 }

@@ -3,24 +3,23 @@
 ghost use Rattle.std.specs.Prelude.{◌≡◌, ◌+◌, ◌-◌, ◌^◌, ◌<◌, ◌∷◌, [], ◌++◌, ◌≤◌, length, map, slice_get, take, is_some, ◌↔◌, IfOk, IfSome, IsTrue, OnOk, OnErr, Some};
 ghost use Rattle.std.specs.Option.{option_map};
 ghost use Rattle.gu_terms.specs.Histories.{entry_at, swept_by};
-ghost use Rattle.gu_terms.specs.PackedEntries.{end_of_last, entry_by, entry_of, AreIdsOf, AreKept};
+ghost use Rattle.gu_terms.specs.PackedEntries.{end_of_last, entry_by, entry_of, joined, no_texts, span_of, AreKept, AreSound, AreTextsOf};
 
 use crate::command::Command;
 use crate::entry::Entry;
 use crate::entry_ref::EntryRef;
+use crate::kept_reply::KeptReply;
 use crate::kept_sweep::KeptSweep;
-use crate::packed::{Body, Ids, Packed, body_of, ids_of};
+use crate::kept_texts::Texts;
+use crate::packed::{Body, Packed, have_room};
 use crate::reply::Reply;
 use std::alloc::{AllocError, Global};
 use std::marker::Model;
 
-/// The bytes of ids that are kept at most. Entries that come when there are so many are kept whole.
-const MOST_TEXTS: usize = 4_000_000_000;
-
 /// Entries, numbered from 1. To a contract it is their list.
 pub struct History {
     entries: Vec<Packed>,
-    /// The ids of all entries, one after the other.
+    /// The ids and names of all entries, one after the other.
     texts: Vec<u8>,
     alloc: Global,
 }
@@ -50,48 +49,31 @@ impl Drop for History {
     }
 }
 
-/// Appends two texts, or neither.
-fn append_texts(texts: &mut Vec<u8>, first: &[u8], second: &[u8]) -> Result<(), AllocError>
-    ensures appended { OnOk result (texts.new.items ≡ texts.old.items ++ first.now ++ second.now) }
-    ensures refused { OnErr result (texts.new.items ≡ texts.old.items) }
-{
-    texts.reserve(first.len() + second.len())?;
-    let _ = texts.extend_from_slice(first);
-    let _ = texts.extend_from_slice(second);
-    Ok(())
-}
-
 #[tactic(auto, using(crate::proofs::PackedLemmas::entries_more))]
-/// Adds what is kept of an entry after the others, and its ids after theirs. The growths come first.
+/// Adds an entry after the others, and its texts after theirs. The growths come first.
+#[inline(always)]
 fn add(
     entries: &mut Vec<Packed>,
-    texts: &mut Vec<u8>,
-    first: &[u8],
-    second: &[u8],
-    body: Body,
+    all: &mut Vec<u8>,
+    texts: &Texts<'_>,
+    entry: Packed,
 ) -> Result<(), AllocError>
-    requires kept { AreKept texts.old.items entries.old.items }
-    requires first { length first.now ≤ 64 }
-    requires second { length second.now ≤ 64 }
-    requires room { length first.now + length second.now + length texts.old.items < 2 ^ 32 }
-    requires ids { AreIdsOf body first.now second.now }
-    ensures kept { AreKept texts.new.items entries.new.items }
-    ensures added { OnOk result (map (entry_of texts.new.items) entries.new.items
-        ≡ map (entry_of texts.old.items) entries.old.items ++ entry_by first.now second.now body ∷ []) }
-    ensures refused { OnErr result ((texts.new.items ≡ texts.old.items) × (entries.new.items ≡ entries.old.items)) }
+    requires kept { AreKept all.old.items entries.old.items }
+    requires room { length (joined texts.now) + length all.old.items < 2 ^ 32 }
+    requires span { entry.span ≡ span_of (length all.old.items) texts.now }
+    requires sound { AreSound texts.now entry.body entry.reply }
+    ensures kept { AreKept all.new.items entries.new.items }
+    ensures added { OnOk result (map (entry_of all.new.items) entries.new.items
+        ≡ map (entry_of all.old.items) entries.old.items ++ entry_by texts.now entry.body entry.reply ∷ []) }
+    ensures refused { OnErr result ((all.new.items ≡ all.old.items) × (entries.new.items ≡ entries.old.items)) }
 {
-    let ids = Ids {
-        at: texts.len() as u32,
-        first: first.len() as u8,
-        second: second.len() as u8,
-    };
     entries.reserve(1)?;
-    append_texts(texts, first, second)?;
-    let _ = entries.push(Packed { ids, body });
+    texts.append(all)?;
+    entries.push_reserved(entry);
     Ok(())
 }
 
-/// The place after the ids of the last entry.
+/// The place after the texts of the last entry.
 fn end_of_last(entries: &[Packed]) -> usize
     ensures { result ≡ end_of_last entries.now }
 {
@@ -102,7 +84,7 @@ fn end_of_last(entries: &[Packed]) -> usize
 }
 
 #[tactic(auto, using(crate::proofs::PackedLemmas::kept_fewer, crate::proofs::PackedLemmas::entries_fewer))]
-/// Keeps the first entries, so many of them, with their ids.
+/// Keeps the first entries, so many of them, with their texts.
 fn truncate(entries: &mut Vec<Packed>, texts: &mut Vec<u8>, count: usize)
     requires { AreKept texts.old.items entries.old.items }
     ensures kept { AreKept texts.new.items entries.new.items }
@@ -188,14 +170,46 @@ impl History {
         self.entries[place].lots_swept()
     }
 
-    /// Adds a command with its reply after the others, as they are.
-    fn push_whole(&mut self, entry: Entry) -> Result<(), AllocError>
-        ensures added { OnOk result (self.new ≡ self.old ++ entry ∷ []) }
+    /// Adds an entry that has no texts of its own, nor a reply beside it.
+    fn push_alone(&mut self, body: Body) -> Result<(), AllocError>
+        requires { AreTextsOf no_texts body }
+        ensures added { OnOk result (self.new ≡ self.old ++ entry_by no_texts body KeptReply.Opened ∷ []) }
         ensures refused { OnErr result (self.new ≡ self.old) }
     {
-        let entry = Box::new(self.alloc, entry)?;
-        let body = Body::Whole(entry);
-        add(&mut self.entries, &mut self.texts, &[], &[], body)
+        let texts = Texts::none();
+        let entry = Packed {
+            span: texts.span(self.texts.len() as u32),
+            reply: KeptReply::Opened,
+            body,
+        };
+        add(&mut self.entries, &mut self.texts, &texts, entry)
+    }
+
+    /// Adds a command with its reply after the others, as they are.
+    fn push_whole(&mut self, command: &Command, reply: Reply) -> Result<(), AllocError>
+        ensures added { OnOk result (self.new ≡ self.old ++ Entry.Asked command.now reply ∷ []) }
+        ensures refused { OnErr result (self.new ≡ self.old) }
+    {
+        let command = command.copy()?;
+        let entry = Box::new(self.alloc, Entry::Asked { command, reply })?;
+        self.push_alone(Body::Whole(entry))
+    }
+
+    /// Adds a command with its reply after the others, its texts apart where there is room.
+    fn push_parts<'a>(&mut self, command: &'a Command, reply: &'a Reply) -> Result<(), AllocError>
+        ensures added { OnOk result (self.new ≡ self.old ++ Entry.Asked command.now reply.now ∷ []) }
+        ensures refused { OnErr result (self.new ≡ self.old) }
+    {
+        if !have_room(self.texts.len(), command, reply) {
+            return self.push_whole(command, *reply);
+        }
+        let texts = Texts::of(command, reply);
+        let entry = Packed {
+            span: texts.span(self.texts.len() as u32),
+            reply: KeptReply::of(*reply),
+            body: Body::of(command)?,
+        };
+        add(&mut self.entries, &mut self.texts, &texts, entry)
     }
 
     /// Adds a command with its reply after the others.
@@ -203,21 +217,7 @@ impl History {
         ensures added { OnOk result (self.new ≡ self.old ++ Entry.Asked command.now reply ∷ []) }
         ensures refused { OnErr result (self.new ≡ self.old) }
     {
-        let body = if self.texts.len() > MOST_TEXTS {
-            None
-        } else {
-            body_of(command, &reply)?
-        };
-        match body {
-            Some(body) => {
-                let (first, second) = ids_of(command);
-                add(&mut self.entries, &mut self.texts, first, second, body)
-            }
-            None => {
-                let command = command.copy()?;
-                self.push_whole(Entry::Asked { command, reply })
-            }
-        }
+        self.push_parts(command, &reply)
     }
 
     /// Adds a sweep after the others.
@@ -226,8 +226,7 @@ impl History {
         ensures refused { OnErr result (self.new ≡ self.old) }
     {
         let sweep = Box::new(self.alloc, sweep)?;
-        let body = Body::Swept(sweep);
-        add(&mut self.entries, &mut self.texts, &[], &[], body)
+        self.push_alone(Body::Swept(sweep))
     }
 
     /// Keeps the first entries, so many of them. It takes no memory.

@@ -12,7 +12,7 @@ use std::marker::Model;
 /// A number of lots: 1 to 1,000,000 whole contracts. To a contract it is the number.
 #[derive(Clone, Copy, Debug, PartialEq, Eq, PartialOrd, Ord, Hash)]
 pub struct Lots {
-    number: u64,
+    number: u32,
 }
 
 impl Model for Lots {
@@ -35,7 +35,9 @@ impl Lots {
         ensures same { IfSome result (λ l. l ≡ number) }
     {
         if 1 <= number && number <= MOST_LOTS {
-            Some(Lots { number })
+            Some(Lots {
+                number: number as u32,
+            })
         } else {
             None
         }
@@ -46,7 +48,7 @@ impl Lots {
         ensures number { result ≡ self }
         ensures sound { IsLots self }
     {
-        self.number
+        u64::from(self.number)
     }
 }
 

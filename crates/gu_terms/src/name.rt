@@ -113,6 +113,16 @@ impl Name {
         })
     }
 
+    /// The name with these bytes, which are known to be those of one.
+    pub(crate) fn known(bytes: &[u8]) -> Self
+        requires { IsName bytes.now }
+        ensures { result ≡ bytes.now }
+    {
+        Name {
+            text: Padded::new(bytes),
+        }
+    }
+
     /// Its bytes.
     pub fn get(&self) -> &[u8]
         ensures bytes { result.now ≡ self.now }

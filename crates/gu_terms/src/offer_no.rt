@@ -9,7 +9,7 @@ use std::marker::Model;
 /// The number of an offer: 1 to 16,000,000, over the whole book. To a contract it is the number.
 #[derive(Clone, Copy, Debug, PartialEq, Eq, PartialOrd, Ord, Hash)]
 pub struct OfferNo {
-    number: u64,
+    number: u32,
 }
 
 impl Model for OfferNo {
@@ -32,7 +32,9 @@ impl OfferNo {
         ensures same { IfSome result (λ o. o ≡ number) }
     {
         if 1 <= number && number <= MOST_OFFERS {
-            Some(OfferNo { number })
+            Some(OfferNo {
+                number: number as u32,
+            })
         } else {
             None
         }
@@ -43,6 +45,6 @@ impl OfferNo {
         ensures number { result ≡ self }
         ensures sound { IsOfferNo self }
     {
-        self.number
+        u64::from(self.number)
     }
 }

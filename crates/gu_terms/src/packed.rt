@@ -1,19 +1,24 @@
-//! Entries as a history keeps them: without the room that the ids of a command leave empty.
+//! Entries as a history keeps them: without the room that ids and names leave empty.
 
-ghost use Rattle.std.specs.Prelude.{◌≡◌, ◌+◌, ◌≤◌, length, IfOk, IfSome};
-ghost use Rattle.gu_terms.specs.PackedEntries.{end_of, entry_of, first_id, ids_of, second_id, text_at, HasIds, IsBodyOf, IsWithin};
-ghost use Rattle.gu_terms.specs.Names.{IsId};
+ghost use Rattle.std.specs.Prelude.{◌≡◌, ◌≤◌, IfOk, IsTrue};
+ghost use Rattle.gu_terms.specs.PackedEntries.{end_of, entry_of, report_by, HaveRoom, IsBodyOf, IsWithin};
+ghost use Rattle.gu_terms.specs.Names.{IsId, IsName};
 
 use crate::account::AccountId;
+use crate::alloc_reject::AllocReject;
 use crate::command::Command;
 use crate::day::Day;
 use crate::entry::Entry;
 use crate::firm::FirmId;
 use crate::group::Group;
 use crate::id::Id;
+use crate::kept_reply::KeptReply;
 use crate::kept_sweep::KeptSweep;
+use crate::kept_texts::{Span, Texts};
+use crate::limit_key::LimitKey;
 use crate::lines::{Line, Lines};
 use crate::lots::Lots;
+use crate::name::Name;
 use crate::offer_no::OfferNo;
 use crate::price::Price;
 use crate::reply::{Done, Reply};
@@ -21,51 +26,56 @@ use crate::side::Side;
 use crate::symbol::Symbol;
 use std::alloc::{AllocError, Global};
 
-/// Where the two ids of an entry stand among the texts: from which byte on, and how many bytes each has, the second after the first.
-/// An entry without ids has two of no bytes.
+/// The bytes of texts that are kept at most, or a few more. Entries that come then are kept whole.
+const MOST_TEXTS: usize = 4_000_000_000;
+
+/// What is kept of a report beside its texts. The fields stand from small to large, so that they take little room.
 #[derive(Clone, Copy)]
-pub(crate) struct Ids {
-    pub(crate) at: u32,
-    pub(crate) first: u8,
-    pub(crate) second: u8,
+pub(crate) struct KeptReport {
+    firm: FirmId,
+    side: Side,
+    day: Option<Day>,
+    lots: Lots,
+    price: Price,
 }
 
-/// What is kept of an entry beside its ids. The fields stand from small to large, so that they take little room.
+/// What is kept of an entry beside its texts and its reply.
 #[derive(Drop)]
 pub(crate) enum Body {
-    /// A report that was accepted. Its ids are its own and that of its match.
-    Reported {
-        firm: FirmId,
-        symbol: Symbol,
-        account: AccountId,
-        side: Side,
-        matched: bool,
-        day: Option<Day>,
-        lots: Lots,
-        price: Price,
+    OpenDay {
+        day: Day,
     },
-    /// A give-up whose one line became an offer, as most are. Its ids are its own and that of the report.
-    OfferedOne {
-        firm: FirmId,
+    SetLimit {
         group: Group,
-        account: AccountId,
-        first: OfferNo,
-        lots: Lots,
+        key: LimitKey,
+        lots: u64,
     },
-    /// A give-up whose lines became as many offers. Its ids are its own and that of the report.
-    Offered {
+    /// A report. Its texts are its ids, its symbol and its account.
+    ReportSide(KeptReport),
+    /// A give-up of one line, as most are. Its texts are its own id and that of the report.
+    GiveUpOne {
         firm: FirmId,
-        group: Group,
-        first: OfferNo,
+        line: Line,
+    },
+    /// A give-up of more lines, with the same texts.
+    GiveUp {
+        firm: FirmId,
         lines: Lines,
     },
-    /// A claim that was accepted.
-    Claimed {
+    Claim {
         firm: FirmId,
         offer: OfferNo,
-        lots: Lots,
     },
-    /// A sweep.
+    Refuse {
+        firm: FirmId,
+        why: AllocReject,
+        offer: OfferNo,
+    },
+    Reverse {
+        firm: FirmId,
+        offer: OfferNo,
+    },
+    /// A sweep, which has no reply.
     Swept(Box<KeptSweep>),
     /// A command with its reply, as it is.
     Whole(Box<Entry>),
@@ -74,247 +84,156 @@ pub(crate) enum Body {
 /// An entry as it is kept.
 #[derive(Drop)]
 pub(crate) struct Packed {
-    pub(crate) ids: Ids,
+    pub(crate) span: Span,
+    pub(crate) reply: KeptReply,
     pub(crate) body: Body,
 }
 
-/// The id that these bytes of the texts are.
-fn id_at(texts: &[u8], at: usize, len: usize) -> Id
-    requires within { at + len ≤ length texts.now }
-    requires id { IsId (text_at texts.now at len) }
-    ensures { result ≡ text_at texts.now at len }
-{
-    Id::known(&texts[at..at + len])
-}
-
-impl Ids {
-    /// The first id.
-    fn first_id(self, texts: &[u8]) -> Id
-        requires within { self.at + self.first ≤ length texts.now }
-        requires id { IsId (first_id texts.now self) }
-        ensures { result ≡ first_id texts.now self }
+impl KeptReport {
+    /// The report that is kept so, with its texts.
+    pub(crate) fn command(self, texts: &Texts<'_>) -> Command
+        requires ids { IsId texts.now.first × IsId texts.now.second }
+        requires names { IsName texts.now.third × IsName texts.now.fourth }
+        ensures { result ≡ report_by texts.now self }
     {
-        id_at(texts, self.at as usize, usize::from(self.first))
-    }
-
-    /// The second id.
-    pub(crate) fn second_id(self, texts: &[u8]) -> Id
-        requires within { self.at + self.first + self.second ≤ length texts.now }
-        requires id { IsId (second_id texts.now self) }
-        ensures { result ≡ second_id texts.now self }
-    {
-        id_at(
-            texts,
-            self.at as usize + usize::from(self.first),
-            usize::from(self.second),
-        )
-    }
-}
-
-impl Packed {
-    /// The place after its ids.
-    pub(crate) fn end(&self) -> usize
-        ensures { result ≡ end_of self.now }
-    {
-        let Ids { at, first, second } = self.ids;
-        at as usize + usize::from(first) + usize::from(second)
-    }
-
-    /// The entry that is kept so, with its ids out of the texts.
-    pub(crate) fn entry(&self, alloc: Global, texts: &[u8]) -> Result<Entry, AllocError>
-        requires { IsWithin texts.now self.now }
-        ensures { IfOk result (λ entry. entry ≡ entry_of texts.now self.now) }
-    {
-        match &self.body {
-            Body::Reported {
-                firm,
-                symbol,
-                account,
-                side,
-                matched,
-                day,
-                lots,
-                price,
-            } => Ok(Entry::Asked {
-                command: Command::ReportSide {
-                    firm: *firm,
-                    id: self.ids.first_id(texts),
-                    match_id: self.ids.second_id(texts),
-                    symbol: *symbol,
-                    lots: *lots,
-                    price: *price,
-                    day: *day,
-                    side: *side,
-                    account: *account,
-                },
-                reply: Reply::Accepted(Done::Reported { matched: *matched }),
-            }),
-            Body::OfferedOne {
-                firm,
-                group,
-                account,
-                first,
-                lots,
-            } => {
-                let line = Line {
-                    account: *account,
-                    lots: *lots,
-                };
-                let lines = Lines::one(alloc, line)?;
-                Ok(Entry::Asked {
-                    command: Command::GiveUp {
-                        firm: *firm,
-                        id: self.ids.first_id(texts),
-                        report: self.ids.second_id(texts),
-                        lines,
-                    },
-                    reply: Reply::Accepted(Done::Offered {
-                        group: *group,
-                        first: *first,
-                        count: 1,
-                    }),
-                })
-            }
-            Body::Offered {
-                firm,
-                group,
-                first,
-                lines,
-            } => {
-                let count = lines.as_slice().len() as u64;
-                let lines = lines.copy()?;
-                Ok(Entry::Asked {
-                    command: Command::GiveUp {
-                        firm: *firm,
-                        id: self.ids.first_id(texts),
-                        report: self.ids.second_id(texts),
-                        lines,
-                    },
-                    reply: Reply::Accepted(Done::Offered {
-                        group: *group,
-                        first: *first,
-                        count,
-                    }),
-                })
-            }
-            Body::Claimed { firm, offer, lots } => Ok(Entry::Asked {
-                command: Command::Claim {
-                    firm: *firm,
-                    offer: *offer,
-                },
-                reply: Reply::Accepted(Done::Claimed { lots: *lots }),
-            }),
-            Body::Swept(sweep) => Ok(Entry::Swept(sweep.entry(alloc)?)),
-            Body::Whole(entry) => entry.copy(),
+        Command::ReportSide {
+            firm: self.firm,
+            id: Id::known(texts.first()),
+            match_id: Id::known(texts.second()),
+            symbol: Symbol {
+                name: Name::known(texts.third()),
+            },
+            lots: self.lots,
+            price: self.price,
+            day: self.day,
+            side: self.side,
+            account: AccountId {
+                name: Name::known(texts.fourth()),
+            },
         }
     }
 }
 
-/// The ids of a command, where it has two; else no bytes.
-pub(crate) fn ids_of(command: &Command) -> (&[u8], &[u8])
-    ensures first { result.0.now ≡ (ids_of command.now).0 }
-    ensures second { result.1.now ≡ (ids_of command.now).1 }
-    ensures short { (length result.0.now ≤ 64) × (length result.1.now ≤ 64) }
-    ensures sound { HasIds command.now }
+/// A give-up of these lines, with its texts.
+fn give_up(firm: FirmId, texts: &Texts<'_>, lines: Lines) -> Command
+    requires { IsId texts.now.first × IsId texts.now.second }
+    ensures { result ≡ Command.GiveUp firm texts.now.first texts.now.second lines }
+{
+    Command::GiveUp {
+        firm,
+        id: Id::known(texts.first()),
+        report: Id::known(texts.second()),
+        lines,
+    }
+}
+
+impl Packed {
+    /// The place after its texts.
+    pub(crate) fn end(&self) -> usize
+        ensures { result ≡ end_of self.now }
+    {
+        self.span.end()
+    }
+
+    /// The entry that is kept so, with its texts out of all.
+    pub(crate) fn entry(&self, alloc: Global, all: &[u8]) -> Result<Entry, AllocError>
+        requires { IsWithin all.now self.now }
+        ensures { IfOk result (λ entry. entry ≡ entry_of all.now self.now) }
+    {
+        let texts = self.span.texts(all);
+        let reply = self.reply.reply(texts.third());
+        let command = match &self.body {
+            Body::OpenDay { day } => Command::OpenDay { day: *day },
+            Body::SetLimit { group, key, lots } => Command::SetLimit {
+                group: *group,
+                key: *key,
+                lots: *lots,
+            },
+            Body::ReportSide(report) => report.command(&texts),
+            Body::GiveUpOne { firm, line } => give_up(*firm, &texts, Lines::one(alloc, *line)?),
+            Body::GiveUp { firm, lines } => give_up(*firm, &texts, lines.copy()?),
+            Body::Claim { firm, offer } => Command::Claim {
+                firm: *firm,
+                offer: *offer,
+            },
+            Body::Refuse { firm, why, offer } => Command::Refuse {
+                firm: *firm,
+                offer: *offer,
+                why: *why,
+            },
+            Body::Reverse { firm, offer } => Command::Reverse {
+                firm: *firm,
+                offer: *offer,
+            },
+            Body::Swept(sweep) => return Ok(Entry::Swept(sweep.entry(alloc)?)),
+            Body::Whole(entry) => return entry.copy(),
+        };
+        Ok(Entry::Asked { command, reply })
+    }
+}
+
+/// Whether there is room for the texts of a command after so many bytes, and for those of its reply among them.
+pub(crate) fn have_room(bytes: usize, command: &Command, reply: &Reply) -> bool
+    ensures bytes { IsTrue result → bytes ≤ 4000000000 }
+    ensures room { IsTrue result → HaveRoom command.now reply.now }
 {
     match command {
-        Command::ReportSide { id, match_id, .. } => (id.get(), match_id.get()),
-        Command::GiveUp { id, report, .. } => (id.get(), report.get()),
-        _ => (&[], &[]),
+        Command::ReportSide { .. } => {
+            bytes <= MOST_TEXTS && !matches!(reply, Reply::Accepted(Done::Offered { .. }))
+        }
+        _ => bytes <= MOST_TEXTS,
     }
 }
 
-/// What is kept of a report that was accepted, beside its ids.
-fn body_of_report(command: &Command, matched: bool) -> Option<Body>
-    ensures { IfSome result (IsBodyOf command.now (Reply.Accepted (Done.Reported matched))) }
-{
-    let Command::ReportSide {
-        firm,
-        symbol,
-        lots,
-        price,
-        day,
-        side,
-        account,
-        ..
-    } = command
-    else {
-        return None;
-    };
-    Some(Body::Reported {
-        firm: *firm,
-        symbol: *symbol,
-        account: *account,
-        side: *side,
-        matched,
-        day: *day,
-        lots: *lots,
-        price: *price,
-    })
-}
-
-/// What is kept of a give-up that was accepted, beside its ids.
-fn body_of_give_up(
-    command: &Command,
-    group: Group,
-    first: OfferNo,
-    count: u64,
-) -> Result<Option<Body>, AllocError>
-    ensures { IfOk result (λ body. IfSome body (IsBodyOf command.now (Reply.Accepted (Done.Offered group first count)))) }
-{
-    let Command::GiveUp { firm, lines, .. } = command else {
-        return Ok(None);
-    };
-    if lines.as_slice().len() as u64 != count {
-        return Ok(None);
-    }
-    if let [line] = lines.as_slice() {
-        return Ok(Some(Body::OfferedOne {
-            firm: *firm,
-            group,
-            account: line.account,
-            first,
-            lots: line.lots,
-        }));
-    }
-    let lines = lines.copy()?;
-    Ok(Some(Body::Offered {
-        firm: *firm,
-        group,
-        first,
-        lines,
-    }))
-}
-
-/// What is kept of a claim that was accepted.
-fn body_of_claim(command: &Command, lots: Lots) -> Option<Body>
-    ensures { IfSome result (IsBodyOf command.now (Reply.Accepted (Done.Claimed lots))) }
-{
-    let Command::Claim { firm, offer } = command else {
-        return None;
-    };
-    Some(Body::Claimed {
-        firm: *firm,
-        offer: *offer,
-        lots,
-    })
-}
-
-/// What is kept of a command with its reply beside its ids. None where the entry is kept whole.
-pub(crate) fn body_of(command: &Command, reply: &Reply) -> Result<Option<Body>, AllocError>
-    ensures { IfOk result (λ body. IfSome body (IsBodyOf command.now reply.now)) }
-{
-    let Reply::Accepted(done) = *reply else {
-        return Ok(None);
-    };
-    match done {
-        Done::Reported { matched } => Ok(body_of_report(command, matched)),
-        Done::Offered {
-            group,
-            first,
-            count,
-        } => body_of_give_up(command, group, first, count),
-        Done::Claimed { lots } => Ok(body_of_claim(command, lots)),
-        _ => Ok(None),
+impl Body {
+    /// What is kept of a command beside its texts.
+    pub(crate) fn of(command: &Command) -> Result<Body, AllocError>
+        ensures { IfOk result (IsBodyOf command.now) }
+    {
+        Ok(match command {
+            Command::OpenDay { day } => Body::OpenDay { day: *day },
+            Command::SetLimit { group, key, lots } => Body::SetLimit {
+                group: *group,
+                key: *key,
+                lots: *lots,
+            },
+            Command::ReportSide {
+                firm,
+                lots,
+                price,
+                day,
+                side,
+                ..
+            } => Body::ReportSide(KeptReport {
+                firm: *firm,
+                side: *side,
+                day: *day,
+                lots: *lots,
+                price: *price,
+            }),
+            Command::GiveUp { firm, lines, .. } => match lines.as_slice() {
+                [line] => Body::GiveUpOne {
+                    firm: *firm,
+                    line: *line,
+                },
+                _ => Body::GiveUp {
+                    firm: *firm,
+                    lines: lines.copy()?,
+                },
+            },
+            Command::Claim { firm, offer } => Body::Claim {
+                firm: *firm,
+                offer: *offer,
+            },
+            Command::Refuse { firm, offer, why } => Body::Refuse {
+                firm: *firm,
+                why: *why,
+                offer: *offer,
+            },
+            Command::Reverse { firm, offer } => Body::Reverse {
+                firm: *firm,
+                offer: *offer,
+            },
+        })
     }
 }

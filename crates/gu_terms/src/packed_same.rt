@@ -1,195 +1,105 @@
 //! Whether an entry is what is kept, without a copy of either.
 
-ghost use Rattle.std.specs.Prelude.{◌≡◌, ◌↔◌, ◌+◌, ◌≤◌, [], ◌∷◌, length, IsTrue, List, ℕ};
+ghost use Rattle.std.specs.Prelude.{◌≡◌, ◌↔◌, IsTrue, List, ℕ};
 ghost use Rattle.gu_terms.specs.Histories.{swept_by};
-ghost use Rattle.gu_terms.specs.PackedEntries.{entry_by, entry_of, first_id, second_id, text_at, IsReport, IsWithin};
+ghost use Rattle.gu_terms.specs.PackedEntries.{entry_by, entry_of, AreSound, IsWithin};
 
-use crate::command::{Command, is_same_day};
+use crate::command::Command;
 use crate::entry::{Entry, SweepEntry};
 use crate::firm::FirmId;
+use crate::kept_texts::Texts;
 use crate::lines::Line;
-use crate::offer_no::OfferNo;
-use crate::packed::{Body, Ids, Packed};
-use crate::reply::{Done, Reply};
+use crate::packed::{Body, Packed};
+use crate::reply::Reply;
 
-impl Ids {
-    /// The bytes of the first id.
-    fn first_text(self, texts: &[u8]) -> &[u8]
-        requires { self.at + self.first ≤ length texts.now }
-        ensures { result.now ≡ first_id texts.now self }
-    {
-        let at = self.at as usize;
-        &texts[at..at + usize::from(self.first)]
-    }
-
-    /// The bytes of the second id.
-    fn second_text(self, texts: &[u8]) -> &[u8]
-        requires { self.at + self.first + self.second ≤ length texts.now }
-        ensures { result.now ≡ second_id texts.now self }
-    {
-        let at = self.at as usize + usize::from(self.first);
-        &texts[at..at + usize::from(self.second)]
-    }
-}
-
-/// Whether a command gives these lines of a report up.
-fn is_give_up(command: &Command, firm: FirmId, id: &[u8], report: &[u8], lines: &[Line]) -> bool
-    ensures { IsTrue result ↔ (Command.GiveUp firm id.now report.now lines.now ≡ command.now) }
+/// Whether a command gives these lines up.
+fn is_give_up(command: &Command, firm: FirmId, texts: &Texts<'_>, lines: &[Line]) -> bool
+    ensures { IsTrue result ↔ (Command.GiveUp firm texts.now.first texts.now.second lines.now ≡ command.now) }
 {
     match command {
         Command::GiveUp {
             firm: firm_of_command,
-            id: id_of_command,
-            report: report_of_command,
+            id,
+            report,
             lines: lines_of_command,
         } => {
             firm == *firm_of_command
-                && id_of_command.is_text(id)
-                && report_of_command.is_text(report)
+                && id.is_text(texts.first())
+                && report.is_text(texts.second())
                 && lines_of_command.are(lines)
         }
         _ => false,
     }
 }
 
-/// Whether a command claims an offer.
-fn is_claim(command: &Command, firm: FirmId, offer: OfferNo) -> bool
-    ensures { IsTrue result ↔ (Command.Claim firm offer ≡ command.now) }
-{
-    match command {
-        Command::Claim {
-            firm: firm_of_command,
-            offer: offer_of_command,
-        } => firm == *firm_of_command && offer == *offer_of_command,
-        _ => false,
-    }
-}
-
-impl Body {
-    /// Whether a report that is kept so, with these ids, is this command with this reply.
-    fn is_report(&self, first: &[u8], second: &[u8], command: &Command, reply: Reply) -> bool
-        requires { IsReport self.now }
-        ensures { IsTrue result ↔ (entry_by first.now second.now self.now ≡ Entry.Asked command.now reply) }
+impl Packed {
+    /// Whether what is kept so, with these texts, is this command with this reply.
+    fn is_asked(&self, texts: &Texts<'_>, command: &Command, reply: Reply) -> bool
+        requires { AreSound texts.now self.now.body self.now.reply }
+        ensures { IsTrue result ↔ (entry_by texts.now self.now.body self.now.reply ≡ Entry.Asked command.now reply) }
     {
-        let Body::Reported {
-            firm,
-            symbol,
-            account,
-            side,
-            matched,
-            day,
-            lots,
-            price,
-        } = self
-        else {
-            return false;
-        };
-        match command {
-            Command::ReportSide {
-                firm: firm_of_command,
-                id,
-                match_id,
-                symbol: symbol_of_command,
-                lots: lots_of_command,
-                price: price_of_command,
-                day: day_of_command,
-                side: side_of_command,
-                account: account_of_command,
-            } => {
-                *firm == *firm_of_command
-                    && id.is_text(first)
-                    && match_id.is_text(second)
-                    && *symbol == *symbol_of_command
-                    && *lots == *lots_of_command
-                    && *price == *price_of_command
-                    && is_same_day(*day, *day_of_command)
-                    && *side == *side_of_command
-                    && *account == *account_of_command
-                    && reply.is_same(Reply::Accepted(Done::Reported { matched: *matched }))
+        let is_command = match &self.body {
+            Body::OpenDay { day } => Command::OpenDay { day: *day }.is_same(command),
+            Body::SetLimit { group, key, lots } => Command::SetLimit {
+                group: *group,
+                key: *key,
+                lots: *lots,
             }
-            _ => false,
-        }
-    }
-
-    /// Whether what is kept so, with these ids, is this command with this reply.
-    fn is_asked(&self, first: &[u8], second: &[u8], command: &Command, reply: Reply) -> bool
-        ensures { IsTrue result ↔ (entry_by first.now second.now self.now ≡ Entry.Asked command.now reply) }
-    {
-        match self {
-            Body::Reported { .. } => self.is_report(first, second, command, reply),
-            Body::OfferedOne {
-                firm,
-                group,
-                account,
-                first: number,
-                lots,
-            } => {
-                let line = Line {
-                    account: *account,
-                    lots: *lots,
-                };
-                let done = Done::Offered {
-                    group: *group,
-                    first: *number,
-                    count: 1,
-                };
-                is_give_up(command, *firm, first, second, &[line])
-                    && reply.is_same(Reply::Accepted(done))
+            .is_same(command),
+            Body::ReportSide(report) => report.command(texts).is_same(command),
+            Body::GiveUpOne { firm, line } => is_give_up(command, *firm, texts, &[*line]),
+            Body::GiveUp { firm, lines } => is_give_up(command, *firm, texts, lines.as_slice()),
+            Body::Claim { firm, offer } => Command::Claim {
+                firm: *firm,
+                offer: *offer,
             }
-            Body::Offered {
-                firm,
-                group,
-                first: number,
-                lines,
-            } => {
-                let done = Done::Offered {
-                    group: *group,
-                    first: *number,
-                    count: lines.as_slice().len() as u64,
-                };
-                is_give_up(command, *firm, first, second, lines.as_slice())
-                    && reply.is_same(Reply::Accepted(done))
+            .is_same(command),
+            Body::Refuse { firm, why, offer } => Command::Refuse {
+                firm: *firm,
+                offer: *offer,
+                why: *why,
             }
-            Body::Claimed { firm, offer, lots } => {
-                is_claim(command, *firm, *offer)
-                    && reply.is_same(Reply::Accepted(Done::Claimed { lots: *lots }))
+            .is_same(command),
+            Body::Reverse { firm, offer } => Command::Reverse {
+                firm: *firm,
+                offer: *offer,
             }
+            .is_same(command),
             Body::Swept(_) => false,
-            Body::Whole(entry) => entry.is_asked(command, reply),
-        }
+            Body::Whole(entry) => return entry.is_asked(command, reply),
+        };
+        is_command && self.reply.reply(texts.third()).is_same(reply)
     }
 
     /// Whether what is kept so is this sweep.
     fn is_sweep(&self, sweep: &SweepEntry) -> bool
-        ensures { (first second : List ℕ) → IsTrue result ↔ (entry_by first second self.now ≡ Entry.Swept sweep.now) }
+        ensures { (all : List ℕ) → IsTrue result ↔ (entry_of all self.now ≡ Entry.Swept sweep.now) }
     {
-        match self {
+        match &self.body {
             Body::Swept(own) => own.is_same(sweep),
             Body::Whole(entry) => entry.is_sweep(sweep),
             _ => false,
         }
     }
-}
 
-impl Packed {
-    /// Whether this is how an entry is kept, with its ids among the texts.
-    pub(crate) fn is_entry(&self, texts: &[u8], entry: &Entry) -> bool
-        requires { IsWithin texts.now self.now }
-        ensures { IsTrue result ↔ (entry_of texts.now self.now ≡ entry.now) }
+    /// Whether this is how an entry is kept, with its texts among all.
+    pub(crate) fn is_entry(&self, all: &[u8], entry: &Entry) -> bool
+        requires { IsWithin all.now self.now }
+        ensures { IsTrue result ↔ (entry_of all.now self.now ≡ entry.now) }
     {
         match entry {
-            Entry::Asked { command, reply } => {
-                let first = self.ids.first_text(texts);
-                let second = self.ids.second_text(texts);
-                self.body.is_asked(first, second, command, *reply)
-            }
-            Entry::Swept(sweep) => self.body.is_sweep(sweep),
+            Entry::Asked { command, reply } => self.is_asked(
+                &self.span.texts(all),
+                command,
+                *reply,
+            ),
+            Entry::Swept(sweep) => self.is_sweep(sweep),
         }
     }
 
     /// The lots that the entry which is kept so swept.
     pub(crate) fn lots_swept(&self) -> u64
-        ensures { (texts : List ℕ) → result ≡ swept_by (entry_of texts self.now) }
+        ensures { (all : List ℕ) → result ≡ swept_by (entry_of all self.now) }
     {
         match &self.body {
             Body::Swept(sweep) => sweep.lots(),

@@ -7,6 +7,8 @@ ghost use Rattle.gu_terms.specs.PackedEntries.{entry_of, IsWithin};
 use crate::command::Command;
 use crate::entry::Entry;
 use crate::entry_event::EntryEvent;
+use crate::id::Id;
+use crate::kept_reply::KeptReply;
 use crate::packed::{Body, Packed};
 use crate::reply::{Done, Reply};
 use crate::takes::Take;
@@ -70,40 +72,44 @@ impl Entry {
 }
 
 impl Packed {
-    /// What the entry did, with its match id out of the texts.
-    pub(crate) fn event(&self, texts: &[u8]) -> EntryEvent
-        requires { IsWithin texts.now self.now }
-        ensures { result ≡ event_of (entry_of texts.now self.now) }
+    /// What the entry did, with its match id out of all texts.
+    pub(crate) fn event(&self, all: &[u8]) -> EntryEvent
+        requires { IsWithin all.now self.now }
+        ensures { result ≡ event_of (entry_of all.now self.now) }
     {
-        match &self.body {
-            Body::Reported { matched, .. } => {
-                if !*matched {
-                    return EntryEvent::Other;
-                }
-                EntryEvent::Matched {
-                    match_id: self.ids.second_id(texts),
-                }
-            }
-            Body::OfferedOne { first, .. } => EntryEvent::Offered {
-                first: *first,
-                count: 1,
+        match (&self.body, self.reply) {
+            (Body::ReportSide(_), KeptReply::Reported { matched: true }) => EntryEvent::Matched {
+                match_id: Id::known(self.span.texts(all).second()),
             },
-            Body::Offered { first, lines, .. } => EntryEvent::Offered {
-                first: *first,
+            (Body::GiveUpOne { .. }, KeptReply::Offered { first, .. }) => {
+                EntryEvent::Offered { first, count: 1 }
+            }
+            (Body::GiveUp { lines, .. }, KeptReply::Offered { first, .. }) => EntryEvent::Offered {
+                first,
                 count: lines.count(),
             },
-            Body::Claimed { offer, lots, .. } => EntryEvent::Claimed {
+            (Body::Claim { offer, .. }, KeptReply::Claimed { lots }) => EntryEvent::Claimed {
                 offer: *offer,
-                lots: *lots,
+                lots,
             },
-            Body::Swept(_) => EntryEvent::Swept,
-            Body::Whole(entry) => entry.event(),
+            (Body::Refuse { offer, why, .. }, KeptReply::Refused { lots }) => EntryEvent::Refused {
+                offer: *offer,
+                why: *why,
+                lots,
+            },
+            (Body::Reverse { offer, .. }, KeptReply::Reversed { lots }) => EntryEvent::Reversed {
+                offer: *offer,
+                lots,
+            },
+            (Body::Swept(_), _) => EntryEvent::Swept,
+            (Body::Whole(entry), _) => entry.event(),
+            _ => EntryEvent::Other,
         }
     }
 
     /// The takes of a sweep; any other entry has none.
-    pub(crate) fn takes(&self, texts: &[u8]) -> &[Take]
-        ensures { result.now ≡ takes_of (entry_of texts.now self.now) }
+    pub(crate) fn takes(&self, all: &[u8]) -> &[Take]
+        ensures { result.now ≡ takes_of (entry_of all.now self.now) }
     {
         match &self.body {
             Body::Swept(sweep) => sweep.takes(),
