@@ -58,7 +58,7 @@ impl Id {
     }
 
     /// The id with these bytes, which are known to be those of one.
-    pub(crate) fn known(bytes: &[u8]) -> Self
+    pub fn known(bytes: &[u8]) -> Self
         requires { IsId bytes.now }
         ensures { result ≡ bytes.now }
     {
