@@ -44,29 +44,26 @@ impl<'a> Model for Showing<'a> {
     ghost invariant = { λ s. IfSome s.last (IsWay s.reference.now) };
 }
 
-/// The agreement between an executing firm and an account, with its path: the last one, where it is theirs.
-fn way_between(
-    reference: &Reference,
-    last: &Option<Way>,
-    firm: FirmId,
-    account: AccountId,
-) -> Option<Way>
-    requires { IfSome last.now (IsWay reference.now) }
-    ensures agreement { option_map (λ w. w.agreement) result ≡ agreement_between reference.now firm account }
-    ensures way { IfSome result (IsWay reference.now) }
+/// Sees to it that the last way is the one between an executing firm and an account, or none, where they have no agreement.
+fn turn_to(reference: &Reference, last: &mut Option<Way>, firm: FirmId, account: AccountId)
+    requires { IfSome last.old (IsWay reference.now) }
+    ensures agreement { option_map (λ w. w.agreement) last.new ≡ agreement_between reference.now firm account }
+    ensures way { IfSome last.new (IsWay reference.now) }
 {
     if let Some(way) = last {
         if way.firm == firm && way.account == account {
-            return Some(*way);
+            return;
         }
     }
-    let (agreement, path) = path_between(reference, firm, account)?;
-    Some(Way {
-        firm,
-        account,
-        agreement,
-        path,
-    })
+    *last = match path_between(reference, firm, account) {
+        Some((agreement, path)) => Some(Way {
+            firm,
+            account,
+            agreement,
+            path,
+        }),
+        None => None,
+    };
 }
 
 impl<'a> Showing<'a> {
@@ -92,15 +89,13 @@ impl<'a> Showing<'a> {
         self.reference.rules();
         let number = OfferNo::new(number)?;
         let offer = self.totals.offers.get(number)?;
-        let reference = self.reference;
-        let way = way_between(reference, &self.last, offer.firm, offer.account)?;
-        let shown = ViewOffer {
+        turn_to(self.reference, &mut self.last, offer.firm, offer.account);
+        let way = self.last.as_ref()?;
+        Some(ViewOffer {
             number,
             lots: self.totals.offers.left(number),
             agreement: way.agreement,
             path: way.path,
-        };
-        self.last = Some(way);
-        Some(shown)
+        })
     }
 }
