@@ -12,7 +12,7 @@ use Rattle.gu_terms.specs.declared.lines.Line.{Line}
 use Rattle.gu_terms.specs.Lines.{lots_in_all}
 use Rattle.gu_terms.specs.Numbers.{IsLots}
 use Rattle.gu_terms.specs.Same.{same_firm, same_group, same_id}
-use Rattle.gu_offers.specs.declared.given.Given.{Given}
+use Rattle.gu_offers.specs.Given.{GivenUp}
 use Rattle.gu_offers.specs.declared.offers.Offers.TheInside.{Inside}
 use Rattle.gu_offers.specs.Changes.{next_day, offered, with_lines}
 use Rattle.gu_offers.specs.Counts.{lots_under}
@@ -42,7 +42,7 @@ rows-given_for day firm report group [] = refl
 rows-given_for day firm report group (line ∷ lines) = λ i. row_of-given_for day firm report group line i ∷ rows-given_for day firm report group lines i
 
 -- an offer of a day that is opened
-pub rows-forgotten : (day : ℕ) (items : List Given) → map (row_of day) (map forgotten items) ≡ map next_day (map (row_of day) items)
+pub rows-forgotten : (day : ℕ) (items : List GivenUp) → map (row_of day) (map forgotten items) ≡ map next_day (map (row_of day) items)
 rows-forgotten day [] = refl
 rows-forgotten day (g ∷ items) =
     let first : row_of day (forgotten g) ≡ next_day (row_of day g) = λ i. record { offer = g.offer; moved = g.moved; today = no_day (g.moved_on == day) i; is_shut = g.is_shut } in
@@ -56,17 +56,17 @@ earlier moved_on day today h = by (moved_on == day + 1) refl
     by false e = refl
 
 -- nothing was moved on a day that comes
-pub rows-next : (day : ℕ) (items : List Given) → AllByRecursion (λ (g : Given). g.moved_on ≤ day) items → map (row_of (day + 1)) items ≡ map next_day (map (row_of day) items)
+pub rows-next : (day : ℕ) (items : List GivenUp) → AllByRecursion (λ (g : GivenUp). g.moved_on ≤ day) items → map (row_of (day + 1)) items ≡ map next_day (map (row_of day) items)
 rows-next day [] before = refl
 rows-next day (g ∷ items) before =
     let first : row_of (day + 1) g ≡ next_day (row_of day g) = λ i. record { offer = g.offer; moved = g.moved; today = earlier g.moved_on day g.today before.0 i; is_shut = g.is_shut } in
     λ i. first i ∷ rows-next day items before.1 i
 
 -- days that come, too
-pub days-next : (day : ℕ) (items : List Given) → AllByRecursion (λ (g : Given). g.moved_on ≤ day) items → AllByRecursion (λ (g : Given). g.moved_on ≤ day + 1) items
-days-next day items = all-imply (λ (g : Given). g.moved_on ≤ day) (λ (g : Given). g.moved_on ≤ day + 1) (λ g h. omega arith) items
+pub days-next : (day : ℕ) (items : List GivenUp) → AllByRecursion (λ (g : GivenUp). g.moved_on ≤ day) items → AllByRecursion (λ (g : GivenUp). g.moved_on ≤ day + 1) items
+days-next day items = all-imply (λ (g : GivenUp). g.moved_on ≤ day) (λ (g : GivenUp). g.moved_on ≤ day + 1) (λ g h. omega arith) items
 
-pub days-forgotten : (day : ℕ) (items : List Given) → AllByRecursion (λ (g : Given). g.moved_on ≤ day) items → AllByRecursion (λ (g : Given). g.moved_on ≤ day) (map forgotten items)
+pub days-forgotten : (day : ℕ) (items : List GivenUp) → AllByRecursion (λ (g : GivenUp). g.moved_on ≤ day) items → AllByRecursion (λ (g : GivenUp). g.moved_on ≤ day) (map forgotten items)
 days-forgotten day [] before = tt
 days-forgotten day (g ∷ items) before = (before.0, days-forgotten day items before.1)
 
@@ -85,8 +85,8 @@ counted-next (r ∷ rows) firm id =
     omega (arith, sum_by-cons f (next_day r) (map next_day rows), sum_by-cons f r rows, counted-next rows firm id)
 
 -- all is kept when a day was opened
-pub kept-next : (kept later : Inside) → IsKept kept → rows_of later ≡ map next_day (rows_of kept) → AllByRecursion (λ (g : Given). g.moved_on ≤ later.day) later.rows.items
-    → length later.rows.items ≡ length kept.rows.items
+pub kept-next : (kept later : Inside) → IsKept kept → rows_of later ≡ map next_day (rows_of kept) → AllByRecursion (λ (g : GivenUp). g.moved_on ≤ later.day) later.rows
+    → length later.rows ≡ length kept.rows
     → ((group : Group) → numbers_in later.groups group ≡ numbers_in kept.groups group) → ((firm : FirmId) (id : Id) → lots_under later.counts firm id ≡ lots_under kept.counts firm id) → IsKept later
 kept-next kept later is_kept view days same groups counts = record {
   sound = subst (AllByRecursion IsSound) (sym view) (sound-next (rows_of kept) is_kept.sound);
@@ -117,7 +117,7 @@ module _ (firm : FirmId) (report : Id) (group : Group) where
   sound-offered [] lots = tt
   sound-offered (line ∷ lines) lots = (record { lots = lots.0; moved = omega arith; today = omega arith }, sound-offered lines lots.1)
 
-  days-offered : (day : ℕ) (lines : List Line) → AllByRecursion (λ (g : Given). g.moved_on ≤ day) (map (given_for firm report group) lines)
+  days-offered : (day : ℕ) (lines : List Line) → AllByRecursion (λ (g : GivenUp). g.moved_on ≤ day) (map (given_for firm report group) lines)
   days-offered day [] = tt
   days-offered day (line ∷ lines) = (omega arith, days-offered day lines)
 
@@ -160,15 +160,15 @@ module _ (firm : FirmId) (report : Id) (group : Group) where
       by false rest all lots = omega (arith, rest, all)
 
   module _ (kept later : Inside) (is_kept : IsKept kept) (lines : List Line) (lots : All (λ (line : Line). IsLots line.lots) lines)
-      (pushed : later.rows.items ≡ kept.rows.items ++ map (given_for firm report group) lines) (today : later.day ≡ kept.day) where
+      (pushed : later.rows ≡ kept.rows ++ map (given_for firm report group) lines) (today : later.day ≡ kept.day) where
     -- the offers, and those of the lines after them
     pub rows-offered : rows_of later ≡ with_lines (rows_of kept) firm report group lines
     rows-offered =
-        (λ i. map (row_of (today i)) (pushed i)) ∙ map-append (row_of kept.day) kept.rows.items (map (given_for firm report group) lines)
+        (λ i. map (row_of (today i)) (pushed i)) ∙ map-append (row_of kept.day) kept.rows (map (given_for firm report group) lines)
         ∙ ap (λ rows. rows_of kept ++ rows) (rows-given_for kept.day firm report group lines)
 
     -- all is kept then
-    pub kept-offered : (first : ℕ) → first ≡ length kept.rows.items + 1 → length kept.rows.items + length lines ≤ 16000000
+    pub kept-offered : (first : ℕ) → first ≡ length kept.rows + 1 → length kept.rows + length lines ≤ 16000000
         → ((other : Group) → numbers_in later.groups other ≡ (if same_group group other then numbers_in kept.groups other ++ range_with_len first (length lines) else numbers_in kept.groups other))
         → ((other : FirmId) (another : Id)
         → lots_under later.counts other another ≡ (if same_firm firm other && same_id report another then lots_under kept.counts other another + lots_in_all lines else lots_under kept.counts other another))
@@ -176,11 +176,11 @@ module _ (firm : FirmId) (report : Id) (group : Group) where
     kept-offered first is room numbers counts = record {
       sound = subst (AllByRecursion IsSound) (sym rows-offered)
           (all-append IsSound (rows_of kept) (map (offered firm report group) lines) is_kept.sound (sound-offered lines (recursion_from_All (λ (line : Line). IsLots line.lots) lines lots)));
-      days = subst (λ d. AllByRecursion (λ (g : Given). g.moved_on ≤ d) later.rows.items) (sym today)
-          (subst (AllByRecursion (λ (g : Given). g.moved_on ≤ kept.day)) (sym pushed)
-          (all-append (λ (g : Given). g.moved_on ≤ kept.day) kept.rows.items (map (given_for firm report group) lines) is_kept.days (days-offered kept.day lines)));
-      few = let all : length later.rows.items ≡ length kept.rows.items + length lines =
-          ap length pushed ∙ length-append kept.rows.items (map (given_for firm report group) lines) ∙ ap (λ n. length kept.rows.items + n) (length-map lines (given_for firm report group)) in omega (arith, all, room);
+      days = subst (λ d. AllByRecursion (λ (g : GivenUp). g.moved_on ≤ d) later.rows) (sym today)
+          (subst (AllByRecursion (λ (g : GivenUp). g.moved_on ≤ kept.day)) (sym pushed)
+          (all-append (λ (g : GivenUp). g.moved_on ≤ kept.day) kept.rows (map (given_for firm report group) lines) is_kept.days (days-offered kept.day lines)));
+      few = let all : length later.rows ≡ length kept.rows + length lines =
+          ap length pushed ∙ length-append kept.rows (map (given_for firm report group) lines) ∙ ap (λ n. length kept.rows + n) (length-map lines (given_for firm report group)) in omega (arith, all, room);
       numbers = λ other. numbers other ∙ own other (same_group group other) (numbers-offered (1 + length (rows_of kept)) lines other (recursion_from_All (λ (line : Line). IsLots line.lots) lines lots))
           ∙ sym (numbers-append other 1 (rows_of kept) (map (offered firm report group) lines)) ∙ ap (λ rows. open_numbers rows other) (sym rows-offered);
       counts = λ other another. counts other another ∙ held other another (same_firm firm other && same_id report another) (counted-offered lines other another)
@@ -189,7 +189,7 @@ module _ (firm : FirmId) (report : Id) (group : Group) where
     }
       where
         begins : first ≡ 1 + length (rows_of kept)
-        begins = let same : length (rows_of kept) ≡ length kept.rows.items = length-map kept.rows.items (row_of kept.day) in omega (arith, is, same)
+        begins = let same : length (rows_of kept) ≡ length kept.rows = length-map kept.rows (row_of kept.day) in omega (arith, is, same)
 
         nothing : (xs : List ℕ) → xs ≡ xs ++ []
         nothing [] = refl
@@ -208,7 +208,7 @@ module _ (firm : FirmId) (report : Id) (group : Group) where
         held other another false these = omega (arith, is_kept.counts other another, these)
 
 -- offers that stay, with tables that say what they said, are kept as they were
-module _ (old new : Inside) (kept : IsKept old) (items : new.rows.items ≡ old.rows.items) (day : new.day ≡ old.day) where
+module _ (old new : Inside) (kept : IsKept old) (items : new.rows ≡ old.rows) (day : new.day ≡ old.day) where
   rows-same : rows_of old ≡ rows_of new
   rows-same = λ i. map (row_of (sym day i)) (sym items i)
 

@@ -11,7 +11,7 @@ use Rattle.gu_terms.specs.declared.group.Group.{Group}
 use Rattle.gu_terms.specs.declared.id.Id.{Id}
 use Rattle.gu_terms.specs.declared.offer.Offer.{Offer}
 use Rattle.gu_terms.specs.Same.{same_firm, same_group, same_id}
-use Rattle.gu_offers.specs.declared.given.Given.{Given}
+use Rattle.gu_offers.specs.Given.{GivenUp}
 use Rattle.gu_offers.specs.declared.offers.Offers.TheInside.{Inside}
 use Rattle.gu_offers.specs.Changes.{changed, closed, reversed, taken}
 use Rattle.gu_offers.specs.Counts.{lots_under}
@@ -88,9 +88,9 @@ pub open-taken : (r : Row) (lots : ℕ) → left_of (taken lots r) ≢ 0 → is_
 open-taken r lots h = above_zero (left_of (taken lots r)) h ∙ sym (above_zero (left_of r) (still_left r.is_shut r.offer.lots r.moved lots h))
 
 -- each offer that is kept is sound on its day
-pub sound_at : (kept : Inside) → IsKept kept → (place : ℕ) → IsSoundAt kept.rows.items place kept.day
+pub sound_at : (kept : Inside) → IsKept kept → (place : ℕ) → IsSoundAt kept.rows place kept.day
 sound_at kept is_kept place g at =
-    all-at IsSound (rows_of kept) place (row_of kept.day g) is_kept.sound (slice_get-map (row_of kept.day) kept.rows.items place ∙ ap (option_map (row_of kept.day)) at)
+    all-at IsSound (rows_of kept) place (row_of kept.day g) is_kept.sound (slice_get-map (row_of kept.day) kept.rows place ∙ ap (option_map (row_of kept.day)) at)
 
 -- the numbers that are kept of a group ascend
 pub ascending : (kept : Inside) → IsKept kept → (group : Group) → IsAscending (numbers_in kept.groups group)
@@ -100,21 +100,21 @@ nothing : (b : Bool) → ◌≡◌ {A = ℕ} (if b then 0 else 0) 0
 nothing true = refl
 nothing false = refl
 
-module _ (kept : Inside) (is_kept : IsKept kept) (place : ℕ) (new : List Given) (change : Row → Row) (offer : Offer) (written : IsWritten kept.rows.items new place kept.day change offer) where
+module _ (kept : Inside) (is_kept : IsKept kept) (place : ℕ) (new : List GivenUp) (change : Row → Row) (offer : Offer) (written : IsWritten kept.rows new place kept.day change offer) where
   -- the offer before
   abbrev before : Row
   before = row_of kept.day written.was
 
   -- it stands at its place
   pub stands_there : slice_get (rows_of kept) place ≡ Some before
-  stands_there = slice_get-map (row_of kept.day) kept.rows.items place ∙ ap (option_map (row_of kept.day)) written.there
+  stands_there = slice_get-map (row_of kept.day) kept.rows place ∙ ap (option_map (row_of kept.day)) written.there
 
   pub is_sound : IsSound before
   is_sound = all-at IsSound (rows_of kept) place before is_kept.sound stands_there
 
   -- the offers after
   pub after : map (row_of kept.day) new ≡ set (rows_of kept) place (change before)
-  after = ap (map (row_of kept.day)) written.written ∙ map-set (row_of kept.day) kept.rows.items place written.now ∙ ap (set (rows_of kept) place) written.row
+  after = ap (map (row_of kept.day)) written.written ∙ map-set (row_of kept.day) kept.rows place written.now ∙ ap (set (rows_of kept) place) written.row
 
   pub after-changed : map (row_of kept.day) new ≡ changed (rows_of kept) (suc place) change
   after-changed = after ∙ sym (ap (λ o. option_map_or (λ r. set (rows_of kept) place (change r)) o (rows_of kept)) stands_there)
@@ -179,7 +179,7 @@ module _ (kept : Inside) (is_kept : IsKept kept) (place : ℕ) (new : List Given
         omega (arith, counted-set firm id (rows_of kept) place before (change before) 0 stands_there same is, nothing (is_of_report firm id before), is_kept.counts firm id)
 
     -- all is kept then
-    pub kept-changed : (later : Inside) → later.rows.items ≡ new → later.day ≡ kept.day → IsSound (change before)
+    pub kept-changed : (later : Inside) → later.rows ≡ new → later.day ≡ kept.day → IsSound (change before)
         → ((group : Group) → numbers_in later.groups group ≡ open_numbers (set (rows_of kept) place (change before)) group)
         → ((firm : FirmId) (id : Id) → lots_under later.counts firm id ≡ counted_under (set (rows_of kept) place (change before)) firm id)
         → IsKept later
@@ -187,11 +187,11 @@ module _ (kept : Inside) (is_kept : IsKept kept) (place : ℕ) (new : List Given
         let view : rows_of later ≡ set (rows_of kept) place (change before) = (λ i. map (row_of (today i)) (is i)) ∙ after in
         record {
           sound = subst (AllByRecursion IsSound) (sym view) (all-set IsSound (rows_of kept) place (change before) is_kept.sound sound);
-          days = subst (λ (d : ℕ). AllByRecursion (λ (g : Given). g.moved_on ≤ d) later.rows.items) (sym today)
-              (subst (AllByRecursion (λ (g : Given). g.moved_on ≤ kept.day)) (sym (is ∙ written.written))
-              (all-set (λ (g : Given). g.moved_on ≤ kept.day) kept.rows.items place written.now is_kept.days
-              (written.on (all-at (λ (g : Given). g.moved_on ≤ kept.day) kept.rows.items place written.was is_kept.days written.there))));
-          few = let same_length : length later.rows.items ≡ length kept.rows.items = ap length (is ∙ written.written) ∙ length-set kept.rows.items place written.now in omega (arith, same_length, is_kept.few);
+          days = subst (λ (d : ℕ). AllByRecursion (λ (g : GivenUp). g.moved_on ≤ d) later.rows) (sym today)
+              (subst (AllByRecursion (λ (g : GivenUp). g.moved_on ≤ kept.day)) (sym (is ∙ written.written))
+              (all-set (λ (g : GivenUp). g.moved_on ≤ kept.day) kept.rows place written.now is_kept.days
+              (written.on (all-at (λ (g : GivenUp). g.moved_on ≤ kept.day) kept.rows place written.was is_kept.days written.there))));
+          few = let same_length : length later.rows ≡ length kept.rows = ap length (is ∙ written.written) ∙ length-set kept.rows place written.now in omega (arith, same_length, is_kept.few);
           numbers = λ group. numbers group ∙ ap (λ rows. open_numbers rows group) (sym view);
           counts = λ firm id. counts firm id ∙ ap (λ rows. counted_under rows firm id) (sym view);
         }

@@ -1,5 +1,6 @@
 pub mod Found
 pub mod Growing
+pub mod KeptIds
 pub mod KeptOffers
 pub mod KeptTables
 pub mod Listed

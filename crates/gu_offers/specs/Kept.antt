@@ -5,7 +5,7 @@ use Rattle.gu_terms.specs.declared.firm.FirmId.{FirmId}
 use Rattle.gu_terms.specs.declared.group.Group.{Group}
 use Rattle.gu_terms.specs.declared.id.Id.{Id}
 use Rattle.gu_terms.specs.declared.offer.Offer.{Offer}
-use Rattle.gu_offers.specs.declared.given.Given.{Given}
+use Rattle.gu_offers.specs.Given.{GivenUp}
 use Rattle.gu_offers.specs.declared.offers.Offers.TheInside.{Inside}
 use Rattle.gu_offers.specs.Counts.{lots_under}
 use Rattle.gu_offers.specs.Given.{row_of}
@@ -14,20 +14,20 @@ use Rattle.gu_offers.specs.Rows.{IsSound, Row, counted_under, open_numbers}
 
 -- the offers, in the order of their numbers
 abbrev pub rows_of : Inside → List Row
-rows_of kept = map (row_of kept.day) kept.rows.items
+rows_of kept = map (row_of kept.day) kept.rows
 
 -- the offers that are kept are sound, nothing was moved after this day, and both tables say what they say
 pub record IsKept (kept : Inside) : Type 0 where
   pub sound : AllByRecursion IsSound (rows_of kept)
-  pub days : AllByRecursion (λ (g : Given). g.moved_on ≤ kept.day) kept.rows.items
-  pub few : length kept.rows.items ≤ 16000000
+  pub days : AllByRecursion (λ (g : GivenUp). g.moved_on ≤ kept.day) kept.rows
+  pub few : length kept.rows ≤ 16000000
   pub numbers : (group : Group) → numbers_in kept.groups group ≡ open_numbers (rows_of kept) group
   pub counts : (firm : FirmId) (id : Id) → lots_under kept.counts firm id ≡ counted_under (rows_of kept) firm id
 
 -- one offer that is kept was changed in this way
-pub record IsWritten (old new : List Given) (place day : ℕ) (change : Row → Row) (offer : Offer) : Type 0 where
-  pub was : Given
-  pub now : Given
+pub record IsWritten (old new : List GivenUp) (place day : ℕ) (change : Row → Row) (offer : Offer) : Type 0 where
+  pub was : GivenUp
+  pub now : GivenUp
   pub there : slice_get old place ≡ Some was
   pub written : new ≡ slice_set old place now
   pub row : row_of day now ≡ change (row_of day was)
@@ -35,5 +35,5 @@ pub record IsWritten (old new : List Given) (place day : ℕ) (change : Row → 
   pub own : offer ≡ was.offer
 
 -- the offer at a place may be changed: it is sound on this day
-abbrev pub IsSoundAt : List Given → ℕ → ℕ → Type 0
-IsSoundAt items place day = (g : Given) → slice_get items place ≡ Some g → IsSound (row_of day g)
+abbrev pub IsSoundAt : List GivenUp → ℕ → ℕ → Type 0
+IsSoundAt items place day = (g : GivenUp) → slice_get items place ≡ Some g → IsSound (row_of day g)

@@ -4,6 +4,7 @@
 mod counts;
 mod given;
 mod groups;
+mod kept_rows;
 mod offers;
 mod open_offer;
 

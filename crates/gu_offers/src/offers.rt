@@ -3,15 +3,13 @@
 ghost use Rattle.std.specs.Prelude.{◌≡◌, ℕ, ◌+◌, ◌<◌, ◌≤◌, ◌++◌, [], length, map, slice_get, All, Some, vec_len, vec_capacity, OnOk, OnErr, IfOk};
 ghost use Rattle.std.specs.Option.{option_map};
 ghost use Rattle.gu_offers.specs.Changes.{changed, closed, next_day, reversed, taken, with_lines};
-ghost use Rattle.gu_offers.specs.declared.given.Given.{Given as GivenOf};
 ghost use Rattle.gu_terms.specs.Numbers.{IsLots};
-ghost use Rattle.gu_offers.specs.Given.{forgotten, given_for, row_of};
-ghost use Rattle.gu_offers.specs.Kept.{IsSoundAt, IsWritten};
-ghost use Rattle.gu_offers.specs.Rows.{IsSound, counted_under, left_in, left_of, open_count, open_numbers, open_offer_at, open_offers, row_at, today_in};
+ghost use Rattle.gu_offers.specs.Given.{row_of};
+ghost use Rattle.gu_offers.specs.Rows.{IsSound, counted_under, left_in, open_count, open_numbers, open_offer_at, open_offers, row_at, today_in};
 
-use crate::counts::Counts;
-use crate::given::Given;
+use crate::counts::{Counts, ReportKey};
 use crate::groups::Groups;
+use crate::kept_rows::{KeptRows, close_of, reverse_of, take_of};
 use crate::open_offer::OpenOffer;
 use gu_terms::{FirmId, Group, Id, Line, Lines, Offer, OfferNo, Seed};
 use std::alloc::{AllocError, Global};
@@ -19,7 +17,7 @@ use std::marker::Model;
 
 /// The offers of the house, numbered from 1. To a contract it is their list, the offer of number n at place n - 1.
 pub struct Offers {
-    rows: Vec<Given>,
+    rows: KeptRows,
     groups: Groups,
     counts: Counts,
     /// The number of the day, by which it is known what was moved since it was opened.
@@ -60,44 +58,6 @@ fn place_of(number: OfferNo) -> usize
     number.get() as usize - 1
 }
 
-/// Lots of an offer are moved. Answers what is offered, and the lots that are left of it.
-fn take_of(rows: &mut Vec<Given>, place: usize, lots: u64, day: u64) -> (Offer, u64)
-    requires inside { place < length rows.old.items }
-    requires sound { IsSoundAt rows.old.items place day }
-    requires left { (g : GivenOf) → slice_get rows.old.items place ≡ Some g → lots ≤ left_of (row_of day g) }
-    ensures written { IsWritten rows.old.items rows.new.items place day (taken lots) result.0 }
-    ensures left { (g : GivenOf) → slice_get rows.old.items place ≡ Some g → result.1 ≡ left_of (taken lots (row_of day g)) }
-{
-    let given = &mut rows[place];
-    given.take(lots, day);
-    let left = given.left();
-    (given.offer, left)
-}
-
-/// An offer is closed. Answers what is offered, and the lots that were left of it.
-fn close_of(rows: &mut Vec<Given>, place: usize, day: u64) -> (Offer, u64)
-    requires { place < length rows.old.items }
-    ensures written { IsWritten rows.old.items rows.new.items place day closed result.0 }
-    ensures left { (g : GivenOf) → slice_get rows.old.items place ≡ Some g → result.1 ≡ left_of (row_of day g) }
-{
-    let given = &mut rows[place];
-    let left = given.left();
-    given.is_shut = true;
-    (given.offer, left)
-}
-
-/// What was moved of an offer on this day is moved no longer, and it is closed. Answers what is offered, and these lots.
-fn reverse_of(rows: &mut Vec<Given>, place: usize, day: u64) -> (Offer, u64)
-    requires inside { place < length rows.old.items }
-    requires sound { IsSoundAt rows.old.items place day }
-    ensures written { IsWritten rows.old.items rows.new.items place day reversed result.0 }
-    ensures lots { (g : GivenOf) → slice_get rows.old.items place ≡ Some g → result.1 ≡ (row_of day g).today }
-{
-    let given = &mut rows[place];
-    let lots = given.reverse(day);
-    (given.offer, lots)
-}
-
 /// The lots of each line are in their range.
 fn are_lots(lines: &[Line])
     ensures { All (λ line. IsLots line.lots) lines.now }
@@ -108,53 +68,21 @@ fn are_lots(lines: &[Line])
     }
 }
 
-/// Appends what the lines of a give-up offer. There is room.
-fn push_offers(rows: &mut Vec<Given>, firm: &FirmId, report: &Id, group: &Group, lines: &[Line])
-    requires { vec_len rows.old + length lines.now ≤ vec_capacity rows.old }
-    ensures { rows.new.items ≡ rows.old.items ++ map (given_for firm.now report.now group.now) lines.now }
-{
-    for line in lines {
-        let offer = Offer {
-            firm: *firm,
-            report: *report,
-            group: *group,
-            account: line.account,
-            lots: line.lots,
-        };
-        rows.push_reserved(Given {
-            offer,
-            moved: 0,
-            moved_on: 0,
-            today: 0,
-            is_shut: false,
-        });
-    }
-}
-
-/// Forgets what was moved on a day.
-fn forget(rows: &mut Vec<Given>)
-    ensures { rows.new.items ≡ map forgotten rows.old.items }
-{
-    for given in rows.iter_mut() {
-        given.today = 0;
-    }
-}
-
 /// The offer of a number, with what is left of it.
-fn open_offer(rows: &[Given], number: u64) -> OpenOffer
+fn open_offer(rows: &KeptRows, number: u64) -> OpenOffer
     requires some { 1 ≤ number }
     requires inside { number ≤ length rows.now }
     requires few { length rows.now ≤ 16000000 }
     ensures { (day : ℕ) → open_offer_at (map (row_of day) rows.now) number ≡ Some result }
 {
-    let given = &rows[number as usize - 1];
+    let place = number as usize - 1;
     let Some(number) = OfferNo::new(number) else {
         unreachable!();
     };
     OpenOffer {
         number,
-        offer: given.offer,
-        left: given.left(),
+        offer: rows.offer(place),
+        left: rows.left(place),
     }
 }
 
@@ -171,7 +99,7 @@ impl Offers {
         ensures { result ≡ [] }
     {
         Offers {
-            rows: Vec::new(alloc),
+            rows: KeptRows::new(alloc),
             groups: Groups::new(alloc),
             counts: Counts::seeded(alloc, seed),
             day: 0,
@@ -198,28 +126,33 @@ impl Offers {
     pub fn get(&self, number: OfferNo) -> Option<Offer>
         ensures { result ≡ option_map (λ r. r.offer) (row_at self.now number) }
     {
-        let given = self.rows.get(place_of(number))?;
-        Some(given.offer)
+        let place = place_of(number);
+        if place >= self.rows.len() {
+            return None;
+        }
+        Some(self.rows.offer(place))
     }
 
     /// The lots that are left of an offer, 0 where there is none of this number.
     pub fn left(&self, number: OfferNo) -> u64
         ensures { result ≡ left_in self.now number }
     {
-        match self.rows.get(place_of(number)) {
-            Some(given) => given.left(),
-            None => 0,
+        let place = place_of(number);
+        if place >= self.rows.len() {
+            return 0;
         }
+        self.rows.left(place)
     }
 
     /// The lots of an offer that were moved since the last opening of a day, 0 where there is none of this number.
     pub fn moved_today(&self, number: OfferNo) -> u64
         ensures { result ≡ today_in self.now number }
     {
-        match self.rows.get(place_of(number)) {
-            Some(given) => given.moved_on(self.day),
-            None => 0,
+        let place = place_of(number);
+        if place >= self.rows.len() {
+            return 0;
         }
+        self.rows.moved_on(place, self.day)
     }
 
     /// The lots of a report that its offers hold.
@@ -307,12 +240,20 @@ impl Offers {
         let Some(first) = OfferNo::new(self.rows.len() as u64 + 1) else {
             unreachable!();
         };
-        self.rows.reserve(lines.len())?;
+        let count = self.rows.len();
         self.counts.know(&firm, &report)?;
-        self.groups.append(&group, first.get(), lines.len())?;
-        push_offers(&mut self.rows, &firm, &report, &group, lines);
-        self.counts.add(&firm, &report, total);
-        Ok(first)
+        let key = ReportKey { firm, id: report };
+        self.rows.push(&key, &group, lines)?;
+        match self.groups.append(&group, first.get(), lines.len()) {
+            Ok(()) => {
+                self.counts.add(&firm, &report, total);
+                Ok(first)
+            }
+            Err(refused) => {
+                self.rows.truncate(count);
+                Err(refused)
+            }
+        }
     }
 
     /// A day is opened: nothing was moved since.
@@ -321,7 +262,7 @@ impl Offers {
     {
         match self.day.checked_add(1) {
             Some(day) => self.day = day,
-            None => forget(&mut self.rows),
+            None => self.rows.forget(),
         }
     }
 
@@ -331,7 +272,7 @@ impl Offers {
     {
         let mut offers = Vec::new(self.groups.alloc);
         for number in self.groups.of(&group) {
-            offers.push(open_offer(self.rows.as_slice(), *number))?;
+            offers.push(open_offer(&self.rows, *number))?;
         }
         Ok(offers)
     }

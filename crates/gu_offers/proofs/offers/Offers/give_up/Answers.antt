@@ -1,4 +1,4 @@
-use Rattle.std.proofs.Common.{◌≡◌, ◌∙◌, sym, refl, ap, map, ◌+◌, ◌++◌, ◌&&◌, length, arith, if◌then◌else◌}
+use Rattle.std.proofs.Common.{◌≡◌, ◌∙◌, sym, refl, ap, map, ◌+◌, ◌&&◌, length, arith, if◌then◌else◌}
 use Rattle.std.proofs.lemmas.List.{length-map}
 use Rattle.gu_terms.specs.Lines.{lots_in_all}
 use Rattle.gu_terms.specs.Same.{same_firm, same_id}
@@ -6,11 +6,12 @@ use Rattle.gu_offers.specs.Changes.{with_lines}
 use Rattle.gu_offers.specs.Given.{given_for, row_of}
 use Rattle.gu_offers.specs.Kept.{rows_of}
 use Rattle.gu_offers.proofs.Growing.{counted-few, kept-same, kept-offered, rows-offered}
+use Rattle.gu_offers.proofs.KeptIds.{taken_off}
 use Rattle.gu_offers.proofs.offers.Offers.give_up.Goals as goal
 
 pub add-requires-clause-fits : goal.add-requires-clause-fits
 add-requires-clause-fits c =
-    let rows : length (rows_of c.self.inside) ≡ length c.self.inside.rows.items = length-map c.self.inside.rows.items (row_of c.self.inside.day) in
+    let rows : length (rows_of c.self.inside) ≡ length c.self.inside.rows = length-map c.self.inside.rows (row_of c.self.inside.day) in
     omega (
       arith,
       c.know.ensures.same c.args.firm c.args.report,
@@ -21,42 +22,44 @@ add-requires-clause-fits c =
       c.lots-total.ensures.most,
     )
 
-pub invariant_of-self-2 : goal.invariant_of-self-2
-invariant_of-self-2 c =
-    let rows : length (rows_of c.self.inside) ≡ length c.self.inside.rows.items = length-map c.self.inside.rows.items (row_of c.self.inside.day) in
+pub invariant_of-self-in-Ok : goal.invariant_of-self-in-Ok
+invariant_of-self-in-Ok c =
+    let rows : length (rows_of c.self.inside) ≡ length c.self.inside.rows = length-map c.self.inside.rows (row_of c.self.inside.day) in
     let view : length (rows_of c.self.inside) ≡ length c.args.self.now = ap length c.self.view_is in
     let lines : length c.as_slice-lines.result.now ≡ length c.args.lines.now = ap length c.as_slice-lines.ensures.lines in
     kept-offered c.args.firm c.args.report c.args.group c.self.inside
-    (record { rows = c.push_offers.new.rows; groups = c.append.new.self; counts = c.add.new.self; day = c.self.inside.day }) c.self.invariant
+    (record { rows = c.push.new.self; groups = c.append.new.self; counts = c.add.new.self; day = c.self.inside.day }) c.self.invariant
     c.as_slice-lines.result.now c.are_lots.ensures
-    (c.push_offers.ensures ∙ ap (λ items. items ++ map (given_for c.args.firm c.args.report c.args.group) c.as_slice-lines.result.now) c.reserve.ensures.items) refl
-    c.get.result (omega (arith, c.get.ensures.number, c.in-Some.ensures.same, c.len.ensures, c.self.inside.rows.ok))
+    c.in_ok-push.ensures.pushed refl
+    c.get.result (omega (arith, c.get.ensures.number, c.in-Some.ensures.same, c.len.ensures, c.self.invariant.few))
     (omega (arith, rows, view, lines, c.requires))
-    c.in_ok-append.ensures.appended
+    c.in-Ok.ensures.appended
     (λ other another. c.add.ensures other another
     ∙ (λ i. if same_firm c.args.firm other && same_id c.args.report another
     then c.know.ensures.same other another i + (c.lots-total.ensures.lots ∙ ap lots_in_all (sym c.as_slice-lines.ensures.lines)) i
     else c.know.ensures.same other another i))
 
-pub returns-clause-offered : goal.returns-clause-offered
-returns-clause-offered c =
+pub returns-in-Ok-clause-offered : goal.returns-in-Ok-clause-offered
+returns-in-Ok-clause-offered c =
     rows-offered c.args.firm c.args.report c.args.group c.self.inside
-    (record { rows = c.push_offers.new.rows; groups = c.append.new.self; counts = c.add.new.self; day = c.self.inside.day }) c.self.invariant
+    (record { rows = c.push.new.self; groups = c.append.new.self; counts = c.add.new.self; day = c.self.inside.day }) c.self.invariant
     c.as_slice-lines.result.now c.are_lots.ensures
-    (c.push_offers.ensures ∙ ap (λ items. items ++ map (given_for c.args.firm c.args.report c.args.group) c.as_slice-lines.result.now) c.reserve.ensures.items) refl
+    c.in_ok-push.ensures.pushed refl
     ∙ (λ i. with_lines (c.self.view_is i) c.args.firm c.args.report c.args.group (c.as_slice-lines.ensures.lines i))
 
 pub invariant_of-self : goal.invariant_of-self
 invariant_of-self c =
-    kept-same c.self.inside (record { rows = c.reserve.new.self; groups = c.self.inside.groups; counts = c.self.inside.counts; day = c.self.inside.day }) c.self.invariant c.reserve.ensures.items refl
-    (λ group. refl) (λ firm id. refl)
-
-pub invariant_of-self-in_err-know : goal.invariant_of-self-in_err-know
-invariant_of-self-in_err-know c =
-    kept-same c.self.inside (record { rows = c.reserve.new.self; groups = c.self.inside.groups; counts = c.know.new.self; day = c.self.inside.day }) c.self.invariant c.reserve.ensures.items refl
+    kept-same c.self.inside (record { rows = c.self.inside.rows; groups = c.self.inside.groups; counts = c.know.new.self; day = c.self.inside.day }) c.self.invariant refl refl
     (λ group. refl) c.know.ensures.same
 
-pub invariant_of-self-in_err-append : goal.invariant_of-self-in_err-append
-invariant_of-self-in_err-append c =
-    kept-same c.self.inside (record { rows = c.reserve.new.self; groups = c.append.new.self; counts = c.know.new.self; day = c.self.inside.day }) c.self.invariant c.reserve.ensures.items refl
-    c.in_err-append.ensures.refused c.know.ensures.same
+pub invariant_of-self-in_err-push : goal.invariant_of-self-in_err-push
+invariant_of-self-in_err-push c =
+    kept-same c.self.inside (record { rows = c.push.new.self; groups = c.self.inside.groups; counts = c.know.new.self; day = c.self.inside.day }) c.self.invariant c.in_err-push.ensures.refused refl
+    (λ group. refl) c.know.ensures.same
+
+pub invariant_of-self-in-Err : goal.invariant_of-self-in-Err
+invariant_of-self-in-Err c =
+    kept-same c.self.inside (record { rows = c.truncate.new.self; groups = c.append.new.self; counts = c.know.new.self; day = c.self.inside.day }) c.self.invariant
+    (taken_off c.self.inside.rows (map (given_for c.args.firm c.args.report c.args.group) c.as_slice-lines.result.now) c.push.new.self c.truncate.new.self c.len-count.result
+    c.truncate.ensures c.len-count.ensures c.in_ok-push.ensures.pushed) refl
+    c.in-Err.ensures.refused c.know.ensures.same

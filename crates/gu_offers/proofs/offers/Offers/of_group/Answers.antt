@@ -1,4 +1,4 @@
-use Rattle.std.proofs.Common.{◌≡◌, ◌∙◌, sym, ap, subst, ◌+◌, ◌<◌, ◌≤◌, ◌++◌, ◌∷◌, [], length, map, take, get_or, arith}
+use Rattle.std.proofs.Common.{◌≡◌, ◌∙◌, sym, ap, subst, ◌+◌, ◌<◌, ◌≤◌, ◌++◌, ◌∷◌, [], length, take, get_or, arith}
 use Rattle.std.specs.List.{AllByRecursion, filter_map}
 use Rattle.std.proofs.lemmas.List.{length-map, take_more}
 use Rattle.gu_offers.specs.Given.{row_of}
@@ -23,9 +23,8 @@ open_offer-requires-clause-inside c =
     (subst (AllByRecursion (λ m. (1 ≤ m) × (m < 1 + length (rows_of c.self.inside)))) (sym (c.of-number-items.ensures ∙ c.self.invariant.numbers c.args.group))
     (numbers-within c.args.group 1 (rows_of c.self.inside)))
     c.loop-number-test.true).1 in
-    let rows : length (rows_of c.self.inside) ≡ length c.self.inside.rows.items = length-map c.self.inside.rows.items (row_of c.self.inside.day) in
-    let slice : length c.as_slice.result.now ≡ length c.self.inside.rows.items = ap length c.as_slice.ensures.value in
-    omega (arith, within, rows, slice)
+    let rows : length (rows_of c.self.inside) ≡ length c.self.inside.rows = length-map c.self.inside.rows (row_of c.self.inside.day) in
+    omega (arith, within, rows)
 
 pub loop-number-preserved : goal.loop-number-preserved
 loop-number-preserved c =
@@ -33,5 +32,4 @@ loop-number-preserved c =
     ∙ sym (ap (filter_map (open_offer_at (rows_of c.self.inside))) (take_more c.of-number-items.result.now c.loop-number.number-index 0 c.loop-number-test.true)
     ∙ filter_map-one_more (open_offer_at (rows_of c.self.inside)) (take c.loop-number.number-index c.of-number-items.result.now)
     (get_or c.of-number-items.result.now c.loop-number.number-index 0) c.open_offer.result
-    (ap (λ items. open_offer_at (map (row_of c.self.inside.day) items) (get_or c.of-number-items.result.now c.loop-number.number-index 0)) (sym c.as_slice.ensures.value)
-    ∙ c.open_offer.ensures c.self.inside.day))
+    (c.open_offer.ensures c.self.inside.day))

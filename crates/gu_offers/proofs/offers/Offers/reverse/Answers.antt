@@ -11,19 +11,19 @@ reverse_of-offer-requires-clause-sound c = sound_at c.self.inside c.self.invaria
 
 pub take-requires : goal.take-requires
 take-requires c =
-    held-within c.self.inside c.self.invariant c.place_of-place.result c.reverse_of-offer.new.rows.items reversed c.reverse_of-offer.result.0 c.reverse_of-offer.ensures.written refl c.reverse_of-offer.result.1
-    (counted-reversed (row_of c.self.inside.day c.reverse_of-offer.ensures.written.was) (is_sound c.self.inside c.self.invariant c.place_of-place.result c.reverse_of-offer.new.rows.items reversed c.reverse_of-offer.result.0 c.reverse_of-offer.ensures.written) (sym (left_in-kept c.self.inside c.args.self.now c.self.view_is c.place_of-place.result c.args.number c.place_of-place.ensures c.reverse_of-offer.ensures.written.was c.reverse_of-offer.ensures.written.there) ∙ c.requires.closed)
+    held-within c.self.inside c.self.invariant c.place_of-place.result c.reverse_of-offer.new.rows reversed c.reverse_of-offer.result.0 c.reverse_of-offer.ensures.written refl c.reverse_of-offer.result.1
+    (counted-reversed (row_of c.self.inside.day c.reverse_of-offer.ensures.written.was) (is_sound c.self.inside c.self.invariant c.place_of-place.result c.reverse_of-offer.new.rows reversed c.reverse_of-offer.result.0 c.reverse_of-offer.ensures.written) (sym (left_in-kept c.self.inside c.args.self.now c.self.view_is c.place_of-place.result c.args.number c.place_of-place.ensures c.reverse_of-offer.ensures.written.was c.reverse_of-offer.ensures.written.there) ∙ c.requires.closed)
     ∙ ap (λ n. counted_of (reversed (row_of c.self.inside.day c.reverse_of-offer.ensures.written.was)) + n) (sym (c.reverse_of-offer.ensures.lots c.reverse_of-offer.ensures.written.was c.reverse_of-offer.ensures.written.there)))
 
 pub invariant_of-self : goal.invariant_of-self
 invariant_of-self c =
-    kept-changed c.self.inside c.self.invariant c.place_of-place.result c.reverse_of-offer.new.rows.items reversed c.reverse_of-offer.result.0 c.reverse_of-offer.ensures.written refl
-    (record { rows = c.reverse_of-offer.new.rows; groups = c.self.inside.groups; counts = c.take.new.self; day = c.self.inside.day }) refl refl (sound-reversed (row_of c.self.inside.day c.reverse_of-offer.ensures.written.was) (is_sound c.self.inside c.self.invariant c.place_of-place.result c.reverse_of-offer.new.rows.items reversed c.reverse_of-offer.result.0 c.reverse_of-offer.ensures.written))
-    (numbers-as_they_were c.self.inside c.self.invariant c.place_of-place.result c.reverse_of-offer.new.rows.items reversed c.reverse_of-offer.result.0 c.reverse_of-offer.ensures.written refl (ap (nat_lt 0) (sym (sym (left_in-kept c.self.inside c.args.self.now c.self.view_is c.place_of-place.result c.args.number c.place_of-place.ensures c.reverse_of-offer.ensures.written.was c.reverse_of-offer.ensures.written.there) ∙ c.requires.closed))))
-    (λ firm id. c.take.ensures firm id ∙ counts-less c.self.inside c.self.invariant c.place_of-place.result c.reverse_of-offer.new.rows.items reversed c.reverse_of-offer.result.0 c.reverse_of-offer.ensures.written refl c.reverse_of-offer.result.1 (counted-reversed (row_of c.self.inside.day c.reverse_of-offer.ensures.written.was) (is_sound c.self.inside c.self.invariant c.place_of-place.result c.reverse_of-offer.new.rows.items reversed c.reverse_of-offer.result.0 c.reverse_of-offer.ensures.written) (sym (left_in-kept c.self.inside c.args.self.now c.self.view_is c.place_of-place.result c.args.number c.place_of-place.ensures c.reverse_of-offer.ensures.written.was c.reverse_of-offer.ensures.written.there) ∙ c.requires.closed)
+    kept-changed c.self.inside c.self.invariant c.place_of-place.result c.reverse_of-offer.new.rows reversed c.reverse_of-offer.result.0 c.reverse_of-offer.ensures.written refl
+    (record { rows = c.reverse_of-offer.new.rows; groups = c.self.inside.groups; counts = c.take.new.self; day = c.self.inside.day }) refl refl (sound-reversed (row_of c.self.inside.day c.reverse_of-offer.ensures.written.was) (is_sound c.self.inside c.self.invariant c.place_of-place.result c.reverse_of-offer.new.rows reversed c.reverse_of-offer.result.0 c.reverse_of-offer.ensures.written))
+    (numbers-as_they_were c.self.inside c.self.invariant c.place_of-place.result c.reverse_of-offer.new.rows reversed c.reverse_of-offer.result.0 c.reverse_of-offer.ensures.written refl (ap (nat_lt 0) (sym (sym (left_in-kept c.self.inside c.args.self.now c.self.view_is c.place_of-place.result c.args.number c.place_of-place.ensures c.reverse_of-offer.ensures.written.was c.reverse_of-offer.ensures.written.there) ∙ c.requires.closed))))
+    (λ firm id. c.take.ensures firm id ∙ counts-less c.self.inside c.self.invariant c.place_of-place.result c.reverse_of-offer.new.rows reversed c.reverse_of-offer.result.0 c.reverse_of-offer.ensures.written refl c.reverse_of-offer.result.1 (counted-reversed (row_of c.self.inside.day c.reverse_of-offer.ensures.written.was) (is_sound c.self.inside c.self.invariant c.place_of-place.result c.reverse_of-offer.new.rows reversed c.reverse_of-offer.result.0 c.reverse_of-offer.ensures.written) (sym (left_in-kept c.self.inside c.args.self.now c.self.view_is c.place_of-place.result c.args.number c.place_of-place.ensures c.reverse_of-offer.ensures.written.was c.reverse_of-offer.ensures.written.there) ∙ c.requires.closed)
     ∙ ap (λ n. counted_of (reversed (row_of c.self.inside.day c.reverse_of-offer.ensures.written.was)) + n) (sym (c.reverse_of-offer.ensures.lots c.reverse_of-offer.ensures.written.was c.reverse_of-offer.ensures.written.there))) firm id)
 
 pub returns : goal.returns
 returns c =
-    after-changed c.self.inside c.self.invariant c.place_of-place.result c.reverse_of-offer.new.rows.items reversed c.reverse_of-offer.result.0 c.reverse_of-offer.ensures.written
+    after-changed c.self.inside c.self.invariant c.place_of-place.result c.reverse_of-offer.new.rows reversed c.reverse_of-offer.result.0 c.reverse_of-offer.ensures.written
     ∙ (λ i. changed (c.self.view_is i) ((sym (add-one c.place_of-place.result) ∙ c.place_of-place.ensures) i) reversed)

@@ -20,26 +20,26 @@ take_out-requires c = ascending c.self.inside c.self.invariant c.take_of-offer.r
 
 pub invariant_of-self : goal.invariant_of-self
 invariant_of-self c =
-    kept-changed c.self.inside c.self.invariant c.place_of-place.result c.take_of-offer.new.rows.items (taken c.args.lots) c.take_of-offer.result.0 c.take_of-offer.ensures.written refl
-    (record { rows = c.take_of-offer.new.rows; groups = c.take_out.new.self; counts = c.self.inside.counts; day = c.self.inside.day }) refl refl (sound-taken (row_of c.self.inside.day c.take_of-offer.ensures.written.was) c.args.lots (is_sound c.self.inside c.self.invariant c.place_of-place.result c.take_of-offer.new.rows.items (taken c.args.lots) c.take_of-offer.result.0 c.take_of-offer.ensures.written) (subst (λ n. c.args.lots ≤ n) (left_in-kept c.self.inside c.args.self.now c.self.view_is c.place_of-place.result c.args.number c.place_of-place.ensures c.take_of-offer.ensures.written.was c.take_of-offer.ensures.written.there) c.requires))
+    kept-changed c.self.inside c.self.invariant c.place_of-place.result c.take_of-offer.new.rows (taken c.args.lots) c.take_of-offer.result.0 c.take_of-offer.ensures.written refl
+    (record { rows = c.take_of-offer.new.rows; groups = c.take_out.new.self; counts = c.self.inside.counts; day = c.self.inside.day }) refl refl (sound-taken (row_of c.self.inside.day c.take_of-offer.ensures.written.was) c.args.lots (is_sound c.self.inside c.self.invariant c.place_of-place.result c.take_of-offer.new.rows (taken c.args.lots) c.take_of-offer.result.0 c.take_of-offer.ensures.written) (subst (λ n. c.args.lots ≤ n) (left_in-kept c.self.inside c.args.self.now c.self.view_is c.place_of-place.result c.args.number c.place_of-place.ensures c.take_of-offer.ensures.written.was c.take_of-offer.ensures.written.there) c.requires))
     (λ group. c.take_out.ensures group
     ∙ (λ i. if same_group c.take_of-offer.result.0.group group then without ((c.get.ensures.number ∙ sym c.place_of-place.ensures) i) (numbers_in c.self.inside.groups group) else numbers_in c.self.inside.groups group)
-    ∙ numbers-taken_out c.self.inside c.self.invariant c.place_of-place.result c.take_of-offer.new.rows.items (taken c.args.lots) c.take_of-offer.result.0 c.take_of-offer.ensures.written refl (ap (nat_lt 0) (sym (c.take_of-offer.ensures.left c.take_of-offer.ensures.written.was c.take_of-offer.ensures.written.there) ∙ c.if-left-eq0.true)) group)
-    (counts-as_they_were c.self.inside c.self.invariant c.place_of-place.result c.take_of-offer.new.rows.items (taken c.args.lots) c.take_of-offer.result.0 c.take_of-offer.ensures.written refl (counted-taken (row_of c.self.inside.day c.take_of-offer.ensures.written.was) c.args.lots (subst (λ n. c.args.lots ≤ n) (left_in-kept c.self.inside c.args.self.now c.self.view_is c.place_of-place.result c.args.number c.place_of-place.ensures c.take_of-offer.ensures.written.was c.take_of-offer.ensures.written.there) c.requires)))
+    ∙ numbers-taken_out c.self.inside c.self.invariant c.place_of-place.result c.take_of-offer.new.rows (taken c.args.lots) c.take_of-offer.result.0 c.take_of-offer.ensures.written refl (ap (nat_lt 0) (sym (c.take_of-offer.ensures.left c.take_of-offer.ensures.written.was c.take_of-offer.ensures.written.there) ∙ c.if-left-eq0.true)) group)
+    (counts-as_they_were c.self.inside c.self.invariant c.place_of-place.result c.take_of-offer.new.rows (taken c.args.lots) c.take_of-offer.result.0 c.take_of-offer.ensures.written refl (counted-taken (row_of c.self.inside.day c.take_of-offer.ensures.written.was) c.args.lots (subst (λ n. c.args.lots ≤ n) (left_in-kept c.self.inside c.args.self.now c.self.view_is c.place_of-place.result c.args.number c.place_of-place.ensures c.take_of-offer.ensures.written.was c.take_of-offer.ensures.written.there) c.requires)))
 
 pub invariant_of-self-else-left-eq0 : goal.invariant_of-self-else-left-eq0
 invariant_of-self-else-left-eq0 c =
-    kept-changed c.self.inside c.self.invariant c.place_of-place.result c.take_of-offer.new.rows.items (taken c.args.lots) c.take_of-offer.result.0 c.take_of-offer.ensures.written refl
-    (record { rows = c.take_of-offer.new.rows; groups = c.self.inside.groups; counts = c.self.inside.counts; day = c.self.inside.day }) refl refl (sound-taken (row_of c.self.inside.day c.take_of-offer.ensures.written.was) c.args.lots (is_sound c.self.inside c.self.invariant c.place_of-place.result c.take_of-offer.new.rows.items (taken c.args.lots) c.take_of-offer.result.0 c.take_of-offer.ensures.written) (subst (λ n. c.args.lots ≤ n) (left_in-kept c.self.inside c.args.self.now c.self.view_is c.place_of-place.result c.args.number c.place_of-place.ensures c.take_of-offer.ensures.written.was c.take_of-offer.ensures.written.there) c.requires))
-    (numbers-as_they_were c.self.inside c.self.invariant c.place_of-place.result c.take_of-offer.new.rows.items (taken c.args.lots) c.take_of-offer.result.0 c.take_of-offer.ensures.written refl (open-taken (row_of c.self.inside.day c.take_of-offer.ensures.written.was) c.args.lots (λ none. c.if-left-eq0.false ((c.take_of-offer.ensures.left c.take_of-offer.ensures.written.was c.take_of-offer.ensures.written.there) ∙ none))))
-    (counts-as_they_were c.self.inside c.self.invariant c.place_of-place.result c.take_of-offer.new.rows.items (taken c.args.lots) c.take_of-offer.result.0 c.take_of-offer.ensures.written refl (counted-taken (row_of c.self.inside.day c.take_of-offer.ensures.written.was) c.args.lots (subst (λ n. c.args.lots ≤ n) (left_in-kept c.self.inside c.args.self.now c.self.view_is c.place_of-place.result c.args.number c.place_of-place.ensures c.take_of-offer.ensures.written.was c.take_of-offer.ensures.written.there) c.requires)))
+    kept-changed c.self.inside c.self.invariant c.place_of-place.result c.take_of-offer.new.rows (taken c.args.lots) c.take_of-offer.result.0 c.take_of-offer.ensures.written refl
+    (record { rows = c.take_of-offer.new.rows; groups = c.self.inside.groups; counts = c.self.inside.counts; day = c.self.inside.day }) refl refl (sound-taken (row_of c.self.inside.day c.take_of-offer.ensures.written.was) c.args.lots (is_sound c.self.inside c.self.invariant c.place_of-place.result c.take_of-offer.new.rows (taken c.args.lots) c.take_of-offer.result.0 c.take_of-offer.ensures.written) (subst (λ n. c.args.lots ≤ n) (left_in-kept c.self.inside c.args.self.now c.self.view_is c.place_of-place.result c.args.number c.place_of-place.ensures c.take_of-offer.ensures.written.was c.take_of-offer.ensures.written.there) c.requires))
+    (numbers-as_they_were c.self.inside c.self.invariant c.place_of-place.result c.take_of-offer.new.rows (taken c.args.lots) c.take_of-offer.result.0 c.take_of-offer.ensures.written refl (open-taken (row_of c.self.inside.day c.take_of-offer.ensures.written.was) c.args.lots (λ none. c.if-left-eq0.false ((c.take_of-offer.ensures.left c.take_of-offer.ensures.written.was c.take_of-offer.ensures.written.there) ∙ none))))
+    (counts-as_they_were c.self.inside c.self.invariant c.place_of-place.result c.take_of-offer.new.rows (taken c.args.lots) c.take_of-offer.result.0 c.take_of-offer.ensures.written refl (counted-taken (row_of c.self.inside.day c.take_of-offer.ensures.written.was) c.args.lots (subst (λ n. c.args.lots ≤ n) (left_in-kept c.self.inside c.args.self.now c.self.view_is c.place_of-place.result c.args.number c.place_of-place.ensures c.take_of-offer.ensures.written.was c.take_of-offer.ensures.written.there) c.requires)))
 
 pub returns-then-left-eq0 : goal.returns-then-left-eq0
 returns-then-left-eq0 c =
-    after-changed c.self.inside c.self.invariant c.place_of-place.result c.take_of-offer.new.rows.items (taken c.args.lots) c.take_of-offer.result.0 c.take_of-offer.ensures.written
+    after-changed c.self.inside c.self.invariant c.place_of-place.result c.take_of-offer.new.rows (taken c.args.lots) c.take_of-offer.result.0 c.take_of-offer.ensures.written
     ∙ (λ i. changed (c.self.view_is i) ((sym (add-one c.place_of-place.result) ∙ c.place_of-place.ensures) i) (taken c.args.lots))
 
 pub returns-else-left-eq0 : goal.returns-else-left-eq0
 returns-else-left-eq0 c =
-    after-changed c.self.inside c.self.invariant c.place_of-place.result c.take_of-offer.new.rows.items (taken c.args.lots) c.take_of-offer.result.0 c.take_of-offer.ensures.written
+    after-changed c.self.inside c.self.invariant c.place_of-place.result c.take_of-offer.new.rows (taken c.args.lots) c.take_of-offer.result.0 c.take_of-offer.ensures.written
     ∙ (λ i. changed (c.self.view_is i) ((sym (add-one c.place_of-place.result) ∙ c.place_of-place.ensures) i) (taken c.args.lots))
