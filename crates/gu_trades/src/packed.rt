@@ -2,7 +2,6 @@
 
 ghost use Rattle.std.specs.Prelude.{◌≡◌, ◌+◌, ◌≤◌, length};
 ghost use Rattle.gu_terms.specs.PackedEntries.{text_at};
-ghost use Rattle.gu_terms.specs.Names.{IsId};
 ghost use Rattle.gu_trades.specs.PackedReports.{match_id_of, own_id, report_of_kept, IsWithin};
 
 use crate::terms::Terms;
@@ -20,17 +19,6 @@ pub(crate) struct Packed {
     /// From which byte of the texts on its ids stand.
     pub(crate) at: usize,
     pub(crate) terms: Terms,
-}
-
-/// The id of these bytes.
-pub(crate) fn id_of(bytes: &[u8]) -> Id
-    requires { IsId bytes.now }
-    ensures { result ≡ bytes.now }
-{
-    match Id::new(bytes) {
-        Some(id) => id,
-        None => unreachable!(),
-    }
 }
 
 impl Packed {
@@ -58,8 +46,8 @@ impl Packed {
     {
         Report {
             firm: self.firm,
-            id: id_of(self.own_id(texts)),
-            match_id: id_of(self.match_id(texts)),
+            id: Id::known(self.own_id(texts)),
+            match_id: Id::known(self.match_id(texts)),
             symbol: self.terms.symbol,
             lots: self.terms.lots,
             price: self.terms.price,

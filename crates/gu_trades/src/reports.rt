@@ -8,7 +8,7 @@ ghost use Rattle.gu_trades.specs.Kept.{is_by_at, is_with_at};
 ghost use Rattle.gu_trades.specs.PackedReports.{report_of_kept, IsWithin};
 ghost use Rattle.gu_trades.specs.Terms.{report_with, terms_of};
 
-use crate::packed::{Packed, id_of};
+use crate::packed::Packed;
 use crate::terms::Terms;
 use gu_terms::{FirmId, Id, Report};
 use std::alloc::{AllocError, Global};
@@ -111,7 +111,7 @@ impl Reports {
         requires { place < length self.now }
         ensures { option_map (λ (r : ReportOf). r.match_id) (slice_get self.now place) ≡ Some result }
     {
-        id_of(self.rows[place].match_id(&self.texts))
+        Id::known(self.rows[place].match_id(&self.texts))
     }
 
     /// The report at a place.

@@ -18,4 +18,4 @@ returns c =
     ap (option_map (λ (r : Report). r.match_id))
     (report-at c.self.inside.texts.items c.self.inside.rows.items c.args.self.now c.args.place c.self.view_is c.requires c.index.result.now c.index.ensures)
     ∙ ap (λ texts. Some (match_id_of texts c.index.result.now)) (sym c.deref.ensures.value)
-    ∙ ap Some (sym (c.id_of.ensures ∙ c.match_id.ensures))
+    ∙ ap Some (sym (c.known.ensures ∙ c.match_id.ensures))
