@@ -12,14 +12,17 @@ use std::sync::{Mutex, Wait};
 use std::thread::Threads;
 use std::time::Duration;
 
-/// What a machine may lack.
+/// How a machine is set up.
 #[derive(Clone, Copy, PartialEq, Eq)]
-pub enum Lack {
-    Nothing,
+pub enum Setting {
+    /// It has all that a run asks of it, and no terminal.
+    Usual,
     /// It has no random bytes.
-    Randomness,
+    Unseeded,
     /// Its standard error takes nothing.
-    StandardError,
+    Unheard,
+    /// Somebody types its input at a terminal.
+    Watched,
 }
 
 /// What a machine is given, and what it is told. It waits and starts threads as its host does.
@@ -31,7 +34,7 @@ pub struct Machine<'a, R> {
     /// What each file holds, by its path.
     pub files: &'a [(&'a str, &'a [u8])],
     pub input: &'a [u8],
-    pub lack: Lack,
+    pub setting: Setting,
     /// The one port that can be had, whichever is asked for.
     pub port: Mutex<Option<TcpListener>>,
     /// What is written to the file `log`.
@@ -55,7 +58,7 @@ impl<R: Wait> Machine<'_, R> {
 
     /// Appends a value to standard error.
     fn say<D: Display + Drop>(&self, value: D, end: &str) -> io::Result<()> {
-        if self.lack == Lack::StandardError {
+        if self.setting == Setting::Unheard {
             drop(value);
             return Err(Error::from(ErrorKind::BrokenPipe));
         }
@@ -147,7 +150,7 @@ impl<R> Clock for Machine<'_, R> {
 
 impl<R> RandomSource for Machine<'_, R> {
     fn fill_bytes(&self, buf: &mut [u8]) -> io::Result<()> {
-        if self.lack == Lack::Randomness {
+        if self.setting == Setting::Unseeded {
             return unsupported();
         }
         buf.fill(7);

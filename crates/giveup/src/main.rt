@@ -10,6 +10,7 @@ mod engines;
 mod error;
 #[cfg(test)]
 mod error_tests;
+mod fault;
 mod files;
 mod fixing;
 #[cfg(test)]
@@ -43,5 +44,6 @@ use std::process::ExitCode;
 
 fn main(rt: HostRuntime) -> ExitCode {
     let terminal = Some(rt.stderr()).filter(|stderr| stderr.is_terminal());
-    ExitCode::from(status_of(&rt, terminal))
+    let is_typed = rt.stdin().is_terminal();
+    ExitCode::from(status_of(&rt, terminal, is_typed))
 }

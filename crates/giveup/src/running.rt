@@ -3,6 +3,7 @@
 use crate::capturing::capture;
 use crate::checking::check;
 use crate::error::RunError;
+use crate::fault::{Fault, Place};
 use crate::files::{journal_at, reference_at, world_after};
 use crate::fixing::fix;
 use crate::progress::Told;
@@ -13,6 +14,7 @@ use crate::status::Status;
 use crate::words::{Task, answer, firm_named, given, read};
 use gu_engine::{Connection, SystemClock};
 use gu_houses::OverBook;
+use gu_script::ScriptError;
 use gu_server::Closed;
 use gu_streams::{CountedReads, StreamError, send};
 use gu_terms::{FirmId, Seed};
@@ -24,6 +26,10 @@ use std::random::RandomSource;
 use std::rt::{Clock, Env, Files};
 use std::sync::Wait;
 use std::thread::Threads;
+
+/// What is said where trade capture begins and its input is typed.
+const WAITING: &str =
+    "giveup: trade capture waits for FIX messages on standard input; giveup --help shows the other commands";
 
 /// A seed from the system, for tables of ids that firms choose. Where there is none, nothing is read.
 fn seed_from<R: RandomSource>(rt: &R) -> Result<Seed, StreamError> {
@@ -37,10 +43,10 @@ fn seed_from<R: RandomSource>(rt: &R) -> Result<Seed, StreamError> {
 /// Trade capture on the sample, from standard input to standard output.
 fn run_capture<R: Input + Print + RandomSource + Alloc<A = Global>>(
     rt: &R,
-) -> Result<Status, RunError> {
+) -> Result<Status, Fault<'static>> {
     let alloc = rt.alloc();
     let seed = seed_from(rt)?;
-    let reference = sample_reference(alloc)?;
+    let reference = sample_reference(alloc).map_err(RunError::from)?;
     let mut reads = CountedReads::new(rt.reader());
     let mut writer = io::writer(rt);
     capture(
@@ -54,34 +60,43 @@ fn run_capture<R: Input + Print + RandomSource + Alloc<A = Global>>(
     Ok(Status::Done)
 }
 
+/// Why a text stopped that is read from standard input and answered on standard output.
+fn stopped(error: ScriptError) -> Fault<'static> {
+    let place = match error {
+        ScriptError::Write => Place::Output,
+        _ => Place::Input,
+    };
+    Fault::at(place, RunError::from(error))
+}
+
 /// The check of a sheet, from standard input to standard output.
-fn run_check<R: Input + Print + Alloc<A = Global>>(rt: &R) -> Result<Status, RunError> {
+fn run_check<R: Input + Print + Alloc<A = Global>>(rt: &R) -> Result<Status, Fault<'static>> {
     let mut reads = CountedReads::new(rt.reader());
     let mut writer = io::writer(rt);
-    Ok(check(rt.alloc(), &mut reads, &mut writer)?)
+    check(rt.alloc(), &mut reads, &mut writer).map_err(stopped)
 }
 
 /// The script on standard input, answered on standard output, on the reference of a file.
-fn run_replay<R: Input + Print + Files + RandomSource + Alloc<A = Global>, T: Write + Drop>(
+fn run_replay<'a, R: Input + Print + Files + RandomSource + Alloc<A = Global>, T: Write + Drop>(
     rt: &R,
-    path: &str,
+    path: &'a str,
     terminal: Option<T>,
-) -> Result<Status, RunError> {
+) -> Result<Status, Fault<'a>> {
     let seed = seed_from(rt)?;
     let reference = reference_at(rt, path)?;
     let mut reads = CountedReads::new(Told::new(rt.reader(), terminal));
     let mut writer = io::writer(rt);
-    replay(rt.alloc(), reference, seed, &mut reads, &mut writer)?;
+    replay(rt.alloc(), reference, seed, &mut reads, &mut writer).map_err(stopped)?;
     Ok(Status::Done)
 }
 
 /// One session of a firm, over standard input and output, on the reference of a file, after a script, where one is named.
-fn run_fix<R: Input + Print + Files + Clock + RandomSource + Alloc<A = Global>>(
+fn run_fix<'a, R: Input + Print + Files + Clock + RandomSource + Alloc<A = Global>>(
     rt: &R,
     firm: FirmId,
-    path: &str,
-    script: Option<&str>,
-) -> Result<Status, RunError> {
+    path: &'a str,
+    script: Option<&'a str>,
+) -> Result<Status, Fault<'a>> {
     let alloc = rt.alloc();
     let seed = seed_from(rt)?;
     let world = world_after(rt, reference_at(rt, path)?, script, seed)?;
@@ -102,11 +117,11 @@ fn print_end<R: Print + Alloc<A = Global>>(rt: &R, closed: &Closed) -> Result<St
 }
 
 /// Writes the journal of a day, where a file for it is named.
-fn keep_journal<R: Files + Alloc<A = Global>>(
+fn keep_journal<'a, R: Files + Alloc<A = Global>>(
     rt: &R,
-    path: Option<&str>,
+    path: Option<&'a str>,
     closed: &Closed,
-) -> Result<(), StreamError> {
+) -> Result<(), Fault<'a>> {
     match path {
         Some(path) => journal_at(rt, path, closed.book.history()),
         None => Ok(()),
@@ -117,6 +132,7 @@ fn keep_journal<R: Files + Alloc<A = Global>>(
 /// the day are printed, also where not every connection could be accepted, and then its journal is written, where a file is named for it,
 /// also where the lines couldn't be printed.
 fn run_serve<
+    'a,
     R: Print
         + Files
         + Clock
@@ -127,7 +143,7 @@ fn run_serve<
         + Sync
         + Alloc<A = Global>,
     T: Write + Send + Drop,
->(rt: &R, serving: &Serving<'_>, terminal: Option<T>) -> Result<Status, RunError> {
+>(rt: &R, serving: &Serving<'a>, terminal: Option<T>) -> Result<Status, Fault<'a>> {
     let seed = seed_from(rt)?;
     let reference = reference_at(rt, serving.reference)?;
     let world = world_after(rt, reference, serving.script, seed)?;
@@ -137,13 +153,20 @@ fn run_serve<
     let status = printed?;
     journaled?;
     match closed.fault {
-        Some(fault) => Err(RunError::from(fault)),
+        Some(fault) => Err(Fault::from(fault)),
         None => Ok(status),
     }
 }
 
-/// Does what these words ask for.
+/// Says what trade capture waits for.
+fn say_what_is_waited_for<R: Eprint>(rt: &R) {
+    // Where this can't be written, it is lost.
+    let _ = eprintln!(rt; "{WAITING}");
+}
+
+/// Does what these words ask for. At a terminal at which the input is typed, trade capture says what it waits for.
 fn perform<
+    'a,
     R: Input
         + Print
         + Eprint
@@ -156,9 +179,14 @@ fn perform<
         + Sync
         + Alloc<A = Global>,
     T: Write + Send + Drop,
->(rt: &R, words: &[String], terminal: Option<T>) -> Result<Status, RunError> {
+>(rt: &R, words: &'a [String], terminal: Option<T>, is_typed: bool) -> Result<Status, Fault<'a>> {
     match read(rt.alloc(), words) {
-        Ok(Task::Capture) => run_capture(rt),
+        Ok(Task::Capture) => {
+            if is_typed && terminal.is_some() {
+                say_what_is_waited_for(rt);
+            }
+            run_capture(rt)
+        }
         Ok(Task::Check) => run_check(rt),
         Ok(Task::Replay { reference }) => run_replay(rt, reference, terminal),
         Ok(Task::Serve(serving)) => run_serve(rt, &serving, terminal),
@@ -170,36 +198,29 @@ fn perform<
             },
         ) => match firm_named(rt.alloc(), firm) {
             Ok(firm) => run_fix(rt, firm, reference, script),
-            Err(error) => answer(rt, &error).map_err(RunError::from),
+            Err(error) => Ok(answer(rt, &error)?),
         },
-        Err(error) => answer(rt, &error).map_err(RunError::from),
+        Err(error) => Ok(answer(rt, &error)?),
     }
 }
 
-/// Does what the words of this run ask for.
-fn run<
-    R: Input
-        + Print
-        + Eprint
-        + Env
-        + Files
-        + Clock
-        + RandomSource
-        + Net<Listener = TcpListener, Stream = TcpStream>
-        + Threads
-        + Wait
-        + Sync
-        + Alloc<A = Global>,
-    T: Write + Send + Drop,
->(rt: &R, terminal: Option<T>) -> Result<Status, RunError> {
-    match given(rt) {
-        Ok(words) => perform(rt, words.as_slice(), terminal),
-        Err(error) => answer(rt, &error).map_err(RunError::from),
+/// The status of a run that ended so; why it failed is said on standard error.
+fn status_after<R: Eprint>(
+    rt: &R,
+    ended: Result<Status, Fault<'_>>,
+    is_at_terminal: bool,
+) -> Status {
+    match ended {
+        Ok(status) => status,
+        Err(fault) => {
+            fault.tell(rt, is_at_terminal);
+            Status::Fault
+        }
     }
 }
 
 /// Does what the words of this run ask for, and gives its status; why it failed is said on standard error. The progress of a long
-/// script is noted at a terminal, where there is one.
+/// script is noted at a terminal, where there is one, and more is said of a fault there.
 pub fn status_of<
     R: Input
         + Print
@@ -214,13 +235,16 @@ pub fn status_of<
         + Sync
         + Alloc<A = Global>,
     T: Write + Send + Drop,
->(rt: &R, terminal: Option<T>) -> Status {
-    match run(rt, terminal) {
-        Ok(status) => status,
+>(rt: &R, terminal: Option<T>, is_typed: bool) -> Status {
+    let is_at_terminal = terminal.is_some();
+    match given(rt) {
+        Ok(words) => {
+            let ended = perform(rt, words.as_slice(), terminal, is_typed);
+            status_after(rt, ended, is_at_terminal)
+        }
         Err(error) => {
-            // Where this can't be written, the status alone shows the fault.
-            let _ = eprintln!(rt; "giveup: {error}");
-            Status::Fault
+            let answered = answer(rt, &error).map_err(Fault::from);
+            status_after(rt, answered, is_at_terminal)
         }
     }
 }

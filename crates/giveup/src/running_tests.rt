@@ -3,7 +3,7 @@
 //! `/` ends a line, and `|` is SOH. The file `house` is the sample, `bad` has an eighteenth row that is none, `day` opens a day, and the
 //! second line of `two` is bad. Nothing can be written to these.
 
-use crate::machine::{Lack, Machine};
+use crate::machine::{Machine, Setting};
 use crate::rows::check_told;
 use crate::running::status_of;
 use crate::sample::ROWS;
@@ -34,8 +34,8 @@ giveup fix E1 house --script day < 8=FIXT.1.1|9=66|35=A|49=E1|56=GIVEUP|34=1|52=
 giveup fix E1 house --script gone < x -> 1 house gone ; ; giveup: read fault/
 giveup fix E1 house --script two < x -> 1 house two ; ; giveup: bad line 2/
 giveup fix E1 lost --script gone < x -> 1 lost ; ; giveup: reference: ReadFault/
-giveup fix e1 lost < x -> 2 ; ; error: invalid value for '<FIRM>': a firm is 1 to 12 of A-Z, 0-9 and -//Usage: giveup [COMMAND]//For more information, try '--help'./
-giveup check --help < x -> 0 ; Checks the sweep sheet on standard input: prints OK and its lots, or its first fault//Usage: giveup check//Options:/  -h, --help  Print help/;
+giveup fix e1 lost < x -> 2 ; ; error: invalid value for '<FIRM>': a firm is 1 to 12 of A-Z, 0-9 and -//Usage: giveup fix [OPTIONS] <FIRM> <REF>//For more information, try '--help'./
+giveup check --help < x -> 0 ; Checks the sweep sheet on standard input: prints OK and its lots, or its first fault//Usage: giveup check//Options:/  -h, --help  Print help//Example: giveup check < three-agreements.sheet/;
 giveup claim < x -> 2 ; ; error: unrecognized subcommand 'claim'//Usage: giveup [COMMAND]//For more information, try '--help'./
 giveup serve house 9878 < x -> 1 house ; ; giveup: read fault/
 giveup serve house 9878 --script day < x -> 1 house day ; ; giveup: read fault/
@@ -59,6 +59,20 @@ giveup serve house 9878 < x -> 1 ; ; giveup: read fault/
 giveup check < SHEET G1 0/END/ -> 0 ; OK 0/;
 ";
 
+/// The same at a terminal, where it is said what is waited for, and what is at fault and why.
+const WATCHED: &str = "\
+giveup <  -> 0 ; ; giveup: trade capture waits for FIX messages on standard input; giveup --help shows the other commands/
+giveup check < SHEET G1 0/END/ -> 0 ; OK 0/;
+giveup check < SHEET G1 0/TAKE/ -> 1 ; ; giveup: bad line 2/giveup: standard input: line 2 is missing, or isn't a line that may be there/
+giveup replay house < DAY 20260105/DAY/ -> 1 house ; 1 OK/; giveup: bad line 2/giveup: standard input: line 2 is missing, or isn't a line that may be there/
+giveup replay gone < DAY 20260105/ -> 1 gone ; ; giveup: reference: ReadFault/giveup: gone: entity not found/
+giveup replay bad < DAY 20260105/ -> 1 bad ; ; giveup: reference: BadRow 18/giveup: bad: line 18 isn't a row that may be there/
+giveup fix E1 house --script gone < x -> 1 house gone ; ; giveup: read fault/giveup: gone: entity not found/
+giveup fix E1 house --script two < x -> 1 house two ; ; giveup: bad line 2/giveup: two: line 2 is missing, or isn't a line that may be there/
+giveup serve house 9878 < x -> 1 house ; ; giveup: read fault/giveup: port 9878: address in use/
+giveup fix e1 lost < x -> 2 ; ; error: invalid value for '<FIRM>': a firm is 1 to 12 of A-Z, 0-9 and -//Usage: giveup fix [OPTIONS] <FIRM> <REF>//For more information, try '--help'./
+";
+
 /// Days on the machine's port, to which one firm has connected: it sends this input, and waits for the end of its connection. Where a
 /// second connection is to be accepted, that fails.
 const SERVED: &str = "\
@@ -70,11 +84,19 @@ giveup serve house 9878 --script day --connections 2 < 8=FIXT.1.1|9=66|35=A|49=E
 giveup serve house 9878 --script day --connections 2 --journal log < 8=FIXT.1.1|9=66|35=A|49=E1|56=GIVEUP|34=1|52=20260105-09:00:00|98=0|108=30|1137=9|10=004|8=FIXT.1.1|9=112|35=AE|49=E1|56=GIVEUP|34=2|52=20260105-09:00:00|571=R1|880=M1|55=XF6|32=10|31=101.5|75=20260105|552=1|54=1|1=H1|10=236| -> 1 house day log ; ENTRIES 2/SWEPT 0/AUDIT OK/; giveup: read fault/; DAY 20260105/REPORT E1 R1 M1 B XF6 10 101.5 H1/
 ";
 
+/// A day at a terminal whose journal can't be made.
+const UNWRITTEN: &str = "\
+giveup serve house 9878 --connections 1 --journal gone < x -> 1 house gone ; ENTRIES 0/SWEPT 0/AUDIT OK/; giveup: write fault/giveup: gone: entity not found/
+giveup serve house 9878 --connections 1 --journal day < x -> 1 house day ; ENTRIES 0/SWEPT 0/AUDIT OK/; giveup: write fault/giveup: day: it couldn't be written to its end/
+";
+
 /// What a run on a machine did.
 fn run<R: Threads + Wait + Sync>(machine: Machine<'_, R>) -> Result<String, AllocError> {
     let alloc = machine.alloc;
     let host = machine.host;
-    let number = match status_of(&machine, None::<Vec<u8>>) {
+    let is_watched = machine.setting == Setting::Watched;
+    let terminal = Some(Vec::<u8>::new(alloc)).filter(|_| is_watched);
+    let number = match status_of(&machine, terminal, is_watched) {
         Status::Done => 0,
         Status::Fault => 1,
         Status::Refused => 2,
@@ -93,7 +115,7 @@ fn told<R: Threads + Wait + Sync>(
     host: &R,
     alloc: Global,
     row: &str,
-    lack: Lack,
+    setting: Setting,
     port: Option<TcpListener>,
 ) -> Result<String, AllocError> {
     let (words, input) = row.split_once(" < ").unwrap_or((row, ""));
@@ -114,7 +136,7 @@ fn told<R: Threads + Wait + Sync>(
             ("log", b""),
         ],
         input: input.as_bytes(),
-        lack,
+        setting,
         port: Mutex::new(port),
         log: &log,
         out: Mutex::new(Vec::new(alloc)),
@@ -124,10 +146,10 @@ fn told<R: Threads + Wait + Sync>(
 }
 
 /// Asserts that the run of each row does what the row says.
-fn check<R: Abort + Threads + Wait + Sync>(rt: &R, alloc: Global, lack: Lack, table: &str) {
+fn check<R: Abort + Threads + Wait + Sync>(rt: &R, alloc: Global, setting: Setting, table: &str) {
     for row in table.lines() {
         let (run, expected) = columns(row);
-        let told = told(rt, alloc, run, lack, None).expect(rt, "memory");
+        let told = told(rt, alloc, run, setting, None).expect(rt, "memory");
         check_told(rt, row, String::from_str(alloc, told.trim_end()), expected);
     }
 }
@@ -156,12 +178,13 @@ fn served<R: Net<Listener = TcpListener, Stream = TcpStream> + Threads + Wait + 
     rt: &R,
     alloc: Global,
     run: &str,
+    setting: Setting,
 ) -> io::Result<String> {
     let input = wire(alloc, run.split_once(" < ").map_or("", |words| words.1))?;
     let (listener, stream) = connected(rt)?;
     let (told, read) = thread::join(
         rt,
-        || told(rt, alloc, run, Lack::Nothing, Some(listener)),
+        || told(rt, alloc, run, setting, Some(listener)),
         || send_all(alloc, stream, input.as_bytes()),
     );
     read?;
@@ -170,25 +193,44 @@ fn served<R: Net<Listener = TcpListener, Stream = TcpStream> + Threads + Wait + 
 
 #[test]
 fn each_task_has_its_status_its_output_and_its_fault_on_standard_error(rt: HostRuntime) {
-    check(&rt, rt.alloc(), Lack::Nothing, RUNS);
+    check(&rt, rt.alloc(), Setting::Usual, RUNS);
+}
+
+#[test]
+fn at_a_terminal_it_is_said_what_is_waited_for_and_what_is_at_fault(rt: HostRuntime) {
+    check(&rt, rt.alloc(), Setting::Watched, WATCHED);
 }
 
 #[test]
 fn a_fault_that_nobody_hears_has_its_status(rt: HostRuntime) {
-    check(&rt, rt.alloc(), Lack::StandardError, UNHEARD);
+    check(&rt, rt.alloc(), Setting::Unheard, UNHEARD);
 }
 
 #[test]
 fn without_random_bytes_nothing_is_opened(rt: HostRuntime) {
-    check(&rt, rt.alloc(), Lack::Randomness, UNSEEDED);
+    check(&rt, rt.alloc(), Setting::Unseeded, UNSEEDED);
+}
+
+/// Asserts that the day of each row is served as the row says.
+fn check_served<R: Abort + Net<Listener = TcpListener, Stream = TcpStream> + Threads + Wait + Sync>(
+    rt: &R,
+    alloc: Global,
+    setting: Setting,
+    table: &str,
+) {
+    for row in table.lines() {
+        let (run, expected) = columns(row);
+        let told = served(rt, alloc, run, setting).ok().expect(rt, "a day");
+        check_told(rt, row, String::from_str(alloc, told.trim_end()), expected);
+    }
 }
 
 #[test]
 fn a_day_is_served_on_a_port_and_ends_with_its_lines(rt: HostRuntime) {
-    let alloc = rt.alloc();
-    for row in SERVED.lines() {
-        let (run, expected) = columns(row);
-        let told = served(&rt, alloc, run).ok().expect(&rt, "a day");
-        check_told(&rt, row, String::from_str(alloc, told.trim_end()), expected);
-    }
+    check_served(&rt, rt.alloc(), Setting::Usual, SERVED);
+}
+
+#[test]
+fn a_journal_that_cant_be_written_is_named_at_a_terminal(rt: HostRuntime) {
+    check_served(&rt, rt.alloc(), Setting::Watched, UNWRITTEN);
 }

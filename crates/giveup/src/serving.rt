@@ -2,6 +2,8 @@
 
 ghost use Rattle.std.specs.Prelude.{◌≤◌};
 
+use crate::error::RunError;
+use crate::fault::{Fault, Place};
 use gu_server::{Closed, Opening, serve_day};
 use gu_streams::StreamError;
 use gu_world::World;
@@ -45,13 +47,22 @@ pub fn serve<
         + Sync
         + Alloc<A = Global>,
     T: Write + Send + Drop,
->(rt: &R, world: World, serving: &Serving<'_>, terminal: Option<T>) -> Result<Closed, StreamError> {
+>(
+    rt: &R,
+    world: World,
+    serving: &Serving<'_>,
+    terminal: Option<T>,
+) -> Result<Closed, Fault<'static>> {
     let alloc = rt.alloc();
-    let Ok(listener) = TcpListener::bind(rt, ("127.0.0.1", serving.port)) else {
-        drop(world);
-        return Err(StreamError::Read);
+    let listener = match TcpListener::bind(rt, ("127.0.0.1", serving.port)) {
+        Ok(listener) => listener,
+        Err(cause) => {
+            drop(world);
+            let port = Place::Port(serving.port);
+            return Err(Fault::refused(port, cause, RunError::from(StreamError::Read)));
+        }
     };
-    let receipts = world.outcomes().receipts(alloc)?;
+    let receipts = world.outcomes().receipts(alloc).map_err(StreamError::from)?;
     let parts = u64::from(serving.connections) + 3;
     let opening = Opening {
         book: world.into_book(),
@@ -61,5 +72,5 @@ pub fn serve<
         entries: Blank::new(parts),
         swept: Blank::new(parts),
     };
-    serve_day::<Brand, Brand, R, T>(rt, alloc, opening, listener, terminal)
+    Ok(serve_day::<Brand, Brand, R, T>(rt, alloc, opening, listener, terminal)?)
 }

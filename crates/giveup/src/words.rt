@@ -23,6 +23,16 @@ const NOT_TEXT: &str = "invalid UTF-8 was detected in one or more arguments";
 /// What is said of a word that names no firm.
 const NO_FIRM: &str = "invalid value for '<FIRM>': a firm is 1 to 12 of A-Z, 0-9 and -";
 
+/// What help shows after the commands.
+const EXAMPLES: &str = "\
+Examples:
+  giveup check < three-agreements.sheet
+  giveup fix E1 house.csv < session.fix
+  giveup replay house.csv < day.script
+  giveup serve house.csv 9878
+
+`giveup COMMAND --help` shows the words of a command.";
+
 /// What the words ask for.
 #[derive(Clone, Copy, Debug)]
 pub enum Task<'a> {
@@ -106,18 +116,20 @@ fn port_word<'a>(alloc: Global) -> Arg<'a>
 fn check_command<'a>(alloc: Global) -> Command<'a>
     ensures { shape_of result ≡ check_shape }
 {
-    Command::new(alloc, "check").about(
-        "Checks the sweep sheet on standard input: prints OK and its lots, or its first fault",
-    )
+    Command::new(alloc, "check")
+        .about(
+            "Checks the sweep sheet on standard input: prints OK and its lots, or its first fault",
+        )
+        .after_help("Example: giveup check < three-agreements.sheet")
 }
 
 /// The command `fix`.
 fn fix_command<'a>(alloc: Global) -> Result<Command<'a>, AllocError>
     ensures { IfOk result (λ command. shape_of command ≡ fix_shape) }
 {
-    let bare = Command::new(alloc, "fix").about(
-        "Serves one session of a firm over standard input and output",
-    );
+    let bare = Command::new(alloc, "fix")
+        .about("Serves one session of a firm over standard input and output")
+        .after_help("Example: giveup fix E1 house.csv --script open.script < session.fix");
     let firm = needed(alloc, "FIRM", "The name of the firm");
     let of_firm = bare.arg(firm)?;
     let reference = needed(alloc, "REF", REFERENCE);
@@ -130,9 +142,9 @@ fn fix_command<'a>(alloc: Global) -> Result<Command<'a>, AllocError>
 fn replay_command<'a>(alloc: Global) -> Result<Command<'a>, AllocError>
     ensures { IfOk result (λ command. shape_of command ≡ replay_shape) }
 {
-    let bare = Command::new(alloc, "replay").about(
-        "Answers the script on standard input, line by line",
-    );
+    let bare = Command::new(alloc, "replay")
+        .about("Answers the script on standard input, line by line")
+        .after_help("Example: giveup replay house.csv < day.script");
     let reference = needed(alloc, "REF", REFERENCE);
     bare.arg(reference)
 }
@@ -141,9 +153,13 @@ fn replay_command<'a>(alloc: Global) -> Result<Command<'a>, AllocError>
 fn serve_command<'a>(alloc: Global) -> Result<Command<'a>, AllocError>
     ensures { IfOk result (λ command. shape_of command ≡ serve_shape) }
 {
-    let bare = Command::new(alloc, "serve").about(
-        "Serves firms on a port of this machine, with sweepers beside them: prints ENTRIES, SWEPT and AUDIT at the end",
-    );
+    let bare = Command::new(alloc, "serve")
+        .about(
+            "Serves firms on a port of this machine, with sweepers beside them: prints ENTRIES, SWEPT and AUDIT at the end",
+        )
+        .after_help(
+            "Example: giveup serve house.csv 9878 --script open.script --journal day.script",
+        );
     let reference = needed(alloc, "REF", REFERENCE);
     let on_reference = bare.arg(reference)?;
     let port = port_word(alloc);
@@ -193,18 +209,19 @@ fn with<'a>(
 fn program<'a>(alloc: Global) -> Result<Command<'a>, AllocError>
     ensures { IfOk result (λ command. app_of command ≡ program) }
 {
-    let bare = Command::new(alloc, "giveup").about(
-        "The desk of a clearing house. Without a command: trade capture on the sample, from standard input",
-    );
+    let bare = Command::new(alloc, "giveup")
+        .about(
+            "The desk of a clearing house. Without a command: trade capture on the sample, from standard input",
+        )
+        .after_help(EXAMPLES);
     let checking = bare.subcommand(check_command(alloc))?;
     let fixing = with(checking, fix_command(alloc))?;
     let replaying = with(fixing, replay_command(alloc))?;
     with(replaying, serve_command(alloc))
 }
 
-/// The refusal of a word, for this reason, with how the program is called.
-fn refusal(alloc: Global, why: &str) -> Result<Error, AllocError> {
-    let mut command = program(alloc)?;
+/// The refusal of a word, for this reason, with how the command is called.
+fn refusal(mut command: Command<'_>, why: &str) -> Result<Error, AllocError> {
     let refused = command.error(ErrorKind::InvalidValue, why);
     drop(command);
     refused
@@ -287,7 +304,10 @@ pub fn firm_named(alloc: Global, name: &str) -> Result<FirmId, Error>
 {
     match FirmId::new(name.as_bytes()) {
         Some(firm) => Ok(firm),
-        None => Err(refusal(alloc, NO_FIRM)?),
+        None => {
+            let command = fix_command(alloc)?.bin_name("giveup fix")?;
+            Err(refusal(command, NO_FIRM)?)
+        }
     }
 }
 
@@ -297,7 +317,7 @@ pub fn given<R: Env + Alloc<A = Global>>(rt: &R) -> Result<Vec<String>, Error> {
     match env::args(rt) {
         Ok(words) => Ok(words.collect(alloc)?),
         Err(error) if error.kind() == io::ErrorKind::OutOfMemory => Err(Error::from(AllocError)),
-        Err(_) => Err(refusal(alloc, NOT_TEXT)?),
+        Err(_) => Err(refusal(program(alloc)?, NOT_TEXT)?),
     }
 }
 
