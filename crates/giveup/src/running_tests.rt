@@ -63,12 +63,12 @@ giveup check < SHEET G1 0/END/ -> 0 ; OK 0/;
 const WATCHED: &str = "\
 giveup <  -> 0 ; ; giveup: trade capture waits for FIX messages on standard input; giveup --help shows the other commands/
 giveup check < SHEET G1 0/END/ -> 0 ; OK 0/;
-giveup check < SHEET G1 0/TAKE/ -> 1 ; ; giveup: bad line 2/giveup: standard input: line 2 is missing, or isn't a line that may be there/
-giveup replay house < DAY 20260105/DAY/ -> 1 house ; 1 OK/; giveup: bad line 2/giveup: standard input: line 2 is missing, or isn't a line that may be there/
+giveup check < SHEET G1 0/TAKE/ -> 1 ; ; giveup: bad line 2/giveup: standard input: line 2 is missing, or says nothing that may stand there/
+giveup replay house < DAY 20260105/DAY/ -> 1 house ; 1 OK/; giveup: bad line 2/giveup: standard input: line 2 is missing, or says nothing that may stand there/
 giveup replay gone < DAY 20260105/ -> 1 gone ; ; giveup: reference: ReadFault/giveup: gone: entity not found/
-giveup replay bad < DAY 20260105/ -> 1 bad ; ; giveup: reference: BadRow 18/giveup: bad: line 18 isn't a row that may be there/
+giveup replay bad < DAY 20260105/ -> 1 bad ; ; giveup: reference: BadRow 18/giveup: bad: line 18 is no row that may stand there/
 giveup fix E1 house --script gone < x -> 1 house gone ; ; giveup: read fault/giveup: gone: entity not found/
-giveup fix E1 house --script two < x -> 1 house two ; ; giveup: bad line 2/giveup: two: line 2 is missing, or isn't a line that may be there/
+giveup fix E1 house --script two < x -> 1 house two ; ; giveup: bad line 2/giveup: two: line 2 is missing, or says nothing that may stand there/
 giveup serve house 9878 < x -> 1 house ; ; giveup: read fault/giveup: port 9878: address in use/
 giveup fix e1 lost < x -> 2 ; ; error: invalid value for '<FIRM>': a firm is 1 to 12 of A-Z, 0-9 and -//Usage: giveup fix [OPTIONS] <FIRM> <REF>//For more information, try '--help'./
 ";
@@ -84,10 +84,10 @@ giveup serve house 9878 --script day --connections 2 < 8=FIXT.1.1|9=66|35=A|49=E
 giveup serve house 9878 --script day --connections 2 --journal log < 8=FIXT.1.1|9=66|35=A|49=E1|56=GIVEUP|34=1|52=20260105-09:00:00|98=0|108=30|1137=9|10=004|8=FIXT.1.1|9=112|35=AE|49=E1|56=GIVEUP|34=2|52=20260105-09:00:00|571=R1|880=M1|55=XF6|32=10|31=101.5|75=20260105|552=1|54=1|1=H1|10=236| -> 1 house day log ; ENTRIES 2/SWEPT 0/AUDIT OK/; giveup: read fault/; DAY 20260105/REPORT E1 R1 M1 B XF6 10 101.5 H1/
 ";
 
-/// A day at a terminal whose journal can't be made.
+/// Days at a terminal whose journal can't be made, and can't be written.
 const UNWRITTEN: &str = "\
 giveup serve house 9878 --connections 1 --journal gone < x -> 1 house gone ; ENTRIES 0/SWEPT 0/AUDIT OK/; giveup: write fault/giveup: gone: entity not found/
-giveup serve house 9878 --connections 1 --journal day < x -> 1 house day ; ENTRIES 0/SWEPT 0/AUDIT OK/; giveup: write fault/giveup: day: it couldn't be written to its end/
+giveup serve house 9878 --script day --connections 1 --journal day < x -> 1 house day day ; ENTRIES 1/SWEPT 0/AUDIT OK/; giveup: write fault/giveup: day: it couldn't be written to its end/
 ";
 
 /// What a run on a machine did.
