@@ -1,4 +1,4 @@
-//! Faults of a run: the error that is named, and what a terminal is told besides.
+//! Faults of a run: the error that is named, and what is added at a terminal.
 
 use crate::error::RunError;
 use gu_ref::RefFault;
@@ -30,7 +30,7 @@ impl fmt::Display for Place<'_> {
     }
 }
 
-/// An error, in words for who reads them at a terminal.
+/// An error in the words that are added at a terminal.
 #[derive(Drop)]
 struct InWords(RunError);
 
@@ -38,7 +38,7 @@ impl fmt::Display for InWords {
     fn fmt<W: fmt::Write>(&self, f: &mut fmt::Formatter<W>) -> fmt::Result {
         match self.0 {
             RunError::Reference(RefFault::BadRow(line)) => {
-                write!(f, "line {line} is no row that may stand there")
+                write!(f, "line {line} isn't a row that may be there")
             }
             RunError::Reference(RefFault::Unknown(line)) => {
                 write!(f, "line {line} names what no earlier line declares")
@@ -50,12 +50,12 @@ impl fmt::Display for InWords {
                 )
             }
             RunError::Reference(RefFault::TooMany) => {
-                f.write_str("it has a row more than there may be of a kind")
+                f.write_str("it has more rows of one kind than it may have")
             }
             RunError::Script(ScriptError::BadLine(line)) => {
                 write!(
                     f,
-                    "line {line} is missing, or says nothing that may stand there"
+                    "line {line} is missing, or isn't a line that may be there"
                 )
             }
             RunError::Script(ScriptError::Write) | RunError::Stream(StreamError::Write) => {
@@ -93,7 +93,7 @@ impl<'a> From<StreamError> for Fault<'a> {
 }
 
 impl<'a> Fault<'a> {
-    /// What the system refuses, and the error that it is to the run. A want of memory is that.
+    /// What the system refuses, and the error that it is to the run. Where memory ran out, that is the error.
     pub fn refused(place: Place<'a>, cause: io::Error, error: RunError) -> Self {
         if cause.kind() == io::ErrorKind::OutOfMemory {
             return Fault::from(StreamError::Memory);
@@ -105,7 +105,7 @@ impl<'a> Fault<'a> {
         }
     }
 
-    /// An error in what is read or written at a place. A want of memory has no place.
+    /// An error in what is read or written at a place. Where memory ran out, no place is named.
     pub fn at(place: Place<'a>, error: RunError) -> Self {
         match error {
             RunError::Script(ScriptError::Memory) | RunError::Stream(StreamError::Memory) => {
