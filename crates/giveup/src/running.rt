@@ -242,8 +242,11 @@ pub fn status_of<
             let ended = perform(rt, words.as_slice(), terminal, is_typed);
             status_after(rt, ended, is_at_terminal)
         }
-        Err(error) => {
-            let answered = answer(rt, &error).map_err(Fault::from);
+        Err(refused) => {
+            let answered = match answer(rt, &refused) {
+                Ok(status) => Ok(status),
+                Err(error) => Err(Fault::from(error)),
+            };
             status_after(rt, answered, is_at_terminal)
         }
     }

@@ -6,7 +6,7 @@ use Rattle.giveup.proofs.words.program.Goals as goal
 
 pub returns : goal.returns
 returns c =
-    let app : app_of c.about-bare.result ≡ new_app (codes "giveup") = search rules in
-    four_commands c.with-3.result c.about-bare.result c.in_ok-checking.checking c.in_ok-fixing.fixing c.in_ok-replaying.replaying c.check_command.result app
+    let app : app_of c.after_help-bare.result ≡ new_app (codes "giveup") = search rules in
+    four_commands c.with-3.result c.after_help-bare.result c.in_ok-checking.checking c.in_ok-fixing.fixing c.in_ok-replaying.replaying c.check_command.result app
     c.in_ok-checking.ensures c.check_command.ensures (c.in_ok-fixing.ensures fix_shape refl c.fix_command.ensures)
     (c.in_ok-replaying.ensures replay_shape refl c.replay_command.ensures) (c.with-3.ensures serve_shape refl c.serve_command.ensures)
