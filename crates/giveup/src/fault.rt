@@ -38,15 +38,15 @@ impl fmt::Display for InWords {
     fn fmt<W: fmt::Write>(&self, f: &mut fmt::Formatter<W>) -> fmt::Result {
         match self.0 {
             RunError::Reference(RefFault::BadRow(line)) => {
-                write!(f, "line {line} isn't a row that may be there")
+                write!(f, "record {line} isn't a row that may be there")
             }
             RunError::Reference(RefFault::Unknown(line)) => {
-                write!(f, "line {line} names what no earlier line declares")
+                write!(f, "record {line} names what no earlier one declares")
             }
             RunError::Reference(RefFault::Twice(line)) => {
                 write!(
                     f,
-                    "line {line} declares again what an earlier line declares"
+                    "record {line} declares again what an earlier one declares"
                 )
             }
             RunError::Reference(RefFault::TooMany) => {

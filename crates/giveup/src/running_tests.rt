@@ -66,7 +66,7 @@ giveup check < SHEET G1 0/END/ -> 0 ; OK 0/;
 giveup check < SHEET G1 0/TAKE/ -> 1 ; ; giveup: bad line 2/giveup: standard input: line 2 is missing, or isn't a line that may be there/
 giveup replay house < DAY 20260105/DAY/ -> 1 house ; 1 OK/; giveup: bad line 2/giveup: standard input: line 2 is missing, or isn't a line that may be there/
 giveup replay gone < DAY 20260105/ -> 1 gone ; ; giveup: reference: ReadFault/giveup: gone: entity not found/
-giveup replay bad < DAY 20260105/ -> 1 bad ; ; giveup: reference: BadRow 18/giveup: bad: line 18 isn't a row that may be there/
+giveup replay bad < DAY 20260105/ -> 1 bad ; ; giveup: reference: BadRow 18/giveup: bad: record 18 isn't a row that may be there/
 giveup fix E1 house --script gone < x -> 1 house gone ; ; giveup: read fault/giveup: gone: entity not found/
 giveup fix E1 house --script two < x -> 1 house two ; ; giveup: bad line 2/giveup: two: line 2 is missing, or isn't a line that may be there/
 giveup serve house 9878 < x -> 1 house ; ; giveup: read fault/giveup: port 9878: address in use/
