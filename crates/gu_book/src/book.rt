@@ -363,9 +363,9 @@ impl Book {
         Ok(())
     }
 
-    /// Commits a proposal that is lent, with its sweep as the history keeps it: the sweep is entered,
-    /// and its takes are claimed, where the group still stands as the proposal's view shows it.
-    /// Tells the number of the entry. No sweep is copied, and nothing of the proposal is let go.
+    /// Commits a borrowed proposal, with its sweep as the history keeps it: the sweep is entered, and its
+    /// takes are claimed, where the group is still as the proposal's view shows it. Returns the number of
+    /// the entry. No sweep is copied, and nothing of the proposal is dropped.
     pub fn enter_sweep(&mut self, proposal: &Proposal, kept: KeptSweep) -> Result<u64, CommitError>
         requires { kept ≡ sweep_of proposal.now }
         ensures entered { OnOk result (self.new.history ≡ self.old.history ++ Entry.Swept (sweep_of proposal.now) ∷ []) }

@@ -1,4 +1,4 @@
-//! The end of a day: the seats come back, the desk is closed, and there is a receipt for each entry.
+//! The end of a day: the seats come back, the desk is closed, and there are as many receipts as entries.
 
 ghost use Rattle.std.specs.Prelude.{◌≡◌, ◌++◌, ◌≤◌, length, sum_by, IfOk, List, OnOk, Option, codes, decimal, is_none, string_bytes};
 ghost use Rattle.gu_terms.specs.Histories.{lots_swept};

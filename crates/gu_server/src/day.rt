@@ -103,7 +103,7 @@ pub fn serve_day<
     ensures entries { IfOk result (λ closed. E.opening ≤ length closed.book.history) }
     ensures lots { IfOk result (λ closed. S.opening ≤ lots_swept closed.book.history) }
 
-    // There is a receipt for each entry that was made since; and for each entry of the book, if there was one for each at the opening.
+    // There are as many receipts as entries were made since; and as many as the book has entries, if there were at the opening.
     ensures receipts { IfOk result (λ closed. AddsReceipts E.reference E.opening opening.receipts.items
         closed.book.history closed.receipts.items) }
     ensures count { length opening.receipts.items ≡ E.opening → IfOk result (λ closed. length closed.receipts.items ≡ length closed.book.history) }
