@@ -22,7 +22,7 @@ fn tell<T: Write>(terminal: &mut T, counts: Counts) -> io::Result<()> {
     } = counts;
     write!(
         terminal,
-        "\rgiveup: {begun} connections, {ended} ended, {failed} by a fault; {entries} entries, {lots} lots swept"
+        "\rgiveup: connections {begun}, ended {ended}, faults {failed}, entries {entries}, lots swept {lots}"
     )?;
     terminal.flush()
 }
