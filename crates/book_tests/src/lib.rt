@@ -28,6 +28,8 @@ mod notices;
 #[cfg(test)]
 mod offers;
 #[cfg(test)]
+mod outcomes;
+#[cfg(test)]
 mod positions;
 #[cfg(test)]
 mod questions;

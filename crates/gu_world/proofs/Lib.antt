@@ -6,6 +6,9 @@ pub mod Holding
 pub mod LegalRuns
 pub mod LookLemmas
 pub mod OutcomeLemmas
+pub mod ReceiptLemmas
 pub mod RunLemmas
+pub mod SeriesLemmas
+pub mod ShortLemmas
 pub mod SlotLemmas
 pub mod Touches

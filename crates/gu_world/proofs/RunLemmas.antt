@@ -1,6 +1,6 @@
 -- Runs, one step on.
 use Rattle.std.proofs.Common.{◌≤◌, arith, ◌≡◌, ℕ, suc, Bool, true, false, List, [], ◌∷◌, ◌++◌, length, map, Option, Some, None, refl, sym, ap, ◌∙◌, subst, if◌then◌else◌}
-use Rattle.std.specs.Prelude.{IsSome, slice_index_or, slice_set, take}
+use Rattle.std.specs.Prelude.{IsSome, slice_index_or, take}
 use Rattle.std.specs.Option.{option_map, option_map_or}
 use Rattle.gu_terms.specs.declared.entry.SweepEntry.{SweepEntry}
 use Rattle.gu_ref.specs.Reference.{is_group}
@@ -21,7 +21,6 @@ use Rattle.gu_world.specs.declared.outcome.Outcome.TheVariants.{Nothing}
 use Rattle.gu_world.specs.declared.step.Step.{Step}
 use Rattle.gu_world.specs.declared.step.Step.TheVariants.{Enter, See, Propose, Commit}
 use Rattle.gu_world.specs.declared.outcomes.KeptOutcome.{KeptOutcome}
-use Rattle.gu_world.specs.declared.outcomes.KeptOutcome.TheVariants as noted
 use Rattle.gu_world.proofs.OutcomeLemmas.{numbered-one_more, outcomes-one_more}
 use Rattle.gu_world.proofs.Holding.{look_by-group, look_by-seen}
 use Rattle.gu_world.proofs.SlotLemmas.{look_of-held}
@@ -90,35 +89,27 @@ kept-beginning reference book slots outcomes new none nothing =
       reached = record { steps = []; run = refl };
     })))
 
--- what is written over the last of a list
-pub last-set : {X : Type 0} (xs : List X) (x y : X) → slice_set (xs ++ x ∷ []) (length xs) y ≡ xs ++ y ∷ []
-last-set [] x y = refl
-last-set (first ∷ xs) x y = ap (λ more. first ∷ more) (last-set xs x y)
-
-module _ (book after : BookState) (slots left : List (Option Held)) (outcomes pushed : List KeptOutcome) (count : ℕ) (step : Step) (outcome : Outcome) (leads : LeadsTo (state_in book slots) step outcome (state_in after left))
-    (pushed_is : pushed ≡ outcomes ++ noted.Nothing ∷ []) (count_is : count ≡ length outcomes) (kept : IsKeptCourse book slots outcomes) where
-  written : slice_set pushed count (kept_of outcome) ≡ outcomes ++ kept_of outcome ∷ []
-  written = (λ i. slice_set (pushed_is i) (count_is i) (kept_of outcome)) ∙ last-set outcomes noted.Nothing (kept_of outcome)
-
+module _ (book after : BookState) (slots left : List (Option Held)) (outcomes more : List KeptOutcome) (step : Step) (outcome : Outcome) (leads : LeadsTo (state_in book slots) step outcome (state_in after left))
+    (pushed : more ≡ outcomes ++ kept_of outcome ∷ []) (kept : IsKeptCourse book slots outcomes) where
   pub taken-goes_on : GoesOn (record { state = state_in book slots; outcomes = map (outcome_in book.history) outcomes }) step
-      (record { state = state_in after left; outcomes = map (outcome_in after.history) (slice_set pushed count (kept_of outcome)) })
+      (record { state = state_in after left; outcomes = map (outcome_in after.history) more })
   taken-goes_on = record {
     outcome = outcome;
     leads = leads;
-    outcomes = ap (map (outcome_in after.history)) written ∙ outcomes-one_more outcomes (state_in book slots) step outcome (state_in after left) leads kept.numbered;
+    outcomes = ap (map (outcome_in after.history)) pushed ∙ outcomes-one_more outcomes (state_in book slots) step outcome (state_in after left) leads kept.numbered;
   }
 
   -- with just this outcome
   pub taken-told : (goes : GoesOn (record { state = state_in book slots; outcomes = map (outcome_in book.history) outcomes }) step
-      (record { state = state_in after left; outcomes = map (outcome_in after.history) (slice_set pushed count (kept_of outcome)) })) × (goes.outcome ≡ outcome)
+      (record { state = state_in after left; outcomes = map (outcome_in after.history) more })) × (goes.outcome ≡ outcome)
   unfolding taken-goes_on
   taken-told = (taken-goes_on, refl)
 
-  pub taken-kept : AreTrue after left → IsKeptCourse after left (slice_set pushed count (kept_of outcome))
+  pub taken-kept : AreTrue after left → IsKeptCourse after left more
   taken-kept trues =
-      let new : Course = record { state = state_in after left; outcomes = map (outcome_in after.history) (slice_set pushed count (kept_of outcome)) } in record {
+      let new : Course = record { state = state_in after left; outcomes = map (outcome_in after.history) more } in record {
         trues = trues;
-        numbered = subst (AreNumbered (length after.history)) (sym written) (numbered-one_more outcomes (state_in book slots) step outcome (state_in after left) leads kept.numbered);
+        numbered = subst (AreNumbered (length after.history)) (sym pushed) (numbered-one_more outcomes (state_in book slots) step outcome (state_in after left) leads kept.numbered);
         reached = record {
           steps = kept.reached.steps ++ step ∷ [];
           run = subst (λ (r : Tables). IsRunOf r (kept.reached.steps ++ step ∷ []) new)
@@ -187,7 +178,3 @@ proposed-current book slots worker legal trues look looks has still = by (slice_
     by : (slot : Option Held) → slice_index_or slots worker None ≡ slot → Shown (view_proposed slot)
     by None at = no-current book slots worker at look looks still
     by (Some held) at = of held.seen held.work at
-
--- one outcome more, written over another that was put there for it
-pub one_more : (outcomes pushed : List KeptOutcome) (last kept : KeptOutcome) → pushed ≡ outcomes ++ last ∷ [] → last ≡ kept → slice_set (outcomes ++ noted.Nothing ∷ []) (length outcomes) kept ≡ pushed
-one_more outcomes pushed last kept is same = last-set outcomes noted.Nothing kept ∙ ap (λ (k : KeptOutcome). outcomes ++ k ∷ []) (sym same) ∙ sym is

@@ -7,9 +7,12 @@ ghost use Rattle.gu_terms.specs.declared.command.Command.{Command as CommandOf};
 ghost use Rattle.gu_world.specs.Outcomes.{kept_of, outcome_in, AreNumbered, IsNumbered};
 ghost use Rattle.gu_world.specs.Runs.{receipt_of, receipts_in};
 ghost use Rattle.gu_world.specs.Steps.{outcome_of};
+ghost use Rattle.gu_world.specs.Series.{outcomes_of};
 
 use crate::answered::Answered;
+use crate::kept_outcomes::KeptOutcomes;
 use crate::outcome::Outcome;
+use crate::series::Series;
 use gu_terms::{History, Receipt};
 use std::alloc::{AllocError, Global};
 use std::marker::Model;
@@ -98,10 +101,26 @@ fn append_receipt(receipts: &mut Vec<Receipt>, outcome: Outcome) -> Result<(), A
     Ok(())
 }
 
+/// Appends the receipts of what was entered by steps in a row.
+fn append_receipts(
+    receipts: &mut Vec<Receipt>,
+    series: &Series,
+    history: &History,
+) -> Result<(), AllocError>
+    requires { AreNumbered (length history.now) (outcomes_of series.now) }
+    ensures { OnOk result (receipts.new.items
+        ≡ receipts.old.items ++ receipts_in (map (outcome_in history.now) (outcomes_of series.now))) }
+{
+    for place in 0..series.len() {
+        append_receipt(receipts, series.at(place).outcome(history)?)?;
+    }
+    Ok(())
+}
+
 /// The outcome of each step, in order. To a contract it is their list.
 #[derive(Drop)]
 pub struct Outcomes<'a> {
-    kept: &'a [KeptOutcome],
+    kept: &'a KeptOutcomes,
     history: &'a History,
 }
 
@@ -112,16 +131,16 @@ impl<'a> Model for Outcomes<'a> {
 
     ghost Value = { List OutcomeOf };
 
-    ghost view = { λ o. map (outcome_in o.history.now) o.kept.now };
+    ghost view = { λ o. map (outcome_in o.history.now) o.kept.now.items };
 
-    ghost invariant = { λ o. AreNumbered (length o.history.now) o.kept.now };
+    ghost invariant = { λ o. AreNumbered (length o.history.now) o.kept.now.items };
 }
 
 impl<'a> Outcomes<'a> {
     /// These outcomes, with the entries of this history.
-    pub(crate) fn new(kept: &'a [KeptOutcome], history: &'a History) -> Self
-        requires { AreNumbered (length history.now) kept.now }
-        ensures { result ≡ map (outcome_in history.now) kept.now }
+    pub(crate) fn new(kept: &'a KeptOutcomes, history: &'a History) -> Self
+        requires { AreNumbered (length history.now) kept.now.items }
+        ensures { result ≡ map (outcome_in history.now) kept.now.items }
     {
         Outcomes { kept, history }
     }
@@ -148,8 +167,8 @@ impl<'a> Outcomes<'a> {
         ensures { IfOk result (λ receipts. receipts.items ≡ receipts_in self.now) }
     {
         let mut receipts = Vec::with_capacity(alloc, self.len())?;
-        for kept in self.kept {
-            append_receipt(&mut receipts, kept.outcome(self.history)?)?;
+        for series in self.kept.list() {
+            append_receipts(&mut receipts, series, self.history)?;
         }
         Ok(receipts)
     }

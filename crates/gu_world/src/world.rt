@@ -10,6 +10,7 @@ ghost use Rattle.gu_world.specs.declared.step.Step.TheVariants.{Commit, Enter};
 
 use crate::answered::Answered;
 use crate::committing::commit_for;
+use crate::kept_outcomes::KeptOutcomes;
 use crate::looks::Looks;
 use crate::outcome::Outcome;
 use crate::outcomes::{KeptOutcome, Outcomes};
@@ -53,7 +54,7 @@ fn take(
 pub struct World {
     book: Book,
     looks: Looks,
-    outcomes: Vec<KeptOutcome>,
+    outcomes: KeptOutcomes,
     alloc: Global,
 }
 
@@ -102,7 +103,7 @@ impl World {
         World {
             book: Book::seeded(alloc, reference, seed),
             looks: Looks::new(alloc),
-            outcomes: Vec::new(alloc),
+            outcomes: KeptOutcomes::new(alloc),
             alloc,
         }
     }
@@ -112,18 +113,12 @@ impl World {
         ensures taken { IfOk result (λ outcome. (goes : GoesOn self.old step self.new) × (goes.outcome ≡ outcome)) }
         ensures refused { OnErr result (self.new ≡ self.old) }
     {
-        let count = self.outcomes.len();
-        self.outcomes.push(KeptOutcome::Nothing)?;
-        match take(self.alloc, &mut self.book, &mut self.looks, step) {
-            Ok(outcome) => {
-                self.outcomes[count] = KeptOutcome::of(&outcome);
-                Ok(outcome)
-            }
-            Err(refused) => {
-                self.outcomes.truncate(count);
-                Err(refused)
-            }
-        }
+        self.outcomes.reserve()?;
+        let outcome = take(self.alloc, &mut self.book, &mut self.looks, step)?;
+        // Shows the prover: the history is legal.
+        let _entries = self.book.history().len();
+        self.outcomes.push(KeptOutcome::of(&outcome));
+        Ok(outcome)
     }
 
     /// Enters a command, adds its outcome, and tells the command's answer; nothing where the book is full.
@@ -132,9 +127,11 @@ impl World {
             × (goes.outcome ≡ outcome_of command.now answered)) }
         ensures refused { OnErr result (self.new ≡ self.old) }
     {
-        self.outcomes.reserve(1)?;
+        self.outcomes.reserve()?;
         let answered = ask(&mut self.book, command)?;
-        let _ = self.outcomes.push(KeptOutcome::of_answer(&answered));
+        // Shows the prover: the history is legal.
+        let _entries = self.book.history().len();
+        self.outcomes.push(KeptOutcome::of_answer(&answered));
         Ok(answered)
     }
 
@@ -148,9 +145,11 @@ impl World {
     {
         // Shows the prover: the history is legal.
         let _entries = self.book.history().len();
-        self.outcomes.reserve(1)?;
+        self.outcomes.reserve()?;
         let (outcome, view) = commit_for(&mut self.book, &mut self.looks, worker)?;
-        let _ = self.outcomes.push(KeptOutcome::of(&outcome));
+        // Shows the prover: so is the history after the commit.
+        let _more = self.book.history().len();
+        self.outcomes.push(KeptOutcome::of(&outcome));
         Ok((outcome, view))
     }
 
@@ -202,7 +201,7 @@ impl World {
         ensures outcomes { result ≡ self.now.outcomes }
         ensures reached { IsReached self.now }
     {
-        Outcomes::new(self.outcomes.as_slice(), self.book.history())
+        Outcomes::new(&self.outcomes, self.book.history())
     }
 
     /// The book, for who keeps it.

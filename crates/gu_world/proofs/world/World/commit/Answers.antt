@@ -1,40 +1,40 @@
-use Rattle.std.proofs.Common.{◌≡◌, ◌++◌, ◌∷◌, [], List, Option, length, map, refl, rules, subst, sym}
-use Rattle.std.specs.Prelude.{None, slice_index_or, slice_set}
+use Rattle.std.proofs.Common.{◌≡◌, ◌++◌, ◌∷◌, [], Option, map, subst, sym}
+use Rattle.std.specs.Prelude.{None, slice_index_or}
 use Rattle.gu_view.specs.View.{GroupView}
-use Rattle.gu_world.specs.Looks.{IsKeptCourse, state_in, view_proposed}
+use Rattle.gu_world.specs.Looks.{state_in, view_proposed}
 use Rattle.gu_world.specs.Outcomes.{kept_of, outcome_in}
 use Rattle.gu_world.specs.Runs.{Course, GoesOn}
 use Rattle.gu_world.specs.Steps.{ShowsProposed}
-use Rattle.gu_world.specs.declared.outcomes.KeptOutcome.{KeptOutcome}
-use Rattle.gu_world.specs.declared.outcomes.KeptOutcome.TheVariants as noted
+use Rattle.gu_world.specs.Series.{IsShort}
 use Rattle.gu_world.specs.declared.step.Step.TheVariants.{Commit}
-use Rattle.gu_world.proofs.RunLemmas.{one_more, proposed-current, taken-kept, taken-told}
+use Rattle.gu_world.proofs.RunLemmas.{proposed-current, taken-kept, taken-told}
+use Rattle.gu_world.proofs.ShortLemmas.{leads-short}
 use Rattle.gu_world.proofs.world.World.commit.Goals as goal
+
+pub push-requires-clause-short : goal.push-requires-clause-short
+push-requires-clause-short c =
+    let old = c.self.inside in
+    let new = c.commit_for.new in
+    subst IsShort (sym c.of.ensures)
+    (leads-short (state_in old.book old.looks) (Commit c.args.worker) c.in_ok-outcome.outcome (state_in new.book new.looks) c.in_ok-outcome.ensures.commits c.history-2.ensures.legal.within)
 
 pub invariant_of-self-2 : goal.invariant_of-self-2
 invariant_of-self-2 c =
     let old = c.self.inside in
-    let outcome = c.in_ok-outcome.outcome in
     let new = c.commit_for.new in
-    let pushed : c.push.new.self.items ≡ old.outcomes.items ++ c.of.result ∷ [] = search rules in
-    subst (λ (kept : List KeptOutcome). IsKeptCourse new.book new.looks kept)
-    (one_more old.outcomes.items c.push.new.self.items c.of.result (kept_of outcome) pushed c.of.ensures)
-    (taken-kept old.book new.book old.looks new.looks old.outcomes.items (old.outcomes.items ++ noted.Nothing ∷ []) (length old.outcomes.items) (Commit c.args.worker) outcome c.in_ok-outcome.ensures.commits
-    refl refl c.self.invariant c.commit_for.ensures.still)
+    let outcome = c.in_ok-outcome.outcome in
+    let pushed : c.push.new.self.items ≡ old.outcomes.items ++ kept_of outcome ∷ [] = cc in
+    taken-kept old.book new.book old.looks new.looks old.outcomes.items c.push.new.self.items (Commit c.args.worker) outcome c.in_ok-outcome.ensures.commits pushed c.self.invariant c.commit_for.ensures.still
 
 pub returns-clause-taken : goal.returns-clause-taken
 returns-clause-taken c =
     let old = c.self.inside in
-    let outcome = c.in_ok-outcome.outcome in
     let new = c.commit_for.new in
-    let pushed : c.push.new.self.items ≡ old.outcomes.items ++ c.of.result ∷ [] = search rules in
-    let after : List KeptOutcome → Course =
-    λ (kept : List KeptOutcome). record { state = state_in new.book new.looks; outcomes = map (outcome_in new.book.history) kept } in
-    subst (λ (kept : List KeptOutcome). (goes : GoesOn c.args.self.now (Commit c.args.worker) (after kept)) × (goes.outcome ≡ outcome))
-    (one_more old.outcomes.items c.push.new.self.items c.of.result (kept_of outcome) pushed c.of.ensures)
-    (subst (λ (before : Course). (goes : GoesOn before (Commit c.args.worker) (after (slice_set (old.outcomes.items ++ noted.Nothing ∷ []) (length old.outcomes.items) (kept_of outcome)))) × (goes.outcome ≡ outcome)) c.self.view_is
-    (taken-told old.book new.book old.looks new.looks old.outcomes.items (old.outcomes.items ++ noted.Nothing ∷ []) (length old.outcomes.items) (Commit c.args.worker) outcome c.in_ok-outcome.ensures.commits
-    refl refl c.self.invariant))
+    let outcome = c.in_ok-outcome.outcome in
+    let pushed : c.push.new.self.items ≡ old.outcomes.items ++ kept_of outcome ∷ [] = cc in
+    let after : Course = record { state = state_in new.book new.looks; outcomes = map (outcome_in new.book.history) c.push.new.self.items } in
+    subst (λ (before : Course). (goes : GoesOn before (Commit c.args.worker) after) × (goes.outcome ≡ outcome)) c.self.view_is
+    (taken-told old.book new.book old.looks new.looks old.outcomes.items c.push.new.self.items (Commit c.args.worker) outcome c.in_ok-outcome.ensures.commits pushed c.self.invariant)
 
 pub returns-clause-view : goal.returns-clause-view
 returns-clause-view c =

@@ -1,26 +1,32 @@
-use Rattle.std.proofs.Common.{◌≡◌, List, subst, sym, ◌∙◌, map}
-use Rattle.std.specs.Prelude.{slice_set}
-use Rattle.gu_world.specs.Looks.{IsKeptCourse, state_in}
+use Rattle.std.proofs.Common.{◌≡◌, ◌++◌, ◌∷◌, [], map, subst, sym}
+use Rattle.gu_world.specs.Looks.{state_in}
 use Rattle.gu_world.specs.Outcomes.{kept_of, outcome_in}
 use Rattle.gu_world.specs.Runs.{Course, GoesOn}
-use Rattle.gu_world.specs.declared.outcomes.KeptOutcome.{KeptOutcome}
+use Rattle.gu_world.specs.Series.{IsShort}
 use Rattle.gu_world.proofs.RunLemmas.{taken-kept, taken-told}
+use Rattle.gu_world.proofs.ShortLemmas.{leads-short}
 use Rattle.gu_world.proofs.world.World.take.Goals as goal
 
-pub invariant_of-self-in-Ok : goal.invariant_of-self-in-Ok
-invariant_of-self-in-Ok c =
+pub push-requires-clause-short : goal.push-requires-clause-short
+push-requires-clause-short c =
     let old = c.self.inside in
-    subst (λ (kept : KeptOutcome). IsKeptCourse c.take.new.book c.take.new.looks (slice_set c.push.new.self.items c.len-count.result kept)) (sym c.of.ensures)
-    (taken-kept old.book c.take.new.book old.looks c.take.new.looks old.outcomes.items c.push.new.self.items c.len-count.result c.args.step c.in-Ok.outcome c.in-Ok.ensures.leads c.in_ok-push.ensures.items (c.len-count.ensures ∙ old.outcomes.ok.0)
-    c.self.invariant c.take.ensures.still)
+    let new = c.take.new in
+    subst IsShort (sym c.of.ensures) (leads-short (state_in old.book old.looks) c.args.step c.in_ok-outcome.outcome (state_in new.book new.looks) c.in_ok-outcome.ensures.leads c.history.ensures.legal.within)
 
-pub returns-in-Ok-clause-taken : goal.returns-in-Ok-clause-taken
-returns-in-Ok-clause-taken c =
+pub invariant_of-self-2 : goal.invariant_of-self-2
+invariant_of-self-2 c =
     let old = c.self.inside in
-    let outcome = c.in-Ok.outcome in
-    let after : List KeptOutcome → Course =
-    λ (kept : List KeptOutcome). record { state = state_in c.take.new.book c.take.new.looks; outcomes = map (outcome_in c.take.new.book.history) kept } in
-    subst (λ (kept : KeptOutcome). (goes : GoesOn c.args.self.now c.args.step (after (slice_set c.push.new.self.items c.len-count.result kept))) × (goes.outcome ≡ outcome)) (sym c.of.ensures)
-    (subst (λ (before : Course). (goes : GoesOn before c.args.step (after (slice_set c.push.new.self.items c.len-count.result (kept_of outcome)))) × (goes.outcome ≡ outcome)) c.self.view_is
-    (taken-told old.book c.take.new.book old.looks c.take.new.looks old.outcomes.items c.push.new.self.items c.len-count.result c.args.step outcome c.in-Ok.ensures.leads c.in_ok-push.ensures.items (c.len-count.ensures ∙ old.outcomes.ok.0)
-    c.self.invariant))
+    let new = c.take.new in
+    let outcome = c.in_ok-outcome.outcome in
+    let pushed : c.push.new.self.items ≡ old.outcomes.items ++ kept_of outcome ∷ [] = cc in
+    taken-kept old.book new.book old.looks new.looks old.outcomes.items c.push.new.self.items c.args.step outcome c.in_ok-outcome.ensures.leads pushed c.self.invariant c.take.ensures.still
+
+pub returns-clause-taken : goal.returns-clause-taken
+returns-clause-taken c =
+    let old = c.self.inside in
+    let new = c.take.new in
+    let outcome = c.in_ok-outcome.outcome in
+    let pushed : c.push.new.self.items ≡ old.outcomes.items ++ kept_of outcome ∷ [] = cc in
+    let after : Course = record { state = state_in new.book new.looks; outcomes = map (outcome_in new.book.history) c.push.new.self.items } in
+    subst (λ (before : Course). (goes : GoesOn before c.args.step after) × (goes.outcome ≡ outcome)) c.self.view_is
+    (taken-told old.book new.book old.looks new.looks old.outcomes.items c.push.new.self.items c.args.step outcome c.in_ok-outcome.ensures.leads pushed c.self.invariant)

@@ -1,0 +1,6 @@
+use Rattle.std.proofs.Common.{◌≡◌, drop, slice_get}
+use Rattle.gu_world.specs.Series.{all_outcomes}
+use Rattle.gu_world.proofs.kept_outcomes.outcome_at.Given as goal
+
+abbrev pub invariant-loop-series : goal.invariant-loop-series
+invariant-loop-series l = slice_get (all_outcomes l.list) l.place ≡ slice_get (all_outcomes (drop l.series-index l.list)) l.left
