@@ -22,6 +22,20 @@ fn a_script_of_twenty_thousand_lines_is_answered(rt: HostRuntime) {
     check_told(&rt, "20,000 lines", told_of(rt.alloc(), script), &expected);
 }
 
+/// An opening, and 19,999 more of the same day.
+const TWENTY_THOUSAND_OPENINGS: &str =
+    "(DAY 20260105/*20000) -> done: 1 OK/(% NO 2 WrongDay/*2..20000)";
+
+#[test]
+fn a_script_of_twenty_thousand_reads_is_answered_in_as_many_writes(rt: HostRuntime) {
+    let (script, text) = columns(TWENTY_THOUSAND_OPENINGS);
+    let script = meant(rt.alloc(), script).expect(&rt, "memory");
+    let expected = meant(rt.alloc(), text).expect(&rt, "memory");
+    // A read gives one line, of 13 bytes, which is answered before the next.
+    let told = told(rt.alloc(), "", &script, 13);
+    check_told(&rt, "20,000 reads", told, &expected);
+}
+
 /// 256 times sixteen offers of a lot, and one more.
 const OFFERS: &str =
     "DAY 20260105/LIMIT G1 EXEC E1 100/LIMIT G1 AGR P1 100/LIMIT G1 ACCT A1 100/LIMIT G1 CARRY C1 100/REPORT E1 R1 M1 B XF6 5000 101.5 H1/REPORT E2 R2 M1 S XF6 5000 101.5 H2/(GIVEUP E1 L% R1 A1 1 A1 1 A1 1 A1 1 A1 1 A1 1 A1 1 A1 1 A1 1 A1 1 A1 1 A1 1 A1 1 A1 1 A1 1 A1 1/*0..255)GIVEUP E1 L256 R1 A1 1/";
