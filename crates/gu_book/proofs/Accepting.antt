@@ -44,8 +44,7 @@ use Rattle.gu_rules.proofs.Takers.{TakesOne, claim-takes, claimed}
 use Rattle.gu_book.specs.Accepted.{MayClaim, MayReverse, TakesIn}
 use Rattle.gu_book.specs.Beside.{IsBeside, IsKept, state_in}
 use Rattle.gu_book.specs.Effects.{HoldsMoved, SameEntries, UsesLess, UsesMore, UsesUnder}
-use Rattle.gu_book.specs.Met.{IsMetOffer}
-use Rattle.gu_book.specs.declared.met.MetOffer.{MetOffer}
+use Rattle.gu_book.specs.Deeds.{IsSeen}
 use Rattle.gu_book.specs.declared.totals.Totals.{Totals}
 use Rattle.gu_book.proofs.KeptOffers.{kept-refused, kept-taken, kept-taken_back, within-taken}
 
@@ -89,12 +88,7 @@ pub some-terms : (found : Option Report) (terms : Terms) → Some terms ≡ opti
 some-terms None terms is = absurd (none-some terms (sym is))
 some-terms (Some r) terms is = (r, refl, ap (λ (t : Option Terms). unwrap_or t terms) (sym is))
 
--- an offer and the terms of its report, as they are found
-pub record IsSeen (totals : Totals) (n : ℕ) (offer : Offer) (report : Terms) : Type 0 where
-  pub shown : Some offer ≡ option_map (λ (r : Row). r.offer) (row_at totals.offers n)
-  pub found : Some report ≡ option_map terms_of (report_by totals.trades offer.firm offer.report)
-
--- are those of the history
+-- an offer and the terms of its report, as they are found, are those of the history
 pub seen-is : (reference : Tables) (history : List Entry) (totals : Totals) (n : ℕ) (offer : Offer) (report : Terms) (found : Report) (row : Row) → IsBeside reference history totals
     → IsSeen totals n offer report → IsThere history n row found → (offer ≡ row.offer) × (report ≡ terms_of found)
 seen-is reference history totals n offer report found row b seen there =
@@ -163,15 +157,6 @@ claim-taken reference old new n offer report seen same offers uses holds firm hi
     subst (λ (lots : ℕ). IsKept reference (history ++ claimed firm n lots ∷ []) new) left
     (lots-taken reference history old new (claimed firm n (left_in old.offers n)) n (left_in old.offers n) offer report f.1 f.0 seen (claim-takes firm n (left_in old.offers n)) same offers uses holds kept f.2.there
     f.2.stands (omega (arith, f.2.less, left)))
-
--- so is one of an offer that its answer met
-pub claim-met : (old new : Totals) (n : ℕ) (met : MetOffer) (report : Terms) → Some report ≡ option_map terms_of (report_by old.trades met.offer.firm met.offer.report) → SameEntries old new
-    → new.offers ≡ changed old.offers n (taken (left_in old.offers n)) → UsesUnder (unwrap_or met.path []) old.limits new.limits met.offer.group (left_in old.offers n)
-    → HoldsMoved old.positions new.positions report report.account met.offer.account (left_in old.offers n)
-    → (reference : Tables) → MayClaim reference old n → IsMetOffer reference old n met → (firm : FirmId) → TakesIn reference old new (Claim firm n)
-claim-met old new n met report found same offers uses holds reference may is firm =
-    claim-taken reference old new n met.offer report (record { shown = is.shown; found = found }) same offers
-    (subst (λ (keys : List LimitKey). UsesUnder keys old.limits new.limits met.offer.group (left_in old.offers n)) is.path uses) holds firm
 
 -- ---- refusals
 
