@@ -41,9 +41,9 @@ use Rattle.gu_rules.proofs.OrderlyLemmas.{today-le-moved}
 use Rattle.gu_rules.proofs.Spoken.{either-true, taken_back}
 use Rattle.gu_rules.proofs.StandingLemmas.{length-standing_from}
 use Rattle.gu_rules.proofs.Takers.{TakesOne, claim-takes, claimed}
-use Rattle.gu_book.specs.Accepted.{MayClaim, MayReverse, TakesIn}
+use Rattle.gu_book.specs.Accepted.{MayTakeIn, TakesIn}
 use Rattle.gu_book.specs.Beside.{IsBeside, IsKept, state_in}
-use Rattle.gu_book.specs.Effects.{HoldsMoved, SameEntries, UsesLess, UsesMore, UsesUnder}
+use Rattle.gu_book.specs.Effects.{HoldsMoved, SameEntries, UsesLess, UsesMore}
 use Rattle.gu_book.specs.Deeds.{IsSeen}
 use Rattle.gu_book.specs.declared.totals.Totals.{Totals}
 use Rattle.gu_book.proofs.KeptOffers.{kept-refused, kept-taken, kept-taken_back, within-taken}
@@ -100,12 +100,12 @@ seen-is reference history totals n offer report found row b seen there =
 -- ---- claims
 
 -- a claim has room
-pub claim-room : (reference : Tables) (totals : Totals) (n : ℕ) (offer : Offer) (report : Terms) → IsSeen totals n offer report → MayClaim reference totals n → (k : ℕ) (d : LimitKey)
+pub claim-room : (reference : Tables) (totals : Totals) (n : ℕ) (offer : Offer) (report : Terms) → IsSeen totals n offer report → (firm : FirmId) → MayTakeIn reference totals (Claim firm n) → (k : ℕ) (d : LimitKey)
     → k < length (path_after reference offer) → left_in totals.offers n ≤ room_in totals.limits offer.group (slice_index_or (path_after reference offer) k d)
-claim-room reference totals n offer report seen may k d within =
-    let history = may.may.history in
-    let b = may.may.kept.beside in
-    let f = claimable reference history may.firm n (in_order history may.may.kept.orderly) may.may.accepted in
+claim-room reference totals n offer report seen firm may k d within =
+    let history = may.history in
+    let b = may.kept.beside in
+    let f = claimable reference history firm n (in_order history may.kept.orderly) may.accepted in
     let same = (seen-is reference history totals n offer report f.1 f.0 b seen f.2.there).0 in
     let Room : Offer → Type 0 = λ o. k < length (path_after reference o) → left_in (standing_of history) n ≤ room_of reference history o.group (slice_index_or (path_after reference o) k d) in
     let has = subst Room (sym same) (f.2.room k d) within in
@@ -124,12 +124,12 @@ taken-there reference history totals n lots row report kept there stands less =
     omega (arith, has, own_place report.side report.account report.symbol lots, kept.beside.positions report.side report.account report.symbol)
 
 -- and so are those of a claim
-pub claim-there : (reference : Tables) (totals : Totals) (n : ℕ) (offer : Offer) (report : Terms) → IsSeen totals n offer report → MayClaim reference totals n
+pub claim-there : (reference : Tables) (totals : Totals) (n : ℕ) (offer : Offer) (report : Terms) → IsSeen totals n offer report → (firm : FirmId) → MayTakeIn reference totals (Claim firm n)
     → left_in totals.offers n ≤ lots_in totals.positions report.side report.account report.symbol
-claim-there reference totals n offer report seen may =
-    let history = may.may.history in
-    let kept = may.may.kept in
-    let f = claimable reference history may.firm n (in_order history kept.orderly) may.may.accepted in
+claim-there reference totals n offer report seen firm may =
+    let history = may.history in
+    let kept = may.kept in
+    let f = claimable reference history firm n (in_order history kept.orderly) may.accepted in
     let same = (seen-is reference history totals n offer report f.1 f.0 kept.beside seen f.2.there).1 in
     let left = ap (λ (rs : List Row). left_in rs n) kept.beside.offers in
     let fits = taken-there reference history totals n (left_in (standing_of history) n) f.0 f.1 kept f.2.there f.2.stands f.2.less in
@@ -176,12 +176,12 @@ key_at (key ∷ path) zero d within = rw (key_eq-refl key) refl
 key_at (key ∷ path) (suc k) d within = either-true (key_eq key (slice_index_or path k d)) (has_key path (slice_index_or path k d)) (key_at path k d (omega arith))
 
 -- what is reversed was used
-pub reversal-used : (reference : Tables) (totals : Totals) (n : ℕ) (offer : Offer) (report : Terms) → IsSeen totals n offer report → MayReverse reference totals n → (k : ℕ) (d : LimitKey)
+pub reversal-used : (reference : Tables) (totals : Totals) (n : ℕ) (offer : Offer) (report : Terms) → IsSeen totals n offer report → (firm : FirmId) → MayTakeIn reference totals (Reverse firm n) → (k : ℕ) (d : LimitKey)
     → k < length (path_after reference offer) → today_in totals.offers n ≤ used_in totals.limits offer.group (slice_index_or (path_after reference offer) k d)
-reversal-used reference totals n offer report seen may k d within =
-    let history = may.may.history in
-    let b = may.may.kept.beside in
-    let f = reversible reference history may.firm n (in_order history may.may.kept.orderly) may.may.accepted in
+reversal-used reference totals n offer report seen firm may k d within =
+    let history = may.history in
+    let b = may.kept.beside in
+    let f = reversible reference history firm n (in_order history may.kept.orderly) may.accepted in
     let row = f.0 in
     let there = f.2.there in
     let same = (seen-is reference history totals n offer report f.1 row b seen there).0 in
@@ -192,13 +192,13 @@ reversal-used reference totals n offer report seen may k d within =
     omega (arith, counts, today-is (standing_of history) n row there.at, ap (λ (rs : List Row). today_in rs n) b.offers, b.uses offer.group key)
 
 -- and its lots are there
-pub reversal-there : (reference : Tables) (totals : Totals) (n : ℕ) (offer : Offer) (report : Terms) → IsSeen totals n offer report → MayReverse reference totals n
+pub reversal-there : (reference : Tables) (totals : Totals) (n : ℕ) (offer : Offer) (report : Terms) → IsSeen totals n offer report → (firm : FirmId) → MayTakeIn reference totals (Reverse firm n)
     → today_in totals.offers n ≤ lots_in totals.positions report.side offer.account report.symbol
-reversal-there reference totals n offer report seen may =
-    let history = may.may.history in
-    let b = may.may.kept.beside in
-    let o = may.may.kept.orderly in
-    let f = reversible reference history may.firm n (in_order history o) may.may.accepted in
+reversal-there reference totals n offer report seen firm may =
+    let history = may.history in
+    let b = may.kept.beside in
+    let o = may.kept.orderly in
+    let f = reversible reference history firm n (in_order history o) may.accepted in
     let row = f.0 in
     let found = f.1 in
     let there = f.2.there in

@@ -1,5 +1,5 @@
 -- What is kept beside a history takes openings, limits, reports and give-ups in.
-use Rattle.std.proofs.Common.{◌≡◌, ℕ, suc, ◌+◌, ◌-◌, ◌≤◌, ◌++◌, Bool, false, not, nat_lt, List, [], ◌∷◌, length, map, slice_get, Option, Some, None, unwrap_or, refl, sym, ap, ◌∙◌, arith, subst}
+use Rattle.std.proofs.Common.{◌≡◌, ℕ, suc, ◌+◌, ◌-◌, ◌≤◌, ◌++◌, Bool, not, nat_lt, List, [], ◌∷◌, length, map, slice_get, Option, Some, None, unwrap_or, refl, sym, ap, ◌∙◌, arith, subst}
 use Rattle.std.specs.Option.{option_and_then, option_map, option_map_or}
 use Rattle.std.proofs.lemmas.Bool.{ltb-false}
 use Rattle.gu_terms.specs.Lines.{lots_in_all}
@@ -16,7 +16,7 @@ use Rattle.gu_terms.specs.declared.lines.Line.{Line}
 use Rattle.gu_terms.specs.declared.lots.Lots.{Lots}
 use Rattle.gu_terms.specs.declared.price.Price.{Price}
 use Rattle.gu_terms.specs.declared.refusal.Refusal.{Refusal}
-use Rattle.gu_terms.specs.declared.refusal.Refusal.TheVariants.{DuplicateId, NotMatched, TooManyLots}
+use Rattle.gu_terms.specs.declared.refusal.Refusal.TheVariants.{NotMatched, TooManyLots}
 use Rattle.gu_terms.specs.declared.reply.Done.{Done}
 use Rattle.gu_terms.specs.declared.reply.Done.TheVariants.{Offered, Opened}
 use Rattle.gu_terms.specs.declared.reply.Reply.TheVariants.{Accepted}
@@ -31,12 +31,12 @@ use Rattle.gu_trades.specs.Reports.{report_by, report_of, with_match}
 use Rattle.gu_offers.specs.Changes.{next_day, with_lines}
 use Rattle.gu_offers.specs.Rows.{counted_under}
 use Rattle.gu_rules.specs.Answer.{State, done_of, given_up, group_of, lines_tests, state_of, tests_of}
-use Rattle.gu_rules.specs.Offers.{has_give_up, standing_of}
+use Rattle.gu_rules.specs.Offers.{standing_of}
 use Rattle.gu_rules.specs.Reports.{Fits, open_day, report_on, reports_of}
 use Rattle.gu_rules.proofs.AcceptedCommands.{fits-in, giving_up, names-are, not_not, report-is}
 use Rattle.gu_rules.proofs.Passing.{none_stands}
 use Rattle.gu_book.specs.Accepted.{MayTakeIn, TakesIn}
-use Rattle.gu_book.specs.Beside.{IsKept, group_named_by, is_kept_give_up, standing_given_up, state_in}
+use Rattle.gu_book.specs.Beside.{IsKept, group_named_by, standing_given_up, state_in}
 use Rattle.gu_book.specs.Effects.{HoldsMore, SetsLimit, UsesNothing, made_a_trade}
 use Rattle.gu_book.specs.declared.totals.Totals.{Totals}
 use Rattle.gu_book.proofs.Accepting.{few_offers, state_is}
@@ -139,14 +139,6 @@ standing-given reference totals firm own standing group is =
 -- and where none stands, none is given up
 pub standing-none : (reference : Tables) (totals : Totals) (firm : FirmId) (own : Id) → None ≡ standing_given_up reference totals firm own → given_up reference (state_in totals) firm own ≡ None
 standing-none reference totals firm own is = unpaired (standing_in totals.trades) (λ (s : Standing). group_named_by reference s.terms) (report_by totals.trades firm own) is
-
--- the id of an accepted give-up is new
-pub give_up-new : (reference : Tables) (totals : Totals) (firm : FirmId) (id own : Id) (lines : List Line) → MayTakeIn reference totals (GiveUp firm id own lines) → is_kept_give_up totals.give_ups.keys firm id ≡ false
-give_up-new reference totals firm id own lines may =
-    let state = state_of reference may.history in
-    let command = GiveUp firm id own lines in
-    let done = done_of reference state command in
-    may.kept.beside.give_ups firm id ∙ none_stands (tests_of reference state command) done done may.accepted.accepted 2 (has_give_up may.history firm id) DuplicateId refl
 
 -- there are numbers for the lines
 pub give_up-numbers : (reference : Tables) (totals : Totals) (firm : FirmId) (id own : Id) (lines : List Line) → length lines ≤ 16 → MayTakeIn reference totals (GiveUp firm id own lines)

@@ -1,9 +1,7 @@
 -- Machinery: an accepted command, as what is kept beside a history takes it in.
-use Rattle.std.specs.Prelude.{ℕ, ◌++◌, List, [], ◌∷◌}
+use Rattle.std.specs.Prelude.{◌++◌, List, [], ◌∷◌}
 use Rattle.gu_terms.specs.declared.command.Command.{Command}
-use Rattle.gu_terms.specs.declared.command.Command.TheVariants.{Claim, Reverse}
 use Rattle.gu_terms.specs.declared.entry.Entry.{Entry}
-use Rattle.gu_terms.specs.declared.firm.FirmId.{FirmId}
 use Rattle.gu_ref.specs.Tables.{Tables}
 use Rattle.gu_rules.specs.Legal.{IsAccepted, accepted_entry}
 use Rattle.gu_book.specs.Beside.{IsAccounted, IsKept}
@@ -22,15 +20,6 @@ pub record MayDo (reference : Tables) (totals : Totals) (deed : Deed) : Type 0 w
   pub command : Command
   pub may : MayTakeIn reference totals command
   pub is : IsDeedOf reference totals command deed
-
--- some firm's claim of an offer is, and some firm's reversal
-pub record MayClaim (reference : Tables) (totals : Totals) (number : ℕ) : Type 0 where
-  pub firm : FirmId
-  pub may : MayTakeIn reference totals (Claim firm number)
-
-pub record MayReverse (reference : Tables) (totals : Totals) (number : ℕ) : Type 0 where
-  pub firm : FirmId
-  pub may : MayTakeIn reference totals (Reverse firm number)
 
 -- what was kept beside a history is kept beside it and the command's entry
 abbrev pub TakesIn : Tables → Totals → Totals → Command → Type 0

@@ -64,11 +64,6 @@ reply_by (Err why) = Denied why
 abbrev pub HaveReports : Totals → Type 0
 HaveReports totals = AllByRecursion (λ (row : Row). is_some (report_after totals.trades row) ≡ true) totals.offers
 
--- a deed takes a report in, and meets the one that waits for it, where one does
-abbrev pub IsReported : List Report → Report → Deed → Type 0
-IsReported reports report (Reports made waiting) = (made ≡ report) × (waiting ≡ waiting_of (counterpart_of (with_match report.match_id reports) (terms_of report)))
-IsReported reports report _ = ⊥
-
 -- an offer and the terms of its report, as they are found
 pub record IsSeen (totals : Totals) (n : ℕ) (offer : Offer) (report : Terms) : Type 0 where
   pub shown : Some offer ≡ option_map (λ (r : Row). r.offer) (row_at totals.offers n)

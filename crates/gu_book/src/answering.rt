@@ -17,7 +17,7 @@ ghost use Rattle.gu_rules.specs.Answer.{answer_in, first_standing, has_unknown_a
 ghost use Rattle.gu_rules.specs.Limits.{path_after};
 ghost use Rattle.gu_offers.specs.Rows.{Row, left_in, row_at, today_in};
 ghost use Rattle.gu_book.specs.Beside.{answer_to_match, group_named_by, some_lots, standing_given_up, state_in, waiting_of};
-ghost use Rattle.gu_book.specs.Deeds.{HaveReports, IsDeedOf, IsReported, reply_by};
+ghost use Rattle.gu_book.specs.Deeds.{HaveReports, IsDeedOf, reply_by};
 
 use crate::deed::{Deed, Moved};
 use crate::totals::Totals;
@@ -27,7 +27,7 @@ use gu_terms::{
     AllocReject, Command, Day, FirmId, Group, Id, LimitKey, Line, Lines, Lots, MOST_LIMIT,
     MOST_OPEN_OFFERS, Offer, OfferNo, Path, Refusal, Report,
 };
-use gu_trades::{Counterpart, Standing, Terms, Trades};
+use gu_trades::{Counterpart, Standing, Terms};
 
 /// Whether a day comes after the open one.
 fn is_later(today: Option<Day>, day: Day) -> bool
@@ -77,13 +77,15 @@ fn waiting_of(counterpart: &Counterpart) -> Result<Option<Terms>, Refusal>
 /// Decides a report of the open day, whose firm names this day or none.
 fn decide_report<'a>(
     reference: &Reference,
-    trades: &Trades,
+    totals: &Totals,
     report: &Report,
     day: Option<Day>,
 ) -> Result<Deed<'a>, Refusal>
-    ensures reply { reply_by result ≡ first_standing (report_tests reference.now trades.now report.now day)
-        (Reported (is_waiting (with_match report.now.match_id trades.now))) }
-    ensures deed { IfOk result (IsReported trades.now report.now) }
+    requires { totals.now.today ≡ Some report.now.day }
+    ensures reply { reply_by result ≡ first_standing (report_tests reference.now totals.now.trades report.now day)
+        (Reported (is_waiting (with_match report.now.match_id totals.now.trades))) }
+    ensures deed { IfOk result (IsDeedOf reference.now totals.now (Command.ReportSide report.now.firm report.now.id report.now.match_id
+        report.now.symbol report.now.lots report.now.price day report.now.side report.now.account)) }
 {
     if is_other_day(report.day, day) {
         return Err(Refusal::WrongDay);
@@ -97,10 +99,12 @@ fn decide_report<'a>(
     if row.firm != report.firm {
         return Err(Refusal::NotYours);
     }
-    if trades.has(&report.firm, &report.id) {
+    if totals.trades.has(&report.firm, &report.id) {
         return Err(Refusal::DuplicateId);
     }
-    let counterpart = trades.counterpart(&report.match_id, &Terms::of(report));
+    let counterpart = totals
+        .trades
+        .counterpart(&report.match_id, &Terms::of(report));
     let waiting = waiting_of(&counterpart)?;
     Ok(Deed::Report {
         report: *report,
@@ -510,7 +514,7 @@ pub fn decide<'a>(
                 side: *side,
                 account: *account,
             };
-            decide_report(reference, &totals.trades, &report, *day)
+            decide_report(reference, totals, &report, *day)
         }
         Command::GiveUp {
             firm,

@@ -1,17 +1,16 @@
-use Rattle.std.proofs.Common.{◌≡◌, arith, refl, subst, sym}
+use Rattle.std.proofs.Common.{refl, subst, sym}
 use Rattle.std.specs.Result.{OnOk}
 use Rattle.std.proofs.lemmas.Result.{on_ok_weaker}
-use Rattle.gu_terms.specs.declared.command.Command.{Command}
 use Rattle.gu_offers.specs.Changes.{closed, reversed, taken}
 use Rattle.gu_book.specs.Accepted.{KeepsAccounts, MayDo, MayTakeIn, TakesDeed, TakesIn}
 use Rattle.gu_book.specs.declared.deed.Deed.{Deed}
 use Rattle.gu_book.proofs.Accepting.{on_ok_three, on_ok_two, refusal-taken}
-use Rattle.gu_book.proofs.DeedLemmas.{claimed-room, claimed-taken, claimed-there, given-taken, report-may, reported-taken, returned-closed, returned-taken, returned-there, returned-used}
+use Rattle.gu_book.proofs.DeedLemmas.{claimed-fits, claimed-taken, made-fits, made-taken, returned-fits, returned-taken}
 use Rattle.gu_book.proofs.KnownAccounts.{known-given_up, known-moved, known-opened, known-refused, known-reported}
-use Rattle.gu_book.proofs.TakenIn.{give_up-new, give_up-numbers, limit-taken, opening-taken}
+use Rattle.gu_book.proofs.TakenIn.{give_up-numbers, give_up-taken, group-given, limit-taken, opening-taken}
 use Rattle.gu_book.proofs.taking.take_in.Goals as goal
 
--- ---- openings
+-- ---- openings and limits
 
 pub returns-in-Open-clause-taken : goal.returns-in-Open-clause-taken
 returns-in-Open-clause-taken c =
@@ -23,8 +22,6 @@ returns-in-Open-clause-taken c =
 
 pub returns-in-Open-clause-known : goal.returns-in-Open-clause-known
 returns-in-Open-clause-known c reference may = known-opened reference c.args.totals.now c.open.new.self c.open.ensures.trades c.open.ensures.offers c.open.ensures.positions
-
--- ---- limits
 
 pub returns-in-SetLimit-clause-taken : goal.returns-in-SetLimit-clause-taken
 returns-in-SetLimit-clause-taken c =
@@ -42,35 +39,24 @@ returns-in-SetLimit-clause-taken c =
 -- ---- reports
 
 pub report-requires-clause-fits : goal.report-requires-clause-fits
-report-requires-clause-fits c =
-    let totals = c.args.totals.now in
-    let at = c.in-Report in
-    let it = subst (MayDo c.requires.0 totals) at.is c.requires.1 in
-    report-may c.requires.0 totals it.command at.report at.waiting it.may it.is
-
-pub report-requires-clause-waiting : goal.report-requires-clause-waiting
-report-requires-clause-waiting c = (subst (MayDo c.requires.0 c.args.totals.now) c.in-Report.is c.requires.1).is.met
+report-requires-clause-fits c = made-fits c.requires.0 c.args.totals.now c.args.deed.now c.requires.1 c.in-Report.report c.in-Report.waiting c.in-Report.is
 
 pub returns-in-Report-clause-taken : goal.returns-in-Report-clause-taken
 returns-in-Report-clause-taken c =
-    let old = c.args.totals.now in
-    let new = c.report.new.self in
     let at = c.in-Report in
     let e = c.report.ensures in
-    subst (λ (deed : Deed). OnOk c.report.result (TakesDeed old new deed)) (sym at.is)
-    (on_ok_two c.report.result (reported-taken old new at.report at.waiting e.today e.give_ups e.offers e.limits) e.trades e.positions)
+    on_ok_two c.report.result (made-taken c.args.totals.now c.report.new.self c.args.deed.now at.report at.waiting at.is e.today e.give_ups e.offers e.limits) e.trades e.positions
 
 pub returns-in-Report-clause-known : goal.returns-in-Report-clause-known
 returns-in-Report-clause-known c =
     let old = c.args.totals.now in
-    let at = c.in-Report in
+    let r = c.in-Report.report in
     let e = c.report.ensures in
-    let r = at.report in
-    subst (KeepsAccounts old c.report.new.self) (sym at.is)
+    subst (KeepsAccounts old c.report.new.self) (sym c.in-Report.is)
     (λ reference may.
     let is = may.is in
     known-reported reference r.firm r.id r.match_id r.symbol r.lots r.price is.day r.side r.account r.day old c.report.new.self c.report.result is.today
-    (subst (λ (command : Command). MayTakeIn reference old command) is.is may.may) e.offers e.trades e.refused e.rows e.even)
+    (subst (MayTakeIn reference old) is.is may.may) e.offers e.trades e.refused e.rows e.even)
 
 -- ---- give-ups
 
@@ -79,14 +65,7 @@ give_up-requires-clause-numbers c =
     let totals = c.args.totals.now in
     let at = c.in-GiveUp in
     let it = subst (MayDo c.requires.0 totals) at.is c.requires.1 in
-    give_up-numbers c.requires.0 totals at.firm at.id at.report at.lines.now c.as_slice.ensures.sound.most (subst (λ (command : Command). MayTakeIn c.requires.0 totals command) it.is.is it.may)
-
-pub give_up-requires-clause-new_id : goal.give_up-requires-clause-new_id
-give_up-requires-clause-new_id c =
-    let totals = c.args.totals.now in
-    let at = c.in-GiveUp in
-    let it = subst (MayDo c.requires.0 totals) at.is c.requires.1 in
-    give_up-new c.requires.0 totals at.firm at.id at.report at.lines.now (subst (λ (command : Command). MayTakeIn c.requires.0 totals command) it.is.is it.may)
+    give_up-numbers c.requires.0 totals at.firm at.id at.report at.lines.now c.as_slice.ensures.sound.most (subst (MayTakeIn c.requires.0 totals) it.is.is it.may)
 
 pub returns-in-GiveUp-clause-taken : goal.returns-in-GiveUp-clause-taken
 returns-in-GiveUp-clause-taken c =
@@ -96,7 +75,10 @@ returns-in-GiveUp-clause-taken c =
     let e = c.give_up.ensures in
     subst (λ (deed : Deed). OnOk c.give_up.result (TakesDeed old new deed)) (sym at.is)
     (on_ok_two c.give_up.result
-    (given-taken old new at.firm at.id at.report at.lines.now at.group c.as_slice.ensures.sound.most e.today e.trades e.limits e.positions)
+    (λ give_ups offers reference command is.
+    let given = group-given reference old at.firm at.report at.group is.group_is in
+    subst (TakesIn reference old new) (sym is.is)
+    (give_up-taken reference old new at.firm at.id at.report at.lines.now given.0 at.group c.as_slice.ensures.sound.most given.1 e.today e.trades e.limits e.positions give_ups offers))
     e.give_ups e.offers)
 
 pub returns-in-GiveUp-clause-known : goal.returns-in-GiveUp-clause-known
@@ -106,34 +88,21 @@ returns-in-GiveUp-clause-known c =
     let e = c.give_up.ensures in
     subst (KeepsAccounts old c.give_up.new.self) (sym at.is)
     (λ reference may.
-    known-given_up reference old c.give_up.new.self at.firm at.id at.report at.lines.now at.group c.give_up.result
-    (subst (λ (command : Command). MayTakeIn reference old command) may.is.is may.may) e.trades e.positions e.offers e.refused)
+    known-given_up reference old c.give_up.new.self at.firm at.id at.report at.lines.now at.group c.give_up.result (subst (MayTakeIn reference old) may.is.is may.may) e.trades e.positions e.offers e.refused)
 
 -- ---- claims
 
-pub claim-requires-clause-left : goal.claim-requires-clause-left
-claim-requires-clause-left c =
-    let it = subst (MayDo c.requires.0 c.args.totals.now) c.in-Claim.is c.requires.1 in omega (arith, it.is.all)
-
 pub claim-requires-clause-room : goal.claim-requires-clause-room
-claim-requires-clause-room c =
-    let it = subst (MayDo c.requires.0 c.args.totals.now) c.in-Claim.is c.requires.1 in
-    claimed-room c.requires.0 c.args.totals.now it.command c.in-Claim.claimed it.may it.is
-
-pub claim-requires-clause-once : goal.claim-requires-clause-once
-claim-requires-clause-once c = (subst (MayDo c.requires.0 c.args.totals.now) c.in-Claim.is c.requires.1).is.moved.once
+claim-requires-clause-room c = (claimed-fits c.requires.0 c.args.totals.now c.args.deed.now c.requires.1 c.in-Claim.claimed c.in-Claim.places c.in-Claim.is).0
 
 pub claim-requires-clause-there : goal.claim-requires-clause-there
-claim-requires-clause-there c =
-    let it = subst (MayDo c.requires.0 c.args.totals.now) c.in-Claim.is c.requires.1 in
-    claimed-there c.requires.0 c.args.totals.now it.command c.in-Claim.claimed it.may it.is
+claim-requires-clause-there c = (claimed-fits c.requires.0 c.args.totals.now c.args.deed.now c.requires.1 c.in-Claim.claimed c.in-Claim.places c.in-Claim.is).1
 
 pub returns-in-Claim-clause-taken : goal.returns-in-Claim-clause-taken
 returns-in-Claim-clause-taken c =
-    let old = c.args.totals.now in
+    let at = c.in-Claim in
     let e = c.claim.ensures in
-    subst (λ (deed : Deed). OnOk c.claim.result (TakesDeed old c.claim.new.self deed)) (sym c.in-Claim.is)
-    (on_ok_three c.claim.result (claimed-taken old c.claim.new.self c.in-Claim.claimed e.entries) e.offers e.limits e.positions)
+    on_ok_three c.claim.result (claimed-taken c.args.totals.now c.claim.new.self c.args.deed.now at.claimed at.places at.is e.entries) e.offers e.limits e.positions
 
 pub returns-in-Claim-clause-known : goal.returns-in-Claim-clause-known
 returns-in-Claim-clause-known c =
@@ -163,35 +132,17 @@ returns-in-Refuse-clause-known c reference may =
 
 -- ---- reversals
 
-pub reverse-requires-clause-closed : goal.reverse-requires-clause-closed
-reverse-requires-clause-closed c =
-    let it = subst (MayDo c.requires.0 c.args.totals.now) c.in-Reverse.is c.requires.1 in
-    (returned-closed c.requires.0 c.args.totals.now it.command c.in-Reverse.reversed it.may it.is).0
-
-pub reverse-requires-clause-moved : goal.reverse-requires-clause-moved
-reverse-requires-clause-moved c =
-    let it = subst (MayDo c.requires.0 c.args.totals.now) c.in-Reverse.is c.requires.1 in
-    (returned-closed c.requires.0 c.args.totals.now it.command c.in-Reverse.reversed it.may it.is).1
-
 pub reverse-requires-clause-used : goal.reverse-requires-clause-used
-reverse-requires-clause-used c =
-    let it = subst (MayDo c.requires.0 c.args.totals.now) c.in-Reverse.is c.requires.1 in
-    returned-used c.requires.0 c.args.totals.now it.command c.in-Reverse.reversed it.may it.is
-
-pub reverse-requires-clause-once : goal.reverse-requires-clause-once
-reverse-requires-clause-once c = (subst (MayDo c.requires.0 c.args.totals.now) c.in-Reverse.is c.requires.1).is.moved.once
+reverse-requires-clause-used c = (returned-fits c.requires.0 c.args.totals.now c.args.deed.now c.requires.1 c.in-Reverse.reversed c.in-Reverse.is).0
 
 pub reverse-requires-clause-there : goal.reverse-requires-clause-there
-reverse-requires-clause-there c =
-    let it = subst (MayDo c.requires.0 c.args.totals.now) c.in-Reverse.is c.requires.1 in
-    returned-there c.requires.0 c.args.totals.now it.command c.in-Reverse.reversed it.may it.is
+reverse-requires-clause-there c = (returned-fits c.requires.0 c.args.totals.now c.args.deed.now c.requires.1 c.in-Reverse.reversed c.in-Reverse.is).1
 
 pub returns-in-Reverse-clause-taken : goal.returns-in-Reverse-clause-taken
 returns-in-Reverse-clause-taken c =
-    let old = c.args.totals.now in
+    let at = c.in-Reverse in
     let e = c.reverse.ensures in
-    subst (λ (deed : Deed). OnOk c.reverse.result (TakesDeed old c.reverse.new.self deed)) (sym c.in-Reverse.is)
-    (on_ok_three c.reverse.result (returned-taken old c.reverse.new.self c.in-Reverse.reversed e.entries) e.offers e.limits e.positions)
+    on_ok_three c.reverse.result (returned-taken c.args.totals.now c.reverse.new.self c.args.deed.now at.reversed at.is e.entries) e.offers e.limits e.positions
 
 pub returns-in-Reverse-clause-known : goal.returns-in-Reverse-clause-known
 returns-in-Reverse-clause-known c =
