@@ -24,10 +24,9 @@ use Rattle.gu_rules.specs.Offers.{offers_of, standing_from, standing_of}
 use Rattle.gu_rules.specs.Versions.{is_of_group, touches}
 use Rattle.gu_rules.proofs.VersionLemmas.{version-le, version_of-push}
 use Rattle.gu_book.specs.Counted.{AreVersions, IsCountAt, is_touched, own_in, version_in}
-use Rattle.gu_book.specs.Deeds.{IsDeedOf, IsMoved, done_by, touched_by}
+use Rattle.gu_book.specs.Deeds.{IsDeedOf, done_by, touched_by}
 use Rattle.gu_book.specs.declared.deed.Deed.{Deed}
 use Rattle.gu_book.specs.declared.deed.Deed.TheVariants as deed
-use Rattle.gu_book.specs.declared.deed.Moved.{Moved}
 use Rattle.gu_book.specs.declared.totals.Totals.{Totals}
 use Rattle.gu_book.specs.declared.versions.Touched.{Touched}
 use Rattle.gu_book.specs.declared.versions.Versions.{Versions}
@@ -111,12 +110,12 @@ of-group history totals group at n offers here =
     ap (λ (o : Option Group). option_map_or (λ (at : Group). same_group at group) o false) (here ∙ ap (λ (rs : List Row). option_map (λ (row : Row). row.offer.group) (row_at rs n)) offers)
     ∙ of-row history group n
 
--- and so is one of which lots are moved
-of-moved : (reference : Tables) (history : List Entry) (totals : Totals) (group : Group) (moved : Moved) → totals.offers ≡ standing_of history → IsMoved reference totals moved
-    → same_group moved.offer.group group ≡ is_of_group history group moved.number
-of-moved reference history totals group moved offers is = of-group history totals group moved.offer.group moved.number offers (of (row_at totals.offers moved.number) is.seen.shown)
+-- and so is one that is known
+of-offer : (history : List Entry) (totals : Totals) (group : Group) (offer : Offer) (n : ℕ) → totals.offers ≡ standing_of history → Some offer ≡ option_map (λ (row : Row). row.offer) (row_at totals.offers n)
+    → same_group offer.group group ≡ is_of_group history group n
+of-offer history totals group offer n offers shown = of-group history totals group offer.group n offers (of (row_at totals.offers n) shown)
   where
-    of : (found : Option Row) → Some moved.offer ≡ option_map (λ (row : Row). row.offer) found → Some moved.offer.group ≡ option_map (λ (row : Row). row.offer.group) found
+    of : (found : Option Row) → Some offer ≡ option_map (λ (row : Row). row.offer) found → Some offer.group ≡ option_map (λ (row : Row). row.offer.group) found
     of None e = cc
     of (Some row) e = ap (λ (o : Option Offer). option_map (λ (o : Offer). o.group) o) e
 
@@ -127,9 +126,9 @@ accepted-touches reference history totals command (deed.Open day) group offers i
 accepted-touches reference history totals command (deed.SetLimit at key lots) group offers is = rw is refl
 accepted-touches reference history totals command (deed.Report report waiting) group offers is = rw is.is refl
 accepted-touches reference history totals command (deed.GiveUp firm id report lines at first) group offers is = rw is.is refl
-accepted-touches reference history totals command (deed.Claim claimed places) group offers is = rw is.is (of-moved reference history totals group claimed offers is.moved)
+accepted-touches reference history totals command (deed.Claim claimed places) group offers is = rw is.is (of-offer history totals group claimed.offer claimed.number offers is.seen.shown)
 accepted-touches reference history totals command (deed.Refuse number at lots) group offers is = rw is.is (of-group history totals group at number offers is.group_is)
-accepted-touches reference history totals command (deed.Reverse reversed) group offers is = rw is.is (of-moved reference history totals group reversed offers is.moved)
+accepted-touches reference history totals command (deed.Reverse reversed) group offers is = rw is.is (of-offer history totals group reversed.offer reversed.number offers is.seen.shown)
 
 -- and a refused command touches none
 pub denied-touches : (history : List Entry) (command : Command) (why : Refusal) (group : Group) → false ≡ touches history group (Asked command (Denied why))

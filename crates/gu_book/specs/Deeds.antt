@@ -69,11 +69,14 @@ pub record IsSeen (totals : Totals) (n : ℕ) (offer : Offer) (report : Terms) :
   pub shown : Some offer ≡ option_map (λ (r : Row). r.offer) (row_at totals.offers n)
   pub found : Some report ≡ option_map terms_of (report_by totals.trades offer.firm offer.report)
 
--- an offer of which lots are moved, with its report and its path
-pub record IsMoved (reference : Tables) (totals : Totals) (moved : Moved) : Type 0 where
+-- a command, asked so of some firm, moves these lots of an offer: by its own report, and under its own path
+pub record MovesLots (reference : Tables) (totals : Totals) (command : Command) (ask : FirmId → ℕ → Command) (moved : Moved) (lots : ℕ) : Type 0 where
+  pub firm : FirmId
+  pub is : command ≡ ask firm moved.number
   pub seen : IsSeen totals moved.number moved.offer moved.report
   pub path : unwrap_or moved.path [] ≡ path_after reference moved.offer
   pub once : IfSome moved.path (IsDistinct key_eq)
+  pub all : moved.lots ≡ lots
 
 -- a command reports this on the open day, and meets who waits for it
 pub record MakesReport (totals : Totals) (command : Command) (report : Report) (waiting : Option Terms) : Type 0 where
@@ -87,13 +90,6 @@ pub record GivesLines (reference : Tables) (totals : Totals) (command : Command)
   pub is : command ≡ asked.GiveUp firm id report lines
   pub group_is : option_map (λ g. g.1) (given_up reference (state_in totals) firm report) ≡ Some group
 
--- a command claims all that is left of an offer
-pub record ClaimsAll (reference : Tables) (totals : Totals) (command : Command) (claimed : Moved) : Type 0 where
-  pub firm : FirmId
-  pub is : command ≡ asked.Claim firm claimed.number
-  pub moved : IsMoved reference totals claimed
-  pub all : claimed.lots ≡ left_in totals.offers claimed.number
-
 -- a command refuses an offer of this group
 pub record RefusesOffer (totals : Totals) (command : Command) (number : ℕ) (group : Group) : Type 0 where
   pub firm : FirmId
@@ -101,19 +97,12 @@ pub record RefusesOffer (totals : Totals) (command : Command) (number : ℕ) (gr
   pub is : command ≡ asked.Refuse firm number why
   pub group_is : Some group ≡ option_map (λ (r : Row). r.offer.group) (row_at totals.offers number)
 
--- a command takes back what was moved of an offer today
-pub record TakesBack (reference : Tables) (totals : Totals) (command : Command) (reversed : Moved) : Type 0 where
-  pub firm : FirmId
-  pub is : command ≡ asked.Reverse firm reversed.number
-  pub moved : IsMoved reference totals reversed
-  pub all : reversed.lots ≡ today_in totals.offers reversed.number
-
--- what an accepted command does, where this is kept
+-- what an accepted command does, where this is kept: a claim moves all that is left, a reversal all that was moved today
 abbrev pub IsDeedOf : Tables → Totals → Command → Deed → Type 0
 IsDeedOf reference totals command (Open day) = command ≡ asked.OpenDay day
 IsDeedOf reference totals command (SetLimit group key lots) = command ≡ asked.SetLimit group key lots
 IsDeedOf reference totals command (Reports report waiting) = MakesReport totals command report waiting
 IsDeedOf reference totals command (GiveUp firm id report lines group first) = GivesLines reference totals command firm id report lines.now group
-IsDeedOf reference totals command (Claim claimed places) = ClaimsAll reference totals command claimed
+IsDeedOf reference totals command (Claim claimed places) = MovesLots reference totals command asked.Claim claimed (left_in totals.offers claimed.number)
 IsDeedOf reference totals command (Refuse number group lots) = RefusesOffer totals command number group
-IsDeedOf reference totals command (Reverse reversed) = TakesBack reference totals command reversed
+IsDeedOf reference totals command (Reverse reversed) = MovesLots reference totals command asked.Reverse reversed (today_in totals.offers reversed.number)

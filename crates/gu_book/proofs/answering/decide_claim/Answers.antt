@@ -57,10 +57,8 @@ returns-clause-deed c =
     record {
       firm = c.args.firm;
       is = refl;
-      moved = record {
-        seen = record { shown = c.in_ok-offer.ensures.offer; found = c.terms_given_up.ensures };
-        path = c.path_with-path.ensures.keys;
-        once = c.path_with-path.ensures.once;
-      };
+      seen = record { shown = c.in_ok-offer.ensures.offer; found = c.terms_given_up.ensures };
+      path = c.path_with-path.ensures.keys;
+      once = c.path_with-path.ensures.once;
       all = (lots_are (left_in c.args.totals.now.offers c.args.number) c.in-Some.lots c.in-Some.ensures).0;
     }

@@ -4,8 +4,8 @@ use Rattle.std.proofs.lemmas.Result.{on_ok_weaker}
 use Rattle.gu_offers.specs.Changes.{closed, reversed, taken}
 use Rattle.gu_book.specs.Accepted.{KeepsAccounts, MayDo, MayTakeIn, TakesDeed, TakesIn}
 use Rattle.gu_book.specs.declared.deed.Deed.{Deed}
-use Rattle.gu_book.proofs.Accepting.{on_ok_three, on_ok_two, refusal-taken}
-use Rattle.gu_book.proofs.DeedLemmas.{claimed-fits, claimed-taken, made-fits, made-taken, returned-fits, returned-taken}
+use Rattle.gu_book.proofs.Accepting.{claim-fits, claim-taken, on_ok_three, on_ok_two, refusal-taken, reversal-fits, reversal-taken}
+use Rattle.gu_book.proofs.DeedLemmas.{made-fits, made-taken}
 use Rattle.gu_book.proofs.KnownAccounts.{known-given_up, known-moved, known-opened, known-refused, known-reported}
 use Rattle.gu_book.proofs.TakenIn.{give_up-numbers, give_up-taken, group-given, limit-taken, opening-taken}
 use Rattle.gu_book.proofs.taking.take_in.Goals as goal
@@ -39,13 +39,19 @@ returns-in-SetLimit-clause-taken c =
 -- ---- reports
 
 pub report-requires-clause-fits : goal.report-requires-clause-fits
-report-requires-clause-fits c = made-fits c.requires.0 c.args.totals.now c.args.deed.now c.requires.1 c.in-Report.report c.in-Report.waiting c.in-Report.is
+report-requires-clause-fits c =
+    let at = c.in-Report in
+    let it = subst (MayDo c.requires.0 c.args.totals.now) at.is c.requires.1 in
+    made-fits c.requires.0 c.args.totals.now it.command at.report at.waiting it.may it.is
 
 pub returns-in-Report-clause-taken : goal.returns-in-Report-clause-taken
 returns-in-Report-clause-taken c =
+    let old = c.args.totals.now in
+    let new = c.report.new.self in
     let at = c.in-Report in
     let e = c.report.ensures in
-    on_ok_two c.report.result (made-taken c.args.totals.now c.report.new.self c.args.deed.now at.report at.waiting at.is e.today e.give_ups e.offers e.limits) e.trades e.positions
+    subst (λ (deed : Deed). OnOk c.report.result (TakesDeed old new deed)) (sym at.is)
+    (on_ok_two c.report.result (λ trades positions reference command is. made-taken reference old new command at.report at.waiting is e.today e.give_ups e.offers e.limits trades positions) e.trades e.positions)
 
 pub returns-in-Report-clause-known : goal.returns-in-Report-clause-known
 returns-in-Report-clause-known c =
@@ -93,16 +99,22 @@ returns-in-GiveUp-clause-known c =
 -- ---- claims
 
 pub claim-requires-clause-room : goal.claim-requires-clause-room
-claim-requires-clause-room c = (claimed-fits c.requires.0 c.args.totals.now c.args.deed.now c.requires.1 c.in-Claim.claimed c.in-Claim.places c.in-Claim.is).0
+claim-requires-clause-room c =
+    let it = subst (MayDo c.requires.0 c.args.totals.now) c.in-Claim.is c.requires.1 in
+    (claim-fits c.requires.0 c.args.totals.now it.command c.in-Claim.claimed it.may it.is).0
 
 pub claim-requires-clause-there : goal.claim-requires-clause-there
-claim-requires-clause-there c = (claimed-fits c.requires.0 c.args.totals.now c.args.deed.now c.requires.1 c.in-Claim.claimed c.in-Claim.places c.in-Claim.is).1
+claim-requires-clause-there c =
+    let it = subst (MayDo c.requires.0 c.args.totals.now) c.in-Claim.is c.requires.1 in
+    (claim-fits c.requires.0 c.args.totals.now it.command c.in-Claim.claimed it.may it.is).1
 
 pub returns-in-Claim-clause-taken : goal.returns-in-Claim-clause-taken
 returns-in-Claim-clause-taken c =
-    let at = c.in-Claim in
+    let old = c.args.totals.now in
+    let new = c.claim.new.self in
     let e = c.claim.ensures in
-    on_ok_three c.claim.result (claimed-taken c.args.totals.now c.claim.new.self c.args.deed.now at.claimed at.places at.is e.entries) e.offers e.limits e.positions
+    subst (λ (deed : Deed). OnOk c.claim.result (TakesDeed old new deed)) (sym c.in-Claim.is)
+    (on_ok_three c.claim.result (λ offers limits positions reference command is. claim-taken reference old new command c.in-Claim.claimed is e.entries offers limits positions) e.offers e.limits e.positions)
 
 pub returns-in-Claim-clause-known : goal.returns-in-Claim-clause-known
 returns-in-Claim-clause-known c =
@@ -111,7 +123,7 @@ returns-in-Claim-clause-known c =
     let e = c.claim.ensures in
     subst (KeepsAccounts old c.claim.new.self) (sym c.in-Claim.is)
     (λ reference may.
-    known-moved reference old c.claim.new.self c.claim.result claimed.number (taken claimed.lots) claimed.offer claimed.report may.is.moved.seen (λ row. refl)
+    known-moved reference old c.claim.new.self c.claim.result claimed.number (taken claimed.lots) claimed.offer claimed.report may.is.seen (λ row. refl)
     e.entries.trades e.offers e.refused e.rows e.even)
 
 -- ---- refusals
@@ -133,16 +145,22 @@ returns-in-Refuse-clause-known c reference may =
 -- ---- reversals
 
 pub reverse-requires-clause-used : goal.reverse-requires-clause-used
-reverse-requires-clause-used c = (returned-fits c.requires.0 c.args.totals.now c.args.deed.now c.requires.1 c.in-Reverse.reversed c.in-Reverse.is).0
+reverse-requires-clause-used c =
+    let it = subst (MayDo c.requires.0 c.args.totals.now) c.in-Reverse.is c.requires.1 in
+    (reversal-fits c.requires.0 c.args.totals.now it.command c.in-Reverse.reversed it.may it.is).0
 
 pub reverse-requires-clause-there : goal.reverse-requires-clause-there
-reverse-requires-clause-there c = (returned-fits c.requires.0 c.args.totals.now c.args.deed.now c.requires.1 c.in-Reverse.reversed c.in-Reverse.is).1
+reverse-requires-clause-there c =
+    let it = subst (MayDo c.requires.0 c.args.totals.now) c.in-Reverse.is c.requires.1 in
+    (reversal-fits c.requires.0 c.args.totals.now it.command c.in-Reverse.reversed it.may it.is).1
 
 pub returns-in-Reverse-clause-taken : goal.returns-in-Reverse-clause-taken
 returns-in-Reverse-clause-taken c =
-    let at = c.in-Reverse in
+    let old = c.args.totals.now in
+    let new = c.reverse.new.self in
     let e = c.reverse.ensures in
-    on_ok_three c.reverse.result (returned-taken c.args.totals.now c.reverse.new.self c.args.deed.now at.reversed at.is e.entries) e.offers e.limits e.positions
+    subst (λ (deed : Deed). OnOk c.reverse.result (TakesDeed old new deed)) (sym c.in-Reverse.is)
+    (on_ok_three c.reverse.result (λ offers limits positions reference command is. reversal-taken reference old new command c.in-Reverse.reversed is e.entries offers limits positions) e.offers e.limits e.positions)
 
 pub returns-in-Reverse-clause-known : goal.returns-in-Reverse-clause-known
 returns-in-Reverse-clause-known c =
@@ -151,5 +169,5 @@ returns-in-Reverse-clause-known c =
     let e = c.reverse.ensures in
     subst (KeepsAccounts old c.reverse.new.self) (sym c.in-Reverse.is)
     (λ reference may.
-    known-moved reference old c.reverse.new.self c.reverse.result returned.number reversed returned.offer returned.report may.is.moved.seen (λ row. refl)
+    known-moved reference old c.reverse.new.self c.reverse.result returned.number reversed returned.offer returned.report may.is.seen (λ row. refl)
     e.entries.trades e.offers e.refused e.rows e.even)
