@@ -1,5 +1,6 @@
 -- What is kept beside a history takes accepted commands in.
 use Rattle.std.proofs.Common.{◌≡◌, ℕ, zero, suc, ◌+◌, ◌*◌, ◌-◌, ◌<◌, ◌≤◌, ◌&&◌, ◌++◌, true, false, List, [], ◌∷◌, length, slice_index_or, Option, None, Some, unwrap_or, Result, Ok, Err, refl, sym, ap, ◌∙◌, arith, subst}
+use Rattle.std.specs.Prelude.{All}
 use Rattle.std.specs.Result.{OnOk}
 use Rattle.std.specs.Option.{option_map}
 use Rattle.std.proofs.lemmas.Option.{none-some}
@@ -35,17 +36,17 @@ use Rattle.gu_rules.specs.Reports.{reports_of}
 use Rattle.gu_rules.proofs.ChangedPositions.{held_in-has, held_in-moved}
 use Rattle.gu_rules.proofs.ChangedSums.{today-le-use_in}
 use Rattle.gu_rules.proofs.Covered.{covered-taken}
-use Rattle.gu_rules.proofs.Facts.{IsThere, claimable, refusable, reversible, today-is}
+use Rattle.gu_rules.proofs.Facts.{IsThere, MayBeClaimed, MayBeReversed, claimable, refusable, reversible, today-is}
 use Rattle.gu_rules.proofs.InOrder.{in_order}
 use Rattle.gu_rules.proofs.OrderlyLemmas.{today-le-moved}
 use Rattle.gu_rules.proofs.Spoken.{either-true, taken_back}
 use Rattle.gu_rules.proofs.StandingLemmas.{length-standing_from}
 use Rattle.gu_rules.proofs.Takers.{TakesOne, claim-takes, claimed}
-use Rattle.gu_book.specs.Accepted.{MayClaim, MayReverse, TakesIn}
+use Rattle.gu_book.specs.Accepted.{MayTakeIn, TakesIn}
 use Rattle.gu_book.specs.Beside.{IsBeside, IsKept, state_in}
-use Rattle.gu_book.specs.Effects.{HoldsMoved, SameEntries, UsesLess, UsesMore, UsesUnder}
-use Rattle.gu_book.specs.Met.{IsMetOffer}
-use Rattle.gu_book.specs.declared.met.MetOffer.{MetOffer}
+use Rattle.gu_book.specs.Effects.{FreesUnder, HoldsMoved, SameEntries, UsesLess, UsesMore, UsesUnder}
+use Rattle.gu_book.specs.Deeds.{IsSeen, MovesLots}
+use Rattle.gu_book.specs.declared.deed.Moved.{Moved}
 use Rattle.gu_book.specs.declared.totals.Totals.{Totals}
 use Rattle.gu_book.proofs.KeptOffers.{kept-refused, kept-taken, kept-taken_back, within-taken}
 
@@ -89,12 +90,7 @@ pub some-terms : (found : Option Report) (terms : Terms) → Some terms ≡ opti
 some-terms None terms is = absurd (none-some terms (sym is))
 some-terms (Some r) terms is = (r, refl, ap (λ (t : Option Terms). unwrap_or t terms) (sym is))
 
--- an offer and the terms of its report, as they are found
-pub record IsSeen (totals : Totals) (n : ℕ) (offer : Offer) (report : Terms) : Type 0 where
-  pub shown : Some offer ≡ option_map (λ (r : Row). r.offer) (row_at totals.offers n)
-  pub found : Some report ≡ option_map terms_of (report_by totals.trades offer.firm offer.report)
-
--- are those of the history
+-- an offer and the terms of its report, as they are found, are those of the history
 pub seen-is : (reference : Tables) (history : List Entry) (totals : Totals) (n : ℕ) (offer : Offer) (report : Terms) (found : Report) (row : Row) → IsBeside reference history totals
     → IsSeen totals n offer report → IsThere history n row found → (offer ≡ row.offer) × (report ≡ terms_of found)
 seen-is reference history totals n offer report found row b seen there =
@@ -104,19 +100,6 @@ seen-is reference history totals n offer report found row b seen there =
     (same, ap (λ (t : Option Terms). unwrap_or t report) reported)
 
 -- ---- claims
-
--- a claim has room
-pub claim-room : (reference : Tables) (totals : Totals) (n : ℕ) (offer : Offer) (report : Terms) → IsSeen totals n offer report → MayClaim reference totals n → (k : ℕ) (d : LimitKey)
-    → k < length (path_after reference offer) → left_in totals.offers n ≤ room_in totals.limits offer.group (slice_index_or (path_after reference offer) k d)
-claim-room reference totals n offer report seen may k d within =
-    let history = may.may.history in
-    let b = may.may.kept.beside in
-    let f = claimable reference history may.firm n (in_order history may.may.kept.orderly) may.may.accepted in
-    let same = (seen-is reference history totals n offer report f.1 f.0 b seen f.2.there).0 in
-    let Room : Offer → Type 0 = λ o. k < length (path_after reference o) → left_in (standing_of history) n ≤ room_of reference history o.group (slice_index_or (path_after reference o) k d) in
-    let has = subst Room (sym same) (f.2.room k d) within in
-    let key = slice_index_or (path_after reference offer) k d in
-    omega (arith, has, ap (λ (rs : List Row). left_in rs n) b.offers, b.limits offer.group key, b.uses offer.group key)
 
 -- lots that are left of an open offer are there
 pub taken-there : (reference : Tables) (history : List Entry) (totals : Totals) (n lots : ℕ) (row : Row) (report : Report) → IsKept reference history totals → IsThere history n row report
@@ -128,18 +111,6 @@ taken-there reference history totals n lots row report kept there stands less =
     (covered-taken (reports_of history) (standing_of history) n row lots there.at stands o.covered)
     (within-taken history n lots row there.at less o.within) in
     omega (arith, has, own_place report.side report.account report.symbol lots, kept.beside.positions report.side report.account report.symbol)
-
--- and so are those of a claim
-pub claim-there : (reference : Tables) (totals : Totals) (n : ℕ) (offer : Offer) (report : Terms) → IsSeen totals n offer report → MayClaim reference totals n
-    → left_in totals.offers n ≤ lots_in totals.positions report.side report.account report.symbol
-claim-there reference totals n offer report seen may =
-    let history = may.may.history in
-    let kept = may.may.kept in
-    let f = claimable reference history may.firm n (in_order history kept.orderly) may.may.accepted in
-    let same = (seen-is reference history totals n offer report f.1 f.0 kept.beside seen f.2.there).1 in
-    let left = ap (λ (rs : List Row). left_in rs n) kept.beside.offers in
-    let fits = taken-there reference history totals n (left_in (standing_of history) n) f.0 f.1 kept f.2.there f.2.stands f.2.less in
-    subst (λ (r : Terms). left_in totals.offers n ≤ lots_in totals.positions r.side r.account r.symbol) (sym same) (omega (arith, fits, left))
 
 -- an entry that takes lots of an open offer is taken in
 pub lots-taken : (reference : Tables) (history : List Entry) (old new : Totals) (entry : Entry) (n lots : ℕ) (offer : Offer) (report : Terms) (found : Report) (row : Row) → IsSeen old n offer report → TakesOne entry n lots
@@ -153,25 +124,53 @@ lots-taken reference history old new entry n lots offer report found row seen ta
     (subst (λ (r : Terms). HoldsMoved old.positions new.positions r r.account row.offer.account lots) is.1
     (subst (λ (o : Offer). HoldsMoved old.positions new.positions report report.account o.account lots) is.0 holds))
 
--- a claim is taken in
-pub claim-taken : (reference : Tables) (old new : Totals) (n : ℕ) (offer : Offer) (report : Terms) → IsSeen old n offer report → SameEntries old new
-    → new.offers ≡ changed old.offers n (taken (left_in old.offers n)) → UsesMore reference old.limits new.limits offer (left_in old.offers n)
-    → HoldsMoved old.positions new.positions report report.account offer.account (left_in old.offers n) → (firm : FirmId) → TakesIn reference old new (Claim firm n)
-claim-taken reference old new n offer report seen same offers uses holds firm history kept accepted =
-    let f = claimable reference history firm n (in_order history kept.orderly) accepted in
-    let left : left_in old.offers n ≡ left_in (standing_of history) n = ap (λ (rs : List Row). left_in rs n) kept.beside.offers in
-    subst (λ (lots : ℕ). IsKept reference (history ++ claimed firm n lots ∷ []) new) left
-    (lots-taken reference history old new (claimed firm n (left_in old.offers n)) n (left_in old.offers n) offer report f.1 f.0 seen (claim-takes firm n (left_in old.offers n)) same offers uses holds kept f.2.there
-    f.2.stands (omega (arith, f.2.less, left)))
+-- what a claim of some firm moves
+abbrev pub ClaimsAll : Tables → Totals → Command → Moved → Type 0
+ClaimsAll reference totals command it = MovesLots reference totals command Claim it (left_in totals.offers it.number)
 
--- so is one of an offer that its answer met
-pub claim-met : (old new : Totals) (n : ℕ) (met : MetOffer) (report : Terms) → Some report ≡ option_map terms_of (report_by old.trades met.offer.firm met.offer.report) → SameEntries old new
-    → new.offers ≡ changed old.offers n (taken (left_in old.offers n)) → UsesUnder (unwrap_or met.path []) old.limits new.limits met.offer.group (left_in old.offers n)
-    → HoldsMoved old.positions new.positions report report.account met.offer.account (left_in old.offers n)
-    → (reference : Tables) → MayClaim reference old n → IsMetOffer reference old n met → (firm : FirmId) → TakesIn reference old new (Claim firm n)
-claim-met old new n met report found same offers uses holds reference may is firm =
-    claim-taken reference old new n met.offer report (record { shown = is.shown; found = found }) same offers
-    (subst (λ (keys : List LimitKey). UsesUnder keys old.limits new.limits met.offer.group (left_in old.offers n)) is.path uses) holds firm
+-- a claim has room, and its lots are there
+pub claim-fits : (reference : Tables) (totals : Totals) (command : Command) (it : Moved) → MayTakeIn reference totals command → ClaimsAll reference totals command it
+    → All (λ key. it.lots ≤ room_in totals.limits it.offer.group key) (unwrap_or it.path []) × (it.lots ≤ lots_in totals.positions it.report.side it.report.account it.report.symbol)
+claim-fits reference totals command it may is = (subst (λ (path : List LimitKey). All (λ key. it.lots ≤ room_in totals.limits it.offer.group key) path) (sym is.path) room, there)
+  where
+    asked : MayTakeIn reference totals (Claim is.firm it.number)
+    asked = subst (MayTakeIn reference totals) is.is may
+
+    history : List Entry
+    history = asked.history
+
+    f : (row : Row) × (report : Report) × MayBeClaimed reference history it.number row report
+    f = claimable reference history is.firm it.number (in_order history asked.kept.orderly) asked.accepted
+
+    same : (it.offer ≡ f.0.offer) × (it.report ≡ terms_of f.1)
+    same = seen-is reference history totals it.number it.offer it.report f.1 f.0 asked.kept.beside is.seen f.2.there
+
+    left : it.lots ≡ left_in (standing_of history) it.number
+    left = is.all ∙ ap (λ (rs : List Row). left_in rs it.number) asked.kept.beside.offers
+
+    room : All (λ key. it.lots ≤ room_in totals.limits it.offer.group key) (path_after reference it.offer)
+    room k d within =
+        let Room : Offer → Type 0 = λ o. k < length (path_after reference o) → left_in (standing_of history) it.number ≤ room_of reference history o.group (slice_index_or (path_after reference o) k d) in
+        let has = subst Room (sym same.0) (f.2.room k d) within in
+        let key = slice_index_or (path_after reference it.offer) k d in
+        omega (arith, has, left, asked.kept.beside.limits it.offer.group key, asked.kept.beside.uses it.offer.group key)
+
+    there : it.lots ≤ lots_in totals.positions it.report.side it.report.account it.report.symbol
+    there =
+        let fits = taken-there reference history totals (it.number) (left_in (standing_of history) it.number) f.0 f.1 asked.kept f.2.there f.2.stands f.2.less in
+        subst (λ (r : Terms). it.lots ≤ lots_in totals.positions r.side r.account r.symbol) (sym same.1) (omega (arith, fits, left))
+
+-- a claim is taken in
+pub claim-taken : (reference : Tables) (old new : Totals) (command : Command) (it : Moved) → ClaimsAll reference old command it → SameEntries old new → new.offers ≡ changed old.offers it.number (taken it.lots)
+    → UsesUnder (unwrap_or it.path []) old.limits new.limits it.offer.group it.lots → HoldsMoved old.positions new.positions it.report it.report.account it.offer.account it.lots → TakesIn reference old new command
+claim-taken reference old new command it is same offers uses holds =
+    subst (TakesIn reference old new) (sym is.is)
+    (λ history kept accepted.
+    let f = claimable reference history is.firm it.number (in_order history kept.orderly) accepted in
+    let left : it.lots ≡ left_in (standing_of history) it.number = is.all ∙ ap (λ (rs : List Row). left_in rs it.number) kept.beside.offers in
+    subst (λ (lots : ℕ). IsKept reference (history ++ claimed is.firm it.number lots ∷ []) new) left
+    (lots-taken reference history old new (claimed is.firm it.number it.lots) it.number it.lots it.offer it.report f.1 f.0 is.seen (claim-takes is.firm it.number it.lots) same offers
+    (subst (λ (keys : List LimitKey). UsesUnder keys old.limits new.limits it.offer.group it.lots) is.path uses) holds kept f.2.there f.2.stands (omega (arith, f.2.less, left))))
 
 -- ---- refusals
 
@@ -190,64 +189,71 @@ key_at [] k d within = absurd (omega arith)
 key_at (key ∷ path) zero d within = rw (key_eq-refl key) refl
 key_at (key ∷ path) (suc k) d within = either-true (key_eq key (slice_index_or path k d)) (has_key path (slice_index_or path k d)) (key_at path k d (omega arith))
 
--- what is reversed was used
-pub reversal-used : (reference : Tables) (totals : Totals) (n : ℕ) (offer : Offer) (report : Terms) → IsSeen totals n offer report → MayReverse reference totals n → (k : ℕ) (d : LimitKey)
-    → k < length (path_after reference offer) → today_in totals.offers n ≤ used_in totals.limits offer.group (slice_index_or (path_after reference offer) k d)
-reversal-used reference totals n offer report seen may k d within =
-    let history = may.may.history in
-    let b = may.may.kept.beside in
-    let f = reversible reference history may.firm n (in_order history may.may.kept.orderly) may.may.accepted in
-    let row = f.0 in
-    let there = f.2.there in
-    let same = (seen-is reference history totals n offer report f.1 row b seen there).0 in
-    let key = slice_index_or (path_after reference offer) k d in
-    let own : is_under reference offer.group key (record row { offer = offer }) ≡ true = rw (same_group-own offer.group, key_at (path_after reference offer) k d within) refl in
-    let under : is_under reference offer.group key row ≡ true = ap (λ (o : Offer). same_group offer.group o.group && has_key (path_after reference o) key) (sym same) ∙ own in
-    let counts = today-le-use_in reference (standing_of history) n row there.at offer.group key under in
-    omega (arith, counts, today-is (standing_of history) n row there.at, ap (λ (rs : List Row). today_in rs n) b.offers, b.uses offer.group key)
+-- what a reversal of some firm moves
+abbrev pub TakesBack : Tables → Totals → Command → Moved → Type 0
+TakesBack reference totals command it = MovesLots reference totals command Reverse it (today_in totals.offers it.number)
 
--- and its lots are there
-pub reversal-there : (reference : Tables) (totals : Totals) (n : ℕ) (offer : Offer) (report : Terms) → IsSeen totals n offer report → MayReverse reference totals n
-    → today_in totals.offers n ≤ lots_in totals.positions report.side offer.account report.symbol
-reversal-there reference totals n offer report seen may =
-    let history = may.may.history in
-    let b = may.may.kept.beside in
-    let o = may.may.kept.orderly in
-    let f = reversible reference history may.firm n (in_order history o) may.may.accepted in
-    let row = f.0 in
-    let found = f.1 in
-    let there = f.2.there in
-    let is = seen-is reference history totals n offer report found row b seen there in
-    let has =
-    held_in-moved (reports_of history) (standing_of history) n row there.at found.side row.offer.account found.symbol found there.behind o.covered o.within
-    (today-le-moved history n row o.balanced there.at) in
-    let fits : today_in totals.offers n ≤ lots_in totals.positions found.side row.offer.account found.symbol =
-    omega (
-      arith,
-      has,
-      own_place found.side row.offer.account found.symbol row.today,
-      today-is (standing_of history) n row there.at,
-      ap (λ (rs : List Row). today_in rs n) b.offers,
-      b.positions found.side row.offer.account found.symbol,
-    ) in
-    subst (λ (r : Terms). today_in totals.offers n ≤ lots_in totals.positions r.side offer.account r.symbol) (sym is.1)
-    (subst (λ (at : Offer). today_in totals.offers n ≤ lots_in totals.positions found.side at.account found.symbol) (sym is.0) fits)
+-- what is reversed was used, and its lots are there
+pub reversal-fits : (reference : Tables) (totals : Totals) (command : Command) (it : Moved) → MayTakeIn reference totals command → TakesBack reference totals command it
+    → All (λ key. it.lots ≤ used_in totals.limits it.offer.group key) (unwrap_or it.path []) × (it.lots ≤ lots_in totals.positions it.report.side it.offer.account it.report.symbol)
+reversal-fits reference totals command it may is = (subst (λ (path : List LimitKey). All (λ key. it.lots ≤ used_in totals.limits it.offer.group key) path) (sym is.path) used, there)
+  where
+    asked : MayTakeIn reference totals (Reverse is.firm it.number)
+    asked = subst (MayTakeIn reference totals) is.is may
+
+    history : List Entry
+    history = asked.history
+
+    f : (row : Row) × (report : Report) × MayBeReversed history it.number row report
+    f = reversible reference history is.firm it.number (in_order history asked.kept.orderly) asked.accepted
+
+    row : Row
+    row = f.0
+
+    found : Report
+    found = f.1
+
+    same : (it.offer ≡ row.offer) × (it.report ≡ terms_of found)
+    same = seen-is reference history totals it.number it.offer it.report found row asked.kept.beside is.seen f.2.there
+
+    today : it.lots ≡ row.today
+    today = is.all ∙ ap (λ (rs : List Row). today_in rs it.number) asked.kept.beside.offers ∙ today-is (standing_of history) it.number row f.2.there.at
+
+    used : All (λ key. it.lots ≤ used_in totals.limits it.offer.group key) (path_after reference it.offer)
+    used k d within =
+        let key = slice_index_or (path_after reference it.offer) k d in
+        let own : is_under reference it.offer.group key (record row { offer = it.offer }) ≡ true = rw (same_group-own it.offer.group, key_at (path_after reference it.offer) k d within) refl in
+        let under : is_under reference it.offer.group key row ≡ true = ap (λ (o : Offer). same_group it.offer.group o.group && has_key (path_after reference o) key) (sym same.0) ∙ own in
+        omega (arith, today-le-use_in reference (standing_of history) it.number row f.2.there.at it.offer.group key under, today, asked.kept.beside.uses it.offer.group key)
+
+    there : it.lots ≤ lots_in totals.positions it.report.side it.offer.account it.report.symbol
+    there =
+        let o = asked.kept.orderly in
+        let has =
+        held_in-moved (reports_of history) (standing_of history) it.number row f.2.there.at found.side row.offer.account found.symbol found f.2.there.behind o.covered o.within
+        (today-le-moved history it.number row o.balanced f.2.there.at) in
+        let fits : it.lots ≤ lots_in totals.positions found.side row.offer.account found.symbol =
+        omega (arith, has, own_place found.side row.offer.account found.symbol row.today, today, asked.kept.beside.positions found.side row.offer.account found.symbol) in
+        subst (λ (r : Terms). it.lots ≤ lots_in totals.positions r.side it.offer.account r.symbol) (sym same.1)
+        (subst (λ (at : Offer). it.lots ≤ lots_in totals.positions found.side at.account found.symbol) (sym same.0) fits)
 
 -- a reversal is taken in
-pub reversal-taken : (reference : Tables) (old new : Totals) (n : ℕ) (offer : Offer) (report : Terms) → IsSeen old n offer report → SameEntries old new
-    → new.offers ≡ changed old.offers n reversed → UsesLess reference old.limits new.limits offer (today_in old.offers n)
-    → HoldsMoved old.positions new.positions report offer.account report.account (today_in old.offers n) → (firm : FirmId) → TakesIn reference old new (Reverse firm n)
-reversal-taken reference old new n offer report seen same offers uses holds firm history kept accepted =
-    let f = reversible reference history firm n (in_order history kept.orderly) accepted in
+pub reversal-taken : (reference : Tables) (old new : Totals) (command : Command) (it : Moved) → TakesBack reference old command it → SameEntries old new → new.offers ≡ changed old.offers it.number reversed
+    → FreesUnder (unwrap_or it.path []) old.limits new.limits it.offer.group it.lots → HoldsMoved old.positions new.positions it.report it.offer.account it.report.account it.lots → TakesIn reference old new command
+reversal-taken reference old new command it is same offers uses holds =
+    subst (TakesIn reference old new) (sym is.is)
+    (λ history kept accepted.
+    let f = reversible reference history is.firm it.number (in_order history kept.orderly) accepted in
     let row = f.0 in
     let found = f.1 in
     let there = f.2.there in
-    let is = seen-is reference history old n offer report found row kept.beside seen there in
-    let own : today_in (standing_of history) n ≡ row.today = today-is (standing_of history) n row there.at in
-    let today : today_in old.offers n ≡ row.today = ap (λ (rs : List Row). today_in rs n) kept.beside.offers ∙ own in
-    subst (λ (lots : ℕ). IsKept reference (history ++ taken_back firm n lots ∷ []) new) (sym own)
-    (kept-taken_back reference history old new firm n row found kept there same offers
-    (subst (λ (lots : ℕ). UsesLess reference old.limits new.limits row.offer lots) today (subst (λ (o : Offer). UsesLess reference old.limits new.limits o (today_in old.offers n)) is.0 uses))
+    let seen = seen-is reference history old it.number it.offer it.report found row kept.beside is.seen there in
+    let own : today_in (standing_of history) it.number ≡ row.today = today-is (standing_of history) it.number row there.at in
+    let today : it.lots ≡ row.today = is.all ∙ ap (λ (rs : List Row). today_in rs it.number) kept.beside.offers ∙ own in
+    let under = subst (λ (keys : List LimitKey). FreesUnder keys old.limits new.limits it.offer.group it.lots) is.path uses in
+    subst (λ (lots : ℕ). IsKept reference (history ++ taken_back is.firm it.number lots ∷ []) new) (sym own)
+    (kept-taken_back reference history old new is.firm it.number row found kept there same offers
+    (subst (λ (lots : ℕ). UsesLess reference old.limits new.limits row.offer lots) today (subst (λ (o : Offer). UsesLess reference old.limits new.limits o it.lots) seen.0 under))
     (subst (λ (lots : ℕ). HoldsMoved old.positions new.positions (terms_of found) row.offer.account found.account lots) today
-    (subst (λ (r : Terms). HoldsMoved old.positions new.positions r row.offer.account r.account (today_in old.offers n)) is.1
-    (subst (λ (o : Offer). HoldsMoved old.positions new.positions report o.account report.account (today_in old.offers n)) is.0 holds))))
+    (subst (λ (r : Terms). HoldsMoved old.positions new.positions r row.offer.account r.account it.lots) seen.1
+    (subst (λ (o : Offer). HoldsMoved old.positions new.positions it.report o.account it.report.account it.lots) seen.0 holds)))))

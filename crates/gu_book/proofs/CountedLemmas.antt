@@ -1,5 +1,5 @@
 -- Versions as they are kept: what one entry adds to the counts.
-use Rattle.std.proofs.Common.{◌≡◌, ℕ, suc, zero, ◌+◌, ◌<◌, ◌≤◌, ◌^◌, Bool, true, false, cond, List, [], ◌∷◌, ◌++◌, length, Option, Some, None, unwrap_or, inl, inr, refl, sym, ap, ◌∙◌, arith, subst, length-append, if◌then◌else◌}
+use Rattle.std.proofs.Common.{◌≡◌, ℕ, suc, zero, ◌+◌, ◌<◌, ◌≤◌, ◌^◌, Bool, true, false, cond, List, [], ◌∷◌, ◌++◌, length, Option, Some, None, unwrap_or, inl, inr, refl, sym, ap, ◌∙◌, arith, length-append, if◌then◌else◌}
 use Rattle.std.specs.Prelude.{slice_get}
 use Rattle.std.specs.Option.{option_map, option_map_or}
 use Rattle.std.proofs.lemmas.Bool.{cases_Bool}
@@ -14,27 +14,21 @@ use Rattle.gu_terms.specs.declared.command.Command.{Command}
 use Rattle.gu_terms.specs.declared.command.Command.TheVariants.{OpenDay, SetLimit, ReportSide, GiveUp, Claim, Refuse, Reverse}
 use Rattle.gu_terms.specs.declared.entry.Entry.{Entry}
 use Rattle.gu_terms.specs.declared.entry.Entry.TheVariants.{Asked}
-use Rattle.gu_terms.specs.declared.firm.FirmId.{FirmId}
 use Rattle.gu_terms.specs.declared.group.Group.{Group}
-use Rattle.gu_terms.specs.declared.id.Id.{Id}
-use Rattle.gu_terms.specs.declared.lines.Line.{Line}
 use Rattle.gu_terms.specs.declared.offer.Offer.{Offer}
 use Rattle.gu_terms.specs.declared.refusal.Refusal.{Refusal}
-use Rattle.gu_terms.specs.declared.reply.Done.{Done}
-use Rattle.gu_terms.specs.declared.reply.Done.TheVariants.{Offered, Opened}
-use Rattle.gu_terms.specs.declared.reply.Reply.{Reply}
 use Rattle.gu_terms.specs.declared.reply.Reply.TheVariants.{Accepted, Denied}
-use Rattle.gu_terms.specs.declared.report.Report.{Report}
 use Rattle.gu_ref.specs.Tables.{Tables}
-use Rattle.gu_offers.specs.Rows.{Row}
-use Rattle.gu_rules.specs.Answer.{answer, done_of, given_up, state_of, tests_of}
+use Rattle.gu_offers.specs.Rows.{Row, row_at}
 use Rattle.gu_rules.specs.Offers.{offers_of, standing_from, standing_of}
 use Rattle.gu_rules.specs.Versions.{is_of_group, touches}
-use Rattle.gu_rules.proofs.AcceptedCommands.{accepted-done}
 use Rattle.gu_rules.proofs.VersionLemmas.{version-le, version_of-push}
-use Rattle.gu_book.specs.Counted.{AreVersions, IsCountAt, group_after, group_named, is_touched, own_in, touched_by, touched_in, version_in}
+use Rattle.gu_book.specs.Counted.{AreVersions, IsCountAt, is_touched, own_in, version_in}
+use Rattle.gu_book.specs.Deeds.{IsDeedOf, done_by, touched_by}
+use Rattle.gu_book.specs.declared.deed.Deed.{Deed}
+use Rattle.gu_book.specs.declared.deed.Deed.TheVariants as deed
+use Rattle.gu_book.specs.declared.totals.Totals.{Totals}
 use Rattle.gu_book.specs.declared.versions.Touched.{Touched}
-use Rattle.gu_book.specs.declared.versions.Touched.TheVariants.{Nothing, Only}
 use Rattle.gu_book.specs.declared.versions.Versions.{Versions}
 
 -- a group that is new was touched by none
@@ -97,40 +91,47 @@ version_in-touched old place group n at found unique other =
 -- ---- which groups an entry touches
 
 -- the offer of a number is of the group of its row
-group_after-is : (history : List Entry) (group : Group) (n : ℕ) → is_touched (group_after (standing_of history) n) group ≡ is_of_group history group n
-group_after-is history group zero = refl
-group_after-is history group (suc place) = go 1 (offers_of history) place
+of-row : (history : List Entry) (group : Group) (n : ℕ)
+    → option_map_or (λ (at : Group). same_group at group) (option_map (λ (row : Row). row.offer.group) (row_at (standing_of history) n)) false ≡ is_of_group history group n
+of-row history group zero = refl
+of-row history group (suc place) = go 1 (offers_of history) place
   where
     go : (m : ℕ) (offers : List Offer) (at : ℕ)
-        → is_touched (option_map_or (λ (row : Row). Only row.offer.group) (slice_get (standing_from history m offers) at) Nothing) group
+        → option_map_or (λ (at : Group). same_group at group) (option_map (λ (row : Row). row.offer.group) (slice_get (standing_from history m offers) at)) false
         ≡ option_map_or (λ (o : Offer). same_group o.group group) (slice_get offers at) false
     go m [] at = refl
     go m (offer ∷ offers) zero = refl
     go m (offer ∷ offers) (suc at) = go (m + 1) offers at
 
--- what a give-up does, where a report is found or not
-abbrev offers_made : ℕ → ℕ → Option (Report × Group) → Done
-offers_made first count given = option_map_or (λ (g : Report × Group). Offered g.1 first count) given Opened
+-- so an offer of a known group is of it
+of-group : (history : List Entry) (totals : Totals) (group at : Group) (n : ℕ) → totals.offers ≡ standing_of history → Some at ≡ option_map (λ (row : Row). row.offer.group) (row_at totals.offers n)
+    → same_group at group ≡ is_of_group history group n
+of-group history totals group at n offers here =
+    ap (λ (o : Option Group). option_map_or (λ (at : Group). same_group at group) o false) (here ∙ ap (λ (rs : List Row). option_map (λ (row : Row). row.offer.group) (row_at rs n)) offers)
+    ∙ of-row history group n
 
--- a give-up touches the group that its reply names
-give_up-touches : (history : List Entry) (firm : FirmId) (id report : Id) (lines : List Line) (group : Group) (first count : ℕ) (given : Option (Report × Group))
-    → is_touched (group_named (offers_made first count given)) group ≡ touches history group (Asked (GiveUp firm id report lines) (Accepted (offers_made first count given)))
-give_up-touches history firm id report lines group first count None = refl
-give_up-touches history firm id report lines group first count (Some g) = refl
+-- and so is one that is known
+of-offer : (history : List Entry) (totals : Totals) (group : Group) (offer : Offer) (n : ℕ) → totals.offers ≡ standing_of history → Some offer ≡ option_map (λ (row : Row). row.offer) (row_at totals.offers n)
+    → same_group offer.group group ≡ is_of_group history group n
+of-offer history totals group offer n offers shown = of-group history totals group offer.group n offers (of (row_at totals.offers n) shown)
+  where
+    of : (found : Option Row) → Some offer ≡ option_map (λ (row : Row). row.offer) found → Some offer.group ≡ option_map (λ (row : Row). row.offer.group) found
+    of None e = cc
+    of (Some row) e = ap (λ (o : Option Offer). option_map (λ (o : Offer). o.group) o) e
 
-accepted-touches : (reference : Tables) (history : List Entry) (command : Command) (group : Group)
-    → is_touched (touched_by (standing_of history) command (done_of reference (state_of reference history) command)) group
-    ≡ touches history group (Asked command (Accepted (done_of reference (state_of reference history) command)))
-accepted-touches reference history (OpenDay day) group = refl
-accepted-touches reference history (SetLimit at key lots) group = refl
-accepted-touches reference history (ReportSide firm id match_id symbol lots price day side account) group = refl
-accepted-touches reference history (GiveUp firm id report lines) group =
-    give_up-touches history firm id report lines group (length (standing_of history) + 1) (length lines) (given_up reference (state_of reference history) firm report)
-accepted-touches reference history (Claim firm offer) group = group_after-is history group offer
-accepted-touches reference history (Refuse firm offer why) group = group_after-is history group offer
-accepted-touches reference history (Reverse firm offer) group = group_after-is history group offer
+-- a deed touches the groups that its entry touches
+pub accepted-touches : (reference : Tables) (history : List Entry) (totals : Totals) (command : Command) (deed : Deed) (group : Group) → totals.offers ≡ standing_of history → IsDeedOf reference totals command deed
+    → is_touched (touched_by deed) group ≡ touches history group (Asked command (Accepted (done_by deed)))
+accepted-touches reference history totals command (deed.Open day) group offers is = rw is refl
+accepted-touches reference history totals command (deed.SetLimit at key lots) group offers is = rw is refl
+accepted-touches reference history totals command (deed.Report report waiting) group offers is = rw is.is refl
+accepted-touches reference history totals command (deed.GiveUp firm id report lines at first) group offers is = rw is.is refl
+accepted-touches reference history totals command (deed.Claim claimed places) group offers is = rw is.is (of-offer history totals group claimed.offer claimed.number offers is.seen.shown)
+accepted-touches reference history totals command (deed.Refuse number at lots) group offers is = rw is.is (of-group history totals group at number offers is.group_is)
+accepted-touches reference history totals command (deed.Reverse reversed) group offers is = rw is.is (of-offer history totals group reversed.offer reversed.number offers is.seen.shown)
 
-denied-touches : (history : List Entry) (command : Command) (why : Refusal) (group : Group) → false ≡ touches history group (Asked command (Denied why))
+-- and a refused command touches none
+pub denied-touches : (history : List Entry) (command : Command) (why : Refusal) (group : Group) → false ≡ touches history group (Asked command (Denied why))
 denied-touches history (OpenDay day) why group = refl
 denied-touches history (SetLimit at key lots) why group = refl
 denied-touches history (ReportSide firm id match_id symbol lots price day side account) why group = refl
@@ -138,19 +139,6 @@ denied-touches history (GiveUp firm id report lines) why group = refl
 denied-touches history (Claim firm offer) why group = refl
 denied-touches history (Refuse firm offer reason) why group = refl
 denied-touches history (Reverse firm offer) why group = refl
-
--- a command and its answer touch these groups
-pub touched-is : (reference : Tables) (history : List Entry) (rows : List Row) (command : Command) (reply : Reply) → rows ≡ standing_of history → reply ≡ answer reference history command
-    → (group : Group) → is_touched (touched_in rows command reply) group ≡ touches history group (Asked command reply)
-touched-is reference history rows command reply offers is group = ap (λ (rs : List Row). is_touched (touched_in rs command reply) group) offers ∙ by reply is
-  where
-    by : (given : Reply) → given ≡ answer reference history command → is_touched (touched_in (standing_of history) command given) group ≡ touches history group (Asked command given)
-    by (Denied why) e = denied-touches history command why group
-    by (Accepted done) e =
-        let did = done_of reference (state_of reference history) command in
-        let same : Accepted done ≡ Accepted did = e ∙ accepted-done (tests_of reference (state_of reference history) command) did done (sym e) in
-        let one : done ≡ did = cc in
-        subst (λ (d : Done). is_touched (touched_by (standing_of history) command d) group ≡ touches history group (Asked command (Accepted d))) (sym one) (accepted-touches reference history command group)
 
 -- ---- the counts after one more entry
 

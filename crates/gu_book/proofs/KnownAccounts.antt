@@ -39,7 +39,8 @@ use Rattle.gu_book.specs.Accepted.{MayTakeIn}
 use Rattle.gu_book.specs.Beside.{IsAccounted}
 use Rattle.gu_book.specs.Effects.{IsEven, OnlyRowsOf, SameAnswers}
 use Rattle.gu_book.specs.declared.totals.Totals.{Totals}
-use Rattle.gu_book.proofs.Accepting.{IsSeen, some-terms}
+use Rattle.gu_book.specs.Deeds.{IsSeen}
+use Rattle.gu_book.proofs.Accepting.{some-terms}
 
 -- rows of such accounts alone are made
 pub rows-known : (reference : Tables) (old new : List PositionRow) (accounts : List AccountId) → ((account : AccountId) (symbol : Symbol) → has_row old account symbol ≡ true → is_there reference account)

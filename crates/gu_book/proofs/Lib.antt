@@ -7,6 +7,7 @@ pub mod CountedLemmas
 pub mod Counterparts
 pub mod CurrentLemmas
 pub mod CurrentViews
+pub mod DeedLemmas
 pub mod EvenRows
 pub mod Interest
 pub mod KeptDays

@@ -43,7 +43,8 @@ use Rattle.gu_book.specs.Beside.{IsAccounted, IsKept}
 use Rattle.gu_book.specs.Effects.{HoldsMoved, KeepsMade, OnlyRowsOf, SameAnswers, SameEntries, UsesMore}
 use Rattle.gu_book.specs.Moving.{HasRows, MayMove, MovesAll, MovesOne, ShowsPath, given_by, lots_used}
 use Rattle.gu_book.specs.declared.totals.Totals.{Totals}
-use Rattle.gu_book.proofs.Accepting.{IsSeen, key_at, lots-taken, seen-is, some-terms, taken-there}
+use Rattle.gu_book.specs.Deeds.{IsSeen}
+use Rattle.gu_book.proofs.Accepting.{key_at, lots-taken, seen-is, some-terms, taken-there}
 use Rattle.gu_book.proofs.KnownAccounts.{known-moved, rows-known, seen-row}
 
 -- ---- what is found

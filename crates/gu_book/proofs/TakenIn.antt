@@ -1,5 +1,5 @@
 -- What is kept beside a history takes openings, limits, reports and give-ups in.
-use Rattle.std.proofs.Common.{◌≡◌, ℕ, suc, ◌+◌, ◌-◌, ◌≤◌, ◌++◌, Bool, false, not, nat_lt, List, [], ◌∷◌, length, map, slice_get, Option, Some, None, is_none, unwrap_or, refl, sym, ap, ◌∙◌, arith, subst}
+use Rattle.std.proofs.Common.{◌≡◌, ℕ, suc, ◌+◌, ◌-◌, ◌≤◌, ◌++◌, Bool, not, nat_lt, List, [], ◌∷◌, length, map, slice_get, Option, Some, None, unwrap_or, refl, sym, ap, ◌∙◌, arith, subst}
 use Rattle.std.specs.Option.{option_and_then, option_map, option_map_or}
 use Rattle.std.proofs.lemmas.Bool.{ltb-false}
 use Rattle.gu_terms.specs.Lines.{lots_in_all}
@@ -16,10 +16,9 @@ use Rattle.gu_terms.specs.declared.lines.Line.{Line}
 use Rattle.gu_terms.specs.declared.lots.Lots.{Lots}
 use Rattle.gu_terms.specs.declared.price.Price.{Price}
 use Rattle.gu_terms.specs.declared.refusal.Refusal.{Refusal}
-use Rattle.gu_terms.specs.declared.refusal.Refusal.TheVariants.{NotMatched, TooManyLots, UnknownTrade}
+use Rattle.gu_terms.specs.declared.refusal.Refusal.TheVariants.{NotMatched, TooManyLots}
 use Rattle.gu_terms.specs.declared.reply.Done.{Done}
 use Rattle.gu_terms.specs.declared.reply.Done.TheVariants.{Offered, Opened}
-use Rattle.gu_terms.specs.declared.reply.Reply.{Reply}
 use Rattle.gu_terms.specs.declared.reply.Reply.TheVariants.{Accepted}
 use Rattle.gu_terms.specs.declared.report.Report.{Report}
 use Rattle.gu_terms.specs.declared.side.Side.{Side}
@@ -31,16 +30,16 @@ use Rattle.gu_trades.specs.declared.standing.Standing.{Standing}
 use Rattle.gu_trades.specs.Reports.{report_by, report_of, with_match}
 use Rattle.gu_offers.specs.Changes.{next_day, with_lines}
 use Rattle.gu_offers.specs.Rows.{counted_under}
-use Rattle.gu_rules.specs.Answer.{State, answer_in, done_of, given_up, group_of, lines_tests, state_of, tests_of}
+use Rattle.gu_rules.specs.Answer.{State, done_of, given_up, group_of, lines_tests, state_of, tests_of}
 use Rattle.gu_rules.specs.Offers.{standing_of}
 use Rattle.gu_rules.specs.Reports.{Fits, open_day, report_on, reports_of}
 use Rattle.gu_rules.proofs.AcceptedCommands.{fits-in, giving_up, names-are, not_not, report-is}
 use Rattle.gu_rules.proofs.Passing.{none_stands}
-use Rattle.gu_book.specs.Accepted.{MayTakeIn, TakesIn, group_answered}
+use Rattle.gu_book.specs.Accepted.{MayTakeIn, TakesIn}
 use Rattle.gu_book.specs.Beside.{IsKept, group_named_by, standing_given_up, state_in}
 use Rattle.gu_book.specs.Effects.{HoldsMore, SetsLimit, UsesNothing, made_a_trade}
 use Rattle.gu_book.specs.declared.totals.Totals.{Totals}
-use Rattle.gu_book.proofs.Accepting.{answer_is, few_offers, state_is}
+use Rattle.gu_book.proofs.Accepting.{few_offers, state_is}
 use Rattle.gu_book.proofs.KeptDays.{kept-given_up, kept-opened, kept-set}
 use Rattle.gu_book.proofs.KeptReports.{kept-reported}
 
@@ -140,28 +139,6 @@ standing-given reference totals firm own standing group is =
 -- and where none stands, none is given up
 pub standing-none : (reference : Tables) (totals : Totals) (firm : FirmId) (own : Id) → None ≡ standing_given_up reference totals firm own → given_up reference (state_in totals) firm own ≡ None
 standing-none reference totals firm own is = unpaired (standing_in totals.trades) (λ (s : Standing). group_named_by reference s.terms) (report_by totals.trades firm own) is
-
--- an accepted give-up is answered by that group
-pub given-answered : (reference : Tables) (totals : Totals) (firm : FirmId) (id own : Id) (lines : List Line) (reply : Reply) → MayTakeIn reference totals (GiveUp firm id own lines)
-    → reply ≡ answer_in reference (state_in totals) (GiveUp firm id own lines)
-    → (group : Group) × (group_answered reply ≡ Some group) × (option_map (λ (g : Report × Group). g.1) (given_up reference (state_in totals) firm own) ≡ Some group)
-given-answered reference totals firm id own lines reply may is =
-    let history = may.history in
-    let state = state_of reference history in
-    let command = GiveUp firm id own lines in
-    let done = done_of reference state command in
-    by (given_up reference state firm own) (none_stands (tests_of reference state command) done done may.accepted.accepted 3 (is_none (given_up reference state firm own)) UnknownTrade refl)
-    (ap (λ (s : State). given_up reference s firm own) (state_is reference history totals may.kept.beside))
-    (is ∙ answer_is reference history totals command may.kept.beside ∙ may.accepted.accepted)
-  where
-    first : ℕ
-    first = length (standing_of may.history) + 1
-
-    by : (found : Option (Report × Group)) → is_none found ≡ false → given_up reference (state_in totals) firm own ≡ found
-        → reply ≡ Accepted (option_map_or (λ (g : Report × Group). Offered g.1 first (length lines)) found Opened)
-        → (group : Group) × (group_answered reply ≡ Some group) × (option_map (λ (g : Report × Group). g.1) (given_up reference (state_in totals) firm own) ≡ Some group)
-    by None e at h = cc
-    by (Some g) e at h = (g.1, ap group_answered h, ap (λ (o : Option (Report × Group)). option_map (λ (g : Report × Group). g.1) o) at)
 
 -- there are numbers for the lines
 pub give_up-numbers : (reference : Tables) (totals : Totals) (firm : FirmId) (id own : Id) (lines : List Line) → length lines ≤ 16 → MayTakeIn reference totals (GiveUp firm id own lines)

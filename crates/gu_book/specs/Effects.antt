@@ -69,9 +69,13 @@ abbrev pub UsesMore : Tables → List GroupLimit → List GroupLimit → Offer �
 UsesMore reference old new offer lots = UsesUnder (path_after reference offer) old new offer.group lots
 
 -- lots are used less under them
-pub record UsesLess (reference : Tables) (old new : List GroupLimit) (offer : Offer) (lots : ℕ) : Type 0 where
+pub record FreesUnder (keys : List LimitKey) (old new : List GroupLimit) (group : Group) (lots : ℕ) : Type 0 where
   pub limits : SameLimits old new
-  pub uses : (at : Group) (on : LimitKey) → used_in new at on + lots_under offer.group (path_after reference offer) lots at on ≡ used_in old at on
+  pub uses : (at : Group) (on : LimitKey) → used_in new at on + lots_under group keys lots at on ≡ used_in old at on
+
+-- and under the keys of an offer
+abbrev pub UsesLess : Tables → List GroupLimit → List GroupLimit → Offer → ℕ → Type 0
+UsesLess reference old new offer lots = FreesUnder (path_after reference offer) old new offer.group lots
 
 -- nothing is used of any limit
 pub record UsesNothing (old new : List GroupLimit) : Type 0 where

@@ -3,8 +3,8 @@ pub mod Beside
 pub mod Commits
 pub mod Counted
 pub mod Current
+pub mod Deeds
 pub mod Effects
-pub mod Met
 pub mod Moving
 pub mod Questions
 pub mod Shown

@@ -1,6 +1,6 @@
-//! Answers to commands.
+//! What is decided of commands.
 
-ghost use Rattle.std.specs.Prelude.{◌≡◌, ◌<◌, [], nat_lt, length, unwrap_or, true, IfErr, IfOk, IfSome, OnOk, None, Some};
+ghost use Rattle.std.specs.Prelude.{◌≡◌, ◌<◌, [], nat_lt, is_some, length, unwrap_or, true, IfErr, IfOk, IfSome, OnOk, None, Some};
 ghost use Rattle.std.specs.List.{find, IsDistinct};
 ghost use Rattle.gu_terms.specs.LimitKeys.{key_eq};
 ghost use Rattle.std.specs.Option.{option_map};
@@ -8,26 +8,26 @@ ghost use Rattle.gu_limits.specs.Limits.{room_in};
 ghost use Rattle.gu_ref.specs.Reference.{partner_between};
 ghost use Rattle.gu_ref.specs.Tables.{Tables};
 ghost use Rattle.gu_terms.specs.declared.firm.FirmId.{FirmId as FirmIdOf};
-ghost use Rattle.gu_trades.specs.Counterparts.{counterpart_of};
+ghost use Rattle.gu_terms.specs.declared.reply.Done.TheVariants.{LimitSet, Opened, Reported};
+ghost use Rattle.gu_terms.specs.declared.reply.Reply.TheVariants.{Accepted, Denied};
 ghost use Rattle.gu_trades.specs.Matching.{is_waiting};
-ghost use Rattle.gu_trades.specs.Reports.{with_match};
-ghost use Rattle.gu_trades.specs.Terms.{report_with};
-ghost use Rattle.gu_rules.specs.Answer.{answer_in, claim_tests, first_standing, give_up_tests, has_unknown_account, is_another_firms, is_known_key, is_later, is_other_day, lacks_agreement, limit_tests, offer_tests, opening_tests, refusal_in, refuse_tests, report_tests, reverse_tests, room_tests, tests_of_lines};
-ghost use Rattle.gu_rules.specs.Legal.{accepts};
+ghost use Rattle.gu_trades.specs.Reports.{report_by, with_match};
+ghost use Rattle.gu_trades.specs.Terms.{terms_of};
+ghost use Rattle.gu_rules.specs.Answer.{answer_in, first_standing, has_unknown_account, is_another_firms, is_known_key, is_later, is_other_day, lacks_agreement, limit_tests, offer_tests, opening_tests, refusal_in, report_tests, tests_of_lines};
 ghost use Rattle.gu_rules.specs.Limits.{path_after};
 ghost use Rattle.gu_offers.specs.Rows.{Row, left_in, row_at, today_in};
 ghost use Rattle.gu_book.specs.Beside.{answer_to_match, group_named_by, some_lots, standing_given_up, state_in, waiting_of};
-ghost use Rattle.gu_book.specs.Met.{IsMet};
+ghost use Rattle.gu_book.specs.Deeds.{HaveReports, IsDeedOf, reply_by};
 
-use crate::met::{Met, MetOffer};
+use crate::deed::{Deed, Moved};
 use crate::totals::Totals;
 use gu_limits::{LimitTable, Places, path_by};
 use gu_ref::{Partner, Reference};
 use gu_terms::{
-    AllocReject, Command, Day, Done, FirmId, Group, Id, LimitKey, Line, Lines, Lots, MOST_LIMIT,
-    MOST_OPEN_OFFERS, Offer, OfferNo, Path, Refusal, Reply,
+    AllocReject, Command, Day, FirmId, Group, Id, LimitKey, Line, Lines, Lots, MOST_LIMIT,
+    MOST_OPEN_OFFERS, Offer, OfferNo, Path, Refusal, Report,
 };
-use gu_trades::{Counterpart, Standing, Terms, Trades};
+use gu_trades::{Counterpart, Standing, Terms};
 
 /// Whether a day comes after the open one.
 fn is_later(today: Option<Day>, day: Day) -> bool
@@ -61,83 +61,85 @@ fn is_known_key(reference: &Reference, key: LimitKey) -> bool
     }
 }
 
-/// The terms of the report that waits, where a report meets one.
-fn waiting_of(counterpart: &Counterpart) -> Option<Terms>
-    ensures { result ≡ waiting_of counterpart.now }
+/// The terms of the report that waits for one that meets this, where one does; or why that one may not be made.
+fn waiting_of(counterpart: &Counterpart) -> Result<Option<Terms>, Refusal>
+    ensures waiting { IfOk result (λ waiting. waiting ≡ waiting_of counterpart.now) }
+    ensures made { IfOk result (λ waiting. answer_to_match counterpart.now ≡ Accepted (Reported (is_some waiting))) }
+    ensures refused { IfErr result (λ why. answer_to_match counterpart.now ≡ Denied why) }
 {
     match counterpart {
-        Counterpart::Waiting(waiting) => Some(*waiting),
-        Counterpart::Nobody | Counterpart::Conflicting => None,
+        Counterpart::Nobody => Ok(None),
+        Counterpart::Waiting(waiting) => Ok(Some(*waiting)),
+        Counterpart::Conflicting => Err(Refusal::MatchConflict),
     }
 }
 
-/// The answer to a report that is the first of its firm with its id, by what it meets under its match id.
-fn answer_to_match(counterpart: &Counterpart) -> Reply
-    ensures { result ≡ answer_to_match counterpart.now }
-{
-    match counterpart {
-        Counterpart::Nobody => Reply::Accepted(Done::Reported { matched: false }),
-        Counterpart::Waiting(_) => Reply::Accepted(Done::Reported { matched: true }),
-        Counterpart::Conflicting => Reply::Denied(Refusal::MatchConflict),
-    }
-}
-
-/// The answer to a report of these terms, whose day is the open one.
-fn answer_to_report(
+/// Decides a report of the open day, whose firm names this day or none.
+fn decide_report<'a>(
     reference: &Reference,
-    trades: &Trades,
-    firm: &FirmId,
-    id: &Id,
-    match_id: &Id,
-    terms: &Terms,
+    totals: &Totals,
+    report: &Report,
     day: Option<Day>,
-    met: &mut Met,
-) -> Reply
-    ensures reply { result ≡ first_standing (report_tests reference.now trades.now (report_with firm.now id.now match_id.now terms.now) day)
-        (Done.Reported (is_waiting (with_match match_id.now trades.now))) }
-    ensures met { accepts result ≡ true → met.new.waiting ≡ waiting_of (counterpart_of (with_match match_id.now trades.now) terms.now) }
+) -> Result<Deed<'a>, Refusal>
+    requires { totals.now.today ≡ Some report.now.day }
+    ensures reply { reply_by result ≡ first_standing (report_tests reference.now totals.now.trades report.now day)
+        (Reported (is_waiting (with_match report.now.match_id totals.now.trades))) }
+    ensures deed { IfOk result (IsDeedOf reference.now totals.now (Command.ReportSide report.now.firm report.now.id report.now.match_id
+        report.now.symbol report.now.lots report.now.price day report.now.side report.now.account)) }
 {
-    if is_other_day(terms.day, day) {
-        return Reply::Denied(Refusal::WrongDay);
+    if is_other_day(report.day, day) {
+        return Err(Refusal::WrongDay);
     }
-    if !reference.is_instrument(terms.symbol) {
-        return Reply::Denied(Refusal::UnknownInstrument);
+    if !reference.is_instrument(report.symbol) {
+        return Err(Refusal::UnknownInstrument);
     }
-    let Some(row) = reference.account(terms.account) else {
-        return Reply::Denied(Refusal::UnknownAccount);
+    let Some(row) = reference.account(report.account) else {
+        return Err(Refusal::UnknownAccount);
     };
-    if row.firm != *firm {
-        return Reply::Denied(Refusal::NotYours);
+    if row.firm != report.firm {
+        return Err(Refusal::NotYours);
     }
-    if trades.has(firm, id) {
-        return Reply::Denied(Refusal::DuplicateId);
+    if totals.trades.has(&report.firm, &report.id) {
+        return Err(Refusal::DuplicateId);
     }
-    let counterpart = trades.counterpart(match_id, terms);
-    met.waiting = waiting_of(&counterpart);
-    answer_to_match(&counterpart)
+    let counterpart = totals
+        .trades
+        .counterpart(&report.match_id, &Terms::of(report));
+    let waiting = waiting_of(&counterpart)?;
+    Ok(Deed::Report {
+        report: *report,
+        waiting,
+    })
 }
 
-/// The answer to a limit.
-fn answer_to_limit(reference: &Reference, group: Group, key: LimitKey, lots: u64) -> Reply
-    ensures { result ≡ first_standing (limit_tests reference.now group key lots) Done.LimitSet }
+/// Decides a limit.
+fn decide_limit<'a>(
+    reference: &Reference,
+    group: Group,
+    key: LimitKey,
+    lots: u64,
+) -> Result<Deed<'a>, Refusal>
+    ensures reply { reply_by result ≡ first_standing (limit_tests reference.now group key lots) LimitSet }
+    ensures deed { IfOk result (λ deed. deed ≡ Deed.SetLimit group key lots) }
 {
     if !(reference.group(group) && is_known_key(reference, key)) {
-        return Reply::Denied(Refusal::UnknownKey);
+        return Err(Refusal::UnknownKey);
     }
     if lots > MOST_LIMIT {
-        return Reply::Denied(Refusal::TooHigh);
+        return Err(Refusal::TooHigh);
     }
-    Reply::Accepted(Done::LimitSet)
+    Ok(Deed::SetLimit { group, key, lots })
 }
 
-/// The answer to an opening.
-fn answer_to_opening(today: Option<Day>, day: Day) -> Reply
-    ensures { result ≡ first_standing (opening_tests today day) Done.Opened }
+/// Decides an opening.
+fn decide_opening<'a>(today: Option<Day>, day: Day) -> Result<Deed<'a>, Refusal>
+    ensures reply { reply_by result ≡ first_standing (opening_tests today day) Opened }
+    ensures deed { IfOk result (λ deed. deed ≡ Deed.Open day) }
 {
     if is_later(today, day) {
-        Reply::Accepted(Done::Opened)
+        Ok(Deed::Open { day })
     } else {
-        Reply::Denied(Refusal::WrongDay)
+        Err(Refusal::WrongDay)
     }
 }
 
@@ -226,63 +228,46 @@ fn refusal_of_lines(
     None
 }
 
-/// The answer to a give-up.
-fn answer_to_give_up(
+/// Decides a give-up.
+fn decide_give_up<'a>(
     reference: &Reference,
     totals: &Totals,
     firm: &FirmId,
     id: &Id,
     report: &Id,
-    lines: &Lines,
-) -> Reply
+    lines: &'a Lines,
+) -> Result<Deed<'a>, Refusal>
     requires { length totals.now.offers < 16000000 }
-    ensures { result ≡ answer_in reference.now (state_in totals.now) (Command.GiveUp firm.now id.now report.now lines.now) }
+    ensures reply { reply_by result ≡ answer_in reference.now (state_in totals.now) (Command.GiveUp firm.now id.now report.now lines.now) }
+    ensures deed { IfOk result (IsDeedOf reference.now totals.now (Command.GiveUp firm.now id.now report.now lines.now)) }
 {
     if totals.today.is_none() {
-        return Reply::Denied(Refusal::NoDay);
+        return Err(Refusal::NoDay);
     }
     let lacks = lacks_agreement(reference, firm, lines.as_slice());
     if has_unknown_account_without(reference, lines.as_slice(), lacks) {
-        return Reply::Denied(Refusal::UnknownAccount);
+        return Err(Refusal::UnknownAccount);
     }
     if totals.has_give_up(firm, id) {
-        return Reply::Denied(Refusal::DuplicateId);
+        return Err(Refusal::DuplicateId);
     }
     let Some((standing, group)) = given_up(reference, totals, firm, report) else {
-        return Reply::Denied(Refusal::UnknownTrade);
+        return Err(Refusal::UnknownTrade);
     };
     if let Some(refusal) = refusal_of_lines(totals, firm, report, &standing, &group, lines, lacks) {
-        return Reply::Denied(refusal);
+        return Err(refusal);
     }
     let Some(first) = OfferNo::new(totals.offers.count() as u64 + 1) else {
         unreachable!();
     };
-    Reply::Accepted(Done::Offered {
+    Ok(Deed::GiveUp {
+        firm: *firm,
+        id: *id,
+        report: *report,
+        lines,
         group,
         first,
-        count: lines.as_slice().len() as u64,
     })
-}
-
-/// Why a firm may say nothing to an offer, if it may not.
-fn refusal_of_firm(
-    reference: &Reference,
-    totals: &Totals,
-    firm: FirmId,
-    number: OfferNo,
-) -> Option<Refusal>
-    ensures { result ≡ refusal_in (offer_tests reference.now (state_in totals.now) firm number) }
-{
-    if totals.today.is_none() {
-        return Some(Refusal::NoDay);
-    }
-    let Some(offer) = totals.offers.get(number) else {
-        return Some(Refusal::UnknownOffer);
-    };
-    match reference.account(offer.account) {
-        Some(row) if row.firm != firm => Some(Refusal::NotYours),
-        _ => None,
-    }
 }
 
 /// Whether a firm isn't the one that carries an offer's account, where the agreement by which it was made is known, or that there is none.
@@ -316,15 +301,6 @@ fn path_with(reference: &Reference, offer: &Offer, partner: &Option<Partner>) ->
         Some(partner) => Some(path_by(reference, &offer.firm, &offer.account, partner)),
         None => None,
     }
-}
-
-/// The path of the agreement by which an offer was made.
-pub fn path_of_offer(reference: &Reference, offer: &Offer) -> Option<Path>
-    ensures keys { unwrap_or result [] ≡ path_after reference.now offer.now }
-    ensures once { IfSome result (IsDistinct key_eq) }
-{
-    let partner = reference.partner(offer.firm, offer.account);
-    path_with(reference, offer, &partner)
 }
 
 /// The first key of a path under which there is less room than these lots. The places of the limits that are read are noted.
@@ -383,8 +359,8 @@ fn lots_moved_today(totals: &Totals, number: OfferNo) -> Option<Lots>
     Lots::new(totals.offers.moved_today(number))
 }
 
-/// The offer that a firm claims, and the agreement by which it was made, where there is one; or why the firm may say nothing to it.
-fn claimed_by(
+/// The offer to which a firm answers, and the agreement by which it was made, where there is one; or why the firm may say nothing to it.
+fn offer_to(
     reference: &Reference,
     totals: &Totals,
     firm: FirmId,
@@ -408,83 +384,111 @@ fn claimed_by(
     Ok((offer, partner))
 }
 
-/// The answer to a claim.
-fn answer_to_claim(
+/// The terms of the report that an offer gives up.
+fn terms_given_up(totals: &Totals, offer: &Offer) -> Terms
+    requires { is_some (report_by totals.now.trades offer.now.firm offer.now.report) ≡ true }
+    ensures { Some result ≡ option_map terms_of (report_by totals.now.trades offer.now.firm offer.now.report) }
+{
+    let Some(report) = totals.trades.terms(&offer.firm, &offer.report) else {
+        unreachable!();
+    };
+    report
+}
+
+/// Decides a claim.
+fn decide_claim<'a>(
     reference: &Reference,
     totals: &Totals,
     firm: FirmId,
     number: OfferNo,
-    met: &mut Met,
-) -> Reply
-    ensures reply { result ≡ answer_in reference.now (state_in totals.now) (Command.Claim firm number) }
-    ensures met { accepts result ≡ true → IsMet reference.now totals.now (Command.Claim firm number) met.new }
+) -> Result<Deed<'a>, Refusal>
+    requires { HaveReports totals.now }
+    ensures reply { reply_by result ≡ answer_in reference.now (state_in totals.now) (Command.Claim firm number) }
+    ensures deed { IfOk result (IsDeedOf reference.now totals.now (Command.Claim firm number)) }
 {
-    let (offer, partner) = match claimed_by(reference, totals, firm, number) {
-        Ok(claimed) => claimed,
-        Err(refusal) => return Reply::Denied(refusal),
-    };
+    let (offer, partner) = offer_to(reference, totals, firm, number)?;
     let Some(lots) = lots_left(totals, number) else {
-        return Reply::Denied(Refusal::OfferClosed);
+        return Err(Refusal::OfferClosed);
     };
     let path = path_with(reference, &offer, &partner);
     let mut places = Places::none();
     if let Some(key) = short_key(&totals.limits, &offer.group, &path, lots.get(), &mut places) {
-        return Reply::Denied(Refusal::LimitReached(key));
+        return Err(Refusal::LimitReached(key));
     }
-    met.claimed = Some(MetOffer {
+    let claimed = Moved {
+        number,
         offer,
+        report: terms_given_up(totals, &offer),
         path,
-        places,
-    });
-    Reply::Accepted(Done::Claimed { lots })
+        lots,
+    };
+    Ok(Deed::Claim { claimed, places })
 }
 
-/// The answer to a refusal.
-fn answer_to_refusal(
+/// Decides a refusal.
+fn decide_refusal<'a>(
     reference: &Reference,
     totals: &Totals,
     firm: FirmId,
-    offer: OfferNo,
+    number: OfferNo,
     why: AllocReject,
-) -> Reply
-    ensures { result ≡ answer_in reference.now (state_in totals.now) (Command.Refuse firm offer why) }
+) -> Result<Deed<'a>, Refusal>
+    ensures reply { reply_by result ≡ answer_in reference.now (state_in totals.now) (Command.Refuse firm number why) }
+    ensures deed { IfOk result (IsDeedOf reference.now totals.now (Command.Refuse firm number why)) }
 {
-    if let Some(refusal) = refusal_of_firm(reference, totals, firm, offer) {
-        return Reply::Denied(refusal);
-    }
-    let Some(lots) = lots_left(totals, offer) else {
-        return Reply::Denied(Refusal::OfferClosed);
+    let (offer, _) = offer_to(reference, totals, firm, number)?;
+    let Some(lots) = lots_left(totals, number) else {
+        return Err(Refusal::OfferClosed);
     };
-    Reply::Accepted(Done::Refused { lots })
+    Ok(Deed::Refuse {
+        number,
+        group: offer.group,
+        lots,
+    })
 }
 
-/// The answer to a reversal.
-fn answer_to_reversal(reference: &Reference, totals: &Totals, firm: FirmId, offer: OfferNo) -> Reply
-    ensures { result ≡ answer_in reference.now (state_in totals.now) (Command.Reverse firm offer) }
+/// Decides a reversal.
+fn decide_reversal<'a>(
+    reference: &Reference,
+    totals: &Totals,
+    firm: FirmId,
+    number: OfferNo,
+) -> Result<Deed<'a>, Refusal>
+    requires { HaveReports totals.now }
+    ensures reply { reply_by result ≡ answer_in reference.now (state_in totals.now) (Command.Reverse firm number) }
+    ensures deed { IfOk result (IsDeedOf reference.now totals.now (Command.Reverse firm number)) }
 {
-    if let Some(refusal) = refusal_of_firm(reference, totals, firm, offer) {
-        return Reply::Denied(refusal);
+    let (offer, partner) = offer_to(reference, totals, firm, number)?;
+    if totals.offers.left(number) > 0 {
+        return Err(Refusal::OfferOpen);
     }
-    if totals.offers.left(offer) > 0 {
-        return Reply::Denied(Refusal::OfferOpen);
-    }
-    let Some(lots) = lots_moved_today(totals, offer) else {
-        return Reply::Denied(Refusal::NothingToReverse);
+    let Some(lots) = lots_moved_today(totals, number) else {
+        return Err(Refusal::NothingToReverse);
     };
-    Reply::Accepted(Done::Reversed { lots })
+    let reversed = Moved {
+        number,
+        offer,
+        report: terms_given_up(totals, &offer),
+        path: path_with(reference, &offer, &partner),
+        lots,
+    };
+    Ok(Deed::Reverse { reversed })
 }
 
-/// The answer to a command, where a history comes to this. What it met is told beside.
-pub fn answer_of(reference: &Reference, totals: &Totals, command: &Command, met: &mut Met) -> Reply
-    requires { length totals.now.offers < 16000000 }
-    ensures reply { result ≡ answer_in reference.now (state_in totals.now) command.now }
-    ensures met { accepts result ≡ true → IsMet reference.now totals.now command.now met.new }
+/// Decides a command, where a history comes to this: what it does, or why it is refused.
+pub fn decide<'a>(
+    reference: &Reference,
+    totals: &Totals,
+    command: &'a Command,
+) -> Result<Deed<'a>, Refusal>
+    requires numbers { length totals.now.offers < 16000000 }
+    requires reports { HaveReports totals.now }
+    ensures reply { reply_by result ≡ answer_in reference.now (state_in totals.now) command.now }
+    ensures deed { IfOk result (IsDeedOf reference.now totals.now command.now) }
 {
     match command {
-        Command::OpenDay { day } => answer_to_opening(totals.today, *day),
-        Command::SetLimit { group, key, lots } => {
-            answer_to_limit(reference, *group, *key, *lots)
-        }
+        Command::OpenDay { day } => decide_opening(totals.today, *day),
+        Command::SetLimit { group, key, lots } => { decide_limit(reference, *group, *key, *lots) }
         Command::ReportSide {
             firm,
             id,
@@ -497,37 +501,31 @@ pub fn answer_of(reference: &Reference, totals: &Totals, command: &Command, met:
             account,
         } => {
             let Some(today) = totals.today else {
-                return Reply::Denied(Refusal::NoDay);
+                return Err(Refusal::NoDay);
             };
-            let terms = Terms {
+            let report = Report {
+                firm: *firm,
+                id: *id,
+                match_id: *match_id,
                 symbol: *symbol,
-                account: *account,
-                side: *side,
-                day: today,
                 lots: *lots,
                 price: *price,
+                day: today,
+                side: *side,
+                account: *account,
             };
-            answer_to_report(
-                reference,
-                &totals.trades,
-                firm,
-                id,
-                match_id,
-                &terms,
-                *day,
-                met,
-            )
+            decide_report(reference, totals, &report, *day)
         }
         Command::GiveUp {
             firm,
             id,
             report,
             lines,
-        } => answer_to_give_up(reference, totals, firm, id, report, lines),
-        Command::Claim { firm, offer } => answer_to_claim(reference, totals, *firm, *offer, met),
+        } => decide_give_up(reference, totals, firm, id, report, lines),
+        Command::Claim { firm, offer } => decide_claim(reference, totals, *firm, *offer),
         Command::Refuse { firm, offer, why } => {
-            answer_to_refusal(reference, totals, *firm, *offer, *why)
+            decide_refusal(reference, totals, *firm, *offer, *why)
         }
-        Command::Reverse { firm, offer } => answer_to_reversal(reference, totals, *firm, *offer),
+        Command::Reverse { firm, offer } => decide_reversal(reference, totals, *firm, *offer),
     }
 }

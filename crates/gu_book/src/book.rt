@@ -3,7 +3,7 @@
 ghost use Rattle.std.specs.Prelude.{◌≡◌, ◌↔◌, ◌<◌, ◌≤◌, ◌+◌, ◌++◌, ◌∷◌, [], false, is_some, length, true, IfOk, IfErr, IfSome, MatchOption, OnOk, OnErr, IsErrOf};
 ghost use Rattle.gu_terms.specs.Histories.{lots_swept};
 ghost use Rattle.gu_ref.specs.Reference.{is_group};
-ghost use Rattle.gu_rules.specs.Legal.{IsLegal, MayFollow, StandsLast, accepts};
+ghost use Rattle.gu_rules.specs.Legal.{IsLegal, MayFollow, StandsLast};
 ghost use Rattle.gu_rules.specs.Answer.{answer};
 ghost use Rattle.gu_rules.specs.Limits.{limit_rows};
 ghost use Rattle.gu_rules.specs.Notices.{IsStretch, notices_of};
@@ -15,11 +15,11 @@ ghost use Rattle.gu_rules.specs.Views.{group_view};
 ghost use Rattle.gu_book.specs.Commits.{IsCurrent, Refuses, sweep_of};
 ghost use Rattle.gu_view.specs.View.{IsNested};
 
-use crate::answering::answer_of;
+use crate::answering::decide;
 use crate::current::shows_all;
 use crate::error::{AskError, CommitError, EnterError};
 use crate::limits::rows_in_order;
-use crate::met::{Met, MetRooms};
+use crate::met::MetRooms;
 use crate::positions::{is_of_firm, rows_of_account};
 use crate::sweeping::{
     asks_for_a_sweep, kept_sweep, make_ways, move_takes, receipt_and_view, sum_swept,
@@ -27,7 +27,7 @@ use crate::sweeping::{
 use crate::taking::take_in;
 use crate::telling::register_of;
 use crate::totals::Totals;
-use crate::touching::{know, touch, touched_in};
+use crate::touching::{know, touch};
 use crate::versions::{Touched, Versions};
 use crate::views::view_of;
 use gu_flow::Proposal;
@@ -35,7 +35,7 @@ use gu_notices::{FirmFilter, Log, note_recipients, notices_of, stretch_of};
 use gu_ref::Reference;
 use gu_terms::{
     AccountId, Command, Day, Entry, FirmId, Group, History, KeptSweep, LimitRow, MOST_ENTRIES,
-    Notices, PositionRows, Receipt, Reply, Seed, Stretch, Symbol,
+    Notices, PositionRows, Receipt, Refusal, Reply, Seed, Stretch, Symbol,
 };
 use gu_view::View;
 use std::alloc::{AllocError, Global};
@@ -84,13 +84,6 @@ impl Model for Book {
     ghost invariant = { λ b. IsKeptWhole b.reference b.history b.totals b.versions b.recipients.items };
 }
 
-/// Whether a reply accepts.
-fn accepts(reply: &Reply) -> bool
-    ensures { result ≡ accepts reply.now }
-{
-    matches!(reply, Reply::Accepted(_))
-}
-
 impl Book {
     /// A book without entries, for runs that serve no peers: its tables have a fixed seed.
     pub fn new(alloc: Global, reference: Reference) -> Self
@@ -113,6 +106,22 @@ impl Book {
         }
     }
 
+    /// Adds a command that is refused.
+    fn append_denied(&mut self, command: &Command, why: &Refusal) -> Result<Reply, AllocError>
+        requires room { length self.old.history < 1000000 }
+        requires answered { Reply.Denied why.now ≡ answer self.old.reference self.old.history command.now }
+        ensures entered { IfOk result (λ reply. self.new.history ≡ self.old.history ++ Entry.Asked command.now reply ∷ []) }
+        ensures reply { IfOk result (λ reply. reply ≡ answer self.old.reference self.old.history command.now) }
+        ensures stands { IfOk result (λ reply. StandsLast self.old.reference (length self.old.history + 1) (Entry.Asked command.now reply)) }
+        ensures reference { self.new.reference ≡ self.old.reference }
+        ensures refused { OnErr result (self.new.history ≡ self.old.history) }
+    {
+        self.history.push_asked(command, Reply::Denied(*why))?;
+        // Shows the prover: no match id has more than two reports.
+        self.totals.trades.rules();
+        Ok(Reply::Denied(*why))
+    }
+
     /// Adds a command with its answer, and tells the answer.
     fn append(&mut self, command: &Command) -> Result<Reply, AllocError>
         requires room { length self.old.history < 1000000 }
@@ -122,28 +131,22 @@ impl Book {
         ensures reference { self.new.reference ≡ self.old.reference }
         ensures refused { OnErr result (self.new.history ≡ self.old.history) }
     {
-        let mut met = Met::nothing();
-        let reply = answer_of(&self.reference, &self.totals, command, &mut met);
-        let count = self.history.len();
-        let touched = touched_in(&self.totals, command, &reply);
+        let deed = match decide(&self.reference, &self.totals, command) {
+            Ok(deed) => deed,
+            Err(why) => return self.append_denied(command, &why),
+        };
+        let touched = deed.touched();
         let place = know(&mut self.versions, &touched)?;
-        self.history.push_asked(command, reply)?;
-        if accepts(&reply) {
-            if let Err(refused) = take_in(
-                &mut self.totals,
-                &self.reference,
-                command,
-                &reply,
-                &met,
-            ) {
-                self.history.truncate(count);
-                return Err(refused);
-            }
+        let count = self.history.len();
+        self.history.push_asked(command, deed.reply())?;
+        if let Err(refused) = take_in(&mut self.totals, &deed) {
+            self.history.truncate(count);
+            return Err(refused);
         }
         touch(&mut self.versions, &touched, place);
         // Shows the prover: no match id has more than two reports.
         self.totals.trades.rules();
-        Ok(reply)
+        Ok(deed.reply())
     }
 
     /// Enters a command with its answer, a refusal too, and tells the answer alone.

@@ -5,6 +5,7 @@ mod answering;
 mod asking;
 mod book;
 mod current;
+mod deed;
 mod error;
 mod limits;
 mod met;

@@ -15,20 +15,19 @@ ghost use Rattle.gu_terms.specs.declared.side.Side.{Side as SideOf};
 ghost use Rattle.gu_terms.specs.declared.symbol.Symbol.{Symbol as SymbolOf};
 ghost use Rattle.gu_trades.specs.Counterparts.{counterpart_of};
 ghost use Rattle.gu_trades.specs.Reports.{has_report, report_by, with_match};
-ghost use Rattle.gu_trades.specs.Terms.{report_with};
-ghost use Rattle.gu_rules.specs.Limits.{path_after};
+ghost use Rattle.gu_trades.specs.Terms.{terms_of};
 ghost use Rattle.gu_rules.specs.Reports.{Fits};
 ghost use Rattle.gu_book.specs.Beside.{is_kept_give_up, waiting_of};
-ghost use Rattle.gu_book.specs.Effects.{HoldsMore, HoldsMoved, IsEven, KeepsMade, OnlyRowsOf, SameAnswers, SameEntries, SetsLimit, UsesLess, UsesNothing, UsesUnder, made_a_trade};
+ghost use Rattle.gu_book.specs.Effects.{HoldsMore, HoldsMoved, IsEven, KeepsMade, OnlyRowsOf, SameAnswers, SameEntries, SetsLimit, FreesUnder, UsesNothing, UsesUnder, made_a_trade};
 ghost use Rattle.gu_book.specs.Moving.{given_by};
 
-use crate::answering::path_of_offer;
-use crate::met::MetOffer;
-use gu_limits::{LimitTable, SetError};
+use crate::deed::Moved;
+use gu_limits::{LimitTable, Places, SetError};
 use gu_offers::Offers;
 use gu_positions::Positions;
-use gu_ref::Reference;
-use gu_terms::{AccountId, Day, FirmId, Group, Id, LimitKey, Lines, Offer, OfferNo, Seed, Symbol};
+use gu_terms::{
+    AccountId, Day, FirmId, Group, Id, LimitKey, Lines, Offer, OfferNo, Report, Seed, Symbol,
+};
 use gu_trades::{Terms, Trades};
 use indexmap::IndexSet;
 use std::alloc::{AllocError, Global};
@@ -135,35 +134,29 @@ impl Totals {
         }
     }
 
-    /// A firm's report is taken in. Once it makes a trade with one that waits, which is of these terms, the lots of both are held.
-    pub fn report(
-        &mut self,
-        firm: &FirmId,
-        id: &Id,
-        match_id: &Id,
-        terms: &Terms,
-        waiting: &Option<Terms>,
-    ) -> Result<(), AllocError>
-        requires fits { Fits self.old.trades (report_with firm.now id.now match_id.now terms.now) }
-        requires waiting { waiting.now ≡ waiting_of (counterpart_of (with_match match_id.now self.old.trades) terms.now) }
+    /// A report is taken in. Once it makes a trade with one that waits, which is of these terms, the lots of both are held.
+    pub fn report(&mut self, report: &Report, waiting: &Option<Terms>) -> Result<(), AllocError>
+        requires fits { Fits self.old.trades report.now }
+        requires waiting { waiting.now ≡ waiting_of (counterpart_of (with_match report.now.match_id self.old.trades) (terms_of report.now)) }
         requires room { (side : SideOf) (symbol : SymbolOf) → lots_on self.old.positions side symbol + 2000000 < 2 ^ 64 }
         ensures today { self.new.today ≡ self.old.today }
         ensures give_ups { self.new.give_ups.keys ≡ self.old.give_ups.keys }
-        ensures trades { OnOk result (self.new.trades ≡ self.old.trades ++ report_with firm.now id.now match_id.now terms.now ∷ []) }
+        ensures trades { OnOk result (self.new.trades ≡ self.old.trades ++ report.now ∷ []) }
         ensures offers { self.new.offers ≡ self.old.offers }
         ensures limits { self.new.limits ≡ self.old.limits }
         ensures positions { OnOk result (HoldsMore self.old.positions self.new.positions
-            (made_a_trade (with_match match_id.now self.old.trades) (report_with firm.now id.now match_id.now terms.now))) }
+            (made_a_trade (with_match report.now.match_id self.old.trades) report.now)) }
         ensures even { IsEven self.old.positions → IsEven self.new.positions }
         ensures rows { OnlyRowsOf self.old.positions self.new.positions
-            (terms.now.account ∷ map (λ w. w.account) (with_match match_id.now self.old.trades)) }
+            (report.now.account ∷ map (λ w. w.account) (with_match report.now.match_id self.old.trades)) }
         ensures refused { OnErr result (SameAnswers self.old self.new) }
     {
-        make_rows_of_trade(&mut self.positions, waiting, terms)?;
-        self.trades.push_terms(firm, id, match_id, terms)?;
+        let terms = Terms::of(report);
+        make_rows_of_trade(&mut self.positions, waiting, &terms)?;
+        self.trades.push(report)?;
         if let Some(waiting) = waiting {
             hold(&mut self.positions, waiting);
-            hold(&mut self.positions, terms);
+            hold(&mut self.positions, &terms);
         }
         Ok(())
     }
@@ -245,63 +238,58 @@ impl Totals {
     }
 
     /// Lots of an offer are claimed: the rows are made, and they are used under the keys of its path and moved.
-    pub fn claim(
-        &mut self,
-        number: OfferNo,
-        claimed: &MetOffer,
-        report: &Terms,
-        lots: u64,
-    ) -> Result<(), AllocError>
-        requires left { lots ≤ left_in self.old.offers number }
-        requires room { All (λ key. lots ≤ room_in self.old.limits claimed.now.offer.group key) (unwrap_or claimed.now.path []) }
+    pub fn claim(&mut self, claimed: &Moved, places: &Places) -> Result<(), AllocError>
+        requires left { claimed.now.lots ≤ left_in self.old.offers claimed.now.number }
+        requires room { All (λ key. claimed.now.lots ≤ room_in self.old.limits claimed.now.offer.group key) (unwrap_or claimed.now.path []) }
         requires once { IfSome claimed.now.path (IsDistinct key_eq) }
-        requires there { lots ≤ lots_in self.old.positions report.now.side report.now.account report.now.symbol }
+        requires there { claimed.now.lots ≤ lots_in self.old.positions claimed.now.report.side claimed.now.report.account claimed.now.report.symbol }
         ensures entries { SameEntries self.old self.new }
-        ensures offers { OnOk result (self.new.offers ≡ changed self.old.offers number (taken lots)) }
-        ensures limits { OnOk result (UsesUnder (unwrap_or claimed.now.path []) self.old.limits self.new.limits claimed.now.offer.group lots) }
+        ensures offers { OnOk result (self.new.offers ≡ changed self.old.offers claimed.now.number (taken claimed.now.lots)) }
+        ensures limits { OnOk result
+            (UsesUnder (unwrap_or claimed.now.path []) self.old.limits self.new.limits claimed.now.offer.group claimed.now.lots) }
         ensures positions { OnOk result
-            (HoldsMoved self.old.positions self.new.positions report.now report.now.account claimed.now.offer.account lots) }
+            (HoldsMoved self.old.positions self.new.positions claimed.now.report claimed.now.report.account claimed.now.offer.account claimed.now.lots) }
         ensures even { IsEven self.old.positions → IsEven self.new.positions }
-        ensures rows { OnlyRowsOf self.old.positions self.new.positions (report.now.account ∷ claimed.now.offer.account ∷ []) }
+        ensures rows { OnlyRowsOf self.old.positions self.new.positions (claimed.now.report.account ∷ claimed.now.offer.account ∷ []) }
         ensures refused { OnErr result (SameAnswers self.old self.new) }
     {
-        self.make_way(&claimed.offer, report)?;
-        charge(&mut self.limits, claimed, lots);
-        self.move_lots(number, &claimed.offer, report, lots);
+        self.make_way(&claimed.offer, &claimed.report)?;
+        charge(&mut self.limits, claimed, places);
+        self.move_lots(
+            claimed.number,
+            &claimed.offer,
+            &claimed.report,
+            claimed.lots.get(),
+        );
         Ok(())
     }
 
     /// Lots that were moved of an offer today are moved back.
-    pub fn reverse(
-        &mut self,
-        reference: &Reference,
-        number: OfferNo,
-        offer: &Offer,
-        report: &Terms,
-        lots: u64,
-    ) -> Result<(), AllocError>
-        requires closed { left_in self.old.offers number ≡ 0 }
-        requires moved { 0 < today_in self.old.offers number }
-        requires used { All (λ key. lots ≤ used_in self.old.limits offer.now.group key) (path_after reference.now offer.now) }
-        requires there { lots ≤ lots_in self.old.positions report.now.side offer.now.account report.now.symbol }
+    pub fn reverse(&mut self, returned: &Moved) -> Result<(), AllocError>
+        requires closed { left_in self.old.offers returned.now.number ≡ 0 }
+        requires moved { 0 < today_in self.old.offers returned.now.number }
+        requires used { All (λ key. returned.now.lots ≤ used_in self.old.limits returned.now.offer.group key) (unwrap_or returned.now.path []) }
+        requires once { IfSome returned.now.path (IsDistinct key_eq) }
+        requires there { returned.now.lots ≤ lots_in self.old.positions returned.now.report.side returned.now.offer.account returned.now.report.symbol }
         ensures entries { SameEntries self.old self.new }
-        ensures offers { OnOk result (self.new.offers ≡ changed self.old.offers number reversed) }
-        ensures limits { OnOk result (UsesLess reference.now self.old.limits self.new.limits offer.now lots) }
+        ensures offers { OnOk result (self.new.offers ≡ changed self.old.offers returned.now.number reversed) }
+        ensures limits { OnOk result
+            (FreesUnder (unwrap_or returned.now.path []) self.old.limits self.new.limits returned.now.offer.group returned.now.lots) }
         ensures positions { OnOk result
-            (HoldsMoved self.old.positions self.new.positions report.now offer.now.account report.now.account lots) }
+            (HoldsMoved self.old.positions self.new.positions returned.now.report returned.now.offer.account returned.now.report.account returned.now.lots) }
         ensures even { IsEven self.old.positions → IsEven self.new.positions }
-        ensures rows { OnlyRowsOf self.old.positions self.new.positions (report.now.account ∷ offer.now.account ∷ []) }
+        ensures rows { OnlyRowsOf self.old.positions self.new.positions (returned.now.report.account ∷ returned.now.offer.account ∷ []) }
         ensures refused { OnErr result (SameAnswers self.old self.new) }
     {
-        self.make_way(offer, report)?;
-        self.offers.reverse(number);
-        give_back(&mut self.limits, reference, offer, lots);
+        self.make_way(&returned.offer, &returned.report)?;
+        self.offers.reverse(returned.number);
+        give_back(&mut self.limits, returned);
         self.positions.shift(
-            offer.account,
-            report.account,
-            report.symbol,
-            report.side,
-            lots,
+            returned.offer.account,
+            returned.report.account,
+            returned.report.symbol,
+            returned.report.side,
+            returned.lots.get(),
         );
         Ok(())
     }
@@ -369,22 +357,23 @@ fn hold(positions: &mut Positions, report: &Terms)
 }
 
 /// Uses lots under the keys of an offer's path.
-fn charge(limits: &mut LimitTable, claimed: &MetOffer, lots: u64)
-    requires room { All (λ key. lots ≤ room_in limits.old claimed.now.offer.group key) (unwrap_or claimed.now.path []) }
+fn charge(limits: &mut LimitTable, claimed: &Moved, places: &Places)
+    requires room { All (λ key. claimed.now.lots ≤ room_in limits.old claimed.now.offer.group key) (unwrap_or claimed.now.path []) }
     requires once { IfSome claimed.now.path (IsDistinct key_eq) }
-    ensures { UsesUnder (unwrap_or claimed.now.path []) limits.old limits.new claimed.now.offer.group lots }
+    ensures { UsesUnder (unwrap_or claimed.now.path []) limits.old limits.new claimed.now.offer.group claimed.now.lots }
 {
     if let Some(path) = &claimed.path {
-        limits.charge_near(&claimed.offer.group, path, lots, &claimed.places);
+        limits.charge_near(&claimed.offer.group, path, claimed.lots.get(), places);
     }
 }
 
 /// Gives back lots that were used under them.
-fn give_back(limits: &mut LimitTable, reference: &Reference, offer: &Offer, lots: u64)
-    requires { All (λ key. lots ≤ used_in limits.old offer.now.group key) (path_after reference.now offer.now) }
-    ensures { UsesLess reference.now limits.old limits.new offer.now lots }
+fn give_back(limits: &mut LimitTable, returned: &Moved)
+    requires used { All (λ key. returned.now.lots ≤ used_in limits.old returned.now.offer.group key) (unwrap_or returned.now.path []) }
+    requires once { IfSome returned.now.path (IsDistinct key_eq) }
+    ensures { FreesUnder (unwrap_or returned.now.path []) limits.old limits.new returned.now.offer.group returned.now.lots }
 {
-    if let Some(path) = path_of_offer(reference, offer) {
-        limits.give_back(&offer.group, &path, lots);
+    if let Some(path) = &returned.path {
+        limits.give_back(&returned.offer.group, path, returned.lots.get());
     }
 }

@@ -3,7 +3,6 @@ use Rattle.std.specs.List.{filter_map}
 use Rattle.std.specs.Option.{option_to_list}
 use Rattle.gu_ref.specs.Tables.{Tables}
 use Rattle.gu_offers.specs.Rows.{Row}
-use Rattle.gu_view.specs.declared.view.ViewOffer.{ViewOffer}
 use Rattle.gu_rules.specs.Views.{shown_at}
 use Rattle.gu_book.proofs.CurrentLemmas.{given-next, rest-begins}
 use Rattle.gu_book.proofs.current.shows_offers.Goals as goal

@@ -1,136 +1,173 @@
-use Rattle.std.proofs.Common.{◌≡◌, ◌∙◌, ap, sym, subst, refl, None, Some, Option}
-use Rattle.std.specs.Prelude.{IfSome}
+use Rattle.std.proofs.Common.{refl, subst, sym}
 use Rattle.std.specs.Result.{OnOk}
 use Rattle.std.proofs.lemmas.Result.{on_ok_weaker}
-use Rattle.gu_terms.specs.declared.account.AccountId.{AccountId}
-use Rattle.gu_terms.specs.declared.command.Command.{Command}
-use Rattle.gu_terms.specs.declared.day.Day.{Day}
-use Rattle.gu_terms.specs.declared.lots.Lots.{Lots}
-use Rattle.gu_terms.specs.declared.price.Price.{Price}
-use Rattle.gu_terms.specs.declared.side.Side.{Side}
-use Rattle.gu_terms.specs.declared.symbol.Symbol.{Symbol}
-use Rattle.gu_trades.specs.Counterparts.{counterpart_of}
-use Rattle.gu_trades.specs.Reports.{with_match}
-use Rattle.gu_trades.specs.declared.terms.Terms.{Terms}
-use Rattle.gu_rules.specs.Answer.{answer_in}
-use Rattle.gu_book.specs.Accepted.{MayTakeIn, TakesIn}
-use Rattle.gu_book.specs.Beside.{state_in, waiting_of}
-use Rattle.gu_book.specs.Met.{IsMet, IsMetOffer}
-use Rattle.gu_book.specs.declared.met.MetOffer.{MetOffer}
-use Rattle.gu_book.proofs.Accepting.{on_ok_two, refusal-taken}
-use Rattle.gu_offers.specs.Changes.{closed}
-use Rattle.gu_book.proofs.KnownAccounts.{known-opened, known-refused, known-reported}
-use Rattle.gu_book.proofs.TakenIn.{given-answered, limit-taken, opening-taken, report-fits, report-taken}
+use Rattle.gu_offers.specs.Changes.{closed, reversed, taken}
+use Rattle.gu_book.specs.Accepted.{KeepsAccounts, MayDo, MayTakeIn, TakesDeed, TakesIn}
+use Rattle.gu_book.specs.declared.deed.Deed.{Deed}
+use Rattle.gu_book.proofs.Accepting.{claim-fits, claim-taken, on_ok_three, on_ok_two, refusal-taken, reversal-fits, reversal-taken}
+use Rattle.gu_book.proofs.DeedLemmas.{made-fits, made-taken}
+use Rattle.gu_book.proofs.KnownAccounts.{known-given_up, known-moved, known-opened, known-refused, known-reported}
+use Rattle.gu_book.proofs.TakenIn.{give_up-numbers, give_up-taken, group-given, limit-taken, opening-taken}
 use Rattle.gu_book.proofs.taking.take_in.Goals as goal
 
-pub returns-in-OpenDay-clause-taken : goal.returns-in-OpenDay-clause-taken
-returns-in-OpenDay-clause-taken c =
+-- ---- openings and limits
+
+pub returns-in-Open-clause-taken : goal.returns-in-Open-clause-taken
+returns-in-Open-clause-taken c =
+    let old = c.args.totals.now in
+    let new = c.open.new.self in
     let e = c.open.ensures in
-    subst (λ (command : Command). TakesIn c.args.reference.now c.args.totals.now c.open.new.self command) (sym c.in-OpenDay.is)
-    (opening-taken c.args.reference.now c.args.totals.now c.open.new.self c.in-OpenDay.day e.today e.trades e.give_ups e.offers e.limits e.positions)
+    subst (TakesDeed old new) (sym c.in-Open.is)
+    (λ reference command is. subst (TakesIn reference old new) (sym is) (opening-taken reference old new c.in-Open.day e.today e.trades e.give_ups e.offers e.limits e.positions))
+
+pub returns-in-Open-clause-known : goal.returns-in-Open-clause-known
+returns-in-Open-clause-known c reference may = known-opened reference c.args.totals.now c.open.new.self c.open.ensures.trades c.open.ensures.offers c.open.ensures.positions
 
 pub returns-in-SetLimit-clause-taken : goal.returns-in-SetLimit-clause-taken
 returns-in-SetLimit-clause-taken c =
-    let e = c.set_limit.ensures in
+    let old = c.args.totals.now in
+    let new = c.set_limit.new.self in
     let at = c.in-SetLimit in
-    subst (λ (command : Command). OnOk c.set_limit.result (TakesIn c.args.reference.now c.args.totals.now c.set_limit.new.self command)) (sym at.is)
+    let e = c.set_limit.ensures in
+    subst (λ (deed : Deed). OnOk c.set_limit.result (TakesDeed old new deed)) (sym at.is)
     (on_ok_weaker c.set_limit.result
-    (limit-taken c.args.reference.now c.args.totals.now c.set_limit.new.self at.group at.key at.lots e.entries.today e.entries.trades e.entries.give_ups e.offers e.positions) e.limits)
+    (λ limits reference command is.
+    subst (TakesIn reference old new) (sym is)
+    (limit-taken reference old new at.group at.key at.lots e.entries.today e.entries.trades e.entries.give_ups e.offers e.positions limits))
+    e.limits)
+
+-- ---- reports
 
 pub report-requires-clause-fits : goal.report-requires-clause-fits
 report-requires-clause-fits c =
-    let at = c.in-ReportSide in
-    report-fits c.args.reference.now at.firm at.id at.match_id at.symbol at.lots at.price at.day at.side at.account c.in-Some.day c.args.totals.now c.in-Some.is
-    (subst (λ (command : Command). MayTakeIn c.args.reference.now c.args.totals.now command) at.is c.requires.may)
+    let at = c.in-Report in
+    let it = subst (MayDo c.requires.0 c.args.totals.now) at.is c.requires.1 in
+    made-fits c.requires.0 c.args.totals.now it.command at.report at.waiting it.may it.is
 
-pub returns-in-Some-clause-taken : goal.returns-in-Some-clause-taken
-returns-in-Some-clause-taken c =
-    let at = c.in-ReportSide in
+pub returns-in-Report-clause-taken : goal.returns-in-Report-clause-taken
+returns-in-Report-clause-taken c =
+    let old = c.args.totals.now in
+    let new = c.report.new.self in
+    let at = c.in-Report in
     let e = c.report.ensures in
-    subst (λ (command : Command). OnOk c.report.result (TakesIn c.args.reference.now c.args.totals.now c.report.new.self command)) (sym at.is)
-    (on_ok_two c.report.result
-    (report-taken c.args.reference.now at.firm at.id at.match_id at.symbol at.lots at.price at.day at.side at.account c.in-Some.day c.args.totals.now c.report.new.self c.in-Some.is e.today e.give_ups e.offers e.limits)
-    e.trades e.positions)
+    subst (λ (deed : Deed). OnOk c.report.result (TakesDeed old new deed)) (sym at.is)
+    (on_ok_two c.report.result (λ trades positions reference command is. made-taken reference old new command at.report at.waiting is e.today e.give_ups e.offers e.limits trades positions) e.trades e.positions)
 
-pub report-requires-clause-waiting : goal.report-requires-clause-waiting
-report-requires-clause-waiting c =
-    let at = c.in-ReportSide in
+pub returns-in-Report-clause-known : goal.returns-in-Report-clause-known
+returns-in-Report-clause-known c =
+    let old = c.args.totals.now in
+    let r = c.in-Report.report in
+    let e = c.report.ensures in
+    subst (KeepsAccounts old c.report.new.self) (sym c.in-Report.is)
+    (λ reference may.
+    let is = may.is in
+    known-reported reference r.firm r.id r.match_id r.symbol r.lots r.price is.day r.side r.account r.day old c.report.new.self c.report.result is.today
+    (subst (MayTakeIn reference old) is.is may.may) e.offers e.trades e.refused e.rows e.even)
+
+-- ---- give-ups
+
+pub give_up-requires-clause-numbers : goal.give_up-requires-clause-numbers
+give_up-requires-clause-numbers c =
     let totals = c.args.totals.now in
-    let met = subst (λ (command : Command). IsMet c.args.reference.now totals command c.args.met.now) at.is c.requires.met in
-    subst
-    (λ (today : Option Day). IfSome today (λ (today : Day). c.args.met.now.waiting ≡ waiting_of (counterpart_of (with_match at.match_id totals.trades) (terms_on at.symbol at.account at.side at.lots at.price today))))
-    c.in-Some.is met
-  where
-    terms_on : Symbol → AccountId → Side → Lots → Price → Day → Terms
-    terms_on symbol account side lots price day = record { symbol = symbol; account = account; side = side; day = day; lots = lots; price = price }
-
-pub take_in_claim-requires : goal.take_in_claim-requires
-take_in_claim-requires c =
-    let at = c.in-Claim in
-    let reference = c.args.reference.now in
-    let totals = c.args.totals.now in
-    let met = subst (λ (command : Command). IsMet reference totals command c.args.met.now) at.is c.requires.met in (
-      reference,
-      record { firm = at.firm; may = subst (λ (command : Command). MayTakeIn reference totals command) at.is c.requires.may },
-      subst (λ (claimed : Option MetOffer). IfSome claimed (IsMetOffer reference totals at.offer)) c.in-Some-claimed.is met.1,
-    )
-
-pub unreachable-requires-in_default-group_answered : goal.unreachable-requires-in_default-group_answered
-unreachable-requires-in_default-group_answered c =
     let at = c.in-GiveUp in
-    let answered =
-    given-answered c.args.reference.now c.args.totals.now at.firm at.id at.report at.lines c.args.reply.now
-    (subst (λ (command : Command). MayTakeIn c.args.reference.now c.args.totals.now command) at.is c.requires.may)
-    (c.requires.answered ∙ ap (answer_in c.args.reference.now (state_in c.args.totals.now)) at.is) in
-    let never : None ≡ Some answered.0 = sym c.in_default-group_answered.is ∙ c.group_answered.ensures ∙ answered.1 in
-    cc
+    let it = subst (MayDo c.requires.0 totals) at.is c.requires.1 in
+    give_up-numbers c.requires.0 totals at.firm at.id at.report at.lines.now c.as_slice.ensures.sound.most (subst (MayTakeIn c.requires.0 totals) it.is.is it.may)
 
-pub take_in_give_up-requires-clause-group : goal.take_in_give_up-requires-clause-group
-take_in_give_up-requires-clause-group c =
+pub returns-in-GiveUp-clause-taken : goal.returns-in-GiveUp-clause-taken
+returns-in-GiveUp-clause-taken c =
+    let old = c.args.totals.now in
+    let new = c.give_up.new.self in
     let at = c.in-GiveUp in
-    let answered =
-    given-answered c.args.reference.now c.args.totals.now at.firm at.id at.report at.lines c.args.reply.now
-    (subst (λ (command : Command). MayTakeIn c.args.reference.now c.args.totals.now command) at.is c.requires.may)
-    (c.requires.answered ∙ ap (answer_in c.args.reference.now (state_in c.args.totals.now)) at.is) in
-    answered.2 ∙ sym answered.1 ∙ sym c.in-Some-group_answered.ensures
+    let e = c.give_up.ensures in
+    subst (λ (deed : Deed). OnOk c.give_up.result (TakesDeed old new deed)) (sym at.is)
+    (on_ok_two c.give_up.result
+    (λ give_ups offers reference command is.
+    let given = group-given reference old at.firm at.report at.group is.group_is in
+    subst (TakesIn reference old new) (sym is.is)
+    (give_up-taken reference old new at.firm at.id at.report at.lines.now given.0 at.group c.as_slice.ensures.sound.most given.1 e.today e.trades e.limits e.positions give_ups offers))
+    e.give_ups e.offers)
 
-pub returns-in-Some-group_answered-clause-taken : goal.returns-in-Some-group_answered-clause-taken
-returns-in-Some-group_answered-clause-taken c =
-    subst (λ (command : Command). OnOk c.take_in_give_up.result (TakesIn c.args.reference.now c.args.totals.now c.take_in_give_up.new.totals command)) (sym c.in-GiveUp.is) c.take_in_give_up.ensures.taken
+pub returns-in-GiveUp-clause-known : goal.returns-in-GiveUp-clause-known
+returns-in-GiveUp-clause-known c =
+    let old = c.args.totals.now in
+    let at = c.in-GiveUp in
+    let e = c.give_up.ensures in
+    subst (KeepsAccounts old c.give_up.new.self) (sym at.is)
+    (λ reference may.
+    known-given_up reference old c.give_up.new.self at.firm at.id at.report at.lines.now at.group c.give_up.result (subst (MayTakeIn reference old) may.is.is may.may) e.trades e.positions e.offers e.refused)
+
+-- ---- claims
+
+pub claim-requires-clause-room : goal.claim-requires-clause-room
+claim-requires-clause-room c =
+    let it = subst (MayDo c.requires.0 c.args.totals.now) c.in-Claim.is c.requires.1 in
+    (claim-fits c.requires.0 c.args.totals.now it.command c.in-Claim.claimed it.may it.is).0
+
+pub claim-requires-clause-there : goal.claim-requires-clause-there
+claim-requires-clause-there c =
+    let it = subst (MayDo c.requires.0 c.args.totals.now) c.in-Claim.is c.requires.1 in
+    (claim-fits c.requires.0 c.args.totals.now it.command c.in-Claim.claimed it.may it.is).1
+
+pub returns-in-Claim-clause-taken : goal.returns-in-Claim-clause-taken
+returns-in-Claim-clause-taken c =
+    let old = c.args.totals.now in
+    let new = c.claim.new.self in
+    let e = c.claim.ensures in
+    subst (λ (deed : Deed). OnOk c.claim.result (TakesDeed old new deed)) (sym c.in-Claim.is)
+    (on_ok_three c.claim.result (λ offers limits positions reference command is. claim-taken reference old new command c.in-Claim.claimed is e.entries offers limits positions) e.offers e.limits e.positions)
+
+pub returns-in-Claim-clause-known : goal.returns-in-Claim-clause-known
+returns-in-Claim-clause-known c =
+    let old = c.args.totals.now in
+    let claimed = c.in-Claim.claimed in
+    let e = c.claim.ensures in
+    subst (KeepsAccounts old c.claim.new.self) (sym c.in-Claim.is)
+    (λ reference may.
+    known-moved reference old c.claim.new.self c.claim.result claimed.number (taken claimed.lots) claimed.offer claimed.report may.is.seen (λ row. refl)
+    e.entries.trades e.offers e.refused e.rows e.even)
+
+-- ---- refusals
 
 pub returns-in-Refuse-clause-taken : goal.returns-in-Refuse-clause-taken
 returns-in-Refuse-clause-taken c =
     let old = c.args.totals.now in
-    subst (λ (command : Command). TakesIn c.args.reference.now old (record old { offers = c.close.new.self }) command) (sym c.in-Refuse.is)
-    (refusal-taken c.args.reference.now old (record old { offers = c.close.new.self }) c.in-Refuse.offer (record { today = refl; trades = refl; give_ups = refl }) c.close.ensures refl refl c.in-Refuse.firm c.in-Refuse.why)
-
-pub returns-in-OpenDay-clause-known : goal.returns-in-OpenDay-clause-known
-returns-in-OpenDay-clause-known c = known-opened c.args.reference.now c.args.totals.now c.open.new.self c.open.ensures.trades c.open.ensures.offers c.open.ensures.positions
-
-pub returns-in-Some-clause-known : goal.returns-in-Some-clause-known
-returns-in-Some-clause-known c =
-    let at = c.in-ReportSide in
-    let e = c.report.ensures in
-    known-reported c.args.reference.now at.firm at.id at.match_id at.symbol at.lots at.price at.day at.side at.account c.in-Some.day c.args.totals.now c.report.new.self c.report.result c.in-Some.is
-    (subst (λ (command : Command). MayTakeIn c.args.reference.now c.args.totals.now command) at.is c.requires.may) e.offers e.trades e.refused e.rows e.even
+    let new = record old { offers = c.close.new.self } in
+    subst (TakesDeed old new) (sym c.in-Refuse.is)
+    (λ reference command is.
+    subst (TakesIn reference old new) (sym is.is)
+    (refusal-taken reference old new c.in-Refuse.number (record { today = refl; trades = refl; give_ups = refl }) c.close.ensures refl refl is.firm is.why))
 
 pub returns-in-Refuse-clause-known : goal.returns-in-Refuse-clause-known
-returns-in-Refuse-clause-known c =
+returns-in-Refuse-clause-known c reference may =
     let old = c.args.totals.now in
-    known-refused c.args.reference.now old (record old { offers = c.close.new.self }) c.in-Refuse.offer closed (λ row. refl) refl c.close.ensures refl
+    known-refused reference old (record old { offers = c.close.new.self }) c.in-Refuse.number closed (λ row. refl) refl c.close.ensures refl
 
-pub returns-in-Some-claimed-clause-taken : goal.returns-in-Some-claimed-clause-taken
-returns-in-Some-claimed-clause-taken c =
-    let at = c.in-Claim in
-    let reference = c.args.reference.now in
+-- ---- reversals
+
+pub reverse-requires-clause-used : goal.reverse-requires-clause-used
+reverse-requires-clause-used c =
+    let it = subst (MayDo c.requires.0 c.args.totals.now) c.in-Reverse.is c.requires.1 in
+    (reversal-fits c.requires.0 c.args.totals.now it.command c.in-Reverse.reversed it.may it.is).0
+
+pub reverse-requires-clause-there : goal.reverse-requires-clause-there
+reverse-requires-clause-there c =
+    let it = subst (MayDo c.requires.0 c.args.totals.now) c.in-Reverse.is c.requires.1 in
+    (reversal-fits c.requires.0 c.args.totals.now it.command c.in-Reverse.reversed it.may it.is).1
+
+pub returns-in-Reverse-clause-taken : goal.returns-in-Reverse-clause-taken
+returns-in-Reverse-clause-taken c =
     let old = c.args.totals.now in
-    let met = subst (λ (command : Command). IsMet reference old command c.args.met.now) at.is c.requires.met in
-    subst (λ (command : Command). OnOk c.take_in_claim.result (TakesIn reference old c.take_in_claim.new.totals command)) (sym at.is)
-    (on_ok_weaker c.take_in_claim.result
-    (λ taken.
-    taken reference (record { firm = at.firm; may = subst (λ (command : Command). MayTakeIn reference old command) at.is c.requires.may })
-    (subst (λ (claimed : Option MetOffer). IfSome claimed (IsMetOffer reference old at.offer)) c.in-Some-claimed.is met.1) at.firm)
-    c.take_in_claim.ensures.taken)
+    let new = c.reverse.new.self in
+    let e = c.reverse.ensures in
+    subst (λ (deed : Deed). OnOk c.reverse.result (TakesDeed old new deed)) (sym c.in-Reverse.is)
+    (on_ok_three c.reverse.result (λ offers limits positions reference command is. reversal-taken reference old new command c.in-Reverse.reversed is e.entries offers limits positions) e.offers e.limits e.positions)
 
-pub returns-in-Some-claimed-clause-known : goal.returns-in-Some-claimed-clause-known
-returns-in-Some-claimed-clause-known c = c.take_in_claim.ensures.known c.args.reference.now
+pub returns-in-Reverse-clause-known : goal.returns-in-Reverse-clause-known
+returns-in-Reverse-clause-known c =
+    let old = c.args.totals.now in
+    let returned = c.in-Reverse.reversed in
+    let e = c.reverse.ensures in
+    subst (KeepsAccounts old c.reverse.new.self) (sym c.in-Reverse.is)
+    (λ reference may.
+    known-moved reference old c.reverse.new.self c.reverse.result returned.number reversed returned.offer returned.report may.is.seen (λ row. refl)
+    e.entries.trades e.offers e.refused e.rows e.even)

@@ -1,11 +1,14 @@
-use Rattle.std.proofs.Common.{sym, ◌∙◌, ◌≡◌, length, ◌+◌, false, is_none, not, ap, arith, refl, None}
+use Rattle.std.proofs.Common.{sym, ◌∙◌, ◌≡◌, length, ◌+◌, false, is_none, not, ap, arith, refl, None, Option}
+use Rattle.std.specs.Option.{option_map}
+use Rattle.gu_terms.specs.declared.group.Group.{Group}
+use Rattle.gu_terms.specs.declared.report.Report.{Report}
 use Rattle.gu_terms.specs.declared.reply.Done.TheVariants.{Offered}
 use Rattle.gu_terms.specs.declared.reply.Reply.TheVariants.{Accepted}
 use Rattle.gu_rules.specs.Answer.{given_up, has_unknown_account, lacks_agreement, lines_tests, refusal_in, tests_of_lines}
 use Rattle.gu_rules.proofs.Passing.{standing_in, standing_none}
 use Rattle.gu_book.specs.Beside.{is_kept_give_up, state_in}
 use Rattle.gu_book.proofs.TakenIn.{standing-given, standing-none}
-use Rattle.gu_book.proofs.answering.answer_to_give_up.Goals as goal
+use Rattle.gu_book.proofs.answering.decide_give_up.Goals as goal
 
 pub has_unknown_account_without-requires : goal.has_unknown_account_without-requires
 has_unknown_account_without-requires c = (
@@ -13,8 +16,8 @@ has_unknown_account_without-requires c = (
   c.lacks_agreement-lacks.ensures ∙ ap (lacks_agreement c.args.reference.now c.args.firm.now) (c.as_slice.ensures.lines ∙ sym c.as_slice-2.ensures.lines),
 )
 
-pub returns-in_default : goal.returns-in_default
-returns-in_default c =
+pub returns-in_default-clause-reply : goal.returns-in_default-clause-reply
+returns-in_default-clause-reply c =
     let none : given_up c.args.reference.now (state_in c.args.totals.now) c.args.firm.now c.args.report.now ≡ None =
     standing-none c.args.reference.now c.args.totals.now c.args.firm.now c.args.report.now (sym c.in_default.is ∙ c.given_up.ensures) in
     let day : is_none c.args.totals.now.today ≡ false = ap not (c.is_none.ensures ∙ ap not c.if-is_none.false) in
@@ -22,8 +25,8 @@ returns-in_default c =
     let new : is_kept_give_up c.args.totals.now.give_ups.keys c.args.firm.now c.args.id.now ≡ false = sym c.has_give_up.ensures ∙ c.if-has_give_up.false in
     rw (day, known, new, none) refl
 
-pub returns-in-Some-refusal_of_lines : goal.returns-in-Some-refusal_of_lines
-returns-in-Some-refusal_of_lines c =
+pub returns-in-Some-refusal_of_lines-clause-reply : goal.returns-in-Some-refusal_of_lines-clause-reply
+returns-in-Some-refusal_of_lines-clause-reply c =
     let reference = c.args.reference.now in
     let state = state_in c.args.totals.now in
     let given = standing-given reference c.args.totals.now c.args.firm.now c.args.report.now c.in-Some.standing c.in-Some.group c.in-Some.ensures in
@@ -36,8 +39,8 @@ returns-in-Some-refusal_of_lines c =
     let new : is_kept_give_up c.args.totals.now.give_ups.keys c.args.firm.now c.args.id.now ≡ false = sym c.has_give_up.ensures ∙ c.if-has_give_up.false in
     rw (day, known, new, given.1) (sym (standing_in tests done c.in-Some-refusal_of_lines.refusal (sym (c.in-Some-refusal_of_lines.ensures reference (c.lacks_agreement-lacks.ensures ∙ ap (lacks_agreement reference c.args.firm.now) c.as_slice.ensures.lines) ∙ same))))
 
-pub returns : goal.returns
-returns c =
+pub returns-clause-reply : goal.returns-clause-reply
+returns-clause-reply c =
     let reference = c.args.reference.now in
     let state = state_in c.args.totals.now in
     let given = standing-given reference c.args.totals.now c.args.firm.now c.args.report.now c.in-Some.standing c.in-Some.group c.in-Some.ensures in
@@ -49,6 +52,10 @@ returns c =
     let known : has_unknown_account reference c.args.lines.now ≡ false = ap (has_unknown_account reference) (sym c.as_slice-2.ensures.lines) ∙ sym c.has_unknown_account_without.ensures ∙ c.if-has_unknown_account_without.false in
     let new : is_kept_give_up c.args.totals.now.give_ups.keys c.args.firm.now c.args.id.now ≡ false = sym c.has_give_up.ensures ∙ c.if-has_give_up.false in
     let first : c.in-Some-new.first ≡ length c.args.totals.now.offers + 1 = omega (arith, c.in-Some-new.ensures.same, c.count.ensures) in
-    let count : length c.as_slice-3.result.now ≡ length c.args.lines.now = ap length c.as_slice-3.ensures.lines in
     let none : refusal_in tests ≡ None = sym same ∙ sym (c.refusal_of_lines.ensures reference (c.lacks_agreement-lacks.ensures ∙ ap (lacks_agreement reference c.args.firm.now) c.as_slice.ensures.lines)) ∙ c.in_default-refusal_of_lines.is in
-    rw (day, known, new, given.1) ((λ i. Accepted (Offered c.in-Some.group (first i) (count i))) ∙ sym (standing_none tests done none))
+    rw (day, known, new, given.1) ((λ i. Accepted (Offered c.in-Some.group (first i) (length c.args.lines.now))) ∙ sym (standing_none tests done none))
+
+pub returns-clause-deed : goal.returns-clause-deed
+returns-clause-deed c =
+    let given = standing-given c.args.reference.now c.args.totals.now c.args.firm.now c.args.report.now c.in-Some.standing c.in-Some.group c.in-Some.ensures in
+    record { is = refl; group_is = ap (λ (g : Option (Report × Group)). option_map (λ (g : Report × Group). g.1) g) given.1 }

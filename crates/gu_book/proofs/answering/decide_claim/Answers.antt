@@ -11,22 +11,23 @@ use Rattle.gu_rules.specs.Answer.{claim_tests, offer_tests}
 use Rattle.gu_rules.proofs.Passing.{standing_after, standing_in, standing_none}
 use Rattle.gu_book.specs.Beside.{short_key, state_in}
 use Rattle.gu_book.proofs.ClaimLemmas.{claim_refused, lots_are, short_key-of}
-use Rattle.gu_book.proofs.answering.answer_to_claim.Goals as goal
+use Rattle.gu_book.proofs.DeedLemmas.{has-report}
+use Rattle.gu_book.proofs.answering.decide_claim.Goals as goal
 
 pub returns-in-Some-short_key-clause-reply : goal.returns-in-Some-short_key-clause-reply
 returns-in-Some-short_key-clause-reply c =
     let reference = c.args.reference.now in
     let state = state_in c.args.totals.now in
     let left = left_in state.offers c.args.number in
-    let offer = c.in-Ok.claimed.0 in
+    let offer = c.in_ok-offer.offer in
     let lots = lots_are left c.in-Some.lots c.in-Some.ensures in
     let key =
     c.in-Some-short_key.ensures
     ∙ ap (λ (path : List LimitKey). find (λ key. nat_lt (room_in c.args.totals.now.limits offer.group key) c.get.result) path) c.path_with-path.ensures.keys
-    ∙ short_key-of reference state c.args.number c.get.result offer c.in-Ok.ensures.offer
+    ∙ short_key-of reference state c.args.number c.get.result offer c.in_ok-offer.ensures.offer
     ∙ ap (short_key reference state c.args.number) (c.get.ensures.number ∙ lots.0) in
     sym
-    (standing_after (offer_tests reference state c.args.firm c.args.number) (claim_tests reference state c.args.number) (Claimed left) c.in-Ok.ensures.passed
+    (standing_after (offer_tests reference state c.args.firm c.args.number) (claim_tests reference state c.args.number) (Claimed left) c.in_ok-offer.ensures.passed
     ∙ standing_in (claim_tests reference state c.args.number) (Claimed left) (LimitReached c.in-Some-short_key.key)
     (claim_refused reference state c.args.number lots.1 ∙ ap (λ (k : Option LimitKey). option_map LimitReached k) (sym key)))
 
@@ -35,18 +36,29 @@ returns-clause-reply c =
     let reference = c.args.reference.now in
     let state = state_in c.args.totals.now in
     let left = left_in state.offers c.args.number in
-    let offer = c.in-Ok.claimed.0 in
+    let offer = c.in_ok-offer.offer in
     let lots = lots_are left c.in-Some.lots c.in-Some.ensures in
     let none =
     c.in_default-short_key.ensures
     ∙ ap (λ (path : List LimitKey). find (λ key. nat_lt (room_in c.args.totals.now.limits offer.group key) c.get.result) path) c.path_with-path.ensures.keys
-    ∙ short_key-of reference state c.args.number c.get.result offer c.in-Ok.ensures.offer
+    ∙ short_key-of reference state c.args.number c.get.result offer c.in_ok-offer.ensures.offer
     ∙ ap (short_key reference state c.args.number) (c.get.ensures.number ∙ lots.0) in
     ap (λ (n : ℕ). Accepted (Claimed n)) lots.0
     ∙ sym
-    (standing_after (offer_tests reference state c.args.firm c.args.number) (claim_tests reference state c.args.number) (Claimed left) c.in-Ok.ensures.passed
+    (standing_after (offer_tests reference state c.args.firm c.args.number) (claim_tests reference state c.args.number) (Claimed left) c.in_ok-offer.ensures.passed
     ∙ standing_none (claim_tests reference state c.args.number) (Claimed left)
     (claim_refused reference state c.args.number lots.1 ∙ ap (λ (k : Option LimitKey). option_map LimitReached k) (sym none)))
 
-pub returns-clause-met : goal.returns-clause-met
-returns-clause-met c accepted = (refl, record { shown = c.in-Ok.ensures.offer; path = c.path_with-path.ensures.keys; once = c.path_with-path.ensures.once })
+pub terms_given_up-requires : goal.terms_given_up-requires
+terms_given_up-requires c = has-report c.args.totals.now c.args.number c.in_ok-offer.offer c.requires c.in_ok-offer.ensures.offer
+
+pub returns-clause-deed : goal.returns-clause-deed
+returns-clause-deed c =
+    record {
+      firm = c.args.firm;
+      is = refl;
+      seen = record { shown = c.in_ok-offer.ensures.offer; found = c.terms_given_up.ensures };
+      path = c.path_with-path.ensures.keys;
+      once = c.path_with-path.ensures.once;
+      all = (lots_are (left_in c.args.totals.now.offers c.args.number) c.in-Some.lots c.in-Some.ensures).0;
+    }

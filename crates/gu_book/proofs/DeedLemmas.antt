@@ -1,0 +1,68 @@
+-- Deeds, as they may be done, and reports, as they are taken in.
+use Rattle.std.proofs.Common.{◌≡◌, ℕ, ◌<◌, ◌++◌, true, List, [], ◌∷◌, Option, Some, None, Result, Ok, length, is_some, unwrap_or, refl, sym, ap, ◌∙◌, subst}
+use Rattle.std.specs.List.{AllByRecursion}
+use Rattle.std.specs.Option.{option_map}
+use Rattle.gu_terms.specs.declared.command.Command.{Command}
+use Rattle.gu_terms.specs.declared.entry.Entry.{Entry}
+use Rattle.gu_terms.specs.declared.offer.Offer.{Offer}
+use Rattle.gu_terms.specs.declared.refusal.Refusal.{Refusal}
+use Rattle.gu_terms.specs.declared.reply.Reply.TheVariants.{Accepted}
+use Rattle.gu_terms.specs.declared.report.Report.{Report}
+use Rattle.gu_ref.specs.Tables.{Tables}
+use Rattle.gu_trades.specs.Reports.{report_by, with_match}
+use Rattle.gu_trades.specs.declared.terms.Terms.{Terms}
+use Rattle.gu_offers.specs.Rows.{Row, row_at}
+use Rattle.gu_rules.specs.Answer.{answer, answer_in}
+use Rattle.gu_rules.specs.Offers.{standing_of}
+use Rattle.gu_rules.specs.Positions.{report_after}
+use Rattle.gu_rules.specs.Reports.{Fits}
+use Rattle.gu_rules.proofs.AcceptedCommands.{is-accepted}
+use Rattle.gu_rules.proofs.InOrder.{in_order}
+use Rattle.gu_rules.proofs.OrderlyLemmas.{all-at}
+use Rattle.gu_book.specs.Accepted.{MayDo, MayTakeIn, TakesIn}
+use Rattle.gu_book.specs.Beside.{IsKept, state_in}
+use Rattle.gu_book.specs.Deeds.{HaveReports, IsDeedOf, MakesReport, done_by, reply_by}
+use Rattle.gu_book.specs.Effects.{HoldsMore, made_a_trade}
+use Rattle.gu_book.specs.declared.deed.Deed.{Deed}
+use Rattle.gu_book.specs.declared.totals.Totals.{Totals}
+use Rattle.gu_book.proofs.Accepting.{answer_is}
+use Rattle.gu_book.proofs.TakenIn.{report-fits, report-taken}
+
+-- what is kept has the reports of its offers
+pub have_reports : (reference : Tables) (history : List Entry) (totals : Totals) → IsKept reference history totals → HaveReports totals
+have_reports reference history totals kept =
+    subst (λ (rows : List Row). AllByRecursion (λ (row : Row). is_some (report_after totals.trades row) ≡ true) rows) (sym kept.beside.offers)
+    (subst (λ (reports : List Report). AllByRecursion (λ (row : Row). is_some (report_after reports row) ≡ true) (standing_of history)) (sym kept.beside.reports) (in_order history kept.orderly).found)
+
+-- so an offer that is found has its own
+pub has-report : (totals : Totals) (n : ℕ) (offer : Offer) → HaveReports totals → Some offer ≡ option_map (λ (row : Row). row.offer) (row_at totals.offers n) → is_some (report_by totals.trades offer.firm offer.report) ≡ true
+has-report totals n offer all shown = by (row_at totals.offers n) refl shown
+  where
+    by : (found : Option Row) → row_at totals.offers n ≡ found → Some offer ≡ option_map (λ (row : Row). row.offer) found → is_some (report_by totals.trades offer.firm offer.report) ≡ true
+    by None at e = cc
+    by (Some row) at e =
+        let same : offer ≡ row.offer = ap (λ (o : Option Offer). unwrap_or o offer) e in
+        subst (λ (o : Offer). is_some (report_by totals.trades o.firm o.report) ≡ true) (sym same) (all-at (λ (r : Row). is_some (report_after totals.trades r) ≡ true) totals.offers n row at all)
+
+-- a deed by which a command is answered may be done, and that is its answer
+pub may-do : (reference : Tables) (history : List Entry) (totals : Totals) (command : Command) (decided : Result Deed Refusal) (deed : Deed) → IsKept reference history totals → length history < 1000000
+    → decided ≡ Ok deed → reply_by decided ≡ answer_in reference (state_in totals) command → IsDeedOf reference totals command deed
+    → (Accepted (done_by deed) ≡ answer reference history command) × MayDo reference totals deed
+may-do reference history totals command decided deed kept room ok told is =
+    let same : Accepted (done_by deed) ≡ answer reference history command = ap reply_by (sym ok) ∙ told ∙ answer_is reference history totals command kept.beside in
+    (same, record { command = command; may = record { history = history; kept = kept; accepted = is-accepted reference history command (Accepted (done_by deed)) room same refl }; is = is })
+
+-- ---- reports
+
+-- a report that is made fits those before it
+pub made-fits : (reference : Tables) (totals : Totals) (command : Command) (report : Report) (waiting : Option Terms) → MayTakeIn reference totals command → MakesReport totals command report waiting → Fits totals.trades report
+made-fits reference totals command report waiting may is =
+    report-fits reference report.firm report.id report.match_id report.symbol report.lots report.price is.day report.side report.account report.day totals is.today (subst (MayTakeIn reference totals) is.is may)
+
+-- and is taken in
+pub made-taken : (reference : Tables) (old new : Totals) (command : Command) (report : Report) (waiting : Option Terms) → MakesReport old command report waiting
+    → new.today ≡ old.today → new.give_ups.keys ≡ old.give_ups.keys → new.offers ≡ old.offers → new.limits ≡ old.limits
+    → new.trades ≡ old.trades ++ report ∷ [] → HoldsMore old.positions new.positions (made_a_trade (with_match report.match_id old.trades) report) → TakesIn reference old new command
+made-taken reference old new command report waiting is today give_ups offers limits trades holds =
+    subst (TakesIn reference old new) (sym is.is)
+    (report-taken reference report.firm report.id report.match_id report.symbol report.lots report.price is.day report.side report.account report.day old new is.today today give_ups offers limits trades holds)

@@ -1,0 +1,113 @@
+//! What accepted commands do.
+
+ghost use Rattle.std.specs.Prelude.{◌≡◌};
+ghost use Rattle.gu_book.specs.Deeds.{done_by, touched_by};
+
+use crate::versions::Touched;
+use gu_limits::Places;
+use gu_terms::{
+    Day, Done, FirmId, Group, Id, LimitKey, Lines, Lots, Offer, OfferNo, Path, Reply, Report,
+};
+use gu_trades::Terms;
+
+/// Lots of an offer that are claimed or taken back.
+#[derive(Clone, Copy, Debug)]
+pub struct Moved {
+    pub number: OfferNo,
+    pub offer: Offer,
+    /// The terms of the report that it gives up.
+    pub report: Terms,
+    /// The path of the agreement by which it was made, where there is one.
+    pub path: Option<Path>,
+    pub lots: Lots,
+}
+
+/// What an accepted command does, with all that was found as it was decided.
+#[derive(Clone, Copy)]
+pub enum Deed<'a> {
+    Open {
+        day: Day,
+    },
+    SetLimit {
+        group: Group,
+        key: LimitKey,
+        lots: u64,
+    },
+    Report {
+        report: Report,
+        /// The terms of the report that waits for it, where one does.
+        waiting: Option<Terms>,
+    },
+    GiveUp {
+        firm: FirmId,
+        id: Id,
+        report: Id,
+        lines: &'a Lines,
+        group: Group,
+        first: OfferNo,
+    },
+    Claim {
+        claimed: Moved,
+        /// Where the limits of the path stood as their rooms were read. These are guesses.
+        places: Places,
+    },
+    Refuse {
+        number: OfferNo,
+        group: Group,
+        lots: Lots,
+    },
+    Reverse {
+        reversed: Moved,
+    },
+}
+
+impl<'a> Deed<'a> {
+    /// What is told of it.
+    fn done(&self) -> Done
+        ensures { result ≡ done_by self.now }
+    {
+        match self {
+            Deed::Open { .. } => Done::Opened,
+            Deed::SetLimit { .. } => Done::LimitSet,
+            Deed::Report { waiting, .. } => Done::Reported {
+                matched: waiting.is_some(),
+            },
+            Deed::GiveUp {
+                lines,
+                group,
+                first,
+                ..
+            } => Done::Offered {
+                group: *group,
+                first: *first,
+                count: lines.as_slice().len() as u64,
+            },
+            Deed::Claim { claimed, .. } => Done::Claimed { lots: claimed.lots },
+            Deed::Refuse { lots, .. } => Done::Refused { lots: *lots },
+            Deed::Reverse { reversed } => Done::Reversed {
+                lots: reversed.lots,
+            },
+        }
+    }
+
+    /// The reply to its command.
+    pub fn reply(&self) -> Reply
+        ensures { result ≡ Reply.Accepted (done_by self.now) }
+    {
+        Reply::Accepted(self.done())
+    }
+
+    /// The groups that it touches.
+    pub fn touched(&self) -> Touched
+        ensures { result ≡ touched_by self.now }
+    {
+        match self {
+            Deed::Open { .. } => Touched::Every,
+            Deed::SetLimit { group, .. } => Touched::Only(*group),
+            Deed::Report { .. } => Touched::Nothing,
+            Deed::GiveUp { group, .. } | Deed::Refuse { group, .. } => Touched::Only(*group),
+            Deed::Claim { claimed, .. } => Touched::Only(claimed.offer.group),
+            Deed::Reverse { reversed } => Touched::Only(reversed.offer.group),
+        }
+    }
+}
