@@ -1,5 +1,5 @@
 -- A set of offers, a bit for each.
-use Rattle.std.proofs.Common.{◌≡◌, ◌≢◌, ◌<◌, ◌*◌, ◌/◌, ◌%◌, ◌^◌, ◌==◌, ◌||◌, ◌∙◌, ◌∷◌, ◌++◌, [], ℕ, Bool, true, false, List, length, get_or, map, nat_eq, bit_or, refl, sym, ap, subst, inl, inr, arith, w64}
+use Rattle.std.proofs.Common.{◌≡◌, ◌≢◌, ◌<◌, ◌*◌, ◌/◌, ◌%◌, ◌^◌, ◌==◌, ◌||◌, ◌∙◌, ◌∷◌, ◌++◌, [], ℕ, Bool, true, false, List, length, get_or, map, nat_eq, bit_or, refl, sym, ap, inl, inr, arith, w64}
 use Rattle.std.proofs.Math.ListN.{set}
 use Rattle.std.specs.Int.{bit_at}
 use Rattle.std.specs.List.{IsDistinct, list_any}
@@ -58,7 +58,7 @@ module _ (words : List ℕ) (offer other : ℕ) (inside : offer / 64 < length wo
             ∙ sym (others (λ e. place.1 (ap (λ n. n / 64) e)))
       ]
 
--- ---- takes whose offers are marked
+-- ---- offers that are marked
 
 named_alike : (n : ℕ) (numbers : List ℕ) → list_any (nat_eq n) numbers ≡ has_number numbers n
 named_alike n [] = refl
@@ -72,18 +72,19 @@ has_number-push numbers n other = list_any-append (λ m. m == other) numbers (n 
     turned true b false same = refl
     turned false b c same = or_false b ∙ same ∙ sym (or_false c)
 
--- no takes, and no marks
+-- no offers, and no marks
 pub marks_none : (words : List ℕ) → ((offer : ℕ) → is_marked words offer ≡ false) → MarksOffers words []
 unfolding IsDistinct
 marks_none words none = record { marked = none; distinct = tt }
 
--- one take more, of an offer that isn't marked, and its mark
-pub marks_more : (words more : List ℕ) (takes : List Take) (next : Take) → MarksOffers words takes → is_marked words next.offer ≡ false
-    → ((other : ℕ) → is_marked more other ≡ (other == next.offer || is_marked words other)) → MarksOffers more (takes ++ next ∷ [])
-marks_more words more takes next marks fresh adds =
-    let offers = map (λ (t : Take). t.offer) takes in
-    let pushed : map (λ (t : Take). t.offer) (takes ++ next ∷ []) ≡ offers ++ next.offer ∷ [] = map-append (λ (t : Take). t.offer) takes (next ∷ []) in
-    record {
-      marked = λ other. adds other ∙ ap (λ b. other == next.offer || b) (marks.marked other) ∙ sym (ap (λ os. has_number os other) pushed ∙ has_number-push offers next.offer other);
-      distinct = subst (IsDistinct nat_eq) (sym pushed) (IsDistinct-push nat_eq_equiv offers next.offer marks.distinct (named_alike next.offer offers ∙ sym (marks.marked next.offer) ∙ fresh));
-    }
+-- one offer more, that isn't marked, and its mark
+pub marks_more : (words more offers : List ℕ) (next : ℕ) → MarksOffers words offers → is_marked words next ≡ false
+    → ((other : ℕ) → is_marked more other ≡ (other == next || is_marked words other)) → MarksOffers more (offers ++ next ∷ [])
+marks_more words more offers next marks fresh adds = record {
+  marked = λ other. adds other ∙ ap (λ b. other == next || b) (marks.marked other) ∙ sym (has_number-push offers next other);
+  distinct = IsDistinct-push nat_eq_equiv offers next marks.distinct (named_alike next offers ∙ sym (marks.marked next) ∙ fresh);
+}
+
+-- the offers of one take more
+pub offers_of_more : (takes : List Take) (next : Take) → map (λ (t : Take). t.offer) (takes ++ next ∷ []) ≡ map (λ (t : Take). t.offer) takes ++ next.offer ∷ []
+offers_of_more takes next = map-append (λ (t : Take). t.offer) takes (next ∷ [])

@@ -1,5 +1,6 @@
 pub mod LineFeeds
 pub mod Lines
+pub mod ListedKeys
 pub mod OfferSets
 pub mod Outcomes
 pub mod ReadBack

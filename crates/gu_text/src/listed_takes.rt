@@ -18,7 +18,7 @@ pub(crate) struct ListedTakes {
 }
 
 impl Model for ListedTakes {
-    ghost use Rattle.std.specs.Prelude.{List};
+    ghost use Rattle.std.specs.Prelude.{List, map};
     ghost use Rattle.gu_terms.specs.declared.takes.Take.{Take};
     ghost use Rattle.gu_text.specs.OfferSets.{MarksOffers};
 
@@ -26,7 +26,7 @@ impl Model for ListedTakes {
 
     ghost view = { λ t. t.list.items };
 
-    ghost invariant = { λ t. MarksOffers t.offers t.list.items };
+    ghost invariant = { λ t. MarksOffers t.offers (map (λ s. s.offer) t.list.items) };
 }
 
 impl ListedTakes {

@@ -6,11 +6,12 @@ ghost use Rattle.gu_text.specs.Reading.{no_parts, with_kept, is_ended, IsMadeOf,
 ghost use Rattle.gu_view.specs.Making.{MakesView, view_of};
 
 use crate::error::TextError;
+use crate::listed_cut::ListedCut;
 use crate::listed_takes::ListedTakes;
 use crate::sheet::Sheet;
 use crate::sheet_line::{Header, Part, SheetLine};
 use crate::takes_in_order::takes_in_order;
-use gu_terms::{Cut, MOST_OPEN_OFFERS};
+use gu_terms::MOST_OPEN_OFFERS;
 use gu_view::{Room, View, ViewError, ViewOffer};
 use std::alloc::{AllocError, Global};
 use std::marker::Model;
@@ -28,7 +29,7 @@ pub(crate) struct Parts {
     offers: Vec<ViewOffer>,
     rooms: Vec<Room>,
     takes: ListedTakes,
-    cut: Cut,
+    cut: ListedCut,
 }
 
 impl Model for Parts {
@@ -88,7 +89,7 @@ impl Parts {
             offers: Vec::new(alloc),
             rooms: Vec::new(alloc),
             takes: ListedTakes::new(alloc),
-            cut: Cut::new(alloc),
+            cut: ListedCut::new(alloc),
         }
     }
 
@@ -160,6 +161,7 @@ impl Parts {
         };
         let view = view_at(alloc, header, offers, rooms, number)?;
         let takes = takes_in_order(alloc, takes.into_list())?;
+        let cut = cut.into_cut(alloc)?;
         Ok(Sheet { view, takes, cut })
     }
 }
