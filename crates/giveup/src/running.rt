@@ -12,10 +12,11 @@ use crate::sample::{sample_day, sample_reference};
 use crate::serving::{Serving, serve};
 use crate::status::Status;
 use crate::words::{Task, answer, firm_named, given, read};
+use gu_book::Book;
 use gu_engine::{Connection, SystemClock};
 use gu_houses::OverBook;
 use gu_script::ScriptError;
-use gu_server::Closed;
+use gu_server::DayEnd;
 use gu_streams::{CountedReads, StreamError, send};
 use gu_terms::{FirmId, Seed};
 use std::alloc::Global;
@@ -110,8 +111,8 @@ fn run_fix<'a, R: Input + Print + Files + Clock + RandomSource + Alloc<A = Globa
 }
 
 /// Prints the lines of a day's end, and gives the status that the audit makes.
-fn print_end<R: Print + Alloc<A = Global>>(rt: &R, closed: &Closed) -> Result<Status, StreamError> {
-    let (text, is_well) = closed.text(rt.alloc())?;
+fn print_end<R: Print>(rt: &R, end: DayEnd) -> Result<Status, StreamError> {
+    let (text, is_well) = end?;
     send(&mut io::writer(rt), text.as_bytes())?;
     Ok(if is_well { Status::Done } else { Status::Fault })
 }
@@ -120,17 +121,17 @@ fn print_end<R: Print + Alloc<A = Global>>(rt: &R, closed: &Closed) -> Result<St
 fn keep_journal<'a, R: Files + Alloc<A = Global>>(
     rt: &R,
     path: Option<&'a str>,
-    closed: &Closed,
+    book: &Book,
 ) -> Result<(), Fault<'a>> {
     match path {
-        Some(path) => journal_at(rt, path, closed.book.history()),
+        Some(path) => journal_at(rt, path, book.history()),
         None => Ok(()),
     }
 }
 
 /// A server of firms on a port of this machine, on the reference of a file, after a script, where one is named. At its end the lines of
 /// the day are printed, also where not every connection could be accepted, and then its journal is written, where a file is named for it,
-/// also where the lines couldn't be printed.
+/// also where memory didn't suffice for the lines, or they couldn't be printed.
 fn run_serve<
     'a,
     R: Print
@@ -148,11 +149,13 @@ fn run_serve<
     let reference = reference_at(rt, serving.reference)?;
     let world = world_after(rt, reference, serving.script, seed)?;
     let closed = serve(rt, world, serving, terminal)?;
-    let printed = print_end(rt, &closed);
-    let journaled = keep_journal(rt, serving.journal, &closed);
+    let (end, book, fault) = closed.end(rt.alloc());
+    let printed = print_end(rt, end);
+    let journaled = keep_journal(rt, serving.journal, &book);
+    drop(book);
     let status = printed?;
     journaled?;
-    match closed.fault {
+    match fault {
         Some(fault) => Err(Fault::from(fault)),
         None => Ok(status),
     }

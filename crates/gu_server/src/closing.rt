@@ -1,12 +1,13 @@
 //! The end of a day: the seats come back, the desk is closed, and there are as many receipts as entries.
 
-ghost use Rattle.std.specs.Prelude.{◌≡◌, ◌++◌, ◌≤◌, length, sum_by, IfOk, List, OnOk, Option, codes, decimal, is_none, string_bytes};
+ghost use Rattle.std.specs.Prelude.{◌≡◌, ◌++◌, ◌≤◌, [], length, sum_by, IfOk, List, OnOk, Option, codes, decimal, is_none, string_bytes};
 ghost use Rattle.gu_terms.specs.Histories.{lots_swept};
 ghost use Rattle.gu_terms.specs.declared.receipt.Receipt.{Receipt};
 ghost use Rattle.gu_desk.specs.declared.error.AuditFault.{AuditFault as FaultOf};
 ghost use Rattle.gu_server.specs.DayEnds.{Finds, audit_text, day_text};
 ghost use Rattle.gu_server.specs.Receipts.{AddsReceipts, EndsWith};
 
+use crate::day_receipts::DayReceipts;
 use crate::seat_receipts::SeatReceipts;
 use crate::serving::Shift;
 use gu_book::Book;
@@ -18,9 +19,12 @@ use std::alloc::{AllocError, Global};
 /// The book of a day that has ended, with its receipts, and why not every connection was accepted, where that is so.
 pub struct Closed {
     pub book: Book,
-    pub receipts: Vec<Receipt>,
+    pub receipts: DayReceipts,
     pub fault: Option<StreamError>,
 }
+
+/// The three lines of a day's end, and whether the audit found nothing wrong.
+pub type DayEnd = Result<(String, bool), AllocError>;
 
 // By hand, so that each exit of a caller drops it by one call.
 impl Drop for Closed {
@@ -72,46 +76,102 @@ fn lines(alloc: Global, entries: usize, swept: u64, audit: &str) -> Result<Strin
     format!(in alloc; "ENTRIES {entries}\nSWEPT {swept}\nAUDIT {audit}\n")
 }
 
+/// The three lines of the end of a day with this book and these receipts, and whether the audit found nothing wrong: each entry has its
+/// receipt, once, and there are no others.
+fn end_of(alloc: Global, book: &Book, receipts: DayReceipts) -> DayEnd
+    ensures { IfOk result (λ r. (found : Option FaultOf) × Finds book.now.history receipts found
+        × (string_bytes r.0 ≡ day_text book.now.history found) × (r.1 ≡ is_none found)) }
+{
+    let receipts = receipts.joined(alloc)?;
+    let found = finding_of(alloc, book, &receipts)?;
+    let entries = book.history().len();
+    let swept = book.lots_swept();
+    let audit = audit_text(alloc, found)?;
+    let text = lines(alloc, entries, swept, &audit)?;
+    Ok((text, found.is_none()))
+}
+
 impl Closed {
-    /// The three lines of the day's end, and whether the audit found nothing wrong: each entry has its receipt, once, and there are no
-    /// others.
-    pub fn text(&self, alloc: Global) -> Result<(String, bool), AllocError>
-        ensures { IfOk result (λ r. (found : Option FaultOf) × Finds self.now.book.history self.now.receipts.items found
-            × (string_bytes r.0 ≡ day_text self.now.book.history found) × (r.1 ≡ is_none found)) }
+    /// The end of the day, its book, and why not every connection was accepted, where that is so. The book comes back also where
+    /// memory doesn't suffice for the audit, and the receipts are gone by then.
+    pub fn end(self, alloc: Global) -> (DayEnd, Book, Option<StreamError>)
+        ensures text { IfOk result.0 (λ r. (found : Option FaultOf) × Finds self.book.history self.receipts found
+            × (string_bytes r.0 ≡ day_text self.book.history found) × (r.1 ≡ is_none found)) }
+        ensures book { result.1 ≡ self.book }
+        ensures fault { result.2 ≡ self.fault }
     {
-        let found = finding_of(alloc, &self.book, &self.receipts)?;
-        let entries = self.book.history().len();
-        let swept = self.book.lots_swept();
-        let audit = audit_text(alloc, found)?;
-        let text = lines(alloc, entries, swept, &audit)?;
-        Ok((text, found.is_none()))
+        let Closed {
+            book,
+            receipts,
+            fault,
+        } = self;
+        let end = end_of(alloc, &book, receipts);
+        (end, book, fault)
+    }
+}
+
+/// Room for what the threads of a day hand back, made before they begin: where there is room enough, the end of the day allocates
+/// nothing until the audit, so it isn't lost where memory has run out.
+pub struct Ending<E: EntryLedger, S: LotLedger> {
+    seats: Vec<Seat<E, S>>,
+    receipts: DayReceipts,
+    ghost none_yet: { seats.items ≡ [] },
+}
+
+// By hand, so that each exit of a caller drops it by one call.
+impl<E: EntryLedger, S: LotLedger> Drop for Ending<E, S> {
+    fn drop(self) {
+        let Ending { seats, receipts } = self;
+        drop(seats);
+        drop(receipts);
+    }
+}
+
+impl<E: EntryLedger, S: LotLedger> Ending<E, S> {
+    /// Room for the seats, this many, and for their receipts after those that there are.
+    pub fn new(alloc: Global, seats: usize, receipts: Vec<Receipt>) -> Result<Self, AllocError>
+        ensures { IfOk result (λ ending. ending.receipts ≡ receipts.items) }
+    {
+        Ok(Ending {
+            seats: Vec::with_capacity(alloc, seats)?,
+            receipts: DayReceipts::new(alloc, receipts, seats)?,
+        })
+    }
+
+    /// The room for seats, and the receipts.
+    fn into_parts(self) -> (Vec<Seat<E, S>>, DayReceipts)
+        ensures seats { result.0.items ≡ [] }
+        ensures receipts { result.1 ≡ self.receipts }
+    {
+        let Ending { seats, receipts } = self;
+        (seats, receipts)
     }
 }
 
 /// Adds a seat and its receipts to seats and to receipts, of which the last are theirs.
 fn gather<E: EntryLedger, S: LotLedger>(
     seats: &mut Vec<Seat<E, S>>,
-    receipts: &mut Vec<Receipt>,
+    receipts: &mut DayReceipts,
     one: SeatReceipts<E, S>,
 ) -> Result<(), AllocError>
-    ensures { (before : List Receipt) → EndsWith E.reference E.opening (sum_by (λ s. s.entries) seats.old.items) before receipts.old.items
-        → OnOk result (EndsWith E.reference E.opening (sum_by (λ s. s.entries) seats.new.items) before receipts.new.items) }
+    ensures { (before : List Receipt) → EndsWith E.reference E.opening (sum_by (λ s. s.entries) seats.old.items) before receipts.old
+        → OnOk result (EndsWith E.reference E.opening (sum_by (λ s. s.entries) seats.new.items) before receipts.new) }
 {
-    let (seat, mut more) = one.into_parts();
-    receipts.append(&mut more)?;
+    let (seat, more) = one.into_parts();
+    receipts.add(more)?;
     seats.push(seat)?;
     Ok(())
 }
 
 /// The seats; all their receipts come after those that there were.
 fn apart<E: EntryLedger, S: LotLedger>(
-    alloc: Global,
     keeping: Vec<SeatReceipts<E, S>>,
-    receipts: &mut Vec<Receipt>,
+    mut seats: Vec<Seat<E, S>>,
+    receipts: &mut DayReceipts,
 ) -> Result<Vec<Seat<E, S>>, AllocError>
-    ensures { IfOk result (λ seats. EndsWith E.reference E.opening (sum_by (λ s. s.entries) seats.items) receipts.old.items receipts.new.items) }
+    requires { seats.items ≡ [] }
+    ensures { IfOk result (λ seats. EndsWith E.reference E.opening (sum_by (λ s. s.entries) seats.items) receipts.old receipts.new) }
 {
-    let mut seats = Vec::with_capacity(alloc, keeping.len())?;
     for one in keeping {
         gather(&mut seats, receipts, one)?;
     }
@@ -120,20 +180,20 @@ fn apart<E: EntryLedger, S: LotLedger>(
 
 /// Closes a desk with what its threads handed back. The receipts come after those that there were before.
 pub fn close<E: EntryLedger, S: LotLedger>(
-    alloc: Global,
     desk: Desk<E, S>,
     shift: Shift<E, S>,
-    mut receipts: Vec<Receipt>,
+    ending: Ending<E, S>,
 ) -> Result<Closed, StreamError>
     ensures reference { IfOk result (λ closed. closed.book.reference ≡ E.reference) }
     ensures entries { IfOk result (λ closed. E.opening ≤ length closed.book.history) }
     ensures lots { IfOk result (λ closed. S.opening ≤ lots_swept closed.book.history) }
-    ensures receipts { IfOk result (λ closed. AddsReceipts E.reference E.opening receipts.items
-        closed.book.history closed.receipts.items) }
-    ensures count { length receipts.items ≡ E.opening → IfOk result (λ closed. length closed.receipts.items ≡ length closed.book.history) }
+    ensures receipts { IfOk result (λ closed. AddsReceipts E.reference E.opening ending.receipts
+        closed.book.history closed.receipts) }
+    ensures count { length ending.receipts ≡ E.opening → IfOk result (λ closed. length closed.receipts ≡ length closed.book.history) }
 {
     let (keeping, fault) = shift.into_parts();
-    let seats = apart(alloc, keeping, &mut receipts)?;
+    let (seats, mut receipts) = ending.into_parts();
+    let seats = apart(keeping, seats, &mut receipts)?;
     match desk.close(seats) {
         Ok(book) => Ok(Closed {
             book,

@@ -5,7 +5,7 @@ ghost use Rattle.gu_terms.specs.Histories.{lots_swept};
 ghost use Rattle.gu_desk.specs.Totals.{IsEmpty};
 ghost use Rattle.gu_server.specs.Receipts.{AddsReceipts};
 
-use crate::closing::{Closed, close};
+use crate::closing::{Closed, Ending, close};
 use crate::floor::Floor;
 use crate::seat_receipts::SeatReceipts;
 use crate::serving::shift_at;
@@ -105,8 +105,8 @@ pub fn serve_day<
 
     // There are as many receipts as entries were made since; and as many as the book has entries, if there were at the opening.
     ensures receipts { IfOk result (λ closed. AddsReceipts E.reference E.opening opening.receipts.items
-        closed.book.history closed.receipts.items) }
-    ensures count { length opening.receipts.items ≡ E.opening → IfOk result (λ closed. length closed.receipts.items ≡ length closed.book.history) }
+        closed.book.history closed.receipts) }
+    ensures count { length opening.receipts.items ≡ E.opening → IfOk result (λ closed. length closed.receipts ≡ length closed.book.history) }
 {
     let Opening {
         book,
@@ -120,6 +120,7 @@ pub fn serve_day<
     let tally = Tally::new();
     let (desk, seats) = opened::<E, S>(alloc, book, connections + SWEEPERS, entries, swept)?;
     let seats = with_receipts(alloc, seats)?;
+    let ending = Ending::new(alloc, seats.len(), receipts)?;
     let floor = Floor {
         rt,
         alloc,
@@ -130,5 +131,5 @@ pub fn serve_day<
     };
     let shift = shift_at(&floor, listener, seats, terminal);
     drop(floor);
-    close(alloc, desk, shift, receipts)
+    close(desk, shift, ending)
 }

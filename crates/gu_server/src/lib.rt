@@ -6,6 +6,7 @@ mod at_desk;
 mod closing;
 mod crew;
 mod day;
+mod day_receipts;
 mod floor;
 mod line;
 mod next;
@@ -18,6 +19,7 @@ mod tally;
 mod telling;
 mod timed;
 
-pub use closing::Closed;
+pub use closing::{Closed, DayEnd};
 pub use day::{Opening, serve_day};
+pub use day_receipts::DayReceipts;
 pub use timed::{LogonTimer, Timed};

@@ -426,10 +426,12 @@ fn end_of<R: Net<Listener = TcpListener, Stream = TcpStream> + Threads + Wait + 
 }
 
 /// Asserts that a day ends with these lines.
-fn check_end(rt: &impl Abort, alloc: Global, closed: &Closed, end: &str) {
-    let (text, is_well) = closed.text(alloc).expect(rt, "memory");
+fn check_end(rt: &impl Abort, alloc: Global, closed: Closed, lines: &str) {
+    let (end, book, _) = closed.end(alloc);
+    drop(book);
+    let (text, is_well) = end.expect(rt, "memory");
     assert!(rt; is_well);
-    assert_eq!(rt; text.as_str(), end);
+    assert_eq!(rt; text.as_str(), lines);
 }
 
 #[test]
@@ -438,7 +440,7 @@ fn a_day_is_served_and_its_receipts_are_its_entries(rt: HostRuntime) -> Result<(
         let listener = TcpListener::bind(&rt, ("127.0.0.1", 0))?;
         let closed = end_of(&rt, rt.alloc(), listener, None, &row);
         assert!(rt; closed.fault.is_none());
-        check_end(&rt, rt.alloc(), &closed, row.end);
+        check_end(&rt, rt.alloc(), closed, row.end);
     }
     Ok(())
 }
@@ -461,6 +463,6 @@ fn an_accept_that_fails_ends_the_day_by_a_fault_once_who_was_there_has_ended(
     listener.set_nonblocking(true)?;
     let closed = end_of(&rt, rt.alloc(), listener, Some(first), &LACKS_ONE);
     assert!(rt; closed.fault == Some(StreamError::Read));
-    check_end(&rt, rt.alloc(), &closed, LACKS_ONE.end);
+    check_end(&rt, rt.alloc(), closed, LACKS_ONE.end);
     Ok(())
 }

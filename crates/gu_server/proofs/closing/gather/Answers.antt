@@ -4,5 +4,5 @@ use Rattle.gu_server.proofs.closing.gather.Goals as goal
 
 pub returns : goal.returns
 returns g c before ends =
-    rw (c.in_ok-push.ensures.items, c.in_ok-append.ensures.items, sum_by_push (λ s. s.entries) c.args.seats.now.items c.into_parts-seat.result.0, c.into_parts-seat.ensures.seat)
+    rw (c.in_ok-push.ensures.items, c.in_ok-add.ensures, sum_by_push (λ s. s.entries) c.args.seats.now.items c.into_parts-seat.result.0, c.into_parts-seat.ensures.seat)
     (one_seat_more _ _ _ _ before _ _ ends c.into_parts-seat.ensures.receipts)
