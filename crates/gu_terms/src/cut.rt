@@ -7,6 +7,7 @@ ghost use Rattle.gu_terms.specs.LimitKeys.{has_key};
 
 use crate::limit_key::LimitKey;
 use crate::offer_no::OfferNo;
+use crate::seed::Seed;
 use indexmap::IndexSet;
 use std::alloc::{AllocError, Global};
 use std::marker::Model;
@@ -14,8 +15,8 @@ use std::marker::Model;
 /// A set of limit keys and of offers, each in the order in which it was made.
 /// To a contract it is these two lists.
 pub struct Cut {
-    keys: IndexSet<LimitKey>,
-    offers: IndexSet<OfferNo>,
+    keys: IndexSet<LimitKey, Seed>,
+    offers: IndexSet<OfferNo, Seed>,
 }
 
 // By hand, so that a caller's exit lets go of it by one call.
@@ -36,11 +37,15 @@ impl Model for Cut {
 }
 
 /// The set of these keys, in order.
-fn set_of_keys(alloc: Global, keys: &[LimitKey]) -> Result<IndexSet<LimitKey>, AllocError>
+fn set_of_keys(
+    alloc: Global,
+    seed: Seed,
+    keys: &[LimitKey],
+) -> Result<IndexSet<LimitKey, Seed>, AllocError>
     requires { IsDistinct ⟦<LimitKey as PartialEq>⟧.eq keys.now }
     ensures { IfOk result (λ set. set.keys ≡ keys.now) }
 {
-    let mut set = IndexSet::with_capacity(alloc, keys.len())?;
+    let mut set = IndexSet::with_capacity_and_hasher(alloc, keys.len(), seed)?;
     for key in keys {
         set.insert_full(*key)?;
     }
@@ -48,11 +53,15 @@ fn set_of_keys(alloc: Global, keys: &[LimitKey]) -> Result<IndexSet<LimitKey>, A
 }
 
 /// The set of these offers, in order.
-fn set_of_offers(alloc: Global, offers: &[OfferNo]) -> Result<IndexSet<OfferNo>, AllocError>
+fn set_of_offers(
+    alloc: Global,
+    seed: Seed,
+    offers: &[OfferNo],
+) -> Result<IndexSet<OfferNo, Seed>, AllocError>
     requires { IsDistinct ⟦<OfferNo as PartialEq>⟧.eq offers.now }
     ensures { IfOk result (λ set. set.keys ≡ offers.now) }
 {
-    let mut set = IndexSet::with_capacity(alloc, offers.len())?;
+    let mut set = IndexSet::with_capacity_and_hasher(alloc, offers.len(), seed)?;
     for offer in offers {
         set.insert_full(*offer)?;
     }
@@ -64,20 +73,27 @@ impl Cut {
     pub fn new(alloc: Global) -> Self
         ensures { result ≡ record { keys = []; offers = [] } }
     {
+        let seed = Seed::new(0);
         Cut {
-            keys: IndexSet::new(alloc),
-            offers: IndexSet::new(alloc),
+            keys: IndexSet::with_hasher(alloc, seed),
+            offers: IndexSet::with_hasher(alloc, seed),
         }
     }
 
-    /// The cut of these keys and these offers, in order.
-    pub fn of(alloc: Global, keys: &[LimitKey], offers: &[OfferNo]) -> Result<Self, AllocError>
+    /// The cut of these keys and these offers, in order, with a seed by which its members are found: what is answered doesn't depend
+    /// on it.
+    pub fn of(
+        alloc: Global,
+        seed: Seed,
+        keys: &[LimitKey],
+        offers: &[OfferNo],
+    ) -> Result<Self, AllocError>
         requires keys { IsDistinct ⟦<LimitKey as PartialEq>⟧.eq keys.now }
         requires offers { IsDistinct ⟦<OfferNo as PartialEq>⟧.eq offers.now }
         ensures { IfOk result (λ cut. cut ≡ record { keys = keys.now; offers = offers.now }) }
     {
-        let keys = set_of_keys(alloc, keys)?;
-        let offers = set_of_offers(alloc, offers)?;
+        let keys = set_of_keys(alloc, seed, keys)?;
+        let offers = set_of_offers(alloc, seed, offers)?;
         Ok(Cut { keys, offers })
     }
 

@@ -7,6 +7,7 @@ use crate::entry::SweepEntry;
 use crate::group::Group;
 use crate::limit_key::LimitKey;
 use crate::offer_no::OfferNo;
+use crate::seed::Seed;
 use crate::takes::{Take, Takes};
 use std::alloc::{AllocError, Global};
 use std::marker::Model;
@@ -95,7 +96,7 @@ impl KeptSweep {
         ensures { IfOk result (λ sweep. sweep ≡ self.now) }
     {
         let takes = self.takes.copy()?;
-        let cut = Cut::of(alloc, &self.keys, &self.offers)?;
+        let cut = Cut::of(alloc, Seed::new(0), &self.keys, &self.offers)?;
         Ok(SweepEntry {
             group: self.group,
             takes,
