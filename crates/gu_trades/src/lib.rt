@@ -5,6 +5,7 @@ mod counterpart;
 mod hash_index;
 mod matching;
 mod packed;
+mod report_ref;
 mod reports;
 mod sides;
 mod standing;
@@ -13,6 +14,7 @@ mod trades;
 
 pub use counterpart::Counterpart;
 pub use matching::Matching;
+pub use report_ref::ReportRef;
 pub use sides::Sides;
 pub use standing::Standing;
 pub use terms::Terms;

@@ -2,13 +2,13 @@
 
 ghost use Rattle.std.specs.Prelude.{◌≡◌, ◌++◌, ◌∷◌, [], ◌<◌, ◌≤◌, All, length, map, slice_get, OnErr, OnOk, Some};
 ghost use Rattle.std.specs.Option.{option_map};
-ghost use Rattle.gu_terms.specs.Names.{IsId};
 ghost use Rattle.gu_terms.specs.declared.report.Report.{Report as ReportOf};
 ghost use Rattle.gu_trades.specs.Kept.{is_by_at, is_with_at};
 ghost use Rattle.gu_trades.specs.PackedReports.{report_of_kept, IsWithin};
-ghost use Rattle.gu_trades.specs.Terms.{report_with, terms_of};
+ghost use Rattle.gu_trades.specs.Terms.{terms_of};
 
 use crate::packed::Packed;
+use crate::report_ref::ReportRef;
 use crate::terms::Terms;
 use gu_terms::{FirmId, Id, Report};
 use std::alloc::{AllocError, Global};
@@ -52,25 +52,22 @@ fn append_texts(texts: &mut Vec<u8>, first: &[u8], second: &[u8]) -> Result<(), 
 fn add(
     rows: &mut Vec<Packed>,
     texts: &mut Vec<u8>,
-    firm: &FirmId,
-    own: &[u8],
-    matched: &[u8],
-    terms: &Terms,
+    report: &ReportRef<'_>,
 ) -> Result<(), AllocError>
     requires kept { All (IsWithin texts.old.items) rows.old.items }
-    requires own { IsId own.now }
-    requires matched { IsId matched.now }
     ensures kept { All (IsWithin texts.new.items) rows.new.items }
     ensures added { OnOk result (map (report_of_kept texts.new.items) rows.new.items
-        ≡ map (report_of_kept texts.old.items) rows.old.items ++ report_with firm.now own.now matched.now terms.now ∷ []) }
+        ≡ map (report_of_kept texts.old.items) rows.old.items ++ report.now ∷ []) }
     ensures refused { OnErr result ((texts.new.items ≡ texts.old.items) × (rows.new.items ≡ rows.old.items)) }
 {
+    let own = report.id().get();
+    let matched = report.match_id().get();
     let kept = Packed {
-        firm: *firm,
+        firm: *report.firm(),
         own: own.len() as u8,
         matched: matched.len() as u8,
         at: texts.len(),
-        terms: *terms,
+        terms: *report.terms(),
     };
     rows.reserve(1)?;
     append_texts(texts, own, matched)?;
@@ -131,23 +128,10 @@ impl Reports {
     }
 
     /// Puts a report after the others.
-    pub(crate) fn push(
-        &mut self,
-        firm: &FirmId,
-        id: &Id,
-        match_id: &Id,
-        terms: &Terms,
-    ) -> Result<(), AllocError>
-        ensures added { OnOk result (self.new ≡ self.old ++ report_with firm.now id.now match_id.now terms.now ∷ []) }
+    pub(crate) fn push(&mut self, report: &ReportRef<'_>) -> Result<(), AllocError>
+        ensures added { OnOk result (self.new ≡ self.old ++ report.now ∷ []) }
         ensures refused { OnErr result (self.new ≡ self.old) }
     {
-        add(
-            &mut self.rows,
-            &mut self.texts,
-            firm,
-            id.get(),
-            match_id.get(),
-            terms,
-        )
+        add(&mut self.rows, &mut self.texts, report)
     }
 }

@@ -2,7 +2,7 @@
 
 ghost use Rattle.std.specs.Prelude.{◌≡◌};
 ghost use Rattle.gu_trades.specs.Sides.{reports_in};
-ghost use Rattle.gu_trades.specs.Matching.{conflicts, is_trade, is_waiting};
+ghost use Rattle.gu_trades.specs.Matching.{conflicts};
 
 use crate::terms::Terms;
 use gu_terms::Report;
@@ -28,19 +28,5 @@ impl Sides {
             Sides::One(first) => !Terms::of(first).have_other_sides(&Terms::of(report)),
             Sides::Both(..) => true,
         }
-    }
-
-    /// Whether they are a trade.
-    pub fn is_trade(&self) -> bool
-        ensures { result ≡ is_trade (reports_in self.now) }
-    {
-        matches!(self, Sides::Both(..))
-    }
-
-    /// Whether there is one, which waits for its other side.
-    pub fn is_waiting(&self) -> bool
-        ensures { result ≡ is_waiting (reports_in self.now) }
-    {
-        matches!(self, Sides::One(_))
     }
 }

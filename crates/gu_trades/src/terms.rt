@@ -20,7 +20,7 @@ pub struct Terms {
 
 impl Terms {
     /// Those of a report.
-    pub fn of(report: &Report) -> Self
+    pub(crate) fn of(report: &Report) -> Self
         ensures { result ≡ terms_of report.now }
     {
         Terms {

@@ -10,11 +10,12 @@ ghost use Rattle.gu_trades.specs.Numbered.{last_before};
 ghost use Rattle.gu_trades.specs.Reports.{has_report, report_by, report_of, with_match};
 ghost use Rattle.gu_trades.specs.Rules.{IsSound, are_sides};
 ghost use Rattle.gu_trades.specs.Sides.{reports_in};
-ghost use Rattle.gu_trades.specs.Terms.{report_with, terms_of};
+ghost use Rattle.gu_trades.specs.Terms.{terms_of};
 
 use crate::counterpart::Counterpart;
 use crate::hash_index::{HashIndex, number_of};
 use crate::matching::Matching;
+use crate::report_ref::ReportRef;
 use crate::reports::Reports;
 use crate::sides::Sides;
 use crate::standing::Standing;
@@ -124,22 +125,19 @@ fn add(
     by_id: &mut HashIndex,
     by_match: &mut HashIndex,
     seed: &Seed,
-    firm: &FirmId,
-    id: &Id,
-    match_id: &Id,
-    terms: &Terms,
+    report: &ReportRef<'_>,
 ) -> Result<(), AllocError>
-    ensures added { OnOk result (reports.new ≡ reports.old ++ report_with firm.now id.now match_id.now terms.now ∷ []) }
-    ensures named { OnOk result (by_id.new.numbers ≡ by_id.old.numbers ++ id_number seed.now firm.now id.now ∷ []) }
-    ensures matched { OnOk result (by_match.new.numbers ≡ by_match.old.numbers ++ match_number seed.now match_id.now ∷ []) }
+    ensures added { OnOk result (reports.new ≡ reports.old ++ report.now ∷ []) }
+    ensures named { OnOk result (by_id.new.numbers ≡ by_id.old.numbers ++ id_number seed.now report.now.firm report.now.id ∷ []) }
+    ensures matched { OnOk result (by_match.new.numbers ≡ by_match.old.numbers ++ match_number seed.now report.now.match_id ∷ []) }
     ensures err { OnErr result ((reports.new ≡ reports.old)
         × (by_id.new.numbers ≡ by_id.old.numbers) × (by_match.new.numbers ≡ by_match.old.numbers)) }
 {
     by_id.reserve()?;
     by_match.reserve()?;
-    reports.push(firm, id, match_id, terms)?;
-    by_id.push(id_number(seed, firm, id));
-    by_match.push(match_number(seed, match_id));
+    reports.push(report)?;
+    by_id.push(id_number(seed, report.firm(), report.id()));
+    by_match.push(match_number(seed, report.match_id()));
     Ok(())
 }
 
@@ -299,17 +297,15 @@ impl Trades {
         ensures refused { OnErr result (self.new ≡ self.old) }
     {
         let matching = self.matching(&match_id);
-        self.push(&Report {
-            firm,
-            id,
-            match_id,
+        let terms = Terms {
             symbol,
+            account,
+            side,
+            day,
             lots,
             price,
-            day,
-            side,
-            account,
-        })?;
+        };
+        self.push(&ReportRef::new(&firm, &id, &match_id, terms))?;
         Ok(matching)
     }
 
@@ -339,27 +335,10 @@ impl Trades {
     }
 
     /// Takes in a report as `report` does, without an answer: for a caller that knows the reports with its match id.
-    pub fn push(&mut self, report: &Report) -> Result<(), AllocError>
+    pub fn push(&mut self, report: &ReportRef<'_>) -> Result<(), AllocError>
         requires new_id { has_report self.old report.now.firm report.now.id ≡ false }
         requires fits { conflicts (with_match report.now.match_id self.old) report.now ≡ false }
         ensures taken { OnOk result (self.new ≡ self.old ++ report.now ∷ []) }
-        ensures refused { OnErr result (self.new ≡ self.old) }
-    {
-        let terms = Terms::of(report);
-        self.push_terms(&report.firm, &report.id, &report.match_id, &terms)
-    }
-
-    /// Takes in the report of a firm, with its ids and these terms, as `push` does.
-    pub fn push_terms(
-        &mut self,
-        firm: &FirmId,
-        id: &Id,
-        match_id: &Id,
-        terms: &Terms,
-    ) -> Result<(), AllocError>
-        requires new_id { has_report self.old firm.now id.now ≡ false }
-        requires fits { conflicts (with_match match_id.now self.old) (report_with firm.now id.now match_id.now terms.now) ≡ false }
-        ensures taken { OnOk result (self.new ≡ self.old ++ report_with firm.now id.now match_id.now terms.now ∷ []) }
         ensures refused { OnErr result (self.new ≡ self.old) }
     {
         add(
@@ -367,10 +346,7 @@ impl Trades {
             &mut self.by_id,
             &mut self.by_match,
             &self.seed,
-            firm,
-            id,
-            match_id,
-            terms,
+            report,
         )?;
         Ok(())
     }

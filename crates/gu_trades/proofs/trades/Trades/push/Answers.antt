@@ -1,11 +1,10 @@
 use Rattle.std.proofs.Common.{refl}
-use Rattle.gu_trades.specs.Terms.{report_with}
 use Rattle.gu_trades.proofs.ReportPlaces.{kept-push}
-use Rattle.gu_trades.proofs.trades.Trades.push_terms.Goals as goal
+use Rattle.gu_trades.proofs.trades.Trades.push.Goals as goal
 
 pub invariant_of-self-2 : goal.invariant_of-self-2
 invariant_of-self-2 c =
-    kept-push c.self.inside _ c.args.self.now (report_with c.args.firm.now c.args.id.now c.args.match_id.now c.args.terms.now)
+    kept-push c.self.inside _ c.args.self.now c.args.report.now
     c.self.view_is c.self.invariant c.requires.new_id c.requires.fits refl c.in_ok-add.ensures.added c.in_ok-add.ensures.named c.in_ok-add.ensures.matched
 
 pub invariant_of-self : goal.invariant_of-self
