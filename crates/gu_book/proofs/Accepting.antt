@@ -45,7 +45,7 @@ use Rattle.gu_rules.proofs.Takers.{TakesOne, claim-takes, claimed}
 use Rattle.gu_book.specs.Accepted.{MayTakeIn, TakesIn}
 use Rattle.gu_book.specs.Beside.{IsBeside, IsKept, state_in}
 use Rattle.gu_book.specs.Effects.{FreesUnder, HoldsMoved, SameEntries, UsesLess, UsesMore, UsesUnder}
-use Rattle.gu_book.specs.Deeds.{IsSeen, MovesLots}
+use Rattle.gu_book.specs.Deeds.{AreFound, MovesLots}
 use Rattle.gu_book.specs.declared.deed.Moved.{Moved}
 use Rattle.gu_book.specs.declared.totals.Totals.{Totals}
 use Rattle.gu_book.proofs.KeptOffers.{kept-refused, kept-taken, kept-taken_back, within-taken}
@@ -92,7 +92,7 @@ some-terms (Some r) terms is = (r, refl, ap (λ (t : Option Terms). unwrap_or t 
 
 -- an offer and the terms of its report, as they are found, are those of the history
 pub seen-is : (reference : Tables) (history : List Entry) (totals : Totals) (n : ℕ) (offer : Offer) (report : Terms) (found : Report) (row : Row) → IsBeside reference history totals
-    → IsSeen totals n offer report → IsThere history n row found → (offer ≡ row.offer) × (report ≡ terms_of found)
+    → AreFound totals n offer report → IsThere history n row found → (offer ≡ row.offer) × (report ≡ terms_of found)
 seen-is reference history totals n offer report found row b seen there =
     let shown : Some offer ≡ Some row.offer = seen.shown ∙ ap (λ (rs : List Row). option_map (λ (r : Row). r.offer) (row_at rs n)) b.offers ∙ ap (λ (o : Option Row). option_map (λ (r : Row). r.offer) o) there.at in
     let same : offer ≡ row.offer = ap (λ (o : Option Offer). unwrap_or o offer) shown in
@@ -113,7 +113,7 @@ taken-there reference history totals n lots row report kept there stands less =
     omega (arith, has, own_place report.side report.account report.symbol lots, kept.beside.positions report.side report.account report.symbol)
 
 -- an entry that takes lots of an open offer is taken in
-pub lots-taken : (reference : Tables) (history : List Entry) (old new : Totals) (entry : Entry) (n lots : ℕ) (offer : Offer) (report : Terms) (found : Report) (row : Row) → IsSeen old n offer report → TakesOne entry n lots
+pub lots-taken : (reference : Tables) (history : List Entry) (old new : Totals) (entry : Entry) (n lots : ℕ) (offer : Offer) (report : Terms) (found : Report) (row : Row) → AreFound old n offer report → TakesOne entry n lots
     → SameEntries old new → new.offers ≡ changed old.offers n (taken lots) → UsesMore reference old.limits new.limits offer lots
     → HoldsMoved old.positions new.positions report report.account offer.account lots → IsKept reference history old → IsThere history n row found → row.is_shut ≡ false → row.moved + lots ≤ row.offer.lots
     → IsKept reference (history ++ entry ∷ []) new

@@ -39,7 +39,7 @@ use Rattle.gu_book.specs.Accepted.{MayTakeIn}
 use Rattle.gu_book.specs.Beside.{IsAccounted}
 use Rattle.gu_book.specs.Effects.{IsEven, OnlyRowsOf, SameAnswers}
 use Rattle.gu_book.specs.declared.totals.Totals.{Totals}
-use Rattle.gu_book.specs.Deeds.{IsSeen}
+use Rattle.gu_book.specs.Deeds.{AreFound}
 use Rattle.gu_book.proofs.Accepting.{some-terms}
 
 -- rows of such accounts alone are made
@@ -72,7 +72,7 @@ offers-known reference old new (Ok x) n row change at same known ok err =
 offers-known reference old new (Err e) n row change at same known ok err = subst (AllByRecursion (λ (o : Row). is_there reference o.offer.account)) (sym err.offers) known
 
 -- an offer that is seen stands in a row
-pub seen-row : (totals : Totals) (n : ℕ) (offer : Offer) (report : Terms) → IsSeen totals n offer report → (row : Row) × (row_at totals.offers n ≡ Some row) × (row.offer ≡ offer)
+pub seen-row : (totals : Totals) (n : ℕ) (offer : Offer) (report : Terms) → AreFound totals n offer report → (row : Row) × (row_at totals.offers n ≡ Some row) × (row.offer ≡ offer)
 seen-row totals n offer report seen = by (row_at totals.offers n) refl seen.shown
   where
     by : (found : Option Row) → row_at totals.offers n ≡ found → Some offer ≡ option_map (λ (r : Row). r.offer) found → (row : Row) × (row_at totals.offers n ≡ Some row) × (row.offer ≡ offer)
@@ -80,7 +80,7 @@ seen-row totals n offer report seen = by (row_at totals.offers n) refl seen.show
     by (Some row) e h = let same : row.offer ≡ offer = cc in (row, e, same)
 
 -- a claim or a reversal
-pub known-moved : {T E : Type 0} (reference : Tables) (old new : Totals) (r : Result T E) (n : ℕ) (change : Row → Row) (offer : Offer) (report : Terms) → IsSeen old n offer report → ((row : Row) → (change row).offer ≡ row.offer)
+pub known-moved : {T E : Type 0} (reference : Tables) (old new : Totals) (r : Result T E) (n : ℕ) (change : Row → Row) (offer : Offer) (report : Terms) → AreFound old n offer report → ((row : Row) → (change row).offer ≡ row.offer)
     → new.trades ≡ old.trades → OnOk r (new.offers ≡ changed old.offers n change) → OnErr r (SameAnswers old new) → OnlyRowsOf old.positions new.positions (report.account ∷ offer.account ∷ [])
     → (IsEven old.positions → IsEven new.positions) → IsAccounted reference old → IsAccounted reference new
 known-moved reference old new r n change offer report seen same trades ok err rows even known =

@@ -43,24 +43,24 @@ use Rattle.gu_book.specs.Beside.{IsAccounted, IsKept}
 use Rattle.gu_book.specs.Effects.{HoldsMoved, KeepsMade, OnlyRowsOf, SameAnswers, SameEntries, UsesMore}
 use Rattle.gu_book.specs.Moving.{HasRows, MayMove, MovesAll, MovesOne, ShowsPath, given_by, lots_used}
 use Rattle.gu_book.specs.declared.totals.Totals.{Totals}
-use Rattle.gu_book.specs.Deeds.{IsSeen}
+use Rattle.gu_book.specs.Deeds.{AreFound}
 use Rattle.gu_book.proofs.Accepting.{key_at, lots-taken, seen-is, some-terms, taken-there}
 use Rattle.gu_book.proofs.KnownAccounts.{known-moved, rows-known, seen-row}
 
 -- ---- what is found
 
 -- the offer and the report that are found are seen
-pub given-seen : (totals : Totals) (n : ℕ) (offer : Offer) (report : Terms) → Some (offer, report) ≡ given_by totals n → IsSeen totals n offer report
+pub given-seen : (totals : Totals) (n : ℕ) (offer : Offer) (report : Terms) → Some (offer, report) ≡ given_by totals n → AreFound totals n offer report
 given-seen totals n offer report is = by (row_at totals.offers n) refl is
   where
     by : (found : Option Row) → row_at totals.offers n ≡ found
         → ◌≡◌ {A = Option (Offer × Terms)} (Some (offer, report)) (option_and_then {U = Offer × Terms} (λ (row : Row). option_map {U = Offer × Terms} (λ (r : Report). (row.offer, terms_of r)) (report_after totals.trades row)) found)
-        → IsSeen totals n offer report
+        → AreFound totals n offer report
     by None e h = cc
     by (Some row) e h = of (report_after totals.trades row) refl h
       where
         of : (behind : Option Report) → report_after totals.trades row ≡ behind → ◌≡◌ {A = Option (Offer × Terms)} (Some (offer, report)) (option_map {U = Offer × Terms} (λ (r : Report). (row.offer, terms_of r)) behind)
-            → IsSeen totals n offer report
+            → AreFound totals n offer report
         of None f k = cc
         of (Some r) f k =
             let pair : ◌≡◌ {A = Offer × Terms} (offer, report) (row.offer, terms_of r) = cc in

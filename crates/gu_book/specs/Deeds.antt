@@ -35,7 +35,7 @@ use Rattle.gu_book.specs.declared.totals.Totals.{Totals}
 use Rattle.gu_book.specs.declared.versions.Touched.{Touched}
 use Rattle.gu_book.specs.declared.versions.Touched.TheVariants.{Nothing, Only, Every}
 
--- what is told of a deed
+-- what the reply to a command says of which this was decided
 abbrev pub done_by : Deed → Done
 done_by (Open day) = Opened
 done_by (SetLimit group key lots) = LimitSet
@@ -55,7 +55,7 @@ touched_by (Claim claimed places) = Only claimed.offer.group
 touched_by (Refuse number group lots) = Only group
 touched_by (Reverse reversed) = Only reversed.offer.group
 
--- the reply to a command of which this was decided
+-- that reply, or the refusal
 abbrev pub reply_by : Result Deed Refusal → Reply
 reply_by (Ok deed) = Accepted (done_by deed)
 reply_by (Err why) = Denied why
@@ -65,7 +65,7 @@ abbrev pub HaveReports : Totals → Type 0
 HaveReports totals = AllByRecursion (λ (row : Row). is_some (report_after totals.trades row) ≡ true) totals.offers
 
 -- an offer and the terms of its report, as they are found
-pub record IsSeen (totals : Totals) (n : ℕ) (offer : Offer) (report : Terms) : Type 0 where
+pub record AreFound (totals : Totals) (n : ℕ) (offer : Offer) (report : Terms) : Type 0 where
   pub shown : Some offer ≡ option_map (λ (r : Row). r.offer) (row_at totals.offers n)
   pub found : Some report ≡ option_map terms_of (report_by totals.trades offer.firm offer.report)
 
@@ -73,7 +73,7 @@ pub record IsSeen (totals : Totals) (n : ℕ) (offer : Offer) (report : Terms) :
 pub record MovesLots (reference : Tables) (totals : Totals) (command : Command) (ask : FirmId → ℕ → Command) (moved : Moved) (lots : ℕ) : Type 0 where
   pub firm : FirmId
   pub is : command ≡ ask firm moved.number
-  pub seen : IsSeen totals moved.number moved.offer moved.report
+  pub seen : AreFound totals moved.number moved.offer moved.report
   pub path : unwrap_or moved.path [] ≡ path_after reference moved.offer
   pub once : IfSome moved.path (IsDistinct key_eq)
   pub all : moved.lots ≡ lots
@@ -102,7 +102,7 @@ abbrev pub IsDeedOf : Tables → Totals → Command → Deed → Type 0
 IsDeedOf reference totals command (Open day) = command ≡ asked.OpenDay day
 IsDeedOf reference totals command (SetLimit group key lots) = command ≡ asked.SetLimit group key lots
 IsDeedOf reference totals command (Reports report waiting) = MakesReport totals command report waiting
-IsDeedOf reference totals command (GiveUp firm id report lines group first) = GivesLines reference totals command firm id report lines.now group
+IsDeedOf reference totals command (GiveUp firm id report lines group first) = GivesLines reference totals command firm.now id.now report.now lines.now group
 IsDeedOf reference totals command (Claim claimed places) = MovesLots reference totals command asked.Claim claimed (left_in totals.offers claimed.number)
 IsDeedOf reference totals command (Refuse number group lots) = RefusesOffer totals command number group
 IsDeedOf reference totals command (Reverse reversed) = MovesLots reference totals command asked.Reverse reversed (today_in totals.offers reversed.number)

@@ -25,9 +25,9 @@ use gu_limits::{LimitTable, Places, path_by};
 use gu_ref::{Partner, Reference};
 use gu_terms::{
     AllocReject, Command, Day, FirmId, Group, Id, LimitKey, Line, Lines, Lots, MOST_LIMIT,
-    MOST_OPEN_OFFERS, Offer, OfferNo, Path, Refusal, Report,
+    MOST_OPEN_OFFERS, Offer, OfferNo, Path, Refusal,
 };
-use gu_trades::{Counterpart, Standing, Terms};
+use gu_trades::{Counterpart, ReportRef, Standing, Terms};
 
 /// Whether a day comes after the open one.
 fn is_later(today: Option<Day>, day: Day) -> bool
@@ -78,38 +78,34 @@ fn waiting_of(counterpart: &Counterpart) -> Result<Option<Terms>, Refusal>
 fn decide_report<'a>(
     reference: &Reference,
     totals: &Totals,
-    report: &Report,
+    report: ReportRef<'a>,
     day: Option<Day>,
 ) -> Result<Deed<'a>, Refusal>
-    requires { totals.now.today ≡ Some report.now.day }
-    ensures reply { reply_by result ≡ first_standing (report_tests reference.now totals.now.trades report.now day)
-        (Reported (is_waiting (with_match report.now.match_id totals.now.trades))) }
-    ensures deed { IfOk result (IsDeedOf reference.now totals.now (Command.ReportSide report.now.firm report.now.id report.now.match_id
-        report.now.symbol report.now.lots report.now.price day report.now.side report.now.account)) }
+    requires { totals.now.today ≡ Some report.day }
+    ensures reply { reply_by result ≡ first_standing (report_tests reference.now totals.now.trades report.entry day)
+        (Reported (is_waiting (with_match report.entry.match_id totals.now.trades))) }
+    ensures deed { IfOk result (IsDeedOf reference.now totals.now (Command.ReportSide report.entry.firm report.entry.id report.entry.match_id
+        report.entry.symbol report.entry.lots report.entry.price day report.entry.side report.entry.account)) }
 {
-    if is_other_day(report.day, day) {
+    let terms = report.terms();
+    if is_other_day(terms.day, day) {
         return Err(Refusal::WrongDay);
     }
-    if !reference.is_instrument(report.symbol) {
+    if !reference.is_instrument(terms.symbol) {
         return Err(Refusal::UnknownInstrument);
     }
-    let Some(row) = reference.account(report.account) else {
+    let Some(row) = reference.account(terms.account) else {
         return Err(Refusal::UnknownAccount);
     };
-    if row.firm != report.firm {
+    if row.firm != *report.firm() {
         return Err(Refusal::NotYours);
     }
-    if totals.trades.has(&report.firm, &report.id) {
+    if totals.trades.has(report.firm(), report.id()) {
         return Err(Refusal::DuplicateId);
     }
-    let counterpart = totals
-        .trades
-        .counterpart(&report.match_id, &Terms::of(report));
+    let counterpart = totals.trades.counterpart(report.match_id(), terms);
     let waiting = waiting_of(&counterpart)?;
-    Ok(Deed::Report {
-        report: *report,
-        waiting,
-    })
+    Ok(Deed::Report { report, waiting })
 }
 
 /// Decides a limit.
@@ -232,9 +228,9 @@ fn refusal_of_lines(
 fn decide_give_up<'a>(
     reference: &Reference,
     totals: &Totals,
-    firm: &FirmId,
-    id: &Id,
-    report: &Id,
+    firm: &'a FirmId,
+    id: &'a Id,
+    report: &'a Id,
     lines: &'a Lines,
 ) -> Result<Deed<'a>, Refusal>
     requires { length totals.now.offers < 16000000 }
@@ -261,9 +257,9 @@ fn decide_give_up<'a>(
         unreachable!();
     };
     Ok(Deed::GiveUp {
-        firm: *firm,
-        id: *id,
-        report: *report,
+        firm,
+        id,
+        report,
         lines,
         group,
         first,
@@ -503,18 +499,16 @@ pub fn decide<'a>(
             let Some(today) = totals.today else {
                 return Err(Refusal::NoDay);
             };
-            let report = Report {
-                firm: *firm,
-                id: *id,
-                match_id: *match_id,
+            let terms = Terms {
                 symbol: *symbol,
+                account: *account,
+                side: *side,
+                day: today,
                 lots: *lots,
                 price: *price,
-                day: today,
-                side: *side,
-                account: *account,
             };
-            decide_report(reference, totals, &report, *day)
+            let report = ReportRef::new(firm, id, match_id, terms);
+            decide_report(reference, totals, report, *day)
         }
         Command::GiveUp {
             firm,

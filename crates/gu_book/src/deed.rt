@@ -5,10 +5,8 @@ ghost use Rattle.gu_book.specs.Deeds.{done_by, touched_by};
 
 use crate::versions::Touched;
 use gu_limits::Places;
-use gu_terms::{
-    Day, Done, FirmId, Group, Id, LimitKey, Lines, Lots, Offer, OfferNo, Path, Reply, Report,
-};
-use gu_trades::Terms;
+use gu_terms::{Day, Done, FirmId, Group, Id, LimitKey, Lines, Lots, Offer, OfferNo, Path, Reply};
+use gu_trades::{ReportRef, Terms};
 
 /// Lots of an offer that are claimed or taken back.
 #[derive(Clone, Copy, Debug)]
@@ -23,7 +21,7 @@ pub struct Moved {
 }
 
 /// What an accepted command does, with all that was found as it was decided.
-#[derive(Clone, Copy)]
+#[derive(Drop)]
 pub enum Deed<'a> {
     Open {
         day: Day,
@@ -34,14 +32,14 @@ pub enum Deed<'a> {
         lots: u64,
     },
     Report {
-        report: Report,
+        report: ReportRef<'a>,
         /// The terms of the report that waits for it, where one does.
         waiting: Option<Terms>,
     },
     GiveUp {
-        firm: FirmId,
-        id: Id,
-        report: Id,
+        firm: &'a FirmId,
+        id: &'a Id,
+        report: &'a Id,
         lines: &'a Lines,
         group: Group,
         first: OfferNo,
@@ -62,7 +60,7 @@ pub enum Deed<'a> {
 }
 
 impl<'a> Deed<'a> {
-    /// What is told of it.
+    /// What the reply to its command says.
     fn done(&self) -> Done
         ensures { result ≡ done_by self.now }
     {

@@ -33,7 +33,7 @@ pub fn take_in(totals: &mut Totals, deed: &Deed<'_>) -> Result<(), AllocError>
         } => {
             // The lines tell how many they are.
             let _ = lines.as_slice();
-            totals.give_up(firm, id, report, group, *lines)
+            totals.give_up(*firm, *id, *report, group, *lines)
         }
         Deed::Claim { claimed, places } => totals.claim(claimed, places),
         Deed::Refuse {

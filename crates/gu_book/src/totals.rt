@@ -25,10 +25,8 @@ use crate::deed::Moved;
 use gu_limits::{LimitTable, Places, SetError};
 use gu_offers::Offers;
 use gu_positions::Positions;
-use gu_terms::{
-    AccountId, Day, FirmId, Group, Id, LimitKey, Lines, Offer, OfferNo, Report, Seed, Symbol,
-};
-use gu_trades::{Terms, Trades};
+use gu_terms::{AccountId, Day, FirmId, Group, Id, LimitKey, Lines, Offer, OfferNo, Seed, Symbol};
+use gu_trades::{ReportRef, Terms, Trades};
 use indexmap::IndexSet;
 use std::alloc::{AllocError, Global};
 
@@ -135,7 +133,11 @@ impl Totals {
     }
 
     /// A report is taken in. Once it makes a trade with one that waits, which is of these terms, the lots of both are held.
-    pub fn report(&mut self, report: &Report, waiting: &Option<Terms>) -> Result<(), AllocError>
+    pub fn report(
+        &mut self,
+        report: &ReportRef<'_>,
+        waiting: &Option<Terms>,
+    ) -> Result<(), AllocError>
         requires fits { Fits self.old.trades report.now }
         requires waiting { waiting.now ≡ waiting_of (counterpart_of (with_match report.now.match_id self.old.trades) (terms_of report.now)) }
         requires room { (side : SideOf) (symbol : SymbolOf) → lots_on self.old.positions side symbol + 2000000 < 2 ^ 64 }
@@ -151,12 +153,12 @@ impl Totals {
             (report.now.account ∷ map (λ w. w.account) (with_match report.now.match_id self.old.trades)) }
         ensures refused { OnErr result (SameAnswers self.old self.new) }
     {
-        let terms = Terms::of(report);
-        make_rows_of_trade(&mut self.positions, waiting, &terms)?;
+        let terms = report.terms();
+        make_rows_of_trade(&mut self.positions, waiting, terms)?;
         self.trades.push(report)?;
         if let Some(waiting) = waiting {
             hold(&mut self.positions, waiting);
-            hold(&mut self.positions, &terms);
+            hold(&mut self.positions, terms);
         }
         Ok(())
     }

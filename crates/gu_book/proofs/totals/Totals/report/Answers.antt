@@ -12,14 +12,14 @@ returns-in_err-make_rows_of_trade-clause-rows c =
     let report = c.args.report.now in
     let sides = with_match c.args.report.now.match_id c.args.self.now.trades in
     subst (λ (accounts : List AccountId). OnlyRowsOf c.args.self.now.positions c.make_rows_of_trade.new.positions (c.args.report.now.account ∷ accounts))
-    (accounts-waiting sides report c.args.waiting.now c.requires.waiting c.requires.fits.fits) (rw c.of-terms.ensures at c.make_rows_of_trade.ensures.rows)
+    (accounts-waiting sides report c.args.waiting.now c.requires.waiting c.requires.fits.fits) (rw c.terms-terms.ensures at c.make_rows_of_trade.ensures.rows)
 
 pub returns-in_err-push-clause-rows : goal.returns-in_err-push-clause-rows
 returns-in_err-push-clause-rows c =
     let report = c.args.report.now in
     let sides = with_match c.args.report.now.match_id c.args.self.now.trades in
     subst (λ (accounts : List AccountId). OnlyRowsOf c.args.self.now.positions c.make_rows_of_trade.new.positions (c.args.report.now.account ∷ accounts))
-    (accounts-waiting sides report c.args.waiting.now c.requires.waiting c.requires.fits.fits) (rw c.of-terms.ensures at c.make_rows_of_trade.ensures.rows)
+    (accounts-waiting sides report c.args.waiting.now c.requires.waiting c.requires.fits.fits) (rw c.terms-terms.ensures at c.make_rows_of_trade.ensures.rows)
 
 pub hold-requires-clause-fits : goal.hold-requires-clause-fits
 hold-requires-clause-fits c =
@@ -41,7 +41,7 @@ returns-in-Some-clause-positions c =
     let report = c.args.report.now in
     holds-both c.args.self.now.positions c.make_rows_of_trade.new.positions c.hold.new.positions c.hold-in-Some.new.positions (with_match c.args.report.now.match_id c.args.self.now.trades) report
     c.args.waiting.now c.in-Some.waiting c.in-Some.is c.requires.waiting c.make_rows_of_trade.ensures.same_lots
-    c.hold.ensures.lots c.hold.ensures.sums (rw c.of-terms.ensures at c.hold-in-Some.ensures.lots) c.hold-in-Some.ensures.sums
+    c.hold.ensures.lots c.hold.ensures.sums (rw c.terms-terms.ensures at c.hold-in-Some.ensures.lots) c.hold-in-Some.ensures.sums
 
 pub returns-in_default-clause-positions : goal.returns-in_default-clause-positions
 returns-in_default-clause-positions c =
@@ -54,7 +54,7 @@ returns-in-Some-clause-rows c account symbol has =
     let report = c.args.report.now in
     let sides = with_match c.args.report.now.match_id c.args.self.now.trades in
     subst (λ (accounts : List AccountId). OnlyRowsOf c.args.self.now.positions c.make_rows_of_trade.new.positions (c.args.report.now.account ∷ accounts))
-    (accounts-waiting sides report c.args.waiting.now c.requires.waiting c.requires.fits.fits) (rw c.of-terms.ensures at c.make_rows_of_trade.ensures.rows) account symbol
+    (accounts-waiting sides report c.args.waiting.now c.requires.waiting c.requires.fits.fits) (rw c.terms-terms.ensures at c.make_rows_of_trade.ensures.rows) account symbol
     (sym (c.hold-in-Some.ensures.same_rows account symbol ∙ c.hold.ensures.same_rows account symbol) ∙ has)
 
 pub returns-in-Some-clause-even : goal.returns-in-Some-clause-even
@@ -63,5 +63,5 @@ returns-in-Some-clause-even c even =
     let alone = waits (with_match c.args.report.now.match_id c.args.self.now.trades) report c.args.waiting.now c.in-Some.waiting c.in-Some.is c.requires.waiting in
     let same = c.make_rows_of_trade.ensures.same_lots.sums in
     even-traded c.make_rows_of_trade.new.positions c.hold.new.positions c.hold-in-Some.new.positions alone.0 report alone.3
-    (rw (sym alone.2) at c.hold.ensures.added) (rw c.of-terms.ensures at c.hold-in-Some.ensures.added)
+    (rw (sym alone.2) at c.hold.ensures.added) (rw c.terms-terms.ensures at c.hold-in-Some.ensures.added)
     (λ symbol. same Buy symbol ∙ even symbol ∙ sym (same Sell symbol))
