@@ -88,8 +88,8 @@ impl<'a> Showing<'a> {
         self.totals.offers.rules();
         self.reference.rules();
         let number = OfferNo::new(number)?;
-        let offer = self.totals.offers.get(number)?;
-        turn_to(self.reference, &mut self.last, offer.firm, offer.account);
+        let (firm, account) = self.totals.offers.parties(number)?;
+        turn_to(self.reference, &mut self.last, firm, account);
         let way = self.last.as_ref()?;
         Some(ViewOffer {
             number,

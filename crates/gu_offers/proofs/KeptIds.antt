@@ -111,9 +111,9 @@ pub read_by : (f : Row → ℕ) (day : ℕ) (o : Option GivenUp) (n : ℕ) → o
 read_by f day None n e = cc
 read_by f day (Some g) n e = cc
 
-pub offer_by : (day : ℕ) (o : Option GivenUp) → option_map (λ (r : Row). r.offer) (option_map (row_of day) o) ≡ option_map (λ (g : GivenUp). g.offer) o
-offer_by day None = refl
-offer_by day (Some g) = refl
+pub offer_by : {X : Type 0} (f : Offer → X) (day : ℕ) (o : Option GivenUp) → option_map (λ (r : Row). f r.offer) (option_map (row_of day) o) ≡ option_map (λ (g : GivenUp). f g.offer) o
+offer_by f day None = refl
+offer_by f day (Some g) = refl
 
 pub shown_by : (day number left : ℕ) (offer : Offer) (o : Option GivenUp) → option_map (λ (g : GivenUp). g.offer) o ≡ Some offer
     → option_map (λ (g : GivenUp). left_of (row_of day g)) o ≡ Some left

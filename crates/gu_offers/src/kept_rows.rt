@@ -9,7 +9,7 @@ ghost use Rattle.gu_offers.specs.Rows.{left_of};
 
 use crate::counts::ReportKey;
 use crate::given::{Given, Shared};
-use gu_terms::{Group, Id, Line, Offer};
+use gu_terms::{AccountId, FirmId, Group, Id, Line, Offer};
 use std::alloc::{AllocError, Global};
 use std::marker::Model;
 
@@ -93,6 +93,15 @@ impl KeptRows {
             account: given.account,
             lots: given.lots,
         }
+    }
+
+    /// The firm of the offer at a place, and its account.
+    pub(crate) fn parties(&self, place: usize) -> (FirmId, AccountId)
+        requires { place < length self.now }
+        ensures { option_map (λ (g : GivenOf). (g.offer.firm, g.offer.account)) (slice_get self.now place) ≡ Some result }
+    {
+        let given = &self.list[place];
+        (given.firm, given.account)
     }
 
     /// The lots that are left of the offer at a place.

@@ -11,7 +11,7 @@ use crate::counts::{Counts, ReportKey};
 use crate::groups::Groups;
 use crate::kept_rows::{KeptRows, close_of, reverse_of, take_of};
 use crate::open_offer::OpenOffer;
-use gu_terms::{FirmId, Group, Id, Line, Lines, Offer, OfferNo, Seed};
+use gu_terms::{AccountId, FirmId, Group, Id, Line, Lines, Offer, OfferNo, Seed};
 use std::alloc::{AllocError, Global};
 use std::marker::Model;
 
@@ -131,6 +131,17 @@ impl Offers {
             return None;
         }
         Some(self.rows.offer(place))
+    }
+
+    /// The firm that gave up the offer of a number, and the account to which it did.
+    pub fn parties(&self, number: OfferNo) -> Option<(FirmId, AccountId)>
+        ensures { result ≡ option_map (λ r. (r.offer.firm, r.offer.account)) (row_at self.now number) }
+    {
+        let place = place_of(number);
+        if place >= self.rows.len() {
+            return None;
+        }
+        Some(self.rows.parties(place))
     }
 
     /// The lots that are left of an offer, 0 where there is none of this number.

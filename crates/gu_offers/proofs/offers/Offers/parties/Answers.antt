@@ -1,0 +1,12 @@
+use Rattle.std.proofs.Common.{◌∙◌, ap, refl, slice_get, sym}
+use Rattle.std.specs.Option.{option_map}
+use Rattle.gu_terms.specs.declared.offer.Offer.{Offer}
+use Rattle.gu_offers.specs.Rows.{Row}
+use Rattle.gu_offers.proofs.Found.{row_at-kept}
+use Rattle.gu_offers.proofs.KeptIds.{offer_by}
+use Rattle.gu_offers.proofs.offers.Offers.parties.Goals as goal
+
+pub returns : goal.returns
+returns c =
+    sym (ap (option_map (λ (r : Row). (r.offer.firm, r.offer.account))) (row_at-kept c.self.inside c.args.self.now c.self.view_is c.place_of-place.result c.args.number c.place_of-place.ensures (slice_get c.self.inside.rows c.place_of-place.result) refl)
+    ∙ offer_by (λ (o : Offer). (o.firm, o.account)) c.self.inside.day (slice_get c.self.inside.rows c.place_of-place.result) ∙ c.parties.ensures)
