@@ -1,9 +1,11 @@
 -- Lists that lie one after another in one list.
-use Rattle.std.proofs.Common.{◌≡◌, ℕ, zero, suc, ◌-◌, ◌<◌, ◌≤◌, List, [], ◌∷◌, ◌++◌, Some, length, take, drop, get_or, arith, length-append, ap, ◌∙◌, refl}
+use Rattle.std.proofs.Common.{◌≡◌, ℕ, zero, suc, ◌-◌, ◌<◌, ◌≤◌, List, [], ◌∷◌, ◌++◌, Some, length, take, drop, get_or, arith, length-append, ap, ◌∙◌, refl, sym}
 use Rattle.std.specs.List.{AllByRecursion}
 use Rattle.std.specs.Prelude.{slice_range, slice_get}
 use Rattle.std.proofs.Math.Seq.{get_or-append_seam}
 use Rattle.std.proofs.lemmas.List.{get_or_append_left, drop_at, drop-append-le, take_all, take-append-le, length-drop}
+use Rattle.std.specs.Option.{option_map}
+use Rattle.std.proofs.lemmas.Option.{slice_get-get_or, slice_get-map}
 use Rattle.gu_view.specs.Keeping.{lists_at, lists_from, AreEnds}
 
 -- what lies after the first list of a joined pair
@@ -42,6 +44,16 @@ lists_at-push kept list [] within = ap (λ l. l ∷ []) (get_or-append_seam kept
 lists_at-push kept list (place ∷ at) within =
     ap (λ l. l ∷ lists_at (kept ++ list ∷ []) (at ++ length kept ∷ [])) (get_or_append_left kept (list ∷ []) [] place within.0)
     ∙ ap (λ ls. get_or kept place [] ∷ ls) (lists_at-push kept list at within.1)
+
+-- lists that are kept at one place are one
+pub alike_at : (kept : List (List ℕ)) (at : List ℕ) (first end n : ℕ) → end ≤ length at → ((place : ℕ) → first ≤ place → place < end → get_or at place 0 ≡ n)
+    → (place : ℕ) → first ≤ place → place < end → slice_get (lists_at kept at) place ≡ slice_get (lists_at kept at) first
+alike_at kept at first end n inside each place low high = is place low high ∙ sym (is first (omega arith) (omega arith))
+  where
+    is : (place : ℕ) → first ≤ place → place < end → slice_get (lists_at kept at) place ≡ Some (get_or kept n [])
+    is place low high =
+        slice_get-map (λ p. get_or kept p []) at place
+        ∙ ap (option_map (λ p. get_or kept p [])) (slice_get-get_or at place 0 (omega arith) ∙ ap (λ p. Some p) (each place low high))
 
 -- as many lists as ends
 pub length-lists_from : (joined : List ℕ) (from : ℕ) (ends : List ℕ) → length (lists_from joined from ends) ≡ length ends

@@ -137,24 +137,24 @@ or_no : (a b : Bool) → b ≡ false → (a || b) ≡ a
 or_no true b e = refl
 or_no false b e = e
 
--- one more is counted at the place of each number
-pub one_counted : (counts old list : List ℕ) (i n : ℕ) → AllPairs (λ a b. a ≢ b) list → i < length list → get_or list i 0 < length counts
-    → get_or counts n 0 ≡ get_or old n 0 + cond (has n (take i list)) 1 0
-    → get_or (set counts (get_or list i 0) (get_or counts (get_or list i 0) 0 + 1)) n 0 ≡ get_or old n 0 + cond (has n (take (i + 1) list)) 1 0
-one_counted counts old list i n apart inside within so_far =
+-- so many more are counted at the place of each number
+pub one_counted : (counts old list : List ℕ) (i n more : ℕ) → AllPairs (λ a b. a ≢ b) list → i < length list → get_or list i 0 < length counts
+    → get_or counts n 0 ≡ get_or old n 0 + cond (has n (take i list)) more 0
+    → get_or (set counts (get_or list i 0) (get_or counts (get_or list i 0) 0 + more)) n 0 ≡ get_or old n 0 + cond (has n (take (i + 1) list)) more 0
+one_counted counts old list i n more apart inside within so_far =
     let m = get_or list i 0 in
-    let more = list_any_more (λ p. p == n) list i 0 inside in
+    let longer = list_any_more (λ p. p == n) list i 0 inside in
     elim (cases_order n m) [
       | inl same ↦
           let none : has n (take i list) ≡ false = ap (λ p. has p (take i list)) same ∙ not_before list i 0 apart inside in
-          let one : has n (take (i + 1) list) ≡ true = more ∙ or_right (has n (take i list)) (m == n) (eq-eqb m n (sym same)) in
-          let put : get_or (set counts m (get_or counts m 0 + 1)) n 0 ≡ get_or counts n 0 + 1 =
-          get_or-set_at counts m n (get_or counts m 0 + 1) 0 same within ∙ ap (λ p. get_or counts p 0 + 1) (sym same) in
-          omega (arith, put, so_far, cond-false {A = ℕ} (has n (take i list)) 1 0 none, cond-true {A = ℕ} (has n (take (i + 1) list)) 1 0 one)
+          let one : has n (take (i + 1) list) ≡ true = longer ∙ or_right (has n (take i list)) (m == n) (eq-eqb m n (sym same)) in
+          let put : get_or (set counts m (get_or counts m 0 + more)) n 0 ≡ get_or counts n 0 + more =
+          get_or-set_at counts m n (get_or counts m 0 + more) 0 same within ∙ ap (λ p. get_or counts p 0 + more) (sym same) in
+          omega (arith, put, so_far, cond-false {A = ℕ} (has n (take i list)) more 0 none, cond-true {A = ℕ} (has n (take (i + 1) list)) more 0 one)
       | inr other ↦
-          let apart_from : n ≢ m = λ e. elim other [ inl less ↦ omega (arith, e) | inr more ↦ omega (arith, e) ] in
-          let stays : has n (take (i + 1) list) ≡ has n (take i list) = more ∙ or_no (has n (take i list)) (m == n) (ne_eqb m n (λ e. apart_from (sym e))) in
-          get_or-set_other counts m n (get_or counts m 0 + 1) 0 apart_from ∙ so_far ∙ ap (λ b. get_or old n 0 + cond b 1 0) (sym stays)
+          let apart_from : n ≢ m = λ e. elim other [ inl less ↦ omega (arith, e) | inr after ↦ omega (arith, e) ] in
+          let stays : has n (take (i + 1) list) ≡ has n (take i list) = longer ∙ or_no (has n (take i list)) (m == n) (ne_eqb m n (λ e. apart_from (sym e))) in
+          get_or-set_other counts m n (get_or counts m 0 + more) 0 apart_from ∙ so_far ∙ ap (λ b. get_or old n 0 + cond b more 0) (sym stays)
     ]
 
 -- what is put at where a list is filled to

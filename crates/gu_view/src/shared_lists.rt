@@ -1,6 +1,6 @@
 //! Lists of places, of which those that follow one another may be one.
 
-ghost use Rattle.std.specs.Prelude.{◌≡◌, ◌-◌, ◌<◌, ◌++◌, ◌∷◌, [], IfOk, OnOk, Some, length, slice_get, slice_index_or};
+ghost use Rattle.std.specs.Prelude.{◌≡◌, ℕ, ◌-◌, ◌<◌, ◌≤◌, ◌++◌, ◌∷◌, [], IfOk, OnOk, Some, length, slice_get, slice_index_or};
 ghost use Rattle.gu_view.specs.Keeping.{AreOnce};
 
 use crate::place_lists::PlaceLists;
@@ -65,6 +65,21 @@ impl SharedLists {
         ensures { slice_get self.now place ≡ Some result.now }
     {
         self.kept.list(self.at[place])
+    }
+
+    /// Where the lists that are one with the list at a place end, one after another from there on.
+    pub fn run_end(&self, first: usize) -> usize
+        requires { first < length self.now }
+        ensures within { (first < result) × (result ≤ length self.now) }
+        ensures alike { (place : ℕ) → first ≤ place → place < result → slice_get self.now place ≡ slice_get self.now first }
+    {
+        let kept = self.at[first];
+        for end in first + 1..self.at.len() {
+            if self.at[end] != kept {
+                return end;
+            }
+        }
+        self.at.len()
     }
 
     /// A copy.
