@@ -63,6 +63,18 @@ twice f g h agree (l ∷ ls) = λ i. agree l i ∷ twice f g h agree ls i
 module _ (ls : List GroupLimit) (group : Group) (lots : ℕ) where
   -- ---- what is charged
 
+  -- nothing, where there are no lots
+  pub charge-nothing : (keys : List LimitKey) → lots ≡ 0 → limits_after_charge ls group keys lots ≡ ls
+  charge-nothing keys none = by ls
+    where
+      same : (b : Bool) (used : ℕ) → used + cond b lots 0 ≡ used
+      same true used = omega arith
+      same false used = omega arith
+
+      by : (ls : List GroupLimit) → limits_after_charge ls group keys lots ≡ ls
+      by [] = refl
+      by (l ∷ ls) = λ i. (record l { used = same (same_group l.group group && has_key keys l.key) l.used i }) ∷ by ls i
+
   -- nothing, under no key
   pub charge-none : limits_after_charge ls group [] lots ≡ ls
   charge-none = by ls

@@ -350,7 +350,7 @@ length-unused_before (suc place) (e ∷ es) = ap suc (length-unused_before place
 
 -- ---- what the type keeps, and room and use
 
-used_on-le : (day : ℕ) (kept : KeptLimit) → IsWithin day kept → used_on day kept ≤ 1000000000
+pub used_on-le : (day : ℕ) (kept : KeptLimit) → IsWithin day kept → used_on day kept ≤ 1000000000
 used_on-le day kept within = elim (kept.day == day) as (λ b. cond b kept.used 0 ≤ 1000000000) [ true ↦ within.used | false ↦ omega arith ]
 
 module _ (day : ℕ) (on : GroupKey) (es : List (GroupKey × KeptLimit)) (lots : ℕ) (all : All (λ e. IsWithin day e.1) es) where

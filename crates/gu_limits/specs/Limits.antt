@@ -1,5 +1,5 @@
 -- Limits: what was set for the keys of a product group, what is used of it today, and the room that is left.
-use Rattle.std.specs.Prelude.{ℕ, ◌-◌, ◌&&◌, Bool, List, Option, Some, None, is_some, position, if◌then◌else◌}
+use Rattle.std.specs.Prelude.{◌≡◌, ℕ, ◌-◌, ◌&&◌, Bool, List, Option, Some, None, is_some, length, map, position, take, if◌then◌else◌}
 use Rattle.std.specs.List.{find}
 use Rattle.std.specs.Option.{option_map, option_map_or}
 use Rattle.gu_terms.specs.LimitKeys.{key_eq}
@@ -7,6 +7,7 @@ use Rattle.gu_terms.specs.Same.{same_group}
 use Rattle.gu_terms.specs.declared.group.Group.{Group}
 use Rattle.gu_terms.specs.declared.limit_key.LimitKey.{LimitKey}
 use Rattle.gu_terms.specs.declared.limit_row.LimitRow.{LimitRow}
+use Rattle.gu_limits.specs.declared.numbers.PathLimits.{PathLimits}
 
 -- a limit of a group, and the lots that are used of it today
 pub record GroupLimit : Type 0 where
@@ -34,6 +35,10 @@ has_limit limits group key = is_some (limit_for limits group key)
 -- the place of a limit among these, where one was set: how many stand before it
 abbrev pub place_in : List GroupLimit → Group → LimitKey → Option ℕ
 place_in limits group key = position (is_of group key) limits
+
+-- these are the limits of keys in a group: the place of each, in the order of the keys
+abbrev pub AreLimitsOf : List GroupLimit → Group → List LimitKey → PathLimits → Type 0
+AreLimitsOf limits group keys found = take (length keys) found.numbers ≡ map (place_in limits group) keys
 
 -- the lots that were set and those that are used today, where a limit was set
 abbrev pub limit_and_use : List GroupLimit → Group → LimitKey → Option (ℕ × ℕ)

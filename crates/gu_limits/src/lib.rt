@@ -2,11 +2,11 @@
 #![tactic(auto)]
 
 mod error;
+mod numbers;
 mod paths;
-mod places;
 mod table;
 
 pub use error::SetError;
+pub use numbers::{LimitNo, PathLimits};
 pub use paths::{path, path_between, path_by};
-pub use places::Places;
 pub use table::LimitTable;

@@ -1,19 +1,19 @@
 //! The limits of the house, and what is used of them today.
 
-ghost use Rattle.std.specs.Prelude.{◌≡◌, ◌+◌, ◌-◌, ◌^◌, ◌<◌, ◌≤◌, ◌↔◌, ◌||◌, [], ◌∷◌, All, IfSome, IsErrOf, IsTrue, None, OnErr, OnOk, if◌then◌else◌, map};
+ghost use Rattle.std.specs.Prelude.{◌≡◌, ◌+◌, ◌-◌, ◌^◌, ◌<◌, ◌≤◌, ◌↔◌, ◌||◌, [], ◌∷◌, All, IfSome, IfOk, IsErrOf, OnErr, OnOk, find, length, nat_lt, slice_get, if◌then◌else◌, map};
 ghost use Rattle.std.specs.List.{IsDistinct};
 ghost use Rattle.std.specs.Option.{ForSome};
-ghost use Rattle.indexmap.specs.IndexMap.{get, insert_entry, IsUnique};
+ghost use Rattle.std.specs.Result.{result_err};
+ghost use Rattle.indexmap.specs.IndexMap.{get, index_map_len, insert_entry, set_value_at, values, IsUnique};
 ghost use Rattle.gu_terms.specs.LimitKeys.{key_eq};
 ghost use Rattle.gu_terms.specs.declared.group.Group.{Group as GroupOf};
 ghost use Rattle.gu_terms.specs.declared.limit_key.LimitKey.{LimitKey as LimitKeyOf};
-ghost use Rattle.gu_terms.specs.Standing.{StandsAt};
 ghost use Rattle.gu_limits.specs.Changes.{limits_after_charge, limits_after_return, limits_after_setting, limits_of_new_day, lots_under, SameLimits, SameUses};
 ghost use Rattle.gu_limits.specs.Kept.{set_to, unused, used_on, with_use};
-ghost use Rattle.gu_limits.specs.Limits.{has_limit, limit_and_use, limit_in, place_in, room_in, row_in, same_limit, same_place, used_in};
+ghost use Rattle.gu_limits.specs.Limits.{AreLimitsOf, has_limit, limit_and_use, limit_in, place_in, room_in, row_in, same_limit, same_place, used_in};
 
 use crate::error::SetError;
-use crate::places::Places;
+use crate::numbers::{LimitNo, PathLimits};
 use gu_terms::{Group, LimitKey, LimitRow, MOST_LIMIT, Path};
 use indexmap::IndexMap;
 use std::alloc::{AllocError, Global};
@@ -88,7 +88,7 @@ impl LimitTable {
         ensures limits { (group : GroupOf) (key : LimitKeyOf) → limit_in self.now group key ≤ MOST_LIMIT }
         ensures uses { (group : GroupOf) (key : LimitKeyOf) → used_in self.now group key ≤ MOST_LIMIT }
     {
-        // The map tells that its keys are apart.
+        // Shows the prover: the keys of the map are apart.
         let _ = self.limits.len();
     }
 
@@ -121,14 +121,14 @@ impl LimitTable {
     pub fn room(&self, group: &Group, key: &LimitKey) -> u64
         ensures { result ≡ room_in self.now group.now key.now }
     {
-        let (room, _) = self.room_and_place(group, key);
+        let (room, _) = self.room_and_number(group, key);
         room
     }
 
-    /// The same, and where the limit stands in the table, where one was set.
-    pub fn room_and_place(&self, group: &Group, key: &LimitKey) -> (u64, Option<usize>)
+    /// The same, and the number of the limit, where one was set.
+    pub fn room_and_number(&self, group: &Group, key: &LimitKey) -> (u64, Option<LimitNo>)
         ensures room { result.0 ≡ room_in self.now group.now key.now }
-        ensures place { result.1 ≡ place_in self.now group.now key.now }
+        ensures number { result.1 ≡ place_in self.now group.now key.now }
     {
         let on = GroupKey {
             group: *group,
@@ -138,7 +138,23 @@ impl LimitTable {
             return (0, None);
         };
         let room = kept.limit.saturating_sub(kept.used_on(self.day));
-        (room, Some(place))
+        (room, Some(LimitNo { place }))
+    }
+
+    /// The limits of a path in a group, where each has room for these lots; else the first key under which there is less.
+    pub fn room_for(&self, group: &Group, path: &Path, lots: u64) -> Result<PathLimits, LimitKey>
+        ensures limits { IfOk result (AreLimitsOf self.now group.now path.now) }
+        ensures short { result_err result ≡ find (λ key. nat_lt (room_in self.now group.now key) lots) path.now }
+    {
+        let mut limits = PathLimits::none();
+        for (at, key) in path.keys().iter().enumerate() {
+            let (room, number) = self.room_and_number(group, key);
+            if room < lots {
+                return Err(*key);
+            }
+            limits.numbers[at] = number;
+        }
+        Ok(limits)
     }
 
     /// Sets a limit. What is used of it stays, also where that is more.
@@ -170,11 +186,14 @@ impl LimitTable {
         ensures uses { (at : GroupOf) (on : LimitKeyOf) →
             used_in self.new at on ≡ used_in self.old at on + lots_under group.now path.now lots at on }
     {
-        self.charge_near(group, path, lots, &Places::none());
+        if let Ok(limits) = self.room_for(group, path, lots) {
+            self.charge_at(group, path, &limits, lots);
+        }
     }
 
-    /// The same, and a limit that still stands at the place that was noted for its key isn't looked up.
-    pub fn charge_near(&mut self, group: &Group, path: &Path, lots: u64, places: &Places)
+    /// The same, by the numbers of the limits: none is looked up.
+    pub fn charge_at(&mut self, group: &Group, path: &Path, limits: &PathLimits, lots: u64)
+        requires limits { AreLimitsOf self.old group.now path.now limits.now }
         requires room { All (λ key. lots ≤ room_in self.old group.now key) path.now }
         requires once { IsDistinct key_eq path.now }
         ensures rows { self.new ≡ limits_after_charge self.old group.now path.now lots }
@@ -182,21 +201,22 @@ impl LimitTable {
         ensures uses { (at : GroupOf) (on : LimitKeyOf) →
             used_in self.new at on ≡ used_in self.old at on + lots_under group.now path.now lots at on }
     {
-        for (number, key) in path.keys().iter().enumerate() {
-            self.charge_key(group, key, lots, places.of(number));
+        for (at, _key) in path.keys().iter().enumerate() {
+            if let Some(limit) = limits.numbers[at] {
+                self.charge_limit(limit, lots);
+            }
         }
     }
 
-    /// Charges lots to one limit, which may stand at this place.
-    fn charge_key(&mut self, group: &Group, key: &LimitKey, lots: u64, place: usize)
-        requires { lots ≤ room_in self.old group.now key.now }
-        ensures { self.new ≡ limits_after_charge self.old group.now (key.now ∷ []) lots }
+    /// Charges lots to one limit.
+    fn charge_limit(&mut self, limit: LimitNo, lots: u64)
+        requires known { limit < length self.old }
+        requires room { ForSome (slice_get self.old limit) (λ l. lots ≤ l.limit - l.used) }
+        ensures { ForSome (slice_get self.old limit) (λ l. self.new ≡ limits_after_charge self.old l.group (l.key ∷ []) lots) }
     {
-        let on = GroupKey {
-            group: *group,
-            key: *key,
-        };
-        add_use(&mut self.limits, &on, place, self.day, lots);
+        // Shows the prover: the keys of the map are apart.
+        let _ = self.limits.len();
+        add_use(&mut self.limits, limit.place, self.day, lots);
     }
 
     /// Gives back lots that were charged today to all limits of a path in a group.
@@ -267,50 +287,14 @@ fn put(
     Ok(())
 }
 
-/// Whether the limit at a place is the one of this group and key.
-fn is_at(limits: &IndexMap<GroupKey, KeptLimit>, place: usize, on: &GroupKey) -> bool
-    ensures { IsTrue result → StandsAt limits.now.entries on.now place }
+/// Adds lots to the use of the limit at a place on a day.
+fn add_use(limits: &mut IndexMap<GroupKey, KeptLimit>, place: usize, day: u64, lots: u64)
+    requires there { place < index_map_len limits.old }
+    requires fits { ForSome (slice_get (values limits.old) place) (λ kept. used_on day kept + lots < 2 ^ 64) }
+    ensures written { ForSome (slice_get (values limits.old) place) (λ kept.
+        limits.new.entries ≡ set_value_at limits.old.entries place (record kept { used = used_on day kept + lots; day = day })) }
 {
-    match limits.get_index(place) {
-        Some((key, _)) => key == on,
-        None => false,
-    }
-}
-
-/// Where a limit stands, where one was set. If it stands at this place, it isn't looked up.
-fn place_near(limits: &IndexMap<GroupKey, KeptLimit>, place: usize, on: &GroupKey) -> Option<usize>
-    ensures at { IfSome result (StandsAt limits.now.entries on.now) }
-    ensures none { result ≡ None → get ⟦<GroupKey as PartialEq>⟧.eq limits.now on.now ≡ None }
-    ensures apart { IsUnique ⟦<GroupKey as PartialEq>⟧.eq limits.now }
-{
-    // The map tells that its keys are apart.
-    let _ = limits.len();
-    if is_at(limits, place, on) {
-        return Some(place);
-    }
-    let (place, _, _) = limits.get_full(on)?;
-    Some(place)
-}
-
-/// Adds lots to the use of a limit on a day. The limit may stand at this place.
-fn add_use(
-    limits: &mut IndexMap<GroupKey, KeptLimit>,
-    on: &GroupKey,
-    place: usize,
-    day: u64,
-    lots: u64,
-)
-    requires { ForSome (get ⟦<GroupKey as PartialEq>⟧.eq limits.old on.now) (λ kept. used_on day kept + lots < 2 ^ 64) }
-    ensures written { limits.new.entries
-        ≡ with_use ⟦<GroupKey as PartialEq>⟧.eq on.now day (λ used. used + lots) limits.old.entries }
-    ensures apart { IsUnique ⟦<GroupKey as PartialEq>⟧.eq limits.old }
-{
-    let Some(place) = place_near(limits, place, on) else {
-        return;
-    };
-    let Some(kept) = limits.get_index_mut(place) else {
-        unreachable!();
-    };
+    let kept = &mut limits[place];
     kept.used = kept.used_on(day) + lots;
     kept.day = day;
 }
