@@ -1,5 +1,6 @@
 -- Lots that come to a row that is kept, and lots that leave one.
-use Rattle.std.proofs.Common.{◌≡◌, ◌∙◌, sym, refl, subst, ℕ, ◌+◌, ◌-◌, ◌<◌, ◌≤◌, ◌^◌, Bool, true, false, ◌&&◌, List, Some, is_some, unwrap_or, arith, if◌then◌else◌}
+use Rattle.std.proofs.Common.{◌≡◌, ◌∙◌, sym, refl, ap, subst, ℕ, ◌+◌, ◌-◌, ◌<◌, ◌≤◌, ◌^◌, Bool, true, false, ◌&&◌, Some, unwrap_or, arith, if◌then◌else◌}
+use Rattle.std.specs.Map.{set_value}
 use Rattle.std.specs.Option.{option_map_or}
 use Rattle.indexmap.specs.IndexMap.{get, Updates}
 use Rattle.gu_terms.specs.declared.account.AccountId.{AccountId}
@@ -12,20 +13,22 @@ use Rattle.gu_positions.specs.declared.positions.Place.{Place}
 use Rattle.gu_positions.specs.declared.positions.Positions.TheInside.{Inside}
 use Rattle.gu_positions.specs.Changes.{less_in, more_in, with_less, with_more}
 use Rattle.gu_positions.specs.Holdings.{held, less, more}
-use Rattle.gu_positions.specs.Kept.{IsKept, IsWritten, place_of, row_of, rows_of, same_key}
+use Rattle.gu_positions.specs.Kept.{IsKept, place_of, row_of, rows_of, same_key}
 use Rattle.gu_positions.specs.Rows.{Row, has_row, lots_in, lots_on, open_interest_in}
 use Rattle.gu_positions.proofs.Changed.{changed, lots_in-within, lots_on-with_less, lots_on-with_more, open_interest-within}
-use Rattle.gu_positions.proofs.KeptLots.{excess-within_interest, has_row-lookup, interest-own, kept-changed, lots_in-lookup, there}
+use Rattle.gu_positions.proofs.KeptLots.{excess-within_interest, interest-own, kept-changed, lots_in-lookup}
 use Rattle.gu_terms.proofs.SameNames.{same_symbol-true}
 use Rattle.gu_terms.proofs.SameValues.{both}
 
-pub row_of-more : (side : Side) (lots : ℕ) (h : Holding) (k : Place) → row_of (k, more side lots h) ≡ more_in side lots (row_of (k, h))
-row_of-more Buy lots h k = refl
-row_of-more Sell lots h k = refl
+-- a row of which more is held is a row with more
+pub row_of-more : (side : Side) (lots : ℕ) (h w : Holding) → w ≡ more side lots h → (k : Place) → row_of (k, w) ≡ more_in side lots (row_of (k, h))
+row_of-more Buy lots h w is k = ap (λ h. row_of (k, h)) is
+row_of-more Sell lots h w is k = ap (λ h. row_of (k, h)) is
 
-pub row_of-less : (side : Side) (lots : ℕ) (h : Holding) (k : Place) → row_of (k, less side lots h) ≡ less_in side lots (row_of (k, h))
-row_of-less Buy lots h k = refl
-row_of-less Sell lots h k = refl
+-- and with less
+pub row_of-less : (side : Side) (lots : ℕ) (h w : Holding) → w ≡ less side lots h → (k : Place) → row_of (k, w) ≡ less_in side lots (row_of (k, h))
+row_of-less Buy lots h w is k = ap (λ h. row_of (k, h)) is
+row_of-less Sell lots h w is k = ap (λ h. row_of (k, h)) is
 
 same_side-true : (a b : Side) → same_side a b ≡ true → a ≡ b
 same_side-true Buy Buy h = refl
@@ -33,17 +36,13 @@ same_side-true Sell Sell h = refl
 same_side-true _ _ h = cc
 
 module _ (kept : Inside) (is_kept : IsKept kept) (side : Side) (account : AccountId) (symbol : Symbol) (lots : ℕ) where
-  -- a row that is there is found
-  pub found : has_row (rows_of kept) account symbol ≡ true → is_some (get same_key kept.rows (place_of account symbol)) ≡ true
-  found made = sym (has_row-lookup account symbol kept.rows.entries) ∙ made
-
   -- lots for which there is room among all fit into a row
-  pub fits : lots_on (rows_of kept) side symbol + lots < 2 ^ 64 → option_map_or (held side) (get same_key kept.rows (place_of account symbol)) 0 + lots < 2 ^ 64
-  fits room = omega (arith, room, lots_in-lookup side account symbol kept.rows.entries, lots_in-within (rows_of kept) side account symbol)
+  pub fits : (was : Holding) → get same_key kept.rows (place_of account symbol) ≡ Some was → lots_on (rows_of kept) side symbol + lots < 2 ^ 64 → held side was + lots < 2 ^ 64
+  fits was at room = omega (arith, room, lots_in-lookup side account symbol kept.rows.entries ∙ ap (λ o. option_map_or (held side) o 0) at, lots_in-within (rows_of kept) side account symbol)
 
   -- lots that an account has are in its row
-  pub enough : lots ≤ lots_in (rows_of kept) side account symbol → lots ≤ option_map_or (held side) (get same_key kept.rows (place_of account symbol)) 0
-  enough has = subst (λ n. lots ≤ n) (lots_in-lookup side account symbol kept.rows.entries) has
+  pub enough : (was : Holding) → get same_key kept.rows (place_of account symbol) ≡ Some was → lots ≤ lots_in (rows_of kept) side account symbol → lots ≤ held side was
+  enough was at has = subst (λ n. lots ≤ n) (lots_in-lookup side account symbol kept.rows.entries ∙ ap (λ o. option_map_or (held side) o 0) at) has
 
   -- all lots stay few where more come for which there is room
   pub few-more : has_row (rows_of kept) account symbol ≡ true → lots_on (rows_of kept) side symbol + lots < 2 ^ 64
@@ -64,31 +63,25 @@ module _ (kept : Inside) (is_kept : IsKept kept) (side : Side) (account : Accoun
   few-less made has t s = omega (arith, lots_on-with_less (rows_of kept) side account symbol lots is_kept.once made has t s, is_kept.few t s)
 
 module _ (kept : Inside) (is_kept : IsKept kept) (account : AccountId) (symbol : Symbol) (g : Row → Row) (keeps : (r : Row) → ((g r).account ≡ r.account) × ((g r).symbol ≡ r.symbol))
-    (change : Holding → Holding) (each : (h : Holding) (k : Place) → row_of (k, change h) ≡ g (row_of (k, h)))
-    (new : List (Place × Holding)) (before after : ℕ) (written : IsWritten kept.rows.entries new account symbol change before after) where
-  -- the instrument of a row that is there has its open interest
-  pub known : is_some (get same_symbol kept.interests symbol) ≡ true
-  known = is_kept.known account symbol (there kept is_kept account symbol written.was written.there)
-
+    (was w : Holding) (at : get same_key kept.rows (place_of account symbol) ≡ Some was) (each : (k : Place) → row_of (k, w) ≡ g (row_of (k, was)))
+    (few : (t : Side) (s : Symbol) → lots_on (changed account symbol g keeps (rows_of kept)) t s < 2 ^ 64)
+    (before after : ℕ) (before_is : before ≡ was.long - was.short) (after_is : after ≡ w.long - w.short) where
   -- the open interest is enough
   pub within : before ≤ unwrap_or (get same_symbol kept.interests symbol) 0
-  within = omega (arith, written.excess_before, is_kept.interests symbol, excess-within_interest kept is_kept account symbol written.was written.there)
-
-  follows : unwrap_or (get same_symbol kept.interests symbol) 0 - before + after ≡ open_interest_in (changed account symbol g keeps (rows_of kept)) symbol
-  follows = (λ i. is_kept.interests symbol i - written.excess_before i + written.excess_after i)
-      ∙ interest-own kept is_kept account symbol written.was written.there g keeps (change written.was) (each written.was)
+  within = omega (arith, before_is, is_kept.interests symbol, excess-within_interest kept is_kept account symbol was at)
 
   -- it fits when it follows
-  pub follows-fits : ((t : Side) (s : Symbol) → lots_on (changed account symbol g keeps (rows_of kept)) t s < 2 ^ 64)
-      → unwrap_or (get same_symbol kept.interests symbol) 0 - before + after < 2 ^ 64
-  follows-fits few =
+  pub follows-fits : unwrap_or (get same_symbol kept.interests symbol) 0 - before + after < 2 ^ 64
+  follows-fits =
+      let follows : unwrap_or (get same_symbol kept.interests symbol) 0 - before + after ≡ open_interest_in (changed account symbol g keeps (rows_of kept)) symbol =
+      (λ i. is_kept.interests symbol i - before_is i + after_is i) ∙ interest-own kept is_kept account symbol was at g keeps w each in
       omega (arith, follows, open_interest-within (changed account symbol g keeps (rows_of kept)) symbol, few Buy symbol)
 
   -- all is kept then
-  pub keeps-written : (later : Inside) → later.rows.entries ≡ new → ((t : Side) (s : Symbol) → lots_on (changed account symbol g keeps (rows_of kept)) t s < 2 ^ 64)
+  pub keeps-written : (later : Inside) → later.rows.entries ≡ set_value (same_key (place_of account symbol)) kept.rows.entries w
       → Updates same_symbol kept.interests later.interests symbol (Some (unwrap_or (get same_symbol kept.interests symbol) 0 - before + after))
       → IsKept later × (rows_of later ≡ changed account symbol g keeps (rows_of kept))
-  keeps-written later is few updated =
-      kept-changed kept is_kept account symbol written.was written.there g keeps (change written.was) (each written.was) later few (is ∙ written.written)
+  keeps-written later is updated =
+      kept-changed kept is_kept account symbol was at g keeps w each later few is
       (subst (λ n. Updates same_symbol kept.interests later.interests symbol (Some n))
-      (λ i. unwrap_or (get same_symbol kept.interests symbol) 0 - written.excess_before i + written.excess_after i) updated)
+      (λ i. unwrap_or (get same_symbol kept.interests symbol) 0 - before_is i + after_is i) updated)

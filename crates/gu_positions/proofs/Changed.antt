@@ -46,7 +46,7 @@ module _ (account : AccountId) (symbol : Symbol) (g : Row → Row) (keeps : (r :
   changed rows = map (λ r. if is_of account symbol r then g r else r) rows
 
   -- a row that is changed stays of its account and instrument
-  is_of-changed : (a : AccountId) (s : Symbol) (b : Bool) (r : Row) → is_of a s (cond b (g r) r) ≡ is_of a s r
+  pub is_of-changed : (a : AccountId) (s : Symbol) (b : Bool) (r : Row) → is_of a s (cond b (g r) r) ≡ is_of a s r
   is_of-changed a s true r = λ i. same_place a s ((keeps r).0 i) ((keeps r).1 i)
   is_of-changed a s false r = refl
 

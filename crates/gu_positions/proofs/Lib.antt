@@ -3,3 +3,4 @@ pub mod Changed
 pub mod KeptLots
 pub mod OneRowMore
 pub mod Places
+pub mod RowNumbers

@@ -13,10 +13,9 @@ use Rattle.gu_terms.specs.declared.side.Side.TheVariants.{Buy, Sell}
 use Rattle.gu_terms.specs.declared.symbol.Symbol.{Symbol}
 use Rattle.gu_terms.specs.Same.{same_symbol}
 use Rattle.gu_positions.specs.declared.holding.Holding.{Holding}
-use Rattle.gu_positions.specs.declared.positions.Place.{Place}
 use Rattle.gu_positions.specs.declared.positions.Positions.TheInside.{Inside}
 use Rattle.gu_positions.specs.Changes.{KeepsLots, empty_row, same_place}
-use Rattle.gu_positions.specs.Kept.{IsKept, row_of, rows_of, same_key}
+use Rattle.gu_positions.specs.Kept.{IsKept, place_of, row_of, rows_of, same_key}
 use Rattle.gu_positions.specs.Rows.{Row, has_row, is_of, lots_in, lots_of, lots_on, open_interest_in, same_row}
 use Rattle.gu_positions.proofs.KeptLots.{has_row-lookup}
 use Rattle.gu_positions.proofs.Places.{same_place-sym, same_place-true}
@@ -105,30 +104,31 @@ has_row-present rows account symbol there a s =
     (λ same. let one = same_place-true a s account symbol same in (λ i. has_row rows (one.0 i) (one.1 i)) ∙ there)
 
 -- after an empty row is put last and its instrument has an open interest
-pub kept-one_more : (old new : Inside) (place : Place) → IsKept old → has_row (rows_of old) place.account place.symbol ≡ false
-    → new.rows.entries ≡ insert_entry same_key old.rows.entries place (record { long = 0; short = 0 })
-    → ((other : Symbol) → is_some (get same_symbol new.interests other) ≡ (is_some (get same_symbol old.interests other) || same_symbol place.symbol other))
+pub kept-one_more : (old new : Inside) (account : AccountId) (symbol : Symbol) → IsKept old → (rows : List Row) → rows_of old ≡ rows → false ≡ has_row rows account symbol
+    → new.rows.entries ≡ insert_entry same_key old.rows.entries (place_of account symbol) (record { long = 0; short = 0 })
+    → ((other : Symbol) → is_some (get same_symbol new.interests other) ≡ (is_some (get same_symbol old.interests other) || same_symbol symbol other))
     → ((other : Symbol) → unwrap_or (get same_symbol new.interests other) 0 ≡ unwrap_or (get same_symbol old.interests other) 0)
-    → IsKept new × (rows_of new ≡ rows_of old ++ empty_row place.account place.symbol ∷ [])
-kept-one_more old new place kept absent made known same =
+    → IsKept new × (rows_of new ≡ rows ++ empty_row account symbol ∷ [])
+kept-one_more old new account symbol kept rows own absent made known same =
     let empty : Holding = record { long = 0; short = 0 } in
-    let nowhere : get same_key old.rows place ≡ None = none (get same_key old.rows place) (sym (has_row-lookup place.account place.symbol old.rows.entries) ∙ absent) in
-    let view : rows_of new ≡ rows_of old ++ empty_row place.account place.symbol ∷ [] =
-    ap (map row_of) (made ∙ insert_entry-new same_key old.rows place empty nowhere) ∙ map-append row_of old.rows.entries ((place, empty) ∷ []) in
-    let lots = keeps_lots-one_more place.account place.symbol (rows_of old) in (
+    let new_row : has_row (rows_of old) account symbol ≡ false = ap (λ rows. has_row rows account symbol) own ∙ sym absent in
+    let nowhere : get same_key old.rows (place_of account symbol) ≡ None = none (get same_key old.rows (place_of account symbol)) (sym (has_row-lookup account symbol old.rows.entries) ∙ new_row) in
+    let view : rows_of new ≡ rows_of old ++ empty_row account symbol ∷ [] =
+    ap (map row_of) (made ∙ insert_entry-new same_key old.rows (place_of account symbol) empty nowhere) ∙ map-append row_of old.rows.entries ((place_of account symbol, empty) ∷ []) in
+    let lots = keeps_lots-one_more account symbol (rows_of old) in (
       record {
-        once = subst (IsDistinct same_row) (sym view) (distinct-one_more place.account place.symbol (rows_of old) absent kept.once);
+        once = subst (IsDistinct same_row) (sym view) (distinct-one_more account symbol (rows_of old) new_row kept.once);
         few = λ side s. subst (λ n. n < 2 ^ 64) (sym (ap (λ rows. lots_on rows side s) view ∙ lots.sums side s)) (kept.few side s);
-        known = λ a s has. known s ∙ there a s (has_row (rows_of old) a s) refl (sym (has_row-one_more place.account place.symbol (rows_of old) a s) ∙ ap (λ rows. has_row rows a s) (sym view) ∙ has);
+        known = λ a s has. known s ∙ there a s (has_row (rows_of old) a s) refl (sym (has_row-one_more account symbol (rows_of old) a s) ∙ ap (λ rows. has_row rows a s) (sym view) ∙ has);
         interests = λ s. same s ∙ kept.interests s ∙ sym (ap (λ rows. open_interest_in rows s) view ∙ lots.interest s);
       },
-      view,
+      view ∙ ap (λ rows. rows ++ empty_row account symbol ∷ []) own,
     )
   where
-    there : (a : AccountId) (s : Symbol) (b : Bool) → has_row (rows_of old) a s ≡ b → (b || same_place a s place.account place.symbol) ≡ true
-        → (is_some (get same_symbol old.interests s) || same_symbol place.symbol s) ≡ true
+    there : (a : AccountId) (s : Symbol) (b : Bool) → has_row (rows_of old) a s ≡ b → (b || same_place a s account symbol) ≡ true
+        → (is_some (get same_symbol old.interests s) || same_symbol symbol s) ≡ true
     there a s true e h = rw (kept.known a s e) refl
     there a s false e h =
-        let one = (same_place-true a s place.account place.symbol h).1 in
-        let own : same_symbol place.symbol s ≡ true = (λ i. same_symbol place.symbol (one i)) ∙ same_symbol-own place.symbol in
-        either (is_some (get same_symbol old.interests s)) (same_symbol place.symbol s) own
+        let one = (same_place-true a s account symbol h).1 in
+        let own : same_symbol symbol s ≡ true = (λ i. same_symbol symbol (one i)) ∙ same_symbol-own symbol in
+        either (is_some (get same_symbol old.interests s)) (same_symbol symbol s) own

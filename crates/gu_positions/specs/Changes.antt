@@ -5,6 +5,8 @@ use Rattle.gu_terms.specs.declared.side.Side.{Side}
 use Rattle.gu_terms.specs.declared.side.Side.TheVariants.{Buy, Sell}
 use Rattle.gu_terms.specs.declared.symbol.Symbol.{Symbol}
 use Rattle.gu_terms.specs.Same.{same_account, same_side, same_symbol}
+use Rattle.gu_positions.specs.declared.row_no.RowNo.{RowNo}
+use Rattle.gu_positions.specs.Numbers.{IsMade}
 use Rattle.gu_positions.specs.Rows.{Row, has_row, is_of, lots_in, lots_on, open_interest_in}
 
 -- an empty row
@@ -48,6 +50,10 @@ lots_at_side side symbol lots other_side another = if same_side side other_side 
 -- the same accounts have rows of the same instruments
 abbrev pub KeepsRows : List Row → List Row → Type 0
 KeepsRows old new = (account : AccountId) (symbol : Symbol) → has_row new account symbol ≡ has_row old account symbol
+
+-- the rows that were made have the numbers that they had
+abbrev pub KeepsNumbers : List Row → List Row → Type 0
+KeepsNumbers old new = (row : RowNo) → IsMade old row → IsMade new row
 
 -- no answer changes: the lots of each account, those of all, and the open interest
 pub record KeepsLots (old new : List Row) : Type 0 where

@@ -1,7 +1,6 @@
 -- Machinery: how positions are kept: the lots of each row under its account and instrument, and each instrument's open interest.
-use Rattle.std.specs.Prelude.{◌≡◌, ℕ, ◌-◌, ◌<◌, ◌^◌, Bool, true, ◌&&◌, List, map, Some, is_some, unwrap_or}
+use Rattle.std.specs.Prelude.{◌≡◌, ◌<◌, ◌^◌, Bool, true, ◌&&◌, List, map, is_some, unwrap_or}
 use Rattle.std.specs.List.{IsDistinct}
-use Rattle.std.specs.Map.{lookup, set_value}
 use Rattle.indexmap.specs.IndexMap.{get}
 use Rattle.gu_terms.specs.declared.account.AccountId.{AccountId}
 use Rattle.gu_terms.specs.declared.side.Side.{Side}
@@ -23,14 +22,6 @@ place_of account symbol = record { account = account; symbol = symbol }
 -- one place
 abbrev pub same_key : Place → Place → Bool
 same_key a b = same_account a.account b.account && same_symbol a.symbol b.symbol
-
--- a row that is there was changed in this way; before and after are what its long lots were above its short ones
-pub record IsWritten (old new : List (Place × Holding)) (account : AccountId) (symbol : Symbol) (change : Holding → Holding) (before after : ℕ) : Type 0 where
-  pub was : Holding
-  pub there : lookup (same_key (place_of account symbol)) old ≡ Some was
-  pub written : new ≡ set_value (same_key (place_of account symbol)) old (change was)
-  pub excess_before : before ≡ was.long - was.short
-  pub excess_after : after ≡ (change was).long - (change was).short
 
 -- the rows, in order
 abbrev pub rows_of : Inside → List Row

@@ -1,4 +1,5 @@
 pub mod Changes
 pub mod Holdings
 pub mod Kept
+pub mod Numbers
 pub mod Rows

@@ -3,5 +3,7 @@
 
 mod holding;
 mod positions;
+mod row_no;
 
 pub use positions::Positions;
+pub use row_no::RowNo;

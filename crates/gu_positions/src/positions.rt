@@ -1,8 +1,8 @@
 //! The positions of all accounts, in the order in which their rows were made.
 
-ghost use Rattle.std.specs.Prelude.{◌≡◌, ◌+◌, ◌-◌, ◌<◌, ◌≤◌, ◌^◌, ◌||◌, [], true, Some, is_some, unwrap_or, IsTrue, OnOk, OnErr};
+ghost use Rattle.std.specs.Prelude.{◌≡◌, ◌+◌, ◌-◌, ◌<◌, ◌≤◌, ◌^◌, ◌||◌, [], true, Some, is_some, unwrap_or, IfOk, IfSome, OnOk, OnErr};
 ghost use Rattle.std.specs.List.{IsDistinct};
-ghost use Rattle.std.specs.Option.{option_map_or};
+ghost use Rattle.std.specs.Map.{set_value};
 ghost use Rattle.indexmap.specs.IndexMap.{get, insert_entry, Updates};
 ghost use Rattle.gu_terms.specs.declared.account.AccountId.{AccountId as Account};
 ghost use Rattle.gu_terms.specs.declared.side.Side.{Side as SideOf};
@@ -10,12 +10,13 @@ ghost use Rattle.gu_terms.specs.declared.side.Side.TheVariants.{Buy, Sell};
 ghost use Rattle.gu_terms.specs.declared.symbol.Symbol.{Symbol as Instrument};
 ghost use Rattle.gu_terms.specs.Same.{same_symbol};
 ghost use Rattle.gu_terms.specs.Standing.{StandsAt};
-ghost use Rattle.gu_positions.specs.Changes.{KeepsLots, KeepsRows, lots_at, lots_at_side, same_place, with_less, with_more, with_row};
-ghost use Rattle.gu_positions.specs.Holdings.{held, less, more};
-ghost use Rattle.gu_positions.specs.Kept.{IsWritten, place_of};
+ghost use Rattle.gu_positions.specs.Changes.{KeepsLots, KeepsNumbers, KeepsRows, lots_at, lots_at_side, same_place, with_less, with_more, with_row};
+ghost use Rattle.gu_positions.specs.Kept.{place_of};
+ghost use Rattle.gu_positions.specs.Numbers.{IsMade, IsRowOf};
 ghost use Rattle.gu_positions.specs.Rows.{has_row, lots_in, lots_on, open_interest_in, same_row};
 
 use crate::holding::Holding;
+use crate::row_no::RowNo;
 use gu_terms::{AccountId, Side, Symbol};
 use indexmap::IndexMap;
 use std::alloc::{AllocError, Global};
@@ -28,29 +29,16 @@ struct Place {
     symbol: Symbol,
 }
 
-/// Where two rows stood when they were asked for. It is a guess alone: who takes it sees whether the row is the one that is meant.
-#[derive(Clone, Copy)]
-struct Recent {
-    last: usize,
-    before: usize,
-}
-
 /// The lots that accounts hold of instruments, by side. To a contract it is the list of the rows, in the order in which they were made.
 pub struct Positions {
     rows: IndexMap<Place, Holding>,
     /// The open interest of each instrument that has rows.
     interests: IndexMap<Symbol, u64>,
-    /// Where the rows stand that were asked for last.
-    recent: Recent,
 }
 
 impl Drop for Positions {
     fn drop(self) {
-        let Positions {
-            rows,
-            interests,
-            recent: _,
-        } = self;
+        let Positions { rows, interests } = self;
         drop(rows);
         drop(interests);
     }
@@ -58,8 +46,6 @@ impl Drop for Positions {
 
 impl Model for Positions {
     ghost use Rattle.std.specs.Prelude.{List};
-    ghost use Rattle.gu_positions.specs.Holdings.{held, less, more};
-    ghost use Rattle.gu_positions.specs.Kept.{IsWritten, place_of};
     ghost use Rattle.gu_positions.specs.Rows.{Row};
 
     ghost Value = { List Row };
@@ -71,87 +57,33 @@ impl Model for Positions {
     ghost invariant = { IsKept };
 }
 
-impl Recent {
-    /// A further row stands at this index.
-    fn note(&mut self, index: usize) {
-        self.before = self.last;
-        self.last = index;
-    }
+/// How many rows were made before that of a place, where it was made.
+fn number_of(rows: &IndexMap<Place, Holding>, place: &Place) -> Option<usize>
+    ensures there { is_some result ≡ is_some (get ⟦<Place as PartialEq>⟧.eq rows.now place.now) }
+    ensures at { IfSome result (StandsAt rows.now.entries place.now) }
+{
+    let (number, _, _) = rows.get_full(place)?;
+    Some(number)
 }
 
-/// Whether the row at an index is the one of a place.
-fn is_at(rows: &IndexMap<Place, Holding>, index: usize, place: &Place) -> bool
-    ensures { IsTrue result → StandsAt rows.now.entries place.now index }
+/// What is held at a row.
+fn held_at(rows: &IndexMap<Place, Holding>, row: &RowNo) -> Holding
+    requires { StandsAt rows.now.entries (place_of row.now.account row.now.symbol) row.now.number }
+    ensures { get ⟦<Place as PartialEq>⟧.eq rows.now (place_of row.now.account row.now.symbol) ≡ Some result }
 {
-    match rows.get_index(index) {
-        Some((key, _)) => key == place,
-        None => false,
-    }
+    // Shows the prover: the places of the map are apart.
+    let _ = rows.len();
+    rows[row.number]
 }
 
-/// Where a row stands that is there. One of those that were asked for last isn't looked up.
-fn index_of(rows: &IndexMap<Place, Holding>, recent: Recent, place: &Place) -> usize
-    requires { is_some (get ⟦<Place as PartialEq>⟧.eq rows.now place.now) ≡ true }
-    ensures { StandsAt rows.now.entries place.now result }
+/// Writes what is held at a row.
+fn write(rows: &mut IndexMap<Place, Holding>, row: &RowNo, holding: Holding)
+    requires { StandsAt rows.old.entries (place_of row.now.account row.now.symbol) row.now.number }
+    ensures { rows.new.entries ≡ set_value (⟦<Place as PartialEq>⟧.eq (place_of row.now.account row.now.symbol)) rows.old.entries holding }
 {
-    if is_at(rows, recent.last, place) {
-        return recent.last;
-    }
-    if is_at(rows, recent.before, place) {
-        return recent.before;
-    }
-    let Some((index, _, _)) = rows.get_full(place) else {
-        unreachable!();
-    };
-    index
-}
-
-/// Adds lots on a side of a row that is there. Answers what its long lots were above its short ones, and what they are.
-fn add_to(
-    rows: &mut IndexMap<Place, Holding>,
-    recent: Recent,
-    account: AccountId,
-    symbol: Symbol,
-    side: Side,
-    lots: u64,
-) -> (u64, u64)
-    requires there { is_some (get ⟦<Place as PartialEq>⟧.eq rows.old (place_of account symbol)) ≡ true }
-    requires fits { option_map_or (held side) (get ⟦<Place as PartialEq>⟧.eq rows.old (place_of account symbol)) 0 + lots < 2 ^ 64 }
-    ensures { IsWritten rows.old.entries rows.new.entries account symbol (more side lots) result.0 result.1 }
-{
-    let place = Place { account, symbol };
-    let index = index_of(rows, recent, &place);
-    let Some(holding) = rows.get_index_mut(index) else {
-        unreachable!();
-    };
-    let before = *holding;
-    let after = before.with_more(side, lots);
-    *holding = after;
-    (before.excess(), after.excess())
-}
-
-/// Takes lots on a side of a row that is there. Answers what its long lots were above its short ones, and what they are.
-fn take_from(
-    rows: &mut IndexMap<Place, Holding>,
-    recent: Recent,
-    account: AccountId,
-    symbol: Symbol,
-    side: Side,
-    lots: u64,
-) -> (u64, u64)
-    requires there { is_some (get ⟦<Place as PartialEq>⟧.eq rows.old (place_of account symbol)) ≡ true }
-    requires held { lots ≤ option_map_or (held side) (get ⟦<Place as PartialEq>⟧.eq rows.old (place_of account symbol)) 0 }
-    ensures { IsWritten rows.old.entries rows.new.entries account symbol (less side lots) result.0 result.1 }
-{
-    let place = Place { account, symbol };
-    let index = index_of(rows, recent, &place);
-    let Some(holding) = rows.get_index_mut(index) else {
-        unreachable!();
-    };
-    let before = *holding;
-    let after = before.with_less(side, lots);
-    *holding = after;
-    (before.excess(), after.excess())
+    // Shows the prover: the places of the map are apart.
+    let _ = rows.len();
+    rows[row.number] = holding;
 }
 
 /// Brings the open interest of an instrument up to date, of which one account held so much in excess before, and so much after. One that
@@ -166,10 +98,9 @@ fn settle(interests: &mut IndexMap<Symbol, u64>, symbol: &Symbol, before: u64, a
     if before == after {
         return;
     }
-    let Some(interest) = interests.get_mut(symbol) else {
-        unreachable!();
-    };
-    *interest = *interest - before + after;
+    if let Some(interest) = interests.get_mut(symbol) {
+        *interest = *interest - before + after;
+    }
 }
 
 /// Sees to it that an instrument has its open interest: none as yet, where it is new.
@@ -214,7 +145,6 @@ impl Positions {
         Positions {
             rows: IndexMap::new(alloc),
             interests: IndexMap::new(alloc),
-            recent: Recent { last: 0, before: 0 },
         }
     }
 
@@ -259,15 +189,51 @@ impl Positions {
         ensures same_lots { KeepsLots self.old self.new }
         ensures refused { OnErr result (self.new ≡ self.old) }
     {
-        let place = Place { account, symbol };
-        if let Some(index) = self.rows.get_index_of(&place) {
-            self.recent.note(index);
-            return Ok(());
-        }
-        let index = self.rows.len();
-        make(&mut self.rows, &mut self.interests, &place)?;
-        self.recent.note(index);
+        self.make_row(&account, &symbol)?;
         Ok(())
+    }
+
+    /// The same, and which row it is.
+    pub fn make_row(&mut self, account: &AccountId, symbol: &Symbol) -> Result<RowNo, AllocError>
+        ensures made { OnOk result (self.new ≡ with_row self.old account.now symbol.now) }
+        ensures there { OnOk result ((other : Account) (another : Instrument)
+            → has_row self.new other another ≡ (has_row self.old other another || same_place other another account.now symbol.now)) }
+        ensures same_lots { KeepsLots self.old self.new }
+        ensures refused { OnErr result (self.new ≡ self.old) }
+        ensures row { IfOk result (IsRowOf self.new account.now symbol.now) }
+        ensures stay { KeepsNumbers self.old self.new }
+    {
+        if let Some(row) = self.find(account, symbol) {
+            return Ok(row);
+        }
+        let place = Place {
+            account: *account,
+            symbol: *symbol,
+        };
+        let number = self.rows.len();
+        make(&mut self.rows, &mut self.interests, &place)?;
+        Ok(RowNo {
+            account: *account,
+            symbol: *symbol,
+            number,
+        })
+    }
+
+    /// The row of an account and an instrument, where one was made.
+    fn find(&self, account: &AccountId, symbol: &Symbol) -> Option<RowNo>
+        ensures there { is_some result ≡ has_row self.now account.now symbol.now }
+        ensures row { IfSome result (IsRowOf self.now account.now symbol.now) }
+    {
+        let place = Place {
+            account: *account,
+            symbol: *symbol,
+        };
+        let number = number_of(&self.rows, &place)?;
+        Some(RowNo {
+            account: *account,
+            symbol: *symbol,
+            number,
+        })
     }
 
     /// Adds lots to an account's, on a side of an instrument.
@@ -280,22 +246,53 @@ impl Positions {
             → lots_in self.new on other another ≡ lots_in self.old on other another + lots_at side account symbol lots on other another }
         ensures sums { (on : SideOf) (another : Instrument) → lots_on self.new on another ≡ lots_on self.old on another + lots_at_side side symbol lots on another }
     {
-        let (before, after) = add_to(&mut self.rows, self.recent, account, symbol, side, lots);
-        settle(&mut self.interests, &symbol, before, after);
+        if let Some(row) = self.find(&account, &symbol) {
+            self.add_to(&row, side, lots);
+        }
     }
 
-    /// Takes lots from an account's, on a side of an instrument.
-    fn take(&mut self, account: &AccountId, symbol: &Symbol, side: Side, lots: u64)
-        requires made { has_row self.old account.now symbol.now ≡ true }
-        requires there { lots ≤ lots_in self.old side account.now symbol.now }
-        ensures rows { self.new ≡ with_less self.old side account.now symbol.now lots }
+    /// Adds lots to those of a row, on a side.
+    pub fn add_to(&mut self, row: &RowNo, side: Side, lots: u64)
+        requires made { IsMade self.old row.now }
+        requires fits { lots_on self.old side row.now.symbol + lots < 2 ^ 64 }
+        ensures rows { self.new ≡ with_more self.old side row.now.account row.now.symbol lots }
         ensures same_rows { KeepsRows self.old self.new }
         ensures lots { (on : SideOf) (other : Account) (another : Instrument)
-            → lots_in self.new on other another ≡ lots_in self.old on other another - lots_at side account.now symbol.now lots on other another }
-        ensures sums { (on : SideOf) (another : Instrument) → lots_on self.new on another + lots_at_side side symbol.now lots on another ≡ lots_on self.old on another }
+            → lots_in self.new on other another ≡ lots_in self.old on other another + lots_at side row.now.account row.now.symbol lots on other another }
+        ensures sums { (on : SideOf) (another : Instrument) → lots_on self.new on another ≡ lots_on self.old on another + lots_at_side side row.now.symbol lots on another }
+        ensures stay { KeepsNumbers self.old self.new }
     {
-        let (before, after) = take_from(&mut self.rows, self.recent, *account, *symbol, side, lots);
-        settle(&mut self.interests, symbol, before, after);
+        let before = held_at(&self.rows, row);
+        let after = before.with_more(side, lots);
+        write(&mut self.rows, row, after);
+        settle(
+            &mut self.interests,
+            &row.symbol,
+            before.excess(),
+            after.excess(),
+        );
+    }
+
+    /// Takes lots from those of a row, on a side.
+    fn take_from(&mut self, row: &RowNo, side: Side, lots: u64)
+        requires made { IsMade self.old row.now }
+        requires there { lots ≤ lots_in self.old side row.now.account row.now.symbol }
+        ensures rows { self.new ≡ with_less self.old side row.now.account row.now.symbol lots }
+        ensures same_rows { KeepsRows self.old self.new }
+        ensures lots { (on : SideOf) (other : Account) (another : Instrument)
+            → lots_in self.new on other another ≡ lots_in self.old on other another - lots_at side row.now.account row.now.symbol lots on other another }
+        ensures sums { (on : SideOf) (another : Instrument) → lots_on self.new on another + lots_at_side side row.now.symbol lots on another ≡ lots_on self.old on another }
+        ensures stay { KeepsNumbers self.old self.new }
+    {
+        let before = held_at(&self.rows, row);
+        let after = before.with_less(side, lots);
+        write(&mut self.rows, row, after);
+        settle(
+            &mut self.interests,
+            &row.symbol,
+            before.excess(),
+            after.excess(),
+        );
     }
 
     /// Moves lots from one account to another, on a side of an instrument.
@@ -310,9 +307,29 @@ impl Positions {
         ensures sums { (on : SideOf) (another : Instrument) → lots_on self.new on another ≡ lots_on self.old on another }
         ensures still { from ≡ to → self.new ≡ self.old }
     {
+        if let (Some(from), Some(to)) = (self.find(&from, &symbol), self.find(&to, &symbol)) {
+            self.shift_between(&from, &to, side, lots);
+        }
+    }
+
+    /// Moves lots from one row to another of the same instrument, on a side.
+    pub fn shift_between(&mut self, from: &RowNo, to: &RowNo, side: Side, lots: u64)
+        requires from_made { IsMade self.old from.now }
+        requires to_made { IsMade self.old to.now }
+        requires one { to.now.symbol ≡ from.now.symbol }
+        requires there { lots ≤ lots_in self.old side from.now.account from.now.symbol }
+        ensures rows { self.new ≡ with_more (with_less self.old side from.now.account from.now.symbol lots) side to.now.account from.now.symbol lots }
+        ensures same_rows { KeepsRows self.old self.new }
+        ensures lots { (on : SideOf) (other : Account) (another : Instrument) → lots_in self.new on other another
+            ≡ lots_in self.old on other another - lots_at side from.now.account from.now.symbol lots on other another
+            + lots_at side to.now.account from.now.symbol lots on other another }
+        ensures sums { (on : SideOf) (another : Instrument) → lots_on self.new on another ≡ lots_on self.old on another }
+        ensures stay { KeepsNumbers self.old self.new }
+        ensures still { from.now.account ≡ to.now.account → self.new ≡ self.old }
+    {
         // Shows the prover: what the type of the positions keeps.
         self.rules();
-        self.take(&from, &symbol, side, lots);
-        self.add(to, symbol, side, lots);
+        self.take_from(from, side, lots);
+        self.add_to(to, side, lots);
     }
 }

@@ -1,9 +1,5 @@
-use Rattle.std.proofs.Common.{rules}
 use Rattle.gu_positions.proofs.KeptLots.{settled}
 use Rattle.gu_positions.proofs.positions.settle.Goals as goal
 
 pub returns-then-before-after : goal.returns-then-before-after
 returns-then-before-after c = settled c.args.interests.now c.args.symbol.now c.args.before c.args.after c.requires.known c.requires.within c.if-before-after.true
-
-pub returns : goal.returns
-returns c = search rules

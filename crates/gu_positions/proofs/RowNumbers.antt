@@ -1,0 +1,57 @@
+-- The numbers of rows: what is kept at one, and that rows keep theirs.
+use Rattle.std.proofs.Common.{◌≡◌, ◌∙◌, sym, refl, ap, ℕ, zero, suc, Bool, true, false, ◌||◌, List, [], ◌∷◌, ◌++◌, map, length, Option, Some, None, slice_get}
+use Rattle.std.specs.Option.{option_map, option_map_or}
+use Rattle.std.proofs.lemmas.Option.{slice_get-map}
+use Rattle.gu_terms.specs.Standing.{StandsAt}
+use Rattle.gu_terms.specs.declared.account.AccountId.{AccountId}
+use Rattle.gu_terms.specs.declared.symbol.Symbol.{Symbol}
+use Rattle.gu_positions.specs.declared.holding.Holding.{Holding}
+use Rattle.gu_positions.specs.declared.positions.Place.{Place}
+use Rattle.gu_positions.specs.Kept.{place_of, row_of}
+use Rattle.gu_positions.specs.Numbers.{is_numbered}
+use Rattle.gu_positions.specs.Rows.{Row, has_row, is_of}
+use Rattle.gu_positions.proofs.Changed.{changed, is_of-changed}
+use Rattle.gu_positions.proofs.Places.{same_key-true, same_place-own}
+
+module _ (account : AccountId) (symbol : Symbol) where
+  -- a row that was made is kept at its number
+  pub stands : (entries : List (Place × Holding)) (number : ℕ) → is_numbered (map row_of entries) account symbol number ≡ true → StandsAt entries (place_of account symbol) number
+  stands entries number made = by (slice_get entries number) refl (ap (λ o. option_map_or (is_of account symbol) o false) (sym (slice_get-map row_of entries number)) ∙ made)
+    where
+      by : (o : Option (Place × Holding)) → slice_get entries number ≡ o → option_map_or (is_of account symbol) (option_map row_of o) false ≡ true → StandsAt entries (place_of account symbol) number
+      by None e h = cc
+      by (Some kept) e h = let one = same_key-true (place_of account symbol) kept.0 h in record { value = kept.1; here = e ∙ (λ i. Some (sym one i, kept.1)) }
+
+  -- what is kept at a number is a row that was made
+  pub numbered-kept : (entries : List (Place × Holding)) (number : ℕ) (held : Holding) → slice_get entries number ≡ Some (place_of account symbol, held)
+      → is_numbered (map row_of entries) account symbol number ≡ true
+  numbered-kept entries number held here =
+      ap (λ o. option_map_or (is_of account symbol) o false) (slice_get-map row_of entries number ∙ ap (option_map row_of) here) ∙ same_place-own account symbol
+
+  -- a row that has a number is there
+  pub has_row-numbered : (rows : List Row) (number : ℕ) → is_numbered rows account symbol number ≡ true → has_row rows account symbol ≡ true
+  has_row-numbered [] number made = cc
+  has_row-numbered (r ∷ rows) zero made = rw made refl
+  has_row-numbered (r ∷ rows) (suc number) made = or_right (is_of account symbol r) (has_row rows account symbol) (has_row-numbered rows number made)
+    where
+      or_right : (p q : Bool) → q ≡ true → (p || q) ≡ true
+      or_right true q h = refl
+      or_right false q h = h
+
+  -- rows keep their numbers when others come after them
+  pub numbered-append : (rows more : List Row) (number : ℕ) → is_numbered rows account symbol number ≡ true → is_numbered (rows ++ more) account symbol number ≡ true
+  numbered-append [] more number made = cc
+  numbered-append (r ∷ rows) more zero made = made
+  numbered-append (r ∷ rows) more (suc number) made = numbered-append rows more number made
+
+  -- the number of the last row is how many are before it
+  pub numbered-last : (rows : List Row) (last : Row) → is_of account symbol last ≡ true → is_numbered (rows ++ last ∷ []) account symbol (length rows) ≡ true
+  numbered-last [] last own = own
+  numbered-last (r ∷ rows) last own = numbered-last rows last own
+
+-- and when one of them is changed
+pub numbered-changed : (account : AccountId) (symbol : Symbol) (g : Row → Row) (keeps : (r : Row) → ((g r).account ≡ r.account) × ((g r).symbol ≡ r.symbol))
+    (rows : List Row) (a : AccountId) (s : Symbol) (number : ℕ) → is_numbered (changed account symbol g keeps rows) a s number ≡ is_numbered rows a s number
+numbered-changed account symbol g keeps [] a s number = refl
+numbered-changed account symbol g keeps (r ∷ rows) a s zero = is_of-changed account symbol g keeps a s (is_of account symbol r) r
+numbered-changed account symbol g keeps (r ∷ rows) a s (suc number) = numbered-changed account symbol g keeps rows a s number

@@ -1,0 +1,8 @@
+use Rattle.gu_positions.specs.Kept.{place_of, same_key}
+use Rattle.gu_positions.proofs.Places.{same_key-laws, same_key-true}
+use Rattle.gu_terms.proofs.Standing.{set_value_at-standing}
+use Rattle.gu_positions.proofs.positions.write.Goals as goal
+
+pub returns : goal.returns
+returns c =
+    set_value_at-standing same_key same_key-laws same_key-true c.args.rows.now.entries (place_of c.args.row.now.account c.args.row.now.symbol) c.args.row.now.number c.requires c.len.ensures.unique c.args.holding

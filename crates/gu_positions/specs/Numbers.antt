@@ -1,0 +1,21 @@
+-- The numbers of rows, in the order in which they were made.
+use Rattle.std.specs.Prelude.{◌≡◌, ℕ, Bool, true, false, List, slice_get}
+use Rattle.std.specs.Option.{option_map_or}
+use Rattle.gu_terms.specs.declared.account.AccountId.{AccountId}
+use Rattle.gu_terms.specs.declared.symbol.Symbol.{Symbol}
+use Rattle.gu_positions.specs.declared.row_no.RowNo.{RowNo}
+use Rattle.gu_positions.specs.Rows.{Row, is_of}
+
+-- as many rows were made before one of this account and instrument
+abbrev pub is_numbered : List Row → AccountId → Symbol → ℕ → Bool
+is_numbered rows account symbol number = option_map_or (is_of account symbol) (slice_get rows number) false
+
+-- the row was made, and has its number
+abbrev pub IsMade : List Row → RowNo → Type 0
+IsMade rows row = is_numbered rows row.account row.symbol row.number ≡ true
+
+-- the row was made, and is this account's, of this instrument
+pub record IsRowOf (rows : List Row) (account : AccountId) (symbol : Symbol) (row : RowNo) : Type 0 where
+  pub made : IsMade rows row
+  pub account_is : row.account ≡ account
+  pub symbol_is : row.symbol ≡ symbol
