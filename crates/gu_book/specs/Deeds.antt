@@ -19,6 +19,8 @@ use Rattle.gu_terms.specs.declared.reply.Reply.{Reply}
 use Rattle.gu_terms.specs.declared.reply.Reply.TheVariants.{Accepted, Denied}
 use Rattle.gu_terms.specs.declared.report.Report.{Report}
 use Rattle.gu_ref.specs.Tables.{Tables}
+use Rattle.gu_limits.specs.Limits.{AreLimitsOf}
+use Rattle.gu_limits.specs.declared.numbers.PathLimits.{PathLimits}
 use Rattle.gu_trades.specs.Counterparts.{counterpart_of}
 use Rattle.gu_trades.specs.Reports.{report_by, with_match}
 use Rattle.gu_trades.specs.Terms.{terms_of}
@@ -41,7 +43,7 @@ done_by (Open day) = Opened
 done_by (SetLimit group key lots) = LimitSet
 done_by (Reports report waiting) = Reported (is_some waiting)
 done_by (GiveUp firm id report lines group first) = Offered group first (length lines.now)
-done_by (Claim claimed places) = Claimed claimed.lots
+done_by (Claim claimed limits) = Claimed claimed.lots
 done_by (Refuse number group lots) = Refused lots
 done_by (Reverse reversed) = Reversed reversed.lots
 
@@ -51,7 +53,7 @@ touched_by (Open day) = Every
 touched_by (SetLimit group key lots) = Only group
 touched_by (Reports report waiting) = Nothing
 touched_by (GiveUp firm id report lines group first) = Only group
-touched_by (Claim claimed places) = Only claimed.offer.group
+touched_by (Claim claimed limits) = Only claimed.offer.group
 touched_by (Refuse number group lots) = Only group
 touched_by (Reverse reversed) = Only reversed.offer.group
 
@@ -78,6 +80,11 @@ pub record MovesLots (reference : Tables) (totals : Totals) (command : Command) 
   pub once : IfSome moved.path (IsDistinct key_eq)
   pub all : moved.lots ≡ lots
 
+-- a command claims all that is left of an offer, and these are the limits of its path
+pub record ClaimsLots (reference : Tables) (totals : Totals) (command : Command) (claimed : Moved) (limits : PathLimits) : Type 0 where
+  pub moves : MovesLots reference totals command asked.Claim claimed (left_in totals.offers claimed.number)
+  pub under : AreLimitsOf totals.limits claimed.offer.group (unwrap_or claimed.path []) limits
+
 -- a command reports this on the open day, and meets who waits for it
 pub record MakesReport (totals : Totals) (command : Command) (report : Report) (waiting : Option Terms) : Type 0 where
   pub day : Option Day
@@ -103,6 +110,6 @@ IsDeedOf reference totals command (Open day) = command ≡ asked.OpenDay day
 IsDeedOf reference totals command (SetLimit group key lots) = command ≡ asked.SetLimit group key lots
 IsDeedOf reference totals command (Reports report waiting) = MakesReport totals command report waiting
 IsDeedOf reference totals command (GiveUp firm id report lines group first) = GivesLines reference totals command firm.now id.now report.now lines.now group
-IsDeedOf reference totals command (Claim claimed places) = MovesLots reference totals command asked.Claim claimed (left_in totals.offers claimed.number)
+IsDeedOf reference totals command (Claim claimed limits) = ClaimsLots reference totals command claimed limits
 IsDeedOf reference totals command (Refuse number group lots) = RefusesOffer totals command number group
 IsDeedOf reference totals command (Reverse reversed) = MovesLots reference totals command asked.Reverse reversed (today_in totals.offers reversed.number)

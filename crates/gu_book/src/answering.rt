@@ -4,7 +4,8 @@ ghost use Rattle.std.specs.Prelude.{◌≡◌, ◌<◌, [], nat_lt, is_some, len
 ghost use Rattle.std.specs.List.{find, IsDistinct};
 ghost use Rattle.gu_terms.specs.LimitKeys.{key_eq};
 ghost use Rattle.std.specs.Option.{option_map};
-ghost use Rattle.gu_limits.specs.Limits.{room_in};
+ghost use Rattle.std.specs.Result.{result_err};
+ghost use Rattle.gu_limits.specs.Limits.{AreLimitsOf, room_in};
 ghost use Rattle.gu_ref.specs.Reference.{partner_between};
 ghost use Rattle.gu_ref.specs.Tables.{Tables};
 ghost use Rattle.gu_terms.specs.declared.firm.FirmId.{FirmId as FirmIdOf};
@@ -21,7 +22,7 @@ ghost use Rattle.gu_book.specs.Deeds.{HaveReports, IsDeedOf, reply_by};
 
 use crate::deed::{Deed, Moved};
 use crate::totals::Totals;
-use gu_limits::{LimitTable, Places, path_by};
+use gu_limits::{LimitTable, PathLimits, path_by};
 use gu_ref::{Partner, Reference};
 use gu_terms::{
     AllocReject, Command, Day, FirmId, Group, Id, LimitKey, Line, Lines, Lots, MOST_LIMIT,
@@ -299,39 +300,19 @@ fn path_with(reference: &Reference, offer: &Offer, partner: &Option<Partner>) ->
     }
 }
 
-/// The first key of a path under which there is less room than these lots. The places of the limits that are read are noted.
-fn first_short(
-    limits: &LimitTable,
-    group: &Group,
-    path: &Path,
-    lots: u64,
-    places: &mut Places,
-) -> Option<LimitKey>
-    ensures { result ≡ find (λ key. nat_lt (room_in limits.now group.now key) lots) path.now }
-{
-    for key in path.keys() {
-        let (room, place) = limits.room_and_place(group, key);
-        if room < lots {
-            return Some(*key);
-        }
-        places.note(place);
-    }
-    None
-}
-
-/// The same, of a path that may not be there.
-fn short_key(
+/// The limits of a path, where each has room for these lots; else the first key under which there is less. A path that isn't there has none.
+fn limits_for(
     limits: &LimitTable,
     group: &Group,
     path: &Option<Path>,
     lots: u64,
-    places: &mut Places,
-) -> Option<LimitKey>
-    ensures { result ≡ find (λ key. nat_lt (room_in limits.now group.now key) lots) (unwrap_or path.now []) }
+) -> Result<PathLimits, LimitKey>
+    ensures limits { IfOk result (AreLimitsOf limits.now group.now (unwrap_or path.now [])) }
+    ensures short { result_err result ≡ find (λ key. nat_lt (room_in limits.now group.now key) lots) (unwrap_or path.now []) }
 {
     match path {
-        Some(path) => first_short(limits, group, path, lots, places),
-        None => None,
+        Some(path) => limits.room_for(group, path, lots),
+        None => Ok(PathLimits::none()),
     }
 }
 
@@ -407,10 +388,10 @@ fn decide_claim<'a>(
         return Err(Refusal::OfferClosed);
     };
     let path = path_with(reference, &offer, &partner);
-    let mut places = Places::none();
-    if let Some(key) = short_key(&totals.limits, &offer.group, &path, lots.get(), &mut places) {
-        return Err(Refusal::LimitReached(key));
-    }
+    let limits = match limits_for(&totals.limits, &offer.group, &path, lots.get()) {
+        Ok(limits) => limits,
+        Err(key) => return Err(Refusal::LimitReached(key)),
+    };
     let claimed = Moved {
         number,
         offer,
@@ -418,7 +399,7 @@ fn decide_claim<'a>(
         path,
         lots,
     };
-    Ok(Deed::Claim { claimed, places })
+    Ok(Deed::Claim { claimed, limits })
 }
 
 /// Decides a refusal.

@@ -19,7 +19,6 @@ use crate::answering::decide;
 use crate::current::shows_all;
 use crate::error::{AskError, CommitError, EnterError};
 use crate::limits::rows_in_order;
-use crate::met::MetRooms;
 use crate::positions::{is_of_firm, rows_of_account};
 use crate::sweeping::{
     asks_for_a_sweep, kept_sweep, make_ways, move_takes, receipt_and_view, sum_swept,
@@ -294,11 +293,6 @@ impl Book {
         )?)
     }
 
-    /// No rooms of a view as yet.
-    fn no_rooms(&self) -> MetRooms {
-        MetRooms::none(self.alloc)
-    }
-
     /// Why no sweep of a view may be entered, where the book is full or the view is stale.
     fn outdated(&self, view: &View) -> Option<CommitError>
         ensures { MatchOption result
@@ -316,9 +310,8 @@ impl Book {
         None
     }
 
-    /// Why a proposal for a view may not be committed, where it may not. It needs no memory; where there is some, the
-    /// places of the limits of its rooms are noted.
-    fn refusal(&self, view: &View, rooms: &mut MetRooms) -> Option<CommitError>
+    /// Why a proposal for a view may not be committed, where it may not. It needs no memory.
+    fn refusal(&self, view: &View) -> Option<CommitError>
         ensures { MatchOption result (IsCurrent self.now view.now) (λ why. Refuses self.now view.now why) }
     {
         if let Some(why) = self.outdated(view) {
@@ -327,19 +320,14 @@ impl Book {
         if !self.reference.group(view.group()) {
             return Some(CommitError::Foreign);
         }
-        if !shows_all(&self.reference, &self.totals, view, rooms) {
+        if !shows_all(&self.reference, &self.totals, view) {
             return Some(CommitError::Foreign);
         }
         None
     }
 
     /// Adds the sweep that a proposal asks for, as it is kept, and moves its lots.
-    fn append_sweep(
-        &mut self,
-        proposal: &Proposal,
-        kept: KeptSweep,
-        rooms: &MetRooms,
-    ) -> Result<(), AllocError>
+    fn append_sweep(&mut self, proposal: &Proposal, kept: KeptSweep) -> Result<(), AllocError>
         requires current { IsCurrent self.old proposal.now.view }
         requires kept { kept ≡ sweep_of proposal.now }
         ensures entered { OnOk result (self.new.history ≡ self.old.history ++ Entry.Swept (sweep_of proposal.now) ∷ []) }
@@ -358,7 +346,6 @@ impl Book {
             &mut self.totals,
             proposal.view(),
             proposal.takes().as_slice(),
-            rooms,
         );
         touch(&mut self.versions, &touched, place);
         // Shows the prover: no match id has more than two reports.
@@ -381,11 +368,10 @@ impl Book {
         ensures reference { self.new.reference ≡ self.old.reference }
         ensures refused { OnErr result (self.new.history ≡ self.old.history) }
     {
-        let mut rooms = self.no_rooms();
-        if let Some(why) = self.refusal(proposal.view(), &mut rooms) {
+        if let Some(why) = self.refusal(proposal.view()) {
             return Err(why);
         }
-        if let Err(AllocError) = self.append_sweep(proposal, kept, &rooms) {
+        if let Err(AllocError) = self.append_sweep(proposal, kept) {
             return Err(CommitError::Memory);
         }
         Ok(self.history.len() as u64)
@@ -395,7 +381,6 @@ impl Book {
     fn enter_current(
         &mut self,
         proposal: Proposal,
-        rooms: &MetRooms,
     ) -> Result<(Receipt, View), (CommitError, Proposal)>
         requires current { IsCurrent self.old proposal.view }
         ensures entered { IfOk result (λ r. self.new.history ≡ self.old.history ++ r.0.entry ∷ []) }
@@ -410,7 +395,7 @@ impl Book {
         let Ok(kept) = kept_sweep(self.alloc, &proposal) else {
             return Err((CommitError::Memory, proposal));
         };
-        if let Err(AllocError) = self.append_sweep(&proposal, kept, rooms) {
+        if let Err(AllocError) = self.append_sweep(&proposal, kept) {
             return Err((CommitError::Memory, proposal));
         }
         Ok(receipt_and_view(self.history.len() as u64, proposal))
@@ -430,11 +415,10 @@ impl Book {
         ensures reference { self.new.reference ≡ self.old.reference }
         ensures refused { OnErr result (self.new.history ≡ self.old.history) }
     {
-        let mut rooms = self.no_rooms();
-        if let Some(why) = self.refusal(proposal.view(), &mut rooms) {
+        if let Some(why) = self.refusal(proposal.view()) {
             return Err((why, proposal));
         }
-        match self.enter_current(proposal, &rooms) {
+        match self.enter_current(proposal) {
             Ok((receipt, view)) => {
                 drop(view);
                 Ok(receipt)
@@ -465,11 +449,10 @@ impl Book {
         ensures reference { self.new.reference ≡ self.old.reference }
         ensures refused { OnErr result (self.new.history ≡ self.old.history) }
     {
-        let rooms = self.no_rooms();
         if let Some(why) = self.outdated(proposal.view()) {
             return Err((why, proposal));
         }
-        self.enter_current(proposal, &rooms)
+        self.enter_current(proposal)
     }
 
     /// The lots that all sweeps took, over the whole history. It takes no memory, and reads each

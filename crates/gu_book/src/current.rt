@@ -8,7 +8,6 @@ ghost use Rattle.gu_view.specs.declared.view.ViewOffer.{ViewOffer as OfferOf};
 ghost use Rattle.gu_rules.specs.Views.{shown_at};
 ghost use Rattle.gu_book.specs.Current.{HasRooms, ShowsAll};
 
-use crate::met::MetRooms;
 use crate::showing::Showing;
 use crate::totals::Totals;
 use gu_limits::LimitTable;
@@ -58,28 +57,25 @@ fn shows_offers(showing: &mut Showing<'_>, numbers: &[u64], offers: &[ViewOffer]
     rest.is_empty()
 }
 
-/// Whether each room is that of its key in a group. The places of the limits that are read are noted, where there is memory for them.
-fn shows_rooms(limits: &LimitTable, group: &Group, rooms: &[Room], met: &mut MetRooms) -> bool
+/// Whether each room is that of its key in a group.
+fn shows_rooms(limits: &LimitTable, group: &Group, rooms: &[Room]) -> bool
     ensures { IsTrue result ↔ HasRooms limits.now group.now rooms.now }
 {
-    met.make_room(rooms.len());
     for room in rooms {
-        let (lots, place) = limits.room_and_place(group, &room.key);
-        if room.lots != lots {
+        if room.lots != limits.room(group, &room.key) {
             return false;
         }
-        met.note(place);
     }
     true
 }
 
-/// Whether a view shows the open offers of its group, and each room as it is. It needs no memory; the places of the limits that are read are noted, where there is some.
-pub fn shows_all(reference: &Reference, totals: &Totals, view: &View, met: &mut MetRooms) -> bool
+/// Whether a view shows the open offers of its group, and each room as it is. It needs no memory.
+pub fn shows_all(reference: &Reference, totals: &Totals, view: &View) -> bool
     ensures shown { IsTrue result ↔ ShowsAll reference.now totals.now view.now }
     ensures sound { IsView view.now }
 {
     let group = view.group();
     let numbers = totals.offers.open_numbers(group);
     shows_offers(&mut Showing::new(reference, totals), numbers, view.offers())
-        && shows_rooms(&totals.limits, &group, view.rooms(), met)
+        && shows_rooms(&totals.limits, &group, view.rooms())
 }

@@ -4,7 +4,7 @@ ghost use Rattle.std.specs.Prelude.{◌≡◌};
 ghost use Rattle.gu_book.specs.Deeds.{done_by, touched_by};
 
 use crate::versions::Touched;
-use gu_limits::Places;
+use gu_limits::PathLimits;
 use gu_terms::{Day, Done, FirmId, Group, Id, LimitKey, Lines, Lots, Offer, OfferNo, Path, Reply};
 use gu_trades::{ReportRef, Terms};
 
@@ -46,8 +46,8 @@ pub enum Deed<'a> {
     },
     Claim {
         claimed: Moved,
-        /// Where the limits of the path stood as their rooms were read. These are guesses.
-        places: Places,
+        /// The limits of its path.
+        limits: PathLimits,
     },
     Refuse {
         number: OfferNo,

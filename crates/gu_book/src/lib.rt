@@ -8,7 +8,6 @@ mod current;
 mod deed;
 mod error;
 mod limits;
-mod met;
 mod positions;
 mod showing;
 mod sweeping;

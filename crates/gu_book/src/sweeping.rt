@@ -10,10 +10,8 @@ ghost use Rattle.gu_book.specs.Effects.{KeepsMade, SameAnswers};
 ghost use Rattle.gu_book.specs.Commits.{sweep_of};
 ghost use Rattle.gu_book.specs.Moving.{HasRows, MayMove, MovesAll, MovesOne};
 
-use crate::met::MetRooms;
 use crate::totals::Totals;
 use gu_flow::Proposal;
-use gu_limits::Places;
 use gu_terms::{Entry, History, KeptSweep, OfferNo, Receipt, SweepEntry, Take};
 use gu_view::{View, ViewOffer};
 use std::alloc::{AllocError, Global};
@@ -96,7 +94,10 @@ fn make_way(totals: &mut Totals, number: OfferNo) -> Result<(), AllocError>
     ensures known { (reference : Tables) → IsAccounted reference totals.old → IsAccounted reference totals.new }
 {
     match totals.given(number) {
-        Some((offer, report)) => totals.make_way(&offer, &report),
+        Some((offer, report)) => {
+            totals.make_way(&offer, &report)?;
+            Ok(())
+        }
         None => Ok(()),
     }
 }
@@ -113,27 +114,8 @@ pub fn make_ways(totals: &mut Totals, takes: &[Take]) -> Result<(), AllocError>
     Ok(())
 }
 
-/// Where the first offer stands that doesn't come before a number, among those from a place on.
-fn place_from(offers: &[ViewOffer], from: usize, number: OfferNo) -> usize {
-    for place in from..offers.len() {
-        if offers[place].number.get() >= number.get() {
-            return place;
-        }
-    }
-    offers.len()
-}
-
-/// Where the limits stood of the path of the offer at a place.
-fn places_at(view: &View, place: usize, rooms: &MetRooms) -> Places {
-    if place < view.offers().len() {
-        rooms.of_path(view.places(place))
-    } else {
-        Places::none()
-    }
-}
-
 /// Moves the lots of one take, and charges them under the path that a view shows. It takes no memory.
-fn move_take(totals: &mut Totals, view: &View, take: &Take, places: &Places)
+fn move_take(totals: &mut Totals, view: &View, take: &Take)
     requires { (reference : Tables) × MayMove reference totals.old view.now.offers (take.now ∷ []) }
     ensures { (reference : Tables)
         → MayMove reference totals.old view.now.offers (take.now ∷ [])
@@ -145,22 +127,18 @@ fn move_take(totals: &mut Totals, view: &View, take: &Take, places: &Places)
     let Some(shown) = view.offer(take.offer) else {
         unreachable!();
     };
-    totals
-        .limits
-        .charge_near(&offer.group, &shown.path, take.lots, places);
+    totals.limits.charge(&offer.group, &shown.path, take.lots);
     totals.move_lots(take.offer, &offer, &report, take.lots);
 }
 
 /// Moves the lots of takes of a view's offers, one after another. It takes no memory.
-pub fn move_takes(totals: &mut Totals, view: &View, takes: &[Take], rooms: &MetRooms)
+pub fn move_takes(totals: &mut Totals, view: &View, takes: &[Take])
     requires { (reference : Tables) × MayMove reference totals.old view.now.offers takes.now }
     ensures { (reference : Tables)
         → MayMove reference totals.old view.now.offers takes.now
         → MovesAll reference totals.old totals.new takes.now }
 {
-    let mut place = 0;
     for take in takes {
-        place = place_from(view.offers(), place, take.offer);
-        move_take(totals, view, take, &places_at(view, place, rooms));
+        move_take(totals, view, take);
     }
 }

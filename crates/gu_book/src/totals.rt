@@ -1,13 +1,14 @@
 //! What a book keeps beside its history, so that no answer reads it.
 
-ghost use Rattle.std.specs.Prelude.{◌≡◌, ◌<◌, ◌≤◌, ◌+◌, ◌^◌, ◌++◌, ◌∷◌, [], true, false, All, Some, None, IfSome, OnOk, OnErr, length, map, unwrap_or};
+ghost use Rattle.std.specs.Prelude.{◌≡◌, ◌<◌, ◌≤◌, ◌+◌, ◌^◌, ◌++◌, ◌∷◌, [], true, false, All, Some, None, IfOk, IfSome, OnOk, OnErr, length, map, unwrap_or};
 ghost use Rattle.std.specs.List.{IsDistinct};
 ghost use Rattle.std.specs.Option.{option_to_list};
 ghost use Rattle.indexmap.specs.IndexSet.{hasher_of};
-ghost use Rattle.gu_limits.specs.Limits.{room_in, used_in};
+ghost use Rattle.gu_limits.specs.Limits.{AreLimitsOf, room_in, used_in};
 ghost use Rattle.gu_offers.specs.Changes.{changed, closed, next_day, reversed, taken, with_lines};
 ghost use Rattle.gu_offers.specs.Rows.{left_in, row_at, today_in};
 ghost use Rattle.gu_positions.specs.Changes.{KeepsLots, KeepsRows, lots_at, lots_at_side};
+ghost use Rattle.gu_positions.specs.Numbers.{IsRowOf};
 ghost use Rattle.gu_positions.specs.Rows.{has_row, lots_in, lots_on};
 ghost use Rattle.gu_terms.specs.LimitKeys.{key_eq};
 ghost use Rattle.gu_terms.specs.declared.account.AccountId.{AccountId as AccountOf};
@@ -22,9 +23,9 @@ ghost use Rattle.gu_book.specs.Effects.{HoldsMore, HoldsMoved, IsEven, KeepsMade
 ghost use Rattle.gu_book.specs.Moving.{given_by};
 
 use crate::deed::Moved;
-use gu_limits::{LimitTable, Places, SetError};
+use gu_limits::{LimitTable, PathLimits, SetError};
 use gu_offers::Offers;
-use gu_positions::Positions;
+use gu_positions::{Positions, RowNo};
 use gu_terms::{AccountId, Day, FirmId, Group, Id, LimitKey, Lines, Offer, OfferNo, Seed, Symbol};
 use gu_trades::{ReportRef, Terms, Trades};
 use indexmap::IndexSet;
@@ -200,10 +201,12 @@ impl Totals {
         Some((offer, report))
     }
 
-    /// Makes the rows of the accounts between which lots of an offer move. No answer changes.
-    pub fn make_way(&mut self, offer: &Offer, report: &Terms) -> Result<(), AllocError>
+    /// Makes the rows of the accounts between which lots of an offer move: that of its report, and its own. No answer changes.
+    pub fn make_way(&mut self, offer: &Offer, report: &Terms) -> Result<(RowNo, RowNo), AllocError>
         ensures from { OnOk result (has_row self.new.positions report.now.account report.now.symbol ≡ true) }
         ensures to { OnOk result (has_row self.new.positions offer.now.account report.now.symbol ≡ true) }
+        ensures one { IfOk result (λ rows. IsRowOf self.new.positions report.now.account report.now.symbol rows.0) }
+        ensures two { IfOk result (λ rows. IsRowOf self.new.positions offer.now.account report.now.symbol rows.1) }
         ensures stay { KeepsMade self.old.positions self.new.positions }
         ensures rows { OnlyRowsOf self.old.positions self.new.positions (report.now.account ∷ offer.now.account ∷ []) }
         ensures same { SameAnswers self.old self.new }
@@ -240,7 +243,8 @@ impl Totals {
     }
 
     /// Lots of an offer are claimed: the rows are made, and they are used under the keys of its path and moved.
-    pub fn claim(&mut self, claimed: &Moved, places: &Places) -> Result<(), AllocError>
+    pub fn claim(&mut self, claimed: &Moved, limits: &PathLimits) -> Result<(), AllocError>
+        requires limits { AreLimitsOf self.old.limits claimed.now.offer.group (unwrap_or claimed.now.path []) limits.now }
         requires left { claimed.now.lots ≤ left_in self.old.offers claimed.now.number }
         requires room { All (λ key. claimed.now.lots ≤ room_in self.old.limits claimed.now.offer.group key) (unwrap_or claimed.now.path []) }
         requires once { IfSome claimed.now.path (IsDistinct key_eq) }
@@ -255,14 +259,10 @@ impl Totals {
         ensures rows { OnlyRowsOf self.old.positions self.new.positions (claimed.now.report.account ∷ claimed.now.offer.account ∷ []) }
         ensures refused { OnErr result (SameAnswers self.old self.new) }
     {
-        self.make_way(&claimed.offer, &claimed.report)?;
-        charge(&mut self.limits, claimed, places);
-        self.move_lots(
-            claimed.number,
-            &claimed.offer,
-            &claimed.report,
-            claimed.lots.get(),
-        );
+        let rows = self.make_way(&claimed.offer, &claimed.report)?;
+        charge(&mut self.limits, claimed, limits);
+        self.offers.take(claimed.number, claimed.lots.get());
+        move_over(&mut self.positions, claimed, &rows);
         Ok(())
     }
 
@@ -283,16 +283,10 @@ impl Totals {
         ensures rows { OnlyRowsOf self.old.positions self.new.positions (returned.now.report.account ∷ returned.now.offer.account ∷ []) }
         ensures refused { OnErr result (SameAnswers self.old self.new) }
     {
-        self.make_way(&returned.offer, &returned.report)?;
+        let rows = self.make_way(&returned.offer, &returned.report)?;
         self.offers.reverse(returned.number);
         give_back(&mut self.limits, returned);
-        self.positions.shift(
-            returned.offer.account,
-            returned.report.account,
-            returned.report.symbol,
-            returned.report.side,
-            returned.lots.get(),
-        );
+        move_back(&mut self.positions, returned, &rows);
         Ok(())
     }
 }
@@ -304,15 +298,40 @@ fn make_rows(
     its: &Symbol,
     two: &AccountId,
     other: &Symbol,
-) -> Result<(), AllocError>
+) -> Result<(RowNo, RowNo), AllocError>
     ensures one { OnOk result (has_row positions.new one.now its.now ≡ true) }
     ensures two { OnOk result (has_row positions.new two.now other.now ≡ true) }
+    ensures first { IfOk result (λ rows. IsRowOf positions.new one.now its.now rows.0) }
+    ensures second { IfOk result (λ rows. IsRowOf positions.new two.now other.now rows.1) }
     ensures stay { KeepsMade positions.old positions.new }
     ensures same_lots { KeepsLots positions.old positions.new }
     ensures rows { OnlyRowsOf positions.old positions.new (one.now ∷ two.now ∷ []) }
 {
-    positions.row(*one, *its)?;
-    positions.row(*two, *other)
+    let first = positions.make_row(one, its)?;
+    let second = positions.make_row(two, other)?;
+    Ok((first, second))
+}
+
+/// Moves lots of an offer from the row of its report to its own.
+fn move_over(positions: &mut Positions, claimed: &Moved, rows: &(RowNo, RowNo))
+    requires from { IsRowOf positions.old claimed.now.report.account claimed.now.report.symbol rows.now.0 }
+    requires to { IsRowOf positions.old claimed.now.offer.account claimed.now.report.symbol rows.now.1 }
+    requires there { claimed.now.lots ≤ lots_in positions.old claimed.now.report.side claimed.now.report.account claimed.now.report.symbol }
+    ensures moved { HoldsMoved positions.old positions.new claimed.now.report claimed.now.report.account claimed.now.offer.account claimed.now.lots }
+    ensures rows { KeepsRows positions.old positions.new }
+{
+    positions.shift_between(&rows.0, &rows.1, claimed.report.side, claimed.lots.get());
+}
+
+/// Moves them back.
+fn move_back(positions: &mut Positions, returned: &Moved, rows: &(RowNo, RowNo))
+    requires from { IsRowOf positions.old returned.now.report.account returned.now.report.symbol rows.now.0 }
+    requires to { IsRowOf positions.old returned.now.offer.account returned.now.report.symbol rows.now.1 }
+    requires there { returned.now.lots ≤ lots_in positions.old returned.now.report.side returned.now.offer.account returned.now.report.symbol }
+    ensures moved { HoldsMoved positions.old positions.new returned.now.report returned.now.offer.account returned.now.report.account returned.now.lots }
+    ensures rows { KeepsRows positions.old positions.new }
+{
+    positions.shift_between(&rows.1, &rows.0, returned.report.side, returned.lots.get());
 }
 
 /// Makes the rows of a report and of the one that waits for it, where one does.
@@ -335,7 +354,8 @@ fn make_rows_of_trade(
         &report.symbol,
         &waiting.account,
         &waiting.symbol,
-    )
+    )?;
+    Ok(())
 }
 
 /// Holds the lots of a report.
@@ -359,13 +379,14 @@ fn hold(positions: &mut Positions, report: &Terms)
 }
 
 /// Uses lots under the keys of an offer's path.
-fn charge(limits: &mut LimitTable, claimed: &Moved, places: &Places)
-    requires room { All (λ key. claimed.now.lots ≤ room_in limits.old claimed.now.offer.group key) (unwrap_or claimed.now.path []) }
+fn charge(table: &mut LimitTable, claimed: &Moved, limits: &PathLimits)
+    requires limits { AreLimitsOf table.old claimed.now.offer.group (unwrap_or claimed.now.path []) limits.now }
+    requires room { All (λ key. claimed.now.lots ≤ room_in table.old claimed.now.offer.group key) (unwrap_or claimed.now.path []) }
     requires once { IfSome claimed.now.path (IsDistinct key_eq) }
-    ensures { UsesUnder (unwrap_or claimed.now.path []) limits.old limits.new claimed.now.offer.group claimed.now.lots }
+    ensures { UsesUnder (unwrap_or claimed.now.path []) table.old table.new claimed.now.offer.group claimed.now.lots }
 {
     if let Some(path) = &claimed.path {
-        limits.charge_near(&claimed.offer.group, path, claimed.lots.get(), places);
+        table.charge_at(&claimed.offer.group, path, limits, claimed.lots.get());
     }
 }
 

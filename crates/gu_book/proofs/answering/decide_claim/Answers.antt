@@ -14,21 +14,21 @@ use Rattle.gu_book.proofs.ClaimLemmas.{claim_refused, lots_are, short_key-of}
 use Rattle.gu_book.proofs.DeedLemmas.{has-report}
 use Rattle.gu_book.proofs.answering.decide_claim.Goals as goal
 
-pub returns-in-Some-short_key-clause-reply : goal.returns-in-Some-short_key-clause-reply
-returns-in-Some-short_key-clause-reply c =
+pub returns-in-Err-clause-reply : goal.returns-in-Err-clause-reply
+returns-in-Err-clause-reply c =
     let reference = c.args.reference.now in
     let state = state_in c.args.totals.now in
     let left = left_in state.offers c.args.number in
     let offer = c.in_ok-offer.offer in
     let lots = lots_are left c.in-Some.lots c.in-Some.ensures in
     let key =
-    c.in-Some-short_key.ensures
+    c.in-Err.ensures.short
     ∙ ap (λ (path : List LimitKey). find (λ key. nat_lt (room_in c.args.totals.now.limits offer.group key) c.get.result) path) c.path_with-path.ensures.keys
     ∙ short_key-of reference state c.args.number c.get.result offer c.in_ok-offer.ensures.offer
     ∙ ap (short_key reference state c.args.number) (c.get.ensures.number ∙ lots.0) in
     sym
     (standing_after (offer_tests reference state c.args.firm c.args.number) (claim_tests reference state c.args.number) (Claimed left) c.in_ok-offer.ensures.passed
-    ∙ standing_in (claim_tests reference state c.args.number) (Claimed left) (LimitReached c.in-Some-short_key.key)
+    ∙ standing_in (claim_tests reference state c.args.number) (Claimed left) (LimitReached c.in-Err.key)
     (claim_refused reference state c.args.number lots.1 ∙ ap (λ (k : Option LimitKey). option_map LimitReached k) (sym key)))
 
 pub returns-clause-reply : goal.returns-clause-reply
@@ -39,7 +39,7 @@ returns-clause-reply c =
     let offer = c.in_ok-offer.offer in
     let lots = lots_are left c.in-Some.lots c.in-Some.ensures in
     let none =
-    c.in_default-short_key.ensures
+    c.in-Ok.ensures.short
     ∙ ap (λ (path : List LimitKey). find (λ key. nat_lt (room_in c.args.totals.now.limits offer.group key) c.get.result) path) c.path_with-path.ensures.keys
     ∙ short_key-of reference state c.args.number c.get.result offer c.in_ok-offer.ensures.offer
     ∙ ap (short_key reference state c.args.number) (c.get.ensures.number ∙ lots.0) in
@@ -55,10 +55,13 @@ terms_given_up-requires c = has-report c.args.totals.now c.args.number c.in_ok-o
 pub returns-clause-deed : goal.returns-clause-deed
 returns-clause-deed c =
     record {
-      firm = c.args.firm;
-      is = refl;
-      seen = record { shown = c.in_ok-offer.ensures.offer; found = c.terms_given_up.ensures };
-      path = c.path_with-path.ensures.keys;
-      once = c.path_with-path.ensures.once;
-      all = (lots_are (left_in c.args.totals.now.offers c.args.number) c.in-Some.lots c.in-Some.ensures).0;
+      moves = record {
+        firm = c.args.firm;
+        is = refl;
+        seen = record { shown = c.in_ok-offer.ensures.offer; found = c.terms_given_up.ensures };
+        path = c.path_with-path.ensures.keys;
+        once = c.path_with-path.ensures.once;
+        all = (lots_are (left_in c.args.totals.now.offers c.args.number) c.in-Some.lots c.in-Some.ensures).0;
+      };
+      under = c.in-Ok.ensures.limits;
     }

@@ -12,7 +12,7 @@ loop-room-init c = λ k d none. absurd (omega (arith, none))
 pub loop-room-preserved : goal.loop-room-preserved
 loop-room-preserved c =
     let HasRoom : Room → Type 0 = λ room. room.lots ≡ room_in c.args.limits.now c.args.group.now room.key in
-    let here : HasRoom c.room-item.result = c.if-room-lots.false ∙ c.room_and_place-lots.ensures.room in
+    let here : HasRoom c.room-item.result = c.if-room.false ∙ c.room.ensures in
     All-more HasRoom c.args.rooms.now c.loop-room.room-index c.room-item.result c.loop-room-test.true c.loop-room.invariant (subst HasRoom c.room-item.is here)
 
 pub returns : goal.returns

@@ -10,16 +10,16 @@ use Rattle.gu_book.specs.Effects.{UsesMore}
 use Rattle.gu_book.proofs.Moves.{moves-one, take-path, take-room, take-there}
 use Rattle.gu_book.proofs.sweeping.move_take.Goals as goal
 
-pub charge_near-requires-clause-room : goal.charge_near-requires-clause-room
-charge_near-requires-clause-room c =
+pub charge-requires-clause-room : goal.charge-requires-clause-room
+charge-requires-clause-room c =
     let totals = c.args.totals.now in
     let take = c.args.take.now in
     let path = take-path c.requires.0 totals c.args.view.now.offers take c.in-Some.offer c.in-Some.report c.in-Some-offer.shown.now c.in-Some.ensures c.in-Some-offer.ensures c.requires.1 in
     subst (λ (path : List LimitKey). All (λ key. take.lots ≤ room_in totals.limits c.in-Some.offer.group key) path) (sym path)
     (take-room c.requires.0 totals take c.in-Some.offer c.in-Some.report c.in-Some.ensures c.requires.1.room)
 
-pub charge_near-requires-clause-once : goal.charge_near-requires-clause-once
-charge_near-requires-clause-once c =
+pub charge-requires-clause-once : goal.charge-requires-clause-once
+charge-requires-clause-once c =
     let path = take-path c.requires.0 c.args.totals.now c.args.view.now.offers c.args.take.now c.in-Some.offer c.in-Some.report c.in-Some-offer.shown.now c.in-Some.ensures c.in-Some-offer.ensures c.requires.1 in
     subst (IsDistinct key_eq) (sym path) (path_after-once c.requires.0 c.in-Some.offer)
 
@@ -33,9 +33,9 @@ returns c reference may =
     let take = c.args.take.now in
     let offer = c.in-Some.offer in
     let path = take-path reference totals c.args.view.now.offers take offer c.in-Some.report c.in-Some-offer.shown.now c.in-Some.ensures c.in-Some-offer.ensures may in
-    let uses : UsesMore reference totals.limits c.charge_near.new.self offer take.lots = record {
-      limits = c.charge_near.ensures.limits;
-      uses = λ at on. c.charge_near.ensures.uses at on ∙ ap (λ (path : List LimitKey). used_in totals.limits at on + lots_under offer.group path take.lots at on) path;
+    let uses : UsesMore reference totals.limits c.charge.new.self offer take.lots = record {
+      limits = c.charge.ensures.limits;
+      uses = λ at on. c.charge.ensures.uses at on ∙ ap (λ (path : List LimitKey). used_in totals.limits at on + lots_under offer.group path take.lots at on) path;
     } in
     moves-one reference totals c.move_lots.new.self c.args.view.now.offers take offer c.in-Some.report c.in-Some.ensures may
     (record { today = e.entries.today; trades = e.entries.trades; give_ups = e.entries.give_ups }) e.offers

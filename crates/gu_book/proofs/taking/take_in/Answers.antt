@@ -98,15 +98,18 @@ returns-in-GiveUp-clause-known c =
 
 -- ---- claims
 
+pub claim-requires-clause-limits : goal.claim-requires-clause-limits
+claim-requires-clause-limits c = let it = subst (MayDo c.requires.0 c.args.totals.now) c.in-Claim.is c.requires.1 in it.is.under
+
 pub claim-requires-clause-room : goal.claim-requires-clause-room
 claim-requires-clause-room c =
     let it = subst (MayDo c.requires.0 c.args.totals.now) c.in-Claim.is c.requires.1 in
-    (claim-fits c.requires.0 c.args.totals.now it.command c.in-Claim.claimed it.may it.is).0
+    (claim-fits c.requires.0 c.args.totals.now it.command c.in-Claim.claimed it.may it.is.moves).0
 
 pub claim-requires-clause-there : goal.claim-requires-clause-there
 claim-requires-clause-there c =
     let it = subst (MayDo c.requires.0 c.args.totals.now) c.in-Claim.is c.requires.1 in
-    (claim-fits c.requires.0 c.args.totals.now it.command c.in-Claim.claimed it.may it.is).1
+    (claim-fits c.requires.0 c.args.totals.now it.command c.in-Claim.claimed it.may it.is.moves).1
 
 pub returns-in-Claim-clause-taken : goal.returns-in-Claim-clause-taken
 returns-in-Claim-clause-taken c =
@@ -114,7 +117,7 @@ returns-in-Claim-clause-taken c =
     let new = c.claim.new.self in
     let e = c.claim.ensures in
     subst (λ (deed : Deed). OnOk c.claim.result (TakesDeed old new deed)) (sym c.in-Claim.is)
-    (on_ok_three c.claim.result (λ offers limits positions reference command is. claim-taken reference old new command c.in-Claim.claimed is e.entries offers limits positions) e.offers e.limits e.positions)
+    (on_ok_three c.claim.result (λ offers limits positions reference command is. claim-taken reference old new command c.in-Claim.claimed is.moves e.entries offers limits positions) e.offers e.limits e.positions)
 
 pub returns-in-Claim-clause-known : goal.returns-in-Claim-clause-known
 returns-in-Claim-clause-known c =
@@ -123,7 +126,7 @@ returns-in-Claim-clause-known c =
     let e = c.claim.ensures in
     subst (KeepsAccounts old c.claim.new.self) (sym c.in-Claim.is)
     (λ reference may.
-    known-moved reference old c.claim.new.self c.claim.result claimed.number (taken claimed.lots) claimed.offer claimed.report may.is.seen (λ row. refl)
+    known-moved reference old c.claim.new.self c.claim.result claimed.number (taken claimed.lots) claimed.offer claimed.report may.is.moves.seen (λ row. refl)
     e.entries.trades e.offers e.refused e.rows e.even)
 
 -- ---- refusals
