@@ -1,6 +1,5 @@
 -- What a report meets, by the reports with its match id, and what it brings to positions.
 use Rattle.std.proofs.Common.{◌≡◌, ◌+◌, ◌≤◌, Bool, true, false, List, [], ◌∷◌, map, Option, None, Some, unwrap_or, refl, sym, ap, ◌∙◌, arith, subst, inl, inr}
-use Rattle.std.specs.Option.{option_to_list}
 use Rattle.std.specs.Prelude.{if◌then◌else◌}
 use Rattle.std.proofs.lemmas.Bool.{cases_Bool}
 use Rattle.gu_terms.specs.declared.account.AccountId.{AccountId}
@@ -71,11 +70,10 @@ nobody (first ∷ []) report found is met fits =
 nobody (first ∷ second ∷ more) report found is met fits = cc
 
 -- the accounts of those that wait
-pub accounts-waiting : (sides : List Report) (report : Report) (found : Option Terms) → found ≡ waiting_of (counterpart_of sides (terms_of report)) → conflicts sides report ≡ false
-    → map (λ (w : Terms). w.account) (option_to_list found) ≡ map (λ (w : Report). w.account) sides
-accounts-waiting sides report None met fits = ap (map (λ (w : Report). w.account)) (sym (nobody sides report None refl met fits))
-accounts-waiting sides report (Some waiting) met fits =
-    let alone = waits sides report (Some waiting) waiting refl met in
+pub account-met : (sides : List Report) (report : Report) (found : Option Terms) (waiting : Terms) → found ≡ Some waiting → found ≡ waiting_of (counterpart_of sides (terms_of report))
+    → waiting.account ∷ [] ≡ map (λ (w : Report). w.account) sides
+account-met sides report found waiting is met =
+    let alone = waits sides report found waiting is met in
     ap (λ (t : Terms). t.account ∷ []) (sym alone.2) ∙ ap (map (λ (w : Report). w.account)) (sym alone.1)
 
 -- both sides of a trade are held
@@ -97,10 +95,10 @@ holds-both old made mid new sides report found waiting is met same first most se
     subst (λ (rs : List Report). HoldsMore old new (made_a_trade rs report)) (sym alone.1) both
 
 -- and a report that opens brings nothing
-pub holds-none : (old new : List Row) (sides : List Report) (report : Report) (found : Option Terms) → found ≡ None → found ≡ waiting_of (counterpart_of sides (terms_of report)) → conflicts sides report ≡ false → KeepsLots old new
-    → HoldsMore old new (made_a_trade sides report)
-holds-none old new sides report found is met fits same =
-    subst (λ (rs : List Report). HoldsMore old new (made_a_trade rs report)) (sym (nobody sides report found is met fits)) (record {
-      lots = λ on account symbol. omega (arith, same.lots on account symbol);
-      sums = λ on symbol. omega (arith, same.sums on symbol);
+pub holds-none : (rows : List Row) (sides : List Report) (report : Report) (found : Option Terms) → found ≡ None → found ≡ waiting_of (counterpart_of sides (terms_of report)) → conflicts sides report ≡ false
+    → HoldsMore rows rows (made_a_trade sides report)
+holds-none rows sides report found is met fits =
+    subst (λ (rs : List Report). HoldsMore rows rows (made_a_trade rs report)) (sym (nobody sides report found is met fits)) (record {
+      lots = λ on account symbol. omega arith;
+      sums = λ on symbol. omega arith;
     })

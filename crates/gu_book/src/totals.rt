@@ -2,12 +2,11 @@
 
 ghost use Rattle.std.specs.Prelude.{◌≡◌, ◌<◌, ◌≤◌, ◌+◌, ◌^◌, ◌++◌, ◌∷◌, [], true, false, All, Some, None, IfOk, IfSome, OnOk, OnErr, length, map, unwrap_or};
 ghost use Rattle.std.specs.List.{IsDistinct};
-ghost use Rattle.std.specs.Option.{option_to_list};
 ghost use Rattle.indexmap.specs.IndexSet.{hasher_of};
 ghost use Rattle.gu_limits.specs.Limits.{AreLimitsOf, room_in, used_in};
 ghost use Rattle.gu_offers.specs.Changes.{changed, closed, next_day, reversed, taken, with_lines};
 ghost use Rattle.gu_offers.specs.Rows.{left_in, row_at, today_in};
-ghost use Rattle.gu_positions.specs.Changes.{KeepsLots, KeepsRows, lots_at, lots_at_side};
+ghost use Rattle.gu_positions.specs.Changes.{KeepsLots, KeepsNumbers, KeepsRows, lots_at, lots_at_side};
 ghost use Rattle.gu_positions.specs.Numbers.{IsRowOf};
 ghost use Rattle.gu_positions.specs.Rows.{has_row, lots_in, lots_on};
 ghost use Rattle.gu_terms.specs.LimitKeys.{key_eq};
@@ -154,13 +153,21 @@ impl Totals {
             (report.now.account ∷ map (λ w. w.account) (with_match report.now.match_id self.old.trades)) }
         ensures refused { OnErr result (SameAnswers self.old self.new) }
     {
+        let Some(waiting) = waiting else {
+            self.trades.push(report)?;
+            return Ok(());
+        };
         let terms = report.terms();
-        make_rows_of_trade(&mut self.positions, waiting, terms)?;
+        let rows = make_rows(
+            &mut self.positions,
+            &terms.account,
+            &terms.symbol,
+            &waiting.account,
+            &waiting.symbol,
+        )?;
         self.trades.push(report)?;
-        if let Some(waiting) = waiting {
-            hold(&mut self.positions, waiting);
-            hold(&mut self.positions, terms);
-        }
+        hold(&mut self.positions, &rows.1, waiting);
+        hold(&mut self.positions, &rows.0, terms);
         Ok(())
     }
 
@@ -334,33 +341,9 @@ fn move_back(positions: &mut Positions, returned: &Moved, rows: &(RowNo, RowNo))
     positions.shift_between(&rows.1, &rows.0, returned.report.side, returned.lots.get());
 }
 
-/// Makes the rows of a report and of the one that waits for it, where one does.
-fn make_rows_of_trade(
-    positions: &mut Positions,
-    waiting: &Option<Terms>,
-    report: &Terms,
-) -> Result<(), AllocError>
-    ensures waiting { OnOk result (IfSome waiting.now (λ w. has_row positions.new w.account w.symbol ≡ true)) }
-    ensures report { OnOk result (IfSome waiting.now (λ w. has_row positions.new report.now.account report.now.symbol ≡ true)) }
-    ensures same_lots { KeepsLots positions.old positions.new }
-    ensures rows { OnlyRowsOf positions.old positions.new (report.now.account ∷ map (λ w. w.account) (option_to_list waiting.now)) }
-{
-    let Some(waiting) = waiting else {
-        return Ok(());
-    };
-    make_rows(
-        positions,
-        &report.account,
-        &report.symbol,
-        &waiting.account,
-        &waiting.symbol,
-    )?;
-    Ok(())
-}
-
-/// Holds the lots of a report.
-fn hold(positions: &mut Positions, report: &Terms)
-    requires made { has_row positions.old report.now.account report.now.symbol ≡ true }
+/// Holds the lots of a report at its row.
+fn hold(positions: &mut Positions, row: &RowNo, report: &Terms)
+    requires row { IsRowOf positions.old report.now.account report.now.symbol row.now }
     requires fits { lots_on positions.old report.now.side report.now.symbol + 1000000 < 2 ^ 64 }
     ensures same_rows { KeepsRows positions.old positions.new }
     ensures lots { (on : SideOf) (other : AccountOf) (another : SymbolOf) → lots_in positions.new on other another
@@ -369,13 +352,9 @@ fn hold(positions: &mut Positions, report: &Terms)
     ensures added { (on : SideOf) (another : SymbolOf) → lots_on positions.new on another
         ≡ lots_on positions.old on another + lots_at_side report.now.side report.now.symbol report.now.lots on another }
     ensures most { report.now.lots ≤ 1000000 }
+    ensures stay { KeepsNumbers positions.old positions.new }
 {
-    positions.add(
-        report.account,
-        report.symbol,
-        report.side,
-        report.lots.get(),
-    );
+    positions.add_to(row, report.side, report.lots.get());
 }
 
 /// Uses lots under the keys of an offer's path.
