@@ -1,10 +1,14 @@
 //! Frames whose number was expected, by what they say.
 
 ghost use Rattle.std.specs.Prelude.{◌≡◌, IfOk};
+ghost use Rattle.gu_msgs.specs.Asking.{side_of};
+ghost use Rattle.gu_msgs.specs.declared.asking.Question.TheVariants.{Report};
+ghost use Rattle.gu_msgs.specs.declared.asking.Request.TheVariants.{Enter};
 ghost use Rattle.gu_msgs.specs.declared.coded_values.BusinessRejectReason.TheVariants.{UnsupportedMessageType};
 ghost use Rattle.gu_msgs.specs.declared.outbound.Application.TheVariants as application;
 ghost use Rattle.gu_msgs.specs.declared.outbound.Body.TheVariants as body;
 ghost use Rattle.gu_session.specs.FrameRules.{as_expected, is_sender, on_content, on_gap_fill, on_message, on_request, wrong_party};
+ghost use Rattle.gu_session.specs.Plans.{hands};
 
 use crate::heard::{Heading, Heard};
 use crate::logged_on::LoggedOn;
@@ -12,6 +16,7 @@ use crate::messages::Messages;
 use crate::plan::Plan;
 use crate::rejecting::reject;
 use crate::seq_num::SeqNum;
+use gu_msgs::inbound::TradeCaptureReport;
 use gu_msgs::outbound::{Application, Body, BusinessMessageReject};
 use gu_msgs::{
     BusinessRejectReason, Fault, Inbound, LogoutReason, NEW_SEQ_NO, Question, Request,
@@ -119,6 +124,22 @@ fn on_message(
     }
 }
 
+/// A report is handed out. It is large, and so copied once alone.
+fn on_report(
+    alloc: Global,
+    at: &LoggedOn,
+    number: SeqNum,
+    report: &TradeCaptureReport,
+) -> Result<Plan, AllocError>
+    ensures { IfOk result (λ plan. plan ≡ hands at.now number (Enter (side_of at.now.firm report.now)) (Report report.now.trade_report_id report.now.trd_match_id)) }
+{
+    let question = Question::Report {
+        id: report.trade_report_id,
+        match_id: report.trd_match_id,
+    };
+    Plan::hands(alloc, at, number, Request::Enter(report.side_of(at.firm)), question)
+}
+
 /// A message of the right parties, or its fault.
 fn on_content(
     alloc: Global,
@@ -146,6 +167,9 @@ pub fn as_expected(
 {
     let heading = &heard.heading;
     let Some(tag) = wrong_party(&at.firm, heading) else {
+        if let Ok(Inbound::TradeCaptureReport(report)) = &heard.content {
+            return on_report(alloc, at, number, report);
+        }
         let content = mem::replace(&mut heard.content, Ok(Inbound::Heartbeat));
         return on_content(alloc, at, heading, number, content);
     };
