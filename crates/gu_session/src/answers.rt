@@ -1,6 +1,7 @@
 //! Answers to what was handed out, and notices.
 
 ghost use Rattle.std.specs.Prelude.{◌≡◌, IfOk};
+ghost use Rattle.std.specs.Option.{option_copied};
 ghost use Rattle.gu_session.specs.AnswerRules.{answer_messages, asked_by, command_messages, entered, on_answer, on_notice};
 ghost use Rattle.gu_session.specs.declared.input.Outcome.TheVariants.{Replied};
 
@@ -14,8 +15,8 @@ use gu_terms::{Notice, Reply};
 use std::alloc::{AllocError, Global};
 
 /// What became of a command, by the reply to it.
-fn replied(question: Question, reply: Reply) -> Option<Option<Rejection>>
-    ensures { result ≡ entered question (Replied reply) }
+fn replied(question: &Question, reply: Reply) -> Option<Option<Rejection>>
+    ensures { result ≡ entered question.now (Replied reply) }
 {
     match reply {
         Reply::Accepted(done) => {
@@ -30,8 +31,8 @@ fn replied(question: Question, reply: Reply) -> Option<Option<Rejection>>
 }
 
 /// What became of a command.
-fn entered(question: Question, outcome: &Outcome) -> Option<Option<Rejection>>
-    ensures { result ≡ entered question outcome.now }
+fn entered(question: &Question, outcome: &Outcome) -> Option<Option<Rejection>>
+    ensures { result ≡ entered question.now outcome.now }
 {
     match outcome {
         Outcome::Replied(reply) => replied(question, *reply),
@@ -44,11 +45,11 @@ fn entered(question: Question, outcome: &Outcome) -> Option<Option<Rejection>>
 /// The answer to a command that the message with this number asked for.
 fn command_messages(
     alloc: Global,
-    question: Question,
+    question: &Question,
     number: u64,
     outcome: &Outcome,
 ) -> Result<Option<Messages>, AllocError>
-    ensures { IfOk result (λ messages. messages ≡ command_messages question number outcome.now) }
+    ensures { IfOk result (λ messages. messages ≡ command_messages question.now number outcome.now) }
 {
     let Some(why) = entered(question, outcome) else {
         return Ok(None);
@@ -59,30 +60,30 @@ fn command_messages(
 /// The answer to what the message with this number asked for, where the outcome is of its kind.
 fn answer_messages(
     alloc: Global,
-    question: Question,
+    question: &Question,
     number: u64,
     outcome: &Outcome,
 ) -> Result<Option<Messages>, AllocError>
-    ensures { IfOk result (λ messages. messages ≡ answer_messages question number outcome.now) }
+    ensures { IfOk result (λ messages. messages ≡ answer_messages question.now number outcome.now) }
 {
     let Question::Positions(request) = question else {
         return command_messages(alloc, question, number, outcome);
     };
     match outcome {
         Outcome::Positions(rows) => {
-            Ok(Some(Messages::of(positions_answer(alloc, &request, rows)?)))
+            Ok(Some(Messages::of(positions_answer(alloc, request, rows)?)))
         }
         _ => Ok(None),
     }
 }
 
 /// The question with this reference.
-fn asked_by(reference: AskRef, waiting: &[Waiting]) -> Option<Waiting>
-    ensures { result ≡ asked_by reference waiting.now }
+fn asked_by(reference: AskRef, waiting: &[Waiting]) -> Option<&Waiting>
+    ensures { option_copied result ≡ asked_by reference waiting.now }
 {
     for one in waiting {
         if one.reference == reference {
-            return Some(*one);
+            return Some(one);
         }
     }
     None
@@ -101,7 +102,7 @@ pub fn on_answer(
     let Some(one) = asked_by(reference, waiting) else {
         return Ok(Course::Stay);
     };
-    match answer_messages(alloc, one.question, one.reference.get(), outcome)? {
+    match answer_messages(alloc, &one.question, one.reference.get(), outcome)? {
         Some(messages) => Ok(Course::Go(Plan::answers(at, reference, messages))),
         None => Ok(Course::Stay),
     }

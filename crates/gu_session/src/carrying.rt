@@ -49,16 +49,6 @@ pub fn repeats(
     }
 }
 
-/// What waits for its answer by what is handed out.
-pub fn waiting_in(handed: &Option<Handing>) -> Option<Waiting>
-    ensures { result ≡ option_map (λ (handed : HandedOf). handed.waiting) handed.now }
-{
-    match handed {
-        Some(handed) => Some(handed.waiting()),
-        None => None,
-    }
-}
-
 /// Room for what is to be kept, where a firm logs on.
 pub fn room_for(alloc: Global, at: &Option<LoggedOn>) -> Result<Option<SentRing>, AllocError>
     ensures { IfOk result (λ room. room ≡ (if is_some at.now then None else Some (buffer [] 4096))) }
@@ -111,12 +101,16 @@ fn remember(waiting: &mut Vec<Waiting>, reference: AskRef, question: Question)
 }
 
 /// Adds what was handed out, and takes out what was answered.
-pub fn settle(waiting: &mut Vec<Waiting>, handed: Option<Waiting>, answered: Option<AskRef>)
+pub fn settle(waiting: &mut Vec<Waiting>, handed: &Option<Handing>, answered: Option<AskRef>)
     requires { vec_len waiting.old < vec_capacity waiting.old }
-    ensures { waiting.new.items ≡ unanswered answered (waiting.old.items ++ option_to_list handed) }
+    ensures { waiting.new.items ≡ unanswered answered (waiting.old.items ++ option_to_list (option_map (λ (handed : HandedOf). handed.waiting) handed.now)) }
 {
-    if let Some(one) = handed {
-        remember(waiting, one.reference, one.question);
+    if let Some(handed) = handed {
+        let Waiting {
+            reference,
+            question,
+        } = handed.waiting();
+        remember(waiting, reference, question);
     }
     forget(waiting, answered);
 }

@@ -137,7 +137,13 @@ fn on_report(
         id: report.trade_report_id,
         match_id: report.trd_match_id,
     };
-    Plan::hands(alloc, at, number, Request::Enter(report.side_of(at.firm)), question)
+    Plan::hands(
+        alloc,
+        at,
+        number,
+        Request::Enter(report.side_of(at.firm)),
+        question,
+    )
 }
 
 /// A message of the right parties, or its fault.

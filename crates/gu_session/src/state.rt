@@ -7,9 +7,7 @@ ghost use Rattle.gu_session.specs.Sending.{behind, closed, is_over};
 ghost use Rattle.gu_session.specs.States.{new_session};
 ghost use Rattle.gu_session.specs.Steps.{IsCourse};
 
-use crate::carrying::{
-    is_over, keep, move_to, repeats, room_for, sent_at_after, settle, waiting_in,
-};
+use crate::carrying::{is_over, keep, move_to, repeats, room_for, sent_at_after, settle};
 use crate::course::{answer_course, frame_course, notice_course, tick_course};
 use crate::input::Input;
 use crate::logged_on::{LoggedOn, Waiting};
@@ -164,7 +162,7 @@ impl State {
             answered,
             ends,
         } = plan;
-        settle(&mut self.waiting, waiting_in(&handed), answered);
+        settle(&mut self.waiting, &handed, answered);
         self.next += messages.len() as u64;
         self.at = Some(after);
         self.is_closed = ends;

@@ -16,7 +16,7 @@ returns-clause-behind c =
     c.keep.ensures ∙ ap (λ (k : Buffer _). extended k sent) c.move_to.ensures
     ∙ kept_in_room c.args.self.now.at c.args.self.now.kept c.args.ready.room sent c.requires.sound.room c.requires.ready.room in
     let count : c.len.result ≡ length (sent_by s c.args.now plan) = c.len.ensures ∙ committed_sent s c.args.now c.args.ready c.requires.ready in
-    rw (kept, c.sent_at_after-self.ensures, count, c.len-2.ensures.len, c.settle.ensures, c.waiting_in.ensures) refl
+    rw (kept, c.sent_at_after-self.ensures, count, c.len-2.ensures.len, c.settle.ensures) refl
 
 pub returns-clause-sound : goal.returns-clause-sound
 returns-clause-sound c =
