@@ -12,14 +12,14 @@ ghost use Rattle.gu_session.specs.declared.logged_on.LoggedOn.{LoggedOn as Logge
 use crate::answers::{on_answer, on_notice};
 use crate::ask_ref::AskRef;
 use crate::heard::Heard;
-use crate::hearing::hear;
+use crate::hearing::{read_content, read_heading};
 use crate::heartbeat::on_tick;
 use crate::input::Outcome;
 use crate::logged_on::{LoggedOn, Waiting};
 use crate::logon::logon_course;
 use crate::plan::Course;
 use crate::sequence::frame_plan;
-use gu_fix::Frame;
+use gu_fix::{Frame, into_fields};
 use gu_terms::{FirmId, Moment, Notice};
 use std::alloc::{AllocError, Global};
 
@@ -60,7 +60,10 @@ pub fn frame_course(
 ) -> Result<Course, AllocError>
     ensures { IfOk result (IsFrameCourse firms.now at.now frame now) }
 {
-    let mut heard = hear(alloc, frame)?;
+    let (fields, malformed) = into_fields(alloc, frame)?;
+    let heading = read_heading(&fields);
+    let content = read_content(alloc, &fields, malformed)?;
+    let mut heard = Heard { heading, content };
     heard_course(alloc, firms, at, &mut heard, now)
 }
 

@@ -2,11 +2,11 @@
 
 ghost use Rattle.std.specs.Prelude.{◌≡◌, codes, IfOk, option_and_then};
 ghost use Rattle.std.specs.Option.{option_map};
-ghost use Rattle.gu_session.specs.Hearing.{Hears, IsContent, IsFirmIn, IsHeading, IsNumberIn, code_in, is_given};
+ghost use Rattle.gu_session.specs.Hearing.{IsContent, IsFirmIn, IsHeading, IsNumberIn, code_in, is_given};
 
-use crate::heard::{Heading, Heard};
+use crate::heard::Heading;
 use crate::seq_num::SeqNum;
-use gu_fix::{FieldFault, Fields, Frame, into_fields};
+use gu_fix::{FieldFault, Fields};
 use gu_msgs::{
     Fault, Inbound, MsgFault, SessionRejectReason, TypeCode, header_in, is_numeral, number_of, read,
 };
@@ -73,7 +73,7 @@ fn is_yes(value: Option<&[u8]>) -> bool
 }
 
 /// What the header of these fields says.
-fn read_heading(fields: &Fields) -> Heading
+pub fn read_heading(fields: &Fields) -> Heading
     ensures { IsHeading fields.now result }
 {
     let header = header_in(fields);
@@ -87,7 +87,7 @@ fn read_heading(fields: &Fields) -> Heading
 }
 
 /// What these fields say, or what is wrong with them; a malformed one comes first.
-fn read_content(
+pub fn read_content(
     alloc: Global,
     fields: &Fields,
     malformed: Option<FieldFault>,
@@ -106,14 +106,4 @@ fn read_content(
         Err(MsgFault::Rejected(fault)) => Ok(Err(fault)),
         Err(MsgFault::Memory) => Err(AllocError),
     }
-}
-
-/// What a frame says.
-pub fn hear(alloc: Global, frame: Frame) -> Result<Heard, AllocError>
-    ensures { IfOk result (Hears frame) }
-{
-    let (fields, malformed) = into_fields(alloc, frame)?;
-    let heading = read_heading(&fields);
-    let content = read_content(alloc, &fields, malformed)?;
-    Ok(Heard { heading, content })
 }
