@@ -124,7 +124,7 @@ fn on_message(
     }
 }
 
-/// A report is handed out. It is large, and so copied once alone.
+/// A report is handed out. It is read where the frame has it, since it is large.
 fn on_report(
     alloc: Global,
     at: &LoggedOn,
