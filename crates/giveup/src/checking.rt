@@ -12,13 +12,18 @@ ghost use Rattle.giveup.specs.Checking.{Checked, CheckedInPart, HasBadLine, Read
 use crate::status::Status;
 use gu_script::ScriptError;
 use gu_streams::{CountedReads, LONGEST_READ, send};
+use gu_terms::Seed;
 use gu_text::{Sheet, SheetReading, verdict_text};
 use gu_view::CutFault;
 use std::alloc::Global;
 use std::io::{Read, Write};
 
 /// Reads the sheet that the reader has. The whole lines of a read are understood before the next read.
-fn read_sheet<R: Read>(alloc: Global, reads: &mut CountedReads<R>) -> Result<Sheet, ScriptError>
+fn read_sheet<R: Read>(
+    alloc: Global,
+    seed: Seed,
+    reads: &mut CountedReads<R>,
+) -> Result<Sheet, ScriptError>
     ensures sheet { IfOk result (λ sheet. ReadsSheet sheet (bytes_left R.remaining reads.old) (bytes_left R.remaining reads.new)) }
     ensures bad_line { (n : ℕ) → IsErrOf result (ScriptError.BadLine n)
         → ReadsBadLine n (bytes_left R.remaining reads.old) (bytes_left R.remaining reads.new) }
@@ -27,7 +32,7 @@ fn read_sheet<R: Read>(alloc: Global, reads: &mut CountedReads<R>) -> Result<She
     // After an error a part was read.
     ensures part { OnErr result (ReadsPart (bytes_left R.remaining reads.old) (bytes_left R.remaining reads.new)) }
 {
-    let mut reading = SheetReading::new(alloc);
+    let mut reading = SheetReading::seeded(alloc, seed);
     let mut buffer = [0; LONGEST_READ];
     'reading: while !reads.is_spent() {
         match reads.read(&mut buffer) {
@@ -60,6 +65,7 @@ fn status_after(verdict: &Result<u64, CutFault>) -> Status
 /// Checks the sheet that the reader has, writes the verdict on it, and gives the status.
 pub fn check<R: Read, W: Write>(
     alloc: Global,
+    seed: Seed,
     reads: &mut CountedReads<R>,
     writer: &mut W,
 ) -> Result<Status, ScriptError>
@@ -75,7 +81,7 @@ pub fn check<R: Read, W: Write>(
     // In any case, and so after each error: what was written is a prefix of the line of the verdict.
     ensures part { CheckedInPart (streams_of R.remaining W.contents reads.old reads.new writer.old writer.new) }
 {
-    let sheet = read_sheet(alloc, reads)?;
+    let sheet = read_sheet(alloc, seed, reads)?;
     let verdict = verdict_on(&sheet);
     let line = verdict_text(alloc, &verdict)?;
     send(writer, &line)?;

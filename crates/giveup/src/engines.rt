@@ -41,7 +41,7 @@ fn ended(
             )?;
             Ok(Status::Done)
         }
-        Engine::Check => Ok(check(alloc, reads, sink)?),
+        Engine::Check => Ok(check(alloc, Seed::new(0), reads, sink)?),
         Engine::Replay => {
             replay(alloc, sample_reference(alloc)?, Seed::new(0), reads, sink)?;
             Ok(Status::Done)

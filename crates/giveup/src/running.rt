@@ -32,7 +32,7 @@ use std::thread::Threads;
 const WAITING: &str =
     "giveup: trade capture waits for FIX messages on standard input; giveup --help shows the other commands";
 
-/// A seed from the system, for tables of ids that firms choose. Where there is none, nothing is read.
+/// A seed from the system, for tables of ids and names that others choose. Where there is none, nothing is read.
 fn seed_from<R: RandomSource>(rt: &R) -> Result<Seed, StreamError> {
     let mut bytes = [0; 8];
     match rt.fill_bytes(&mut bytes) {
@@ -71,10 +71,13 @@ fn stopped(error: ScriptError) -> Fault<'static> {
 }
 
 /// The check of a sheet, from standard input to standard output.
-fn run_check<R: Input + Print + Alloc<A = Global>>(rt: &R) -> Result<Status, Fault<'static>> {
+fn run_check<R: Input + Print + RandomSource + Alloc<A = Global>>(
+    rt: &R,
+) -> Result<Status, Fault<'static>> {
+    let seed = seed_from(rt)?;
     let mut reads = CountedReads::new(rt.reader());
     let mut writer = io::writer(rt);
-    check(rt.alloc(), &mut reads, &mut writer).map_err(stopped)
+    check(rt.alloc(), seed, &mut reads, &mut writer).map_err(stopped)
 }
 
 /// The script on standard input, answered on standard output, on the reference of a file.

@@ -56,7 +56,7 @@ giveup < x -> 1 ; ; giveup: read fault/
 giveup replay house < DAY 20260105/ -> 1 ; ; giveup: read fault/
 giveup fix E1 house < x -> 1 ; ; giveup: read fault/
 giveup serve house 9878 < x -> 1 ; ; giveup: read fault/
-giveup check < SHEET G1 0/END/ -> 0 ; OK 0/;
+giveup check < SHEET G1 0/END/ -> 1 ; ; giveup: read fault/
 ";
 
 /// The same at a terminal, where it is said what is waited for, and what is at fault and why.

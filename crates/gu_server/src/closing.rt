@@ -23,9 +23,6 @@ pub struct Closed {
     pub fault: Option<StreamError>,
 }
 
-/// The three lines of a day's end, and whether the audit found nothing wrong.
-pub type DayEnd = Result<(String, bool), AllocError>;
-
 // By hand, so that each exit of a caller drops it by one call.
 impl Drop for Closed {
     fn drop(self) {
@@ -38,6 +35,9 @@ impl Drop for Closed {
         drop(receipts);
     }
 }
+
+/// The three lines of a day's end, and whether the audit found nothing wrong.
+pub type DayEnd = Result<(String, bool), AllocError>;
 
 /// What an audit found, in words.
 fn audit_text(alloc: Global, found: Option<AuditFault>) -> Result<String, AllocError>

@@ -6,7 +6,7 @@ ghost use Rattle.gu_terms.specs.LimitKeys.{has_key};
 
 use crate::listed_key::ListedKey;
 use crate::listed_offers::ListedOffers;
-use gu_terms::{Cut, LimitKey, OfferNo};
+use gu_terms::{Cut, LimitKey, OfferNo, Seed};
 use indexmap::IndexSet;
 use std::alloc::{AllocError, Global};
 use std::marker::Model;
@@ -14,8 +14,9 @@ use std::marker::Model;
 /// Keys and offers in the order of their lines, each once. To a contract it is these two lists.
 #[derive(Drop)]
 pub(crate) struct ListedCut {
-    keys: IndexSet<ListedKey>,
+    keys: IndexSet<ListedKey, Seed>,
     offers: ListedOffers,
+    seed: Seed,
 }
 
 impl Model for ListedCut {
@@ -27,7 +28,7 @@ impl Model for ListedCut {
 }
 
 /// The keys of a set, in order.
-fn keys_in(alloc: Global, set: &IndexSet<ListedKey>) -> Result<Vec<LimitKey>, AllocError>
+fn keys_in(alloc: Global, set: &IndexSet<ListedKey, Seed>) -> Result<Vec<LimitKey>, AllocError>
     ensures { IfOk result (λ keys. keys.items ≡ set.now.keys) }
 {
     let mut keys = Vec::with_capacity(alloc, set.len())?;
@@ -38,13 +39,14 @@ fn keys_in(alloc: Global, set: &IndexSet<ListedKey>) -> Result<Vec<LimitKey>, Al
 }
 
 impl ListedCut {
-    /// An empty cut.
-    pub(crate) fn new(alloc: Global) -> Self
+    /// An empty cut. The seed is for the table of its keys.
+    pub(crate) fn new(alloc: Global, seed: Seed) -> Self
         ensures { result ≡ record { keys = []; offers = [] } }
     {
         ListedCut {
-            keys: IndexSet::new(alloc),
+            keys: IndexSet::with_hasher(alloc, seed),
             offers: ListedOffers::new(alloc),
+            seed,
         }
     }
 
@@ -71,10 +73,14 @@ impl ListedCut {
     pub(crate) fn into_cut(self, alloc: Global) -> Result<Cut, AllocError>
         ensures { IfOk result (λ cut. cut ≡ self) }
     {
-        let ListedCut { keys: set, offers } = self;
+        let ListedCut {
+            keys: set,
+            offers,
+            seed,
+        } = self;
         let keys = keys_in(alloc, &set)?;
         drop(set);
         let offers = offers.into_list();
-        Cut::of(alloc, &keys, &offers)
+        Cut::of(alloc, seed, &keys, &offers)
     }
 }

@@ -5,7 +5,7 @@ ghost use Rattle.gu_text.specs.Sheets.{IsSheet, Refuses};
 
 use crate::error::TextError;
 use crate::sheet_reading::SheetReading;
-use gu_terms::{Cut, Takes};
+use gu_terms::{Cut, Seed, Takes};
 use gu_view::View;
 use std::alloc::Global;
 
@@ -32,7 +32,7 @@ impl Sheet {
         ensures sheet { IfOk result (IsSheet text.now) }
         ensures refused { IfErr result (Refuses text.now) }
     {
-        let mut reading = SheetReading::new(alloc);
+        let mut reading = SheetReading::seeded(alloc, Seed::new(0));
         reading.take(text)?;
         reading.end()
     }

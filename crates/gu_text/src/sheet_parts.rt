@@ -11,7 +11,7 @@ use crate::listed_takes::ListedTakes;
 use crate::sheet::Sheet;
 use crate::sheet_line::{Header, Part, SheetLine};
 use crate::takes_in_order::takes_in_order;
-use gu_terms::MOST_OPEN_OFFERS;
+use gu_terms::{MOST_OPEN_OFFERS, Seed};
 use gu_view::{Room, View, ViewError, ViewOffer};
 use std::alloc::{AllocError, Global};
 use std::marker::Model;
@@ -79,8 +79,8 @@ fn comes_after(last: Option<Part>, next: Part) -> bool
 }
 
 impl Parts {
-    /// The parts of no lines.
-    pub(crate) fn new(alloc: Global) -> Self
+    /// The parts of no lines. The seed is for the tables of what they name.
+    pub(crate) fn new(alloc: Global, seed: Seed) -> Self
         ensures { result ≡ no_parts }
     {
         Parts {
@@ -89,7 +89,7 @@ impl Parts {
             offers: Vec::new(alloc),
             rooms: Vec::new(alloc),
             takes: ListedTakes::new(alloc),
-            cut: ListedCut::new(alloc),
+            cut: ListedCut::new(alloc, seed),
         }
     }
 

@@ -13,6 +13,7 @@ use crate::line_feed::{goes_past_a_line, split_at_line_feed};
 use crate::lines::without_return;
 use crate::sheet::Sheet;
 use crate::sheet_so_far::SheetSoFar;
+use gu_terms::Seed;
 use std::alloc::Global;
 use std::marker::Model;
 
@@ -54,14 +55,14 @@ impl Drop for SheetReading {
 }
 
 impl SheetReading {
-    /// Before the first piece.
-    pub fn new(alloc: Global) -> Self
+    /// Before the first piece. The seed is for the tables of what a sheet names; what is read doesn't depend on it.
+    pub fn seeded(alloc: Global, seed: Seed) -> Self
         ensures fresh { result.count ≡ 0 }
         ensures read { IsReadSoFar [] result }
     {
         SheetReading {
             alloc,
-            so_far: SheetSoFar::new(alloc),
+            so_far: SheetSoFar::new(alloc, seed),
             count: 0,
             rest: Vec::new(alloc),
         }

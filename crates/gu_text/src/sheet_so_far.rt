@@ -13,6 +13,7 @@ use crate::lines::is_silent;
 use crate::sheet::Sheet;
 use crate::sheet_line::spoken;
 use crate::sheet_parts::Parts;
+use gu_terms::Seed;
 use std::alloc::{AllocError, Global};
 use std::mem;
 
@@ -86,10 +87,10 @@ fn take_ended(line: &[u8], number: u64) -> Result<(), TextError>
 
 impl SheetSoFar {
     /// Before the first line.
-    pub(crate) fn new(alloc: Global) -> Self
+    pub(crate) fn new(alloc: Global, seed: Seed) -> Self
         ensures { IsReadTo [] result }
     {
-        SheetSoFar::Open(Parts::new(alloc))
+        SheetSoFar::Open(Parts::new(alloc, seed))
     }
 
     /// The sheet of the parts, whose last line was the end, which has this number.
@@ -116,7 +117,7 @@ impl SheetSoFar {
             → (sheet : Sheet) × (self.new ≡ SheetSoFar.Ended sheet) × IsMadeOf parts sheet) }
         ensures refused { IfErr result (λ error. (parts : SheetParts) → self.old ≡ SheetSoFar.Open parts → MakesNone parts number error) }
     {
-        let open = mem::replace(self, SheetSoFar::new(alloc));
+        let open = mem::replace(self, SheetSoFar::new(alloc, Seed::new(0)));
         *self = open.closed(alloc, number)?;
         Ok(())
     }

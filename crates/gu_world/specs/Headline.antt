@@ -37,7 +37,8 @@ AreGreatestSweeps reference history =
     (k : ℕ) (sweep : SweepEntry) → slice_get history k ≡ Some (Swept sweep) → IsGreatestSweep (group_view reference (take k history) sweep.group) sweep
 
 -- what an account holds long of an instrument is what it bought in trades, and what claims and sweeps of buys moved to it, less what they
--- moved from it; what it holds short is the same of sells. (As sums on both sides, since a difference of numbers would be cut off at 0.)
+-- moved from it, where what was taken back counts as never moved; what it holds short is the same of sells. (As sums on both sides, since
+-- a difference of numbers would be cut off at 0.)
 pub record ArePositionsSums (history : List Entry) : Type 0 where
   pub long : (account : AccountId) (symbol : Symbol)
       → long_of history account symbol + moved_out (reports_of history) (standing_of history) Buy account symbol

@@ -22,8 +22,9 @@ mod world;
 pub use answered::Answered;
 pub use blame::culprit;
 pub use laws::{
-    a_committed_sweep_was_not_overtaken, a_look_stays_true, a_stale_commit_has_a_culprit,
-    each_committed_sweep_is_greatest, equal_versions_are_equal_views, runs_join,
+    a_committed_sweep_was_not_overtaken, a_look_stays_true, a_run_is_legal,
+    a_stale_commit_has_a_culprit, each_committed_sweep_is_greatest, equal_versions_are_equal_views,
+    runs_join,
 };
 pub use outcome::Outcome;
 pub use outcomes::Outcomes;
