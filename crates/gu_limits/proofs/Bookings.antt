@@ -1,9 +1,8 @@
 -- Lots that are charged or given back under several keys, one key after another.
 use Rattle.std.proofs.Common.{◌≡◌, ◌∙◌, sym, refl, ap, subst, ℕ, zero, suc, ◌+◌, ◌-◌, ◌≤◌, ◌<◌, ◌&&◌, ◌||◌, Bool, true, false, cond, List, [], ◌∷◌, ◌++◌, map, length, take, get_or, Option, Some, None, inl, inr, is_some, arith}
 use Rattle.std.specs.List.{All, IsDistinct}
-use Rattle.std.specs.Option.{option_map_or}
+use Rattle.std.specs.Option.{option_map, option_map_or}
 use Rattle.std.proofs.lemmas.Bool.{cases_Bool}
-use Rattle.std.proofs.lemmas.List.{take_more}
 use Rattle.std.proofs.lemmas.List.Elements.{All-head, All-tail}
 use Rattle.std.proofs.lemmas.List.Folds.{list_any-append}
 use Rattle.std.proofs.lemmas.Map.Keys.{IsDistinct-tail, apart_from_distinct}
@@ -13,9 +12,9 @@ use Rattle.gu_terms.specs.LimitKeys.{has_key, key_eq}
 use Rattle.gu_terms.specs.Same.{same_group}
 use Rattle.gu_terms.specs.declared.group.Group.{Group}
 use Rattle.gu_terms.specs.declared.limit_key.LimitKey.{LimitKey}
-use Rattle.gu_limits.specs.Changes.{SameLimits, limits_after_charge, limits_after_return, limits_of_new_day, lots_under}
-use Rattle.gu_limits.specs.Limits.{GroupLimit, has_limit, limit_for, room_in, used_in}
-use Rattle.gu_limits.proofs.LimitLemmas.{same_limits, used-map}
+use Rattle.gu_limits.specs.Changes.{Charges, Returns, SameLimits, limits_after_charge, limits_after_return, limits_of_new_day, lots_under}
+use Rattle.gu_limits.specs.Limits.{GroupLimit, limit_for, room_in, used_in}
+use Rattle.gu_limits.proofs.LimitLemmas.{found_place, limit_for-map, same_limits, used-map}
 
 -- what holds of all keys holds of one that is among them
 pub holds_of_key : (P : LimitKey → Type 0) (keys : List LimitKey) (k : LimitKey) → All P keys → has_key keys k ≡ true → P k
@@ -60,175 +59,86 @@ twice : (f g h : GroupLimit → GroupLimit) → ((l : GroupLimit) → g (f l) �
 twice f g h agree [] = refl
 twice f g h agree (l ∷ ls) = λ i. agree l i ∷ twice f g h agree ls i
 
-module _ (ls : List GroupLimit) (group : Group) (lots : ℕ) where
-  -- ---- what is charged
+-- ---- lots that count under keys change the use of each limit: they are added to it, or taken off it
 
-  -- nothing, where there are no lots
-  pub charge-nothing : (keys : List LimitKey) → lots ≡ 0 → limits_after_charge ls group keys lots ≡ ls
-  charge-nothing keys none = by ls
+module _ (change : ℕ → ℕ → ℕ) (still : (used : ℕ) → change used 0 ≡ used) (both : (used a b : ℕ) → change (change used a) b ≡ change used (a + b)) (lots : ℕ) where
+  abbrev pub after : Group → List LimitKey → List GroupLimit → List GroupLimit
+  after group keys ls = map (λ (l : GroupLimit). record l { used = change l.used (lots_under group keys lots l.group l.key) }) ls
+
+  -- where none count, nothing changes
+  pub after-nothing : (group : Group) (keys : List LimitKey) → ((at : Group) (on : LimitKey) → lots_under group keys lots at on ≡ 0) → (ls : List GroupLimit) → after group keys ls ≡ ls
+  after-nothing group keys none [] = refl
+  after-nothing group keys none (l ∷ ls) = λ i. (record l { used = (ap (change l.used) (none l.group l.key) ∙ still l.used) i }) ∷ after-nothing group keys none ls i
+
+  module _ (group : Group) where
+    -- so it is under no key
+    pub after-none : (ls : List GroupLimit) → after group [] ls ≡ ls
+    after-none = after-nothing group [] (λ at on. elim (same_group at group) as (λ b. cond (b && false) lots 0 ≡ 0) [ true ↦ refl | false ↦ refl ])
+
+    -- under one more key
+    pub after-push : (keys : List LimitKey) (k : LimitKey) → has_key keys k ≡ false → (ls : List GroupLimit) → after group (k ∷ []) (after group keys ls) ≡ after group (keys ++ k ∷ []) ls
+    after-push keys k apart ls =
+        twice _ _ _ (λ l. ap (λ used. record l { used = used }) (both l.used _ _ ∙ ap (change l.used) (sym (lots_under-push group keys k lots l.group l.key apart)))) ls
+
+    -- the limit of a key that isn't among them is as it was
+    pub after-apart : (keys : List LimitKey) (k : LimitKey) → has_key keys k ≡ false → (ls : List GroupLimit) → limit_for (after group keys ls) group k ≡ limit_for ls group k
+    after-apart keys k apart ls = limit_for-map _ (λ g k l. refl) ls group k ∙ by (limit_for ls group k) refl
+      where
+        by : (o : Option GroupLimit) → limit_for ls group k ≡ o → option_map (λ (l : GroupLimit). record l { used = change l.used (lots_under group keys lots l.group l.key) }) o ≡ o
+        by None e = refl
+        by (Some l) e =
+            let one = found_place ls group k l e in
+            let none : lots_under group keys lots l.group l.key ≡ 0 = (λ i. lots_under group keys lots (one.0 i) (one.1 i)) ∙ lots_under-none group keys k lots group apart in
+            λ i. Some (record l { used = (ap (change l.used) none ∙ still l.used) i })
+
+module _ (ls : List GroupLimit) (group : Group) (lots : ℕ) (keys : List LimitKey) where
+  -- limits stay, and a use that is there grows by what counts under its key
+  pub charged : All (λ key. lots ≤ room_in ls group key) keys → Charges ls (limits_after_charge ls group keys lots) group keys lots
+  charged room = record {
+    rows = refl;
+    limits = same_limits _ (λ g k l. refl) (λ l. refl) ls;
+    uses = λ at on.
+        used-map _ (λ g k l. refl) (λ g k used. used + lots_under group keys lots g k) (λ l. refl) ls at on ∙ grown at on (limit_for ls at on) refl;
+  }
     where
-      same : (b : Bool) (used : ℕ) → used + cond b lots 0 ≡ used
-      same true used = omega arith
-      same false used = omega arith
+      no_room : (o : Option GroupLimit) → o ≡ None → option_map_or (λ (l : GroupLimit). l.limit) o 0 - option_map_or (λ (l : GroupLimit). l.used) o 0 ≡ 0
+      no_room None h = refl
+      no_room (Some l) h = cc
 
-      by : (ls : List GroupLimit) → limits_after_charge ls group keys lots ≡ ls
-      by [] = refl
-      by (l ∷ ls) = λ i. (record l { used = same (same_group l.group group && has_key keys l.key) l.used i }) ∷ by ls i
-
-  -- nothing, under no key
-  pub charge-none : limits_after_charge ls group [] lots ≡ ls
-  charge-none = by ls
-    where
-      none : (b : Bool) (used : ℕ) → used + cond (b && false) lots 0 ≡ used
-      none true used = omega arith
-      none false used = omega arith
-
-      by : (ls : List GroupLimit) → limits_after_charge ls group [] lots ≡ ls
-      by [] = refl
-      by (l ∷ ls) = λ i. (record l { used = none (same_group l.group group) l.used i }) ∷ by ls i
-
-  -- under one more key
-  pub charge-push : (keys : List LimitKey) (k : LimitKey) → has_key keys k ≡ false
-      → limits_after_charge (limits_after_charge ls group keys lots) group (k ∷ []) lots ≡ limits_after_charge ls group (keys ++ k ∷ []) lots
-  charge-push keys k apart = twice _ _ _ (λ l. ap (λ used. record l { used = used }) (sums l)) ls
-    where
-      sums : (l : GroupLimit) → (l.used + lots_under group keys lots l.group l.key) + lots_under group (k ∷ []) lots l.group l.key ≡ l.used + lots_under group (keys ++ k ∷ []) lots l.group l.key
-      sums l = omega (arith, lots_under-push group keys k lots l.group l.key apart)
-
-  -- limits stay
-  pub charge-limits : (keys : List LimitKey) → SameLimits ls (limits_after_charge ls group keys lots)
-  charge-limits keys = same_limits _ (λ g k l. refl) (λ l. refl) ls
-
-  -- a use that is there grows by what counts under its key
-  pub charge-used : (keys : List LimitKey) (at : Group) (on : LimitKey) → (has_limit ls at on ≡ false → lots_under group keys lots at on ≡ 0)
-      → used_in (limits_after_charge ls group keys lots) at on ≡ used_in ls at on + lots_under group keys lots at on
-  charge-used keys at on none =
-      used-map _ (λ g k l. refl) (λ g k used. used + lots_under group keys lots g k) (λ l. refl) ls at on ∙ by (limit_for ls at on) refl
-    where
-      by : (o : Option GroupLimit) → limit_for ls at on ≡ o
-          → option_map_or (λ (l : GroupLimit). l.used + lots_under group keys lots at on) o 0 ≡ option_map_or (λ (l : GroupLimit). l.used) o 0 + lots_under group keys lots at on
-      by None e = let nothing = none (ap is_some e) in omega arith
-      by (Some l) e = refl
-
-  -- where the room of each key has these lots, none count under a limit that is not there
-  pub nothing_where_no_room : (keys : List LimitKey) → All (λ key. lots ≤ room_in ls group key) keys → (at : Group) (on : LimitKey) → has_limit ls at on ≡ false → lots_under group keys lots at on ≡ 0
-  nothing_where_no_room keys room at on absent = by (same_group at group) (has_key keys on) refl refl
-    where
-      without : (o : Option GroupLimit) → is_some o ≡ false → option_map_or (λ (l : GroupLimit). l.limit) o 0 - option_map_or (λ (l : GroupLimit). l.used) o 0 ≡ 0
-      without None h = refl
-      without (Some l) h = cc
-
-      by : (here among : Bool) → same_group at group ≡ here → has_key keys on ≡ among → cond (here && among) lots 0 ≡ 0
-      by true true h a =
+      -- none count under a limit that isn't there, since it has no room
+      nowhere : (at : Group) (on : LimitKey) → limit_for ls at on ≡ None → (here among : Bool) → same_group at group ≡ here → has_key keys on ≡ among → cond (here && among) lots 0 ≡ 0
+      nowhere at on absent true true h a =
           let fits : lots ≤ room_in ls group on = holds_of_key (λ key. lots ≤ room_in ls group key) keys on room a in
-          let absent_here : has_limit ls group on ≡ false = ap (λ g. has_limit ls g on) (sym (same_group-true at group h)) ∙ absent in
-          let none : room_in ls group on ≡ 0 = without (limit_for ls group on) absent_here in
+          let none : room_in ls group on ≡ 0 = no_room (limit_for ls group on) (ap (λ g. limit_for ls g on) (sym (same_group-true at group h)) ∙ absent) in
           omega arith
-      by true false h a = refl
-      by false among h a = refl
+      nowhere at on absent true false h a = refl
+      nowhere at on absent false among h a = refl
 
-  -- the room of a key that is not among them stays
-  pub charge-room : (keys : List LimitKey) (k : LimitKey) → has_key keys k ≡ false → lots ≤ room_in ls group k → lots ≤ room_in (limits_after_charge ls group keys lots) group k
-  charge-room keys k apart fits =
-      let none = lots_under-none group keys k lots group apart in
-      let used = charge-used keys group k (λ absent. none) in
-      let limit = (charge-limits keys).lots group k in
-      rw (limit, used, none) (omega arith)
+      grown : (at : Group) (on : LimitKey) (o : Option GroupLimit) → limit_for ls at on ≡ o
+          → option_map_or (λ (l : GroupLimit). l.used + lots_under group keys lots at on) o 0 ≡ option_map_or (λ (l : GroupLimit). l.used) o 0 + lots_under group keys lots at on
+      grown at on None e = let nothing = nowhere at on e (same_group at group) (has_key keys on) refl refl in omega arith
+      grown at on (Some l) e = refl
 
-  module _ (path items : List LimitKey) (i : ℕ) (k : LimitKey) (own : items ≡ path) (inside : i < length items) (is : k ≡ get_or items i k) (apart : IsDistinct key_eq path) where
-    -- the next key isn't among those before it
-    next_apart : has_key (take i items) k ≡ false
-    next_apart = ap (has_key (take i items)) is ∙ not_before items i k (subst (IsDistinct key_eq) (sym own) apart) inside
-
-    -- one more key
-    one_more : take i items ++ k ∷ [] ≡ take (i + 1) items
-    one_more = ap (λ j. take i items ++ j ∷ []) is ∙ sym (take_more items i k inside)
-
-    -- what holds of all keys of the path holds of the next
-    next_holds : (P : LimitKey → Type 0) → All P path → P k
-    next_holds P all = subst P (sym is) (subst (All P) (sym own) all i k inside)
-
-    -- the next key has room for what is charged
-    pub charge-next : (now : List GroupLimit) → All (λ key. lots ≤ room_in ls group key) path → now ≡ limits_after_charge ls group (take i items) lots → lots ≤ room_in now group k
-    charge-next now room so_far = subst (λ now. lots ≤ room_in now group k) (sym so_far) (charge-room (take i items) k next_apart (next_holds (λ key. lots ≤ room_in ls group key) room))
-
-    -- and is charged
-    pub charge-more : (now new : List GroupLimit) → now ≡ limits_after_charge ls group (take i items) lots → new ≡ limits_after_charge now group (k ∷ []) lots
-        → new ≡ limits_after_charge ls group (take (i + 1) items) lots
-    charge-more now new so_far step =
-        step ∙ ap (λ now. limits_after_charge now group (k ∷ []) lots) so_far ∙ charge-push (take i items) k next_apart ∙ ap (λ keys. limits_after_charge ls group keys lots) one_more
-
-  -- ---- what is given back
-
-  -- nothing, under no key
-  pub return-none : limits_after_return ls group [] lots ≡ ls
-  return-none = by ls
+  -- and falls by it, where so many lots are used
+  pub returned : All (λ key. lots ≤ used_in ls group key) keys → Returns ls (limits_after_return ls group keys lots) group keys lots
+  returned used = record {
+    rows = refl;
+    limits = same_limits (λ (l : GroupLimit). record l { used = l.used - lots_under group keys lots l.group l.key }) (λ g k l. refl) (λ l. refl) ls;
+    uses = λ at on.
+        let left = used-map (λ (l : GroupLimit). record l { used = l.used - lots_under group keys lots l.group l.key }) (λ g k l. refl) (λ g k used. used - lots_under group keys lots g k) (λ l. refl) ls at on ∙ fallen at on (limit_for ls at on) in
+        omega (arith, left, there at on (same_group at group) (has_key keys on) refl refl);
+  }
     where
-      none : (b : Bool) (used : ℕ) → used - cond (b && false) lots 0 ≡ used
-      none true used = omega arith
-      none false used = omega arith
-
-      by : (ls : List GroupLimit) → limits_after_return ls group [] lots ≡ ls
-      by [] = refl
-      by (l ∷ ls) = λ i. (record l { used = none (same_group l.group group) l.used i }) ∷ by ls i
-
-  -- under one more key
-  pub return-push : (keys : List LimitKey) (k : LimitKey) → has_key keys k ≡ false
-      → limits_after_return (limits_after_return ls group keys lots) group (k ∷ []) lots ≡ limits_after_return ls group (keys ++ k ∷ []) lots
-  return-push keys k apart = twice _ _ _ (λ l. ap (λ used. record l { used = used }) (sums l)) ls
-    where
-      sums : (l : GroupLimit) → (l.used - lots_under group keys lots l.group l.key) - lots_under group (k ∷ []) lots l.group l.key ≡ l.used - lots_under group (keys ++ k ∷ []) lots l.group l.key
-      sums l = omega (arith, lots_under-push group keys k lots l.group l.key apart)
-
-  -- limits stay
-  pub return-limits : (keys : List LimitKey) → SameLimits ls (limits_after_return ls group keys lots)
-  return-limits keys = same_limits _ (λ g k l. refl) (λ l. refl) ls
-
-  -- a use falls by what counts under its key
-  pub return-used : (keys : List LimitKey) (at : Group) (on : LimitKey)
-      → used_in (limits_after_return ls group keys lots) at on ≡ used_in ls at on - lots_under group keys lots at on
-  return-used keys at on =
-      used-map _ (λ g k l. refl) (λ g k used. used - lots_under group keys lots g k) (λ l. refl) ls at on ∙ by (limit_for ls at on)
-    where
-      by : (o : Option GroupLimit)
+      fallen : (at : Group) (on : LimitKey) (o : Option GroupLimit)
           → option_map_or (λ (l : GroupLimit). l.used - lots_under group keys lots at on) o 0 ≡ option_map_or (λ (l : GroupLimit). l.used) o 0 - lots_under group keys lots at on
-      by None = omega arith
-      by (Some l) = refl
+      fallen at on None = omega arith
+      fallen at on (Some l) = refl
 
-  -- what counts under a key is used there
-  pub lots_under-le : (keys : List LimitKey) → All (λ key. lots ≤ used_in ls group key) keys → (at : Group) (on : LimitKey) → lots_under group keys lots at on ≤ used_in ls at on
-  lots_under-le keys used at on = by (same_group at group) (has_key keys on) refl refl
-    where
-      by : (here among : Bool) → same_group at group ≡ here → has_key keys on ≡ among → cond (here && among) lots 0 ≤ used_in ls at on
-      by true true h a =
+      there : (at : Group) (on : LimitKey) (here among : Bool) → same_group at group ≡ here → has_key keys on ≡ among → cond (here && among) lots 0 ≤ used_in ls at on
+      there at on true true h a =
           subst (λ g. lots ≤ used_in ls g on) (sym (same_group-true at group h)) (holds_of_key (λ key. lots ≤ used_in ls group key) keys on used a)
-      by true false h a = omega arith
-      by false among h a = omega arith
-
-  -- and what was used stands again after it
-  pub return-sum : (keys : List LimitKey) → All (λ key. lots ≤ used_in ls group key) keys → (at : Group) (on : LimitKey)
-      → used_in (limits_after_return ls group keys lots) at on + lots_under group keys lots at on ≡ used_in ls at on
-  return-sum keys used at on = omega (arith, return-used keys at on, lots_under-le keys used at on)
-
-  -- the use of a key that is not among them stays
-  pub return-kept : (keys : List LimitKey) (k : LimitKey) → has_key keys k ≡ false → lots ≤ used_in ls group k → lots ≤ used_in (limits_after_return ls group keys lots) group k
-  return-kept keys k apart fits =
-      let none = lots_under-none group keys k lots group apart in
-      omega (arith, return-used keys group k)
-
-  module _ (path items : List LimitKey) (i : ℕ) (k : LimitKey) (own : items ≡ path) (inside : i < length items) (is : k ≡ get_or items i k) (apart : IsDistinct key_eq path) where
-    -- what is given back is used under the next key
-    pub return-next : (now : List GroupLimit) → All (λ key. lots ≤ used_in ls group key) path → now ≡ limits_after_return ls group (take i items) lots → lots ≤ used_in now group k
-    return-next now used so_far =
-        subst (λ now. lots ≤ used_in now group k) (sym so_far)
-        (return-kept (take i items) k (next_apart path items i k own inside is apart) (next_holds path items i k own inside is apart (λ key. lots ≤ used_in ls group key) used))
-
-    -- and is given back
-    pub return-more : (now new : List GroupLimit) → now ≡ limits_after_return ls group (take i items) lots → new ≡ limits_after_return now group (k ∷ []) lots
-        → new ≡ limits_after_return ls group (take (i + 1) items) lots
-    return-more now new so_far step =
-        step ∙ ap (λ now. limits_after_return now group (k ∷ []) lots) so_far ∙ return-push (take i items) k (next_apart path items i k own inside is apart)
-        ∙ ap (λ keys. limits_after_return ls group keys lots) (one_more path items i k own inside is apart)
+      there at on true false h a = omega arith
+      there at on false among h a = omega arith
 
 -- ---- a day begins
 

@@ -20,7 +20,7 @@ use Rattle.gu_limits.specs.contracts.table.GroupKeyPartialEq.TheImpl as group_ke
 use Rattle.gu_limits.specs.declared.table.GroupKey.{GroupKey}
 use Rattle.gu_limits.specs.declared.table.KeptLimit.{KeptLimit}
 use Rattle.gu_limits.specs.Changes.{limits_after_charge, limits_after_return, limits_after_setting, limits_of_new_day, lots_under}
-use Rattle.gu_limits.specs.Kept.{IsWithin, limit_on, set_to, unused, used_on, with_use}
+use Rattle.gu_limits.specs.Kept.{IsWithin, limit_on, set_to, unused, used_on}
 use Rattle.gu_limits.specs.Limits.{GroupLimit, has_limit, is_of, limit_and_use, limit_for, limit_in, room_in, same_limit, same_place, used_in}
 use Rattle.gu_limits.proofs.LimitLemmas.{same_place-one, same_place-refl, same_place-sym}
 
@@ -353,47 +353,6 @@ length-unused_before (suc place) (e ∷ es) = ap suc (length-unused_before place
 pub used_on-le : (day : ℕ) (kept : KeptLimit) → IsWithin day kept → used_on day kept ≤ 1000000000
 used_on-le day kept within = elim (kept.day == day) as (λ b. cond b kept.used 0 ≤ 1000000000) [ true ↦ within.used | false ↦ omega arith ]
 
-module _ (day : ℕ) (on : GroupKey) (es : List (GroupKey × KeptLimit)) (lots : ℕ) (all : All (λ e. IsWithin day e.1) es) where
-  -- lots that a limit has room for leave its use within what a limit may be
-  pub room-fits : lots ≤ room_in (map (limit_on day) es) on.group on.key → (kept : KeptLimit) → lookup (same on) es ≡ Some kept → used_on day kept + lots ≤ 1000000000
-  room-fits room kept found =
-      let own = All-found (IsWithin day) (same on) es kept all found in
-      let small = used_on-le day kept own in
-      let limit : limit_in (map (limit_on day) es) on.group on.key ≡ kept.limit = limit-kept day on es ∙ ap (λ o. option_map_or (λ (kept : KeptLimit). kept.limit) o 0) found in
-      let used : used_in (map (limit_on day) es) on.group on.key ≡ used_on day kept = used-kept day on es ∙ ap (λ o. option_map_or (used_on day) o 0) found in
-      let most = own.limit in
-      omega arith
-
-  -- lots that are used of it can be given back
-  pub use-fits : lots ≤ used_in (map (limit_on day) es) on.group on.key → (kept : KeptLimit) → lookup (same on) es ≡ Some kept → lots ≤ used_on day kept
-  use-fits fits kept found =
-      let used : used_in (map (limit_on day) es) on.group on.key ≡ used_on day kept = used-kept day on es ∙ ap (λ o. option_map_or (used_on day) o 0) found in
-      omega arith
-
--- a use that is changed keeps to what a limit may be
-pub within-use : (change : ℕ → ℕ) (day : ℕ) (on : GroupKey) (es : List (GroupKey × KeptLimit)) → All (λ e. IsWithin day e.1) es
-    → ((kept : KeptLimit) → lookup (same on) es ≡ Some kept → change (used_on day kept) ≤ 1000000000) → All (λ e. IsWithin day e.1) (with_use same on day change es)
-within-use change day on es all small = by (lookup (same on) es) refl
-  where
-    by : (o : Option KeptLimit) → lookup (same on) es ≡ o
-        → All (λ e. IsWithin day e.1) (option_map_or (λ kept. set_value (same on) es (record kept { used = change (used_on day kept); day = day })) o es)
-    by None e = all
-    by (Some kept) e =
-        let own = All-found (IsWithin day) (same on) es kept all e in
-        All-written (IsWithin day) (same on) es (record kept { used = change (used_on day kept); day = day }) all (record { limit = own.limit; used = small kept e; charged = omega arith })
-
--- the use of the one that is found is the one that changes
-pub using-found : (change : ℕ → ℕ) (day : ℕ) (on : GroupKey) (es : List (GroupKey × KeptLimit)) → IsDistinct same (keys_of es)
-    → with_use same on day change es ≡ map (step on (λ kept. record kept { used = change (used_on day kept); day = day })) es
-using-found change day on es apart = by (lookup (same on) es) refl
-  where
-    to : KeptLimit → KeptLimit
-    to kept = record kept { used = change (used_on day kept); day = day }
-
-    by : (o : Option KeptLimit) → lookup (same on) es ≡ o → option_map_or (λ kept. set_value (same on) es (to kept)) o es ≡ map (step on to) es
-    by None e = sym (untouched on to es (none_passes_from_lookup (same on) es e))
-    by (Some kept) e = written on to es kept apart e
-
 -- no limit and no use is above what a limit may be
 pub limits-within : (day : ℕ) (es : List (GroupKey × KeptLimit)) → All (λ e. IsWithin day e.1) es → (g : Group) (k : LimitKey) → limit_in (map (limit_on day) es) g k ≤ 1000000000
 limits-within day es all g k = rw (limit-kept day (record { group = g; key = k }) es) (by (lookup (same (record { group = g; key = k })) es) refl)
@@ -408,10 +367,3 @@ uses-within day es all g k = rw (used-kept day (record { group = g; key = k }) e
     by : (o : Option KeptLimit) → lookup (same (record { group = g; key = k })) es ≡ o → option_map_or (used_on day) o 0 ≤ 1000000000
     by None e = omega arith
     by (Some kept) e = used_on-le day kept (All-found (IsWithin day) (same (record { group = g; key = k })) es kept all e)
-
--- what is left of a use after lots are given back is within what a limit may be
-pub still-within : (day : ℕ) (on : GroupKey) (es : List (GroupKey × KeptLimit)) (lots : ℕ) → All (λ e. IsWithin day e.1) es
-    → (kept : KeptLimit) → lookup (same on) es ≡ Some kept → used_on day kept - lots ≤ 1000000000
-still-within day on es lots all kept found =
-    let small = used_on-le day kept (All-found (IsWithin day) (same on) es kept all found) in
-    omega arith

@@ -1,24 +1,27 @@
--- The places of limits: where a look-up finds one, what is kept there, and what a charge there does.
-use Rattle.std.proofs.Common.{◌≡◌, ◌∙◌, ◌+◌, ◌-◌, ◌<◌, ◌≤◌, sym, ap, refl, subst, ℕ, zero, suc, Bool, true, false, cond, List, [], ◌∷◌, map, length, get_or, not, nat_lt, position, slice_get, take, Option, Some, None, arith}
+-- The places of limits: where a look-up finds one, what is kept there, and what a change there does.
+use Rattle.std.proofs.Common.{◌≡◌, ◌∙◌, ◌+◌, ◌-◌, ◌<◌, ◌≤◌, ◌&&◌, ◌⊎◌, sym, ap, refl, subst, inl, inr, ℕ, zero, suc, Bool, true, false, cond, List, [], ◌∷◌, ◌++◌, map, length, get_or, not, nat_lt, position, slice_get, slice_index, take, Option, Some, None, arith}
 use Rattle.std.specs.List.{All, IsDistinct, find, position_or_len}
-use Rattle.std.specs.Map.{keys_of, set_value, values_of}
+use Rattle.std.specs.Map.{keys_of, values_of}
 use Rattle.std.specs.Option.{option_map, option_map_or}
 use Rattle.std.proofs.lemmas.Bool.{ltb-false, ltb-true}
-use Rattle.std.proofs.lemmas.List.{get_or-map, get_or-take}
+use Rattle.std.proofs.lemmas.List.{take_all, take_more}
 use Rattle.std.proofs.lemmas.List.Folds.{find_at}
-use Rattle.std.proofs.lemmas.Option.{get_or_from_slice_get, slice_get-map, slice_get_past, slice_get_within}
+use Rattle.std.proofs.lemmas.Option.{get_or_from_slice_get, slice_get-map, slice_get_cases, slice_get_past, slice_get_within}
 use Rattle.indexmap.specs.IndexMap.{set_value_at}
 use Rattle.gu_terms.proofs.Standing.{lookup-standing, set_value_at-standing, value-standing}
+use Rattle.gu_terms.specs.LimitKeys.{has_key, key_eq}
+use Rattle.gu_terms.specs.Same.{same_group}
 use Rattle.gu_terms.specs.Standing.{StandsAt}
 use Rattle.gu_terms.specs.declared.group.Group.{Group}
 use Rattle.gu_terms.specs.declared.limit_key.LimitKey.{LimitKey}
+use Rattle.gu_limits.specs.declared.numbers.PathLimits.{PathLimits}
 use Rattle.gu_limits.specs.declared.table.GroupKey.{GroupKey}
 use Rattle.gu_limits.specs.declared.table.KeptLimit.{KeptLimit}
-use Rattle.gu_limits.specs.Changes.{limits_after_charge}
+use Rattle.gu_limits.specs.Changes.{MayCharge, MayReturn, limits_after_charge, limits_after_return}
 use Rattle.gu_limits.specs.Kept.{IsWithin, limit_on, used_on}
-use Rattle.gu_limits.specs.Limits.{GroupLimit, is_of, limit_for, place_in, room_in}
-use Rattle.gu_limits.proofs.Bookings.{charge-nothing}
-use Rattle.gu_limits.proofs.KeptLimits.{All-written, charge-kept, same, same-laws, same-one, same_is, used_on-le, using, written}
+use Rattle.gu_limits.specs.Limits.{AreLimitsOf, GroupLimit, is_of, limit_for, number_in}
+use Rattle.gu_limits.proofs.Bookings.{after, after-apart, after-nothing, after-push, not_before}
+use Rattle.gu_limits.proofs.KeptLimits.{All-written, charge-kept, return-kept, same, same-laws, same-one, same_is, step, used_on-le, using, written}
 use Rattle.gu_limits.proofs.LimitLemmas.{found_place}
 
 -- the first item that passes a test is at its place
@@ -58,10 +61,11 @@ module _ {X Y : Type 0} (test : X → Bool) (other : Y → Bool) (f : X → Y) (
   pub position-map : (xs : List X) → position other (map f xs) ≡ position test xs
   position-map xs = λ i. cond (nat_lt (before-map xs i) (length-same xs i)) (Some (before-map xs i)) None
 
-pub place-kept : (day : ℕ) (on : GroupKey) (es : List (GroupKey × KeptLimit)) → place_in (map (limit_on day) es) on.group on.key ≡ position (same on) (keys_of es)
-place-kept day on es =
-    position-map (λ e. same on e.0) (is_of on.group on.key) (limit_on day) (λ e. sym (same_is on e.0)) es
-    ∙ sym (position-map (λ e. same on e.0) (same on) (λ e. e.0) (λ e. refl) es)
+pub number-kept : (day : ℕ) (on : GroupKey) (es : List (GroupKey × KeptLimit)) → number_in (map (limit_on day) es) on.group on.key ≡ option_map_or suc (position (same on) (keys_of es)) 0
+number-kept day on es =
+    ap (λ place. option_map_or suc place 0)
+    (position-map (λ e. same on e.0) (is_of on.group on.key) (limit_on day) (λ e. sym (same_is on e.0)) es
+    ∙ sym (position-map (λ e. same on e.0) (same on) (λ e. e.0) (λ e. refl) es))
 
 -- what is kept at a place
 module _ (day n : ℕ) (es : List (GroupKey × KeptLimit)) where
@@ -106,55 +110,176 @@ module _ (day n : ℕ) (es : List (GroupKey × KeptLimit)) where
       written-within w all own =
           subst (All (λ e. IsWithin day e.1)) (sym (set_value_at-standing same same-laws same-one es e.0 n stands apart w)) (All-written (IsWithin day) (same e.0) es w all own)
 
-      -- lots that are charged there are charged to the limit that is seen there
-      pub charge-at : (lots : ℕ) → map (limit_on day) (set_value_at es n (record e.1 { used = used_on day e.1 + lots; day = day }))
-          ≡ limits_after_charge (map (limit_on day) es) e.0.group (e.0.key ∷ []) lots
-      charge-at lots =
+      -- a use that is written there is that of the limit that is seen there
+      use-at : (change : ℕ → ℕ) (lots : ℕ) → map (limit_on day) (set_value_at es n (using day e.0 lots change e.1)) ≡ map (limit_on day) (map (step e.0 (using day e.0 lots change)) es)
+      use-at change lots =
           ap (map (limit_on day))
           (set_value_at-standing same same-laws same-one es e.0 n stands apart _
-          ∙ written e.0 (using day e.0 lots (λ used. used + lots)) es e.1 apart (lookup-standing same same-laws same-one es e.0 n stands apart e.1 (sym value-at)))
-          ∙ charge-kept day e.0 lots es
+          ∙ written e.0 (using day e.0 lots change) es e.1 apart (lookup-standing same same-laws same-one es e.0 n stands apart e.1 (sym value-at)))
 
--- ---- what is charged by the numbers of limits
+      pub charge-at : (lots : ℕ) → map (limit_on day) (set_value_at es n (record e.1 { used = used_on day e.1 + lots; day = day }))
+          ≡ limits_after_charge (map (limit_on day) es) e.0.group (e.0.key ∷ []) lots
+      charge-at lots = use-at (λ used. used + lots) lots ∙ charge-kept day e.0 lots es
 
--- the limit of a key, by its number
-module _ (now : List GroupLimit) (g : Group) (k : LimitKey) (n lots : ℕ) (at : place_in now g k ≡ Some n) where
-  pub inside-at : n < length now
-  inside-at = (placed (is_of g k) now n at).0
+      pub return-at : (lots : ℕ) → map (limit_on day) (set_value_at es n (record e.1 { used = used_on day e.1 - lots; day = day }))
+          ≡ limits_after_return (map (limit_on day) es) e.0.group (e.0.key ∷ []) lots
+      return-at lots = use-at (λ used. used - lots) lots ∙ return-kept day e.0 lots es
 
-  limit-at : slice_get now n ≡ limit_for now g k
-  limit-at = (placed (is_of g k) now n at).1
+-- the limit that is seen at a place, with what is used of it
+module _ (day n : ℕ) (es : List (GroupKey × KeptLimit)) (ls : List GroupLimit) (view : map (limit_on day) es ≡ ls) (known : n < length ls) (used : ℕ)
+    (own : (l : GroupLimit) → slice_get ls n ≡ Some l → used ≡ l.used) (lots : ℕ) where
+  -- and lots for which it has room
+  pub with_room : All (λ e. IsWithin day e.1) es → ((l : GroupLimit) → slice_get ls n ≡ Some l → lots ≤ l.limit - l.used)
+      → (e : GroupKey × KeptLimit) × (slice_get es n ≡ Some e) × (used ≡ used_on day e.1) × (used + lots ≤ 1000000000)
+  with_room all room =
+      let e = entry-at day n es ls view known in
+      let is = own (limit_on day e.0) e.2 in
+      (e.0, e.1, is, omega (arith, is, fits-at day n es e.0 e.1 lots all (room (limit_on day e.0) e.2)))
 
-  -- its room is that of the key
-  pub room-at : lots ≤ room_in now g k → (l : GroupLimit) → slice_get now n ≡ Some l → lots ≤ l.limit - l.used
-  room-at room l here =
-      let found : limit_for now g k ≡ Some l = sym limit-at ∙ here in
-      subst (λ room. lots ≤ room) (λ i. option_map_or (λ (l : GroupLimit). l.limit) (found i) 0 - option_map_or (λ (l : GroupLimit). l.used) (found i) 0) room
+  -- or that are used of it
+  pub with_use : ((l : GroupLimit) → slice_get ls n ≡ Some l → lots ≤ l.used) → (e : GroupKey × KeptLimit) × (slice_get es n ≡ Some e) × (used ≡ used_on day e.1) × (lots ≤ used)
+  with_use fits =
+      let e = entry-at day n es ls view known in
+      let is = own (limit_on day e.0) e.2 in
+      (e.0, e.1, is, omega (arith, is, fits (limit_on day e.0) e.2))
 
-  -- and what is charged to it is charged under the key
-  pub charged-at : (new : List GroupLimit) → ((l : GroupLimit) → slice_get now n ≡ Some l → new ≡ limits_after_charge now l.group (l.key ∷ []) lots)
-      → new ≡ limits_after_charge now g (k ∷ []) lots
-  charged-at new charged =
-      let l = item-at now n inside-at in
-      let own = found_place now g k l.0 (sym limit-at ∙ l.1) in
-      charged l.0 l.1 ∙ (λ i. limits_after_charge now (own.0 i) (own.1 i ∷ []) lots)
+-- ---- lots under keys, by the numbers of the limits: one more key
 
--- where no limit was set there is room for no lots
-pub charged-nowhere : (now : List GroupLimit) (g : Group) (k : LimitKey) (lots : ℕ) → place_in now g k ≡ None → lots ≤ room_in now g k
-    → now ≡ limits_after_charge now g (k ∷ []) lots
-charged-nowhere now g k lots at room =
-    let found : limit_for now g k ≡ None = not_placed (is_of g k) now at in
-    let none : lots ≤ 0 = subst (λ room. lots ≤ room) (λ i. option_map_or (λ (l : GroupLimit). l.limit) (found i) 0 - option_map_or (λ (l : GroupLimit). l.used) (found i) 0) room in
-    sym (charge-nothing now g lots (k ∷ []) (omega (arith, none)))
+module _ (change : ℕ → ℕ → ℕ) (still : (used : ℕ) → change used 0 ≡ used) (both : (used a b : ℕ) → change (change used a) b ≡ change used (a + b)) (lots : ℕ) (of : GroupLimit → ℕ)
+    (group : Group) (ls : List GroupLimit) (keys : List LimitKey) (found : PathLimits) (under : AreLimitsOf ls group keys found) (once : IsDistinct key_eq keys)
+    (fits : All (λ key. lots ≤ option_map_or of (limit_for ls group key) 0) keys) (i : ℕ) (inside : i < length found.numbers) (now : List GroupLimit)
+    (so_far : now ≡ after change still both lots group (take i keys) ls) where
+  abbrev number : ℕ
+  number = slice_index found.numbers i
 
-module _ (ls : List GroupLimit) (g : Group) (path items : List LimitKey) (numbers : List (Option ℕ)) (found : take (length path) numbers ≡ map (place_in ls g) path)
-    (own : items ≡ path) (i : ℕ) (k : LimitKey) (inside : i < length items) (is : k ≡ get_or items i k) where
-  -- the number of a key is its place, also after other lots were charged
-  pub number-at : (keys : List LimitKey) (lots : ℕ) (now : List GroupLimit) → now ≡ limits_after_charge ls g keys lots → (d : Option ℕ) → get_or numbers i d ≡ place_in now g k
-  number-at keys lots now so_far d =
-      let within : i < length path = subst (λ (keys : List LimitKey). i < length keys) own inside in
-      sym (get_or-take (length path) numbers i d within)
-      ∙ ap (λ numbers. get_or numbers i d) found
-      ∙ get_or-map (place_in ls g) path i k d within
-      ∙ ap (place_in ls g) (ap (λ keys. get_or keys i k) (sym own) ∙ sym is)
-      ∙ sym (ap (λ ls. place_in ls g k) so_far ∙ position-map (is_of g k) (is_of g k) _ (λ l. refl) ls)
+  abbrev then_after : Group → List LimitKey → List GroupLimit
+  then_after g ks = after change still both lots g ks now
+
+  -- the number is still that of the key's limit
+  number-now : number ≡ option_map_or (number_in now group) (slice_get keys i) 0
+  number-now =
+      under.numbers i inside
+      ∙ ap (λ (n : LimitKey → ℕ). option_map_or n (slice_get keys i) 0)
+      (λ j key. option_map_or suc (sym (ap (λ ls. position (is_of group key) ls) so_far ∙ position-map (is_of group key) (is_of group key) _ (λ l. refl) ls) j) 0)
+
+  module _ (k : LimitKey) (is : slice_get keys i ≡ Some k) where
+    key_is : get_or keys i k ≡ k
+    key_is = get_or_from_slice_get keys i k k is
+
+    key_inside : i < length keys
+    key_inside = slice_get_within keys i k is
+
+    apart : has_key (take i keys) k ≡ false
+    apart = ap (has_key (take i keys)) (sym key_is) ∙ not_before keys i k once key_inside
+
+    -- its limit is as it was, so the lots fit
+    fits-now : lots ≤ option_map_or of (limit_for now group k) 0
+    fits-now =
+        subst (λ o. lots ≤ option_map_or of o 0)
+        (sym (ap (λ ls. limit_for ls group k) so_far ∙ after-apart change still both lots group (take i keys) k apart ls))
+        (subst (λ key. lots ≤ option_map_or of (limit_for ls group key) 0) key_is (fits i k key_inside))
+
+    -- and with them all are changed up to it
+    one-more : then_after group (k ∷ []) ≡ after change still both lots group (take (i + 1) keys) ls
+    one-more =
+        ap (after change still both lots group (k ∷ [])) so_far
+        ∙ after-push change still both lots group (take i keys) k apart ls
+        ∙ ap (λ ks. after change still both lots group ks ls) (ap (λ key. take i keys ++ key ∷ []) (sym key_is) ∙ sym (take_more keys i k key_inside))
+
+  -- where there is no limit no lots fit, so nothing changes
+  pub none-more : number ≡ 0 → now ≡ after change still both lots group (take (i + 1) keys) ls
+  none-more none = by (slice_get_cases keys i).1
+    where
+      no_place : (k : LimitKey) (o : Option ℕ) → position (is_of group k) now ≡ o → option_map_or suc o 0 ≡ 0 → limit_for now group k ≡ None
+      no_place k None e h = not_placed (is_of group k) now e
+      no_place k (Some n) e h = cc
+
+      by : ((k : LimitKey) × (i < length keys) × (slice_get keys i ≡ Some k) × (get_or keys i k ≡ k)) ⊎ ((length keys ≤ i) × (slice_get keys i ≡ None))
+          → now ≡ after change still both lots group (take (i + 1) keys) ls
+      by (inl k) =
+          let is = k.2 in
+          let number_is : number_in now group k.0 ≡ 0 = sym (number-now ∙ ap (λ o. option_map_or (number_in now group) o 0) is) ∙ none in
+          let absent : limit_for now group k.0 ≡ None = no_place k.0 (position (is_of group k.0) now) refl number_is in
+          let few : lots ≤ 0 = subst (λ o. lots ≤ option_map_or of o 0) absent (fits-now k.0 is) in
+          let no_lots : lots ≡ 0 = omega (arith, few) in
+          sym (after-nothing change still both lots group (k.0 ∷ []) (λ at on. nothing (same_group at group && has_key (k.0 ∷ []) on) no_lots) now) ∙ one-more k.0 is
+        where
+          nothing : (b : Bool) → lots ≡ 0 → cond b lots 0 ≡ 0
+          nothing true none = none
+          nothing false none = refl
+      by (inr past) =
+          so_far
+          ∙ ap (λ ks. after change still both lots group ks ls) (take_all i keys past.0 ∙ sym (take_all (i + 1) keys (omega (arith, past.0))))
+
+  -- where there is one, it is at its place
+  placed-at : 0 < number → (k : LimitKey) × (slice_get keys i ≡ Some k) × (position (is_of group k) now ≡ Some (number - 1))
+  placed-at some = by (slice_get keys i) refl
+    where
+      at_place : (k : LimitKey) (o : Option ℕ) → position (is_of group k) now ≡ o → number ≡ option_map_or suc o 0 → position (is_of group k) now ≡ Some (number - 1)
+      at_place k None e h = absurd (omega (arith, some, h))
+      at_place k (Some n) e h = e ∙ ap Some (omega (arith, h))
+
+      by : (o : Option LimitKey) → slice_get keys i ≡ o → (k : LimitKey) × (slice_get keys i ≡ Some k) × (position (is_of group k) now ≡ Some (number - 1))
+      by None e = absurd (omega (arith, some, number-now ∙ ap (λ o. option_map_or (number_in now group) o 0) e))
+      by (Some k) e = (k, e, at_place k (position (is_of group k) now) refl (number-now ∙ ap (λ o. option_map_or (number_in now group) o 0) e))
+
+  module _ (some : 0 < number) where
+    pub known-there : number - 1 < length now
+    known-there = let k = placed-at some in (placed (is_of group k.0) now (number - 1) k.2).0
+
+    found-there : slice_get now (number - 1) ≡ limit_for now group (placed-at some).0
+    found-there = let k = placed-at some in (placed (is_of group k.0) now (number - 1) k.2).1
+
+    pub fits-there : (l : GroupLimit) → slice_get now (number - 1) ≡ Some l → lots ≤ of l
+    fits-there l here =
+        let k = placed-at some in
+        subst (λ o. lots ≤ option_map_or of o 0) (sym found-there ∙ here) (fits-now k.0 k.1)
+
+    pub one-there : (new : List GroupLimit) → ((l : GroupLimit) → slice_get now (number - 1) ≡ Some l → new ≡ then_after l.group (l.key ∷ []))
+        → new ≡ after change still both lots group (take (i + 1) keys) ls
+    one-there new changed =
+        let k = placed-at some in
+        let l = item-at now (number - 1) known-there in
+        let own = found_place now group k.0 l.0 (sym found-there ∙ l.1) in
+        changed l.0 l.1 ∙ (λ j. then_after (own.0 j) (own.1 j ∷ [])) ∙ one-more k.0 k.1
+
+-- ---- what is charged, and what is given back
+
+module _ (ls : List GroupLimit) (group : Group) (keys : List LimitKey) (lots : ℕ) (found : PathLimits) (i : ℕ) (inside : i < length found.numbers) (now : List GroupLimit) where
+  abbrev number_ : ℕ
+  number_ = slice_index found.numbers i
+
+  module _ (may : MayCharge ls group keys lots found) (so_far : now ≡ limits_after_charge ls group (take i keys) lots) where
+    room : (o : Option GroupLimit) → option_map_or (λ (l : GroupLimit). l.limit) o 0 - option_map_or (λ (l : GroupLimit). l.used) o 0 ≡ option_map_or (λ (l : GroupLimit). l.limit - l.used) o 0
+    room None = refl
+    room (Some l) = refl
+
+    rooms : All (λ key. lots ≤ option_map_or (λ (l : GroupLimit). l.limit - l.used) (limit_for ls group key) 0) keys
+    rooms j d within = subst (λ n. lots ≤ n) (room (limit_for ls group (get_or keys j d))) (may.room j d within)
+
+    pub charge-known : 0 < number_ → number_ - 1 < length now
+    charge-known some = known-there (λ u a. u + a) (λ u. omega arith) (λ u a b. omega arith) lots (λ l. l.limit - l.used) group ls keys found may.under may.once rooms i inside now so_far some
+
+    pub charge-fits : 0 < number_ → (l : GroupLimit) → slice_get now (number_ - 1) ≡ Some l → lots ≤ l.limit - l.used
+    charge-fits some = fits-there (λ u a. u + a) (λ u. omega arith) (λ u a b. omega arith) lots (λ l. l.limit - l.used) group ls keys found may.under may.once rooms i inside now so_far some
+
+    pub charge-one : 0 < number_ → (new : List GroupLimit) → ((l : GroupLimit) → slice_get now (number_ - 1) ≡ Some l → new ≡ limits_after_charge now l.group (l.key ∷ []) lots)
+        → new ≡ limits_after_charge ls group (take (i + 1) keys) lots
+    charge-one some = one-there (λ u a. u + a) (λ u. omega arith) (λ u a b. omega arith) lots (λ l. l.limit - l.used) group ls keys found may.under may.once rooms i inside now so_far some
+
+    pub charge-none : number_ ≡ 0 → now ≡ limits_after_charge ls group (take (i + 1) keys) lots
+    charge-none none = none-more (λ u a. u + a) (λ u. omega arith) (λ u a b. omega arith) lots (λ l. l.limit - l.used) group ls keys found may.under may.once rooms i inside now so_far none
+
+  module _ (may : MayReturn ls group keys lots found) (so_far : now ≡ limits_after_return ls group (take i keys) lots) where
+    pub return-known : 0 < number_ → number_ - 1 < length now
+    return-known some = known-there (λ u a. u - a) (λ u. omega arith) (λ u a b. omega arith) lots (λ l. l.used) group ls keys found may.under may.once may.used i inside now so_far some
+
+    pub return-fits : 0 < number_ → (l : GroupLimit) → slice_get now (number_ - 1) ≡ Some l → lots ≤ l.used
+    return-fits some = fits-there (λ u a. u - a) (λ u. omega arith) (λ u a b. omega arith) lots (λ l. l.used) group ls keys found may.under may.once may.used i inside now so_far some
+
+    pub return-one : 0 < number_ → (new : List GroupLimit) → ((l : GroupLimit) → slice_get now (number_ - 1) ≡ Some l → new ≡ limits_after_return now l.group (l.key ∷ []) lots)
+        → new ≡ limits_after_return ls group (take (i + 1) keys) lots
+    return-one some = one-there (λ u a. u - a) (λ u. omega arith) (λ u a b. omega arith) lots (λ l. l.used) group ls keys found may.under may.once may.used i inside now so_far some
+
+    pub return-none : number_ ≡ 0 → now ≡ limits_after_return ls group (take (i + 1) keys) lots
+    return-none none = none-more (λ u a. u - a) (λ u. omega arith) (λ u a b. omega arith) lots (λ l. l.used) group ls keys found may.under may.once may.used i inside now so_far none

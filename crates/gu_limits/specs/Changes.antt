@@ -1,10 +1,12 @@
 -- How limits change: one is set, lots are charged and given back, a day begins.
-use Rattle.std.specs.Prelude.{◌≡◌, ℕ, ◌+◌, ◌-◌, ◌&&◌, ◌++◌, List, [], ◌∷◌, map, if◌then◌else◌}
-use Rattle.gu_terms.specs.LimitKeys.{has_key}
+use Rattle.std.specs.Prelude.{◌≡◌, ℕ, ◌+◌, ◌-◌, ◌≤◌, ◌&&◌, ◌++◌, All, List, [], ◌∷◌, map, if◌then◌else◌}
+use Rattle.std.specs.List.{IsDistinct}
+use Rattle.gu_terms.specs.LimitKeys.{has_key, key_eq}
 use Rattle.gu_terms.specs.Same.{same_group}
 use Rattle.gu_terms.specs.declared.group.Group.{Group}
 use Rattle.gu_terms.specs.declared.limit_key.LimitKey.{LimitKey}
-use Rattle.gu_limits.specs.Limits.{GroupLimit, is_of, has_limit, limit_in, used_in}
+use Rattle.gu_limits.specs.declared.numbers.PathLimits.{PathLimits}
+use Rattle.gu_limits.specs.Limits.{AreLimitsOf, GroupLimit, has_limit, is_of, limit_in, room_in, used_in}
 
 -- the lots that count under a limit, where they are taken in a group under these keys
 abbrev pub lots_under : Group → List LimitKey → ℕ → Group → LimitKey → ℕ
@@ -22,19 +24,43 @@ abbrev pub limits_after_charge : List GroupLimit → Group → List LimitKey →
 limits_after_charge limits group keys lots =
     map (λ (l : GroupLimit). record l { used = l.used + lots_under group keys lots l.group l.key }) limits
 
+-- no limit is set or changed
+pub record SameLimits (old new : List GroupLimit) : Type 0 where
+  pub known : (group : Group) (key : LimitKey) → has_limit new group key ≡ has_limit old group key
+  pub lots : (group : Group) (key : LimitKey) → limit_in new group key ≡ limit_in old group key
+
+-- lots are charged under keys in a group
+pub record Charges (old new : List GroupLimit) (group : Group) (keys : List LimitKey) (lots : ℕ) : Type 0 where
+  pub rows : new ≡ limits_after_charge old group keys lots
+  pub limits : SameLimits old new
+  pub uses : (at : Group) (on : LimitKey) → used_in new at on ≡ used_in old at on + lots_under group keys lots at on
+
 -- the limits after lots that were charged are given back
 abbrev pub limits_after_return : List GroupLimit → Group → List LimitKey → ℕ → List GroupLimit
 limits_after_return limits group keys lots =
     map (λ (l : GroupLimit). record l { used = l.used - lots_under group keys lots l.group l.key }) limits
 
+-- lots that were charged under keys in a group are given back
+pub record Returns (old new : List GroupLimit) (group : Group) (keys : List LimitKey) (lots : ℕ) : Type 0 where
+  pub rows : new ≡ limits_after_return old group keys lots
+  pub limits : SameLimits old new
+  pub uses : (at : Group) (on : LimitKey) → used_in new at on + lots_under group keys lots at on ≡ used_in old at on
+
+-- lots may be charged to these limits: they are those of keys in a group, each once, and each key has room for the lots
+pub record MayCharge (limits : List GroupLimit) (group : Group) (keys : List LimitKey) (lots : ℕ) (found : PathLimits) : Type 0 where
+  pub under : AreLimitsOf limits group keys found
+  pub once : IsDistinct key_eq keys
+  pub room : All (λ key. lots ≤ room_in limits group key) keys
+
+-- lots may be given back to them: they are used under each key
+pub record MayReturn (limits : List GroupLimit) (group : Group) (keys : List LimitKey) (lots : ℕ) (found : PathLimits) : Type 0 where
+  pub under : AreLimitsOf limits group keys found
+  pub once : IsDistinct key_eq keys
+  pub used : All (λ key. lots ≤ used_in limits group key) keys
+
 -- the limits as a day begins: nothing is used
 abbrev pub limits_of_new_day : List GroupLimit → List GroupLimit
 limits_of_new_day limits = map (λ (l : GroupLimit). record l { used = 0 }) limits
-
--- no limit is set or changed
-pub record SameLimits (old new : List GroupLimit) : Type 0 where
-  pub known : (group : Group) (key : LimitKey) → has_limit new group key ≡ has_limit old group key
-  pub lots : (group : Group) (key : LimitKey) → limit_in new group key ≡ limit_in old group key
 
 -- no use changes
 abbrev pub SameUses : List GroupLimit → List GroupLimit → Type 0

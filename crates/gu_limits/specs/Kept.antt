@@ -1,7 +1,5 @@
 -- Machinery: limits as they are kept, each with the number of the day on which it was charged last.
 use Rattle.std.specs.Prelude.{ℕ, ◌≤◌, ◌==◌, Bool, List, Option, All, map, unwrap_or, if◌then◌else◌}
-use Rattle.std.specs.Map.{lookup, set_value}
-use Rattle.std.specs.Option.{option_map_or}
 use Rattle.gu_limits.specs.declared.table.GroupKey.{GroupKey}
 use Rattle.gu_limits.specs.declared.table.KeptLimit.{KeptLimit}
 use Rattle.gu_limits.specs.declared.table.LimitTable.TheInside.{Inside}
@@ -18,15 +16,6 @@ limit_on day entry = record { group = entry.0.group; key = entry.0.key; limit = 
 -- all limits, on the day of the table
 abbrev pub limits_kept : Inside → List GroupLimit
 limits_kept table = map (limit_on table.day) table.limits.entries
-
--- with the use of one of them changed, on a day
-abbrev pub with_use : (GroupKey → GroupKey → Bool) → GroupKey → ℕ → (ℕ → ℕ)
-    → List (GroupKey × KeptLimit) → List (GroupKey × KeptLimit)
-with_use same on day change entries =
-    option_map_or
-    (λ kept. set_value (same on) entries (record kept { used = change (used_on day kept); day = day }))
-    (lookup (same on) entries)
-    entries
 
 -- a limit of these lots, where it was this or none: its use stays, and nothing is used of a new one
 abbrev pub set_to : ℕ → ℕ → Option KeptLimit → KeptLimit

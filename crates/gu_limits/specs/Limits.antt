@@ -1,5 +1,5 @@
 -- Limits: what was set for the keys of a product group, what is used of it today, and the room that is left.
-use Rattle.std.specs.Prelude.{◌≡◌, ℕ, ◌-◌, ◌&&◌, Bool, List, Option, Some, None, is_some, length, map, position, take, if◌then◌else◌}
+use Rattle.std.specs.Prelude.{◌≡◌, ℕ, suc, ◌-◌, ◌<◌, ◌≤◌, ◌&&◌, Bool, List, Option, Some, None, is_some, length, position, slice_get, slice_index, if◌then◌else◌}
 use Rattle.std.specs.List.{find}
 use Rattle.std.specs.Option.{option_map, option_map_or}
 use Rattle.gu_terms.specs.LimitKeys.{key_eq}
@@ -32,13 +32,14 @@ limit_for limits group key = find (is_of group key) limits
 abbrev pub has_limit : List GroupLimit → Group → LimitKey → Bool
 has_limit limits group key = is_some (limit_for limits group key)
 
--- the place of a limit among these, where one was set: how many stand before it
-abbrev pub place_in : List GroupLimit → Group → LimitKey → Option ℕ
-place_in limits group key = position (is_of group key) limits
+-- the number of a limit: how many were set up to it, and itself; 0 where none was set
+abbrev pub number_in : List GroupLimit → Group → LimitKey → ℕ
+number_in limits group key = option_map_or suc (position (is_of group key) limits) 0
 
--- these are the limits of keys in a group: the place of each, in the order of the keys
-abbrev pub AreLimitsOf : List GroupLimit → Group → List LimitKey → PathLimits → Type 0
-AreLimitsOf limits group keys found = take (length keys) found.numbers ≡ map (place_in limits group) keys
+-- these are the limits of keys in a group: at the place of each key is the number of its limit, and 0 after the last key
+pub record AreLimitsOf (limits : List GroupLimit) (group : Group) (keys : List LimitKey) (found : PathLimits) : Type 0 where
+  pub few : length keys ≤ length found.numbers
+  pub numbers : (place : ℕ) → place < length found.numbers → slice_index found.numbers place ≡ option_map_or (number_in limits group) (slice_get keys place) 0
 
 -- the lots that were set and those that are used today, where a limit was set
 abbrev pub limit_and_use : List GroupLimit → Group → LimitKey → Option (ℕ × ℕ)

@@ -7,6 +7,6 @@ mod paths;
 mod table;
 
 pub use error::SetError;
-pub use numbers::{LimitNo, PathLimits};
+pub use numbers::PathLimits;
 pub use paths::{path, path_between, path_by};
 pub use table::LimitTable;

@@ -1,6 +1,6 @@
 //! The limits of the house, and what is used of them today.
 
-ghost use Rattle.std.specs.Prelude.{◌≡◌, ◌+◌, ◌-◌, ◌^◌, ◌<◌, ◌≤◌, ◌↔◌, ◌||◌, [], ◌∷◌, All, IfSome, IfOk, IsErrOf, OnErr, OnOk, find, length, nat_lt, slice_get, if◌then◌else◌, map};
+ghost use Rattle.std.specs.Prelude.{◌≡◌, ◌+◌, ◌-◌, ◌<◌, ◌≤◌, ◌↔◌, ◌||◌, [], ◌∷◌, All, IfOk, IsErrOf, List, OnErr, OnOk, find, length, nat_lt, slice_get, if◌then◌else◌, map};
 ghost use Rattle.std.specs.List.{IsDistinct};
 ghost use Rattle.std.specs.Option.{ForSome};
 ghost use Rattle.std.specs.Result.{result_err};
@@ -8,12 +8,12 @@ ghost use Rattle.indexmap.specs.IndexMap.{get, index_map_len, insert_entry, set_
 ghost use Rattle.gu_terms.specs.LimitKeys.{key_eq};
 ghost use Rattle.gu_terms.specs.declared.group.Group.{Group as GroupOf};
 ghost use Rattle.gu_terms.specs.declared.limit_key.LimitKey.{LimitKey as LimitKeyOf};
-ghost use Rattle.gu_limits.specs.Changes.{limits_after_charge, limits_after_return, limits_after_setting, limits_of_new_day, lots_under, SameLimits, SameUses};
-ghost use Rattle.gu_limits.specs.Kept.{set_to, unused, used_on, with_use};
-ghost use Rattle.gu_limits.specs.Limits.{AreLimitsOf, has_limit, limit_and_use, limit_in, place_in, room_in, row_in, same_limit, same_place, used_in};
+ghost use Rattle.gu_limits.specs.Changes.{Charges, MayCharge, MayReturn, Returns, limits_after_charge, limits_after_return, limits_after_setting, limits_of_new_day, lots_under, SameLimits, SameUses};
+ghost use Rattle.gu_limits.specs.Kept.{set_to, unused, used_on};
+ghost use Rattle.gu_limits.specs.Limits.{AreLimitsOf, has_limit, limit_and_use, limit_in, number_in, room_in, row_in, same_limit, same_place, used_in};
 
 use crate::error::SetError;
-use crate::numbers::{LimitNo, PathLimits};
+use crate::numbers::PathLimits;
 use gu_terms::{Group, LimitKey, LimitRow, MOST_LIMIT, Path};
 use indexmap::IndexMap;
 use std::alloc::{AllocError, Global};
@@ -125,24 +125,31 @@ impl LimitTable {
         room
     }
 
-    /// The same, and the number of the limit, where one was set.
-    pub fn room_and_number(&self, group: &Group, key: &LimitKey) -> (u64, Option<LimitNo>)
+    /// The same, and the number of the limit, 0 where none was set.
+    fn room_and_number(&self, group: &Group, key: &LimitKey) -> (u64, usize)
         ensures room { result.0 ≡ room_in self.now group.now key.now }
-        ensures number { result.1 ≡ place_in self.now group.now key.now }
+        ensures number { result.1 ≡ number_in self.now group.now key.now }
     {
         let on = GroupKey {
             group: *group,
             key: *key,
         };
         let Some((place, _, kept)) = self.limits.get_full(&on) else {
-            return (0, None);
+            return (0, 0);
         };
+        // Shows the prover: a place is below the number of limits.
+        let _ = self.limits.len();
         let room = kept.limit.saturating_sub(kept.used_on(self.day));
-        (room, Some(LimitNo { place }))
+        (room, place + 1)
     }
 
     /// The limits of a path in a group, where each has room for these lots; else the first key under which there is less.
-    pub fn room_for(&self, group: &Group, path: &Path, lots: u64) -> Result<PathLimits, LimitKey>
+    pub fn limits_with_room(
+        &self,
+        group: &Group,
+        path: &Path,
+        lots: u64,
+    ) -> Result<PathLimits, LimitKey>
         ensures limits { IfOk result (AreLimitsOf self.now group.now path.now) }
         ensures short { result_err result ≡ find (λ key. nat_lt (room_in self.now group.now key) lots) path.now }
     {
@@ -155,6 +162,16 @@ impl LimitTable {
             limits.numbers[at] = number;
         }
         Ok(limits)
+    }
+
+    /// The limits of a path in a group.
+    pub fn limits_of(&self, group: &Group, path: &Path) -> PathLimits
+        ensures { AreLimitsOf self.now group.now path.now result }
+    {
+        match self.limits_with_room(group, path, 0) {
+            Ok(limits) => limits,
+            Err(_) => PathLimits::none(),
+        }
     }
 
     /// Sets a limit. What is used of it stays, also where that is more.
@@ -186,37 +203,30 @@ impl LimitTable {
         ensures uses { (at : GroupOf) (on : LimitKeyOf) →
             used_in self.new at on ≡ used_in self.old at on + lots_under group.now path.now lots at on }
     {
-        if let Ok(limits) = self.room_for(group, path, lots) {
-            self.charge_at(group, path, &limits, lots);
-        }
+        let limits = self.limits_of(group, path);
+        self.charge_at(&limits, lots);
     }
 
-    /// The same, by the numbers of the limits: none is looked up.
-    pub fn charge_at(&mut self, group: &Group, path: &Path, limits: &PathLimits, lots: u64)
-        requires limits { AreLimitsOf self.old group.now path.now limits.now }
-        requires room { All (λ key. lots ≤ room_in self.old group.now key) path.now }
-        requires once { IsDistinct key_eq path.now }
-        ensures rows { self.new ≡ limits_after_charge self.old group.now path.now lots }
-        ensures limits { SameLimits self.old self.new }
-        ensures uses { (at : GroupOf) (on : LimitKeyOf) →
-            used_in self.new at on ≡ used_in self.old at on + lots_under group.now path.now lots at on }
+    /// The same, by the limits: none is looked up.
+    pub fn charge_at(&mut self, limits: &PathLimits, lots: u64)
+        requires { (group : GroupOf) × (keys : List LimitKeyOf) × MayCharge self.old group keys lots limits.now }
+        ensures { (group : GroupOf) (keys : List LimitKeyOf) → MayCharge self.old group keys lots limits.now → Charges self.old self.new group keys lots }
     {
-        for (at, _key) in path.keys().iter().enumerate() {
-            if let Some(limit) = limits.numbers[at] {
-                self.charge_limit(limit, lots);
+        for number in &limits.numbers {
+            if *number > 0 {
+                self.charge_limit(*number - 1, lots);
             }
         }
     }
 
-    /// Charges lots to one limit.
-    fn charge_limit(&mut self, limit: LimitNo, lots: u64)
-        requires known { limit < length self.old }
-        requires room { ForSome (slice_get self.old limit) (λ l. lots ≤ l.limit - l.used) }
-        ensures { ForSome (slice_get self.old limit) (λ l. self.new ≡ limits_after_charge self.old l.group (l.key ∷ []) lots) }
+    /// Charges lots to the limit at a place.
+    fn charge_limit(&mut self, place: usize, lots: u64)
+        requires known { place < length self.old }
+        requires room { ForSome (slice_get self.old place) (λ l. lots ≤ l.limit - l.used) }
+        ensures { ForSome (slice_get self.old place) (λ l. self.new ≡ limits_after_charge self.old l.group (l.key ∷ []) lots) }
     {
-        // Shows the prover: the keys of the map are apart.
-        let _ = self.limits.len();
-        add_use(&mut self.limits, limit.place, self.day, lots);
+        let used = self.used_at(place);
+        write_use(&mut self.limits, place, self.day, used + lots);
     }
 
     /// Gives back lots that were charged today to all limits of a path in a group.
@@ -228,21 +238,38 @@ impl LimitTable {
         ensures uses { (at : GroupOf) (on : LimitKeyOf) →
             used_in self.new at on + lots_under group.now path.now lots at on ≡ used_in self.old at on }
     {
-        for key in path.keys() {
-            self.give_back_key(group, key, lots);
+        let limits = self.limits_of(group, path);
+        self.give_back_at(&limits, lots);
+    }
+
+    /// The same, by the limits: none is looked up.
+    pub fn give_back_at(&mut self, limits: &PathLimits, lots: u64)
+        requires { (group : GroupOf) × (keys : List LimitKeyOf) × MayReturn self.old group keys lots limits.now }
+        ensures { (group : GroupOf) (keys : List LimitKeyOf) → MayReturn self.old group keys lots limits.now → Returns self.old self.new group keys lots }
+    {
+        for number in &limits.numbers {
+            if *number > 0 {
+                self.return_to_limit(*number - 1, lots);
+            }
         }
     }
 
-    /// Gives back lots to one limit.
-    fn give_back_key(&mut self, group: &Group, key: &LimitKey, lots: u64)
-        requires { lots ≤ used_in self.old group.now key.now }
-        ensures { self.new ≡ limits_after_return self.old group.now (key.now ∷ []) lots }
+    /// Gives back lots to the limit at a place.
+    fn return_to_limit(&mut self, place: usize, lots: u64)
+        requires known { place < length self.old }
+        requires used { ForSome (slice_get self.old place) (λ l. lots ≤ l.used) }
+        ensures { ForSome (slice_get self.old place) (λ l. self.new ≡ limits_after_return self.old l.group (l.key ∷ []) lots) }
     {
-        let on = GroupKey {
-            group: *group,
-            key: *key,
-        };
-        take_use(&mut self.limits, &on, self.day, lots);
+        let used = self.used_at(place);
+        write_use(&mut self.limits, place, self.day, used - lots);
+    }
+
+    /// What is used of the limit at a place.
+    fn used_at(&self, place: usize) -> u64
+        requires { place < length self.now }
+        ensures { ForSome (slice_get self.now place) (λ l. result ≡ l.used) }
+    {
+        self.limits[place].used_on(self.day)
     }
 
     /// Begins a day: nothing is used of any limit, and the limits stay.
@@ -287,29 +314,18 @@ fn put(
     Ok(())
 }
 
-/// Adds lots to the use of the limit at a place on a day.
-fn add_use(limits: &mut IndexMap<GroupKey, KeptLimit>, place: usize, day: u64, lots: u64)
-    requires there { place < index_map_len limits.old }
-    requires fits { ForSome (slice_get (values limits.old) place) (λ kept. used_on day kept + lots < 2 ^ 64) }
+/// Writes the use of the limit at a place on a day.
+fn write_use(limits: &mut IndexMap<GroupKey, KeptLimit>, place: usize, day: u64, used: u64)
+    requires { place < index_map_len limits.old }
     ensures written { ForSome (slice_get (values limits.old) place) (λ kept.
-        limits.new.entries ≡ set_value_at limits.old.entries place (record kept { used = used_on day kept + lots; day = day })) }
-{
-    let kept = &mut limits[place];
-    kept.used = kept.used_on(day) + lots;
-    kept.day = day;
-}
-
-/// Takes lots off the use of a limit on a day.
-fn take_use(limits: &mut IndexMap<GroupKey, KeptLimit>, on: &GroupKey, day: u64, lots: u64)
-    requires { ForSome (get ⟦<GroupKey as PartialEq>⟧.eq limits.old on.now) (λ kept. lots ≤ used_on day kept) }
-    ensures written { limits.new.entries
-        ≡ with_use ⟦<GroupKey as PartialEq>⟧.eq on.now day (λ used. used - lots) limits.old.entries }
+        limits.new.entries ≡ set_value_at limits.old.entries place (record kept { used = used; day = day })) }
     ensures apart { IsUnique ⟦<GroupKey as PartialEq>⟧.eq limits.old }
 {
-    if let Some(kept) = limits.get_mut(on) {
-        kept.used = kept.used_on(day) - lots;
-        kept.day = day;
-    }
+    // Shows the prover: the keys of the map are apart.
+    let _ = limits.len();
+    let kept = &mut limits[place];
+    kept.used = used;
+    kept.day = day;
 }
 
 /// Forgets all uses, on day 0.

@@ -1,9 +1,20 @@
-use Rattle.std.proofs.Common.{◌∙◌, ◌-◌, sym, ap, Some, None}
-use Rattle.gu_limits.specs.Limits.{place_in, room_in}
+use Rattle.std.proofs.Common.{◌∙◌, ◌-◌, sym, ap, arith, Some, None, add-one, suc}
+use Rattle.std.specs.Option.{option_map_or}
+use Rattle.std.specs.Map.{keys_of}
+use Rattle.std.proofs.lemmas.List.{length-map}
+use Rattle.gu_limits.specs.Limits.{number_in, room_in}
 use Rattle.gu_limits.specs.declared.table.GroupKey.{GroupKey}
-use Rattle.gu_limits.proofs.KeptLimits.{room-kept}
-use Rattle.gu_limits.proofs.LimitPlaces.{place-kept}
+use Rattle.gu_limits.specs.declared.table.KeptLimit.{KeptLimit}
+use Rattle.gu_limits.proofs.KeptLimits.{room-kept, same}
+use Rattle.gu_limits.proofs.LimitPlaces.{number-kept, placed}
 use Rattle.gu_limits.proofs.table.LimitTable.room_and_number.Goals as goal
+
+pub overflow_add-result : goal.overflow_add-result
+overflow_add-result c =
+    let on : GroupKey = record { group = c.args.group.now; key = c.args.key.now } in
+    let es = c.self.inside.limits.entries in
+    let inside = (placed (same on) (keys_of es) c.in-Some.place (sym c.in-Some.ensures.index)).0 in
+    omega (arith, inside, length-map es (λ (e : GroupKey × KeptLimit). e.0), c.len.ensures.len)
 
 pub returns-in_default-clause-room : goal.returns-in_default-clause-room
 returns-in_default-clause-room c =
@@ -13,7 +24,8 @@ returns-in_default-clause-room c =
 pub returns-in_default-clause-number : goal.returns-in_default-clause-number
 returns-in_default-clause-number c =
     let on : GroupKey = record { group = c.args.group.now; key = c.args.key.now } in
-    c.in_default.ensures.index ∙ sym (place-kept c.self.inside.day on c.self.inside.limits.entries) ∙ ap (λ limits. place_in limits on.group on.key) c.self.view_is
+    ap (λ place. option_map_or suc place 0) c.in_default.ensures.index ∙ sym (number-kept c.self.inside.day on c.self.inside.limits.entries)
+    ∙ ap (λ limits. number_in limits on.group on.key) c.self.view_is
 
 pub returns-clause-room : goal.returns-clause-room
 returns-clause-room c =
@@ -25,4 +37,5 @@ returns-clause-room c =
 pub returns-clause-number : goal.returns-clause-number
 returns-clause-number c =
     let on : GroupKey = record { group = c.args.group.now; key = c.args.key.now } in
-    c.in-Some.ensures.index ∙ sym (place-kept c.self.inside.day on c.self.inside.limits.entries) ∙ ap (λ limits. place_in limits on.group on.key) c.self.view_is
+    rw add-one (ap (λ place. option_map_or suc place 0) c.in-Some.ensures.index)
+    ∙ sym (number-kept c.self.inside.day on c.self.inside.limits.entries) ∙ ap (λ limits. number_in limits on.group on.key) c.self.view_is
