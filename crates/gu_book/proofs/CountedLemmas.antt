@@ -126,9 +126,9 @@ accepted-touches reference history totals command (deed.Open day) group offers i
 accepted-touches reference history totals command (deed.SetLimit at key lots) group offers is = rw is refl
 accepted-touches reference history totals command (deed.Report report waiting) group offers is = rw is.is refl
 accepted-touches reference history totals command (deed.GiveUp firm id report lines at first) group offers is = rw is.is refl
-accepted-touches reference history totals command (deed.Claim claimed limits) group offers is = rw is.moves.is (of-offer history totals group claimed.offer claimed.number offers is.moves.seen.shown)
+accepted-touches reference history totals command (deed.Claim claimed) group offers is = rw (is.is, is.group_is) (of-offer history totals group is.offer claimed.number offers is.seen.shown)
 accepted-touches reference history totals command (deed.Refuse number at lots) group offers is = rw is.is (of-group history totals group at number offers is.group_is)
-accepted-touches reference history totals command (deed.Reverse reversed) group offers is = rw is.is (of-offer history totals group reversed.offer reversed.number offers is.seen.shown)
+accepted-touches reference history totals command (deed.Reverse reversed) group offers is = rw (is.is, is.group_is) (of-offer history totals group is.offer reversed.number offers is.seen.shown)
 
 -- and a refused command touches none
 pub denied-touches : (history : List Entry) (command : Command) (why : Refusal) (group : Group) → false ≡ touches history group (Asked command (Denied why))

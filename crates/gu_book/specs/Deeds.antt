@@ -1,8 +1,7 @@
 -- Machinery: what an accepted command does, with all that was found as it was decided.
-use Rattle.std.specs.Prelude.{◌≡◌, ℕ, true, List, [], length, Option, Some, Result, Ok, Err, IfSome, is_some, unwrap_or}
-use Rattle.std.specs.List.{AllByRecursion, IsDistinct}
+use Rattle.std.specs.Prelude.{◌≡◌, ℕ, true, List, length, Option, Some, Result, Ok, Err, is_some}
+use Rattle.std.specs.List.{AllByRecursion}
 use Rattle.std.specs.Option.{option_map}
-use Rattle.gu_terms.specs.LimitKeys.{key_eq}
 use Rattle.gu_terms.specs.declared.alloc_reject.AllocReject.{AllocReject}
 use Rattle.gu_terms.specs.declared.command.Command.{Command}
 use Rattle.gu_terms.specs.declared.command.Command.TheVariants as asked
@@ -20,7 +19,6 @@ use Rattle.gu_terms.specs.declared.reply.Reply.TheVariants.{Accepted, Denied}
 use Rattle.gu_terms.specs.declared.report.Report.{Report}
 use Rattle.gu_ref.specs.Tables.{Tables}
 use Rattle.gu_limits.specs.Limits.{AreLimitsOf}
-use Rattle.gu_limits.specs.declared.numbers.PathLimits.{PathLimits}
 use Rattle.gu_trades.specs.Counterparts.{counterpart_of}
 use Rattle.gu_trades.specs.Reports.{report_by, with_match}
 use Rattle.gu_trades.specs.Terms.{terms_of}
@@ -43,7 +41,7 @@ done_by (Open day) = Opened
 done_by (SetLimit group key lots) = LimitSet
 done_by (Reports report waiting) = Reported (is_some waiting)
 done_by (GiveUp firm id report lines group first) = Offered group first (length lines.now)
-done_by (Claim claimed limits) = Claimed claimed.lots
+done_by (Claim claimed) = Claimed claimed.lots
 done_by (Refuse number group lots) = Refused lots
 done_by (Reverse reversed) = Reversed reversed.lots
 
@@ -53,9 +51,9 @@ touched_by (Open day) = Every
 touched_by (SetLimit group key lots) = Only group
 touched_by (Reports report waiting) = Nothing
 touched_by (GiveUp firm id report lines group first) = Only group
-touched_by (Claim claimed limits) = Only claimed.offer.group
+touched_by (Claim claimed) = Only claimed.group
 touched_by (Refuse number group lots) = Only group
-touched_by (Reverse reversed) = Only reversed.offer.group
+touched_by (Reverse reversed) = Only reversed.group
 
 -- that reply, or the refusal
 abbrev pub reply_by : Result Deed Refusal → Reply
@@ -71,19 +69,16 @@ pub record AreFound (totals : Totals) (n : ℕ) (offer : Offer) (report : Terms)
   pub shown : Some offer ≡ option_map (λ (r : Row). r.offer) (row_at totals.offers n)
   pub found : Some report ≡ option_map terms_of (report_by totals.trades offer.firm offer.report)
 
--- a command, asked so of some firm, moves these lots of an offer: by its own report, and under its own path
+-- a command, asked so of some firm, moves these lots of an offer: by its own report, and under the limits of its own path
 pub record MovesLots (reference : Tables) (totals : Totals) (command : Command) (ask : FirmId → ℕ → Command) (moved : Moved) (lots : ℕ) : Type 0 where
   pub firm : FirmId
   pub is : command ≡ ask firm moved.number
-  pub seen : AreFound totals moved.number moved.offer moved.report
-  pub path : unwrap_or moved.path [] ≡ path_after reference moved.offer
-  pub once : IfSome moved.path (IsDistinct key_eq)
+  pub offer : Offer
+  pub seen : AreFound totals moved.number offer moved.report
+  pub group_is : moved.group ≡ offer.group
+  pub account_is : moved.account ≡ offer.account
+  pub under : AreLimitsOf totals.limits moved.group (path_after reference offer) moved.limits
   pub all : moved.lots ≡ lots
-
--- a command claims all that is left of an offer, and these are the limits of its path
-pub record ClaimsLots (reference : Tables) (totals : Totals) (command : Command) (claimed : Moved) (limits : PathLimits) : Type 0 where
-  pub moves : MovesLots reference totals command asked.Claim claimed (left_in totals.offers claimed.number)
-  pub under : AreLimitsOf totals.limits claimed.offer.group (unwrap_or claimed.path []) limits
 
 -- a command reports this on the open day, and meets who waits for it
 pub record MakesReport (totals : Totals) (command : Command) (report : Report) (waiting : Option Terms) : Type 0 where
@@ -110,6 +105,6 @@ IsDeedOf reference totals command (Open day) = command ≡ asked.OpenDay day
 IsDeedOf reference totals command (SetLimit group key lots) = command ≡ asked.SetLimit group key lots
 IsDeedOf reference totals command (Reports report waiting) = MakesReport totals command report waiting
 IsDeedOf reference totals command (GiveUp firm id report lines group first) = GivesLines reference totals command firm.now id.now report.now lines.now group
-IsDeedOf reference totals command (Claim claimed limits) = ClaimsLots reference totals command claimed limits
+IsDeedOf reference totals command (Claim claimed) = MovesLots reference totals command asked.Claim claimed (left_in totals.offers claimed.number)
 IsDeedOf reference totals command (Refuse number group lots) = RefusesOffer totals command number group
 IsDeedOf reference totals command (Reverse reversed) = MovesLots reference totals command asked.Reverse reversed (today_in totals.offers reversed.number)

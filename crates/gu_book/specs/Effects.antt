@@ -11,7 +11,7 @@ use Rattle.gu_terms.specs.declared.side.Side.{Side}
 use Rattle.gu_terms.specs.declared.side.Side.TheVariants.{Buy, Sell}
 use Rattle.gu_terms.specs.declared.symbol.Symbol.{Symbol}
 use Rattle.gu_ref.specs.Tables.{Tables}
-use Rattle.gu_limits.specs.Changes.{SameLimits, lots_under}
+use Rattle.gu_limits.specs.Changes.{Charges, Returns, SameLimits}
 use Rattle.gu_limits.specs.Limits.{GroupLimit, has_limit, limit_in, same_place, used_in}
 use Rattle.gu_positions.specs.Changes.{KeepsLots, lots_at}
 use Rattle.gu_positions.specs.Rows.{Row, has_row, lots_in, lots_on}
@@ -59,23 +59,13 @@ pub record SetsLimit (old new : List GroupLimit) (group : Group) (key : LimitKey
   pub limits : (at : Group) (on : LimitKey) → limit_in new at on ≡ (if same_place at on group key then lots else limit_in old at on)
   pub uses : (at : Group) (on : LimitKey) → used_in new at on ≡ used_in old at on
 
--- lots are used more under keys in a group
-pub record UsesUnder (keys : List LimitKey) (old new : List GroupLimit) (group : Group) (lots : ℕ) : Type 0 where
-  pub limits : SameLimits old new
-  pub uses : (at : Group) (on : LimitKey) → used_in new at on ≡ used_in old at on + lots_under group keys lots at on
-
--- and under the keys of an offer
+-- lots are used more under the keys of an offer
 abbrev pub UsesMore : Tables → List GroupLimit → List GroupLimit → Offer → ℕ → Type 0
-UsesMore reference old new offer lots = UsesUnder (path_after reference offer) old new offer.group lots
+UsesMore reference old new offer lots = Charges old new offer.group (path_after reference offer) lots
 
--- lots are used less under them
-pub record FreesUnder (keys : List LimitKey) (old new : List GroupLimit) (group : Group) (lots : ℕ) : Type 0 where
-  pub limits : SameLimits old new
-  pub uses : (at : Group) (on : LimitKey) → used_in new at on + lots_under group keys lots at on ≡ used_in old at on
-
--- and under the keys of an offer
+-- and less
 abbrev pub UsesLess : Tables → List GroupLimit → List GroupLimit → Offer → ℕ → Type 0
-UsesLess reference old new offer lots = FreesUnder (path_after reference offer) old new offer.group lots
+UsesLess reference old new offer lots = Returns old new offer.group (path_after reference offer) lots
 
 -- nothing is used of any limit
 pub record UsesNothing (old new : List GroupLimit) : Type 0 where

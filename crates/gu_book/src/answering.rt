@@ -300,8 +300,18 @@ fn path_with(reference: &Reference, offer: &Offer, partner: &Option<Partner>) ->
     }
 }
 
-/// The limits of a path, where each has room for these lots; else the first key under which there is less. A path that isn't there has none.
-fn limits_for(
+/// The limits of a path. One that isn't there has none.
+fn limits_of(limits: &LimitTable, group: &Group, path: &Option<Path>) -> PathLimits
+    ensures { AreLimitsOf limits.now group.now (unwrap_or path.now []) result }
+{
+    match path {
+        Some(path) => limits.limits_of(group, path),
+        None => PathLimits::none(),
+    }
+}
+
+/// The same, where each has room for these lots; else the first key under which there is less.
+fn limits_with_room(
     limits: &LimitTable,
     group: &Group,
     path: &Option<Path>,
@@ -311,7 +321,7 @@ fn limits_for(
     ensures short { result_err result ≡ find (λ key. nat_lt (room_in limits.now group.now key) lots) (unwrap_or path.now []) }
 {
     match path {
-        Some(path) => limits.room_for(group, path, lots),
+        Some(path) => limits.limits_with_room(group, path, lots),
         None => Ok(PathLimits::none()),
     }
 }
@@ -388,18 +398,19 @@ fn decide_claim<'a>(
         return Err(Refusal::OfferClosed);
     };
     let path = path_with(reference, &offer, &partner);
-    let limits = match limits_for(&totals.limits, &offer.group, &path, lots.get()) {
+    let limits = match limits_with_room(&totals.limits, &offer.group, &path, lots.get()) {
         Ok(limits) => limits,
         Err(key) => return Err(Refusal::LimitReached(key)),
     };
     let claimed = Moved {
         number,
-        offer,
+        group: offer.group,
+        account: offer.account,
         report: terms_given_up(totals, &offer),
-        path,
+        limits,
         lots,
     };
-    Ok(Deed::Claim { claimed, limits })
+    Ok(Deed::Claim { claimed })
 }
 
 /// Decides a refusal.
@@ -442,11 +453,13 @@ fn decide_reversal<'a>(
     let Some(lots) = lots_moved_today(totals, number) else {
         return Err(Refusal::NothingToReverse);
     };
+    let path = path_with(reference, &offer, &partner);
     let reversed = Moved {
         number,
-        offer,
+        group: offer.group,
+        account: offer.account,
         report: terms_given_up(totals, &offer),
-        path: path_with(reference, &offer, &partner),
+        limits: limits_of(&totals.limits, &offer.group, &path),
         lots,
     };
     Ok(Deed::Reverse { reversed })

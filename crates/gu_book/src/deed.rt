@@ -5,18 +5,20 @@ ghost use Rattle.gu_book.specs.Deeds.{done_by, touched_by};
 
 use crate::versions::Touched;
 use gu_limits::PathLimits;
-use gu_terms::{Day, Done, FirmId, Group, Id, LimitKey, Lines, Lots, Offer, OfferNo, Path, Reply};
+use gu_terms::{AccountId, Day, Done, FirmId, Group, Id, LimitKey, Lines, Lots, OfferNo, Reply};
 use gu_trades::{ReportRef, Terms};
 
 /// Lots of an offer that are claimed or taken back.
 #[derive(Clone, Copy, Debug)]
 pub struct Moved {
     pub number: OfferNo,
-    pub offer: Offer,
+    pub group: Group,
+    /// The account to which it is made.
+    pub account: AccountId,
     /// The terms of the report that it gives up.
     pub report: Terms,
-    /// The path of the agreement by which it was made, where there is one.
-    pub path: Option<Path>,
+    /// The limits of the path of the agreement by which it was made.
+    pub limits: PathLimits,
     pub lots: Lots,
 }
 
@@ -46,8 +48,6 @@ pub enum Deed<'a> {
     },
     Claim {
         claimed: Moved,
-        /// The limits of its path.
-        limits: PathLimits,
     },
     Refuse {
         number: OfferNo,
@@ -80,7 +80,7 @@ impl<'a> Deed<'a> {
                 first: *first,
                 count: lines.as_slice().len() as u64,
             },
-            Deed::Claim { claimed, .. } => Done::Claimed { lots: claimed.lots },
+            Deed::Claim { claimed } => Done::Claimed { lots: claimed.lots },
             Deed::Refuse { lots, .. } => Done::Refused { lots: *lots },
             Deed::Reverse { reversed } => Done::Reversed {
                 lots: reversed.lots,
@@ -104,8 +104,8 @@ impl<'a> Deed<'a> {
             Deed::SetLimit { group, .. } => Touched::Only(*group),
             Deed::Report { .. } => Touched::Nothing,
             Deed::GiveUp { group, .. } | Deed::Refuse { group, .. } => Touched::Only(*group),
-            Deed::Claim { claimed, .. } => Touched::Only(claimed.offer.group),
-            Deed::Reverse { reversed } => Touched::Only(reversed.offer.group),
+            Deed::Claim { claimed } => Touched::Only(claimed.group),
+            Deed::Reverse { reversed } => Touched::Only(reversed.group),
         }
     }
 }

@@ -95,7 +95,7 @@ fn make_way(totals: &mut Totals, number: OfferNo) -> Result<(), AllocError>
 {
     match totals.given(number) {
         Some((offer, report)) => {
-            totals.make_way(&offer, &report)?;
+            totals.make_way(&offer.account, &report)?;
             Ok(())
         }
         None => Ok(()),

@@ -35,7 +35,7 @@ pub fn take_in(totals: &mut Totals, deed: &Deed<'_>) -> Result<(), AllocError>
             let _ = lines.as_slice();
             totals.give_up(*firm, *id, *report, group, *lines)
         }
-        Deed::Claim { claimed, limits } => totals.claim(claimed, limits),
+        Deed::Claim { claimed } => totals.claim(claimed),
         Deed::Refuse {
             number,
             group: _,

@@ -1,16 +1,15 @@
 //! What a book keeps beside its history, so that no answer reads it.
 
-ghost use Rattle.std.specs.Prelude.{◌≡◌, ◌<◌, ◌≤◌, ◌+◌, ◌^◌, ◌++◌, ◌∷◌, [], true, false, All, Some, None, IfOk, IfSome, OnOk, OnErr, length, map, unwrap_or};
-ghost use Rattle.std.specs.List.{IsDistinct};
+ghost use Rattle.std.specs.Prelude.{◌≡◌, ◌<◌, ◌≤◌, ◌+◌, ◌^◌, ◌++◌, ◌∷◌, [], true, false, List, Some, None, IfOk, OnOk, OnErr, length, map};
 ghost use Rattle.indexmap.specs.IndexSet.{hasher_of};
-ghost use Rattle.gu_limits.specs.Limits.{AreLimitsOf, room_in, used_in};
+ghost use Rattle.gu_limits.specs.Changes.{Charges, MayCharge, MayReturn, Returns};
 ghost use Rattle.gu_offers.specs.Changes.{changed, closed, next_day, reversed, taken, with_lines};
 ghost use Rattle.gu_offers.specs.Rows.{left_in, row_at, today_in};
 ghost use Rattle.gu_positions.specs.Changes.{KeepsLots, KeepsNumbers, KeepsRows, lots_at, lots_at_side};
 ghost use Rattle.gu_positions.specs.Numbers.{IsRowOf};
 ghost use Rattle.gu_positions.specs.Rows.{has_row, lots_in, lots_on};
-ghost use Rattle.gu_terms.specs.LimitKeys.{key_eq};
 ghost use Rattle.gu_terms.specs.declared.account.AccountId.{AccountId as AccountOf};
+ghost use Rattle.gu_terms.specs.declared.limit_key.LimitKey.{LimitKey as LimitKeyOf};
 ghost use Rattle.gu_terms.specs.declared.side.Side.{Side as SideOf};
 ghost use Rattle.gu_terms.specs.declared.symbol.Symbol.{Symbol as SymbolOf};
 ghost use Rattle.gu_trades.specs.Counterparts.{counterpart_of};
@@ -18,11 +17,11 @@ ghost use Rattle.gu_trades.specs.Reports.{has_report, report_by, with_match};
 ghost use Rattle.gu_trades.specs.Terms.{terms_of};
 ghost use Rattle.gu_rules.specs.Reports.{Fits};
 ghost use Rattle.gu_book.specs.Beside.{is_kept_give_up, waiting_of};
-ghost use Rattle.gu_book.specs.Effects.{HoldsMore, HoldsMoved, IsEven, KeepsMade, OnlyRowsOf, SameAnswers, SameEntries, SetsLimit, FreesUnder, UsesNothing, UsesUnder, made_a_trade};
+ghost use Rattle.gu_book.specs.Effects.{HoldsMore, HoldsMoved, IsEven, KeepsMade, OnlyRowsOf, SameAnswers, SameEntries, SetsLimit, UsesNothing, made_a_trade};
 ghost use Rattle.gu_book.specs.Moving.{given_by};
 
 use crate::deed::Moved;
-use gu_limits::{LimitTable, PathLimits, SetError};
+use gu_limits::{LimitTable, SetError};
 use gu_offers::Offers;
 use gu_positions::{Positions, RowNo};
 use gu_terms::{AccountId, Day, FirmId, Group, Id, LimitKey, Lines, Offer, OfferNo, Seed, Symbol};
@@ -209,20 +208,24 @@ impl Totals {
     }
 
     /// Makes the rows of the accounts between which lots of an offer move: that of its report, and its own. No answer changes.
-    pub fn make_way(&mut self, offer: &Offer, report: &Terms) -> Result<(RowNo, RowNo), AllocError>
+    pub fn make_way(
+        &mut self,
+        account: &AccountId,
+        report: &Terms,
+    ) -> Result<(RowNo, RowNo), AllocError>
         ensures from { OnOk result (has_row self.new.positions report.now.account report.now.symbol ≡ true) }
-        ensures to { OnOk result (has_row self.new.positions offer.now.account report.now.symbol ≡ true) }
+        ensures to { OnOk result (has_row self.new.positions account.now report.now.symbol ≡ true) }
         ensures one { IfOk result (λ rows. IsRowOf self.new.positions report.now.account report.now.symbol rows.0) }
-        ensures two { IfOk result (λ rows. IsRowOf self.new.positions offer.now.account report.now.symbol rows.1) }
+        ensures two { IfOk result (λ rows. IsRowOf self.new.positions account.now report.now.symbol rows.1) }
         ensures stay { KeepsMade self.old.positions self.new.positions }
-        ensures rows { OnlyRowsOf self.old.positions self.new.positions (report.now.account ∷ offer.now.account ∷ []) }
+        ensures rows { OnlyRowsOf self.old.positions self.new.positions (report.now.account ∷ account.now ∷ []) }
         ensures same { SameAnswers self.old self.new }
     {
         make_rows(
             &mut self.positions,
             &report.account,
             &report.symbol,
-            &offer.account,
+            account,
             &report.symbol,
         )
     }
@@ -249,50 +252,48 @@ impl Totals {
         );
     }
 
-    /// Lots of an offer are claimed: the rows are made, and they are used under the keys of its path and moved.
-    pub fn claim(&mut self, claimed: &Moved, limits: &PathLimits) -> Result<(), AllocError>
-        requires limits { AreLimitsOf self.old.limits claimed.now.offer.group (unwrap_or claimed.now.path []) limits.now }
+    /// Lots of an offer are claimed: the rows are made, and they are charged to its limits and moved.
+    pub fn claim(&mut self, claimed: &Moved) -> Result<(), AllocError>
+        requires room { (keys : List LimitKeyOf) × MayCharge self.old.limits claimed.now.group keys claimed.now.lots claimed.now.limits }
         requires left { claimed.now.lots ≤ left_in self.old.offers claimed.now.number }
-        requires room { All (λ key. claimed.now.lots ≤ room_in self.old.limits claimed.now.offer.group key) (unwrap_or claimed.now.path []) }
-        requires once { IfSome claimed.now.path (IsDistinct key_eq) }
         requires there { claimed.now.lots ≤ lots_in self.old.positions claimed.now.report.side claimed.now.report.account claimed.now.report.symbol }
         ensures entries { SameEntries self.old self.new }
         ensures offers { OnOk result (self.new.offers ≡ changed self.old.offers claimed.now.number (taken claimed.now.lots)) }
-        ensures limits { OnOk result
-            (UsesUnder (unwrap_or claimed.now.path []) self.old.limits self.new.limits claimed.now.offer.group claimed.now.lots) }
+        ensures limits { OnOk result ((keys : List LimitKeyOf) → MayCharge self.old.limits claimed.now.group keys claimed.now.lots claimed.now.limits
+            → Charges self.old.limits self.new.limits claimed.now.group keys claimed.now.lots) }
         ensures positions { OnOk result
-            (HoldsMoved self.old.positions self.new.positions claimed.now.report claimed.now.report.account claimed.now.offer.account claimed.now.lots) }
+            (HoldsMoved self.old.positions self.new.positions claimed.now.report claimed.now.report.account claimed.now.account claimed.now.lots) }
         ensures even { IsEven self.old.positions → IsEven self.new.positions }
-        ensures rows { OnlyRowsOf self.old.positions self.new.positions (claimed.now.report.account ∷ claimed.now.offer.account ∷ []) }
+        ensures rows { OnlyRowsOf self.old.positions self.new.positions (claimed.now.report.account ∷ claimed.now.account ∷ []) }
         ensures refused { OnErr result (SameAnswers self.old self.new) }
     {
-        let rows = self.make_way(&claimed.offer, &claimed.report)?;
-        charge(&mut self.limits, claimed, limits);
-        self.offers.take(claimed.number, claimed.lots.get());
+        let rows = self.make_way(&claimed.account, &claimed.report)?;
+        let lots = claimed.lots.get();
+        self.limits.charge_at(&claimed.limits, lots);
+        self.offers.take(claimed.number, lots);
         move_over(&mut self.positions, claimed, &rows);
         Ok(())
     }
 
     /// Lots that were moved of an offer today are moved back.
     pub fn reverse(&mut self, returned: &Moved) -> Result<(), AllocError>
+        requires used { (keys : List LimitKeyOf) × MayReturn self.old.limits returned.now.group keys returned.now.lots returned.now.limits }
         requires closed { left_in self.old.offers returned.now.number ≡ 0 }
         requires moved { 0 < today_in self.old.offers returned.now.number }
-        requires used { All (λ key. returned.now.lots ≤ used_in self.old.limits returned.now.offer.group key) (unwrap_or returned.now.path []) }
-        requires once { IfSome returned.now.path (IsDistinct key_eq) }
-        requires there { returned.now.lots ≤ lots_in self.old.positions returned.now.report.side returned.now.offer.account returned.now.report.symbol }
+        requires there { returned.now.lots ≤ lots_in self.old.positions returned.now.report.side returned.now.account returned.now.report.symbol }
         ensures entries { SameEntries self.old self.new }
         ensures offers { OnOk result (self.new.offers ≡ changed self.old.offers returned.now.number reversed) }
-        ensures limits { OnOk result
-            (FreesUnder (unwrap_or returned.now.path []) self.old.limits self.new.limits returned.now.offer.group returned.now.lots) }
+        ensures limits { OnOk result ((keys : List LimitKeyOf) → MayReturn self.old.limits returned.now.group keys returned.now.lots returned.now.limits
+            → Returns self.old.limits self.new.limits returned.now.group keys returned.now.lots) }
         ensures positions { OnOk result
-            (HoldsMoved self.old.positions self.new.positions returned.now.report returned.now.offer.account returned.now.report.account returned.now.lots) }
+            (HoldsMoved self.old.positions self.new.positions returned.now.report returned.now.account returned.now.report.account returned.now.lots) }
         ensures even { IsEven self.old.positions → IsEven self.new.positions }
-        ensures rows { OnlyRowsOf self.old.positions self.new.positions (returned.now.report.account ∷ returned.now.offer.account ∷ []) }
+        ensures rows { OnlyRowsOf self.old.positions self.new.positions (returned.now.report.account ∷ returned.now.account ∷ []) }
         ensures refused { OnErr result (SameAnswers self.old self.new) }
     {
-        let rows = self.make_way(&returned.offer, &returned.report)?;
+        let rows = self.make_way(&returned.account, &returned.report)?;
         self.offers.reverse(returned.number);
-        give_back(&mut self.limits, returned);
+        self.limits.give_back_at(&returned.limits, returned.lots.get());
         move_back(&mut self.positions, returned, &rows);
         Ok(())
     }
@@ -322,9 +323,9 @@ fn make_rows(
 /// Moves lots of an offer from the row of its report to its own.
 fn move_over(positions: &mut Positions, claimed: &Moved, rows: &(RowNo, RowNo))
     requires from { IsRowOf positions.old claimed.now.report.account claimed.now.report.symbol rows.now.0 }
-    requires to { IsRowOf positions.old claimed.now.offer.account claimed.now.report.symbol rows.now.1 }
+    requires to { IsRowOf positions.old claimed.now.account claimed.now.report.symbol rows.now.1 }
     requires there { claimed.now.lots ≤ lots_in positions.old claimed.now.report.side claimed.now.report.account claimed.now.report.symbol }
-    ensures moved { HoldsMoved positions.old positions.new claimed.now.report claimed.now.report.account claimed.now.offer.account claimed.now.lots }
+    ensures moved { HoldsMoved positions.old positions.new claimed.now.report claimed.now.report.account claimed.now.account claimed.now.lots }
     ensures rows { KeepsRows positions.old positions.new }
 {
     positions.shift_between(&rows.0, &rows.1, claimed.report.side, claimed.lots.get());
@@ -333,9 +334,9 @@ fn move_over(positions: &mut Positions, claimed: &Moved, rows: &(RowNo, RowNo))
 /// Moves them back.
 fn move_back(positions: &mut Positions, returned: &Moved, rows: &(RowNo, RowNo))
     requires from { IsRowOf positions.old returned.now.report.account returned.now.report.symbol rows.now.0 }
-    requires to { IsRowOf positions.old returned.now.offer.account returned.now.report.symbol rows.now.1 }
-    requires there { returned.now.lots ≤ lots_in positions.old returned.now.report.side returned.now.offer.account returned.now.report.symbol }
-    ensures moved { HoldsMoved positions.old positions.new returned.now.report returned.now.offer.account returned.now.report.account returned.now.lots }
+    requires to { IsRowOf positions.old returned.now.account returned.now.report.symbol rows.now.1 }
+    requires there { returned.now.lots ≤ lots_in positions.old returned.now.report.side returned.now.account returned.now.report.symbol }
+    ensures moved { HoldsMoved positions.old positions.new returned.now.report returned.now.account returned.now.report.account returned.now.lots }
     ensures rows { KeepsRows positions.old positions.new }
 {
     positions.shift_between(&rows.1, &rows.0, returned.report.side, returned.lots.get());
@@ -355,27 +356,4 @@ fn hold(positions: &mut Positions, row: &RowNo, report: &Terms)
     ensures stay { KeepsNumbers positions.old positions.new }
 {
     positions.add_to(row, report.side, report.lots.get());
-}
-
-/// Uses lots under the keys of an offer's path.
-fn charge(table: &mut LimitTable, claimed: &Moved, limits: &PathLimits)
-    requires limits { AreLimitsOf table.old claimed.now.offer.group (unwrap_or claimed.now.path []) limits.now }
-    requires room { All (λ key. claimed.now.lots ≤ room_in table.old claimed.now.offer.group key) (unwrap_or claimed.now.path []) }
-    requires once { IfSome claimed.now.path (IsDistinct key_eq) }
-    ensures { UsesUnder (unwrap_or claimed.now.path []) table.old table.new claimed.now.offer.group claimed.now.lots }
-{
-    if let Some(path) = &claimed.path {
-        table.charge_at(&claimed.offer.group, path, limits, claimed.lots.get());
-    }
-}
-
-/// Gives back lots that were used under them.
-fn give_back(limits: &mut LimitTable, returned: &Moved)
-    requires used { All (λ key. returned.now.lots ≤ used_in limits.old returned.now.offer.group key) (unwrap_or returned.now.path []) }
-    requires once { IfSome returned.now.path (IsDistinct key_eq) }
-    ensures { FreesUnder (unwrap_or returned.now.path []) limits.old limits.new returned.now.offer.group returned.now.lots }
-{
-    if let Some(path) = &returned.path {
-        limits.give_back(&returned.offer.group, path, returned.lots.get());
-    }
 }

@@ -1,11 +1,11 @@
-use Rattle.std.proofs.Common.{ℕ, List, Option, nat_lt, refl, sym, ap, ◌∙◌}
+use Rattle.std.proofs.Common.{ℕ, List, Option, nat_lt, refl, subst, sym, ap, ◌∙◌}
 use Rattle.std.specs.List.{find}
 use Rattle.std.specs.Option.{option_map}
 use Rattle.gu_terms.specs.declared.limit_key.LimitKey.{LimitKey}
 use Rattle.gu_terms.specs.declared.refusal.Refusal.TheVariants.{LimitReached}
 use Rattle.gu_terms.specs.declared.reply.Done.TheVariants.{Claimed}
 use Rattle.gu_terms.specs.declared.reply.Reply.TheVariants.{Accepted}
-use Rattle.gu_limits.specs.Limits.{room_in}
+use Rattle.gu_limits.specs.Limits.{AreLimitsOf, room_in}
 use Rattle.gu_offers.specs.Rows.{left_in}
 use Rattle.gu_rules.specs.Answer.{claim_tests, offer_tests}
 use Rattle.gu_rules.proofs.Passing.{standing_after, standing_in, standing_none}
@@ -55,13 +55,12 @@ terms_given_up-requires c = has-report c.args.totals.now c.args.number c.in_ok-o
 pub returns-clause-deed : goal.returns-clause-deed
 returns-clause-deed c =
     record {
-      moves = record {
-        firm = c.args.firm;
-        is = refl;
-        seen = record { shown = c.in_ok-offer.ensures.offer; found = c.terms_given_up.ensures };
-        path = c.path_with-path.ensures.keys;
-        once = c.path_with-path.ensures.once;
-        all = (lots_are (left_in c.args.totals.now.offers c.args.number) c.in-Some.lots c.in-Some.ensures).0;
-      };
-      under = c.in-Ok.ensures.limits;
+      firm = c.args.firm;
+      is = refl;
+      offer = c.in_ok-offer.offer;
+      seen = record { shown = c.in_ok-offer.ensures.offer; found = c.terms_given_up.ensures };
+      group_is = refl;
+      account_is = refl;
+      under = subst (λ (keys : List LimitKey). AreLimitsOf c.args.totals.now.limits c.in_ok-offer.offer.group keys c.in-Ok.limits) c.path_with-path.ensures.keys c.in-Ok.ensures.limits;
+      all = (lots_are (left_in c.args.totals.now.offers c.args.number) c.in-Some.lots c.in-Some.ensures).0;
     }

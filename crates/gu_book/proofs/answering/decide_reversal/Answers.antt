@@ -1,6 +1,8 @@
-use Rattle.std.proofs.Common.{◌≡◌, ◌∙◌, ℕ, None, ap, arith, false, nat_lt, refl, sym}
+use Rattle.std.proofs.Common.{◌≡◌, ◌∙◌, ℕ, List, None, ap, arith, false, nat_lt, refl, subst, sym}
+use Rattle.gu_terms.specs.declared.limit_key.LimitKey.{LimitKey}
 use Rattle.gu_terms.specs.declared.reply.Done.TheVariants.{Reversed}
 use Rattle.gu_terms.specs.declared.reply.Reply.TheVariants.{Accepted}
+use Rattle.gu_limits.specs.Limits.{AreLimitsOf}
 use Rattle.gu_offers.specs.Rows.{left_in, today_in}
 use Rattle.gu_rules.specs.Answer.{offer_tests, refusal_in, reverse_tests}
 use Rattle.gu_rules.proofs.Passing.{standing_after, standing_none}
@@ -19,3 +21,16 @@ returns-clause-reply c =
     let none : refusal_in tests ≡ None = rw (shut, lots.1) refl in
     ap (λ (moved : ℕ). Accepted (Reversed moved)) lots.0
     ∙ sym (standing_after (offer_tests c.args.reference.now state c.args.firm n) tests (Reversed (today_in state.offers n)) c.in_ok-offer.ensures.passed ∙ standing_none tests (Reversed (today_in state.offers n)) none)
+
+pub returns-clause-deed : goal.returns-clause-deed
+returns-clause-deed c =
+    record {
+      firm = c.args.firm;
+      is = refl;
+      offer = c.in_ok-offer.offer;
+      seen = record { shown = c.in_ok-offer.ensures.offer; found = c.terms_given_up.ensures };
+      group_is = refl;
+      account_is = refl;
+      under = subst (λ (keys : List LimitKey). AreLimitsOf c.args.totals.now.limits c.in_ok-offer.offer.group keys c.limits_of.result) c.path_with-path.ensures.keys c.limits_of.ensures;
+      all = (lots_are (today_in c.args.totals.now.offers c.args.number) c.in-Some.lots c.in-Some.ensures).0;
+    }

@@ -1,10 +1,10 @@
-use Rattle.std.proofs.Common.{◌+◌, ◌≤◌, ◌∙◌, List, ap, subst, sym}
+use Rattle.std.proofs.Common.{◌≤◌, List, subst, sym}
 use Rattle.std.specs.Prelude.{All}
 use Rattle.std.specs.List.{IsDistinct}
 use Rattle.gu_terms.specs.LimitKeys.{key_eq}
 use Rattle.gu_terms.specs.declared.limit_key.LimitKey.{LimitKey}
-use Rattle.gu_limits.specs.Changes.{lots_under}
-use Rattle.gu_limits.specs.Limits.{GroupLimit, room_in, used_in}
+use Rattle.gu_limits.specs.Changes.{Charges}
+use Rattle.gu_limits.specs.Limits.{GroupLimit, room_in}
 use Rattle.gu_rules.proofs.AgreementPaths.{path_after-once}
 use Rattle.gu_book.specs.Effects.{UsesMore}
 use Rattle.gu_book.proofs.Moves.{moves-one, take-path, take-room, take-there}
@@ -33,10 +33,9 @@ returns c reference may =
     let take = c.args.take.now in
     let offer = c.in-Some.offer in
     let path = take-path reference totals c.args.view.now.offers take offer c.in-Some.report c.in-Some-offer.shown.now c.in-Some.ensures c.in-Some-offer.ensures may in
-    let uses : UsesMore reference totals.limits c.charge.new.self offer take.lots = record {
-      limits = c.charge.ensures.limits;
-      uses = λ at on. c.charge.ensures.uses at on ∙ ap (λ (path : List LimitKey). used_in totals.limits at on + lots_under offer.group path take.lots at on) path;
-    } in
+    let uses : UsesMore reference totals.limits c.charge.new.self offer take.lots =
+    subst (λ (path : List LimitKey). Charges totals.limits c.charge.new.self offer.group path take.lots) path
+    (record { rows = c.charge.ensures.rows; limits = c.charge.ensures.limits; uses = c.charge.ensures.uses }) in
     moves-one reference totals c.move_lots.new.self c.args.view.now.offers take offer c.in-Some.report c.in-Some.ensures may
     (record { today = e.entries.today; trades = e.entries.trades; give_ups = e.entries.give_ups }) e.offers
     (subst (λ (limits : List GroupLimit). UsesMore reference totals.limits limits offer take.lots) (sym e.limits) uses)

@@ -1,8 +1,11 @@
-use Rattle.std.proofs.Common.{refl, subst, sym}
+use Rattle.std.proofs.Common.{[], ◌∷◌, refl, subst, sym}
 use Rattle.std.specs.Result.{OnOk}
 use Rattle.std.proofs.lemmas.Result.{on_ok_weaker}
+use Rattle.gu_terms.specs.declared.account.AccountId.{AccountId}
 use Rattle.gu_offers.specs.Changes.{closed, reversed, taken}
+use Rattle.gu_rules.specs.Limits.{path_after}
 use Rattle.gu_book.specs.Accepted.{KeepsAccounts, MayDo, MayTakeIn, TakesDeed, TakesIn}
+use Rattle.gu_book.specs.Effects.{OnlyRowsOf}
 use Rattle.gu_book.specs.declared.deed.Deed.{Deed}
 use Rattle.gu_book.proofs.Accepting.{claim-fits, claim-taken, on_ok_three, on_ok_two, refusal-taken, reversal-fits, reversal-taken}
 use Rattle.gu_book.proofs.DeedLemmas.{made-fits, made-taken}
@@ -98,18 +101,15 @@ returns-in-GiveUp-clause-known c =
 
 -- ---- claims
 
-pub claim-requires-clause-limits : goal.claim-requires-clause-limits
-claim-requires-clause-limits c = let it = subst (MayDo c.requires.0 c.args.totals.now) c.in-Claim.is c.requires.1 in it.is.under
-
 pub claim-requires-clause-room : goal.claim-requires-clause-room
 claim-requires-clause-room c =
     let it = subst (MayDo c.requires.0 c.args.totals.now) c.in-Claim.is c.requires.1 in
-    (claim-fits c.requires.0 c.args.totals.now it.command c.in-Claim.claimed it.may it.is.moves).0
+    (path_after c.requires.0 it.is.offer, (claim-fits c.requires.0 c.args.totals.now it.command c.in-Claim.claimed it.may it.is).0)
 
 pub claim-requires-clause-there : goal.claim-requires-clause-there
 claim-requires-clause-there c =
     let it = subst (MayDo c.requires.0 c.args.totals.now) c.in-Claim.is c.requires.1 in
-    (claim-fits c.requires.0 c.args.totals.now it.command c.in-Claim.claimed it.may it.is.moves).1
+    (claim-fits c.requires.0 c.args.totals.now it.command c.in-Claim.claimed it.may it.is).1
 
 pub returns-in-Claim-clause-taken : goal.returns-in-Claim-clause-taken
 returns-in-Claim-clause-taken c =
@@ -117,7 +117,7 @@ returns-in-Claim-clause-taken c =
     let new = c.claim.new.self in
     let e = c.claim.ensures in
     subst (λ (deed : Deed). OnOk c.claim.result (TakesDeed old new deed)) (sym c.in-Claim.is)
-    (on_ok_three c.claim.result (λ offers limits positions reference command is. claim-taken reference old new command c.in-Claim.claimed is.moves e.entries offers limits positions) e.offers e.limits e.positions)
+    (on_ok_three c.claim.result (λ offers limits positions reference command is. claim-taken reference old new command c.in-Claim.claimed is e.entries offers limits positions) e.offers e.limits e.positions)
 
 pub returns-in-Claim-clause-known : goal.returns-in-Claim-clause-known
 returns-in-Claim-clause-known c =
@@ -126,8 +126,8 @@ returns-in-Claim-clause-known c =
     let e = c.claim.ensures in
     subst (KeepsAccounts old c.claim.new.self) (sym c.in-Claim.is)
     (λ reference may.
-    known-moved reference old c.claim.new.self c.claim.result claimed.number (taken claimed.lots) claimed.offer claimed.report may.is.moves.seen (λ row. refl)
-    e.entries.trades e.offers e.refused e.rows e.even)
+    known-moved reference old c.claim.new.self c.claim.result claimed.number (taken claimed.lots) may.is.offer claimed.report may.is.seen (λ row. refl)
+    e.entries.trades e.offers e.refused (subst (λ (account : AccountId). OnlyRowsOf old.positions c.claim.new.self.positions (claimed.report.account ∷ account ∷ [])) may.is.account_is e.rows) e.even)
 
 -- ---- refusals
 
@@ -150,7 +150,7 @@ returns-in-Refuse-clause-known c reference may =
 pub reverse-requires-clause-used : goal.reverse-requires-clause-used
 reverse-requires-clause-used c =
     let it = subst (MayDo c.requires.0 c.args.totals.now) c.in-Reverse.is c.requires.1 in
-    (reversal-fits c.requires.0 c.args.totals.now it.command c.in-Reverse.reversed it.may it.is).0
+    (path_after c.requires.0 it.is.offer, (reversal-fits c.requires.0 c.args.totals.now it.command c.in-Reverse.reversed it.may it.is).0)
 
 pub reverse-requires-clause-there : goal.reverse-requires-clause-there
 reverse-requires-clause-there c =
@@ -172,5 +172,5 @@ returns-in-Reverse-clause-known c =
     let e = c.reverse.ensures in
     subst (KeepsAccounts old c.reverse.new.self) (sym c.in-Reverse.is)
     (λ reference may.
-    known-moved reference old c.reverse.new.self c.reverse.result returned.number reversed returned.offer returned.report may.is.seen (λ row. refl)
-    e.entries.trades e.offers e.refused e.rows e.even)
+    known-moved reference old c.reverse.new.self c.reverse.result returned.number reversed may.is.offer returned.report may.is.seen (λ row. refl)
+    e.entries.trades e.offers e.refused (subst (λ (account : AccountId). OnlyRowsOf old.positions c.reverse.new.self.positions (returned.report.account ∷ account ∷ [])) may.is.account_is e.rows) e.even)
