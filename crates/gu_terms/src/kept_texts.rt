@@ -1,10 +1,8 @@
 //! The texts of an entry, its ids and names, as they stand among those of all entries.
 
 ghost use Rattle.std.specs.Prelude.{◌≡◌, ◌+◌, ◌++◌, ◌≤◌, length, OnOk, OnErr};
-ghost use Rattle.gu_terms.specs.PackedEntries.{group_in, joined, no_texts, size_of, span_of, texts_at, texts_of, AreShort, HasGroup, HasTexts};
+ghost use Rattle.gu_terms.specs.PackedEntries.{joined, no_texts, size_of, span_of, text_at, texts_at};
 
-use crate::command::Command;
-use crate::reply::{Done, Reply};
 use std::alloc::AllocError;
 use std::marker::Model;
 
@@ -16,16 +14,21 @@ pub(crate) struct Span {
     second: u8,
     third: u8,
     fourth: u8,
+    fifth: u8,
+    reply: u8,
 }
 
-/// The texts of an entry: of a report its two ids, its symbol and its account, of a give-up its two ids, and as the third of any
-/// other the group of its reply. What there isn't has no bytes. To a contract it is the texts.
+/// The texts of an entry. Of a report: its two ids, its symbol, its account and its firm; of a give-up its two ids, the account of
+/// its one line and its firm; of a limit its group and the name of its key; of any other command but a day its firm. The last is
+/// the name in the reply. What there isn't has no bytes. To a contract it is the texts.
 #[derive(Drop)]
 pub(crate) struct Texts<'a> {
-    first: &'a [u8],
-    second: &'a [u8],
-    third: &'a [u8],
-    fourth: &'a [u8],
+    pub(crate) first: &'a [u8],
+    pub(crate) second: &'a [u8],
+    pub(crate) third: &'a [u8],
+    pub(crate) fourth: &'a [u8],
+    pub(crate) fifth: &'a [u8],
+    pub(crate) reply: &'a [u8],
 }
 
 impl<'a> Model for Texts<'a> {
@@ -33,9 +36,23 @@ impl<'a> Model for Texts<'a> {
 
     ghost Value = { TextsOf };
 
-    ghost view = { λ t. record { first = t.first.now; second = t.second.now; third = t.third.now; fourth = t.fourth.now } };
+    ghost view = { λ t. record {
+      first = t.first.now;
+      second = t.second.now;
+      third = t.third.now;
+      fourth = t.fourth.now;
+      fifth = t.fifth.now;
+      reply = t.reply.now;
+    } };
 
-    ghost invariant = { λ t. AreShort (record { first = t.first.now; second = t.second.now; third = t.third.now; fourth = t.fourth.now }) };
+    ghost invariant = { λ t. AreShort (record {
+      first = t.first.now;
+      second = t.second.now;
+      third = t.third.now;
+      fourth = t.fourth.now;
+      fifth = t.fifth.now;
+      reply = t.reply.now;
+    }) };
 }
 
 impl Span {
@@ -48,6 +65,8 @@ impl Span {
             + usize::from(self.second)
             + usize::from(self.third)
             + usize::from(self.fourth)
+            + usize::from(self.fifth)
+            + usize::from(self.reply)
     }
 
     /// The texts that stand there.
@@ -58,64 +77,28 @@ impl Span {
         let second = self.at as usize + usize::from(self.first);
         let third = second + usize::from(self.second);
         let fourth = third + usize::from(self.third);
+        let fifth = fourth + usize::from(self.fourth);
+        let reply = fifth + usize::from(self.fifth);
         Texts {
-            first: &all[self.at as usize..second],
-            second: &all[second..third],
-            third: &all[third..fourth],
-            fourth: &all[fourth..fourth + usize::from(self.fourth)],
+            first: text_at(all, self.at as usize, self.first),
+            second: text_at(all, second, self.second),
+            third: text_at(all, third, self.third),
+            fourth: text_at(all, fourth, self.fourth),
+            fifth: text_at(all, fifth, self.fifth),
+            reply: text_at(all, reply, self.reply),
         }
     }
 }
 
-/// The name of the group in a reply.
-fn group_in(reply: &Reply) -> &[u8]
-    ensures group { result.now ≡ group_in reply.now }
-    ensures short { length result.now ≤ 12 }
-    ensures sound { HasGroup reply.now }
+/// So many bytes of all texts from a place on.
+fn text_at(all: &[u8], at: usize, len: u8) -> &[u8]
+    requires { at + len ≤ length all.now }
+    ensures { result.now ≡ text_at all.now at len }
 {
-    match reply {
-        Reply::Accepted(Done::Offered { group, .. }) => group.get(),
-        _ => &[],
-    }
+    &all[at..at + usize::from(len)]
 }
 
 impl<'a> Texts<'a> {
-    /// The texts of a command with its reply.
-    pub(crate) fn of(command: &'a Command, reply: &'a Reply) -> Self
-        ensures texts { result ≡ texts_of command.now reply.now }
-        ensures short { AreShort result }
-        ensures sound { HasTexts command.now }
-        ensures group { HasGroup reply.now }
-    {
-        let group = group_in(reply);
-        match command {
-            Command::ReportSide {
-                id,
-                match_id,
-                symbol,
-                account,
-                ..
-            } => Texts {
-                first: id.get(),
-                second: match_id.get(),
-                third: symbol.get(),
-                fourth: account.get(),
-            },
-            Command::GiveUp { id, report, .. } => Texts {
-                first: id.get(),
-                second: report.get(),
-                third: group,
-                fourth: &[],
-            },
-            _ => Texts {
-                first: &[],
-                second: &[],
-                third: group,
-                fourth: &[],
-            },
-        }
-    }
-
     /// No texts.
     pub(crate) fn none() -> Self
         ensures { result ≡ no_texts }
@@ -125,35 +108,9 @@ impl<'a> Texts<'a> {
             second: &[],
             third: &[],
             fourth: &[],
+            fifth: &[],
+            reply: &[],
         }
-    }
-
-    /// The first one.
-    pub(crate) fn first(&self) -> &[u8]
-        ensures { result.now ≡ self.now.first }
-    {
-        self.first
-    }
-
-    /// The second one.
-    pub(crate) fn second(&self) -> &[u8]
-        ensures { result.now ≡ self.now.second }
-    {
-        self.second
-    }
-
-    /// The third one.
-    pub(crate) fn third(&self) -> &[u8]
-        ensures { result.now ≡ self.now.third }
-    {
-        self.third
-    }
-
-    /// The fourth one.
-    pub(crate) fn fourth(&self) -> &[u8]
-        ensures { result.now ≡ self.now.fourth }
-    {
-        self.fourth
     }
 
     /// Where they stand, from a place on.
@@ -166,6 +123,8 @@ impl<'a> Texts<'a> {
             second: self.second.len() as u8,
             third: self.third.len() as u8,
             fourth: self.fourth.len() as u8,
+            fifth: self.fifth.len() as u8,
+            reply: self.reply.len() as u8,
         }
     }
 
@@ -173,7 +132,12 @@ impl<'a> Texts<'a> {
     fn len(&self) -> usize
         ensures { result ≡ length (joined self.now) }
     {
-        self.first.len() + self.second.len() + self.third.len() + self.fourth.len()
+        self.first.len()
+            + self.second.len()
+            + self.third.len()
+            + self.fourth.len()
+            + self.fifth.len()
+            + self.reply.len()
     }
 
     #[tactic(auto, using(crate::proofs::PackedLemmas::none_joined))]
@@ -191,6 +155,8 @@ impl<'a> Texts<'a> {
         let _ = all.extend_from_slice(self.second);
         let _ = all.extend_from_slice(self.third);
         let _ = all.extend_from_slice(self.fourth);
+        let _ = all.extend_from_slice(self.fifth);
+        let _ = all.extend_from_slice(self.reply);
         Ok(())
     }
 }

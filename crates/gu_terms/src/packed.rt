@@ -1,7 +1,7 @@
 //! Entries as a history keeps them: without the room that ids and names leave empty.
 
-ghost use Rattle.std.specs.Prelude.{◌≡◌, ◌≤◌, IfOk, IsTrue};
-ghost use Rattle.gu_terms.specs.PackedEntries.{end_of, entry_of, report_by, HaveRoom, IsBodyOf, IsWithin};
+ghost use Rattle.std.specs.Prelude.{◌≡◌, ◌≤◌, length, IfOk};
+ghost use Rattle.gu_terms.specs.PackedEntries.{end_of, entry_of, firm_by, limit_by, line_by, report_by, IsCommandOf, IsWithin};
 ghost use Rattle.gu_terms.specs.Names.{IsId, IsName};
 
 use crate::account::AccountId;
@@ -15,66 +15,37 @@ use crate::id::Id;
 use crate::kept_reply::KeptReply;
 use crate::kept_sweep::KeptSweep;
 use crate::kept_texts::{Span, Texts};
-use crate::limit_key::LimitKey;
+use crate::limit_key::KeyKind;
 use crate::lines::{Line, Lines};
 use crate::lots::Lots;
 use crate::name::Name;
 use crate::offer_no::OfferNo;
 use crate::price::Price;
-use crate::reply::{Done, Reply};
 use crate::side::Side;
 use crate::symbol::Symbol;
 use std::alloc::{AllocError, Global};
 
-/// The bytes of texts that are kept at most, or a few more. Entries that come then are kept whole.
-const MOST_TEXTS: usize = 4_000_000_000;
-
-/// What is kept of a report beside its texts. The fields stand from small to large, so that they take little room.
+/// What is kept of a report beside its texts and its price.
 #[derive(Clone, Copy)]
 pub(crate) struct KeptReport {
-    firm: FirmId,
     side: Side,
     day: Option<Day>,
     lots: Lots,
-    price: Price,
 }
 
-/// What is kept of an entry beside its texts and its reply.
+/// What is kept of an entry beside its texts and its reply. The fields stand from small to large, so that they take little room.
 #[derive(Drop)]
 pub(crate) enum Body {
-    OpenDay {
-        day: Day,
-    },
-    SetLimit {
-        group: Group,
-        key: LimitKey,
-        lots: u64,
-    },
-    /// A report. Its texts are its ids, its symbol and its account.
-    ReportSide(KeptReport),
-    /// A give-up of one line, as most are. Its texts are its own id and that of the report.
-    GiveUpOne {
-        firm: FirmId,
-        line: Line,
-    },
-    /// A give-up of more lines, with the same texts.
-    GiveUp {
-        firm: FirmId,
-        lines: Lines,
-    },
-    Claim {
-        firm: FirmId,
-        offer: OfferNo,
-    },
-    Refuse {
-        firm: FirmId,
-        why: AllocReject,
-        offer: OfferNo,
-    },
-    Reverse {
-        firm: FirmId,
-        offer: OfferNo,
-    },
+    OpenDay { day: Day },
+    SetLimit { kind: KeyKind, lots: u64 },
+    ReportSide { report: KeptReport, price: Price },
+    /// A give-up of one line, as most are.
+    GiveUpOne { lots: Lots },
+    /// A give-up of more lines.
+    GiveUp(Box<Lines>),
+    Claim { offer: OfferNo },
+    Refuse { why: AllocReject, offer: OfferNo },
+    Reverse { offer: OfferNo },
     /// A sweep, which has no reply.
     Swept(Box<KeptSweep>),
     /// A command with its reply, as it is.
@@ -91,38 +62,76 @@ pub(crate) struct Packed {
 
 impl KeptReport {
     /// The report that is kept so, with its texts.
-    pub(crate) fn command(self, texts: &Texts<'_>) -> Command
+    pub(crate) fn command(self, texts: &Texts<'_>, price: Price) -> Command
         requires ids { IsId texts.now.first × IsId texts.now.second }
-        requires names { IsName texts.now.third × IsName texts.now.fourth }
-        ensures { result ≡ report_by texts.now self }
+        requires names { IsName texts.now.third × IsName texts.now.fourth × IsName texts.now.fifth }
+        ensures { result ≡ report_by texts.now self price }
     {
         Command::ReportSide {
-            firm: self.firm,
-            id: Id::known(texts.first()),
-            match_id: Id::known(texts.second()),
+            firm: firm(texts),
+            id: Id::known(texts.first),
+            match_id: Id::known(texts.second),
             symbol: Symbol {
-                name: Name::known(texts.third()),
+                name: Name::known(texts.third),
             },
             lots: self.lots,
-            price: self.price,
+            price,
             day: self.day,
             side: self.side,
             account: AccountId {
-                name: Name::known(texts.fourth()),
+                name: Name::known(texts.fourth),
             },
         }
     }
 }
 
+/// The firm among texts.
+pub(crate) fn firm(texts: &Texts<'_>) -> FirmId
+    requires { IsName texts.now.fifth }
+    ensures { result ≡ firm_by texts.now }
+{
+    FirmId {
+        name: Name::known(texts.fifth),
+    }
+}
+
+/// A limit, with its texts.
+pub(crate) fn limit(texts: &Texts<'_>, kind: KeyKind, lots: u64) -> Command
+    requires { IsName texts.now.third × IsName texts.now.fourth }
+    ensures { result ≡ limit_by texts.now kind lots }
+{
+    Command::SetLimit {
+        group: Group {
+            name: Name::known(texts.third),
+        },
+        key: kind.key(Name::known(texts.fourth)),
+        lots,
+    }
+}
+
+/// A line of these lots, with its account among texts.
+pub(crate) fn line(texts: &Texts<'_>, lots: Lots) -> Line
+    requires { IsName texts.now.fourth }
+    ensures { result ≡ line_by texts.now lots }
+{
+    Line {
+        account: AccountId {
+            name: Name::known(texts.fourth),
+        },
+        lots,
+    }
+}
+
 /// A give-up of these lines, with its texts.
-fn give_up(firm: FirmId, texts: &Texts<'_>, lines: Lines) -> Command
-    requires { IsId texts.now.first × IsId texts.now.second }
-    ensures { result ≡ Command.GiveUp firm texts.now.first texts.now.second lines }
+fn give_up(texts: &Texts<'_>, lines: Lines) -> Command
+    requires ids { IsId texts.now.first × IsId texts.now.second }
+    requires firm { IsName texts.now.fifth }
+    ensures { result ≡ Command.GiveUp (firm_by texts.now) texts.now.first texts.now.second lines }
 {
     Command::GiveUp {
-        firm,
-        id: Id::known(texts.first()),
-        report: Id::known(texts.second()),
+        firm: firm(texts),
+        id: Id::known(texts.first),
+        report: Id::known(texts.second),
         lines,
     }
 }
@@ -141,28 +150,24 @@ impl Packed {
         ensures { IfOk result (λ entry. entry ≡ entry_of all.now self.now) }
     {
         let texts = self.span.texts(all);
-        let reply = self.reply.reply(texts.third());
+        let reply = self.reply.reply(texts.reply);
         let command = match &self.body {
             Body::OpenDay { day } => Command::OpenDay { day: *day },
-            Body::SetLimit { group, key, lots } => Command::SetLimit {
-                group: *group,
-                key: *key,
-                lots: *lots,
-            },
-            Body::ReportSide(report) => report.command(&texts),
-            Body::GiveUpOne { firm, line } => give_up(*firm, &texts, Lines::one(alloc, *line)?),
-            Body::GiveUp { firm, lines } => give_up(*firm, &texts, lines.copy()?),
-            Body::Claim { firm, offer } => Command::Claim {
-                firm: *firm,
+            Body::SetLimit { kind, lots } => limit(&texts, *kind, *lots),
+            Body::ReportSide { report, price } => report.command(&texts, *price),
+            Body::GiveUpOne { lots } => give_up(&texts, Lines::one(alloc, line(&texts, *lots))?),
+            Body::GiveUp(lines) => give_up(&texts, lines.copy()?),
+            Body::Claim { offer } => Command::Claim {
+                firm: firm(&texts),
                 offer: *offer,
             },
-            Body::Refuse { firm, why, offer } => Command::Refuse {
-                firm: *firm,
+            Body::Refuse { why, offer } => Command::Refuse {
+                firm: firm(&texts),
                 offer: *offer,
                 why: *why,
             },
-            Body::Reverse { firm, offer } => Command::Reverse {
-                firm: *firm,
+            Body::Reverse { offer } => Command::Reverse {
+                firm: firm(&texts),
                 offer: *offer,
             },
             Body::Swept(sweep) => return Ok(Entry::Swept(sweep.entry(alloc)?)),
@@ -172,68 +177,130 @@ impl Packed {
     }
 }
 
-/// Whether there is room for the texts of a command after so many bytes, and for those of its reply among them.
-pub(crate) fn have_room(bytes: usize, command: &Command, reply: &Reply) -> bool
-    ensures bytes { IsTrue result → bytes ≤ 4000000000 }
-    ensures room { IsTrue result → HaveRoom command.now reply.now }
+/// A give-up of these lines by parts, with the texts that it has beside theirs.
+fn give_up_parts<'a>(
+    alloc: Global,
+    texts: Texts<'a>,
+    lines: &'a Lines,
+) -> Result<(Texts<'a>, Body), AllocError>
+    requires ids { IsId texts.first × IsId texts.second }
+    requires firm { IsName texts.fifth }
+    ensures { IfOk result (λ parts. IsCommandOf parts.0 parts.1
+        (Command.GiveUp (firm_by texts.entry) texts.entry.first texts.entry.second lines.now) texts.entry.reply) }
 {
-    match command {
-        Command::ReportSide { .. } => {
-            bytes <= MOST_TEXTS && !matches!(reply, Reply::Accepted(Done::Offered { .. }))
-        }
-        _ => bytes <= MOST_TEXTS,
+    match lines.as_slice() {
+        [line] => Ok((
+            Texts {
+                fourth: line.account.get(),
+                ..texts
+            },
+            Body::GiveUpOne { lots: line.lots },
+        )),
+        _ => Ok((texts, Body::GiveUp(Box::new(alloc, lines.copy()?)?))),
     }
 }
 
 impl Body {
-    /// What is kept of a command beside its texts.
-    pub(crate) fn of(command: &Command) -> Result<Body, AllocError>
-        ensures { IfOk result (IsBodyOf command.now) }
+    /// A command by parts: its texts, with the name in its reply, and what is kept beside them.
+    pub(crate) fn of<'a>(
+        alloc: Global,
+        command: &'a Command,
+        name: &'a [u8],
+    ) -> Result<(Texts<'a>, Body), AllocError>
+        requires { length name.now ≤ 12 }
+        ensures { IfOk result (λ parts. IsCommandOf parts.0 parts.1 command.now name.now) }
     {
+        let texts = Texts {
+            reply: name,
+            ..Texts::none()
+        };
         Ok(match command {
-            Command::OpenDay { day } => Body::OpenDay { day: *day },
-            Command::SetLimit { group, key, lots } => Body::SetLimit {
-                group: *group,
-                key: *key,
-                lots: *lots,
-            },
+            Command::OpenDay { day } => (texts, Body::OpenDay { day: *day }),
+            Command::SetLimit { group, key, lots } => {
+                let kind = KeyKind::of(*key);
+                let third = group.get();
+                let fourth = key.name();
+                (
+                    Texts {
+                        third,
+                        fourth,
+                        ..texts
+                    },
+                    Body::SetLimit { kind, lots: *lots },
+                )
+            }
             Command::ReportSide {
                 firm,
+                id,
+                match_id,
+                symbol,
                 lots,
                 price,
                 day,
                 side,
-                ..
-            } => Body::ReportSide(KeptReport {
-                firm: *firm,
-                side: *side,
-                day: *day,
-                lots: *lots,
-                price: *price,
-            }),
-            Command::GiveUp { firm, lines, .. } => match lines.as_slice() {
-                [line] => Body::GiveUpOne {
-                    firm: *firm,
-                    line: *line,
+                account,
+            } => (
+                Texts {
+                    first: id.get(),
+                    second: match_id.get(),
+                    third: symbol.get(),
+                    fourth: account.get(),
+                    fifth: firm.get(),
+                    reply: name,
                 },
-                _ => Body::GiveUp {
-                    firm: *firm,
-                    lines: lines.copy()?,
+                Body::ReportSide {
+                    report: KeptReport {
+                        side: *side,
+                        day: *day,
+                        lots: *lots,
+                    },
+                    price: *price,
                 },
-            },
-            Command::Claim { firm, offer } => Body::Claim {
-                firm: *firm,
-                offer: *offer,
-            },
-            Command::Refuse { firm, offer, why } => Body::Refuse {
-                firm: *firm,
-                why: *why,
-                offer: *offer,
-            },
-            Command::Reverse { firm, offer } => Body::Reverse {
-                firm: *firm,
-                offer: *offer,
-            },
+            ),
+            Command::GiveUp {
+                firm,
+                id,
+                report,
+                lines,
+            } => {
+                let texts = Texts {
+                    first: id.get(),
+                    second: report.get(),
+                    fifth: firm.get(),
+                    ..texts
+                };
+                return give_up_parts(alloc, texts, lines);
+            }
+            Command::Claim { firm, offer } => {
+                (
+                    Texts {
+                        fifth: firm.get(),
+                        ..texts
+                    },
+                    Body::Claim { offer: *offer },
+                )
+            }
+            Command::Refuse { firm, offer, why } => {
+                (
+                    Texts {
+                        fifth: firm.get(),
+                        ..texts
+                    },
+                    Body::Refuse {
+                        why: *why,
+                        offer: *offer,
+                    },
+                )
+            }
+            Command::Reverse { firm, offer } => {
+                (
+                    Texts {
+                        fifth: firm.get(),
+                        ..texts
+                    },
+                    Body::Reverse { offer: *offer },
+                )
+            }
         })
     }
 }
