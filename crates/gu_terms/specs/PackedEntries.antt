@@ -12,8 +12,6 @@ use Rattle.gu_terms.specs.declared.firm.FirmId.{FirmId}
 use Rattle.gu_terms.specs.declared.kept_reply.KeptReply.{KeptReply}
 use Rattle.gu_terms.specs.declared.kept_reply.KeptReply.TheVariants as kept
 use Rattle.gu_terms.specs.declared.kept_texts.Span.{Span}
-use Rattle.gu_terms.specs.declared.limit_key.KeyKind.{KeyKind}
-use Rattle.gu_terms.specs.declared.lines.Line.{Line}
 use Rattle.gu_terms.specs.declared.packed.Body.{Body}
 use Rattle.gu_terms.specs.declared.packed.Body.TheVariants as body
 use Rattle.gu_terms.specs.declared.packed.KeptReport.{KeptReport}
@@ -101,25 +99,18 @@ reply_by name (kept.LimitReached kind) = Denied (LimitReached (key_by kind name)
 abbrev pub firm_by : Texts → FirmId
 firm_by t = record { name = t.fifth }
 
--- the limit of these texts
-abbrev pub limit_by : Texts → KeyKind → ℕ → Command
-limit_by t kind lots = command.SetLimit (record { name = t.third }) (key_by kind t.fourth) lots
-
 -- the report of these texts
 abbrev pub report_by : Texts → KeptReport → ℤ → Command
 report_by t r price =
     command.ReportSide (firm_by t) t.first t.second (record { name = t.third }) r.lots price r.day r.side (record { name = t.fourth })
 
--- the line of these texts
-abbrev pub line_by : Texts → ℕ → Line
-line_by t lots = record { account = record { name = t.fourth }; lots = lots }
-
 -- the entry of these texts and this body, with its reply
 abbrev pub entry_by : Texts → Body → Reply → Entry
 entry_by t (body.OpenDay day) reply = Asked (command.OpenDay day) reply
-entry_by t (body.SetLimit kind lots) reply = Asked (limit_by t kind lots) reply
+entry_by t (body.SetLimit kind lots) reply = Asked (command.SetLimit (record { name = t.third }) (key_by kind t.fourth) lots) reply
 entry_by t (body.ReportSide report price) reply = Asked (report_by t report price) reply
-entry_by t (body.GiveUpOne lots) reply = Asked (command.GiveUp (firm_by t) t.first t.second (line_by t lots ∷ [])) reply
+entry_by t (body.GiveUpOne lots) reply =
+    Asked (command.GiveUp (firm_by t) t.first t.second (record { account = record { name = t.fourth }; lots = lots } ∷ [])) reply
 entry_by t (body.GiveUp lines) reply = Asked (command.GiveUp (firm_by t) t.first t.second lines.value) reply
 entry_by t (body.Claim offer) reply = Asked (command.Claim (firm_by t) offer) reply
 entry_by t (body.Refuse why offer) reply = Asked (command.Refuse (firm_by t) offer why) reply

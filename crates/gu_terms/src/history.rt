@@ -179,7 +179,7 @@ impl History {
         ensures added { OnOk result (self.new ≡ self.old ++ entry_by no_texts body (Reply.Accepted Done.Opened) ∷ []) }
         ensures refused { OnErr result (self.new ≡ self.old) }
     {
-        let texts = Texts::none();
+        let texts = Texts::of_reply(&[]);
         let entry = Packed {
             span: texts.span(self.texts.len() as u32),
             reply: KeptReply::Opened,

@@ -1,8 +1,10 @@
 //! The texts of an entry, its ids and names, as they stand among those of all entries.
 
 ghost use Rattle.std.specs.Prelude.{◌≡◌, ◌+◌, ◌++◌, ◌≤◌, length, OnOk, OnErr};
+ghost use Rattle.gu_terms.specs.Names.{IsName};
 ghost use Rattle.gu_terms.specs.PackedEntries.{joined, no_texts, size_of, span_of, text_at, texts_at};
 
+use crate::firm::FirmId;
 use std::alloc::AllocError;
 use std::marker::Model;
 
@@ -99,9 +101,10 @@ fn text_at(all: &[u8], at: usize, len: u8) -> &[u8]
 }
 
 impl<'a> Texts<'a> {
-    /// No texts.
-    pub(crate) fn none() -> Self
-        ensures { result ≡ no_texts }
+    /// The texts of an entry that has no text but the name in its reply.
+    pub(crate) fn of_reply(name: &'a [u8]) -> Self
+        requires { length name.now ≤ 12 }
+        ensures { result ≡ record no_texts { reply = name.now } }
     {
         Texts {
             first: &[],
@@ -109,8 +112,17 @@ impl<'a> Texts<'a> {
             third: &[],
             fourth: &[],
             fifth: &[],
-            reply: &[],
+            reply: name,
         }
+    }
+
+    /// These texts, and a firm's name.
+    pub(crate) fn by(self, firm: &'a FirmId) -> Self
+        ensures texts { result ≡ record self.entry { fifth = firm.now.name } }
+        ensures sound { IsName firm.now.name }
+    {
+        let fifth = firm.get();
+        Texts { fifth, ..self }
     }
 
     /// Where they stand, from a place on.

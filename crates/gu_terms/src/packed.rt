@@ -1,7 +1,8 @@
 //! Entries as a history keeps them: without the room that ids and names leave empty.
 
-ghost use Rattle.std.specs.Prelude.{◌≡◌, ◌≤◌, length, IfOk};
-ghost use Rattle.gu_terms.specs.PackedEntries.{end_of, entry_of, firm_by, limit_by, line_by, report_by, IsCommandOf, IsWithin};
+ghost use Rattle.std.specs.Prelude.{◌≡◌, IfOk};
+ghost use Rattle.gu_terms.specs.PackedEntries.{end_of, entry_of, firm_by, report_by, IsWithin};
+ghost use Rattle.gu_terms.specs.LimitKeys.{key_by};
 ghost use Rattle.gu_terms.specs.Names.{IsId, IsName};
 
 use crate::account::AccountId;
@@ -28,9 +29,9 @@ use std::alloc::{AllocError, Global};
 /// What is kept of a report beside its texts and its price.
 #[derive(Clone, Copy)]
 pub(crate) struct KeptReport {
-    side: Side,
-    day: Option<Day>,
-    lots: Lots,
+    pub(crate) side: Side,
+    pub(crate) day: Option<Day>,
+    pub(crate) lots: Lots,
 }
 
 /// What is kept of an entry beside its texts and its reply. The fields stand from small to large, so that they take little room.
@@ -98,7 +99,7 @@ pub(crate) fn firm(texts: &Texts<'_>) -> FirmId
 /// A limit, with its texts.
 pub(crate) fn limit(texts: &Texts<'_>, kind: KeyKind, lots: u64) -> Command
     requires { IsName texts.now.third × IsName texts.now.fourth }
-    ensures { result ≡ limit_by texts.now kind lots }
+    ensures { result ≡ Command.SetLimit (record { name = texts.now.third }) (key_by kind texts.now.fourth) lots }
 {
     Command::SetLimit {
         group: Group {
@@ -112,7 +113,7 @@ pub(crate) fn limit(texts: &Texts<'_>, kind: KeyKind, lots: u64) -> Command
 /// A line of these lots, with its account among texts.
 pub(crate) fn line(texts: &Texts<'_>, lots: Lots) -> Line
     requires { IsName texts.now.fourth }
-    ensures { result ≡ line_by texts.now lots }
+    ensures { result ≡ record { account = record { name = texts.now.fourth }; lots = lots } }
 {
     Line {
         account: AccountId {
@@ -174,133 +175,5 @@ impl Packed {
             Body::Whole(entry) => return entry.copy(),
         };
         Ok(Entry::Asked { command, reply })
-    }
-}
-
-/// A give-up of these lines by parts, with the texts that it has beside theirs.
-fn give_up_parts<'a>(
-    alloc: Global,
-    texts: Texts<'a>,
-    lines: &'a Lines,
-) -> Result<(Texts<'a>, Body), AllocError>
-    requires ids { IsId texts.first × IsId texts.second }
-    requires firm { IsName texts.fifth }
-    ensures { IfOk result (λ parts. IsCommandOf parts.0 parts.1
-        (Command.GiveUp (firm_by texts.entry) texts.entry.first texts.entry.second lines.now) texts.entry.reply) }
-{
-    match lines.as_slice() {
-        [line] => Ok((
-            Texts {
-                fourth: line.account.get(),
-                ..texts
-            },
-            Body::GiveUpOne { lots: line.lots },
-        )),
-        _ => Ok((texts, Body::GiveUp(Box::new(alloc, lines.copy()?)?))),
-    }
-}
-
-impl Body {
-    /// A command by parts: its texts, with the name in its reply, and what is kept beside them.
-    pub(crate) fn of<'a>(
-        alloc: Global,
-        command: &'a Command,
-        name: &'a [u8],
-    ) -> Result<(Texts<'a>, Body), AllocError>
-        requires { length name.now ≤ 12 }
-        ensures { IfOk result (λ parts. IsCommandOf parts.0 parts.1 command.now name.now) }
-    {
-        let texts = Texts {
-            reply: name,
-            ..Texts::none()
-        };
-        Ok(match command {
-            Command::OpenDay { day } => (texts, Body::OpenDay { day: *day }),
-            Command::SetLimit { group, key, lots } => {
-                let kind = KeyKind::of(*key);
-                let third = group.get();
-                let fourth = key.name();
-                (
-                    Texts {
-                        third,
-                        fourth,
-                        ..texts
-                    },
-                    Body::SetLimit { kind, lots: *lots },
-                )
-            }
-            Command::ReportSide {
-                firm,
-                id,
-                match_id,
-                symbol,
-                lots,
-                price,
-                day,
-                side,
-                account,
-            } => (
-                Texts {
-                    first: id.get(),
-                    second: match_id.get(),
-                    third: symbol.get(),
-                    fourth: account.get(),
-                    fifth: firm.get(),
-                    reply: name,
-                },
-                Body::ReportSide {
-                    report: KeptReport {
-                        side: *side,
-                        day: *day,
-                        lots: *lots,
-                    },
-                    price: *price,
-                },
-            ),
-            Command::GiveUp {
-                firm,
-                id,
-                report,
-                lines,
-            } => {
-                let texts = Texts {
-                    first: id.get(),
-                    second: report.get(),
-                    fifth: firm.get(),
-                    ..texts
-                };
-                return give_up_parts(alloc, texts, lines);
-            }
-            Command::Claim { firm, offer } => {
-                (
-                    Texts {
-                        fifth: firm.get(),
-                        ..texts
-                    },
-                    Body::Claim { offer: *offer },
-                )
-            }
-            Command::Refuse { firm, offer, why } => {
-                (
-                    Texts {
-                        fifth: firm.get(),
-                        ..texts
-                    },
-                    Body::Refuse {
-                        why: *why,
-                        offer: *offer,
-                    },
-                )
-            }
-            Command::Reverse { firm, offer } => {
-                (
-                    Texts {
-                        fifth: firm.get(),
-                        ..texts
-                    },
-                    Body::Reverse { offer: *offer },
-                )
-            }
-        })
     }
 }

@@ -33,36 +33,45 @@ fn is_give_up(command: &Command, texts: &Texts<'_>, lines: &[Line]) -> bool
 
 impl Packed {
     /// Whether what is kept so, with these texts, is this command with this reply.
-    fn is_asked(&self, texts: &Texts<'_>, command: &Command, reply: Reply) -> bool
+    fn is_asked(&self, texts: &Texts<'_>, command: &Command, reply: &Reply) -> bool
         requires { AreSound texts.now self.now }
-        ensures { IsTrue result ↔ (entry_with texts.now self.now ≡ Entry.Asked command.now reply) }
+        ensures { IsTrue result ↔ (entry_with texts.now self.now ≡ Entry.Asked command.now reply.now) }
     {
-        let is_command = match &self.body {
-            Body::OpenDay { day } => Command::OpenDay { day: *day }.is_same(command),
-            Body::SetLimit { kind, lots } => limit(texts, *kind, *lots).is_same(command),
-            Body::ReportSide { report, price } => report.command(texts, *price).is_same(command),
-            Body::GiveUpOne { lots } => is_give_up(command, texts, &[line(texts, *lots)]),
-            Body::GiveUp(lines) => is_give_up(command, texts, lines.as_slice()),
-            Body::Claim { offer } => Command::Claim {
-                firm: firm(texts),
-                offer: *offer,
+        let is_reply = self.reply.reply(texts.reply).is_same(*reply);
+        match &self.body {
+            Body::OpenDay { day } => Command::OpenDay { day: *day }.is_same(command) && is_reply,
+            Body::SetLimit { kind, lots } => limit(texts, *kind, *lots).is_same(command)
+                && is_reply,
+            Body::ReportSide { report, price } => report.command(texts, *price).is_same(command)
+                && is_reply,
+            Body::GiveUpOne { lots } => is_give_up(command, texts, &[line(texts, *lots)])
+                && is_reply,
+            Body::GiveUp(lines) => is_give_up(command, texts, lines.as_slice()) && is_reply,
+            Body::Claim { offer } => {
+                let own = Command::Claim {
+                    firm: firm(texts),
+                    offer: *offer,
+                };
+                own.is_same(command) && is_reply
             }
-            .is_same(command),
-            Body::Refuse { why, offer } => Command::Refuse {
-                firm: firm(texts),
-                offer: *offer,
-                why: *why,
+            Body::Refuse { why, offer } => {
+                let own = Command::Refuse {
+                    firm: firm(texts),
+                    offer: *offer,
+                    why: *why,
+                };
+                own.is_same(command) && is_reply
             }
-            .is_same(command),
-            Body::Reverse { offer } => Command::Reverse {
-                firm: firm(texts),
-                offer: *offer,
+            Body::Reverse { offer } => {
+                let own = Command::Reverse {
+                    firm: firm(texts),
+                    offer: *offer,
+                };
+                own.is_same(command) && is_reply
             }
-            .is_same(command),
             Body::Swept(_) => false,
-            Body::Whole(entry) => return entry.is_asked(command, reply),
-        };
-        is_command && self.reply.reply(texts.reply).is_same(reply)
+            Body::Whole(entry) => entry.is_asked(command, *reply),
+        }
     }
 
     /// Whether what is kept so is this sweep.
@@ -82,11 +91,7 @@ impl Packed {
         ensures { IsTrue result ↔ (entry_of all.now self.now ≡ entry.now) }
     {
         match entry {
-            Entry::Asked { command, reply } => self.is_asked(
-                &self.span.texts(all),
-                command,
-                *reply,
-            ),
+            Entry::Asked { command, reply } => self.is_asked(&self.span.texts(all), command, reply),
             Entry::Swept(sweep) => self.is_sweep(sweep),
         }
     }
