@@ -162,7 +162,7 @@ pub record IsReplyOf (name : List ℕ) (kept : KeptReply) (reply : Reply) : Type
   pub sound : IsNameOf name kept
   pub same : reply_by name kept ≡ reply
 
--- a command is these texts and what is kept beside them, whatever the reply, in which there is this name
+-- a command is these texts and what is kept beside them, whatever the reply is, and the name in that is among the texts
 pub record IsCommandOf (t : Texts) (body : Body) (command : Command) (name : List ℕ) : Type 0 where
   pub sound : AreTextsOf t body
   pub reply : t.reply ≡ name

@@ -1,4 +1,4 @@
-//! Replies as a history keeps them: without the name of a group or of a key, which stands among the texts.
+//! Replies as a history keeps them: without the name of a group or of a key, which is among the texts.
 
 ghost use Rattle.std.specs.Prelude.{◌≡◌, IfSome};
 ghost use Rattle.gu_terms.specs.PackedEntries.{reply_by, IsNameOf, IsReplyOf};
@@ -23,12 +23,12 @@ pub(crate) enum KeptReply {
     Reversed { lots: Lots },
     /// A refusal that names no key, by its number.
     Denied(u8),
-    /// The limit of a key of this kind.
+    /// The limit of a key of this kind is reached.
     LimitReached(KeyKind),
 }
 
 impl KeptReply {
-    /// The name in a reply, if any, and what else is kept of it. None where it counts more offers than are kept so.
+    /// The name in a reply, or no bytes, and what is kept beside it. None where there is no room for its count of offers.
     pub(crate) fn of(reply: &Reply) -> Option<(&[u8], KeptReply)>
         ensures { IfSome result (λ kept. IsReplyOf kept.0.now kept.1 reply.now) }
     {

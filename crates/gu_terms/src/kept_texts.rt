@@ -1,10 +1,11 @@
 //! The texts of an entry, its ids and names, as they stand among those of all entries.
 
-ghost use Rattle.std.specs.Prelude.{◌≡◌, ◌+◌, ◌++◌, ◌≤◌, length, OnOk, OnErr};
-ghost use Rattle.gu_terms.specs.Names.{IsName};
+ghost use Rattle.std.specs.Prelude.{◌≡◌, ◌+◌, ◌++◌, ◌≤◌, length, vec_capacity, OnOk, OnErr};
+ghost use Rattle.gu_terms.specs.Names.{IsId, IsName};
 ghost use Rattle.gu_terms.specs.PackedEntries.{joined, no_texts, size_of, span_of, text_at, texts_at};
 
 use crate::firm::FirmId;
+use crate::id::Id;
 use std::alloc::AllocError;
 use std::marker::Model;
 
@@ -20,9 +21,9 @@ pub(crate) struct Span {
     reply: u8,
 }
 
-/// The texts of an entry. Of a report: its two ids, its symbol, its account and its firm; of a give-up its two ids, the account of
-/// its one line and its firm; of a limit its group and the name of its key; of any other command but a day its firm. The last is
-/// the name in the reply. What there isn't has no bytes. To a contract it is the texts.
+/// The texts of an entry. The first two are ids, of a report or a give-up. The third is a report's symbol or a limit's group, the
+/// fourth the account of a report or of a give-up's one line, or the name of a limit's key. The fifth is the firm, and the last the
+/// name in the reply. What there isn't has no bytes. To a contract it is the texts.
 #[derive(Drop)]
 pub(crate) struct Texts<'a> {
     pub(crate) first: &'a [u8],
@@ -92,6 +93,18 @@ impl Span {
     }
 }
 
+/// Appends a text, for which there is room.
+#[inline(always)]
+fn put(all: &mut Vec<u8>, text: &[u8])
+    requires { length all.old.items + length text.now ≤ vec_capacity all.old }
+    ensures text { all.new.items ≡ all.old.items ++ text.now }
+    ensures room { vec_capacity all.old ≤ vec_capacity all.new }
+{
+    if !text.is_empty() {
+        let _ = all.extend_from_slice(text);
+    }
+}
+
 /// So many bytes of all texts from a place on.
 fn text_at(all: &[u8], at: usize, len: u8) -> &[u8]
     requires { at + len ≤ length all.now }
@@ -101,7 +114,7 @@ fn text_at(all: &[u8], at: usize, len: u8) -> &[u8]
 }
 
 impl<'a> Texts<'a> {
-    /// The texts of an entry that has no text but the name in its reply.
+    /// The name in a reply, and no other text.
     pub(crate) fn of_reply(name: &'a [u8]) -> Self
         requires { length name.now ≤ 12 }
         ensures { result ≡ record no_texts { reply = name.now } }
@@ -116,13 +129,25 @@ impl<'a> Texts<'a> {
         }
     }
 
-    /// These texts, and a firm's name.
-    pub(crate) fn by(self, firm: &'a FirmId) -> Self
+    /// These texts with the name of a firm.
+    pub(crate) fn with_firm(self, firm: &'a FirmId) -> Self
         ensures texts { result ≡ record self.entry { fifth = firm.now.name } }
         ensures sound { IsName firm.now.name }
     {
         let fifth = firm.get();
         Texts { fifth, ..self }
+    }
+
+    /// These texts with two ids.
+    pub(crate) fn with_ids(self, first: &'a Id, second: &'a Id) -> Self
+        ensures texts { result ≡ record self.entry { first = first.now; second = second.now } }
+        ensures sound { IsId first.now × IsId second.now }
+    {
+        Texts {
+            first: first.get(),
+            second: second.get(),
+            ..self
+        }
     }
 
     /// Where they stand, from a place on.
@@ -163,12 +188,12 @@ impl<'a> Texts<'a> {
             return Ok(());
         }
         all.reserve(len)?;
-        let _ = all.extend_from_slice(self.first);
-        let _ = all.extend_from_slice(self.second);
-        let _ = all.extend_from_slice(self.third);
-        let _ = all.extend_from_slice(self.fourth);
-        let _ = all.extend_from_slice(self.fifth);
-        let _ = all.extend_from_slice(self.reply);
+        put(all, self.first);
+        put(all, self.second);
+        put(all, self.third);
+        put(all, self.fourth);
+        put(all, self.fifth);
+        put(all, self.reply);
         Ok(())
     }
 }

@@ -12,7 +12,7 @@ use crate::lines::Lines;
 use crate::packed::{Body, KeptReport};
 use std::alloc::{AllocError, Global};
 
-/// A limit taken apart, in the texts of its reply.
+/// A limit taken apart, its group and the name of its key added to these texts.
 fn limit_parts<'a>(
     texts: Texts<'a>,
     group: &'a Group,
@@ -30,7 +30,7 @@ fn limit_parts<'a>(
     (texts, Body::SetLimit { kind, lots })
 }
 
-/// A give-up of these lines taken apart, in the texts that it has without them.
+/// A give-up of these lines taken apart, the account of one line added to its other texts.
 fn give_up_parts<'a>(
     alloc: Global,
     texts: Texts<'a>,
@@ -76,12 +76,9 @@ impl Body {
                 account,
             } => {
                 let texts = Texts {
-                    first: id.get(),
-                    second: match_id.get(),
                     third: symbol.get(),
                     fourth: account.get(),
-                    fifth: firm.get(),
-                    ..texts
+                    ..texts.with_firm(firm).with_ids(id, match_id)
                 };
                 let report = KeptReport {
                     side: *side,
@@ -96,22 +93,16 @@ impl Body {
                 id,
                 report,
                 lines,
-            } => {
-                let texts = Texts {
-                    first: id.get(),
-                    second: report.get(),
-                    fifth: firm.get(),
-                    ..texts
-                };
-                give_up_parts(alloc, texts, lines)?
+            } => give_up_parts(alloc, texts.with_firm(firm).with_ids(id, report), lines)?,
+            Command::Claim { firm, offer } => {
+                (texts.with_firm(firm), Body::Claim { offer: *offer })
             }
-            Command::Claim { firm, offer } => { (texts.by(firm), Body::Claim { offer: *offer }) }
             Command::Refuse { firm, offer, why } => {
                 let (why, offer) = (*why, *offer);
-                (texts.by(firm), Body::Refuse { why, offer })
+                (texts.with_firm(firm), Body::Refuse { why, offer })
             }
             Command::Reverse { firm, offer } => {
-                (texts.by(firm), Body::Reverse { offer: *offer })
+                (texts.with_firm(firm), Body::Reverse { offer: *offer })
             }
         })
     }
