@@ -34,7 +34,7 @@ pub(crate) struct KeptReport {
     pub(crate) lots: Lots,
 }
 
-/// What is kept of an entry beside its texts and its reply. The fields stand from small to large, so that they take little room.
+/// What is kept of an entry beside its texts and its reply. The fields go from small to large, so that they take little room.
 #[derive(Drop)]
 pub(crate) enum Body {
     OpenDay { day: Day },
