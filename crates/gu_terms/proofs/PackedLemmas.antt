@@ -8,18 +8,8 @@ use Rattle.std.proofs.lemmas.List.{append-nil, append_assoc, drop-append-le, len
 use Rattle.std.proofs.lemmas.List.Elements.{All-push, All-take}
 use Rattle.std.proofs.lemmas.List.Quantifiers.{all_pairs_push}
 use Rattle.std.proofs.Math.Seq.{drop-append_seam, take-append_seam}
-use Rattle.gu_terms.specs.PackedEntries.{AreKept, AreShort, AreSound, HasTexts, HaveRoom, IsBodyOf, IsGroupOf, IsWithin, Texts, end_of, end_of_last, entry_by, entry_of, group_in, joined, reply_by, size_of, span_of, text_at, texts_at, texts_of}
-use Rattle.gu_terms.specs.declared.command.Command.{Command}
-use Rattle.gu_terms.specs.declared.command.Command.TheVariants as command
-use Rattle.gu_terms.specs.declared.entry.Entry.TheVariants.{Asked}
-use Rattle.gu_terms.specs.declared.group.Group.{Group}
-use Rattle.gu_terms.specs.declared.kept_reply.KeptReply.{KeptReply}
-use Rattle.gu_terms.specs.declared.kept_reply.KeptReply.TheVariants as kept_as
+use Rattle.gu_terms.specs.PackedEntries.{AreKept, AreShort, AreSound, IsWithin, Texts, end_of, end_of_last, entry_of, entry_with, joined, size_of, span_of, text_at, texts_at}
 use Rattle.gu_terms.specs.declared.kept_texts.Span.{Span}
-use Rattle.gu_terms.specs.declared.reply.Done.TheVariants as done
-use Rattle.gu_terms.specs.declared.reply.Reply.{Reply}
-use Rattle.gu_terms.specs.declared.reply.Reply.TheVariants.{Accepted}
-use Rattle.gu_terms.specs.declared.packed.Body.{Body}
 use Rattle.gu_terms.specs.declared.packed.Packed.{Packed}
 
 -- bytes within the texts stay, whatever comes after
@@ -35,15 +25,17 @@ texts_at-front texts more s h =
     let second = text_at-front texts more (s.at + s.first) s.second (omega (arith, h)) in
     let third = text_at-front texts more (s.at + s.first + s.second) s.third (omega (arith, h)) in
     let fourth = text_at-front texts more (s.at + s.first + s.second + s.third) s.fourth (omega (arith, h)) in
-    rw (first, second, third, fourth) refl
+    let fifth = text_at-front texts more (s.at + s.first + s.second + s.third + s.fourth) s.fifth (omega (arith, h)) in
+    let reply = text_at-front texts more (s.at + s.first + s.second + s.third + s.fourth + s.fifth) s.reply (omega (arith, h)) in
+    rw (first, second, third, fourth, fifth, reply) refl
 
 module _ (texts more : List ℕ) (kept : Packed) (h : end_of kept ≤ length texts) where
   -- so that the entry is the same
   entry_of-front : entry_of (texts ++ more) kept ≡ entry_of texts kept
-  entry_of-front = ap (λ (t : Texts). entry_by t kept.body kept.reply) (texts_at-front texts more kept.span h)
+  entry_of-front = ap (λ (t : Texts). entry_with t kept) (texts_at-front texts more kept.span h)
 
-  AreSound-front : AreSound (texts_at texts kept.span) kept.body kept.reply ≡ AreSound (texts_at (texts ++ more) kept.span) kept.body kept.reply
-  AreSound-front = ap (λ (t : Texts). AreSound t kept.body kept.reply) (sym (texts_at-front texts more kept.span h))
+  AreSound-front : AreSound (texts_at texts kept.span) kept ≡ AreSound (texts_at (texts ++ more) kept.span) kept
+  AreSound-front = ap (λ (t : Texts). AreSound t kept) (sym (texts_at-front texts more kept.span h))
 
 IsWithin-front : (texts more : List ℕ) (kept : Packed) → IsWithin texts kept → IsWithin (texts ++ more) kept
 IsWithin-front texts more kept h = record {
@@ -67,37 +59,55 @@ text_at-new : (before text more all : List ℕ) (at : ℕ) → all ≡ before ++
 text_at-new before text more all at is there = rw (is, there, drop-append_seam before (text ++ more), take-append_seam text more) refl
 
 -- the bytes of texts together
-size_of-new : (t : Texts) → length t.first + length t.second + length t.third + length t.fourth ≡ length (joined t)
+size_of-new : (t : Texts) → size_of (span_of 0 t) ≡ length (joined t)
 size_of-new t =
-    omega (arith, length-append t.first (t.second ++ (t.third ++ t.fourth)), length-append t.second (t.third ++ t.fourth), length-append t.third t.fourth)
+    omega (
+      arith,
+      length-append t.first (t.second ++ (t.third ++ (t.fourth ++ (t.fifth ++ t.reply)))),
+      length-append t.second (t.third ++ (t.fourth ++ (t.fifth ++ t.reply))),
+      length-append t.third (t.fourth ++ (t.fifth ++ t.reply)),
+      length-append t.fourth (t.fifth ++ t.reply),
+      length-append t.fifth t.reply,
+    )
 
 -- and so are those of an entry
 module _ (texts : List ℕ) (t : Texts) where
   texts_at-new : texts_at (texts ++ joined t) (span_of (length texts) t) ≡ t
   texts_at-new =
       let all : List ℕ = texts ++ joined t in
+      let one : List ℕ = texts ++ t.first in
+      let two : List ℕ = one ++ t.second in
+      let three : List ℕ = two ++ t.third in
+      let four : List ℕ = three ++ t.fourth in
+      let five : List ℕ = four ++ t.fifth in
+      let later : List ℕ = t.fifth ++ t.reply in
       let first : text_at all (length texts) (length t.first) ≡ t.first =
-      text_at-new texts t.first (t.second ++ (t.third ++ t.fourth)) all (length texts) refl refl in
+      text_at-new texts t.first (t.second ++ (t.third ++ (t.fourth ++ later))) all (length texts) refl refl in
       let second : text_at all (length texts + length t.first) (length t.second) ≡ t.second =
-      text_at-new (texts ++ t.first) t.second (t.third ++ t.fourth) all (length texts + length t.first) (simp append_assoc) (simp length-append) in
+      text_at-new one t.second (t.third ++ (t.fourth ++ later)) all (length texts + length t.first) (simp append_assoc) (simp length-append) in
       let third : text_at all (length texts + length t.first + length t.second) (length t.third) ≡ t.third =
-      text_at-new ((texts ++ t.first) ++ t.second) t.third t.fourth all (length texts + length t.first + length t.second) (simp append_assoc) (simp length-append) in
+      text_at-new two t.third (t.fourth ++ later) all (length texts + length t.first + length t.second) (simp append_assoc) (simp length-append) in
       let fourth : text_at all (length texts + length t.first + length t.second + length t.third) (length t.fourth) ≡ t.fourth =
-      text_at-new (((texts ++ t.first) ++ t.second) ++ t.third) t.fourth [] all (length texts + length t.first + length t.second + length t.third)
+      text_at-new three t.fourth later all (length texts + length t.first + length t.second + length t.third) (simp append_assoc) (simp length-append) in
+      let fifth : text_at all (length texts + length t.first + length t.second + length t.third + length t.fourth) (length t.fifth) ≡ t.fifth =
+      text_at-new four t.fifth t.reply all (length texts + length t.first + length t.second + length t.third + length t.fourth)
+      (simp append_assoc) (simp length-append) in
+      let reply : text_at all (length texts + length t.first + length t.second + length t.third + length t.fourth + length t.fifth) (length t.reply) ≡ t.reply =
+      text_at-new five t.reply [] all (length texts + length t.first + length t.second + length t.third + length t.fourth + length t.fifth)
       (simp (append_assoc, append-nil)) (simp length-append) in
-      rw (first, second, third, fourth) refl
+      rw (first, second, third, fourth, fifth, reply) refl
 
 -- an entry more, whose texts come after the others
 module _ (texts : List ℕ) (t : Texts) (entries : List Packed) (new : Packed) (h : AreKept texts entries)
-    (short : length (joined t) + length texts < 2 ^ 32) (span : new.span ≡ span_of (length texts) t) (sound : AreSound t new.body new.reply) where
+    (short : length (joined t) + length texts < 2 ^ 32) (span : new.span ≡ span_of (length texts) t) (sound : AreSound t new) where
   abbrev pub all : List ℕ
   all = texts ++ joined t
 
   texts-new : texts_at all new.span ≡ t
   texts-new = rw span (texts_at-new texts t)
 
-  entry-new : entry_of all new ≡ entry_by t new.body new.reply
-  entry-new = ap (λ (t : Texts). entry_by t new.body new.reply) texts-new
+  entry-new : entry_of all new ≡ entry_with t new
+  entry-new = ap (λ (t : Texts). entry_with t new) texts-new
 
   long : length all ≡ length texts + length (joined t)
   long = length-append texts (joined t)
@@ -118,7 +128,7 @@ module _ (texts : List ℕ) (t : Texts) (entries : List Packed) (new : Packed) (
     behind = all_pairs_push (λ earlier later. end_of earlier ≤ end_of later) entries new h.behind (λ i d inside. omega (arith, (h.within i d inside).within, end-new, long));
   }
 
-  pub entries_more : map (entry_of all) (entries ++ new ∷ []) ≡ map (entry_of texts) entries ++ entry_by t new.body new.reply ∷ []
+  pub entries_more : map (entry_of all) (entries ++ new ∷ []) ≡ map (entry_of texts) entries ++ entry_with t new ∷ []
   entries_more =
       map-append (entry_of all) entries (new ∷ [])
       ∙ ap (λ es. es ++ entry_of all new ∷ []) (map-front texts (joined t) entries (λ i d inside. (h.within i d inside).within))
@@ -132,7 +142,7 @@ module _ {X : Type 0} (R : X → X → Type 0) (n : ℕ) (xs : List X) (h : AllP
       (h i j d before (omega (arith, long, inside)))
 
 module _ (texts later : List ℕ) (t : Texts) (entries more : List Packed) (new : Packed) (h : AreKept texts entries)
-    (short : length (joined t) + length texts < 2 ^ 32) (span : new.span ≡ span_of (length texts) t) (sound : AreSound t new.body new.reply)
+    (short : length (joined t) + length texts < 2 ^ 32) (span : new.span ≡ span_of (length texts) t) (sound : AreSound t new)
     (longer : later ≡ texts ++ joined t) (one : more ≡ entries ++ new ∷ []) where
   pub kept_more : AreKept later more
   kept_more = rw (longer, one) (AreKept-more texts t entries new h short span sound)
@@ -209,43 +219,6 @@ entry_there texts entries place kept within is =
     slice_get-map (entry_of texts) entries place
     ∙ ap (option_map (entry_of texts)) (slice_get_read entries (length entries) place kept refl within is)
 
--- where a command has room for the group of its reply, the reply is read back
-module _ (reply : Reply) (kept : KeptReply) (is : reply_by (group_in reply) kept ≡ reply) (group : IsGroupOf (group_in reply) kept) where
-  -- without a group it is read back by any name
-  by_any : (name : List ℕ) (none : (group : Group) (first : ℕ) (count : ℕ) → Accepted (done.Offered group first count) ≡ reply → ⊥)
-      → (reply_by name kept ≡ reply) × IsGroupOf name kept
-  by_any name none =
-      let Any : KeptReply → Type 0 = λ k. reply_by (group_in reply) k ≡ reply → IsGroupOf (group_in reply) k → (reply_by name k ≡ reply) × IsGroupOf name k in
-      (elim kept as Any [
-        | kept_as.Opened ↦ (λ same sound. (same, sound))
-        | kept_as.LimitSet ↦ (λ same sound. (same, sound))
-        | kept_as.Reported matched ↦ (λ same sound. (same, sound))
-        | kept_as.Offered first count ↦ (λ same sound. absurd (none (record { name = group_in reply }) first count same))
-        | kept_as.Claimed lots ↦ (λ same sound. (same, sound))
-        | kept_as.Refused lots ↦ (λ same sound. (same, sound))
-        | kept_as.Reversed lots ↦ (λ same sound. (same, sound))
-        | kept_as.Denied refusal ↦ (λ same sound. (same, sound))
-      ]) is group
-
-  pub reply_apart : (command : Command) → HaveRoom command reply → (reply_by (texts_of command reply).third kept ≡ reply) × IsGroupOf (texts_of command reply).third kept
-  reply_apart (command.OpenDay day) room = (is, group)
-  reply_apart (command.SetLimit g key lots) room = (is, group)
-  reply_apart (command.ReportSide firm id match_id symbol lots price day side account) room = by_any symbol.name
-      (λ g first count offered. subst (HaveRoom (command.ReportSide firm id match_id symbol lots price day side account)) (sym offered) room)
-  reply_apart (command.GiveUp firm id report lines) room = (is, group)
-  reply_apart (command.Claim firm offer) room = (is, group)
-  reply_apart (command.Refuse firm offer why) room = (is, group)
-  reply_apart (command.Reverse firm offer) room = (is, group)
-
--- the entry of what is kept of a command and its reply is they
-module _ (command : Command) (reply : Reply) (kept : KeptReply) (body : Body) (t : Texts) (room : HaveRoom command reply) (texts : t ≡ texts_of command reply)
-    (sound : HasTexts command) (is : reply_by (group_in reply) kept ≡ reply) (group : IsGroupOf (group_in reply) kept) (of : IsBodyOf command body) where
-  pub sound_apart : AreSound t body kept
-  sound_apart = rw texts (record { texts = of.texts reply sound; group = (reply_apart reply kept is group command room).1 })
-
-  pub entry_apart : entry_by t body kept ≡ Asked command reply
-  entry_apart = rw texts (of.entry reply kept ∙ ap (Asked command) (reply_apart reply kept is group command room).0)
-
 -- the texts of an entry together are not long
-pub joined_short : (t : Texts) → AreShort t → length (joined t) ≤ 1020
-joined_short t h = omega (arith, size_of-new t, h.first, h.second, h.third, h.fourth)
+pub joined_short : (t : Texts) → AreShort t → length (joined t) ≤ 1530
+joined_short t h = omega (arith, size_of-new t, h.first, h.second, h.third, h.fourth, h.fifth, h.reply)

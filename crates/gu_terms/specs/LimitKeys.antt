@@ -2,6 +2,8 @@
 use Rattle.std.specs.Prelude.{ℕ, Bool, false, List, [], ◌∷◌, Option, codes}
 use Rattle.std.specs.List.{find, list_any}
 use Rattle.std.specs.Str.{bytes_eq}
+use Rattle.gu_terms.specs.declared.limit_key.KeyKind.{KeyKind}
+use Rattle.gu_terms.specs.declared.limit_key.KeyKind.TheVariants as kind
 use Rattle.gu_terms.specs.declared.limit_key.LimitKey.{LimitKey}
 use Rattle.gu_terms.specs.declared.limit_key.LimitKey.TheVariants.{Exec, Agr, Acct, Carry, Guar}
 use Rattle.gu_terms.specs.declared.name.Name.{Name}
@@ -21,6 +23,14 @@ name_of_key (Agr agreement) = agreement.name
 name_of_key (Acct account) = account.name
 name_of_key (Carry firm) = firm.name
 name_of_key (Guar firm) = firm.name
+
+-- the key of this kind and this name
+abbrev pub key_by : KeyKind → Name → LimitKey
+key_by kind.Exec name = Exec (record { name = name })
+key_by kind.Agr name = Agr (record { name = name })
+key_by kind.Acct name = Acct (record { name = name })
+key_by kind.Carry name = Carry (record { name = name })
+key_by kind.Guar name = Guar (record { name = name })
 
 -- the keys of a name, one of each kind
 abbrev pub keys_named : Name → List LimitKey

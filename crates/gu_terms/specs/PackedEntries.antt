@@ -1,11 +1,14 @@
 -- Machinery: entries as a history keeps them. The texts of all stand in one list of bytes, and of each entry is known where its own stand there.
-use Rattle.std.specs.Prelude.{◌≡◌, ℕ, ◌+◌, ◌-◌, ◌<◌, ◌≤◌, ◌^◌, ◌++◌, All, AllPairs, List, [], ◌∷◌, length, slice_get, take, drop}
+use Rattle.std.specs.Prelude.{◌≡◌, ℕ, ℤ, ◌+◌, ◌-◌, ◌<◌, ◌≤◌, ◌^◌, ◌++◌, All, AllPairs, List, [], ◌∷◌, length, slice_get, take, drop}
 use Rattle.std.specs.Option.{option_map_or}
+use Rattle.gu_terms.specs.LimitKeys.{key_by}
 use Rattle.gu_terms.specs.Names.{IsId, IsName}
+use Rattle.gu_terms.specs.Refusals.{refusal_of}
 use Rattle.gu_terms.specs.declared.command.Command.{Command}
 use Rattle.gu_terms.specs.declared.command.Command.TheVariants as command
 use Rattle.gu_terms.specs.declared.entry.Entry.{Entry}
 use Rattle.gu_terms.specs.declared.entry.Entry.TheVariants.{Asked, Swept}
+use Rattle.gu_terms.specs.declared.firm.FirmId.{FirmId}
 use Rattle.gu_terms.specs.declared.kept_reply.KeptReply.{KeptReply}
 use Rattle.gu_terms.specs.declared.kept_reply.KeptReply.TheVariants as kept
 use Rattle.gu_terms.specs.declared.kept_texts.Span.{Span}
@@ -13,6 +16,7 @@ use Rattle.gu_terms.specs.declared.packed.Body.{Body}
 use Rattle.gu_terms.specs.declared.packed.Body.TheVariants as body
 use Rattle.gu_terms.specs.declared.packed.KeptReport.{KeptReport}
 use Rattle.gu_terms.specs.declared.packed.Packed.{Packed}
+use Rattle.gu_terms.specs.declared.refusal.Refusal.TheVariants.{LimitReached}
 use Rattle.gu_terms.specs.declared.reply.Done.TheVariants as done
 use Rattle.gu_terms.specs.declared.reply.Reply.{Reply}
 use Rattle.gu_terms.specs.declared.reply.Reply.TheVariants.{Accepted, Denied}
@@ -26,28 +30,38 @@ abbrev pub IsReport : Command → Type 0
 IsReport (command.ReportSide firm id match_id symbol lots price day side account) = Unit {0}
 IsReport command = ⊥
 
--- the texts of an entry: ids and names
+-- the texts of an entry: ids and names of its command, and the name in its reply
 pub record Texts : Type 0 where
   pub first : List ℕ
   pub second : List ℕ
   pub third : List ℕ
   pub fourth : List ℕ
+  pub fifth : List ℕ
+  pub reply : List ℕ
 
 -- no texts
 abbrev pub no_texts : Texts
-no_texts = record { first = []; second = []; third = []; fourth = [] }
+no_texts = record { first = []; second = []; third = []; fourth = []; fifth = []; reply = [] }
 
 -- they stand one after the other
 abbrev pub joined : Texts → List ℕ
-joined t = t.first ++ (t.second ++ (t.third ++ t.fourth))
+joined t = t.first ++ (t.second ++ (t.third ++ (t.fourth ++ (t.fifth ++ t.reply))))
 
 -- where they stand, from a place on
 abbrev pub span_of : ℕ → Texts → Span
-span_of at t = record { at = at; first = length t.first; second = length t.second; third = length t.third; fourth = length t.fourth }
+span_of at t = record {
+  at = at;
+  first = length t.first;
+  second = length t.second;
+  third = length t.third;
+  fourth = length t.fourth;
+  fifth = length t.fifth;
+  reply = length t.reply;
+}
 
 -- how many bytes they have together
 abbrev pub size_of : Span → ℕ
-size_of span = span.first + span.second + span.third + span.fourth
+size_of span = span.first + span.second + span.third + span.fourth + span.fifth + span.reply
 
 -- the texts that stand so among all
 abbrev pub texts_at : List ℕ → Span → Texts
@@ -56,6 +70,8 @@ texts_at texts span = record {
   second = text_at texts (span.at + span.first) span.second;
   third = text_at texts (span.at + span.first + span.second) span.third;
   fourth = text_at texts (span.at + span.first + span.second + span.third) span.fourth;
+  fifth = text_at texts (span.at + span.first + span.second + span.third + span.fourth) span.fifth;
+  reply = text_at texts (span.at + span.first + span.second + span.third + span.fourth + span.fifth) span.reply;
 }
 
 -- no text is long
@@ -64,39 +80,51 @@ pub record AreShort (t : Texts) : Type 0 where
   pub second : length t.second ≤ 255
   pub third : length t.third ≤ 255
   pub fourth : length t.fourth ≤ 255
+  pub fifth : length t.fifth ≤ 255
+  pub reply : length t.reply ≤ 255
 
--- the reply that is kept so, with the name of its group, where it has one
+-- the reply that is kept so, with the name in it, where it has one
 abbrev pub reply_by : List ℕ → KeptReply → Reply
-reply_by group kept.Opened = Accepted done.Opened
-reply_by group kept.LimitSet = Accepted done.LimitSet
-reply_by group (kept.Reported matched) = Accepted (done.Reported matched)
-reply_by group (kept.Offered first count) = Accepted (done.Offered (record { name = group }) first count)
-reply_by group (kept.Claimed lots) = Accepted (done.Claimed lots)
-reply_by group (kept.Refused lots) = Accepted (done.Refused lots)
-reply_by group (kept.Reversed lots) = Accepted (done.Reversed lots)
-reply_by group (kept.Denied refusal) = Denied refusal
+reply_by name kept.Opened = Accepted done.Opened
+reply_by name kept.LimitSet = Accepted done.LimitSet
+reply_by name (kept.Reported matched) = Accepted (done.Reported matched)
+reply_by name (kept.Offered first count) = Accepted (done.Offered (record { name = name }) first count)
+reply_by name (kept.Claimed lots) = Accepted (done.Claimed lots)
+reply_by name (kept.Refused lots) = Accepted (done.Refused lots)
+reply_by name (kept.Reversed lots) = Accepted (done.Reversed lots)
+reply_by name (kept.Denied number) = Denied (refusal_of number)
+reply_by name (kept.LimitReached kind) = Denied (LimitReached (key_by kind name))
+
+-- the firm of these texts
+abbrev pub firm_by : Texts → FirmId
+firm_by t = record { name = t.fifth }
 
 -- the report of these texts
-abbrev pub report_by : Texts → KeptReport → Command
-report_by t r =
-    command.ReportSide r.firm t.first t.second (record { name = t.third }) r.lots r.price r.day r.side (record { name = t.fourth })
+abbrev pub report_by : Texts → KeptReport → ℤ → Command
+report_by t r price =
+    command.ReportSide (firm_by t) t.first t.second (record { name = t.third }) r.lots price r.day r.side (record { name = t.fourth })
 
--- the entry of these texts, this body and this reply
-abbrev pub entry_by : Texts → Body → KeptReply → Entry
-entry_by t (body.OpenDay day) reply = Asked (command.OpenDay day) (reply_by t.third reply)
-entry_by t (body.SetLimit group key lots) reply = Asked (command.SetLimit group key lots) (reply_by t.third reply)
-entry_by t (body.ReportSide report) reply = Asked (report_by t report) (reply_by t.third reply)
-entry_by t (body.GiveUpOne firm line) reply = Asked (command.GiveUp firm t.first t.second (line ∷ [])) (reply_by t.third reply)
-entry_by t (body.GiveUp firm lines) reply = Asked (command.GiveUp firm t.first t.second lines) (reply_by t.third reply)
-entry_by t (body.Claim firm offer) reply = Asked (command.Claim firm offer) (reply_by t.third reply)
-entry_by t (body.Refuse firm why offer) reply = Asked (command.Refuse firm offer why) (reply_by t.third reply)
-entry_by t (body.Reverse firm offer) reply = Asked (command.Reverse firm offer) (reply_by t.third reply)
+-- the entry of these texts and this body, with its reply
+abbrev pub entry_by : Texts → Body → Reply → Entry
+entry_by t (body.OpenDay day) reply = Asked (command.OpenDay day) reply
+entry_by t (body.SetLimit kind lots) reply = Asked (command.SetLimit (record { name = t.third }) (key_by kind t.fourth) lots) reply
+entry_by t (body.ReportSide report price) reply = Asked (report_by t report price) reply
+entry_by t (body.GiveUpOne lots) reply =
+    Asked (command.GiveUp (firm_by t) t.first t.second (record { account = record { name = t.fourth }; lots = lots } ∷ [])) reply
+entry_by t (body.GiveUp lines) reply = Asked (command.GiveUp (firm_by t) t.first t.second lines.value) reply
+entry_by t (body.Claim offer) reply = Asked (command.Claim (firm_by t) offer) reply
+entry_by t (body.Refuse why offer) reply = Asked (command.Refuse (firm_by t) offer why) reply
+entry_by t (body.Reverse offer) reply = Asked (command.Reverse (firm_by t) offer) reply
 entry_by t (body.Swept sweep) reply = Swept sweep.value
 entry_by t (body.Whole entry) reply = entry.value
 
--- the entry that is kept so
+-- the entry that is kept so, with these texts
+abbrev pub entry_with : Texts → Packed → Entry
+entry_with t kept = entry_by t kept.body (reply_by t.reply kept.reply)
+
+-- and with its texts among all
 abbrev pub entry_of : List ℕ → Packed → Entry
-entry_of texts kept = entry_by (texts_at texts kept.span) kept.body kept.reply
+entry_of texts kept = entry_with (texts_at texts kept.span) kept
 
 -- the place after its texts
 abbrev pub end_of : Packed → ℕ
@@ -108,60 +136,42 @@ end_of_last entries = option_map_or end_of (slice_get entries (length entries - 
 
 -- a body has ids and names, and these are they
 abbrev pub AreTextsOf : Texts → Body → Type 0
-AreTextsOf t (body.ReportSide report) = (IsId t.first × IsId t.second) × (IsName t.third × IsName t.fourth)
-AreTextsOf t (body.GiveUpOne firm line) = IsId t.first × IsId t.second
-AreTextsOf t (body.GiveUp firm lines) = IsId t.first × IsId t.second
+AreTextsOf t (body.SetLimit kind lots) = IsName t.third × IsName t.fourth
+AreTextsOf t (body.ReportSide report price) = (IsId t.first × IsId t.second) × (IsName t.third × IsName t.fourth × IsName t.fifth)
+AreTextsOf t (body.GiveUpOne lots) = (IsId t.first × IsId t.second) × (IsName t.fourth × IsName t.fifth)
+AreTextsOf t (body.GiveUp lines) = (IsId t.first × IsId t.second) × IsName t.fifth
+AreTextsOf t (body.Claim offer) = IsName t.fifth
+AreTextsOf t (body.Refuse why offer) = IsName t.fifth
+AreTextsOf t (body.Reverse offer) = IsName t.fifth
 AreTextsOf t other = Unit {0}
 
--- a reply has a group, and this is its name
-abbrev pub IsGroupOf : List ℕ → KeptReply → Type 0
-IsGroupOf group (kept.Offered first count) = IsName group
-IsGroupOf group other = Unit {0}
+-- a reply has a name in it, and this is it
+abbrev pub IsNameOf : List ℕ → KeptReply → Type 0
+IsNameOf name (kept.Offered first count) = IsName name
+IsNameOf name (kept.LimitReached kind) = IsName name
+IsNameOf name other = Unit {0}
 
 -- the texts of an entry are what its body and its reply need
-pub record AreSound (t : Texts) (body : Body) (reply : KeptReply) : Type 0 where
-  pub texts : AreTextsOf t body
-  pub group : IsGroupOf t.third reply
+pub record AreSound (t : Texts) (kept : Packed) : Type 0 where
+  pub texts : AreTextsOf t kept.body
+  pub reply : IsNameOf t.reply kept.reply
 
--- the name of the group in a reply, and else no bytes
-abbrev pub group_in : Reply → List ℕ
-group_in (Accepted (done.Offered group first count)) = group.name
-group_in reply = []
+-- a reply is this name and what is kept beside it
+pub record IsReplyOf (name : List ℕ) (kept : KeptReply) (reply : Reply) : Type 0 where
+  pub short : length name ≤ 12
+  pub sound : IsNameOf name kept
+  pub same : reply_by name kept ≡ reply
 
--- the texts of a command with its reply
-abbrev pub texts_of : Command → Reply → Texts
-texts_of (command.ReportSide firm id match_id symbol lots price day side account) reply =
-    record { first = id; second = match_id; third = symbol.name; fourth = account.name }
-texts_of (command.GiveUp firm id report lines) reply = record { first = id; second = report; third = group_in reply; fourth = [] }
-texts_of command reply = record { first = []; second = []; third = group_in reply; fourth = [] }
-
--- the ids and names of a command are sound
-abbrev pub HasTexts : Command → Type 0
-HasTexts (command.ReportSide firm id match_id symbol lots price day side account) =
-    (IsId id × IsId match_id) × (IsName symbol.name × IsName account.name)
-HasTexts (command.GiveUp firm id report lines) = IsId id × IsId report
-HasTexts command = Unit {0}
-
--- the name of the group in a reply is sound
-abbrev pub HasGroup : Reply → Type 0
-HasGroup (Accepted (done.Offered group first count)) = IsName group.name
-HasGroup reply = Unit {0}
-
--- a report has no room for the name of a group
-abbrev pub HaveRoom : Command → Reply → Type 0
-HaveRoom (command.ReportSide firm id match_id symbol lots price day side account) (Accepted (done.Offered group first count)) = ⊥
-HaveRoom command reply = Unit {0}
-
--- a command is the entry of its texts and this body, whatever the reply
-pub record IsBodyOf (command : Command) (body : Body) : Type 0 where
-  pub entry : (reply : Reply) (kept : KeptReply) →
-      entry_by (texts_of command reply) body kept ≡ Asked command (reply_by (texts_of command reply).third kept)
-  pub texts : (reply : Reply) → HasTexts command → AreTextsOf (texts_of command reply) body
+-- a command is these texts and what is kept beside them, whatever the reply is, and the name in that is among the texts
+pub record IsCommandOf (t : Texts) (body : Body) (command : Command) (name : List ℕ) : Type 0 where
+  pub sound : AreTextsOf t body
+  pub reply : t.reply ≡ name
+  pub same : (reply : Reply) → entry_by t body reply ≡ Asked command reply
 
 -- the texts of a kept entry stand within all
 pub record IsWithin (texts : List ℕ) (kept : Packed) : Type 0 where
   pub within : end_of kept ≤ length texts
-  pub sound : AreSound (texts_at texts kept.span) kept.body kept.reply
+  pub sound : AreSound (texts_at texts kept.span) kept
 
 -- those of all do, each after those of the entries before it
 pub record AreKept (texts : List ℕ) (entries : List Packed) : Type 0 where

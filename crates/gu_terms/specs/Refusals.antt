@@ -1,5 +1,5 @@
 -- Why a command is refused: each refusal's number, its name and its text.
-use Rattle.std.specs.Prelude.{ℕ, Bool, ◌≤◌, ◌&&◌, nat_le, ◌++◌, ◌∷◌, List, length, Option, None, Some, codes}
+use Rattle.std.specs.Prelude.{ℕ, Bool, ◌≤◌, ◌==◌, ◌&&◌, if◌then◌else◌, nat_le, ◌++◌, ◌∷◌, List, length, Option, None, Some, codes}
 use Rattle.std.specs.List.{AllPass}
 use Rattle.std.specs.Option.{option_map_or}
 use Rattle.gu_terms.specs.LimitKeys.{kind_of, name_of_key}
@@ -28,6 +28,28 @@ number_of UnknownKey = 16
 number_of TooHigh = 17
 number_of OfferOpen = 18
 number_of NothingToReverse = 19
+
+-- the refusal of this number, of those that name no key
+abbrev pub refusal_of : ℕ → Refusal
+refusal_of number =
+    if number == 1 then NoDay
+    else if number == 2 then WrongDay
+    else if number == 3 then UnknownInstrument
+    else if number == 4 then UnknownAccount
+    else if number == 5 then NotYours
+    else if number == 6 then DuplicateId
+    else if number == 7 then MatchConflict
+    else if number == 8 then UnknownTrade
+    else if number == 9 then NotMatched
+    else if number == 10 then NoAgreement
+    else if number == 11 then TooManyLots
+    else if number == 12 then TooManyOffers
+    else if number == 13 then UnknownOffer
+    else if number == 14 then OfferClosed
+    else if number == 16 then UnknownKey
+    else if number == 17 then TooHigh
+    else if number == 18 then OfferOpen
+    else NothingToReverse
 
 -- its name in a reply
 abbrev pub name_of : Refusal → List ℕ

@@ -3,7 +3,7 @@
 ghost use Rattle.std.specs.Prelude.{◌≡◌, ◌+◌, ◌-◌, ◌^◌, ◌<◌, ◌∷◌, [], ◌++◌, ◌≤◌, length, map, slice_get, take, is_some, ◌↔◌, IfOk, IfSome, IsTrue, OnOk, OnErr, Some};
 ghost use Rattle.std.specs.Option.{option_map};
 ghost use Rattle.gu_terms.specs.Histories.{entry_at, swept_by};
-ghost use Rattle.gu_terms.specs.PackedEntries.{end_of_last, entry_by, entry_of, joined, no_texts, span_of, AreKept, AreSound, AreTextsOf};
+ghost use Rattle.gu_terms.specs.PackedEntries.{end_of_last, entry_by, entry_of, entry_with, joined, no_texts, span_of, AreKept, AreSound, AreTextsOf};
 
 use crate::command::Command;
 use crate::entry::Entry;
@@ -11,10 +11,13 @@ use crate::entry_ref::EntryRef;
 use crate::kept_reply::KeptReply;
 use crate::kept_sweep::KeptSweep;
 use crate::kept_texts::Texts;
-use crate::packed::{Body, Packed, have_room};
-use crate::reply::Reply;
+use crate::packed::{Body, Packed};
+use crate::reply::{Done, Reply};
 use std::alloc::{AllocError, Global};
 use std::marker::Model;
+
+/// The bytes of texts that are kept at most, or a few more. Entries that come then are kept whole.
+const MOST_TEXTS: usize = 4_000_000_000;
 
 /// Entries, numbered from 1. To a contract it is their list.
 pub struct History {
@@ -61,10 +64,10 @@ fn add(
     requires kept { AreKept all.old.items entries.old.items }
     requires room { length (joined texts.now) + length all.old.items < 2 ^ 32 }
     requires span { entry.span ≡ span_of (length all.old.items) texts.now }
-    requires sound { AreSound texts.now entry.body entry.reply }
+    requires sound { AreSound texts.now entry }
     ensures kept { AreKept all.new.items entries.new.items }
     ensures added { OnOk result (map (entry_of all.new.items) entries.new.items
-        ≡ map (entry_of all.old.items) entries.old.items ++ entry_by texts.now entry.body entry.reply ∷ []) }
+        ≡ map (entry_of all.old.items) entries.old.items ++ entry_with texts.now entry ∷ []) }
     ensures refused { OnErr result ((all.new.items ≡ all.old.items) × (entries.new.items ≡ entries.old.items)) }
 {
     entries.reserve(1)?;
@@ -173,10 +176,10 @@ impl History {
     /// Adds an entry that has no texts of its own, nor a reply beside it.
     fn push_alone(&mut self, body: Body) -> Result<(), AllocError>
         requires { AreTextsOf no_texts body }
-        ensures added { OnOk result (self.new ≡ self.old ++ entry_by no_texts body KeptReply.Opened ∷ []) }
+        ensures added { OnOk result (self.new ≡ self.old ++ entry_by no_texts body (Reply.Accepted Done.Opened) ∷ []) }
         ensures refused { OnErr result (self.new ≡ self.old) }
     {
-        let texts = Texts::none();
+        let texts = Texts::of_reply(&[]);
         let entry = Packed {
             span: texts.span(self.texts.len() as u32),
             reply: KeptReply::Opened,
@@ -200,14 +203,17 @@ impl History {
         ensures added { OnOk result (self.new ≡ self.old ++ Entry.Asked command.now reply.now ∷ []) }
         ensures refused { OnErr result (self.new ≡ self.old) }
     {
-        if !have_room(self.texts.len(), command, reply) {
+        if self.texts.len() > MOST_TEXTS {
             return self.push_whole(command, *reply);
         }
-        let texts = Texts::of(command, reply);
+        let Some((name, kept)) = KeptReply::of(reply) else {
+            return self.push_whole(command, *reply);
+        };
+        let (texts, body) = Body::of(self.alloc, command, name)?;
         let entry = Packed {
             span: texts.span(self.texts.len() as u32),
-            reply: KeptReply::of(*reply),
-            body: Body::of(command)?,
+            reply: kept,
+            body,
         };
         add(&mut self.entries, &mut self.texts, &texts, entry)
     }

@@ -1,9 +1,10 @@
-//! Replies as a history keeps them: without the name of a group, which stands among the texts.
+//! Replies as a history keeps them: without the name of a group or of a key, which is among the texts.
 
-ghost use Rattle.std.specs.Prelude.{◌≡◌};
-ghost use Rattle.gu_terms.specs.PackedEntries.{group_in, reply_by, HasGroup, IsGroupOf};
+ghost use Rattle.std.specs.Prelude.{◌≡◌, IfSome};
+ghost use Rattle.gu_terms.specs.PackedEntries.{reply_by, IsNameOf, IsReplyOf};
 
 use crate::group::Group;
+use crate::limit_key::KeyKind;
 use crate::lots::Lots;
 use crate::name::Name;
 use crate::offer_no::OfferNo;
@@ -16,37 +17,61 @@ pub(crate) enum KeptReply {
     Opened,
     LimitSet,
     Reported { matched: bool },
-    Offered { first: OfferNo, count: u64 },
+    Offered { first: OfferNo, count: u32 },
     Claimed { lots: Lots },
     Refused { lots: Lots },
     Reversed { lots: Lots },
-    Denied(Refusal),
+    /// A refusal that names no key, by its number.
+    Denied(u8),
+    /// The limit of a key of this kind is reached.
+    LimitReached(KeyKind),
 }
 
 impl KeptReply {
-    /// What is kept of a reply.
-    pub(crate) fn of(reply: Reply) -> KeptReply
-        ensures reply { reply_by (group_in reply) result ≡ reply }
-        ensures group { HasGroup reply → IsGroupOf (group_in reply) result }
+    /// The name in a reply, or no bytes, and what is kept beside it. None where there is no room for its count of offers.
+    pub(crate) fn of(reply: &Reply) -> Option<(&[u8], KeptReply)>
+        ensures { IfSome result (λ kept. IsReplyOf kept.0.now kept.1 reply.now) }
     {
-        match reply {
-            Reply::Accepted(done) => match done {
-                Done::Opened => KeptReply::Opened,
-                Done::LimitSet => KeptReply::LimitSet,
-                Done::Reported { matched } => KeptReply::Reported { matched },
-                Done::Offered { first, count, .. } => KeptReply::Offered { first, count },
-                Done::Claimed { lots } => KeptReply::Claimed { lots },
-                Done::Refused { lots } => KeptReply::Refused { lots },
-                Done::Reversed { lots } => KeptReply::Reversed { lots },
-            },
-            Reply::Denied(refusal) => KeptReply::Denied(refusal),
-        }
+        let none: &[u8] = &[];
+        let done = match reply {
+            Reply::Accepted(done) => done,
+            Reply::Denied(Refusal::LimitReached(key)) => {
+                return Some((key.name(), KeptReply::LimitReached(KeyKind::of(*key))));
+            }
+            Reply::Denied(refusal) => return Some((none, KeptReply::Denied(refusal.code()))),
+        };
+        let kept = match done {
+            Done::Opened => KeptReply::Opened,
+            Done::LimitSet => KeptReply::LimitSet,
+            Done::Reported { matched } => KeptReply::Reported { matched: *matched },
+            Done::Offered {
+                group,
+                first,
+                count,
+            } => {
+                if *count > u64::from(u32::MAX) {
+                    return None;
+                }
+                let count = *count as u32;
+                return Some((
+                    group.get(),
+                    KeptReply::Offered {
+                        first: *first,
+                        count,
+                    },
+                ));
+            }
+            Done::Claimed { lots } => KeptReply::Claimed { lots: *lots },
+            Done::Refused { lots } => KeptReply::Refused { lots: *lots },
+            Done::Reversed { lots } => KeptReply::Reversed { lots: *lots },
+        };
+        Some((none, kept))
     }
 
-    /// The reply that is kept so, with the name of its group.
-    pub(crate) fn reply(self, group: &[u8]) -> Reply
-        requires { IsGroupOf group.now self }
-        ensures { result ≡ reply_by group.now self }
+    /// The reply that is kept so, with the name in it.
+    pub(crate) fn reply(self, name: &[u8]) -> Reply
+        requires { IsNameOf name.now self }
+        ensures { result ≡ reply_by name.now self }
     {
         let done = match self {
             KeptReply::Opened => Done::Opened,
@@ -54,15 +79,18 @@ impl KeptReply {
             KeptReply::Reported { matched } => Done::Reported { matched },
             KeptReply::Offered { first, count } => Done::Offered {
                 group: Group {
-                    name: Name::known(group),
+                    name: Name::known(name),
                 },
                 first,
-                count,
+                count: u64::from(count),
             },
             KeptReply::Claimed { lots } => Done::Claimed { lots },
             KeptReply::Refused { lots } => Done::Refused { lots },
             KeptReply::Reversed { lots } => Done::Reversed { lots },
-            KeptReply::Denied(refusal) => return Reply::Denied(refusal),
+            KeptReply::Denied(code) => return Reply::Denied(Refusal::of_code(code)),
+            KeptReply::LimitReached(kind) => {
+                return Reply::Denied(Refusal::LimitReached(kind.key(Name::known(name))));
+            }
         };
         Reply::Accepted(done)
     }

@@ -1,10 +1,11 @@
 //! The texts of an entry, its ids and names, as they stand among those of all entries.
 
-ghost use Rattle.std.specs.Prelude.{◌≡◌, ◌+◌, ◌++◌, ◌≤◌, length, OnOk, OnErr};
-ghost use Rattle.gu_terms.specs.PackedEntries.{group_in, joined, no_texts, size_of, span_of, texts_at, texts_of, AreShort, HasGroup, HasTexts};
+ghost use Rattle.std.specs.Prelude.{◌≡◌, ◌+◌, ◌++◌, ◌≤◌, length, vec_capacity, OnOk, OnErr};
+ghost use Rattle.gu_terms.specs.Names.{IsId, IsName};
+ghost use Rattle.gu_terms.specs.PackedEntries.{joined, no_texts, size_of, span_of, text_at, texts_at};
 
-use crate::command::Command;
-use crate::reply::{Done, Reply};
+use crate::firm::FirmId;
+use crate::id::Id;
 use std::alloc::AllocError;
 use std::marker::Model;
 
@@ -16,16 +17,21 @@ pub(crate) struct Span {
     second: u8,
     third: u8,
     fourth: u8,
+    fifth: u8,
+    reply: u8,
 }
 
-/// The texts of an entry: of a report its two ids, its symbol and its account, of a give-up its two ids, and as the third of any
-/// other the group of its reply. What there isn't has no bytes. To a contract it is the texts.
+/// The texts of an entry. The first two are ids, of a report or a give-up. The third is a report's symbol or a limit's group, the
+/// fourth the account of a report or of a give-up's one line, or the name of a limit's key. The fifth is the firm, and the last the
+/// name in the reply. What there isn't has no bytes. To a contract it is the texts.
 #[derive(Drop)]
 pub(crate) struct Texts<'a> {
-    first: &'a [u8],
-    second: &'a [u8],
-    third: &'a [u8],
-    fourth: &'a [u8],
+    pub(crate) first: &'a [u8],
+    pub(crate) second: &'a [u8],
+    pub(crate) third: &'a [u8],
+    pub(crate) fourth: &'a [u8],
+    pub(crate) fifth: &'a [u8],
+    pub(crate) reply: &'a [u8],
 }
 
 impl<'a> Model for Texts<'a> {
@@ -33,9 +39,23 @@ impl<'a> Model for Texts<'a> {
 
     ghost Value = { TextsOf };
 
-    ghost view = { λ t. record { first = t.first.now; second = t.second.now; third = t.third.now; fourth = t.fourth.now } };
+    ghost view = { λ t. record {
+      first = t.first.now;
+      second = t.second.now;
+      third = t.third.now;
+      fourth = t.fourth.now;
+      fifth = t.fifth.now;
+      reply = t.reply.now;
+    } };
 
-    ghost invariant = { λ t. AreShort (record { first = t.first.now; second = t.second.now; third = t.third.now; fourth = t.fourth.now }) };
+    ghost invariant = { λ t. AreShort (record {
+      first = t.first.now;
+      second = t.second.now;
+      third = t.third.now;
+      fourth = t.fourth.now;
+      fifth = t.fifth.now;
+      reply = t.reply.now;
+    }) };
 }
 
 impl Span {
@@ -48,6 +68,8 @@ impl Span {
             + usize::from(self.second)
             + usize::from(self.third)
             + usize::from(self.fourth)
+            + usize::from(self.fifth)
+            + usize::from(self.reply)
     }
 
     /// The texts that stand there.
@@ -58,102 +80,74 @@ impl Span {
         let second = self.at as usize + usize::from(self.first);
         let third = second + usize::from(self.second);
         let fourth = third + usize::from(self.third);
+        let fifth = fourth + usize::from(self.fourth);
+        let reply = fifth + usize::from(self.fifth);
         Texts {
-            first: &all[self.at as usize..second],
-            second: &all[second..third],
-            third: &all[third..fourth],
-            fourth: &all[fourth..fourth + usize::from(self.fourth)],
+            first: text_at(all, self.at as usize, self.first),
+            second: text_at(all, second, self.second),
+            third: text_at(all, third, self.third),
+            fourth: text_at(all, fourth, self.fourth),
+            fifth: text_at(all, fifth, self.fifth),
+            reply: text_at(all, reply, self.reply),
         }
     }
 }
 
-/// The name of the group in a reply.
-fn group_in(reply: &Reply) -> &[u8]
-    ensures group { result.now ≡ group_in reply.now }
-    ensures short { length result.now ≤ 12 }
-    ensures sound { HasGroup reply.now }
+/// Appends a text, for which there is room.
+#[inline(always)]
+fn put(all: &mut Vec<u8>, text: &[u8])
+    requires { length all.old.items + length text.now ≤ vec_capacity all.old }
+    ensures text { all.new.items ≡ all.old.items ++ text.now }
+    ensures room { vec_capacity all.old ≤ vec_capacity all.new }
 {
-    match reply {
-        Reply::Accepted(Done::Offered { group, .. }) => group.get(),
-        _ => &[],
+    if !text.is_empty() {
+        let _ = all.extend_from_slice(text);
     }
+}
+
+/// So many bytes of all texts from a place on.
+fn text_at(all: &[u8], at: usize, len: u8) -> &[u8]
+    requires { at + len ≤ length all.now }
+    ensures { result.now ≡ text_at all.now at len }
+{
+    &all[at..at + usize::from(len)]
 }
 
 impl<'a> Texts<'a> {
-    /// The texts of a command with its reply.
-    pub(crate) fn of(command: &'a Command, reply: &'a Reply) -> Self
-        ensures texts { result ≡ texts_of command.now reply.now }
-        ensures short { AreShort result }
-        ensures sound { HasTexts command.now }
-        ensures group { HasGroup reply.now }
-    {
-        let group = group_in(reply);
-        match command {
-            Command::ReportSide {
-                id,
-                match_id,
-                symbol,
-                account,
-                ..
-            } => Texts {
-                first: id.get(),
-                second: match_id.get(),
-                third: symbol.get(),
-                fourth: account.get(),
-            },
-            Command::GiveUp { id, report, .. } => Texts {
-                first: id.get(),
-                second: report.get(),
-                third: group,
-                fourth: &[],
-            },
-            _ => Texts {
-                first: &[],
-                second: &[],
-                third: group,
-                fourth: &[],
-            },
-        }
-    }
-
-    /// No texts.
-    pub(crate) fn none() -> Self
-        ensures { result ≡ no_texts }
+    /// The name in a reply, and no other text.
+    pub(crate) fn of_reply(name: &'a [u8]) -> Self
+        requires { length name.now ≤ 12 }
+        ensures { result ≡ record no_texts { reply = name.now } }
     {
         Texts {
             first: &[],
             second: &[],
             third: &[],
             fourth: &[],
+            fifth: &[],
+            reply: name,
         }
     }
 
-    /// The first one.
-    pub(crate) fn first(&self) -> &[u8]
-        ensures { result.now ≡ self.now.first }
+    /// These texts with the name of a firm.
+    pub(crate) fn with_firm(self, firm: &'a FirmId) -> Self
+        ensures texts { result ≡ record self.entry { fifth = firm.now.name } }
+        ensures sound { IsName firm.now.name }
     {
-        self.first
+        let fifth = firm.get();
+        Texts { fifth, ..self }
     }
 
-    /// The second one.
-    pub(crate) fn second(&self) -> &[u8]
-        ensures { result.now ≡ self.now.second }
+    /// These texts with two ids.
+    pub(crate) fn with_ids(self, first: &'a Id, second: &'a Id) -> Self
+        ensures texts { result ≡ record self.entry { first = first.now; second = second.now } }
+        ensures sound { IsId first.now × IsId second.now }
     {
-        self.second
-    }
-
-    /// The third one.
-    pub(crate) fn third(&self) -> &[u8]
-        ensures { result.now ≡ self.now.third }
-    {
-        self.third
-    }
-
-    /// The fourth one.
-    pub(crate) fn fourth(&self) -> &[u8]
-        ensures { result.now ≡ self.now.fourth }
-    {
-        self.fourth
+        Texts {
+            first: first.get(),
+            second: second.get(),
+            ..self
+        }
     }
 
     /// Where they stand, from a place on.
@@ -166,6 +160,8 @@ impl<'a> Texts<'a> {
             second: self.second.len() as u8,
             third: self.third.len() as u8,
             fourth: self.fourth.len() as u8,
+            fifth: self.fifth.len() as u8,
+            reply: self.reply.len() as u8,
         }
     }
 
@@ -173,7 +169,12 @@ impl<'a> Texts<'a> {
     fn len(&self) -> usize
         ensures { result ≡ length (joined self.now) }
     {
-        self.first.len() + self.second.len() + self.third.len() + self.fourth.len()
+        self.first.len()
+            + self.second.len()
+            + self.third.len()
+            + self.fourth.len()
+            + self.fifth.len()
+            + self.reply.len()
     }
 
     #[tactic(auto, using(crate::proofs::PackedLemmas::none_joined))]
@@ -187,10 +188,12 @@ impl<'a> Texts<'a> {
             return Ok(());
         }
         all.reserve(len)?;
-        let _ = all.extend_from_slice(self.first);
-        let _ = all.extend_from_slice(self.second);
-        let _ = all.extend_from_slice(self.third);
-        let _ = all.extend_from_slice(self.fourth);
+        put(all, self.first);
+        put(all, self.second);
+        put(all, self.third);
+        put(all, self.fourth);
+        put(all, self.fifth);
+        put(all, self.reply);
         Ok(())
     }
 }

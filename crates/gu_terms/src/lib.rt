@@ -30,6 +30,7 @@ mod number_text;
 mod offer;
 mod offer_no;
 mod packed;
+mod packed_parts;
 mod packed_same;
 mod packed_shown;
 mod padded;

@@ -1,7 +1,7 @@
 //! What limits are set on.
 
 ghost use Rattle.std.specs.Prelude.{◌≡◌, ◌↔◌, IsTrue};
-ghost use Rattle.gu_terms.specs.LimitKeys.{key_eq, key_of, kind_of, name_of_key};
+ghost use Rattle.gu_terms.specs.LimitKeys.{key_by, key_eq, key_of, kind_of, name_of_key};
 ghost use Rattle.gu_terms.specs.Names.{IsName};
 
 use crate::account::AccountId;
@@ -72,5 +72,43 @@ impl LimitKey {
         ensures same { IsTrue result ↔ (self ≡ other) }
     {
         self == other
+    }
+}
+
+/// The kind of a key, without its name.
+#[derive(Clone, Copy)]
+pub(crate) enum KeyKind {
+    Exec,
+    Agr,
+    Acct,
+    Carry,
+    Guar,
+}
+
+impl KeyKind {
+    /// The kind of a key.
+    pub(crate) fn of(key: LimitKey) -> KeyKind
+        ensures { key_by result (name_of_key key) ≡ key }
+    {
+        match key {
+            LimitKey::Exec(_) => KeyKind::Exec,
+            LimitKey::Agr(_) => KeyKind::Agr,
+            LimitKey::Acct(_) => KeyKind::Acct,
+            LimitKey::Carry(_) => KeyKind::Carry,
+            LimitKey::Guar(_) => KeyKind::Guar,
+        }
+    }
+
+    /// The key of this kind and this name.
+    pub(crate) fn key(self, name: Name) -> LimitKey
+        ensures { result ≡ key_by self name }
+    {
+        match self {
+            KeyKind::Exec => LimitKey::Exec(FirmId { name }),
+            KeyKind::Agr => LimitKey::Agr(AgreementId { name }),
+            KeyKind::Acct => LimitKey::Acct(AccountId { name }),
+            KeyKind::Carry => LimitKey::Carry(FirmId { name }),
+            KeyKind::Guar => LimitKey::Guar(FirmId { name }),
+        }
     }
 }

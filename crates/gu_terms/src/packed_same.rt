@@ -2,30 +2,29 @@
 
 ghost use Rattle.std.specs.Prelude.{◌≡◌, ◌↔◌, IsTrue, List, ℕ};
 ghost use Rattle.gu_terms.specs.Histories.{swept_by};
-ghost use Rattle.gu_terms.specs.PackedEntries.{entry_by, entry_of, AreSound, IsWithin};
+ghost use Rattle.gu_terms.specs.PackedEntries.{entry_of, entry_with, firm_by, AreSound, IsWithin};
 
 use crate::command::Command;
 use crate::entry::{Entry, SweepEntry};
-use crate::firm::FirmId;
 use crate::kept_texts::Texts;
 use crate::lines::Line;
-use crate::packed::{Body, Packed};
+use crate::packed::{Body, Packed, firm, limit, line};
 use crate::reply::Reply;
 
 /// Whether a command gives these lines up.
-fn is_give_up(command: &Command, firm: FirmId, texts: &Texts<'_>, lines: &[Line]) -> bool
-    ensures { IsTrue result ↔ (Command.GiveUp firm texts.now.first texts.now.second lines.now ≡ command.now) }
+fn is_give_up(command: &Command, texts: &Texts<'_>, lines: &[Line]) -> bool
+    ensures { IsTrue result ↔ (Command.GiveUp (firm_by texts.now) texts.now.first texts.now.second lines.now ≡ command.now) }
 {
     match command {
         Command::GiveUp {
-            firm: firm_of_command,
+            firm,
             id,
             report,
             lines: lines_of_command,
         } => {
-            firm == *firm_of_command
-                && id.is_text(texts.first())
-                && report.is_text(texts.second())
+            texts.fifth == firm.get()
+                && id.is_text(texts.first)
+                && report.is_text(texts.second)
                 && lines_of_command.are(lines)
         }
         _ => false,
@@ -34,41 +33,45 @@ fn is_give_up(command: &Command, firm: FirmId, texts: &Texts<'_>, lines: &[Line]
 
 impl Packed {
     /// Whether what is kept so, with these texts, is this command with this reply.
-    fn is_asked(&self, texts: &Texts<'_>, command: &Command, reply: Reply) -> bool
-        requires { AreSound texts.now self.now.body self.now.reply }
-        ensures { IsTrue result ↔ (entry_by texts.now self.now.body self.now.reply ≡ Entry.Asked command.now reply) }
+    fn is_asked(&self, texts: &Texts<'_>, command: &Command, reply: &Reply) -> bool
+        requires { AreSound texts.now self.now }
+        ensures { IsTrue result ↔ (entry_with texts.now self.now ≡ Entry.Asked command.now reply.now) }
     {
-        let is_command = match &self.body {
-            Body::OpenDay { day } => Command::OpenDay { day: *day }.is_same(command),
-            Body::SetLimit { group, key, lots } => Command::SetLimit {
-                group: *group,
-                key: *key,
-                lots: *lots,
+        let is_reply = self.reply.reply(texts.reply).is_same(*reply);
+        match &self.body {
+            Body::OpenDay { day } => Command::OpenDay { day: *day }.is_same(command) && is_reply,
+            Body::SetLimit { kind, lots } => limit(texts, *kind, *lots).is_same(command)
+                && is_reply,
+            Body::ReportSide { report, price } => report.command(texts, *price).is_same(command)
+                && is_reply,
+            Body::GiveUpOne { lots } => is_give_up(command, texts, &[line(texts, *lots)])
+                && is_reply,
+            Body::GiveUp(lines) => is_give_up(command, texts, lines.as_slice()) && is_reply,
+            Body::Claim { offer } => {
+                let own = Command::Claim {
+                    firm: firm(texts),
+                    offer: *offer,
+                };
+                own.is_same(command) && is_reply
             }
-            .is_same(command),
-            Body::ReportSide(report) => report.command(texts).is_same(command),
-            Body::GiveUpOne { firm, line } => is_give_up(command, *firm, texts, &[*line]),
-            Body::GiveUp { firm, lines } => is_give_up(command, *firm, texts, lines.as_slice()),
-            Body::Claim { firm, offer } => Command::Claim {
-                firm: *firm,
-                offer: *offer,
+            Body::Refuse { why, offer } => {
+                let own = Command::Refuse {
+                    firm: firm(texts),
+                    offer: *offer,
+                    why: *why,
+                };
+                own.is_same(command) && is_reply
             }
-            .is_same(command),
-            Body::Refuse { firm, why, offer } => Command::Refuse {
-                firm: *firm,
-                offer: *offer,
-                why: *why,
+            Body::Reverse { offer } => {
+                let own = Command::Reverse {
+                    firm: firm(texts),
+                    offer: *offer,
+                };
+                own.is_same(command) && is_reply
             }
-            .is_same(command),
-            Body::Reverse { firm, offer } => Command::Reverse {
-                firm: *firm,
-                offer: *offer,
-            }
-            .is_same(command),
             Body::Swept(_) => false,
-            Body::Whole(entry) => return entry.is_asked(command, reply),
-        };
-        is_command && self.reply.reply(texts.third()).is_same(reply)
+            Body::Whole(entry) => entry.is_asked(command, *reply),
+        }
     }
 
     /// Whether what is kept so is this sweep.
@@ -88,11 +91,7 @@ impl Packed {
         ensures { IsTrue result ↔ (entry_of all.now self.now ≡ entry.now) }
     {
         match entry {
-            Entry::Asked { command, reply } => self.is_asked(
-                &self.span.texts(all),
-                command,
-                *reply,
-            ),
+            Entry::Asked { command, reply } => self.is_asked(&self.span.texts(all), command, reply),
             Entry::Swept(sweep) => self.is_sweep(sweep),
         }
     }

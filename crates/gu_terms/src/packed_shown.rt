@@ -78,13 +78,14 @@ impl Packed {
         ensures { result ≡ event_of (entry_of all.now self.now) }
     {
         match (&self.body, self.reply) {
-            (Body::ReportSide(_), KeptReply::Reported { matched: true }) => EntryEvent::Matched {
-                match_id: Id::known(self.span.texts(all).second()),
-            },
+            (Body::ReportSide { .. }, KeptReply::Reported { matched: true }) =>
+                EntryEvent::Matched {
+                    match_id: Id::known(self.span.texts(all).second),
+                },
             (Body::GiveUpOne { .. }, KeptReply::Offered { first, .. }) => {
                 EntryEvent::Offered { first, count: 1 }
             }
-            (Body::GiveUp { lines, .. }, KeptReply::Offered { first, .. }) => EntryEvent::Offered {
+            (Body::GiveUp(lines), KeptReply::Offered { first, .. }) => EntryEvent::Offered {
                 first,
                 count: lines.count(),
             },

@@ -1,7 +1,7 @@
 //! Why commands are refused.
 
-ghost use Rattle.std.specs.Prelude.{◌≡◌, ◌↔◌, ◌≤◌, length, IsTrue};
-ghost use Rattle.gu_terms.specs.Refusals.{IsRefusalText, key_in, number_of, name_of, text_of};
+ghost use Rattle.std.specs.Prelude.{◌≡◌, ◌↔◌, ◌≤◌, length, IsTrue, None};
+ghost use Rattle.gu_terms.specs.Refusals.{IsRefusalText, key_in, number_of, name_of, refusal_of, text_of};
 
 use crate::limit_key::LimitKey;
 use crate::refusal_text::RefusalText;
@@ -50,9 +50,10 @@ pub enum Refusal {
 }
 
 impl Refusal {
-    /// Its number in a reply.
-    pub fn number(self) -> u64
-        ensures { result ≡ number_of self }
+    /// Its number in a reply, in one byte.
+    pub(crate) fn code(self) -> u8
+        ensures number { result ≡ number_of self }
+        ensures back { key_in self ≡ None → refusal_of result ≡ self }
     {
         match self {
             Refusal::NoDay => 1,
@@ -75,6 +76,39 @@ impl Refusal {
             Refusal::OfferOpen => 18,
             Refusal::NothingToReverse => 19,
         }
+    }
+
+    /// The refusal of a number, of those that name no key.
+    pub(crate) fn of_code(code: u8) -> Refusal
+        ensures { result ≡ refusal_of code }
+    {
+        match code {
+            1 => Refusal::NoDay,
+            2 => Refusal::WrongDay,
+            3 => Refusal::UnknownInstrument,
+            4 => Refusal::UnknownAccount,
+            5 => Refusal::NotYours,
+            6 => Refusal::DuplicateId,
+            7 => Refusal::MatchConflict,
+            8 => Refusal::UnknownTrade,
+            9 => Refusal::NotMatched,
+            10 => Refusal::NoAgreement,
+            11 => Refusal::TooManyLots,
+            12 => Refusal::TooManyOffers,
+            13 => Refusal::UnknownOffer,
+            14 => Refusal::OfferClosed,
+            16 => Refusal::UnknownKey,
+            17 => Refusal::TooHigh,
+            18 => Refusal::OfferOpen,
+            _ => Refusal::NothingToReverse,
+        }
+    }
+
+    /// Its number in a reply.
+    pub fn number(self) -> u64
+        ensures { result ≡ number_of self }
+    {
+        u64::from(self.code())
     }
 
     /// Its name in a reply.

@@ -1,0 +1,109 @@
+//! Commands taken apart, as a history keeps them.
+
+ghost use Rattle.std.specs.Prelude.{◌≡◌, ◌≤◌, length, IfOk};
+ghost use Rattle.gu_terms.specs.Names.{IsId, IsName};
+ghost use Rattle.gu_terms.specs.PackedEntries.{firm_by, IsCommandOf};
+
+use crate::command::Command;
+use crate::group::Group;
+use crate::kept_texts::Texts;
+use crate::limit_key::{KeyKind, LimitKey};
+use crate::lines::Lines;
+use crate::packed::{Body, KeptReport};
+use std::alloc::{AllocError, Global};
+
+/// A limit taken apart, its group and the name of its key added to these texts.
+fn limit_parts<'a>(
+    texts: Texts<'a>,
+    group: &'a Group,
+    key: &'a LimitKey,
+    lots: u64,
+) -> (Texts<'a>, Body)
+    ensures { IsCommandOf result.0 result.1 (Command.SetLimit group.now key.now lots) texts.entry.reply }
+{
+    let texts = Texts {
+        third: group.get(),
+        fourth: key.name(),
+        ..texts
+    };
+    let kind = KeyKind::of(*key);
+    (texts, Body::SetLimit { kind, lots })
+}
+
+/// A give-up of these lines taken apart, the account of one line added to its other texts.
+fn give_up_parts<'a>(
+    alloc: Global,
+    texts: Texts<'a>,
+    lines: &'a Lines,
+) -> Result<(Texts<'a>, Body), AllocError>
+    requires ids { IsId texts.first × IsId texts.second }
+    requires firm { IsName texts.fifth }
+    ensures { IfOk result (λ parts. IsCommandOf parts.0 parts.1
+        (Command.GiveUp (firm_by texts.entry) texts.entry.first texts.entry.second lines.now) texts.entry.reply) }
+{
+    let [line] = lines.as_slice() else {
+        let lines = Box::new(alloc, lines.copy()?)?;
+        return Ok((texts, Body::GiveUp(lines)));
+    };
+    let fourth = line.account.get();
+    let lots = line.lots;
+    Ok((Texts { fourth, ..texts }, Body::GiveUpOne { lots }))
+}
+
+impl Body {
+    /// A command taken apart: its texts, with the name in its reply, and what is kept beside them.
+    pub(crate) fn of<'a>(
+        alloc: Global,
+        command: &'a Command,
+        name: &'a [u8],
+    ) -> Result<(Texts<'a>, Body), AllocError>
+        requires { length name.now ≤ 12 }
+        ensures { IfOk result (λ parts. IsCommandOf parts.0 parts.1 command.now name.now) }
+    {
+        let texts = Texts::of_reply(name);
+        Ok(match command {
+            Command::OpenDay { day } => (texts, Body::OpenDay { day: *day }),
+            Command::SetLimit { group, key, lots } => limit_parts(texts, group, key, *lots),
+            Command::ReportSide {
+                firm,
+                id,
+                match_id,
+                symbol,
+                lots,
+                price,
+                day,
+                side,
+                account,
+            } => {
+                let texts = Texts {
+                    third: symbol.get(),
+                    fourth: account.get(),
+                    ..texts.with_firm(firm).with_ids(id, match_id)
+                };
+                let report = KeptReport {
+                    side: *side,
+                    day: *day,
+                    lots: *lots,
+                };
+                let price = *price;
+                (texts, Body::ReportSide { report, price })
+            }
+            Command::GiveUp {
+                firm,
+                id,
+                report,
+                lines,
+            } => give_up_parts(alloc, texts.with_firm(firm).with_ids(id, report), lines)?,
+            Command::Claim { firm, offer } => {
+                (texts.with_firm(firm), Body::Claim { offer: *offer })
+            }
+            Command::Refuse { firm, offer, why } => {
+                let (why, offer) = (*why, *offer);
+                (texts.with_firm(firm), Body::Refuse { why, offer })
+            }
+            Command::Reverse { firm, offer } => {
+                (texts.with_firm(firm), Body::Reverse { offer: *offer })
+            }
+        })
+    }
+}
