@@ -1,6 +1,6 @@
 //! Lists of places, one after another in one buffer.
 
-ghost use Rattle.std.specs.Prelude.{◌≡◌, ◌<◌, ◌≤◌, ◌∷◌, ◌++◌, [], length, OnOk, OnErr, IfOk, slice_get, slice_index, slice_range};
+ghost use Rattle.std.specs.Prelude.{◌≡◌, ◌↔◌, ◌<◌, ◌≤◌, ◌∷◌, ◌++◌, [], length, IsTrue, OnOk, OnErr, IfOk, slice_get, slice_index, slice_range};
 ghost use Rattle.gu_view.specs.Keeping.{lists_from, AreEnds, AreOnce, IsOnce};
 
 use std::alloc::{AllocError, Global};
@@ -52,6 +52,18 @@ fn append_once(once: &mut Vec<u32>, list: &[u32]) -> Result<(), AllocError>
         }
     }
     Ok(())
+}
+
+/// Whether no number comes twice in a list.
+fn is_once(list: &[u32]) -> bool
+    ensures { IsTrue result ↔ IsOnce list.now list.now }
+{
+    for (place, number) in list.iter().enumerate() {
+        if list[..place].contains(number) {
+            return false;
+        }
+    }
+    true
 }
 
 impl PlaceLists {
@@ -106,6 +118,18 @@ impl PlaceLists {
         let joined = self.joined.clone()?;
         let ends = self.ends.clone()?;
         Ok(PlaceLists { joined, ends })
+    }
+
+    /// Whether no number comes twice in one of them.
+    pub fn are_once(&self) -> bool
+        ensures { IsTrue result → AreOnce self.now self.now }
+    {
+        for place in 0..self.count() {
+            if !is_once(self.list(place)) {
+                return false;
+            }
+        }
+        true
     }
 
     /// The same lists, each without the numbers that came before in it.
