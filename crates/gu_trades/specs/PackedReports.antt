@@ -33,21 +33,13 @@ kept_at at r =
       price = r.price;
     }
 
--- the bytes of a report's own id
-abbrev pub own_id : List ℕ → Packed → List ℕ
-own_id texts kept = text_at texts kept.at kept.own
-
--- and of its match id, which come after them
-abbrev pub match_id_of : List ℕ → Packed → List ℕ
-match_id_of texts kept = text_at texts (kept.at + kept.own) kept.matched
-
 -- the report that is kept so
 abbrev pub report_of_kept : List ℕ → Packed → Report
 report_of_kept texts kept =
     record {
       firm = record { name = text_at texts (kept.at + kept.own + kept.matched) kept.firm };
-      id = own_id texts kept;
-      match_id = match_id_of texts kept;
+      id = text_at texts kept.at kept.own;
+      match_id = text_at texts (kept.at + kept.own) kept.matched;
       symbol = record { name = text_at texts (kept.at + kept.own + kept.matched + kept.firm) kept.symbol };
       lots = kept.lots;
       price = kept.price;

@@ -7,7 +7,7 @@ ghost use Rattle.gu_trades.specs.Kept.{is_by_at, is_with_at};
 ghost use Rattle.gu_trades.specs.PackedReports.{report_of_kept, texts_of, IsWithin};
 ghost use Rattle.gu_trades.specs.Terms.{terms_of};
 
-use crate::packed::Packed;
+use crate::packed::{KeptRef, Packed};
 use crate::report_ref::ReportRef;
 use crate::terms::Terms;
 use gu_terms::{FirmId, Id, Report};
@@ -89,12 +89,20 @@ impl Reports {
         }
     }
 
+    /// The report at a place, where it is kept.
+    fn at(&self, place: usize) -> KeptRef<'_>
+        requires { place < length self.now }
+        ensures { slice_get self.now place ≡ Some result }
+    {
+        KeptRef::new(&self.rows[place], &self.texts)
+    }
+
     /// Whether the report at a place is the firm's with this id.
     pub(crate) fn is_by(&self, place: usize, firm: &FirmId, id: &Id) -> bool
         requires { place < length self.now }
         ensures { result ≡ is_by_at self.now firm.now id.now place }
     {
-        self.rows[place].is_by(&self.texts, firm, id)
+        self.at(place).is_by(firm, id)
     }
 
     /// Whether the report at a place has this match id.
@@ -102,7 +110,7 @@ impl Reports {
         requires { place < length self.now }
         ensures { result ≡ is_with_at self.now match_id.now place }
     {
-        self.rows[place].match_id(&self.texts) == match_id.get()
+        self.at(place).is_with(match_id)
     }
 
     /// The match id of the report at a place.
@@ -110,7 +118,7 @@ impl Reports {
         requires { place < length self.now }
         ensures { option_map (λ (r : ReportOf). r.match_id) (slice_get self.now place) ≡ Some result }
     {
-        Id::known(self.rows[place].match_id(&self.texts))
+        self.at(place).match_id()
     }
 
     /// The report at a place.
@@ -118,7 +126,7 @@ impl Reports {
         requires { place < length self.now }
         ensures { slice_get self.now place ≡ Some result }
     {
-        self.rows[place].report(&self.texts)
+        self.at(place).report()
     }
 
     /// The terms of the report at a place.
@@ -126,7 +134,7 @@ impl Reports {
         requires { place < length self.now }
         ensures { option_map terms_of (slice_get self.now place) ≡ Some result }
     {
-        self.rows[place].terms(&self.texts)
+        self.at(place).terms()
     }
 
     /// Puts a report after the others.
