@@ -114,7 +114,7 @@ impl Name {
     }
 
     /// The name with these bytes, which are known to be those of one.
-    pub(crate) fn known(bytes: &[u8]) -> Self
+    pub fn known(bytes: &[u8]) -> Self
         requires { IsName bytes.now }
         ensures { result ≡ bytes.now }
     {

@@ -1,17 +1,11 @@
 -- A report as it is kept, read at its place.
 use Rattle.std.proofs.Common.{◌≡◌, ◌∙◌, ℕ, ◌<◌, List, All, Some, length, map, get_or, arith, ap, sym, subst, refl}
-use Rattle.std.specs.Prelude.{◌&&◌, false, slice_get}
+use Rattle.std.specs.Prelude.{slice_get}
 use Rattle.std.proofs.lemmas.List.{length-map}
 use Rattle.std.proofs.lemmas.Option.{slice_get-map, slice_get_read}
-use Rattle.std.specs.Option.{option_map, option_map_or}
-use Rattle.std.specs.Str.{bytes_eq}
-use Rattle.gu_terms.specs.Same.{same_id}
-use Rattle.gu_terms.specs.declared.firm.FirmId.{FirmId}
-use Rattle.gu_terms.specs.declared.id.Id.{Id}
+use Rattle.std.specs.Option.{option_map}
 use Rattle.gu_terms.specs.declared.report.Report.{Report}
-use Rattle.gu_trades.specs.Kept.{is_by_at, is_with_at}
-use Rattle.gu_trades.specs.PackedReports.{IsWithin, match_id_of, own_id, report_of_kept}
-use Rattle.gu_trades.specs.Reports.{is_by}
+use Rattle.gu_trades.specs.PackedReports.{IsWithin, report_of_kept}
 use Rattle.gu_trades.specs.declared.packed.Packed.{Packed}
 
 module _ (texts : List ℕ) (rows : List Packed) (reports : List Report) (place : ℕ) (view : map (report_of_kept texts) rows ≡ reports) (inside : place < length reports) where
@@ -27,13 +21,6 @@ module _ (texts : List ℕ) (rows : List Packed) (reports : List Report) (place 
         ∙ slice_get-map (report_of_kept texts) rows place
         ∙ ap (option_map (report_of_kept texts)) (slice_get_read rows (length rows) place kept refl kept-inside is)
 
-    -- whose ids stand within the texts
+    -- whose texts are within those of all
     pub within-at : (read : List ℕ) → read ≡ texts → All (IsWithin texts) rows → IsWithin read kept
     within-at read same all = subst (λ t. IsWithin t kept) (sym same) (subst (IsWithin texts) (sym is) (all place kept kept-inside))
-
-    -- so that it is a firm's with an id where what is kept is, and has the match id that is kept
-    pub by-at : (firm : FirmId) (id : Id) → is_by_at reports firm id place ≡ (bytes_eq kept.firm.name firm.name && bytes_eq (own_id texts kept) id)
-    by-at firm id = ap (λ r. option_map_or (is_by firm id) r false) report-at
-
-    pub with-at : (match_id : Id) → is_with_at reports match_id place ≡ bytes_eq (match_id_of texts kept) match_id
-    with-at match_id = ap (λ r. option_map_or (λ (r : Report). same_id r.match_id match_id) r false) report-at

@@ -1,15 +1,12 @@
--- Reports as they are kept: what comes after their ids leaves them as they are.
+-- Reports as they are kept: what comes after their texts leaves them as they are.
 use Rattle.std.proofs.Common.{◌≡◌, ℕ, suc, ◌+◌, ◌≤◌, List, [], ◌∷◌, ◌++◌, All, length, map, take, drop, arith, refl, ap, subst, ◌∙◌, get_or, sym}
-use Rattle.std.proofs.lemmas.List.{append_assoc, drop-append-le, length-append, length-drop, map-append, take-append-le, take_all}
+use Rattle.std.proofs.lemmas.List.{append-nil, append_assoc, drop-append-le, length-append, length-drop, map-append, take-append-le}
 use Rattle.std.proofs.lemmas.List.Elements.{All-push}
-use Rattle.std.proofs.Math.Seq.{drop-append_seam, drop-append-add, take-append_seam}
+use Rattle.std.proofs.Math.Seq.{drop-append_seam, take-append_seam}
 use Rattle.gu_terms.specs.PackedEntries.{text_at}
-use Rattle.gu_terms.specs.Names.{IsId}
-use Rattle.gu_terms.specs.declared.firm.FirmId.{FirmId}
-use Rattle.gu_trades.specs.PackedReports.{IsWithin, match_id_of, own_id, report_of_kept}
-use Rattle.gu_trades.specs.Terms.{report_with}
+use Rattle.gu_terms.specs.declared.report.Report.{Report}
+use Rattle.gu_trades.specs.PackedReports.{HasIdsAndNames, IsWithin, kept_at, report_of_kept, texts_of}
 use Rattle.gu_trades.specs.declared.packed.Packed.{Packed}
-use Rattle.gu_trades.specs.declared.terms.Terms.{Terms}
 
 -- bytes within the texts stay, whatever comes after
 text_at-front : (texts more : List ℕ) (at len : ℕ) → at + len ≤ length texts → text_at (texts ++ more) at len ≡ text_at texts at len
@@ -17,22 +14,21 @@ text_at-front texts more at len within =
     ap (take len) (drop-append-le at texts more (omega (arith, within)))
     ∙ take-append-le len (drop at texts) more (omega (arith, length-drop at texts, within))
 
-module _ (texts more : List ℕ) (kept : Packed) (h : kept.at + kept.own + kept.matched ≤ length texts) where
-  own-front : own_id (texts ++ more) kept ≡ own_id texts kept
-  own-front = text_at-front texts more kept.at kept.own (omega (arith, h))
-
-  match-front : match_id_of (texts ++ more) kept ≡ match_id_of texts kept
-  match-front = text_at-front texts more (kept.at + kept.own) kept.matched h
-
-  -- and so does the report whose ids they are
-  report-front : report_of_kept (texts ++ more) kept ≡ report_of_kept texts kept
-  report-front = λ i. report_with kept.firm (own-front i) (match-front i) kept.terms
+-- and so do reports
+report-front : (texts more : List ℕ) (k : Packed) → k.at + k.own + k.matched + k.firm + k.symbol + k.account ≤ length texts
+    → report_of_kept (texts ++ more) k ≡ report_of_kept texts k
+report-front texts more k h =
+    let own = text_at-front texts more k.at k.own (omega (arith, h)) in
+    let matched = text_at-front texts more (k.at + k.own) k.matched (omega (arith, h)) in
+    let firm = text_at-front texts more (k.at + k.own + k.matched) k.firm (omega (arith, h)) in
+    let symbol = text_at-front texts more (k.at + k.own + k.matched + k.firm) k.symbol (omega (arith, h)) in
+    let account = text_at-front texts more (k.at + k.own + k.matched + k.firm + k.symbol) k.account (omega (arith, h)) in
+    rw (own, matched, firm, symbol, account) refl
 
 within-front : (texts more : List ℕ) (kept : Packed) → IsWithin texts kept → IsWithin (texts ++ more) kept
 within-front texts more kept h = record {
   within = omega (arith, length-append texts more, h.within);
-  own_is = subst IsId (sym (own-front texts more kept h.within)) h.own_is;
-  matched_is = subst IsId (sym (match-front texts more kept h.within)) h.matched_is;
+  sound = subst HasIdsAndNames (sym (report-front texts more kept h.within)) h.sound;
 }
 
 map-front : (texts more : List ℕ) (rows : List Packed) → All (IsWithin texts) rows → map (report_of_kept (texts ++ more)) rows ≡ map (report_of_kept texts) rows
@@ -41,38 +37,54 @@ map-front texts more (k ∷ ks) h =
     ap (λ r. r ∷ map (report_of_kept (texts ++ more)) ks) (report-front texts more k (h 0 k (omega arith)).within)
     ∙ ap (λ rs. report_of_kept texts k ∷ rs) (map-front texts more ks (λ i d within. h (suc i) d (omega arith)))
 
--- a report more, whose ids come after the texts
-module _ (texts own matched : List ℕ) (rows : List Packed) (firm : FirmId) (terms : Terms) (h : All (IsWithin texts) rows) (own_is : IsId own) (matched_is : IsId matched) where
-  abbrev pub new : Packed
-  new = record { firm = firm; own = length own; matched = length matched; at = length texts; terms = terms }
+-- a text after others is found where it stands
+text_at-new : (before text more all : List ℕ) (at : ℕ) → all ≡ before ++ (text ++ more) → at ≡ length before → text_at all at (length text) ≡ text
+text_at-new before text more all at is there = rw (is, there, drop-append_seam before (text ++ more), take-append_seam text more) refl
 
-  abbrev pub all : List ℕ
-  all = (texts ++ own) ++ matched
+-- and so is a report
+report-new : (texts : List ℕ) (r : Report) → report_of_kept (texts ++ texts_of r) (kept_at (length texts) r) ≡ r
+report-new texts r =
+    let all : List ℕ = texts ++ texts_of r in
+    let at : ℕ = length texts in
+    let own : text_at all at (length r.id) ≡ r.id =
+    text_at-new texts r.id (r.match_id ++ (r.firm.name ++ (r.symbol.name ++ r.account.name))) all at refl refl in
+    let matched : text_at all (at + length r.id) (length r.match_id) ≡ r.match_id =
+    text_at-new (texts ++ r.id) r.match_id (r.firm.name ++ (r.symbol.name ++ r.account.name)) all (at + length r.id) (simp append_assoc) (simp length-append) in
+    let firm : text_at all (at + length r.id + length r.match_id) (length r.firm.name) ≡ r.firm.name =
+    text_at-new ((texts ++ r.id) ++ r.match_id) r.firm.name (r.symbol.name ++ r.account.name) all (at + length r.id + length r.match_id)
+    (simp append_assoc) (simp length-append) in
+    let symbol : text_at all (at + length r.id + length r.match_id + length r.firm.name) (length r.symbol.name) ≡ r.symbol.name =
+    text_at-new (((texts ++ r.id) ++ r.match_id) ++ r.firm.name) r.symbol.name r.account.name all (at + length r.id + length r.match_id + length r.firm.name)
+    (simp append_assoc) (simp length-append) in
+    let account : text_at all (at + length r.id + length r.match_id + length r.firm.name + length r.symbol.name) (length r.account.name) ≡ r.account.name =
+    text_at-new ((((texts ++ r.id) ++ r.match_id) ++ r.firm.name) ++ r.symbol.name) r.account.name [] all
+    (at + length r.id + length r.match_id + length r.firm.name + length r.symbol.name)
+    (simp (append_assoc, append-nil)) (simp length-append) in
+    rw (own, matched, firm, symbol, account) refl
 
-  regrouped : all ≡ texts ++ (own ++ matched)
-  regrouped = append_assoc texts own matched
+-- a report more, whose texts come after the others
+module _ (texts later : List ℕ) (rows more : List Packed) (at : ℕ) (r : Report) (h : All (IsWithin texts) rows) (sound : HasIdsAndNames r)
+    (there : at ≡ length texts) (longer : later ≡ texts ++ texts_of r) (one : more ≡ rows ++ kept_at at r ∷ []) where
+  new : IsWithin (texts ++ texts_of r) (kept_at (length texts) r)
+  new = record {
+    within =
+        omega (
+          arith,
+          length-append texts (texts_of r),
+          length-append r.id (r.match_id ++ (r.firm.name ++ (r.symbol.name ++ r.account.name))),
+          length-append r.match_id (r.firm.name ++ (r.symbol.name ++ r.account.name)),
+          length-append r.firm.name (r.symbol.name ++ r.account.name),
+          length-append r.symbol.name r.account.name,
+        );
+    sound = subst HasIdsAndNames (sym (report-new texts r)) sound;
+  }
 
-  own-new : own_id all new ≡ own
-  own-new = rw regrouped (rw (drop-append_seam texts (own ++ matched)) (take-append_seam own matched))
-
-  match-new : match_id_of all new ≡ matched
-  match-new = rw regrouped (rw (drop-append-add texts (own ++ matched) (length own), drop-append_seam own matched) (take_all (length matched) matched (omega arith)))
-
-  long : length all ≡ length texts + length own + length matched
-  long = omega (arith, length-append (texts ++ own) matched, length-append texts own)
-
-  all-within : All (IsWithin all) (rows ++ new ∷ [])
-  all-within =
-      All-push (IsWithin all) rows new (λ i d inside. rw regrouped (within-front texts (own ++ matched) (get_or rows i d) (h i d inside)))
-      (record { within = omega (arith, long); own_is = subst IsId (sym own-new) own_is; matched_is = subst IsId (sym match-new) matched_is })
-
-  pub reports_more : map (report_of_kept all) (rows ++ new ∷ []) ≡ map (report_of_kept texts) rows ++ report_with firm own matched terms ∷ []
-  reports_more =
-      map-append (report_of_kept all) rows (new ∷ [])
-      ∙ ap (λ rs. rs ++ report_of_kept all new ∷ []) (rw regrouped (map-front texts (own ++ matched) rows h))
-      ∙ (λ i. map (report_of_kept texts) rows ++ report_with firm (own-new i) (match-new i) terms ∷ [])
-
-module _ (texts later own matched : List ℕ) (rows more : List Packed) (firm : FirmId) (terms : Terms) (h : All (IsWithin texts) rows) (own_is : IsId own) (matched_is : IsId matched)
-    (longer : later ≡ texts ++ own ++ matched) (one : more ≡ rows ++ new texts own matched rows firm terms h own_is matched_is ∷ []) where
   pub within_more : All (IsWithin later) more
-  within_more = rw (longer, one) (all-within texts own matched rows firm terms h own_is matched_is)
+  within_more =
+      rw (longer, one, there) (All-push (IsWithin (texts ++ texts_of r)) rows (kept_at (length texts) r)
+      (λ i d inside. within-front texts (texts_of r) (get_or rows i d) (h i d inside)) new)
+
+  pub reports_more : map (report_of_kept later) more ≡ map (report_of_kept texts) rows ++ r ∷ []
+  reports_more =
+      rw (longer, one, there) (map-append (report_of_kept (texts ++ texts_of r)) rows (kept_at (length texts) r ∷ [])
+      ∙ (λ i. map-front texts (texts_of r) rows h i ++ report-new texts r i ∷ []))

@@ -1,25 +1,54 @@
--- Machinery: reports as they are kept. The ids of all stand in one list of bytes, and of each report is known where its own stand there.
-use Rattle.std.specs.Prelude.{ℕ, ◌+◌, ◌≤◌, List, length}
+-- Machinery: reports as they are kept. The texts of all are in one list of bytes, and of each report it is known where its own are.
+use Rattle.std.specs.Prelude.{ℕ, ◌+◌, ◌≤◌, ◌++◌, List, length}
 use Rattle.gu_terms.specs.PackedEntries.{text_at}
-use Rattle.gu_terms.specs.Names.{IsId}
+use Rattle.gu_terms.specs.Names.{IsId, IsName}
 use Rattle.gu_terms.specs.declared.report.Report.{Report}
-use Rattle.gu_trades.specs.Terms.{report_with}
 use Rattle.gu_trades.specs.declared.packed.Packed.{Packed}
 
--- the bytes of a report's own id
-abbrev pub own_id : List ℕ → Packed → List ℕ
-own_id texts kept = text_at texts kept.at kept.own
+-- the texts of a report, one after the other: its two ids, and the names of its firm, symbol and account
+abbrev pub texts_of : Report → List ℕ
+texts_of r = r.id ++ (r.match_id ++ (r.firm.name ++ (r.symbol.name ++ r.account.name)))
 
--- and of its match id, which come after them
-abbrev pub match_id_of : List ℕ → Packed → List ℕ
-match_id_of texts kept = text_at texts (kept.at + kept.own) kept.matched
+-- they are ids and names
+pub record HasIdsAndNames (r : Report) : Type 0 where
+  pub own : IsId r.id
+  pub matched : IsId r.match_id
+  pub firm : IsName r.firm.name
+  pub symbol : IsName r.symbol.name
+  pub account : IsName r.account.name
+
+-- what is kept of a report whose texts begin at a place
+abbrev pub kept_at : ℕ → Report → Packed
+kept_at at r =
+    record {
+      at = at;
+      own = length r.id;
+      matched = length r.match_id;
+      firm = length r.firm.name;
+      symbol = length r.symbol.name;
+      account = length r.account.name;
+      side = r.side;
+      day = r.day;
+      lots = r.lots;
+      price = r.price;
+    }
 
 -- the report that is kept so
 abbrev pub report_of_kept : List ℕ → Packed → Report
-report_of_kept texts kept = report_with kept.firm (own_id texts kept) (match_id_of texts kept) kept.terms
+report_of_kept texts kept =
+    record {
+      firm = record { name = text_at texts (kept.at + kept.own + kept.matched) kept.firm };
+      id = text_at texts kept.at kept.own;
+      match_id = text_at texts (kept.at + kept.own) kept.matched;
+      symbol = record { name = text_at texts (kept.at + kept.own + kept.matched + kept.firm) kept.symbol };
+      lots = kept.lots;
+      price = kept.price;
+      day = kept.day;
+      side = kept.side;
+      account = record { name = text_at texts (kept.at + kept.own + kept.matched + kept.firm + kept.symbol) kept.account };
+    }
 
--- its ids stand within the texts
+-- its texts are within those of all, and are ids and names
 pub record IsWithin (texts : List ℕ) (kept : Packed) : Type 0 where
-  pub within : kept.at + kept.own + kept.matched ≤ length texts
-  pub own_is : IsId (own_id texts kept)
-  pub matched_is : IsId (match_id_of texts kept)
+  pub within : kept.at + kept.own + kept.matched + kept.firm + kept.symbol + kept.account ≤ length texts
+  pub sound : HasIdsAndNames (report_of_kept texts kept)

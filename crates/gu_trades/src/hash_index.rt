@@ -14,13 +14,6 @@ const FEWEST_ROWS: usize = 16;
 
 const MOST_ROWS: usize = 1 << 31;
 
-/// How many places so many rows are for: half as many, so that most rows are empty or have one, unless there can't be more rows.
-fn places_for(rows: usize) -> usize
-    ensures { result ≤ rows }
-{
-    if rows < MOST_ROWS { rows / 2 } else { rows }
-}
-
 /// The number of a place, and the place before it in its row, counted from 1; 0 where it is the first.
 #[derive(Clone, Copy, Debug)]
 struct Link {
@@ -124,7 +117,7 @@ impl HashIndex {
         ensures numbers { self.new.numbers ≡ self.old.numbers }
         ensures room { OnOk result (0 < self.new.spare) }
     {
-        if self.links.len() < places_for(self.last.len()) {
+        if self.links.len() < self.last.len() {
             return self.links.reserve(1);
         }
         let rows = self.last.len().max(FEWEST_ROWS / 2);

@@ -1,59 +1,183 @@
-//! A report as it is kept: without the room that its ids leave empty.
+//! A report as it is kept: without the room that its texts leave empty.
 
 ghost use Rattle.std.specs.Prelude.{◌≡◌, ◌+◌, ◌≤◌, length};
+ghost use Rattle.gu_terms.specs.Names.{IsId, IsName};
 ghost use Rattle.gu_terms.specs.PackedEntries.{text_at};
-ghost use Rattle.gu_trades.specs.PackedReports.{match_id_of, own_id, report_of_kept, IsWithin};
+ghost use Rattle.gu_terms.specs.Same.{same_id};
+ghost use Rattle.gu_trades.specs.PackedReports.{kept_at, report_of_kept, HasIdsAndNames, IsWithin};
+ghost use Rattle.gu_trades.specs.Reports.{is_by};
+ghost use Rattle.gu_trades.specs.Terms.{terms_of};
 
+use crate::report_ref::ReportRef;
 use crate::terms::Terms;
-use gu_terms::{FirmId, Id, Report};
+use gu_terms::{AccountId, Day, FirmId, Id, Lots, Name, Price, Report, Side, Symbol};
+use std::marker::Model;
 
-/// A report without its ids, which stand among the texts of all reports. The fields stand from small to large, so that they take
-/// little room.
+/// A report without its ids and names, which are among the texts of all reports, one after the other.
 #[derive(Clone, Copy)]
 pub(crate) struct Packed {
-    pub(crate) firm: FirmId,
-    /// How many bytes its own id has.
-    pub(crate) own: u8,
-    /// And its match id, which comes after its own.
-    pub(crate) matched: u8,
-    /// From which byte of the texts on its ids stand.
-    pub(crate) at: usize,
-    pub(crate) terms: Terms,
+    /// Where its texts begin.
+    at: u32,
+    /// How many bytes each has: its own id and its match id, and the names of its firm, symbol and account.
+    own: u8,
+    matched: u8,
+    firm: u8,
+    symbol: u8,
+    account: u8,
+    side: Side,
+    day: Day,
+    lots: Lots,
+    price: Price,
+}
+
+/// A report where it is kept, beside the texts of all. To a contract it is the report.
+#[derive(Drop)]
+pub(crate) struct KeptRef<'a> {
+    kept: &'a Packed,
+    texts: &'a [u8],
+}
+
+impl<'a> Model for KeptRef<'a> {
+    ghost use Rattle.gu_terms.specs.declared.report.Report.{Report as Row};
+    ghost use Rattle.gu_trades.specs.PackedReports.{report_of_kept, IsWithin};
+
+    ghost Value = { Row };
+
+    ghost view = { λ k. report_of_kept k.texts.now k.kept.now };
+
+    ghost invariant = { λ k. IsWithin k.texts.now k.kept.now };
 }
 
 impl Packed {
-    /// The bytes of its own id.
-    pub(crate) fn own_id<'a>(&self, texts: &'a [u8]) -> &'a [u8]
-        requires { IsWithin texts.now self.now }
-        ensures { result.now ≡ own_id texts.now self.now }
+    /// A report as it is kept, where its texts begin at this place.
+    pub(crate) fn of(report: &ReportRef<'_>, at: u32) -> Self
+        ensures kept { result ≡ kept_at at report.now }
+        ensures sound { HasIdsAndNames report.now }
     {
-        &texts[self.at..self.at + usize::from(self.own)]
+        let terms = report.terms();
+        Packed {
+            at,
+            own: report.id().get().len() as u8,
+            matched: report.match_id().get().len() as u8,
+            firm: report.firm().get().len() as u8,
+            symbol: terms.symbol.get().len() as u8,
+            account: terms.account.get().len() as u8,
+            side: terms.side,
+            day: terms.day,
+            lots: terms.lots,
+            price: terms.price,
+        }
+    }
+
+    /// Where the name of its firm begins.
+    fn names_at(self) -> usize
+        ensures { result ≡ self.at + self.own + self.matched }
+    {
+        self.at as usize + usize::from(self.own) + usize::from(self.matched)
+    }
+}
+
+/// So many bytes of the texts, from a place on.
+fn text_at(texts: &[u8], at: usize, len: u8) -> &[u8]
+    requires { at + len ≤ length texts.now }
+    ensures { result.now ≡ text_at texts.now at len }
+{
+    &texts[at..at + usize::from(len)]
+}
+
+impl<'a> KeptRef<'a> {
+    /// The report that is kept so among these texts.
+    pub(crate) fn new(kept: &'a Packed, texts: &'a [u8]) -> Self
+        requires { IsWithin texts.now kept.now }
+        ensures { result ≡ report_of_kept texts.now kept.now }
+    {
+        KeptRef { kept, texts }
+    }
+
+    /// The bytes of its own id.
+    fn own_id(&self) -> &[u8]
+        ensures bytes { result.now ≡ self.now.id }
+        ensures sound { IsId self.now.id }
+    {
+        text_at(self.texts, self.kept.at as usize, self.kept.own)
     }
 
     /// The bytes of its match id.
-    pub(crate) fn match_id<'a>(&self, texts: &'a [u8]) -> &'a [u8]
-        requires { IsWithin texts.now self.now }
-        ensures { result.now ≡ match_id_of texts.now self.now }
+    fn match_bytes(&self) -> &[u8]
+        ensures bytes { result.now ≡ self.now.match_id }
+        ensures sound { IsId self.now.match_id }
     {
-        let from = self.at + usize::from(self.own);
-        &texts[from..from + usize::from(self.matched)]
+        let from = self.kept.at as usize + usize::from(self.kept.own);
+        text_at(self.texts, from, self.kept.matched)
+    }
+
+    /// The bytes of its firm's name.
+    fn firm(&self) -> &[u8]
+        ensures bytes { result.now ≡ self.now.firm.name }
+        ensures sound { IsName self.now.firm.name }
+    {
+        text_at(self.texts, self.kept.names_at(), self.kept.firm)
+    }
+
+    /// Whether it is the firm's with this id.
+    pub(crate) fn is_by(&self, firm: &FirmId, id: &Id) -> bool
+        ensures { result ≡ is_by firm.now id.now self.now }
+    {
+        self.firm() == firm.get() && self.own_id() == id.get()
+    }
+
+    /// Whether it has this match id.
+    pub(crate) fn is_with(&self, match_id: &Id) -> bool
+        ensures { result ≡ same_id self.now.match_id match_id.now }
+    {
+        self.match_bytes() == match_id.get()
+    }
+
+    /// Its match id.
+    pub(crate) fn match_id(&self) -> Id
+        ensures { result ≡ self.now.match_id }
+    {
+        Id::known(self.match_bytes())
+    }
+
+    /// Its terms.
+    pub(crate) fn terms(&self) -> Terms
+        ensures { result ≡ terms_of self.now }
+    {
+        let kept = self.kept;
+        let symbol = kept.names_at() + usize::from(kept.firm);
+        let account = symbol + usize::from(kept.symbol);
+        Terms {
+            symbol: Symbol {
+                name: Name::known(text_at(self.texts, symbol, kept.symbol)),
+            },
+            account: AccountId {
+                name: Name::known(text_at(self.texts, account, kept.account)),
+            },
+            side: kept.side,
+            day: kept.day,
+            lots: kept.lots,
+            price: kept.price,
+        }
     }
 
     /// The whole report.
-    pub(crate) fn report(&self, texts: &[u8]) -> Report
-        requires { IsWithin texts.now self.now }
-        ensures { result ≡ report_of_kept texts.now self.now }
+    pub(crate) fn report(&self) -> Report
+        ensures { result ≡ self.now }
     {
+        let terms = self.terms();
         Report {
-            firm: self.firm,
-            id: Id::known(self.own_id(texts)),
-            match_id: Id::known(self.match_id(texts)),
-            symbol: self.terms.symbol,
-            lots: self.terms.lots,
-            price: self.terms.price,
-            day: self.terms.day,
-            side: self.terms.side,
-            account: self.terms.account,
+            firm: FirmId {
+                name: Name::known(self.firm()),
+            },
+            id: Id::known(self.own_id()),
+            match_id: self.match_id(),
+            symbol: terms.symbol,
+            lots: terms.lots,
+            price: terms.price,
+            day: terms.day,
+            side: terms.side,
+            account: terms.account,
         }
     }
 }

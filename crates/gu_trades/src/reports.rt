@@ -1,24 +1,27 @@
 //! Reports, as they are kept.
 
-ghost use Rattle.std.specs.Prelude.{◌≡◌, ◌++◌, ◌∷◌, [], ◌<◌, ◌≤◌, All, length, map, slice_get, OnErr, OnOk, Some};
+ghost use Rattle.std.specs.Prelude.{◌≡◌, ◌++◌, ◌∷◌, [], ◌<◌, All, length, map, slice_get, OnErr, OnOk, Some};
 ghost use Rattle.std.specs.Option.{option_map};
 ghost use Rattle.gu_terms.specs.declared.report.Report.{Report as ReportOf};
 ghost use Rattle.gu_trades.specs.Kept.{is_by_at, is_with_at};
-ghost use Rattle.gu_trades.specs.PackedReports.{report_of_kept, IsWithin};
+ghost use Rattle.gu_trades.specs.PackedReports.{report_of_kept, texts_of, IsWithin};
 ghost use Rattle.gu_trades.specs.Terms.{terms_of};
 
-use crate::packed::Packed;
+use crate::packed::{KeptRef, Packed};
 use crate::report_ref::ReportRef;
 use crate::terms::Terms;
 use gu_terms::{FirmId, Id, Report};
 use std::alloc::{AllocError, Global};
 use std::marker::Model;
 
+/// The bytes of texts that are kept at most, or a few more. A report that comes then is answered as for a failed allocation.
+const MOST_TEXTS: usize = 4_000_000_000;
+
 /// Reports, in the order in which they came. To a contract it is their list.
 #[derive(Drop)]
 pub(crate) struct Reports {
     rows: Vec<Packed>,
-    /// The ids of all reports, one after the other.
+    /// The ids and names of all reports, one after the other.
     texts: Vec<u8>,
 }
 
@@ -34,21 +37,26 @@ impl Model for Reports {
     ghost invariant = { λ r. All (IsWithin r.texts.items) r.rows.items };
 }
 
-/// Appends two texts, or neither.
-fn append_texts(texts: &mut Vec<u8>, first: &[u8], second: &[u8]) -> Result<(), AllocError>
-    requires first { length first.now ≤ 64 }
-    requires second { length second.now ≤ 64 }
-    ensures appended { OnOk result (texts.new.items ≡ texts.old.items ++ first.now ++ second.now) }
+/// Appends the texts of a report, or none.
+fn append_texts(texts: &mut Vec<u8>, report: &ReportRef<'_>) -> Result<(), AllocError>
+    ensures appended { OnOk result (texts.new.items ≡ texts.old.items ++ texts_of report.now) }
     ensures refused { OnErr result (texts.new.items ≡ texts.old.items) }
 {
-    texts.reserve(first.len() + second.len())?;
-    let _ = texts.extend_from_slice(first);
-    let _ = texts.extend_from_slice(second);
+    let own = report.id().get();
+    let matched = report.match_id().get();
+    let firm = report.firm().get();
+    let symbol = report.terms().symbol.get();
+    let account = report.terms().account.get();
+    texts.reserve(own.len() + matched.len() + firm.len() + symbol.len() + account.len())?;
+    let _ = texts.extend_from_slice(own);
+    let _ = texts.extend_from_slice(matched);
+    let _ = texts.extend_from_slice(firm);
+    let _ = texts.extend_from_slice(symbol);
+    let _ = texts.extend_from_slice(account);
     Ok(())
 }
 
-#[tactic(auto, using(crate::proofs::PackedLemmas::reports_more))]
-/// Adds what is kept of a report after the others, and its ids after theirs. The growths come first.
+/// Adds what is kept of a report after the others, and its texts after theirs. The growths come first.
 fn add(
     rows: &mut Vec<Packed>,
     texts: &mut Vec<u8>,
@@ -60,17 +68,12 @@ fn add(
         ≡ map (report_of_kept texts.old.items) rows.old.items ++ report.now ∷ []) }
     ensures refused { OnErr result ((texts.new.items ≡ texts.old.items) × (rows.new.items ≡ rows.old.items)) }
 {
-    let own = report.id().get();
-    let matched = report.match_id().get();
-    let kept = Packed {
-        firm: *report.firm(),
-        own: own.len() as u8,
-        matched: matched.len() as u8,
-        at: texts.len(),
-        terms: *report.terms(),
-    };
+    if texts.len() > MOST_TEXTS {
+        return Err(AllocError);
+    }
+    let kept = Packed::of(report, texts.len() as u32);
     rows.reserve(1)?;
-    append_texts(texts, own, matched)?;
+    append_texts(texts, report)?;
     let _ = rows.push(kept);
     Ok(())
 }
@@ -86,13 +89,20 @@ impl Reports {
         }
     }
 
+    /// The report at a place, where it is kept.
+    fn at(&self, place: usize) -> KeptRef<'_>
+        requires { place < length self.now }
+        ensures { slice_get self.now place ≡ Some result }
+    {
+        KeptRef::new(&self.rows[place], &self.texts)
+    }
+
     /// Whether the report at a place is the firm's with this id.
     pub(crate) fn is_by(&self, place: usize, firm: &FirmId, id: &Id) -> bool
         requires { place < length self.now }
         ensures { result ≡ is_by_at self.now firm.now id.now place }
     {
-        let kept = &self.rows[place];
-        kept.firm == *firm && kept.own_id(&self.texts) == id.get()
+        self.at(place).is_by(firm, id)
     }
 
     /// Whether the report at a place has this match id.
@@ -100,7 +110,7 @@ impl Reports {
         requires { place < length self.now }
         ensures { result ≡ is_with_at self.now match_id.now place }
     {
-        self.rows[place].match_id(&self.texts) == match_id.get()
+        self.at(place).is_with(match_id)
     }
 
     /// The match id of the report at a place.
@@ -108,7 +118,7 @@ impl Reports {
         requires { place < length self.now }
         ensures { option_map (λ (r : ReportOf). r.match_id) (slice_get self.now place) ≡ Some result }
     {
-        Id::known(self.rows[place].match_id(&self.texts))
+        self.at(place).match_id()
     }
 
     /// The report at a place.
@@ -116,7 +126,7 @@ impl Reports {
         requires { place < length self.now }
         ensures { slice_get self.now place ≡ Some result }
     {
-        self.rows[place].report(&self.texts)
+        self.at(place).report()
     }
 
     /// The terms of the report at a place.
@@ -124,7 +134,7 @@ impl Reports {
         requires { place < length self.now }
         ensures { option_map terms_of (slice_get self.now place) ≡ Some result }
     {
-        self.rows[place].terms
+        self.at(place).terms()
     }
 
     /// Puts a report after the others.

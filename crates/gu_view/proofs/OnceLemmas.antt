@@ -133,7 +133,7 @@ module _ (lists once : List (List ℕ)) (h : AreOnce lists once) where
 
 -- ---- counts of such lists
 
-or_no : (a b : Bool) → b ≡ false → (a || b) ≡ a
+pub or_no : (a b : Bool) → b ≡ false → (a || b) ≡ a
 or_no true b e = refl
 or_no false b e = e
 
@@ -155,23 +155,4 @@ one_counted counts old list i n more apart inside within so_far =
           let apart_from : n ≢ m = λ e. elim other [ inl less ↦ omega (arith, e) | inr after ↦ omega (arith, e) ] in
           let stays : has n (take (i + 1) list) ≡ has n (take i list) = longer ∙ or_no (has n (take i list)) (m == n) (ne_eqb m n (λ e. apart_from (sym e))) in
           get_or-set_other counts m n (get_or counts m 0 + more) 0 apart_from ∙ so_far ∙ ap (λ b. get_or old n 0 + cond b more 0) (sym stays)
-    ]
-
--- what is put at where a list is filled to
-pub one_put : (joined old filled list : List ℕ) (i at end offer : ℕ) → i < length list → end ≡ get_or filled (get_or list i 0) 0 → end < length joined
-    → get_or joined at 0 ≡ cond (list_any (λ p. get_or filled p 0 == at) (take i list)) offer (get_or old at 0)
-    → get_or (set joined end offer) at 0 ≡ cond (list_any (λ p. get_or filled p 0 == at) (take (i + 1) list)) offer (get_or old at 0)
-one_put joined old filled list i at end offer inside is within so_far =
-    let test : ℕ → Bool = λ p. get_or filled p 0 == at in
-    let more = list_any_more test list i 0 inside in
-    let before = list_any test (take i list) in
-    let here = get_or filled (get_or list i 0) 0 in
-    elim (cases_order at end) [
-      | inl same ↦
-          let hit : list_any test (take (i + 1) list) ≡ true = more ∙ or_right before (here == at) (eq-eqb here at (sym (same ∙ is))) in
-          get_or-set_at joined end at offer 0 same within ∙ sym (cond-true (list_any test (take (i + 1) list)) offer (get_or old at 0) hit)
-      | inr other ↦
-          let apart : at ≢ end = λ e. elim other [ inl less ↦ omega (arith, e) | inr after ↦ omega (arith, e) ] in
-          let stays : list_any test (take (i + 1) list) ≡ before = more ∙ or_no before (here == at) (ne_eqb here at (λ e. apart (sym (is ∙ e)))) in
-          get_or-set_other joined end at offer 0 apart ∙ so_far ∙ ap (λ b. cond b offer (get_or old at 0)) (sym stays)
     ]

@@ -1,6 +1,7 @@
 //! Lists of places, one after another in one buffer.
 
-ghost use Rattle.std.specs.Prelude.{◌≡◌, ◌<◌, ◌≤◌, ◌∷◌, ◌++◌, [], length, OnOk, OnErr, IfOk, slice_get, slice_index, slice_range};
+ghost use Rattle.std.specs.Prelude.{◌≡◌, ◌↔◌, ◌<◌, ◌≤◌, ◌==◌, ◌∷◌, ◌++◌, [], length, IsTrue, OnOk, OnErr, IfOk, slice_get, slice_index, slice_range};
+ghost use Rattle.std.specs.List.{list_any};
 ghost use Rattle.gu_view.specs.Keeping.{lists_from, AreEnds, AreOnce, IsOnce};
 
 use std::alloc::{AllocError, Global};
@@ -15,6 +16,7 @@ pub struct PlaceLists {
 
 impl Model for PlaceLists {
     ghost use Rattle.std.specs.Prelude.{List, ℕ, length};
+    ghost use Rattle.std.specs.List.{list_any};
     ghost use Rattle.gu_view.specs.Keeping.{lists_from, AreEnds};
 
     ghost Value = { List (List ℕ) };
@@ -52,6 +54,30 @@ fn append_once(once: &mut Vec<u32>, list: &[u32]) -> Result<(), AllocError>
         }
     }
     Ok(())
+}
+
+/// Whether a number is in a short list. `contains` is a call, and this loop is inlined.
+fn is_in(list: &[u32], number: u32) -> bool
+    ensures { result ≡ list_any (λ m. m == number) list.now }
+{
+    for other in list {
+        if *other == number {
+            return true;
+        }
+    }
+    false
+}
+
+/// Whether no number comes twice in a list.
+fn is_once(list: &[u32]) -> bool
+    ensures { IsTrue result ↔ IsOnce list.now list.now }
+{
+    for (place, number) in list.iter().enumerate() {
+        if is_in(&list[..place], *number) {
+            return false;
+        }
+    }
+    true
 }
 
 impl PlaceLists {
@@ -106,6 +132,18 @@ impl PlaceLists {
         let joined = self.joined.clone()?;
         let ends = self.ends.clone()?;
         Ok(PlaceLists { joined, ends })
+    }
+
+    /// Whether no number comes twice in one of them.
+    pub fn are_once(&self) -> bool
+        ensures { IsTrue result → AreOnce self.now self.now }
+    {
+        for place in 0..self.count() {
+            if !is_once(self.list(place)) {
+                return false;
+            }
+        }
+        true
     }
 
     /// The same lists, each without the numbers that came before in it.

@@ -1,6 +1,6 @@
 //! Lists of places, of which those that follow one another may be one.
 
-ghost use Rattle.std.specs.Prelude.{◌≡◌, ℕ, ◌-◌, ◌<◌, ◌≤◌, ◌++◌, ◌∷◌, [], IfOk, OnOk, Some, length, slice_get, slice_index_or};
+ghost use Rattle.std.specs.Prelude.{◌≡◌, ℕ, ◌-◌, ◌<◌, ◌≤◌, ◌++◌, ◌∷◌, [], IfOk, IsTrue, OnOk, Some, length, slice_get, slice_index_or};
 ghost use Rattle.gu_view.specs.Keeping.{AreOnce};
 
 use crate::place_lists::PlaceLists;
@@ -89,6 +89,13 @@ impl SharedLists {
         let at = self.at.clone()?;
         let kept = self.kept.copy()?;
         Ok(SharedLists { kept, at })
+    }
+
+    /// Whether no number comes twice in one that is kept.
+    pub fn are_once(&self) -> bool
+        ensures { IsTrue result → AreOnce self.now self.now }
+    {
+        self.kept.are_once()
     }
 
     /// The same lists, each without the numbers that came before in it.

@@ -1,8 +1,13 @@
 use Rattle.std.proofs.Common.{rules}
-use Rattle.gu_trades.proofs.PackedLemmas.{within_more}
+use Rattle.gu_trades.proofs.PackedLemmas.{reports_more, within_more}
 use Rattle.gu_trades.proofs.reports.add.Goals as goal
 
 pub returns-clause-kept : goal.returns-clause-kept
 returns-clause-kept c =
-    within_more c.args.texts.now.items c.append_texts.new.texts.items c.get-own.result.now c.get-matched.result.now c.args.rows.now.items c.push.new.self.items c.firm.result.now c.terms.result.now
-    c.requires.kept (search rules) (search rules) (search rules) (search rules)
+    within_more c.args.texts.now.items c.append_texts.new.texts.items c.args.rows.now.items c.push.new.self.items c.len-2.result c.args.report.now
+    c.requires.kept c.of-kept.ensures.sound (search rules) (search rules) (search rules)
+
+pub returns-clause-added : goal.returns-clause-added
+returns-clause-added c =
+    reports_more c.args.texts.now.items c.append_texts.new.texts.items c.args.rows.now.items c.push.new.self.items c.len-2.result c.args.report.now
+    c.requires.kept c.of-kept.ensures.sound (search rules) (search rules) (search rules)

@@ -1,14 +1,14 @@
 use Rattle.std.proofs.Common.{◌∙◌, ap, sym, arith, Some}
 use Rattle.gu_trades.specs.PackedReports.{report_of_kept}
 use Rattle.gu_trades.proofs.KeptAt.{kept-inside, report-at, within-at}
-use Rattle.gu_trades.proofs.reports.Reports.report.Goals as goal
+use Rattle.gu_trades.proofs.reports.Reports.at.Goals as goal
 
 pub index-requires : goal.index-requires
 index-requires c =
     omega (arith, c.self.inside.rows.ok.0, kept-inside c.self.inside.texts.items c.self.inside.rows.items c.args.self.now c.args.place c.self.view_is c.requires)
 
-pub report-requires : goal.report-requires
-report-requires c =
+pub new-requires : goal.new-requires
+new-requires c =
     within-at c.self.inside.texts.items c.self.inside.rows.items c.args.self.now c.args.place c.self.view_is c.requires c.index.result.now c.index.ensures
     c.deref.result.now c.deref.ensures.value c.self.invariant
 
@@ -16,4 +16,4 @@ pub returns : goal.returns
 returns c =
     report-at c.self.inside.texts.items c.self.inside.rows.items c.args.self.now c.args.place c.self.view_is c.requires c.index.result.now c.index.ensures
     ∙ ap (λ texts. Some (report_of_kept texts c.index.result.now)) (sym c.deref.ensures.value)
-    ∙ ap Some (sym c.report.ensures)
+    ∙ ap Some (sym c.new.ensures)
