@@ -35,8 +35,8 @@ pub enum Deed<'a> {
     },
     Report {
         report: ReportRef<'a>,
-        /// The terms of the report that waits for it, where one does.
-        waiting: Option<Terms>,
+        /// The account of the report that waits for it, where one does.
+        waiting: Option<AccountId>,
     },
     GiveUp {
         firm: &'a FirmId,
