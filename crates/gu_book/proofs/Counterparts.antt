@@ -6,9 +6,7 @@ use Rattle.gu_terms.specs.declared.account.AccountId.{AccountId}
 use Rattle.gu_terms.specs.declared.refusal.Refusal.TheVariants.{MatchConflict}
 use Rattle.gu_terms.specs.declared.reply.Done.TheVariants.{Reported}
 use Rattle.gu_terms.specs.declared.report.Report.{Report}
-use Rattle.gu_terms.specs.Same.{same_side}
 use Rattle.gu_terms.specs.declared.side.Side.{Side}
-use Rattle.gu_terms.specs.declared.side.Side.TheVariants.{Buy, Sell}
 use Rattle.gu_terms.specs.declared.symbol.Symbol.{Symbol}
 use Rattle.gu_positions.specs.Changes.{KeepsLots, lots_at}
 use Rattle.gu_positions.specs.Rows.{Row, lots_in, lots_on}
@@ -18,8 +16,7 @@ use Rattle.gu_trades.specs.Terms.{terms_of}
 use Rattle.gu_trades.specs.declared.counterpart.Counterpart.TheVariants.{Conflicting, Waiting}
 use Rattle.gu_trades.specs.declared.terms.Terms.{Terms}
 use Rattle.gu_rules.specs.Answer.{first_standing}
-use Rattle.gu_rules.proofs.Even.{other-side}
-use Rattle.gu_book.specs.Beside.{answer_to_match, opposite, waiting_of}
+use Rattle.gu_book.specs.Beside.{answer_to_match, waiting_of}
 use Rattle.gu_book.specs.Effects.{HoldsMore, made_a_trade}
 
 -- the last test of a report, by what it meets
@@ -39,73 +36,66 @@ nobody_waits [] terms alone = refl
 nobody_waits (first ∷ []) terms alone = cc
 nobody_waits (first ∷ second ∷ more) terms alone = refl
 
--- who waits is met if the two are the sides of a trade
-waits_if : (terms : Terms) (waiting : AccountId) (fits : Bool) → Some waiting ≡ waiting_of (if fits then Waiting terms else Conflicting) → (terms.account ≡ waiting) × (fits ≡ true)
-waits_if terms waiting true own = (ap (λ (a : Option AccountId). unwrap_or a waiting) (sym own), refl)
-waits_if terms waiting false own = cc
+-- what is told where these terms are told if they fit
+told_alone : (terms waiting : Terms) (fits : Bool) → Some waiting ≡ waiting_of (if fits then Waiting terms else Conflicting) → (terms ≡ waiting) × (fits ≡ true)
+told_alone terms waiting true own = (ap (λ (t : Option Terms). unwrap_or t waiting) (sym own), refl)
+told_alone terms waiting false own = cc
+
+-- who waits is somebody (a `cc` among reports would look into each of their fields)
+somebody_waits : {A : Type 0} (waiting : Terms) → Some waiting ≡ None → A
+somebody_waits waiting own = cc
 
 -- who waits is alone, and the other side
-waits_alone : (sides : List Report) (report : Report) (waiting : AccountId) → Some waiting ≡ waiting_of (counterpart_of sides (terms_of report))
-    → (first : Report) × (sides ≡ first ∷ []) × (first.account ≡ waiting) × (is_other_side first report ≡ true)
-waits_alone [] report waiting own = cc
+waits_alone : (sides : List Report) (report : Report) (waiting : Terms) → Some waiting ≡ waiting_of (counterpart_of sides (terms_of report))
+    → (first : Report) × (sides ≡ first ∷ []) × (terms_of first ≡ waiting) × (is_other_side first report ≡ true)
+waits_alone [] report waiting own = somebody_waits waiting own
 waits_alone (first ∷ []) report waiting own =
-    let alone = waits_if (terms_of first) waiting (have_other_sides (terms_of first) (terms_of report)) own in
+    let alone = told_alone (terms_of first) waiting (have_other_sides (terms_of first) (terms_of report)) own in
     (first, refl, alone.0, alone.1)
-waits_alone (first ∷ second ∷ more) report waiting own = cc
+waits_alone (first ∷ second ∷ more) report waiting own = somebody_waits waiting own
 
 -- so is one that is found
-pub waits : (sides : List Report) (report : Report) (found : Option AccountId) (waiting : AccountId) → found ≡ Some waiting → found ≡ waiting_of (counterpart_of sides (terms_of report))
-    → (first : Report) × (sides ≡ first ∷ []) × (first.account ≡ waiting) × (is_other_side first report ≡ true)
+pub waits : (sides : List Report) (report : Report) (found : Option Terms) (waiting : Terms) → found ≡ Some waiting → found ≡ waiting_of (counterpart_of sides (terms_of report))
+    → (first : Report) × (sides ≡ first ∷ []) × (terms_of first ≡ waiting) × (is_other_side first report ≡ true)
 waits sides report found waiting is met = waits_alone sides report waiting (sym is ∙ met)
 
 -- where a report conflicts with none and nobody waits, there is none
-pub nobody : (sides : List Report) (report : Report) (found : Option AccountId) → found ≡ None → found ≡ waiting_of (counterpart_of sides (terms_of report)) → conflicts sides report ≡ false → sides ≡ []
+pub nobody : (sides : List Report) (report : Report) (found : Option Terms) → found ≡ None → found ≡ waiting_of (counterpart_of sides (terms_of report)) → conflicts sides report ≡ false → sides ≡ []
 nobody [] report found is met fits = refl
 nobody (first ∷ []) report found is met fits =
     elim (cases_Bool (have_other_sides (terms_of first) (terms_of report))) [
-      | inl hit ↦ let own : found ≡ Some first.account = rw hit at met in let never : None ≡ Some first.account = sym is ∙ own in cc
+      | inl hit ↦ let own : found ≡ Some (terms_of first) = rw hit at met in let never : None ≡ Some (terms_of first) = sym is ∙ own in cc
       | inr miss ↦ let never : true ≡ false = rw miss at fits in cc
     ]
 nobody (first ∷ second ∷ more) report found is met fits = cc
 
 -- the accounts of those that wait
-pub account-met : (sides : List Report) (report : Report) (found : Option AccountId) (waiting : AccountId) → found ≡ Some waiting → found ≡ waiting_of (counterpart_of sides (terms_of report))
-    → waiting ∷ [] ≡ map (λ (w : Report). w.account) sides
+pub account-met : (sides : List Report) (report : Report) (found : Option Terms) (waiting : Terms) → found ≡ Some waiting → found ≡ waiting_of (counterpart_of sides (terms_of report))
+    → waiting.account ∷ [] ≡ map (λ (w : Report). w.account) sides
 account-met sides report found waiting is met =
     let alone = waits sides report found waiting is met in
-    ap (λ (a : AccountId). a ∷ []) (sym alone.2) ∙ ap (map (λ (w : Report). w.account)) (sym alone.1)
-
--- who waits has the side, the instrument and the lots of the other side
-pub other-is : (first report : Report) → is_other_side first report ≡ true → (first.side ≡ opposite report.side) × (first.symbol ≡ report.symbol) × (first.lots ≡ report.lots)
-other-is first report is = let o = other-side first report is in (turned first.side report.side o.1.1, o.0, o.1.0)
-  where
-    turned : (one two : Side) → same_side one two ≡ false → one ≡ opposite two
-    turned Buy Buy h = cc
-    turned Buy Sell h = refl
-    turned Sell Buy h = refl
-    turned Sell Sell h = cc
+    ap (λ (t : Terms). t.account ∷ []) (sym alone.2) ∙ ap (map (λ (w : Report). w.account)) (sym alone.1)
 
 -- both sides of a trade are held
-pub holds-both : (old made mid new : List Row) (sides : List Report) (report : Report) (found : Option AccountId) (waiting : AccountId) → found ≡ Some waiting → found ≡ waiting_of (counterpart_of sides (terms_of report)) → KeepsLots old made
-    → ((on : Side) (account : AccountId) (symbol : Symbol) → lots_in mid on account symbol ≡ lots_in made on account symbol + lots_at (opposite report.side) waiting report.symbol report.lots on account symbol)
+pub holds-both : (old made mid new : List Row) (sides : List Report) (report : Report) (found : Option Terms) (waiting : Terms) → found ≡ Some waiting → found ≡ waiting_of (counterpart_of sides (terms_of report)) → KeepsLots old made
+    → ((on : Side) (account : AccountId) (symbol : Symbol) → lots_in mid on account symbol ≡ lots_in made on account symbol + lots_at waiting.side waiting.account waiting.symbol waiting.lots on account symbol)
     → ((on : Side) (symbol : Symbol) → lots_on mid on symbol ≤ lots_on made on symbol + 1000000)
     → ((on : Side) (account : AccountId) (symbol : Symbol) → lots_in new on account symbol ≡ lots_in mid on account symbol + lots_at report.side report.account report.symbol report.lots on account symbol)
     → ((on : Side) (symbol : Symbol) → lots_on new on symbol ≤ lots_on mid on symbol + 1000000)
     → HoldsMore old new (made_a_trade sides report)
 holds-both old made mid new sides report found waiting is met same first most second more =
     let alone = waits sides report found waiting is met in
-    let other = other-is alone.0 report alone.3 in
     let both : HoldsMore old new (alone.0 ∷ report ∷ []) = record {
       lots = λ on account symbol.
-          let theirs : lots_at alone.0.side alone.0.account alone.0.symbol alone.0.lots on account symbol ≡ lots_at (opposite report.side) waiting report.symbol report.lots on account symbol =
-          λ i. lots_at (other.0 i) (alone.2 i) (other.1 i) (other.2 i) on account symbol in
+          let theirs : lots_at alone.0.side alone.0.account alone.0.symbol alone.0.lots on account symbol ≡ lots_at waiting.side waiting.account waiting.symbol waiting.lots on account symbol =
+          ap (λ (t : Terms). lots_at t.side t.account t.symbol t.lots on account symbol) alone.2 in
           omega (arith, same.lots on account symbol, first on account symbol, second on account symbol, theirs);
       sums = λ on symbol. omega (arith, same.sums on symbol, most on symbol, more on symbol);
     } in
     subst (λ (rs : List Report). HoldsMore old new (made_a_trade rs report)) (sym alone.1) both
 
 -- and a report that opens brings nothing
-pub holds-none : (rows : List Row) (sides : List Report) (report : Report) (found : Option AccountId) → found ≡ None → found ≡ waiting_of (counterpart_of sides (terms_of report)) → conflicts sides report ≡ false
+pub holds-none : (rows : List Row) (sides : List Report) (report : Report) (found : Option Terms) → found ≡ None → found ≡ waiting_of (counterpart_of sides (terms_of report)) → conflicts sides report ≡ false
     → HoldsMore rows rows (made_a_trade sides report)
 holds-none rows sides report found is met fits =
     subst (λ (rs : List Report). HoldsMore rows rows (made_a_trade rs report)) (sym (nobody sides report found is met fits)) (record {

@@ -2,7 +2,6 @@
 use Rattle.std.proofs.Common.{◌≡◌, ℕ, ◌<◌, ◌++◌, true, List, [], ◌∷◌, Option, Some, None, Result, Ok, length, is_some, unwrap_or, refl, sym, ap, ◌∙◌, subst}
 use Rattle.std.specs.List.{AllByRecursion}
 use Rattle.std.specs.Option.{option_map}
-use Rattle.gu_terms.specs.declared.account.AccountId.{AccountId}
 use Rattle.gu_terms.specs.declared.command.Command.{Command}
 use Rattle.gu_terms.specs.declared.entry.Entry.{Entry}
 use Rattle.gu_terms.specs.declared.offer.Offer.{Offer}
@@ -11,6 +10,7 @@ use Rattle.gu_terms.specs.declared.reply.Reply.TheVariants.{Accepted}
 use Rattle.gu_terms.specs.declared.report.Report.{Report}
 use Rattle.gu_ref.specs.Tables.{Tables}
 use Rattle.gu_trades.specs.Reports.{report_by, with_match}
+use Rattle.gu_trades.specs.declared.terms.Terms.{Terms}
 use Rattle.gu_offers.specs.Rows.{Row, row_at}
 use Rattle.gu_rules.specs.Answer.{answer, answer_in}
 use Rattle.gu_rules.specs.Offers.{standing_of}
@@ -55,12 +55,12 @@ may-do reference history totals command decided deed kept room ok told is =
 -- ---- reports
 
 -- a report that is made fits those before it
-pub made-fits : (reference : Tables) (totals : Totals) (command : Command) (report : Report) (waiting : Option AccountId) → MayTakeIn reference totals command → MakesReport totals command report waiting → Fits totals.trades report
+pub made-fits : (reference : Tables) (totals : Totals) (command : Command) (report : Report) (waiting : Option Terms) → MayTakeIn reference totals command → MakesReport totals command report waiting → Fits totals.trades report
 made-fits reference totals command report waiting may is =
     report-fits reference report.firm report.id report.match_id report.symbol report.lots report.price is.day report.side report.account report.day totals is.today (subst (MayTakeIn reference totals) is.is may)
 
 -- and is taken in
-pub made-taken : (reference : Tables) (old new : Totals) (command : Command) (report : Report) (waiting : Option AccountId) → MakesReport old command report waiting
+pub made-taken : (reference : Tables) (old new : Totals) (command : Command) (report : Report) (waiting : Option Terms) → MakesReport old command report waiting
     → new.today ≡ old.today → new.give_ups.keys ≡ old.give_ups.keys → new.offers ≡ old.offers → new.limits ≡ old.limits
     → new.trades ≡ old.trades ++ report ∷ [] → HoldsMore old.positions new.positions (made_a_trade (with_match report.match_id old.trades) report) → TakesIn reference old new command
 made-taken reference old new command report waiting is today give_ups offers limits trades holds =

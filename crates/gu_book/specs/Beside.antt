@@ -65,20 +65,11 @@ answer_to_match Nobody = Accepted (Reported false)
 answer_to_match (Waiting terms) = Accepted (Reported true)
 answer_to_match Conflicting = Denied MatchConflict
 
--- the account of the report that waits for one that meets this, where one does
-abbrev pub waiting_of : Counterpart → Option AccountId
+-- what a counterpart is to a report that makes a trade with it
+abbrev pub waiting_of : Counterpart → Option Terms
 waiting_of Nobody = None
-waiting_of (Waiting terms) = Some terms.account
+waiting_of (Waiting terms) = Some terms
 waiting_of Conflicting = None
-
--- the other side
-abbrev pub opposite : Side → Side
-opposite Buy = Sell
-opposite Sell = Buy
-
--- the terms of the other side of a trade, which is this account's
-abbrev pub other_side : Terms → AccountId → Terms
-other_side terms account = record terms { account = account; side = opposite terms.side }
 
 -- the product group of the instrument that terms name
 abbrev pub group_named_by : Tables → Terms → Option Group

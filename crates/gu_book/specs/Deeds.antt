@@ -2,7 +2,6 @@
 use Rattle.std.specs.Prelude.{◌≡◌, ℕ, true, List, length, Option, Some, Result, Ok, Err, is_some}
 use Rattle.std.specs.List.{AllByRecursion}
 use Rattle.std.specs.Option.{option_map}
-use Rattle.gu_terms.specs.declared.account.AccountId.{AccountId}
 use Rattle.gu_terms.specs.declared.alloc_reject.AllocReject.{AllocReject}
 use Rattle.gu_terms.specs.declared.command.Command.{Command}
 use Rattle.gu_terms.specs.declared.command.Command.TheVariants as asked
@@ -81,8 +80,8 @@ pub record MovesLots (reference : Tables) (totals : Totals) (command : Command) 
   pub under : AreLimitsOf totals.limits moved.group (path_after reference offer) moved.limits
   pub all : moved.lots ≡ lots
 
--- a command reports this on the open day, and the other side of this account waits for it, where there is one
-pub record MakesReport (totals : Totals) (command : Command) (report : Report) (waiting : Option AccountId) : Type 0 where
+-- a command reports this on the open day, and meets who waits for it
+pub record MakesReport (totals : Totals) (command : Command) (report : Report) (waiting : Option Terms) : Type 0 where
   pub day : Option Day
   pub is : command ≡ asked.ReportSide report.firm report.id report.match_id report.symbol report.lots report.price day report.side report.account
   pub today : totals.today ≡ Some report.day

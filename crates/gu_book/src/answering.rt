@@ -25,7 +25,7 @@ use crate::totals::Totals;
 use gu_limits::{LimitTable, PathLimits, path_by};
 use gu_ref::{Partner, Reference};
 use gu_terms::{
-    AccountId, AllocReject, Command, Day, FirmId, Group, Id, LimitKey, Line, Lines, Lots, MOST_LIMIT,
+    AllocReject, Command, Day, FirmId, Group, Id, LimitKey, Line, Lines, Lots, MOST_LIMIT,
     MOST_OPEN_OFFERS, Offer, OfferNo, Path, Refusal,
 };
 use gu_trades::{Counterpart, ReportRef, Standing, Terms};
@@ -62,15 +62,15 @@ fn is_known_key(reference: &Reference, key: LimitKey) -> bool
     }
 }
 
-/// The account of the report that waits for one that meets this, where one does; or why that one may not be made.
-fn waiting_of(counterpart: &Counterpart) -> Result<Option<AccountId>, Refusal>
+/// The terms of the report that waits for one that meets this, where one does; or why that one may not be made.
+fn waiting_of(counterpart: &Counterpart) -> Result<Option<Terms>, Refusal>
     ensures waiting { IfOk result (λ waiting. waiting ≡ waiting_of counterpart.now) }
     ensures made { IfOk result (λ waiting. answer_to_match counterpart.now ≡ Accepted (Reported (is_some waiting))) }
     ensures refused { IfErr result (λ why. answer_to_match counterpart.now ≡ Denied why) }
 {
     match counterpart {
         Counterpart::Nobody => Ok(None),
-        Counterpart::Waiting(waiting) => Ok(Some(waiting.account)),
+        Counterpart::Waiting(waiting) => Ok(Some(*waiting)),
         Counterpart::Conflicting => Err(Refusal::MatchConflict),
     }
 }

@@ -35,8 +35,8 @@ pub enum Deed<'a> {
     },
     Report {
         report: ReportRef<'a>,
-        /// The account of the report that waits for it, where one does.
-        waiting: Option<AccountId>,
+        /// The terms of the report that waits for it, where one does.
+        waiting: Option<Terms>,
     },
     GiveUp {
         firm: &'a FirmId,

@@ -16,7 +16,7 @@ ghost use Rattle.gu_trades.specs.Counterparts.{counterpart_of};
 ghost use Rattle.gu_trades.specs.Reports.{has_report, report_by, with_match};
 ghost use Rattle.gu_trades.specs.Terms.{terms_of};
 ghost use Rattle.gu_rules.specs.Reports.{Fits};
-ghost use Rattle.gu_book.specs.Beside.{is_kept_give_up, other_side, waiting_of};
+ghost use Rattle.gu_book.specs.Beside.{is_kept_give_up, waiting_of};
 ghost use Rattle.gu_book.specs.Effects.{HoldsMore, HoldsMoved, IsEven, KeepsMade, OnlyRowsOf, SameAnswers, SameEntries, SetsLimit, UsesNothing, made_a_trade};
 ghost use Rattle.gu_book.specs.Moving.{given_by};
 
@@ -24,7 +24,7 @@ use crate::deed::Moved;
 use gu_limits::{LimitTable, SetError};
 use gu_offers::Offers;
 use gu_positions::{Positions, RowNo};
-use gu_terms::{AccountId, Day, FirmId, Group, Id, LimitKey, Lines, Offer, OfferNo, Seed, Side, Symbol};
+use gu_terms::{AccountId, Day, FirmId, Group, Id, LimitKey, Lines, Offer, OfferNo, Seed, Symbol};
 use gu_trades::{ReportRef, Terms, Trades};
 use indexmap::IndexSet;
 use std::alloc::{AllocError, Global};
@@ -131,11 +131,11 @@ impl Totals {
         }
     }
 
-    /// A report is taken in. Where the other side of this account waits for it they are a trade, and the lots of both are held.
+    /// A report is taken in. Once it makes a trade with one that waits, which is of these terms, the lots of both are held.
     pub fn report(
         &mut self,
         report: &ReportRef<'_>,
-        waiting: &Option<AccountId>,
+        waiting: &Option<Terms>,
     ) -> Result<(), AllocError>
         requires fits { Fits self.old.trades report.now }
         requires waiting { waiting.now ≡ waiting_of (counterpart_of (with_match report.now.match_id self.old.trades) (terms_of report.now)) }
@@ -152,21 +152,20 @@ impl Totals {
             (report.now.account ∷ map (λ w. w.account) (with_match report.now.match_id self.old.trades)) }
         ensures refused { OnErr result (SameAnswers self.old self.new) }
     {
-        let Some(account) = waiting else {
+        let Some(waiting) = waiting else {
             self.trades.push(report)?;
             return Ok(());
         };
         let terms = report.terms();
-        let other = other_side(terms, account);
         let rows = make_rows(
             &mut self.positions,
             &terms.account,
             &terms.symbol,
-            &other.account,
-            &other.symbol,
+            &waiting.account,
+            &waiting.symbol,
         )?;
         self.trades.push(report)?;
-        hold(&mut self.positions, &rows.1, &other);
+        hold(&mut self.positions, &rows.1, waiting);
         hold(&mut self.positions, &rows.0, terms);
         Ok(())
     }
@@ -297,21 +296,6 @@ impl Totals {
         self.limits.give_back_at(&returned.limits, returned.lots.get());
         move_back(&mut self.positions, returned, &rows);
         Ok(())
-    }
-}
-
-/// The terms of the other side of a trade, which is this account's.
-fn other_side(terms: &Terms, account: &AccountId) -> Terms
-    ensures { result ≡ other_side terms.now account.now }
-{
-    let side = match terms.side {
-        Side::Buy => Side::Sell,
-        Side::Sell => Side::Buy,
-    };
-    Terms {
-        account: *account,
-        side,
-        ..*terms
     }
 }
 
