@@ -81,7 +81,15 @@ impl Day {
         if year == 0 || year > 9999 || month >= 100 || day >= 100 || !is_date(year, month, day) {
             return None;
         }
-        Some(Day { year, month, day })
+        Some(Day::known(year, month, day))
+    }
+
+    /// The day of a year, month and day of the month that are known to be one's.
+    pub fn known(year: u16, month: u8, day: u8) -> Self
+        requires { IsDay year month day }
+        ensures { (result.year ≡ year) × (result.month ≡ month) × (result.day ≡ day) }
+    {
+        Day { year, month, day }
     }
 
     /// Its year, month and day of the month.

@@ -43,15 +43,22 @@ impl Lines {
         if list.is_empty() || list.len() > MOST_LINES {
             return None;
         }
-        Some(Lines { list })
+        Some(Lines::known(list))
+    }
+
+    /// These lines, which are known to be 1 to 16.
+    pub fn known(list: Vec<Line>) -> Self
+        requires { AreLines list.items }
+        ensures { result ≡ list.items }
+    {
+        Lines { list }
     }
 
     /// One line.
     pub(crate) fn one(alloc: Global, line: Line) -> Result<Self, AllocError>
         ensures { IfOk result (λ lines. lines ≡ line ∷ []) }
     {
-        let list = vec![in alloc; line]?;
-        Ok(Lines { list })
+        Ok(Lines::known(vec![in alloc; line]?))
     }
 
     /// The lines, in order.

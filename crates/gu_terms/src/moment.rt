@@ -34,10 +34,18 @@ impl Moment {
         ensures same { IfSome result (λ m. m ≡ number) }
     {
         if number <= LAST_MOMENT {
-            Some(Moment { number })
+            Some(Moment::known(number))
         } else {
             None
         }
+    }
+
+    /// The moment of a number that is known to be one's.
+    pub fn known(number: u64) -> Self
+        requires { IsMoment number }
+        ensures { result ≡ number }
+    {
+        Moment { number }
     }
 
     /// The number.

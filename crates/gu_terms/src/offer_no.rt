@@ -32,11 +32,19 @@ impl OfferNo {
         ensures same { IfSome result (λ o. o ≡ number) }
     {
         if 1 <= number && number <= MOST_OFFERS {
-            Some(OfferNo {
-                number: number as u32,
-            })
+            Some(OfferNo::known(number))
         } else {
             None
+        }
+    }
+
+    /// The offer number of a number that is known to be one.
+    pub fn known(number: u64) -> Self
+        requires { IsOfferNo number }
+        ensures { result ≡ number }
+    {
+        OfferNo {
+            number: number as u32,
         }
     }
 
