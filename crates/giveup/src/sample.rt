@@ -42,8 +42,5 @@ pub fn sample_day() -> Day
     ensures month { result.month ≡ 1 }
     ensures day { result.day ≡ 5 }
 {
-    match Day::new(2026, 1, 5) {
-        Some(day) => day,
-        None => unreachable!(),
-    }
+    Day::known(2026, 1, 5)
 }

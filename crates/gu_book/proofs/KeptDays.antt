@@ -33,8 +33,9 @@ use Rattle.gu_rules.proofs.Quiet.{has_give_up-kept, has_give_up-push, limit_set-
 use Rattle.gu_rules.proofs.StandingLemmas.{IsIdle, either-false}
 use Rattle.gu_rules.proofs.Stepping.{standing_of-idle, standing_of-lines, standing_of-opened}
 use Rattle.gu_rules.proofs.AcceptedCommands.{giving_up, opening, setting}
+use Rattle.gu_limits.specs.Changes.{Sets}
 use Rattle.gu_book.specs.Beside.{IsBeside, IsKept, is_kept_give_up}
-use Rattle.gu_book.specs.Effects.{SetsLimit, UsesNothing}
+use Rattle.gu_book.specs.Effects.{UsesNothing}
 use Rattle.gu_book.specs.declared.totals.GiveUpKey.{GiveUpKey}
 use Rattle.gu_book.specs.declared.totals.Totals.{Totals}
 use Rattle.gu_book.proofs.KeptQuiet.{bound-kept}
@@ -73,7 +74,7 @@ kept-opened reference history old new day kept today trades give_ups offers uses
 -- a limit
 pub kept-set : (reference : Tables) (history : List Entry) (old new : Totals) (group : Group) (key : LimitKey) (lots : ℕ) → IsKept reference history old
     → new.today ≡ old.today → new.trades ≡ old.trades → new.give_ups.keys ≡ old.give_ups.keys → new.offers ≡ old.offers
-    → SetsLimit old.limits new.limits group key lots → new.positions ≡ old.positions
+    → Sets old.limits new.limits group key lots → new.positions ≡ old.positions
     → IsKept reference (history ++ setting group key lots ∷ []) new
 kept-set reference history old new group key lots kept today trades give_ups offers sets positions =
     let none = unreported entry (λ d. refl) (open_day history) in

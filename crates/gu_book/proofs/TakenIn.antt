@@ -35,9 +35,10 @@ use Rattle.gu_rules.specs.Offers.{standing_of}
 use Rattle.gu_rules.specs.Reports.{Fits, open_day, report_on, reports_of}
 use Rattle.gu_rules.proofs.AcceptedCommands.{fits-in, giving_up, names-are, not_not, report-is}
 use Rattle.gu_rules.proofs.Passing.{none_stands}
+use Rattle.gu_limits.specs.Changes.{Sets}
 use Rattle.gu_book.specs.Accepted.{MayTakeIn, TakesIn}
 use Rattle.gu_book.specs.Beside.{IsKept, group_named_by, standing_given_up, state_in}
-use Rattle.gu_book.specs.Effects.{HoldsMore, SetsLimit, UsesNothing, made_a_trade}
+use Rattle.gu_book.specs.Effects.{HoldsMore, UsesNothing, made_a_trade}
 use Rattle.gu_book.specs.declared.totals.Totals.{Totals}
 use Rattle.gu_book.proofs.Accepting.{few_offers, state_is}
 use Rattle.gu_book.proofs.KeptDays.{kept-given_up, kept-opened, kept-set}
@@ -51,7 +52,7 @@ opening-taken reference old new day today trades give_ups offers uses positions 
     kept-opened reference history old new day kept today trades give_ups offers uses positions
 
 pub limit-taken : (reference : Tables) (old new : Totals) (group : Group) (key : LimitKey) (lots : ℕ) → new.today ≡ old.today → new.trades ≡ old.trades → new.give_ups.keys ≡ old.give_ups.keys → new.offers ≡ old.offers
-    → new.positions ≡ old.positions → SetsLimit old.limits new.limits group key lots → TakesIn reference old new (SetLimit group key lots)
+    → new.positions ≡ old.positions → Sets old.limits new.limits group key lots → TakesIn reference old new (SetLimit group key lots)
 limit-taken reference old new group key lots today trades give_ups offers positions sets history kept accepted =
     kept-set reference history old new group key lots kept today trades give_ups offers sets positions
 

@@ -1,5 +1,5 @@
 -- Machinery: what one entry makes of what a book keeps beside its history.
-use Rattle.std.specs.Prelude.{◌≡◌, ℕ, ◌+◌, ◌-◌, ◌≤◌, ◌||◌, true, List, [], ◌∷◌, sum_by, if◌then◌else◌}
+use Rattle.std.specs.Prelude.{◌≡◌, ℕ, ◌+◌, ◌-◌, ◌≤◌, ◌||◌, true, List, [], ◌∷◌, sum_by}
 use Rattle.std.specs.List.{list_any}
 use Rattle.gu_terms.specs.Same.{same_account}
 use Rattle.gu_terms.specs.declared.account.AccountId.{AccountId}
@@ -12,7 +12,7 @@ use Rattle.gu_terms.specs.declared.side.Side.TheVariants.{Buy, Sell}
 use Rattle.gu_terms.specs.declared.symbol.Symbol.{Symbol}
 use Rattle.gu_ref.specs.Tables.{Tables}
 use Rattle.gu_limits.specs.Changes.{Charges, Returns, SameLimits}
-use Rattle.gu_limits.specs.Limits.{GroupLimit, has_limit, limit_in, same_place, used_in}
+use Rattle.gu_limits.specs.Limits.{GroupLimit, used_in}
 use Rattle.gu_positions.specs.Changes.{KeepsLots, lots_at}
 use Rattle.gu_positions.specs.Rows.{Row, has_row, lots_in, lots_on}
 use Rattle.gu_trades.specs.declared.terms.Terms.{Terms}
@@ -52,12 +52,6 @@ pub record HoldsMoved (old new : List Row) (report : Terms) (from to : AccountId
       → lots_in new side account symbol
       ≡ lots_in old side account symbol - lots_at report.side from report.symbol moved side account symbol + lots_at report.side to report.symbol moved side account symbol
   pub sums : (side : Side) (symbol : Symbol) → lots_on new side symbol ≡ lots_on old side symbol
-
--- a limit is set in its place, and no other
-pub record SetsLimit (old new : List GroupLimit) (group : Group) (key : LimitKey) (lots : ℕ) : Type 0 where
-  pub known : (at : Group) (on : LimitKey) → has_limit new at on ≡ (same_place at on group key || has_limit old at on)
-  pub limits : (at : Group) (on : LimitKey) → limit_in new at on ≡ (if same_place at on group key then lots else limit_in old at on)
-  pub uses : (at : Group) (on : LimitKey) → used_in new at on ≡ used_in old at on
 
 -- lots are used more under the keys of an offer
 abbrev pub UsesMore : Tables → List GroupLimit → List GroupLimit → Offer → ℕ → Type 0

@@ -254,16 +254,13 @@ fn decide_give_up<'a>(
     if let Some(refusal) = refusal_of_lines(totals, firm, report, &standing, &group, lines, lacks) {
         return Err(refusal);
     }
-    let Some(first) = OfferNo::new(totals.offers.count() as u64 + 1) else {
-        unreachable!();
-    };
     Ok(Deed::GiveUp {
         firm,
         id,
         report,
         lines,
         group,
-        first,
+        first: OfferNo::known(totals.offers.count() as u64 + 1),
     })
 }
 

@@ -2,7 +2,7 @@
 
 ghost use Rattle.std.specs.Prelude.{◌≡◌, ◌<◌, ◌≤◌, ◌+◌, ◌^◌, ◌++◌, ◌∷◌, [], true, false, List, Some, None, IfOk, OnOk, OnErr, length, map};
 ghost use Rattle.indexmap.specs.IndexSet.{hasher_of};
-ghost use Rattle.gu_limits.specs.Changes.{Charges, MayCharge, MayReturn, Returns};
+ghost use Rattle.gu_limits.specs.Changes.{Charges, MayCharge, MayReturn, Returns, Sets};
 ghost use Rattle.gu_offers.specs.Changes.{changed, closed, next_day, reversed, taken, with_lines};
 ghost use Rattle.gu_offers.specs.Rows.{left_in, row_at, today_in};
 ghost use Rattle.gu_positions.specs.Changes.{KeepsLots, KeepsNumbers, KeepsRows, lots_at, lots_at_side};
@@ -17,11 +17,11 @@ ghost use Rattle.gu_trades.specs.Reports.{has_report, report_by, with_match};
 ghost use Rattle.gu_trades.specs.Terms.{terms_of};
 ghost use Rattle.gu_rules.specs.Reports.{Fits};
 ghost use Rattle.gu_book.specs.Beside.{is_kept_give_up, waiting_of};
-ghost use Rattle.gu_book.specs.Effects.{HoldsMore, HoldsMoved, IsEven, KeepsMade, OnlyRowsOf, SameAnswers, SameEntries, SetsLimit, UsesNothing, made_a_trade};
+ghost use Rattle.gu_book.specs.Effects.{HoldsMore, HoldsMoved, IsEven, KeepsMade, OnlyRowsOf, SameAnswers, SameEntries, UsesNothing, made_a_trade};
 ghost use Rattle.gu_book.specs.Moving.{given_by};
 
 use crate::deed::Moved;
-use gu_limits::{LimitTable, SetError};
+use gu_limits::LimitTable;
 use gu_offers::Offers;
 use gu_positions::{Positions, RowNo};
 use gu_terms::{AccountId, Day, FirmId, Group, Id, LimitKey, Lines, Offer, OfferNo, Seed, Symbol};
@@ -120,15 +120,12 @@ impl Totals {
         requires { lots ≤ 1000000000 }
         ensures entries { SameEntries self.old self.new }
         ensures offers { self.new.offers ≡ self.old.offers }
-        ensures limits { OnOk result (SetsLimit self.old.limits self.new.limits group.now key.now lots) }
+        ensures limits { OnOk result (Sets self.old.limits self.new.limits group.now key.now lots) }
         ensures positions { self.new.positions ≡ self.old.positions }
         ensures refused { OnErr result (SameAnswers self.old self.new) }
     {
-        match self.limits.set(group, key, lots) {
-            Ok(()) => Ok(()),
-            Err(SetError::Memory) => Err(AllocError),
-            Err(SetError::TooHigh) => unreachable!(),
-        }
+        self.limits.set_within(group, key, lots)?;
+        Ok(())
     }
 
     /// A report is taken in. Once it makes a trade with one that waits, which is of these terms, the lots of both are held.

@@ -1,12 +1,12 @@
 -- How limits change: one is set, lots are charged and given back, a day begins.
-use Rattle.std.specs.Prelude.{◌≡◌, ℕ, ◌+◌, ◌-◌, ◌≤◌, ◌&&◌, ◌++◌, All, List, [], ◌∷◌, map, if◌then◌else◌}
+use Rattle.std.specs.Prelude.{◌≡◌, ℕ, ◌+◌, ◌-◌, ◌≤◌, ◌&&◌, ◌||◌, ◌++◌, All, List, [], ◌∷◌, map, if◌then◌else◌}
 use Rattle.std.specs.List.{IsDistinct}
 use Rattle.gu_terms.specs.LimitKeys.{has_key, key_eq}
 use Rattle.gu_terms.specs.Same.{same_group}
 use Rattle.gu_terms.specs.declared.group.Group.{Group}
 use Rattle.gu_terms.specs.declared.limit_key.LimitKey.{LimitKey}
 use Rattle.gu_limits.specs.declared.numbers.PathLimits.{PathLimits}
-use Rattle.gu_limits.specs.Limits.{AreLimitsOf, GroupLimit, has_limit, is_of, limit_in, room_in, used_in}
+use Rattle.gu_limits.specs.Limits.{AreLimitsOf, GroupLimit, has_limit, is_of, limit_in, room_in, same_place, used_in}
 
 -- the lots that count under a limit, where they are taken in a group under these keys
 abbrev pub lots_under : Group → List LimitKey → ℕ → Group → LimitKey → ℕ
@@ -18,6 +18,17 @@ limits_after_setting limits group key lots =
     if has_limit limits group key
     then map (λ (l : GroupLimit). record l { limit = if is_of group key l then lots else l.limit }) limits
     else limits ++ record { group = group; key = key; limit = lots; used = 0 } ∷ []
+
+-- no use changes
+abbrev pub SameUses : List GroupLimit → List GroupLimit → Type 0
+SameUses old new = (group : Group) (key : LimitKey) → used_in new group key ≡ used_in old group key
+
+-- one limit is set, in its place
+pub record Sets (old new : List GroupLimit) (group : Group) (key : LimitKey) (lots : ℕ) : Type 0 where
+  pub rows : new ≡ limits_after_setting old group key lots
+  pub known : (at : Group) (on : LimitKey) → has_limit new at on ≡ (same_place at on group key || has_limit old at on)
+  pub limits : (at : Group) (on : LimitKey) → limit_in new at on ≡ (if same_place at on group key then lots else limit_in old at on)
+  pub uses : SameUses old new
 
 -- the limits after lots are charged in a group under these keys
 abbrev pub limits_after_charge : List GroupLimit → Group → List LimitKey → ℕ → List GroupLimit
@@ -61,7 +72,3 @@ pub record MayReturn (limits : List GroupLimit) (group : Group) (keys : List Lim
 -- the limits as a day begins: nothing is used
 abbrev pub limits_of_new_day : List GroupLimit → List GroupLimit
 limits_of_new_day limits = map (λ (l : GroupLimit). record l { used = 0 }) limits
-
--- no use changes
-abbrev pub SameUses : List GroupLimit → List GroupLimit → Type 0
-SameUses old new = (group : Group) (key : LimitKey) → used_in new group key ≡ used_in old group key

@@ -8,7 +8,7 @@ ghost use Rattle.indexmap.specs.IndexMap.{get, index_map_len, insert_entry, set_
 ghost use Rattle.gu_terms.specs.LimitKeys.{key_eq};
 ghost use Rattle.gu_terms.specs.declared.group.Group.{Group as GroupOf};
 ghost use Rattle.gu_terms.specs.declared.limit_key.LimitKey.{LimitKey as LimitKeyOf};
-ghost use Rattle.gu_limits.specs.Changes.{Charges, MayCharge, MayReturn, Returns, limits_after_charge, limits_after_return, limits_after_setting, limits_of_new_day, lots_under, SameLimits, SameUses};
+ghost use Rattle.gu_limits.specs.Changes.{Charges, MayCharge, MayReturn, Returns, Sets, limits_after_charge, limits_after_return, limits_after_setting, limits_of_new_day, lots_under, SameLimits, SameUses};
 ghost use Rattle.gu_limits.specs.Kept.{set_to, unused, used_on};
 ghost use Rattle.gu_limits.specs.Limits.{AreLimitsOf, has_limit, limit_and_use, limit_in, number_in, room_in, row_in, same_limit, same_place, used_in};
 
@@ -190,6 +190,21 @@ impl LimitTable {
         if lots > MOST_LIMIT {
             return Err(SetError::TooHigh);
         }
+        self.set_within(group, key, lots)?;
+        Ok(())
+    }
+
+    /// The same, where the lots are known to be no more than a limit may be.
+    pub fn set_within(
+        &mut self,
+        group: &Group,
+        key: &LimitKey,
+        lots: u64,
+    ) -> Result<(), AllocError>
+        requires { lots ≤ MOST_LIMIT }
+        ensures set { OnOk result (Sets self.old self.new group.now key.now lots) }
+        ensures refused { OnErr result (self.new ≡ self.old) }
+    {
         put(&mut self.limits, group, key, lots, self.day)?;
         Ok(())
     }

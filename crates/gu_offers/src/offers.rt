@@ -76,11 +76,8 @@ fn open_offer(rows: &KeptRows, number: u64) -> OpenOffer
     ensures { (day : ℕ) → open_offer_at (map (row_of day) rows.now) number ≡ Some result }
 {
     let place = number as usize - 1;
-    let Some(number) = OfferNo::new(number) else {
-        unreachable!();
-    };
     OpenOffer {
-        number,
+        number: OfferNo::known(number),
         offer: rows.offer(place),
         left: rows.left(place),
     }
@@ -248,10 +245,8 @@ impl Offers {
         let total = lines.lots();
         let lines = lines.as_slice();
         are_lots(lines);
-        let Some(first) = OfferNo::new(self.rows.len() as u64 + 1) else {
-            unreachable!();
-        };
         let count = self.rows.len();
+        let first = OfferNo::known(count as u64 + 1);
         self.counts.know(&firm, &report)?;
         let key = ReportKey { firm, id: report };
         self.rows.push(&key, &group, lines)?;

@@ -28,10 +28,7 @@ fn looked(step: &Step) -> Option<Group>
 fn sweeper() -> Worker
     ensures { result ≡ sweeper }
 {
-    match Worker::new(63) {
-        Some(worker) => worker,
-        None => unreachable!(),
-    }
+    Worker::known(63)
 }
 
 /// Takes a step that shows no view, and appends what came of it.

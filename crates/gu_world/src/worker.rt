@@ -32,10 +32,18 @@ impl Worker {
         ensures same { IfSome result (λ worker. worker ≡ number) }
     {
         if number < WORKERS {
-            Some(Worker { number })
+            Some(Worker::known(number))
         } else {
             None
         }
+    }
+
+    /// The worker of a number that is known to be below 64.
+    pub fn known(number: u8) -> Self
+        requires { number < 64 }
+        ensures { result ≡ number }
+    {
+        Worker { number }
     }
 
     /// The number.
