@@ -1,16 +1,10 @@
 //! Reports, as they are kept.
 
 ghost use Rattle.std.specs.Prelude.{◌≡◌, ◌++◌, ◌∷◌, [], ◌<◌, All, length, map, slice_get, OnErr, OnOk, Some};
-ghost use Rattle.std.specs.Option.{option_map};
-ghost use Rattle.gu_terms.specs.declared.report.Report.{Report as ReportOf};
-ghost use Rattle.gu_trades.specs.Kept.{is_by_at, is_with_at};
 ghost use Rattle.gu_trades.specs.PackedReports.{report_of_kept, texts_of, IsWithin};
-ghost use Rattle.gu_trades.specs.Terms.{terms_of};
 
 use crate::packed::{KeptRef, Packed};
 use crate::report_ref::ReportRef;
-use crate::terms::Terms;
-use gu_terms::{FirmId, Id, Report};
 use std::alloc::{AllocError, Global};
 use std::marker::Model;
 
@@ -90,51 +84,11 @@ impl Reports {
     }
 
     /// The report at a place, where it is kept.
-    fn at(&self, place: usize) -> KeptRef<'_>
+    pub(crate) fn kept(&self, place: usize) -> KeptRef<'_>
         requires { place < length self.now }
         ensures { slice_get self.now place ≡ Some result }
     {
         KeptRef::new(&self.rows[place], &self.texts)
-    }
-
-    /// Whether the report at a place is the firm's with this id.
-    pub(crate) fn is_by(&self, place: usize, firm: &FirmId, id: &Id) -> bool
-        requires { place < length self.now }
-        ensures { result ≡ is_by_at self.now firm.now id.now place }
-    {
-        self.at(place).is_by(firm, id)
-    }
-
-    /// Whether the report at a place has this match id.
-    pub(crate) fn is_with(&self, place: usize, match_id: &Id) -> bool
-        requires { place < length self.now }
-        ensures { result ≡ is_with_at self.now match_id.now place }
-    {
-        self.at(place).is_with(match_id)
-    }
-
-    /// The match id of the report at a place.
-    pub(crate) fn match_id(&self, place: usize) -> Id
-        requires { place < length self.now }
-        ensures { option_map (λ (r : ReportOf). r.match_id) (slice_get self.now place) ≡ Some result }
-    {
-        self.at(place).match_id()
-    }
-
-    /// The report at a place.
-    pub(crate) fn report(&self, place: usize) -> Report
-        requires { place < length self.now }
-        ensures { slice_get self.now place ≡ Some result }
-    {
-        self.at(place).report()
-    }
-
-    /// The terms of the report at a place.
-    pub(crate) fn terms(&self, place: usize) -> Terms
-        requires { place < length self.now }
-        ensures { option_map terms_of (slice_get self.now place) ≡ Some result }
-    {
-        self.at(place).terms()
     }
 
     /// Puts a report after the others.

@@ -81,7 +81,7 @@ fn last_by(reports: &Reports, places: &HashIndex, seed: &Seed, firm: &FirmId, id
     let mut at = places.last(id_number(seed, firm, id));
     while at > 0 {
         let place = at as usize - 1;
-        if reports.is_by(place, firm, id) {
+        if reports.kept(place).is_by(firm, id) {
             return at;
         }
         at = places.before(place);
@@ -110,7 +110,7 @@ fn last_with(
     };
     while at > 0 {
         let place = at as usize - 1;
-        if reports.is_with(place, match_id) {
+        if reports.kept(place).is_with(match_id) {
             return at;
         }
         at = places.before(place);
@@ -206,11 +206,11 @@ impl Trades {
         if last == 0 {
             return Sides::Neither;
         }
-        let later = self.reports.report(last as usize - 1);
+        let later = self.reports.kept(last as usize - 1).report();
         if first == 0 {
             return Sides::One(later);
         }
-        Sides::Both(self.reports.report(first as usize - 1), later)
+        Sides::Both(self.reports.kept(first as usize - 1).report(), later)
     }
 
     /// What a new report with this match id and these terms meets.
@@ -224,7 +224,7 @@ impl Trades {
         if first != 0 {
             return Counterpart::Conflicting;
         }
-        let waiting = self.reports.terms(last as usize - 1);
+        let waiting = self.reports.kept(last as usize - 1).terms();
         if waiting.have_other_sides(terms) {
             Counterpart::Waiting(waiting)
         } else {
@@ -241,7 +241,7 @@ impl Trades {
         if at == 0 {
             return None;
         }
-        Some(self.reports.report(at as usize - 1))
+        Some(self.reports.kept(at as usize - 1).report())
     }
 
     /// Whether the firm has a report with this id.
@@ -259,7 +259,7 @@ impl Trades {
         if at == 0 {
             return None;
         }
-        Some(self.reports.terms(at as usize - 1))
+        Some(self.reports.kept(at as usize - 1).terms())
     }
 
     /// The firm's report with this id, as it stands.
@@ -272,7 +272,7 @@ impl Trades {
         }
         let place = at as usize - 1;
         Some(Standing {
-            terms: self.reports.terms(place),
+            terms: self.reports.kept(place).terms(),
             is_of_trade: self.is_of_trade(place),
         })
     }
@@ -314,7 +314,7 @@ impl Trades {
         requires { place < length self.now }
         ensures { option_map (is_of_trade self.now) (slice_get self.now place) ≡ Some result }
     {
-        let (_, first) = self.last_two(&self.reports.match_id(place));
+        let (_, first) = self.last_two(&self.reports.kept(place).match_id());
         first != 0
     }
 

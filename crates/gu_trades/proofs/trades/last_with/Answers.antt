@@ -8,7 +8,7 @@ use Rattle.gu_terms.specs.declared.report.Report.{Report}
 use Rattle.gu_terms.specs.declared.seed.Seed.{Seed}
 use Rattle.gu_trades.specs.Kept.{is_with_at, match_number}
 use Rattle.gu_trades.specs.Numbered.{has_number, last_before}
-use Rattle.gu_trades.proofs.LastPlaces.{has-own, walk-back, walk-from, within-at}
+use Rattle.gu_trades.proofs.LastPlaces.{at-is, has-own, walk-back, walk-from, within-at}
 use Rattle.gu_trades.proofs.ReportPlaces.{found-here, with-agree}
 use Rattle.gu_trades.proofs.trades.last_with.Goals as goal
 use Rattle.gu_trades.proofs.trades.last_with.Goals.{in-None, in-Some}
@@ -58,13 +58,13 @@ loop-at-init c =
 pub returns-then-is_with : goal.returns-then-is_with
 returns-then-is_with c =
     let within = c.loop-at.invariant.1 in
-    let hit = sym c.is_with.ensures ∙ c.if-is_with.true in
+    let hit = at-is (λ (r : Report). same_id r.match_id c.args.match_id.now) c.args.reports.now (c.loop-at.at - 1) c.kept.result c.kept.ensures ∙ sym c.is_with.ensures ∙ c.if-is_with.true in
     sym (c.loop-at.invariant.0 ∙ found-here (is_with_at c.args.reports.now c.args.match_id.now) c.loop-at.at c.loop-at-test.true hit)
 
 pub loop-at-smaller : goal.loop-at-smaller
 loop-at-smaller c =
     let within = c.loop-at.invariant.1 in
-    let miss = sym c.is_with.ensures ∙ c.if-is_with.false in
+    let miss = at-is (λ (r : Report). same_id r.match_id c.args.match_id.now) c.args.reports.now (c.loop-at.at - 1) c.kept.result c.kept.ensures ∙ sym c.is_with.ensures ∙ c.if-is_with.false in
     (walk-back (λ (r : Report). same_id r.match_id c.args.match_id.now) (λ (r : Report). match_number c.args.seed.now r.match_id) (match_number c.args.seed.now c.args.match_id.now)
     (with-agree c.args.seed.now c.args.match_id.now) c.args.reports.now c.args.places.now.numbers c.requires.numbers c.loop-at.at c.before-at-in-loop-at.result c.loop-at-test.true
     (c.loop-at.invariant.2 c.loop-at-test.true) miss c.before-at-in-loop-at.ensures).1
@@ -72,7 +72,7 @@ loop-at-smaller c =
 pub loop-at-preserved : goal.loop-at-preserved
 loop-at-preserved c =
     let within = c.loop-at.invariant.1 in
-    let miss = sym c.is_with.ensures ∙ c.if-is_with.false in
+    let miss = at-is (λ (r : Report). same_id r.match_id c.args.match_id.now) c.args.reports.now (c.loop-at.at - 1) c.kept.result c.kept.ensures ∙ sym c.is_with.ensures ∙ c.if-is_with.false in
     let step = walk-back (λ (r : Report). same_id r.match_id c.args.match_id.now) (λ (r : Report). match_number c.args.seed.now r.match_id) (match_number c.args.seed.now c.args.match_id.now)
     (with-agree c.args.seed.now c.args.match_id.now) c.args.reports.now c.args.places.now.numbers c.requires.numbers c.loop-at.at c.before-at-in-loop-at.result c.loop-at-test.true
     (c.loop-at.invariant.2 c.loop-at-test.true) miss c.before-at-in-loop-at.ensures in

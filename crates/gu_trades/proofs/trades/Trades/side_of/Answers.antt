@@ -1,4 +1,4 @@
-use Rattle.std.proofs.Common.{◌∙◌, sym, ap, is_some}
+use Rattle.std.proofs.Common.{◌∙◌, Some, sym, ap, is_some}
 use Rattle.gu_terms.proofs.Found.{is_some-find}
 use Rattle.gu_trades.specs.Reports.{is_by, report_by}
 use Rattle.gu_trades.proofs.ReportPlaces.{by-found, by-none, by-within}
@@ -12,12 +12,12 @@ returns-then-at-eq0-clause-found c =
 pub returns-then-at-eq0-clause-known : goal.returns-then-at-eq0-clause-known
 returns-then-at-eq0-clause-known c = ap is_some (returns-then-at-eq0-clause-found c) ∙ is_some-find (is_by c.args.firm c.args.id) c.args.self.now
 
-pub report-requires : goal.report-requires
-report-requires c = by-within c.self.inside.reports c.args.firm c.args.id c.last_by-at.result c.self.invariant.sound c.last_by-at.ensures c.if-at-eq0.false
+pub kept-requires : goal.kept-requires
+kept-requires c = by-within c.self.inside.reports c.args.firm c.args.id c.last_by-at.result c.self.invariant.sound c.last_by-at.ensures c.if-at-eq0.false
 
 pub returns-clause-found : goal.returns-clause-found
 returns-clause-found c =
-    sym c.report.ensures ∙ sym (by-found c.self.inside.reports c.args.firm c.args.id c.last_by-at.result c.self.invariant.sound c.last_by-at.ensures c.if-at-eq0.false)
+    ap Some c.report.ensures ∙ sym c.kept.ensures ∙ sym (by-found c.self.inside.reports c.args.firm c.args.id c.last_by-at.result c.self.invariant.sound c.last_by-at.ensures c.if-at-eq0.false)
     ∙ ap (λ reports. report_by reports c.args.firm c.args.id) c.self.view_is
 
 pub returns-clause-known : goal.returns-clause-known

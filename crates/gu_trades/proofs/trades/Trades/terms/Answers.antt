@@ -1,4 +1,4 @@
-use Rattle.std.proofs.Common.{◌∙◌, sym, ap}
+use Rattle.std.proofs.Common.{◌∙◌, Some, sym, ap}
 use Rattle.std.specs.Option.{option_map}
 use Rattle.gu_trades.specs.Reports.{report_by}
 use Rattle.gu_trades.specs.Terms.{terms_of}
@@ -10,11 +10,11 @@ returns-then-at-eq0 c =
     ap (option_map terms_of) (sym (by-none c.self.inside.reports c.args.firm.now c.args.id.now c.last_by-at.result c.self.invariant.sound c.last_by-at.ensures c.if-at-eq0.true)
     ∙ ap (λ reports. report_by reports c.args.firm.now c.args.id.now) c.self.view_is)
 
-pub terms-requires : goal.terms-requires
-terms-requires c = by-within c.self.inside.reports c.args.firm.now c.args.id.now c.last_by-at.result c.self.invariant.sound c.last_by-at.ensures c.if-at-eq0.false
+pub kept-requires : goal.kept-requires
+kept-requires c = by-within c.self.inside.reports c.args.firm.now c.args.id.now c.last_by-at.result c.self.invariant.sound c.last_by-at.ensures c.if-at-eq0.false
 
 pub returns : goal.returns
 returns c =
-    sym c.terms.ensures
-    ∙ ap (option_map terms_of) (sym (by-found c.self.inside.reports c.args.firm.now c.args.id.now c.last_by-at.result c.self.invariant.sound c.last_by-at.ensures c.if-at-eq0.false)
+    ap Some c.terms.ensures
+    ∙ ap (option_map terms_of) (sym c.kept.ensures ∙ sym (by-found c.self.inside.reports c.args.firm.now c.args.id.now c.last_by-at.result c.self.invariant.sound c.last_by-at.ensures c.if-at-eq0.false)
     ∙ ap (λ reports. report_by reports c.args.firm.now c.args.id.now) c.self.view_is)

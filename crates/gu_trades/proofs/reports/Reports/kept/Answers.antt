@@ -1,7 +1,7 @@
 use Rattle.std.proofs.Common.{◌∙◌, ap, sym, arith, Some}
 use Rattle.gu_trades.specs.PackedReports.{report_of_kept}
 use Rattle.gu_trades.proofs.KeptAt.{kept-inside, report-at, within-at}
-use Rattle.gu_trades.proofs.reports.Reports.at.Goals as goal
+use Rattle.gu_trades.proofs.reports.Reports.kept.Goals as goal
 
 pub index-requires : goal.index-requires
 index-requires c =
