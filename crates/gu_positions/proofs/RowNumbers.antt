@@ -2,6 +2,7 @@
 use Rattle.std.proofs.Common.{◌≡◌, ◌∙◌, sym, refl, ap, ℕ, zero, suc, Bool, true, false, ◌||◌, List, [], ◌∷◌, ◌++◌, map, length, Option, Some, None, slice_get}
 use Rattle.std.specs.Option.{option_map, option_map_or}
 use Rattle.std.proofs.lemmas.Option.{slice_get-map}
+use Rattle.indexmap.specs.IndexMap.{set_value_at}
 use Rattle.gu_terms.specs.Standing.{StandsAt}
 use Rattle.gu_terms.specs.declared.account.AccountId.{AccountId}
 use Rattle.gu_terms.specs.declared.symbol.Symbol.{Symbol}
@@ -55,3 +56,25 @@ pub numbered-changed : (account : AccountId) (symbol : Symbol) (g : Row → Row)
 numbered-changed account symbol g keeps [] a s number = refl
 numbered-changed account symbol g keeps (r ∷ rows) a s zero = is_of-changed account symbol g keeps a s (is_of account symbol r) r
 numbered-changed account symbol g keeps (r ∷ rows) a s (suc number) = numbered-changed account symbol g keeps rows a s number
+
+module _ {K V : Type 0} where
+  -- keys stand where they stood when a value is written
+  pub stands-set_value_at : (entries : List (K × V)) (place : ℕ) (w : V) (key : K) (at : ℕ) → StandsAt entries key at → StandsAt (set_value_at entries place w) key at
+  stands-set_value_at [] place w key at stands = stands
+  stands-set_value_at (e ∷ entries) zero w key zero stands = let it : e ≡ (key, stands.value) = let here = stands.here in cc in record { value = w; here = λ i. Some ((it i).0, w) }
+  stands-set_value_at (e ∷ entries) zero w key (suc at) stands = record { value = stands.value; here = stands.here }
+  stands-set_value_at (e ∷ entries) (suc place) w key zero stands = record { value = stands.value; here = stands.here }
+  stands-set_value_at (e ∷ entries) (suc place) w key (suc at) stands =
+      let rest = stands-set_value_at entries place w key at (record { value = stands.value; here = stands.here }) in record { value = rest.value; here = rest.here }
+
+  -- and when another comes last
+  pub stands-append : (entries : List (K × V)) (last : K × V) (key : K) (at : ℕ) → StandsAt entries key at → StandsAt (entries ++ last ∷ []) key at
+  stands-append [] last key at stands = let here = stands.here in cc
+  stands-append (e ∷ entries) last key zero stands = record { value = stands.value; here = stands.here }
+  stands-append (e ∷ entries) last key (suc at) stands =
+      let rest = stands-append entries last key at (record { value = stands.value; here = stands.here }) in record { value = rest.value; here = rest.here }
+
+  -- which stands behind all others
+  pub stands-last : (entries : List (K × V)) (key : K) (value : V) → StandsAt (entries ++ (key, value) ∷ []) key (length entries)
+  stands-last [] key value = record { value = value; here = refl }
+  stands-last (e ∷ entries) key value = let rest = stands-last entries key value in record { value = rest.value; here = rest.here }

@@ -12,34 +12,34 @@ use Rattle.gu_positions.proofs.positions.Positions.make_row.Goals as goal
 pub invariant_of-self-2 : goal.invariant_of-self-2
 invariant_of-self-2 c =
     (kept-one_more c.self.inside (record { rows = c.make.new.rows; interests = c.make.new.interests }) c.args.account.now c.args.symbol.now c.self.invariant c.args.self.now c.self.view_is
-    c.in_default.ensures.there c.in_ok-make.ensures.made c.in_ok-make.ensures.known c.make.ensures.same).0
+    c.in_default.ensures.there c.in_ok-make.ensures.made c.make.ensures.stay c.make.ensures.same).0
 
 pub returns-clause-made : goal.returns-clause-made
 returns-clause-made c =
     let is =
     kept-one_more c.self.inside (record { rows = c.make.new.rows; interests = c.make.new.interests }) c.args.account.now c.args.symbol.now c.self.invariant c.args.self.now c.self.view_is
-    c.in_default.ensures.there c.in_ok-make.ensures.made c.in_ok-make.ensures.known c.make.ensures.same in
+    c.in_default.ensures.there c.in_ok-make.ensures.made c.make.ensures.stay c.make.ensures.same in
     is.1 ∙ ap (λ there. if there then c.args.self.now else c.args.self.now ++ empty_row c.args.account.now c.args.symbol.now ∷ []) c.in_default.ensures.there
 
 pub returns-clause-there : goal.returns-clause-there
 returns-clause-there c =
     let is =
     kept-one_more c.self.inside (record { rows = c.make.new.rows; interests = c.make.new.interests }) c.args.account.now c.args.symbol.now c.self.invariant c.args.self.now c.self.view_is
-    c.in_default.ensures.there c.in_ok-make.ensures.made c.in_ok-make.ensures.known c.make.ensures.same in
+    c.in_default.ensures.there c.in_ok-make.ensures.made c.make.ensures.stay c.make.ensures.same in
     λ a s. ap (λ rows. has_row rows a s) is.1 ∙ has_row-one_more c.args.account.now c.args.symbol.now c.args.self.now a s
 
 pub returns-clause-same_lots : goal.returns-clause-same_lots
 returns-clause-same_lots c =
     let is =
     kept-one_more c.self.inside (record { rows = c.make.new.rows; interests = c.make.new.interests }) c.args.account.now c.args.symbol.now c.self.invariant c.args.self.now c.self.view_is
-    c.in_default.ensures.there c.in_ok-make.ensures.made c.in_ok-make.ensures.known c.make.ensures.same in
+    c.in_default.ensures.there c.in_ok-make.ensures.made c.make.ensures.stay c.make.ensures.same in
     subst (KeepsLots c.args.self.now) (sym is.1) (keeps_lots-one_more c.args.account.now c.args.symbol.now c.args.self.now)
 
 pub returns-clause-row : goal.returns-clause-row
 returns-clause-row c =
     let is =
     kept-one_more c.self.inside (record { rows = c.make.new.rows; interests = c.make.new.interests }) c.args.account.now c.args.symbol.now c.self.invariant c.args.self.now c.self.view_is
-    c.in_default.ensures.there c.in_ok-make.ensures.made c.in_ok-make.ensures.known c.make.ensures.same in
+    c.in_default.ensures.there c.in_ok-make.ensures.made c.make.ensures.stay c.make.ensures.same in
     record {
       made =
           ap (λ rows. is_numbered rows c.args.account.now c.args.symbol.now c.len-number.result) is.1
@@ -53,7 +53,7 @@ pub returns-clause-stay : goal.returns-clause-stay
 returns-clause-stay c =
     let is =
     kept-one_more c.self.inside (record { rows = c.make.new.rows; interests = c.make.new.interests }) c.args.account.now c.args.symbol.now c.self.invariant c.args.self.now c.self.view_is
-    c.in_default.ensures.there c.in_ok-make.ensures.made c.in_ok-make.ensures.known c.make.ensures.same in
+    c.in_default.ensures.there c.in_ok-make.ensures.made c.make.ensures.stay c.make.ensures.same in
     λ row made.
     ap (λ rows. is_numbered rows row.account row.symbol row.number) is.1
     ∙ numbered-append row.account row.symbol c.args.self.now (empty_row c.args.account.now c.args.symbol.now ∷ []) row.number made
