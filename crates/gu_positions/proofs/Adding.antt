@@ -15,9 +15,11 @@ use Rattle.gu_positions.specs.declared.positions.Positions.TheInside.{Inside}
 use Rattle.gu_positions.specs.Changes.{less_in, more_in, with_less, with_more}
 use Rattle.gu_positions.specs.Holdings.{held, less, more}
 use Rattle.gu_positions.specs.Kept.{IsKept, KeepsPlaces, place_of, row_of, rows_of, same_key}
-use Rattle.gu_positions.specs.Rows.{Row, has_row, lots_in, lots_on, open_interest_in}
+use Rattle.gu_positions.specs.Numbers.{is_numbered}
+use Rattle.gu_positions.specs.Rows.{Row, lots_in, lots_on, open_interest_in}
 use Rattle.gu_positions.proofs.Changed.{changed, lots_in-within, lots_on-with_less, lots_on-with_more, open_interest-within}
 use Rattle.gu_positions.proofs.KeptLots.{excess-within_interest, interest-own, kept-changed, lots_in-lookup}
+use Rattle.gu_positions.proofs.RowNumbers.{has_row-numbered}
 use Rattle.gu_terms.proofs.SameNames.{same_symbol-true}
 use Rattle.gu_terms.proofs.SameValues.{both}
 
@@ -46,10 +48,10 @@ module _ (kept : Inside) (is_kept : IsKept kept) (side : Side) (account : Accoun
   enough was at has = subst (λ n. lots ≤ n) (lots_in-lookup side account symbol kept.rows.entries ∙ ap (λ o. option_map_or (held side) o 0) at) has
 
   -- all lots stay few where more come for which there is room
-  pub few-more : has_row (rows_of kept) account symbol ≡ true → lots_on (rows_of kept) side symbol + lots < 2 ^ 64
+  pub few-more : (number : ℕ) → is_numbered (rows_of kept) account symbol number ≡ true → lots_on (rows_of kept) side symbol + lots < 2 ^ 64
       → (t : Side) (s : Symbol) → lots_on (with_more (rows_of kept) side account symbol lots) t s < 2 ^ 64
-  few-more made room t s =
-      subst (λ n. n < 2 ^ 64) (sym (lots_on-with_more (rows_of kept) side account symbol lots is_kept.once made t s)) (by (same_side side t && same_symbol symbol s) refl)
+  few-more number made room t s =
+      subst (λ n. n < 2 ^ 64) (sym (lots_on-with_more (rows_of kept) side account symbol lots is_kept.once (has_row-numbered account symbol (rows_of kept) number made) t s)) (by (same_side side t && same_symbol symbol s) refl)
     where
       by : (b : Bool) → (same_side side t && same_symbol symbol s) ≡ b → lots_on (rows_of kept) t s + (if b then lots else 0) < 2 ^ 64
       by true e =
@@ -59,9 +61,10 @@ module _ (kept : Inside) (is_kept : IsKept kept) (side : Side) (account : Accoun
       by false e = omega (arith, is_kept.few t s)
 
   -- and where some leave
-  pub few-less : has_row (rows_of kept) account symbol ≡ true → lots ≤ lots_in (rows_of kept) side account symbol
+  pub few-less : (number : ℕ) → is_numbered (rows_of kept) account symbol number ≡ true → lots ≤ lots_in (rows_of kept) side account symbol
       → (t : Side) (s : Symbol) → lots_on (with_less (rows_of kept) side account symbol lots) t s < 2 ^ 64
-  few-less made has t s = omega (arith, lots_on-with_less (rows_of kept) side account symbol lots is_kept.once made has t s, is_kept.few t s)
+  few-less number made has t s =
+      omega (arith, lots_on-with_less (rows_of kept) side account symbol lots is_kept.once (has_row-numbered account symbol (rows_of kept) number made) has t s, is_kept.few t s)
 
 module _ (kept : Inside) (is_kept : IsKept kept) (account : AccountId) (symbol : Symbol) (g : Row → Row) (keeps : (r : Row) → ((g r).account ≡ r.account) × ((g r).symbol ≡ r.symbol))
     (was w : Holding) (at : get same_key kept.rows (place_of account symbol) ≡ Some was) (each : (w.interest ≡ was.interest) × ((k : Place) → row_of (k, w) ≡ g (row_of (k, was))))

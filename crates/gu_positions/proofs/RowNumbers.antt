@@ -1,4 +1,4 @@
--- The numbers of rows: what is kept at one, and that rows keep theirs.
+-- The numbers of rows: what is kept at one, and that rows keep theirs. So do the entries of a table keep their places.
 use Rattle.std.proofs.Common.{◌≡◌, ◌∙◌, sym, refl, ap, ℕ, zero, suc, Bool, true, false, ◌||◌, List, [], ◌∷◌, ◌++◌, map, length, Option, Some, None, slice_get}
 use Rattle.std.specs.Option.{option_map, option_map_or}
 use Rattle.std.proofs.lemmas.Option.{slice_get-map}
@@ -13,6 +13,18 @@ use Rattle.gu_positions.specs.Numbers.{is_numbered}
 use Rattle.gu_positions.specs.Rows.{Row, has_row, is_of}
 use Rattle.gu_positions.proofs.Changed.{changed, is_of-changed}
 use Rattle.gu_positions.proofs.Places.{same_key-true, same_place-own}
+
+module _ {X : Type 0} where
+  -- items keep their places when others come after them
+  pub slice_get-append : (xs ys : List X) (place : ℕ) (x : X) → slice_get xs place ≡ Some x → slice_get (xs ++ ys) place ≡ Some x
+  slice_get-append [] ys place x here = cc
+  slice_get-append (y ∷ xs) ys zero x here = here
+  slice_get-append (y ∷ xs) ys (suc place) x here = slice_get-append xs ys place x here
+
+  -- the place of the last is how many are before it
+  pub slice_get-last : (xs : List X) (x : X) → slice_get (xs ++ x ∷ []) (length xs) ≡ Some x
+  slice_get-last [] x = refl
+  slice_get-last (y ∷ xs) x = slice_get-last xs x
 
 module _ (account : AccountId) (symbol : Symbol) where
   -- a row that was made is kept at its number
@@ -47,8 +59,7 @@ module _ (account : AccountId) (symbol : Symbol) where
 
   -- the number of the last row is how many are before it
   pub numbered-last : (rows : List Row) (last : Row) → is_of account symbol last ≡ true → is_numbered (rows ++ last ∷ []) account symbol (length rows) ≡ true
-  numbered-last [] last own = own
-  numbered-last (r ∷ rows) last own = numbered-last rows last own
+  numbered-last rows last own = ap (λ o. option_map_or (is_of account symbol) o false) (slice_get-last rows last) ∙ own
 
 -- and when one of them is changed
 pub numbered-changed : (account : AccountId) (symbol : Symbol) (g : Row → Row) (keeps : (r : Row) → ((g r).account ≡ r.account) × ((g r).symbol ≡ r.symbol))
@@ -66,15 +77,3 @@ module _ {K V : Type 0} where
   stands-set_value_at (e ∷ entries) (suc place) w key zero stands = record { value = stands.value; here = stands.here }
   stands-set_value_at (e ∷ entries) (suc place) w key (suc at) stands =
       let rest = stands-set_value_at entries place w key at (record { value = stands.value; here = stands.here }) in record { value = rest.value; here = rest.here }
-
-  -- and when another comes last
-  pub stands-append : (entries : List (K × V)) (last : K × V) (key : K) (at : ℕ) → StandsAt entries key at → StandsAt (entries ++ last ∷ []) key at
-  stands-append [] last key at stands = let here = stands.here in cc
-  stands-append (e ∷ entries) last key zero stands = record { value = stands.value; here = stands.here }
-  stands-append (e ∷ entries) last key (suc at) stands =
-      let rest = stands-append entries last key at (record { value = stands.value; here = stands.here }) in record { value = rest.value; here = rest.here }
-
-  -- which stands behind all others
-  pub stands-last : (entries : List (K × V)) (key : K) (value : V) → StandsAt (entries ++ (key, value) ∷ []) key (length entries)
-  stands-last [] key value = record { value = value; here = refl }
-  stands-last (e ∷ entries) key value = let rest = stands-last entries key value in record { value = rest.value; here = rest.here }

@@ -32,7 +32,7 @@ rows_of kept = map row_of kept.rows.entries
 abbrev pub KeepsPlaces : List (Symbol × ℕ) → List (Symbol × ℕ) → Type 0
 KeepsPlaces old new = (symbol : Symbol) (place : ℕ) → StandsAt old symbol place → StandsAt new symbol place
 
--- each row once, few enough lots, and for each instrument that has rows its open interest, at the place that they have for it
+-- each row once, few enough lots, and for each instrument that has rows its open interest, at the place that each of its rows has
 pub record IsKept (kept : Inside) : Type 0 where
   pub once : IsDistinct same_row (rows_of kept)
   pub few : (side : Side) (symbol : Symbol) → lots_on (rows_of kept) side symbol < 2 ^ 64

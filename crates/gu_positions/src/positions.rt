@@ -87,7 +87,7 @@ fn write(rows: &mut IndexMap<Place, Holding>, row: &RowNo, holding: Holding)
     rows[row.number] = holding;
 }
 
-/// Brings the open interest at a place up to date, of whose instrument one account held so much in excess before, and so much after.
+/// Brings the open interest at a place up to date. Of its instrument one account held so much in excess before, and so much after.
 fn settle(interests: &mut IndexMap<Symbol, u64>, place: usize, before: u64, after: u64)
     requires { (symbol : Instrument) × StandsAt interests.old.entries symbol place
         × (before ≤ unwrap_or (get ⟦<Symbol as PartialEq>⟧.eq interests.old symbol) 0)
@@ -102,7 +102,7 @@ fn settle(interests: &mut IndexMap<Symbol, u64>, place: usize, before: u64, afte
     *interest = *interest - before + after;
 }
 
-/// The place of an instrument's open interest: none as yet, where it is new.
+/// The place of an instrument's open interest, which begins at 0 where the instrument is new.
 fn know(interests: &mut IndexMap<Symbol, u64>, symbol: &Symbol) -> Result<usize, AllocError>
     ensures at { IfOk result (StandsAt interests.new.entries symbol.now) }
     ensures stay { KeepsPlaces interests.old.entries interests.new.entries }

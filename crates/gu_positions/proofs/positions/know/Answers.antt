@@ -1,12 +1,11 @@
-use Rattle.std.proofs.Common.{◌∙◌, ℕ, List, Some, subst, sym}
+use Rattle.std.proofs.Common.{◌∙◌, [], ◌∷◌, Some, slice_get, sym}
 use Rattle.indexmap.proofs.CallerLemmas.{insert_entry-new}
 use Rattle.gu_terms.specs.declared.symbol.Symbol.{Symbol}
 use Rattle.gu_terms.specs.Same.{same_symbol}
-use Rattle.gu_terms.specs.Standing.{StandsAt}
 use Rattle.gu_terms.proofs.Found.{by_name}
 use Rattle.gu_terms.proofs.SameNames.{same_symbol-true}
 use Rattle.gu_terms.proofs.Standing.{found_key}
-use Rattle.gu_positions.proofs.RowNumbers.{stands-append, stands-last}
+use Rattle.gu_positions.proofs.RowNumbers.{slice_get-append, slice_get-last}
 use Rattle.gu_positions.proofs.positions.know.Goals as goal
 
 pub returns-in-Some-clause-at : goal.returns-in-Some-clause-at
@@ -18,9 +17,9 @@ returns-in-Some-clause-at c =
 pub returns-clause-at : goal.returns-clause-at
 returns-clause-at c =
     let is = c.in_ok-insert.ensures.entries ∙ insert_entry-new same_symbol c.args.interests.now c.args.symbol.now 0 (sym c.in_default.ensures.value) in
-    subst (λ (at : List (Symbol × ℕ) × ℕ). StandsAt at.0 c.args.symbol.now at.1) (λ i. (sym is i, sym c.len-place.ensures.len i)) (stands-last c.args.interests.now.entries c.args.symbol.now 0)
+    record { value = 0; here = (λ i. slice_get (is i) (c.len-place.ensures.len i)) ∙ slice_get-last c.args.interests.now.entries (c.args.symbol.now, 0) }
 
 pub returns-clause-stay : goal.returns-clause-stay
 returns-clause-stay c = λ symbol place stands.
     let is = c.in_ok-insert.ensures.entries ∙ insert_entry-new same_symbol c.args.interests.now c.args.symbol.now 0 (sym c.in_default.ensures.value) in
-    subst (λ (entries : List (Symbol × ℕ)). StandsAt entries symbol place) (sym is) (stands-append c.args.interests.now.entries (c.args.symbol.now, 0) symbol place stands)
+    record { value = stands.value; here = (λ i. slice_get (is i) place) ∙ slice_get-append c.args.interests.now.entries ((c.args.symbol.now, 0) ∷ []) place (symbol, stands.value) stands.here }
