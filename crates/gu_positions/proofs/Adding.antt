@@ -8,27 +8,30 @@ use Rattle.gu_terms.specs.declared.side.Side.{Side}
 use Rattle.gu_terms.specs.declared.side.Side.TheVariants.{Buy, Sell}
 use Rattle.gu_terms.specs.declared.symbol.Symbol.{Symbol}
 use Rattle.gu_terms.specs.Same.{same_side, same_symbol}
+use Rattle.gu_terms.specs.Standing.{StandsAt}
 use Rattle.gu_positions.specs.declared.holding.Holding.{Holding}
 use Rattle.gu_positions.specs.declared.positions.Place.{Place}
 use Rattle.gu_positions.specs.declared.positions.Positions.TheInside.{Inside}
 use Rattle.gu_positions.specs.Changes.{less_in, more_in, with_less, with_more}
 use Rattle.gu_positions.specs.Holdings.{held, less, more}
-use Rattle.gu_positions.specs.Kept.{IsKept, place_of, row_of, rows_of, same_key}
-use Rattle.gu_positions.specs.Rows.{Row, has_row, lots_in, lots_on, open_interest_in}
+use Rattle.gu_positions.specs.Kept.{IsKept, KeepsPlaces, place_of, row_of, rows_of, same_key}
+use Rattle.gu_positions.specs.Numbers.{is_numbered}
+use Rattle.gu_positions.specs.Rows.{Row, lots_in, lots_on, open_interest_in}
 use Rattle.gu_positions.proofs.Changed.{changed, lots_in-within, lots_on-with_less, lots_on-with_more, open_interest-within}
 use Rattle.gu_positions.proofs.KeptLots.{excess-within_interest, interest-own, kept-changed, lots_in-lookup}
+use Rattle.gu_positions.proofs.RowNumbers.{has_row-numbered}
 use Rattle.gu_terms.proofs.SameNames.{same_symbol-true}
 use Rattle.gu_terms.proofs.SameValues.{both}
 
--- a row of which more is held is a row with more
-pub row_of-more : (side : Side) (lots : ℕ) (h w : Holding) → w ≡ more side lots h → (k : Place) → row_of (k, w) ≡ more_in side lots (row_of (k, h))
-row_of-more Buy lots h w is k = ap (λ h. row_of (k, h)) is
-row_of-more Sell lots h w is k = ap (λ h. row_of (k, h)) is
+-- a row of which more is held is a row with more, and its instrument's open interest stands where it stood
+pub row_of-more : (side : Side) (lots : ℕ) (h w : Holding) → w ≡ more side lots h → (w.interest ≡ h.interest) × ((k : Place) → row_of (k, w) ≡ more_in side lots (row_of (k, h)))
+row_of-more Buy lots h w is = (λ i. (is i).interest, λ k. ap (λ h. row_of (k, h)) is)
+row_of-more Sell lots h w is = (λ i. (is i).interest, λ k. ap (λ h. row_of (k, h)) is)
 
 -- and with less
-pub row_of-less : (side : Side) (lots : ℕ) (h w : Holding) → w ≡ less side lots h → (k : Place) → row_of (k, w) ≡ less_in side lots (row_of (k, h))
-row_of-less Buy lots h w is k = ap (λ h. row_of (k, h)) is
-row_of-less Sell lots h w is k = ap (λ h. row_of (k, h)) is
+pub row_of-less : (side : Side) (lots : ℕ) (h w : Holding) → w ≡ less side lots h → (w.interest ≡ h.interest) × ((k : Place) → row_of (k, w) ≡ less_in side lots (row_of (k, h)))
+row_of-less Buy lots h w is = (λ i. (is i).interest, λ k. ap (λ h. row_of (k, h)) is)
+row_of-less Sell lots h w is = (λ i. (is i).interest, λ k. ap (λ h. row_of (k, h)) is)
 
 same_side-true : (a b : Side) → same_side a b ≡ true → a ≡ b
 same_side-true Buy Buy h = refl
@@ -45,10 +48,10 @@ module _ (kept : Inside) (is_kept : IsKept kept) (side : Side) (account : Accoun
   enough was at has = subst (λ n. lots ≤ n) (lots_in-lookup side account symbol kept.rows.entries ∙ ap (λ o. option_map_or (held side) o 0) at) has
 
   -- all lots stay few where more come for which there is room
-  pub few-more : has_row (rows_of kept) account symbol ≡ true → lots_on (rows_of kept) side symbol + lots < 2 ^ 64
+  pub few-more : (number : ℕ) → is_numbered (rows_of kept) account symbol number ≡ true → lots_on (rows_of kept) side symbol + lots < 2 ^ 64
       → (t : Side) (s : Symbol) → lots_on (with_more (rows_of kept) side account symbol lots) t s < 2 ^ 64
-  few-more made room t s =
-      subst (λ n. n < 2 ^ 64) (sym (lots_on-with_more (rows_of kept) side account symbol lots is_kept.once made t s)) (by (same_side side t && same_symbol symbol s) refl)
+  few-more number made room t s =
+      subst (λ n. n < 2 ^ 64) (sym (lots_on-with_more (rows_of kept) side account symbol lots is_kept.once (has_row-numbered account symbol (rows_of kept) number made) t s)) (by (same_side side t && same_symbol symbol s) refl)
     where
       by : (b : Bool) → (same_side side t && same_symbol symbol s) ≡ b → lots_on (rows_of kept) t s + (if b then lots else 0) < 2 ^ 64
       by true e =
@@ -58,30 +61,34 @@ module _ (kept : Inside) (is_kept : IsKept kept) (side : Side) (account : Accoun
       by false e = omega (arith, is_kept.few t s)
 
   -- and where some leave
-  pub few-less : has_row (rows_of kept) account symbol ≡ true → lots ≤ lots_in (rows_of kept) side account symbol
+  pub few-less : (number : ℕ) → is_numbered (rows_of kept) account symbol number ≡ true → lots ≤ lots_in (rows_of kept) side account symbol
       → (t : Side) (s : Symbol) → lots_on (with_less (rows_of kept) side account symbol lots) t s < 2 ^ 64
-  few-less made has t s = omega (arith, lots_on-with_less (rows_of kept) side account symbol lots is_kept.once made has t s, is_kept.few t s)
+  few-less number made has t s =
+      omega (arith, lots_on-with_less (rows_of kept) side account symbol lots is_kept.once (has_row-numbered account symbol (rows_of kept) number made) has t s, is_kept.few t s)
 
 module _ (kept : Inside) (is_kept : IsKept kept) (account : AccountId) (symbol : Symbol) (g : Row → Row) (keeps : (r : Row) → ((g r).account ≡ r.account) × ((g r).symbol ≡ r.symbol))
-    (was w : Holding) (at : get same_key kept.rows (place_of account symbol) ≡ Some was) (each : (k : Place) → row_of (k, w) ≡ g (row_of (k, was)))
+    (was w : Holding) (at : get same_key kept.rows (place_of account symbol) ≡ Some was) (each : (w.interest ≡ was.interest) × ((k : Place) → row_of (k, w) ≡ g (row_of (k, was))))
     (few : (t : Side) (s : Symbol) → lots_on (changed account symbol g keeps (rows_of kept)) t s < 2 ^ 64)
     (before after : ℕ) (before_is : before ≡ was.long - was.short) (after_is : after ≡ w.long - w.short) where
-  -- the open interest is enough
-  pub within : before ≤ unwrap_or (get same_symbol kept.interests symbol) 0
-  within = omega (arith, before_is, is_kept.interests symbol, excess-within_interest kept is_kept account symbol was at)
-
-  -- it fits when it follows
-  pub follows-fits : unwrap_or (get same_symbol kept.interests symbol) 0 - before + after < 2 ^ 64
-  follows-fits =
+  -- the open interest has its place and is enough, and it fits when it follows
+  pub settles : (s : Symbol) × StandsAt kept.interests.entries s was.interest × (before ≤ unwrap_or (get same_symbol kept.interests s) 0)
+      × (unwrap_or (get same_symbol kept.interests s) 0 - before + after < 2 ^ 64)
+  settles =
+      let enough : before ≤ unwrap_or (get same_symbol kept.interests symbol) 0 = omega (arith, before_is, is_kept.interests symbol, excess-within_interest kept is_kept account symbol was at) in
       let follows : unwrap_or (get same_symbol kept.interests symbol) 0 - before + after ≡ open_interest_in (changed account symbol g keeps (rows_of kept)) symbol =
       (λ i. is_kept.interests symbol i - before_is i + after_is i) ∙ interest-own kept is_kept account symbol was at g keeps w each in
-      omega (arith, follows, open_interest-within (changed account symbol g keeps (rows_of kept)) symbol, few Buy symbol)
+      let fits : unwrap_or (get same_symbol kept.interests symbol) 0 - before + after < 2 ^ 64 =
+      omega (arith, follows, open_interest-within (changed account symbol g keeps (rows_of kept)) symbol, few Buy symbol) in
+      (symbol, is_kept.places account symbol was at, enough, fits)
 
   -- all is kept then
   pub keeps-written : (later : Inside) → later.rows.entries ≡ set_value (same_key (place_of account symbol)) kept.rows.entries w
-      → Updates same_symbol kept.interests later.interests symbol (Some (unwrap_or (get same_symbol kept.interests symbol) 0 - before + after))
+      → Updates same_key kept.rows later.rows (place_of account symbol) (Some w)
+      → ((s : Symbol) → StandsAt kept.interests.entries s was.interest → Updates same_symbol kept.interests later.interests s (Some (unwrap_or (get same_symbol kept.interests s) 0 - before + after)))
+      → KeepsPlaces kept.interests.entries later.interests.entries
       → IsKept later × (rows_of later ≡ changed account symbol g keeps (rows_of kept))
-  keeps-written later is updated =
-      kept-changed kept is_kept account symbol was at g keeps w each later few is
+  keeps-written later is wrote settled stay =
+      kept-changed kept is_kept account symbol was at g keeps w each later few is wrote
       (subst (λ n. Updates same_symbol kept.interests later.interests symbol (Some n))
-      (λ i. unwrap_or (get same_symbol kept.interests symbol) 0 - before_is i + after_is i) updated)
+      (λ i. unwrap_or (get same_symbol kept.interests symbol) 0 - before_is i + after_is i) (settled symbol (is_kept.places account symbol was at)))
+      stay

@@ -1,21 +1,22 @@
 -- The rows as they are kept: looked up by account and instrument, written, and beside them the open interests.
 use Rattle.std.proofs.Common.{◌≡◌, ◌∙◌, sym, refl, ap, subst, ℕ, ◌+◌, ◌-◌, ◌<◌, ◌≤◌, ◌^◌, Bool, true, false, cond, ◌||◌, List, [], ◌∷◌, map, Option, None, Some, is_some, unwrap_or, arith, if◌then◌else◌}
 use Rattle.std.specs.List.{IsDistinct, find}
-use Rattle.std.specs.Map.{KeepsOthers, lookup, set_value}
+use Rattle.std.specs.Map.{lookup, set_value}
 use Rattle.std.specs.Option.{option_map_or}
-use Rattle.indexmap.specs.IndexMap.{IndexMap, get, Updates}
+use Rattle.indexmap.specs.IndexMap.{get, Updates}
 use Rattle.gu_terms.specs.declared.account.AccountId.{AccountId}
 use Rattle.gu_terms.specs.declared.side.Side.{Side}
 use Rattle.gu_terms.specs.declared.side.Side.TheVariants.{Buy, Sell}
 use Rattle.gu_terms.specs.declared.symbol.Symbol.{Symbol}
 use Rattle.gu_terms.specs.Same.{same_symbol}
+use Rattle.gu_terms.specs.Standing.{StandsAt}
 use Rattle.gu_positions.specs.declared.holding.Holding.{Holding}
 use Rattle.gu_positions.specs.declared.positions.Place.{Place}
 use Rattle.gu_positions.specs.declared.positions.Positions.TheInside.{Inside}
 use Rattle.gu_positions.specs.Holdings.{held}
-use Rattle.gu_positions.specs.Kept.{IsKept, place_of, row_of, rows_of, same_key}
+use Rattle.gu_positions.specs.Kept.{IsKept, KeepsPlaces, place_of, row_of, rows_of, same_key}
 use Rattle.gu_positions.specs.Rows.{Row, has_row, is_of, lots_in, lots_of, lots_on, open_interest_in, same_row}
-use Rattle.gu_positions.proofs.Changed.{changed, distinct-changed, find-passes, found-among, found_within_sum, has_row-changed, open_interest-changed, rest_unchanged}
+use Rattle.gu_positions.proofs.Changed.{changed, distinct-changed, find-passes, found-among, found_within_sum, open_interest-changed, rest_unchanged}
 use Rattle.gu_positions.proofs.Places.{same_place-true}
 use Rattle.gu_terms.proofs.SameNames.{same_symbol-own, same_symbol-true}
 
@@ -82,6 +83,18 @@ found-excess entries a s h r at found = (by Buy, by Sell)
     by : (t : Side) → lots_of t r ≡ held t h
     by t = ap (λ o. option_map_or (lots_of t) o 0) (sym found) ∙ lots_in-lookup t a s entries ∙ ap (λ o. option_map_or (held t) o 0) at
 
+-- after one row is written, or comes last, that has the place of its instrument's open interest, each has it
+pub places-updated : (old : Inside) → IsKept old → (new : Inside) (account : AccountId) (symbol : Symbol) (w : Holding) → Updates same_key old.rows new.rows (place_of account symbol) (Some w)
+    → KeepsPlaces old.interests.entries new.interests.entries → StandsAt new.interests.entries symbol w.interest
+    → (a : AccountId) (s : Symbol) (h : Holding) → get same_key new.rows (place_of a s) ≡ Some h → StandsAt new.interests.entries s h.interest
+places-updated old kept new account symbol w updated stay stands a s h there = by (same_key (place_of account symbol) (place_of a s)) refl (sym (updated.0 (place_of a s)) ∙ there)
+  where
+    by : (b : Bool) → same_key (place_of account symbol) (place_of a s) ≡ b → cond b (Some w) (get same_key old.rows (place_of a s)) ≡ Some h → StandsAt new.interests.entries s h.interest
+    by true e is =
+        let one : w ≡ h = cc in
+        subst (λ (own : Symbol × Holding). StandsAt new.interests.entries own.0 own.1.interest) (λ i. ((same_place-true account symbol a s e).1 i, one i)) stands
+    by false e is = stay s h.interest (kept.places a s h is)
+
 module _ (kept : Inside) (is_kept : IsKept kept) (account : AccountId) (symbol : Symbol) (h : Holding) (at : get same_key kept.rows (place_of account symbol) ≡ Some h) where
   -- the row is there
   pub there : has_row (rows_of kept) account symbol ≡ true
@@ -97,12 +110,12 @@ module _ (kept : Inside) (is_kept : IsKept kept) (account : AccountId) (symbol :
       ap (λ b. if b then found.0.long - found.0.short else 0) ((λ i. same_symbol found.0.symbol (one i)) ∙ same_symbol-own found.0.symbol) ∙ (λ i. same.0 i - same.1 i) in
       omega (arith, own, found_within_sum (is_of account symbol) (λ r. if same_symbol r.symbol symbol then r.long - r.short else 0) (rows_of kept) found.0 found.1)
 
-  module _ (g : Row → Row) (keeps : (r : Row) → ((g r).account ≡ r.account) × ((g r).symbol ≡ r.symbol)) (w : Holding) (fits : (k : Place) → row_of (k, w) ≡ g (row_of (k, h))) where
+  module _ (g : Row → Row) (keeps : (r : Row) → ((g r).account ≡ r.account) × ((g r).symbol ≡ r.symbol)) (w : Holding) (fits : (w.interest ≡ h.interest) × ((k : Place) → row_of (k, w) ≡ g (row_of (k, h)))) where
     excess-changed : (r : Row) → (r.long ≡ h.long) × (r.short ≡ h.short) → (r.long - r.short ≡ h.long - h.short) × ((g r).long - (g r).short ≡ w.long - w.short)
     excess-changed r same =
         let k : Place = place_of r.account r.symbol in
         let as_kept : r ≡ row_of (k, h) = λ i. record { account = r.account; symbol = r.symbol; long = same.0 i; short = same.1 i } in
-        ((λ i. same.0 i - same.1 i), ap (λ (x : Row). (g x).long - (g x).short) as_kept ∙ ap (λ (x : Row). x.long - x.short) (sym (fits k)))
+        ((λ i. same.0 i - same.1 i), ap (λ (x : Row). (g x).long - (g x).short) as_kept ∙ ap (λ (x : Row). x.long - x.short) (sym (fits.1 k)))
 
     -- the open interest of each instrument, after the row is changed
     pub interest-changed : (s : Symbol)
@@ -124,26 +137,22 @@ module _ (kept : Inside) (is_kept : IsKept kept) (account : AccountId) (symbol :
     pub kept-changed : (new : Inside)
         → ((side : Side) (s : Symbol) → lots_on (changed account symbol g keeps (rows_of kept)) side s < 2 ^ 64)
         → new.rows.entries ≡ set_value (same_key (place_of account symbol)) kept.rows.entries w
+        → Updates same_key kept.rows new.rows (place_of account symbol) (Some w)
         → Updates same_symbol kept.interests new.interests symbol (Some (unwrap_or (get same_symbol kept.interests symbol) 0 - (h.long - h.short) + (w.long - w.short)))
+        → KeepsPlaces kept.interests.entries new.interests.entries
         → IsKept new × (rows_of new ≡ changed account symbol g keeps (rows_of kept))
-    kept-changed new few written updated =
+    kept-changed new few written wrote updated stay =
         let view : rows_of new ≡ changed account symbol g keeps (rows_of kept) =
-        ap (map row_of) written ∙ rows-set_value account symbol g keeps h w fits kept.rows.entries is_kept.once at in (
+        ap (map row_of) written ∙ rows-set_value account symbol g keeps h w fits.1 kept.rows.entries is_kept.once at in (
           record {
             once = subst (IsDistinct same_row) (sym view) (distinct-changed account symbol g keeps (rows_of kept) is_kept.once);
             few = subst (λ (rows : List Row). (side : Side) (s : Symbol) → lots_on rows side s < 2 ^ 64) (sym view) few;
-            known = λ a s has. ap is_some (updated.0 s) ∙ known (same_symbol symbol s) s
-                (is_kept.known a s (sym (has_row-changed account symbol g keeps (rows_of kept) a s) ∙ ap (λ rows. has_row rows a s) (sym view) ∙ has));
+            places = places-updated kept is_kept new account symbol w wrote stay (subst (StandsAt new.interests.entries symbol) (sym fits.0) (stay symbol h.interest (is_kept.places account symbol h at)));
             interests = λ s. ap (λ o. unwrap_or o 0) (updated.0 s) ∙ interest s (same_symbol symbol s) refl (interest-changed s) ∙ ap (λ rows. open_interest_in rows s) (sym view);
           },
           view,
         )
       where
-        known : (b : Bool) (s : Symbol) → is_some (get same_symbol kept.interests s) ≡ true
-            → is_some (cond b (Some (unwrap_or (get same_symbol kept.interests symbol) 0 - (h.long - h.short) + (w.long - w.short))) (get same_symbol kept.interests s)) ≡ true
-        known true s was = refl
-        known false s was = was
-
         interest : (s : Symbol) (b : Bool) → same_symbol symbol s ≡ b
             → open_interest_in (changed account symbol g keeps (rows_of kept)) s + (if b then h.long - h.short else 0) ≡ open_interest_in (rows_of kept) s + (if b then w.long - w.short else 0)
             → unwrap_or (cond b (Some (unwrap_or (get same_symbol kept.interests symbol) 0 - (h.long - h.short) + (w.long - w.short))) (get same_symbol kept.interests s)) 0
@@ -152,28 +161,12 @@ module _ (kept : Inside) (is_kept : IsKept kept) (account : AccountId) (symbol :
             ∙ (λ i. open_interest_in (changed account symbol g keeps (rows_of kept)) (same_symbol-true symbol s e i))
         interest s false e sums = is_kept.interests s ∙ omega (arith, sums)
 
--- an open interest that stays need not be written
-pub settled : {S : Type 0} (interests : IndexMap Symbol ℕ S) (symbol : Symbol) (before after : ℕ) → is_some (get same_symbol interests symbol) ≡ true
-    → before ≤ unwrap_or (get same_symbol interests symbol) 0 → before ≡ after
-    → Updates same_symbol interests interests symbol (Some (unwrap_or (get same_symbol interests symbol) 0 - before + after))
-unfolding KeepsOthers
-settled interests symbol before after known within still =
-    (λ s. by s (same_symbol symbol s) refl, own (get same_symbol interests symbol) known within, λ s apart. refl, λ other test apart. refl)
-  where
-    own : (o : Option ℕ) → is_some o ≡ true → before ≤ unwrap_or o 0 → o ≡ Some (unwrap_or o 0 - before + after)
-    own None h w = cc
-    own (Some n) h w = let one : n ≡ n - before + after = omega (arith, w, still) in λ i. Some (one i)
-
-    by : (s : Symbol) (b : Bool) → same_symbol symbol s ≡ b → get same_symbol interests s ≡ cond b (Some (unwrap_or (get same_symbol interests symbol) 0 - before + after)) (get same_symbol interests s)
-    by s true e = (λ i. get same_symbol interests (sym (same_symbol-true symbol s e) i)) ∙ own (get same_symbol interests symbol) known within
-    by s false e = refl
-
 -- nothing is kept in empty tables
 pub kept-empty : (kept : Inside) → kept.rows.entries ≡ [] → kept.interests.entries ≡ [] → IsKept kept
 unfolding IsDistinct
 kept-empty kept none nothing = record {
   once = subst (λ (es : List (Place × Holding)). IsDistinct same_row (map row_of es)) (sym none) tt;
   few = λ side s. subst (λ (es : List (Place × Holding)). lots_on (map row_of es) side s < 2 ^ 64) (sym none) (omega arith);
-  known = λ a s has. let no : has_row (map row_of kept.rows.entries) a s ≡ false = ap (λ es. has_row (map row_of es) a s) none in cc;
+  places = λ a s h at. let no : get same_key kept.rows (place_of a s) ≡ None = ap (lookup (same_key (place_of a s))) none in cc;
   interests = λ s. ap (λ es. unwrap_or (lookup (same_symbol s) es) 0) nothing ∙ ap (λ es. open_interest_in (map row_of es) s) (sym none);
 }

@@ -5,21 +5,21 @@ use Rattle.std.specs.Option.{option_map_or}
 use Rattle.std.proofs.lemmas.List.{map-append}
 use Rattle.std.proofs.lemmas.List.Folds.{list_any-append}
 use Rattle.std.proofs.lemmas.List.Sums.{sum_by-append, sum_by-cons}
-use Rattle.indexmap.specs.IndexMap.{get, insert_entry}
+use Rattle.indexmap.specs.IndexMap.{get, insert_entry, Updates}
 use Rattle.indexmap.proofs.CallerLemmas.{insert_entry-new}
 use Rattle.gu_terms.specs.declared.account.AccountId.{AccountId}
 use Rattle.gu_terms.specs.declared.side.Side.{Side}
 use Rattle.gu_terms.specs.declared.side.Side.TheVariants.{Buy, Sell}
 use Rattle.gu_terms.specs.declared.symbol.Symbol.{Symbol}
 use Rattle.gu_terms.specs.Same.{same_symbol}
-use Rattle.gu_positions.specs.declared.holding.Holding.{Holding}
+use Rattle.gu_terms.specs.Standing.{StandsAt}
 use Rattle.gu_positions.specs.declared.positions.Positions.TheInside.{Inside}
 use Rattle.gu_positions.specs.Changes.{KeepsLots, empty_row, same_place}
-use Rattle.gu_positions.specs.Kept.{IsKept, place_of, row_of, rows_of, same_key}
+use Rattle.gu_positions.specs.Holdings.{nothing_at}
+use Rattle.gu_positions.specs.Kept.{IsKept, KeepsPlaces, place_of, row_of, rows_of, same_key}
 use Rattle.gu_positions.specs.Rows.{Row, has_row, is_of, lots_in, lots_of, lots_on, open_interest_in, same_row}
-use Rattle.gu_positions.proofs.KeptLots.{has_row-lookup}
+use Rattle.gu_positions.proofs.KeptLots.{has_row-lookup, places-updated}
 use Rattle.gu_positions.proofs.Places.{same_place-sym, same_place-true}
-use Rattle.gu_terms.proofs.SameNames.{same_symbol-own}
 
 or_neither : (p : Bool) → (p || false) ≡ p
 or_neither true = refl
@@ -29,10 +29,6 @@ neither : (p q : Bool) → (p || q) ≡ false → (p ≡ false) × (q ≡ false)
 neither true q h = cc
 neither false true h = cc
 neither false false h = (refl, refl)
-
-either : (p q : Bool) → q ≡ true → (p || q) ≡ true
-either true q h = refl
-either false q h = h
 
 none : {X : Type 0} (o : Option X) → is_some o ≡ false → o ≡ None
 none None h = refl
@@ -103,32 +99,24 @@ has_row-present rows account symbol there a s =
     implied (has_row rows a s) (same_place a s account symbol)
     (λ same. let one = same_place-true a s account symbol same in (λ i. has_row rows (one.0 i) (one.1 i)) ∙ there)
 
--- after an empty row is put last and its instrument has an open interest
+-- after an empty row is put last, for which its instrument has an open interest
 pub kept-one_more : (old new : Inside) (account : AccountId) (symbol : Symbol) → IsKept old → (rows : List Row) → rows_of old ≡ rows → false ≡ has_row rows account symbol
-    → new.rows.entries ≡ insert_entry same_key old.rows.entries (place_of account symbol) (record { long = 0; short = 0 })
-    → ((other : Symbol) → is_some (get same_symbol new.interests other) ≡ (is_some (get same_symbol old.interests other) || same_symbol symbol other))
+    → (at : ℕ) × StandsAt new.interests.entries symbol at × (new.rows.entries ≡ insert_entry same_key old.rows.entries (place_of account symbol) (nothing_at at))
+    × Updates same_key old.rows new.rows (place_of account symbol) (Some (nothing_at at))
+    → KeepsPlaces old.interests.entries new.interests.entries
     → ((other : Symbol) → unwrap_or (get same_symbol new.interests other) 0 ≡ unwrap_or (get same_symbol old.interests other) 0)
     → IsKept new × (rows_of new ≡ rows ++ empty_row account symbol ∷ [])
-kept-one_more old new account symbol kept rows own absent made known same =
-    let empty : Holding = record { long = 0; short = 0 } in
+kept-one_more old new account symbol kept rows own absent (at, stands, made, updated) stay same =
     let new_row : has_row (rows_of old) account symbol ≡ false = ap (λ rows. has_row rows account symbol) own ∙ sym absent in
     let nowhere : get same_key old.rows (place_of account symbol) ≡ None = none (get same_key old.rows (place_of account symbol)) (sym (has_row-lookup account symbol old.rows.entries) ∙ new_row) in
     let view : rows_of new ≡ rows_of old ++ empty_row account symbol ∷ [] =
-    ap (map row_of) (made ∙ insert_entry-new same_key old.rows (place_of account symbol) empty nowhere) ∙ map-append row_of old.rows.entries ((place_of account symbol, empty) ∷ []) in
+    ap (map row_of) (made ∙ insert_entry-new same_key old.rows (place_of account symbol) (nothing_at at) nowhere) ∙ map-append row_of old.rows.entries ((place_of account symbol, nothing_at at) ∷ []) in
     let lots = keeps_lots-one_more account symbol (rows_of old) in (
       record {
         once = subst (IsDistinct same_row) (sym view) (distinct-one_more account symbol (rows_of old) new_row kept.once);
         few = λ side s. subst (λ n. n < 2 ^ 64) (sym (ap (λ rows. lots_on rows side s) view ∙ lots.sums side s)) (kept.few side s);
-        known = λ a s has. known s ∙ there a s (has_row (rows_of old) a s) refl (sym (has_row-one_more account symbol (rows_of old) a s) ∙ ap (λ rows. has_row rows a s) (sym view) ∙ has);
+        places = places-updated old kept new account symbol (nothing_at at) updated stay stands;
         interests = λ s. same s ∙ kept.interests s ∙ sym (ap (λ rows. open_interest_in rows s) view ∙ lots.interest s);
       },
       view ∙ ap (λ rows. rows ++ empty_row account symbol ∷ []) own,
     )
-  where
-    there : (a : AccountId) (s : Symbol) (b : Bool) → has_row (rows_of old) a s ≡ b → (b || same_place a s account symbol) ≡ true
-        → (is_some (get same_symbol old.interests s) || same_symbol symbol s) ≡ true
-    there a s true e h = rw (kept.known a s e) refl
-    there a s false e h =
-        let one = (same_place-true a s account symbol h).1 in
-        let own : same_symbol symbol s ≡ true = (λ i. same_symbol symbol (one i)) ∙ same_symbol-own symbol in
-        either (is_some (get same_symbol old.interests s)) (same_symbol symbol s) own

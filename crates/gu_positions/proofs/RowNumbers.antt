@@ -1,7 +1,8 @@
--- The numbers of rows: what is kept at one, and that rows keep theirs.
+-- The numbers of rows: what is kept at one, and that rows keep theirs. So do the entries of a table keep their places.
 use Rattle.std.proofs.Common.{◌≡◌, ◌∙◌, sym, refl, ap, ℕ, zero, suc, Bool, true, false, ◌||◌, List, [], ◌∷◌, ◌++◌, map, length, Option, Some, None, slice_get}
 use Rattle.std.specs.Option.{option_map, option_map_or}
 use Rattle.std.proofs.lemmas.Option.{slice_get-map}
+use Rattle.indexmap.specs.IndexMap.{set_value_at}
 use Rattle.gu_terms.specs.Standing.{StandsAt}
 use Rattle.gu_terms.specs.declared.account.AccountId.{AccountId}
 use Rattle.gu_terms.specs.declared.symbol.Symbol.{Symbol}
@@ -12,6 +13,18 @@ use Rattle.gu_positions.specs.Numbers.{is_numbered}
 use Rattle.gu_positions.specs.Rows.{Row, has_row, is_of}
 use Rattle.gu_positions.proofs.Changed.{changed, is_of-changed}
 use Rattle.gu_positions.proofs.Places.{same_key-true, same_place-own}
+
+module _ {X : Type 0} where
+  -- items keep their places when others come after them
+  pub slice_get-append : (xs ys : List X) (place : ℕ) (x : X) → slice_get xs place ≡ Some x → slice_get (xs ++ ys) place ≡ Some x
+  slice_get-append [] ys place x here = cc
+  slice_get-append (y ∷ xs) ys zero x here = here
+  slice_get-append (y ∷ xs) ys (suc place) x here = slice_get-append xs ys place x here
+
+  -- the place of the last is how many are before it
+  pub slice_get-last : (xs : List X) (x : X) → slice_get (xs ++ x ∷ []) (length xs) ≡ Some x
+  slice_get-last [] x = refl
+  slice_get-last (y ∷ xs) x = slice_get-last xs x
 
 module _ (account : AccountId) (symbol : Symbol) where
   -- a row that was made is kept at its number
@@ -46,8 +59,7 @@ module _ (account : AccountId) (symbol : Symbol) where
 
   -- the number of the last row is how many are before it
   pub numbered-last : (rows : List Row) (last : Row) → is_of account symbol last ≡ true → is_numbered (rows ++ last ∷ []) account symbol (length rows) ≡ true
-  numbered-last [] last own = own
-  numbered-last (r ∷ rows) last own = numbered-last rows last own
+  numbered-last rows last own = ap (λ o. option_map_or (is_of account symbol) o false) (slice_get-last rows last) ∙ own
 
 -- and when one of them is changed
 pub numbered-changed : (account : AccountId) (symbol : Symbol) (g : Row → Row) (keeps : (r : Row) → ((g r).account ≡ r.account) × ((g r).symbol ≡ r.symbol))
@@ -55,3 +67,13 @@ pub numbered-changed : (account : AccountId) (symbol : Symbol) (g : Row → Row)
 numbered-changed account symbol g keeps [] a s number = refl
 numbered-changed account symbol g keeps (r ∷ rows) a s zero = is_of-changed account symbol g keeps a s (is_of account symbol r) r
 numbered-changed account symbol g keeps (r ∷ rows) a s (suc number) = numbered-changed account symbol g keeps rows a s number
+
+module _ {K V : Type 0} where
+  -- keys stand where they stood when a value is written
+  pub stands-set_value_at : (entries : List (K × V)) (place : ℕ) (w : V) (key : K) (at : ℕ) → StandsAt entries key at → StandsAt (set_value_at entries place w) key at
+  stands-set_value_at [] place w key at stands = stands
+  stands-set_value_at (e ∷ entries) zero w key zero stands = let it : e ≡ (key, stands.value) = let here = stands.here in cc in record { value = w; here = λ i. Some ((it i).0, w) }
+  stands-set_value_at (e ∷ entries) zero w key (suc at) stands = record { value = stands.value; here = stands.here }
+  stands-set_value_at (e ∷ entries) (suc place) w key zero stands = record { value = stands.value; here = stands.here }
+  stands-set_value_at (e ∷ entries) (suc place) w key (suc at) stands =
+      let rest = stands-set_value_at entries place w key at (record { value = stands.value; here = stands.here }) in record { value = rest.value; here = rest.here }

@@ -9,12 +9,16 @@ abbrev pub held : Side → Holding → ℕ
 held Buy h = h.long
 held Sell h = h.short
 
+-- no lots, of an instrument whose open interest stands at a place
+abbrev pub nothing_at : ℕ → Holding
+nothing_at place = record { long = 0; short = 0; interest = place }
+
 -- lots more on a side
 abbrev pub more : Side → ℕ → Holding → Holding
-more Buy lots h = record { long = h.long + lots; short = h.short }
-more Sell lots h = record { long = h.long; short = h.short + lots }
+more Buy lots h = record h { long = h.long + lots }
+more Sell lots h = record h { short = h.short + lots }
 
 -- lots fewer on a side
 abbrev pub less : Side → ℕ → Holding → Holding
-less Buy lots h = record { long = h.long - lots; short = h.short }
-less Sell lots h = record { long = h.long; short = h.short - lots }
+less Buy lots h = record h { long = h.long - lots }
+less Sell lots h = record h { short = h.short - lots }

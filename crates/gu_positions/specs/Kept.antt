@@ -1,15 +1,16 @@
 -- Machinery: how positions are kept: the lots of each row under its account and instrument, and each instrument's open interest.
-use Rattle.std.specs.Prelude.{◌≡◌, ◌<◌, ◌^◌, Bool, true, ◌&&◌, List, map, is_some, unwrap_or}
+use Rattle.std.specs.Prelude.{◌≡◌, ℕ, ◌<◌, ◌^◌, Bool, ◌&&◌, List, map, Some, unwrap_or}
 use Rattle.std.specs.List.{IsDistinct}
 use Rattle.indexmap.specs.IndexMap.{get}
 use Rattle.gu_terms.specs.declared.account.AccountId.{AccountId}
 use Rattle.gu_terms.specs.declared.side.Side.{Side}
 use Rattle.gu_terms.specs.declared.symbol.Symbol.{Symbol}
 use Rattle.gu_terms.specs.Same.{same_account, same_symbol}
+use Rattle.gu_terms.specs.Standing.{StandsAt}
 use Rattle.gu_positions.specs.declared.holding.Holding.{Holding}
 use Rattle.gu_positions.specs.declared.positions.Place.{Place}
 use Rattle.gu_positions.specs.declared.positions.Positions.TheInside.{Inside}
-use Rattle.gu_positions.specs.Rows.{Row, has_row, lots_on, open_interest_in, same_row}
+use Rattle.gu_positions.specs.Rows.{Row, lots_on, open_interest_in, same_row}
 
 -- a row, from its account and instrument and from its lots
 abbrev pub row_of : Place × Holding → Row
@@ -27,9 +28,14 @@ same_key a b = same_account a.account b.account && same_symbol a.symbol b.symbol
 abbrev pub rows_of : Inside → List Row
 rows_of kept = map row_of kept.rows.entries
 
--- each row once, few enough lots, and beside each instrument that has rows its open interest
+-- instruments have the places that they had among the open interests
+abbrev pub KeepsPlaces : List (Symbol × ℕ) → List (Symbol × ℕ) → Type 0
+KeepsPlaces old new = (symbol : Symbol) (place : ℕ) → StandsAt old symbol place → StandsAt new symbol place
+
+-- each row once, few enough lots, and for each instrument that has rows its open interest, at the place that each of its rows has
 pub record IsKept (kept : Inside) : Type 0 where
   pub once : IsDistinct same_row (rows_of kept)
   pub few : (side : Side) (symbol : Symbol) → lots_on (rows_of kept) side symbol < 2 ^ 64
-  pub known : (account : AccountId) (symbol : Symbol) → has_row (rows_of kept) account symbol ≡ true → is_some (get same_symbol kept.interests symbol) ≡ true
+  pub places : (account : AccountId) (symbol : Symbol) (held : Holding) → get same_key kept.rows (place_of account symbol) ≡ Some held
+      → StandsAt kept.interests.entries symbol held.interest
   pub interests : (symbol : Symbol) → unwrap_or (get same_symbol kept.interests symbol) 0 ≡ open_interest_in (rows_of kept) symbol

@@ -10,6 +10,8 @@ use gu_terms::Side;
 pub(crate) struct Holding {
     pub(crate) long: u64,
     pub(crate) short: u64,
+    /// The place of its instrument's open interest among those of all.
+    pub(crate) interest: usize,
 }
 
 impl Holding {
@@ -28,11 +30,11 @@ impl Holding {
         match side {
             Side::Buy => Holding {
                 long: self.long + lots,
-                short: self.short,
+                ..*self
             },
             Side::Sell => Holding {
-                long: self.long,
                 short: self.short + lots,
+                ..*self
             },
         }
     }
@@ -45,11 +47,11 @@ impl Holding {
         match side {
             Side::Buy => Holding {
                 long: self.long - lots,
-                short: self.short,
+                ..*self
             },
             Side::Sell => Holding {
-                long: self.long,
                 short: self.short - lots,
+                ..*self
             },
         }
     }

@@ -1,6 +1,6 @@
 //! The positions of all accounts, in the order in which their rows were made.
 
-ghost use Rattle.std.specs.Prelude.{◌≡◌, ◌+◌, ◌-◌, ◌<◌, ◌≤◌, ◌^◌, ◌||◌, [], true, Some, is_some, unwrap_or, IfOk, IfSome, OnOk, OnErr};
+ghost use Rattle.std.specs.Prelude.{◌≡◌, ℕ, ◌+◌, ◌-◌, ◌<◌, ◌≤◌, ◌^◌, ◌||◌, [], true, Some, is_some, unwrap_or, IfOk, IfSome, OnOk, OnErr};
 ghost use Rattle.std.specs.List.{IsDistinct};
 ghost use Rattle.std.specs.Map.{set_value};
 ghost use Rattle.indexmap.specs.IndexMap.{get, insert_entry, Updates};
@@ -8,10 +8,10 @@ ghost use Rattle.gu_terms.specs.declared.account.AccountId.{AccountId as Account
 ghost use Rattle.gu_terms.specs.declared.side.Side.{Side as SideOf};
 ghost use Rattle.gu_terms.specs.declared.side.Side.TheVariants.{Buy, Sell};
 ghost use Rattle.gu_terms.specs.declared.symbol.Symbol.{Symbol as Instrument};
-ghost use Rattle.gu_terms.specs.Same.{same_symbol};
 ghost use Rattle.gu_terms.specs.Standing.{StandsAt};
 ghost use Rattle.gu_positions.specs.Changes.{KeepsLots, KeepsNumbers, KeepsRows, lots_at, lots_at_side, same_place, with_less, with_more, with_row};
-ghost use Rattle.gu_positions.specs.Kept.{place_of};
+ghost use Rattle.gu_positions.specs.Holdings.{nothing_at};
+ghost use Rattle.gu_positions.specs.Kept.{KeepsPlaces, place_of};
 ghost use Rattle.gu_positions.specs.Numbers.{IsMade, IsRowOf};
 ghost use Rattle.gu_positions.specs.Rows.{has_row, lots_in, lots_on, open_interest_in, same_row};
 
@@ -32,7 +32,7 @@ struct Place {
 /// The lots that accounts hold of instruments, by side. To a contract it is the list of the rows, in the order in which they were made.
 pub struct Positions {
     rows: IndexMap<Place, Holding>,
-    /// The open interest of each instrument that has rows.
+    /// The open interest of each instrument that has rows. None is removed, so that a row can keep the place of its instrument's.
     interests: IndexMap<Symbol, u64>,
 }
 
@@ -79,43 +79,43 @@ fn held_at(rows: &IndexMap<Place, Holding>, row: &RowNo) -> Holding
 /// Writes what is held at a row.
 fn write(rows: &mut IndexMap<Place, Holding>, row: &RowNo, holding: Holding)
     requires { StandsAt rows.old.entries (place_of row.now.account row.now.symbol) row.now.number }
-    ensures { rows.new.entries ≡ set_value (⟦<Place as PartialEq>⟧.eq (place_of row.now.account row.now.symbol)) rows.old.entries holding }
+    ensures entries { rows.new.entries ≡ set_value (⟦<Place as PartialEq>⟧.eq (place_of row.now.account row.now.symbol)) rows.old.entries holding }
+    ensures updates { Updates ⟦<Place as PartialEq>⟧.eq rows.old rows.new (place_of row.now.account row.now.symbol) (Some holding) }
 {
     // Shows the prover: the places of the map are apart.
     let _ = rows.len();
     rows[row.number] = holding;
 }
 
-/// Brings the open interest of an instrument up to date, of which one account held so much in excess before, and so much after. One that
-/// stays isn't looked for.
-fn settle(interests: &mut IndexMap<Symbol, u64>, symbol: &Symbol, before: u64, after: u64)
-    requires known { is_some (get ⟦<Symbol as PartialEq>⟧.eq interests.old symbol.now) ≡ true }
-    requires within { before ≤ unwrap_or (get ⟦<Symbol as PartialEq>⟧.eq interests.old symbol.now) 0 }
-    requires fits { unwrap_or (get ⟦<Symbol as PartialEq>⟧.eq interests.old symbol.now) 0 - before + after < 2 ^ 64 }
-    ensures { Updates ⟦<Symbol as PartialEq>⟧.eq interests.old interests.new symbol.now
-        (Some (unwrap_or (get ⟦<Symbol as PartialEq>⟧.eq interests.old symbol.now) 0 - before + after)) }
+/// Brings the open interest at a place up to date. Of its instrument one account held so much in excess before, and so much after.
+fn settle(interests: &mut IndexMap<Symbol, u64>, place: usize, before: u64, after: u64)
+    requires { (symbol : Instrument) × StandsAt interests.old.entries symbol place
+        × (before ≤ unwrap_or (get ⟦<Symbol as PartialEq>⟧.eq interests.old symbol) 0)
+        × (unwrap_or (get ⟦<Symbol as PartialEq>⟧.eq interests.old symbol) 0 - before + after < 2 ^ 64) }
+    ensures updates { (symbol : Instrument) → StandsAt interests.old.entries symbol place → Updates ⟦<Symbol as PartialEq>⟧.eq interests.old interests.new symbol
+        (Some (unwrap_or (get ⟦<Symbol as PartialEq>⟧.eq interests.old symbol) 0 - before + after)) }
+    ensures stay { KeepsPlaces interests.old.entries interests.new.entries }
 {
-    if before == after {
-        return;
-    }
-    if let Some(interest) = interests.get_mut(symbol) {
-        *interest = *interest - before + after;
-    }
+    // Shows the prover: the instruments of the map are apart.
+    let _ = interests.len();
+    let interest = &mut interests[place];
+    *interest = *interest - before + after;
 }
 
-/// Sees to it that an instrument has its open interest: none as yet, where it is new.
-fn know(interests: &mut IndexMap<Symbol, u64>, symbol: Symbol) -> Result<(), AllocError>
-    ensures known { OnOk result ((other : Instrument)
-        → is_some (get ⟦<Symbol as PartialEq>⟧.eq interests.new other) ≡ (is_some (get ⟦<Symbol as PartialEq>⟧.eq interests.old other) || same_symbol symbol other)) }
+/// The place of an instrument's open interest, which begins at 0 where the instrument is new.
+fn know(interests: &mut IndexMap<Symbol, u64>, symbol: &Symbol) -> Result<usize, AllocError>
+    ensures at { IfOk result (StandsAt interests.new.entries symbol.now) }
+    ensures stay { KeepsPlaces interests.old.entries interests.new.entries }
     ensures same { (other : Instrument)
         → unwrap_or (get ⟦<Symbol as PartialEq>⟧.eq interests.new other) 0 ≡ unwrap_or (get ⟦<Symbol as PartialEq>⟧.eq interests.old other) 0 }
     ensures refused { OnErr result (interests.new.entries ≡ interests.old.entries) }
 {
-    if interests.contains_key(&symbol) {
-        return Ok(());
+    if let Some((place, _, _)) = interests.get_full(symbol) {
+        return Ok(place);
     }
-    interests.insert(symbol, 0)?;
-    Ok(())
+    let place = interests.len();
+    interests.insert(*symbol, 0)?;
+    Ok(place)
 }
 
 /// Puts an empty row last. The growths come first, so that a refusal leaves both tables as they were.
@@ -124,16 +124,22 @@ fn make(
     interests: &mut IndexMap<Symbol, u64>,
     place: &Place,
 ) -> Result<(), AllocError>
-    ensures made { OnOk result (rows.new.entries ≡ insert_entry ⟦<Place as PartialEq>⟧.eq rows.old.entries place.now (record { long = 0; short = 0 })) }
-    ensures known { OnOk result ((other : Instrument)
-        → is_some (get ⟦<Symbol as PartialEq>⟧.eq interests.new other) ≡ (is_some (get ⟦<Symbol as PartialEq>⟧.eq interests.old other) || same_symbol place.now.symbol other)) }
+    ensures made { OnOk result ((at : ℕ) × StandsAt interests.new.entries place.now.symbol at
+        × (rows.new.entries ≡ insert_entry ⟦<Place as PartialEq>⟧.eq rows.old.entries place.now (nothing_at at))
+        × Updates ⟦<Place as PartialEq>⟧.eq rows.old rows.new place.now (Some (nothing_at at))) }
+    ensures stay { KeepsPlaces interests.old.entries interests.new.entries }
     ensures same { (other : Instrument)
         → unwrap_or (get ⟦<Symbol as PartialEq>⟧.eq interests.new other) 0 ≡ unwrap_or (get ⟦<Symbol as PartialEq>⟧.eq interests.old other) 0 }
     ensures refused { OnErr result ((rows.new.entries ≡ rows.old.entries) × (interests.new.entries ≡ interests.old.entries)) }
 {
     rows.reserve(1)?;
-    know(interests, place.symbol)?;
-    let _ = rows.insert(*place, Holding { long: 0, short: 0 });
+    let interest = know(interests, &place.symbol)?;
+    let empty = Holding {
+        long: 0,
+        short: 0,
+        interest,
+    };
+    let _ = rows.insert(*place, empty);
     Ok(())
 }
 
@@ -267,7 +273,7 @@ impl Positions {
         write(&mut self.rows, row, after);
         settle(
             &mut self.interests,
-            &row.symbol,
+            before.interest,
             before.excess(),
             after.excess(),
         );
@@ -289,7 +295,7 @@ impl Positions {
         write(&mut self.rows, row, after);
         settle(
             &mut self.interests,
-            &row.symbol,
+            before.interest,
             before.excess(),
             after.excess(),
         );

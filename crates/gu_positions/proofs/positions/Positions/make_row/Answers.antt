@@ -1,48 +1,42 @@
-use Rattle.std.proofs.Common.{◌∙◌, length, sym, ap, subst, refl, [], ◌∷◌, ◌++◌, if◌then◌else◌}
+use Rattle.std.proofs.Common.{◌≡◌, ◌∙◌, length, sym, ap, subst, refl, [], ◌∷◌, ◌++◌, if◌then◌else◌}
 use Rattle.std.proofs.lemmas.List.{length-map}
 use Rattle.gu_positions.specs.Changes.{KeepsLots, empty_row}
-use Rattle.gu_positions.specs.Kept.{row_of}
+use Rattle.gu_positions.specs.Kept.{IsKept, row_of, rows_of}
 use Rattle.gu_positions.specs.Numbers.{is_numbered}
 use Rattle.gu_positions.specs.Rows.{has_row}
+use Rattle.gu_positions.specs.declared.positions.Positions.TheInside.{Inside}
 use Rattle.gu_positions.proofs.OneRowMore.{has_row-one_more, keeps_lots-one_more, kept-one_more}
 use Rattle.gu_positions.proofs.Places.{same_place-own}
 use Rattle.gu_positions.proofs.RowNumbers.{numbered-append, numbered-last}
 use Rattle.gu_positions.proofs.positions.Positions.make_row.Goals as goal
 
+-- both tables are kept, and the rows have an empty one last
+kept : (c : goal.After-result-2-1) → let new : Inside = record { rows = c.make.new.rows; interests = c.make.new.interests } in
+    IsKept new × (rows_of new ≡ c.args.self.now ++ empty_row c.args.account.now c.args.symbol.now ∷ [])
+kept c =
+    kept-one_more c.self.inside (record { rows = c.make.new.rows; interests = c.make.new.interests }) c.args.account.now c.args.symbol.now c.self.invariant c.args.self.now c.self.view_is
+    c.in_default.ensures.there c.in_ok-make.ensures.made c.make.ensures.stay c.make.ensures.same
+
 pub invariant_of-self-2 : goal.invariant_of-self-2
-invariant_of-self-2 c =
-    (kept-one_more c.self.inside (record { rows = c.make.new.rows; interests = c.make.new.interests }) c.args.account.now c.args.symbol.now c.self.invariant c.args.self.now c.self.view_is
-    c.in_default.ensures.there c.in_ok-make.ensures.made c.in_ok-make.ensures.known c.make.ensures.same).0
+invariant_of-self-2 c = (kept c).0
 
 pub returns-clause-made : goal.returns-clause-made
 returns-clause-made c =
-    let is =
-    kept-one_more c.self.inside (record { rows = c.make.new.rows; interests = c.make.new.interests }) c.args.account.now c.args.symbol.now c.self.invariant c.args.self.now c.self.view_is
-    c.in_default.ensures.there c.in_ok-make.ensures.made c.in_ok-make.ensures.known c.make.ensures.same in
-    is.1 ∙ ap (λ there. if there then c.args.self.now else c.args.self.now ++ empty_row c.args.account.now c.args.symbol.now ∷ []) c.in_default.ensures.there
+    (kept c).1 ∙ ap (λ there. if there then c.args.self.now else c.args.self.now ++ empty_row c.args.account.now c.args.symbol.now ∷ []) c.in_default.ensures.there
 
 pub returns-clause-there : goal.returns-clause-there
 returns-clause-there c =
-    let is =
-    kept-one_more c.self.inside (record { rows = c.make.new.rows; interests = c.make.new.interests }) c.args.account.now c.args.symbol.now c.self.invariant c.args.self.now c.self.view_is
-    c.in_default.ensures.there c.in_ok-make.ensures.made c.in_ok-make.ensures.known c.make.ensures.same in
-    λ a s. ap (λ rows. has_row rows a s) is.1 ∙ has_row-one_more c.args.account.now c.args.symbol.now c.args.self.now a s
+    λ a s. ap (λ rows. has_row rows a s) (kept c).1 ∙ has_row-one_more c.args.account.now c.args.symbol.now c.args.self.now a s
 
 pub returns-clause-same_lots : goal.returns-clause-same_lots
 returns-clause-same_lots c =
-    let is =
-    kept-one_more c.self.inside (record { rows = c.make.new.rows; interests = c.make.new.interests }) c.args.account.now c.args.symbol.now c.self.invariant c.args.self.now c.self.view_is
-    c.in_default.ensures.there c.in_ok-make.ensures.made c.in_ok-make.ensures.known c.make.ensures.same in
-    subst (KeepsLots c.args.self.now) (sym is.1) (keeps_lots-one_more c.args.account.now c.args.symbol.now c.args.self.now)
+    subst (KeepsLots c.args.self.now) (sym (kept c).1) (keeps_lots-one_more c.args.account.now c.args.symbol.now c.args.self.now)
 
 pub returns-clause-row : goal.returns-clause-row
 returns-clause-row c =
-    let is =
-    kept-one_more c.self.inside (record { rows = c.make.new.rows; interests = c.make.new.interests }) c.args.account.now c.args.symbol.now c.self.invariant c.args.self.now c.self.view_is
-    c.in_default.ensures.there c.in_ok-make.ensures.made c.in_ok-make.ensures.known c.make.ensures.same in
     record {
       made =
-          ap (λ rows. is_numbered rows c.args.account.now c.args.symbol.now c.len-number.result) is.1
+          ap (λ rows. is_numbered rows c.args.account.now c.args.symbol.now c.len-number.result) (kept c).1
           ∙ ap (is_numbered (c.args.self.now ++ empty_row c.args.account.now c.args.symbol.now ∷ []) c.args.account.now c.args.symbol.now) (c.len-number.ensures.len ∙ sym (length-map c.self.inside.rows.entries row_of) ∙ ap length c.self.view_is)
           ∙ numbered-last c.args.account.now c.args.symbol.now c.args.self.now (empty_row c.args.account.now c.args.symbol.now) (same_place-own c.args.account.now c.args.symbol.now);
       account_is = refl;
@@ -51,9 +45,6 @@ returns-clause-row c =
 
 pub returns-clause-stay : goal.returns-clause-stay
 returns-clause-stay c =
-    let is =
-    kept-one_more c.self.inside (record { rows = c.make.new.rows; interests = c.make.new.interests }) c.args.account.now c.args.symbol.now c.self.invariant c.args.self.now c.self.view_is
-    c.in_default.ensures.there c.in_ok-make.ensures.made c.in_ok-make.ensures.known c.make.ensures.same in
     λ row made.
-    ap (λ rows. is_numbered rows row.account row.symbol row.number) is.1
+    ap (λ rows. is_numbered rows row.account row.symbol row.number) (kept c).1
     ∙ numbered-append row.account row.symbol c.args.self.now (empty_row c.args.account.now c.args.symbol.now ∷ []) row.number made

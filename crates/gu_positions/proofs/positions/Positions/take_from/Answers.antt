@@ -1,14 +1,11 @@
-use Rattle.std.proofs.Common.{◌≡◌, ◌∙◌, ◌+◌, ◌<◌, ◌≤◌, ◌^◌, ℕ, true, ap, subst}
+use Rattle.std.proofs.Common.{◌≡◌, ◌∙◌, ◌+◌, ap, subst}
 use Rattle.std.specs.List.{IsDistinct}
-use Rattle.gu_terms.specs.declared.side.Side.{Side}
-use Rattle.gu_terms.specs.declared.symbol.Symbol.{Symbol}
 use Rattle.gu_positions.specs.Changes.{lots_at_side, less_in, with_less}
 use Rattle.gu_positions.specs.Kept.{IsKept, rows_of}
 use Rattle.gu_positions.specs.Numbers.{is_numbered}
 use Rattle.gu_positions.specs.Rows.{has_row, lots_in, lots_on, same_row}
 use Rattle.gu_positions.specs.declared.positions.Positions.TheInside.{Inside}
-use Rattle.gu_positions.specs.declared.row_no.RowNo.{RowNo}
-use Rattle.gu_positions.proofs.Adding.{enough, few-less, follows-fits, keeps-written, row_of-less, within}
+use Rattle.gu_positions.proofs.Adding.{enough, few-less, keeps-written, row_of-less, settles}
 use Rattle.gu_positions.proofs.Changed.{has_row-changed, keeps-less, lots_in-with_less, lots_on-with_less}
 use Rattle.gu_positions.proofs.RowNumbers.{has_row-numbered, numbered-changed, stands}
 use Rattle.gu_positions.proofs.positions.Positions.take_from.Goals as goal
@@ -26,28 +23,11 @@ pub write-requires : goal.write-requires
 write-requires c =
     stands c.args.row.now.account c.args.row.now.symbol c.self.inside.rows.entries c.args.row.now.number (rw c.self.view_is c.requires.made)
 
--- all lots stay few
-few : (kept : Inside) → IsKept kept → (row : RowNo) (side : Side) (lots : ℕ) → is_numbered (rows_of kept) row.account row.symbol row.number ≡ true
-    → lots ≤ lots_in (rows_of kept) side row.account row.symbol → (t : Side) (s : Symbol) → lots_on (with_less (rows_of kept) side row.account row.symbol lots) t s < 2 ^ 64
-few kept is_kept row side lots made = few-less kept is_kept side row.account row.symbol lots (has_row-numbered row.account row.symbol (rows_of kept) row.number made)
-
-pub settle-requires-clause-known : goal.settle-requires-clause-known
-settle-requires-clause-known c =
-    c.self.invariant.known c.args.row.now.account c.args.row.now.symbol
-    (has_row-numbered c.args.row.now.account c.args.row.now.symbol (rows_of c.self.inside) c.args.row.now.number (rw c.self.view_is c.requires.made))
-
-pub settle-requires-clause-within : goal.settle-requires-clause-within
-settle-requires-clause-within c =
-    within c.self.inside c.self.invariant c.args.row.now.account c.args.row.now.symbol (less_in c.args.side c.args.lots) (keeps-less c.args.side c.args.lots)
+pub settle-requires : goal.settle-requires
+settle-requires c =
+    settles c.self.inside c.self.invariant c.args.row.now.account c.args.row.now.symbol (less_in c.args.side c.args.lots) (keeps-less c.args.side c.args.lots)
     c.held_at-before.result c.with_less-after.result c.held_at-before.ensures (row_of-less c.args.side c.args.lots c.held_at-before.result c.with_less-after.result c.with_less-after.ensures)
-    (few c.self.inside c.self.invariant c.args.row.now c.args.side c.args.lots (rw c.self.view_is c.requires.made) (rw c.self.view_is c.requires.there))
-    c.excess.result c.excess-2.result c.excess.ensures c.excess-2.ensures
-
-pub settle-requires-clause-fits : goal.settle-requires-clause-fits
-settle-requires-clause-fits c =
-    follows-fits c.self.inside c.self.invariant c.args.row.now.account c.args.row.now.symbol (less_in c.args.side c.args.lots) (keeps-less c.args.side c.args.lots)
-    c.held_at-before.result c.with_less-after.result c.held_at-before.ensures (row_of-less c.args.side c.args.lots c.held_at-before.result c.with_less-after.result c.with_less-after.ensures)
-    (few c.self.inside c.self.invariant c.args.row.now c.args.side c.args.lots (rw c.self.view_is c.requires.made) (rw c.self.view_is c.requires.there))
+    (few-less c.self.inside c.self.invariant c.args.side c.args.row.now.account c.args.row.now.symbol c.args.lots c.args.row.now.number (rw c.self.view_is c.requires.made) (rw c.self.view_is c.requires.there))
     c.excess.result c.excess-2.result c.excess.ensures c.excess-2.ensures
 
 -- both tables are kept, and the rows are those
@@ -56,9 +36,10 @@ kept : (c : After-settle) → let later : Inside = record { rows = c.write.new.r
 kept c =
     keeps-written c.self.inside c.self.invariant c.args.row.now.account c.args.row.now.symbol (less_in c.args.side c.args.lots) (keeps-less c.args.side c.args.lots)
     c.held_at-before.result c.with_less-after.result c.held_at-before.ensures (row_of-less c.args.side c.args.lots c.held_at-before.result c.with_less-after.result c.with_less-after.ensures)
-    (few c.self.inside c.self.invariant c.args.row.now c.args.side c.args.lots (rw c.self.view_is c.requires.made) (rw c.self.view_is c.requires.there))
+    (few-less c.self.inside c.self.invariant c.args.side c.args.row.now.account c.args.row.now.symbol c.args.lots c.args.row.now.number (rw c.self.view_is c.requires.made) (rw c.self.view_is c.requires.there))
     c.excess.result c.excess-2.result c.excess.ensures c.excess-2.ensures
-    (record { rows = c.write.new.rows; interests = c.settle.new.interests }) c.write.ensures c.settle.ensures
+    (record { rows = c.write.new.rows; interests = c.settle.new.interests }) c.write.ensures.entries c.write.ensures.updates
+    c.settle.ensures.updates c.settle.ensures.stay
 
 pub invariant_of-self : goal.invariant_of-self
 invariant_of-self c = (kept c).0
