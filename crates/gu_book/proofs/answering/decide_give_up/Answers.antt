@@ -51,7 +51,7 @@ returns-clause-reply c =
     let day : is_none c.args.totals.now.today ≡ false = ap not (c.is_none.ensures ∙ ap not c.if-is_none.false) in
     let known : has_unknown_account reference c.args.lines.now ≡ false = ap (has_unknown_account reference) (sym c.as_slice-2.ensures.lines) ∙ sym c.has_unknown_account_without.ensures ∙ c.if-has_unknown_account_without.false in
     let new : is_kept_give_up c.args.totals.now.give_ups.keys c.args.firm.now c.args.id.now ≡ false = sym c.has_give_up.ensures ∙ c.if-has_give_up.false in
-    let first : c.in-Some-new.first ≡ length c.args.totals.now.offers + 1 = omega (arith, c.in-Some-new.ensures.same, c.count.ensures) in
+    let first : c.known.result ≡ length c.args.totals.now.offers + 1 = omega (arith, c.known.ensures, c.count.ensures) in
     let none : refusal_in tests ≡ None = sym same ∙ sym (c.refusal_of_lines.ensures reference (c.lacks_agreement-lacks.ensures ∙ ap (lacks_agreement reference c.args.firm.now) c.as_slice.ensures.lines)) ∙ c.in_default-refusal_of_lines.is in
     rw (day, known, new, given.1) ((λ i. Accepted (Offered c.in-Some.group (first i) (length c.args.lines.now))) ∙ sym (standing_none tests done none))
 

@@ -14,4 +14,4 @@ returns c = λ day.
     let shown : Row → OpenOffer = λ r. record { number = c.args.number; offer = r.offer; left = left_of r } in
     ap (option_map shown) (row_at-place (map (row_of day) c.args.rows.now) (c.args.number - 1) c.args.number place ∙ slice_get-map (row_of day) c.args.rows.now (c.args.number - 1))
     ∙ shown_by day c.args.number c.left.result c.offer.result (slice_get c.args.rows.now (c.args.number - 1)) c.offer.ensures (c.left.ensures day)
-    ∙ ap (λ n. Some (record { number = n; offer = c.offer.result; left = c.left.result })) (sym c.in-Some.ensures.same)
+    ∙ ap (λ n. Some (record { number = n; offer = c.offer.result; left = c.left.result })) (sym c.known.ensures)

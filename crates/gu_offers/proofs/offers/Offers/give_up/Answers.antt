@@ -31,7 +31,7 @@ invariant_of-self-in-Ok c =
     (record { rows = c.push.new.self; groups = c.append.new.self; counts = c.add.new.self; day = c.self.inside.day }) c.self.invariant
     c.as_slice-lines.result.now c.are_lots.ensures
     c.in_ok-push.ensures.pushed refl
-    c.get.result (omega (arith, c.get.ensures.number, c.in-Some.ensures.same, c.len.ensures, c.self.invariant.few))
+    c.get.result (omega (arith, c.get.ensures.number, c.known-first.ensures, c.len-count.ensures, c.self.invariant.few))
     (omega (arith, rows, view, lines, c.requires))
     c.in-Ok.ensures.appended
     (λ other another. c.add.ensures other another
