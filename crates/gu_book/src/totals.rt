@@ -290,7 +290,8 @@ impl Totals {
     {
         let rows = self.make_way(&returned.account, &returned.report)?;
         self.offers.reverse(returned.number);
-        self.limits.give_back_at(&returned.limits, returned.lots.get());
+        self.limits
+            .give_back_at(&returned.limits, returned.lots.get());
         move_back(&mut self.positions, returned, &rows);
         Ok(())
     }

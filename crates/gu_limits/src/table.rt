@@ -195,12 +195,7 @@ impl LimitTable {
     }
 
     /// The same, where the lots are known to be no more than a limit may be.
-    pub fn set_within(
-        &mut self,
-        group: &Group,
-        key: &LimitKey,
-        lots: u64,
-    ) -> Result<(), AllocError>
+    pub fn set_within(&mut self, group: &Group, key: &LimitKey, lots: u64) -> Result<(), AllocError>
         requires { lots ≤ MOST_LIMIT }
         ensures set { OnOk result (Sets self.old self.new group.now key.now lots) }
         ensures refused { OnErr result (self.new ≡ self.old) }
