@@ -7,13 +7,12 @@ ghost use Rattle.circular_buffer.specs.Buffer.{buffer};
 ghost use Rattle.gu_msgs.specs.declared.inbound.ResendRequest.{ResendRequest as RequestOf};
 ghost use Rattle.gu_session.specs.Ascending.{IsAscending};
 ghost use Rattle.gu_session.specs.Resending.{resent};
-ghost use Rattle.gu_session.specs.Sending.{is_over, numbered, sent_at_after, sent_in, unanswered};
+ghost use Rattle.gu_session.specs.Sending.{is_over, numbered, sent_at_after, sent_in, unanswered, waiting_for};
 ghost use Rattle.gu_session.specs.Sound.{extended};
-ghost use Rattle.gu_session.specs.declared.plan.Handed.{Handed as HandedOf};
 
 use crate::ask_ref::AskRef;
 use crate::logged_on::{LoggedOn, Waiting};
-use crate::plan::{Handing, Plan};
+use crate::plan::{Handed, Plan};
 use crate::resending::resent;
 use crate::sent_ring::SentRing;
 use crate::seq_num::GREATEST;
@@ -101,16 +100,12 @@ fn remember(waiting: &mut Vec<Waiting>, reference: AskRef, question: Question)
 }
 
 /// Adds what was handed out, and takes out what was answered.
-pub fn settle(waiting: &mut Vec<Waiting>, handed: &Option<Handing>, answered: Option<AskRef>)
+pub fn settle(waiting: &mut Vec<Waiting>, handed: &Option<Handed>, answered: Option<AskRef>)
     requires { vec_len waiting.old < vec_capacity waiting.old }
-    ensures { waiting.new.items ≡ unanswered answered (waiting.old.items ++ option_to_list (option_map (λ (handed : HandedOf). handed.waiting) handed.now)) }
+    ensures { waiting.new.items ≡ unanswered answered (waiting.old.items ++ option_to_list (option_map waiting_for handed.now)) }
 {
     if let Some(handed) = handed {
-        let Waiting {
-            reference,
-            question,
-        } = handed.waiting();
-        remember(waiting, reference, question);
+        remember(waiting, handed.reference, handed.asking.question());
     }
     forget(waiting, answered);
 }
