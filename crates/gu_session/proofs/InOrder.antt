@@ -2,14 +2,14 @@
 use Rattle.std.proofs.Common.{◌≡◌, ◌≤◌, ◌+◌, ℕ, Bool, true, false, cond, nat_le, nat_lt, [], ◌∷◌, Option, None, Some, Result, Ok, Err, codes, refl, arith}
 use Rattle.std.specs.Option.{option_map_or}
 use Rattle.gu_msgs.specs.Asking.{asked_on}
-use Rattle.gu_msgs.specs.declared.coded_values.LogoutReason.TheVariants.{BadSeqNum, SeqTooLow, CompId}
+use Rattle.gu_msgs.specs.declared.coded_values.LogoutReason.TheVariants.{BadSeqNum, SeqTooLow}
 use Rattle.gu_msgs.specs.declared.fault.Fault.{Fault}
 use Rattle.gu_msgs.specs.declared.inbound.Inbound.{Inbound}
 use Rattle.gu_msgs.specs.declared.inbound.Inbound.TheVariants as inbound
 use Rattle.gu_msgs.specs.declared.outbound.Body.TheVariants as body
-use Rattle.gu_msgs.specs.declared.reject_reason.SessionRejectReason.TheVariants.{CompIdProblem, ValueIsIncorrect}
+use Rattle.gu_msgs.specs.declared.reject_reason.SessionRejectReason.TheVariants.{ValueIsIncorrect}
 use Rattle.gu_msgs.specs.declared.tags.TheConstants.{NEW_SEQ_NO}
-use Rattle.gu_session.specs.FrameRules.{again_in, as_expected, by_number, frame_plan, on_content, on_gap_fill, on_message, on_number, on_reset, reject, reset_to, too_high, too_low, wrong_party}
+use Rattle.gu_session.specs.FrameRules.{again_in, as_expected, by_number, frame_plan, on_content, on_gap_fill, on_message, on_number, on_reset, on_wrong_party, reject, reset_to, too_high, too_low, wrong_party}
 use Rattle.gu_session.specs.Hearing.{is_given}
 use Rattle.gu_session.specs.Plans.{hands, leaves, quiet, repeats, says}
 use Rattle.gu_session.specs.declared.heard.Heading.{Heading}
@@ -71,8 +71,7 @@ content_in_order at heading number (Err fault) used = record { hands = tt; on = 
 
 pub expected_in_order : (at : LoggedOn) (heard : Heard) (number : ℕ) → at.expected ≡ number + 1 → IsInOrder number (as_expected at heard number)
 expected_in_order at heard number used =
-    in_order-option number (λ tag. leaves at (reject heard.heading number tag CompIdProblem ∷ body.Logout (Some CompId) ∷ [])) (wrong_party at.firm heard.heading)
-    (on_content at heard.heading number heard.content) (λ tag. record { hands = tt; on = omega (arith, used) }) (content_in_order at heard.heading number heard.content used)
+    in_order-option number (on_wrong_party at heard.heading number) (wrong_party at.firm heard.heading) (on_content at heard.heading number heard.content) (λ tag. record { hands = tt; on = omega (arith, used) }) (content_in_order at heard.heading number heard.content used)
 
 pub high_in_order : (at : LoggedOn) (heard : Heard) → IsInOrder at.expected (too_high at heard)
 high_in_order at heard =

@@ -93,11 +93,14 @@ abbrev pub on_content : LoggedOn → Heading → ℕ → Result Inbound Fault �
 on_content at heading number (Err fault) = says at (reject heading number fault.tag fault.reason ∷ [])
 on_content at heading number (Ok message) = on_message at heading number message
 
+-- a party is wrong: the message is rejected, and the session ends
+abbrev pub on_wrong_party : LoggedOn → Heading → ℕ → ℕ → Plan
+on_wrong_party at heading number tag = leaves at (reject heading number tag CompIdProblem ∷ body.Logout (Some logout.CompId) ∷ [])
+
 -- the number was expected: the parties come first, then the message
 abbrev pub as_expected : LoggedOn → Heard → ℕ → Plan
 as_expected at heard number =
-    option_map_or (λ tag. leaves at (reject heard.heading number tag CompIdProblem ∷ body.Logout (Some logout.CompId) ∷ []))
-    (wrong_party at.firm heard.heading) (on_content at heard.heading number heard.content)
+    option_map_or (on_wrong_party at heard.heading number) (wrong_party at.firm heard.heading) (on_content at heard.heading number heard.content)
 
 -- by the number that is expected; one that is met is used up before anything else
 abbrev pub by_number : LoggedOn → Heard → ℕ → Plan

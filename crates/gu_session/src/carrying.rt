@@ -16,8 +16,8 @@ use crate::plan::{Handed, Plan};
 use crate::resending::resent;
 use crate::sent_ring::SentRing;
 use crate::seq_num::GREATEST;
+use gu_msgs::Outbound;
 use gu_msgs::inbound::ResendRequest;
-use gu_msgs::{Outbound, Question};
 use gu_terms::{FirmId, Moment};
 use std::alloc::{AllocError, Global};
 
@@ -88,24 +88,17 @@ fn forget(waiting: &mut Vec<Waiting>, answered: Option<AskRef>)
     }
 }
 
-/// Adds a question.
-fn remember(waiting: &mut Vec<Waiting>, reference: AskRef, question: Question)
-    requires { vec_len waiting.old < vec_capacity waiting.old }
-    ensures { waiting.new.items ≡ waiting.old.items ++ record { reference = reference; question = question } ∷ [] }
-{
-    waiting.push_reserved(Waiting {
-        reference,
-        question,
-    });
-}
-
 /// Adds what was handed out, and takes out what was answered.
 pub fn settle(waiting: &mut Vec<Waiting>, handed: &Option<Handed>, answered: Option<AskRef>)
     requires { vec_len waiting.old < vec_capacity waiting.old }
     ensures { waiting.new.items ≡ unanswered answered (waiting.old.items ++ option_to_list (option_map waiting_for handed.now)) }
 {
     if let Some(handed) = handed {
-        remember(waiting, handed.reference, handed.asking.question());
+        let question = handed.asking.question();
+        waiting.push_reserved(Waiting {
+            reference: handed.reference,
+            question,
+        });
     }
     forget(waiting, answered);
 }

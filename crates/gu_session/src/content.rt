@@ -4,7 +4,7 @@ ghost use Rattle.std.specs.Prelude.{◌≡◌, IfOk};
 ghost use Rattle.gu_msgs.specs.declared.coded_values.BusinessRejectReason.TheVariants.{UnsupportedMessageType};
 ghost use Rattle.gu_msgs.specs.declared.outbound.Application.TheVariants as application;
 ghost use Rattle.gu_msgs.specs.declared.outbound.Body.TheVariants as body;
-ghost use Rattle.gu_session.specs.FrameRules.{as_expected, is_sender, on_gap_fill, on_message, wrong_party};
+ghost use Rattle.gu_session.specs.FrameRules.{as_expected, is_sender, on_gap_fill, on_message, on_wrong_party, wrong_party};
 
 use crate::heard::{Heading, Heard};
 use crate::logged_on::LoggedOn;
@@ -107,6 +107,22 @@ fn on_message(
     }
 }
 
+/// A party is wrong, which this tag names.
+fn on_wrong_party(
+    alloc: Global,
+    at: &LoggedOn,
+    heading: &Heading,
+    number: SeqNum,
+    tag: u32,
+) -> Result<Plan, AllocError>
+    ensures { IfOk result (λ plan. plan ≡ on_wrong_party at.now heading.now number tag) }
+{
+    let first = reject(heading, number, tag, SessionRejectReason::CompIdProblem);
+    let second = Body::Logout(Some(LogoutReason::CompId));
+    let messages = Messages::two(alloc, first, second)?;
+    Ok(Plan::leaves(at, messages))
+}
+
 /// What is done on a frame whose number was expected.
 pub fn as_expected(
     alloc: Global,
@@ -118,10 +134,7 @@ pub fn as_expected(
 {
     let Heard { heading, content } = heard;
     if let Some(tag) = wrong_party(&at.firm, &heading) {
-        let first = reject(&heading, number, tag, SessionRejectReason::CompIdProblem);
-        let second = Body::Logout(Some(LogoutReason::CompId));
-        let messages = Messages::two(alloc, first, second)?;
-        return Ok(Plan::leaves(at, messages));
+        return on_wrong_party(alloc, at, &heading, number, tag);
     }
     match content {
         Ok(message) => on_message(alloc, at, &heading, number, message),
