@@ -31,14 +31,12 @@ impl Handed {
     pub fn into_asked(self) -> Asked
         ensures { result ≡ asked_of self }
     {
-        let Handed {
-            firm,
-            reference,
-            asking,
-        } = self;
         Asked {
-            what: BoxedRequest { firm, asking },
-            reference,
+            what: BoxedRequest {
+                firm: self.firm,
+                asking: self.asking,
+            },
+            reference: self.reference,
         }
     }
 }
