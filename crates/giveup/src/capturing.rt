@@ -17,7 +17,9 @@ use gu_book::{Book, EnterError};
 use gu_engine::{Answerer, ClockFault, Event, run};
 use gu_fix::{BodyText, Fields, Frame, encode_onto, into_fields};
 use gu_msgs::inbound::TradeCaptureReport;
-use gu_msgs::{MsgFault, Outbound, Rejection, answer_to, midnight_of, read, sender, write_over};
+use gu_msgs::{
+    Boxed, MsgFault, Outbound, Rejection, answer_to, midnight_of, read, sender, write_over,
+};
 use gu_ref::Reference;
 use gu_streams::{CountedReads, StreamError, send};
 use gu_terms::{Command, Day, FirmId, Moment, Seed};
@@ -29,13 +31,16 @@ use std::marker::Model;
 const LAST_NUMBER: u64 = 1_000_000_000;
 
 /// The report that fields say.
-fn report_of(alloc: Global, fields: &Fields) -> Result<Option<TradeCaptureReport>, AllocError>
+fn report_of(
+    alloc: Global,
+    fields: &Fields,
+) -> Result<Option<Boxed<TradeCaptureReport>>, AllocError>
     ensures { IfOk result (λ found. MatchOption found
         ((report : ReportOf) → Says fields.now (inbound.TradeCaptureReport report) → ⊥)
         (λ report. Says fields.now (inbound.TradeCaptureReport report))) }
 {
     match read(alloc, fields) {
-        Ok(message) => Ok(message.report()),
+        Ok(message) => Ok(message.into_report()),
         Err(MsgFault::Rejected(_)) => Ok(None),
         Err(MsgFault::Memory) => Err(AllocError),
     }
@@ -153,7 +158,7 @@ impl Capturing {
             return Ok(());
         };
         match sender(&fields) {
-            Some(firm) => self.acknowledge(fields.into_room(), &firm, &report, output),
+            Some(firm) => self.acknowledge(fields.into_room(), &firm, report.get(), output),
             None => Ok(()),
         }
     }

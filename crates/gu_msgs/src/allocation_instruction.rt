@@ -9,6 +9,7 @@ ghost use Rattle.gu_msgs.specs.Tables.{entry_rows};
 ghost use Rattle.gu_msgs.specs.Values.{first_value};
 ghost use Rattle.gu_msgs.specs.declared.msg_type.MsgType.TheVariants as kind;
 
+use crate::boxed::Boxed;
 use crate::fault::{Fault, MsgFault};
 use crate::groups::{next_entry, text_at, value_at};
 use crate::inbound::{AllocationInstruction, Inbound};
@@ -109,9 +110,10 @@ pub fn read_allocation_instruction(
     if quantity.get() != lines.lots() {
         return Err(MsgFault::Rejected(fault_at(SessionRejectReason::ValueIsIncorrect, QUANTITY)));
     }
-    Ok(Inbound::AllocationInstruction(AllocationInstruction {
+    let give_up = AllocationInstruction {
         alloc_id,
         exec_id,
         lines,
-    }))
+    };
+    Ok(Inbound::AllocationInstruction(Boxed::new(alloc, give_up)?))
 }

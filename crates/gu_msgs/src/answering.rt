@@ -72,8 +72,8 @@ fn offer_answer(offer: OfferNo, number: u64, rejection: Option<Rejection>) -> Op
 
 impl Question {
     /// Whether an accepted command did what is asked for.
-    pub fn is_done(self, done: Done) -> bool
-        ensures { result ≡ is_done self done }
+    pub fn is_done(&self, done: Done) -> bool
+        ensures { result ≡ is_done self.now done }
     {
         match self {
             Question::Report { .. } => matches!(done, Done::Reported { .. }),
@@ -87,15 +87,15 @@ impl Question {
 
     /// The answer to the message with this number that asked for a command, where the command was done or rejected so. A
     /// word on an offer that was done is answered by its notice alone, and a question for positions by no command.
-    pub fn answer(self, number: u64, rejection: Option<Rejection>) -> Option<Body>
-        ensures { result ≡ command_answer self number rejection }
+    pub fn answer(&self, number: u64, rejection: Option<Rejection>) -> Option<Body>
+        ensures { result ≡ command_answer self.now number rejection }
     {
         match self {
-            Question::Report { id, match_id } => Some(report_ack(id, match_id, rejection)),
-            Question::GiveUp { id } => Some(give_up_ack(id, rejection)),
+            Question::Report { id, match_id } => Some(report_ack(*id, *match_id, rejection)),
+            Question::GiveUp { id } => Some(give_up_ack(*id, rejection)),
             Question::Claim { offer }
             | Question::Refusal { offer }
-            | Question::Reversal { offer } => offer_answer(offer, number, rejection),
+            | Question::Reversal { offer } => offer_answer(*offer, number, rejection),
             Question::Positions(_) => None,
         }
     }

@@ -1,13 +1,14 @@
 //! What a message of a firm asks of the house, and what the answer needs of it.
 
 ghost use Rattle.std.specs.Prelude.{◌≡◌};
-ghost use Rattle.gu_msgs.specs.Asking.{question_in, question_on, report_in, request_of, request_on, side_of};
+ghost use Rattle.gu_msgs.specs.Asking.{asked_on, question_of, report_in, request_of, side_of};
 
 use crate::alloc_status::AllocStatus;
+use crate::boxed::Boxed;
 use crate::inbound::{
     AllocationInstruction, AllocationReportAck, Inbound, RequestForPositions, TradeCaptureReport,
 };
-use gu_terms::{Command, FirmId, Id, OfferNo, Query};
+use gu_terms::{AllocReject, Command, FirmId, Id, OfferNo, Query};
 
 /// What a firm asks for.
 #[derive(Drop)]
@@ -35,6 +36,23 @@ pub enum Question {
     Positions(RequestForPositions),
 }
 
+/// What a message asks for, as it was read.
+#[derive(Drop)]
+pub enum Asking {
+    /// That a side of a trade be entered.
+    Report(Boxed<TradeCaptureReport>),
+    /// That a give-up be entered.
+    GiveUp(Boxed<AllocationInstruction>),
+    /// To claim an offer.
+    Claim(OfferNo),
+    /// To refuse an offer.
+    Refusal(OfferNo, AllocReject),
+    /// To take the claim of an offer back.
+    Reversal(OfferNo),
+    /// What an account holds.
+    Positions(Boxed<RequestForPositions>),
+}
+
 impl TradeCaptureReport {
     /// The command that it asks for as a firm's report.
     pub fn side_of(&self, firm: FirmId) -> Command
@@ -55,30 +73,15 @@ impl TradeCaptureReport {
 }
 
 impl AllocationReportAck {
-    /// What it asks for as a carrying firm's word on an offer.
-    fn request(&self, firm: FirmId) -> Option<Request>
-        ensures { result ≡ request_on firm self.now.alloc_report_id self.now.alloc_status }
+    /// What it asks for as a carrying firm's word on an offer, if it asks for anything.
+    pub fn asked(&self) -> Option<Asking>
+        ensures { result ≡ asked_on self.now.alloc_report_id self.now.alloc_status }
     {
         let offer = self.alloc_report_id;
         match self.alloc_status {
-            AllocStatus::Accepted => Some(Request::Enter(Command::Claim { firm, offer })),
-            AllocStatus::Rejected(why) => {
-                Some(Request::Enter(Command::Refuse { firm, offer, why }))
-            }
-            AllocStatus::Reversed => Some(Request::Enter(Command::Reverse { firm, offer })),
-            AllocStatus::AllocationPending => None,
-        }
-    }
-
-    /// What the answer to it needs.
-    fn question(&self) -> Option<Question>
-        ensures { result ≡ question_on self.now.alloc_report_id self.now.alloc_status }
-    {
-        let offer = self.alloc_report_id;
-        match self.alloc_status {
-            AllocStatus::Accepted => Some(Question::Claim { offer }),
-            AllocStatus::Rejected(_) => Some(Question::Refusal { offer }),
-            AllocStatus::Reversed => Some(Question::Reversal { offer }),
+            AllocStatus::Accepted => Some(Asking::Claim(offer)),
+            AllocStatus::Rejected(why) => Some(Asking::Refusal(offer, why)),
+            AllocStatus::Reversed => Some(Asking::Reversal(offer)),
             AllocStatus::AllocationPending => None,
         }
     }
@@ -86,58 +89,61 @@ impl AllocationReportAck {
 
 impl Inbound {
     /// The report that it is, if it is one.
-    pub fn report(&self) -> Option<TradeCaptureReport>
-        ensures { result ≡ report_in self.now }
+    pub fn into_report(self) -> Option<Boxed<TradeCaptureReport>>
+        ensures { result ≡ report_in self }
     {
         match self {
-            Inbound::TradeCaptureReport(report) => Some(*report),
+            Inbound::TradeCaptureReport(report) => Some(report),
             _ => None,
         }
     }
+}
 
-    /// What a firm asks for by it, if by this message it asks for anything.
-    pub fn request(self, firm: FirmId) -> Option<Request>
+impl Asking {
+    /// What this firm asks for.
+    pub fn into_request(self, firm: FirmId) -> Request
         ensures { result ≡ request_of firm self }
     {
         match self {
-            Inbound::TradeCaptureReport(report) => Some(Request::Enter(report.side_of(firm))),
-            Inbound::AllocationInstruction(give_up) => {
-                let AllocationInstruction {
-                    alloc_id,
-                    exec_id,
-                    lines,
-                } = give_up;
-                Some(Request::Enter(Command::GiveUp {
+            Asking::Report(report) => Request::Enter(report.get().side_of(firm)),
+            Asking::GiveUp(give_up) => {
+                let give_up = give_up.into_inner();
+                Request::Enter(Command::GiveUp {
                     firm,
-                    id: alloc_id,
-                    report: exec_id,
-                    lines,
-                }))
+                    id: give_up.alloc_id,
+                    report: give_up.exec_id,
+                    lines: give_up.lines,
+                })
             }
-            Inbound::AllocationReportAck(word) => word.request(firm),
-            Inbound::RequestForPositions(question) => Some(Request::Ask(Query::Positions {
-                firm,
-                account: question.account,
-            })),
-            _ => None,
+            Asking::Claim(offer) => Request::Enter(Command::Claim { firm, offer }),
+            Asking::Refusal(offer, why) => Request::Enter(Command::Refuse { firm, offer, why }),
+            Asking::Reversal(offer) => Request::Enter(Command::Reverse { firm, offer }),
+            Asking::Positions(question) => {
+                let account = question.get().account;
+                Request::Ask(Query::Positions { firm, account })
+            }
         }
     }
 
-    /// What the answer to it needs, where it asks for anything.
-    pub fn question(&self) -> Option<Question>
-        ensures { result ≡ question_in self.now }
+    /// What the answer to it needs.
+    pub fn question(&self) -> Question
+        ensures { result ≡ question_of self.now }
     {
         match self {
-            Inbound::TradeCaptureReport(report) => Some(Question::Report {
-                id: report.trade_report_id,
-                match_id: report.trd_match_id,
-            }),
-            Inbound::AllocationInstruction(give_up) => Some(Question::GiveUp {
-                id: give_up.alloc_id,
-            }),
-            Inbound::AllocationReportAck(word) => word.question(),
-            Inbound::RequestForPositions(question) => Some(Question::Positions(*question)),
-            _ => None,
+            Asking::Report(report) => {
+                let report = report.get();
+                Question::Report {
+                    id: report.trade_report_id,
+                    match_id: report.trd_match_id,
+                }
+            }
+            Asking::GiveUp(give_up) => Question::GiveUp {
+                id: give_up.get().alloc_id,
+            },
+            Asking::Claim(offer) => Question::Claim { offer: *offer },
+            Asking::Refusal(offer, _) => Question::Refusal { offer: *offer },
+            Asking::Reversal(offer) => Question::Reversal { offer: *offer },
+            Asking::Positions(question) => Question::Positions(*question.get()),
         }
     }
 }

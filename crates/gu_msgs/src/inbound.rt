@@ -1,6 +1,7 @@
 //! Messages that are read, each with what it says.
 
 use crate::alloc_status::AllocStatus;
+use crate::boxed::Boxed;
 use crate::test_req_id::TestReqId;
 use crate::type_code::TypeCode;
 use gu_terms::{AccountId, Day, Id, Lines, Lots, OfferNo, Price, Side, Symbol};
@@ -84,10 +85,10 @@ pub enum Inbound {
     /// The end of the session (FIX: Logout, MsgType 5).
     Logout,
     Logon(Logon),
-    TradeCaptureReport(TradeCaptureReport),
-    AllocationInstruction(AllocationInstruction),
+    TradeCaptureReport(Boxed<TradeCaptureReport>),
+    AllocationInstruction(Boxed<AllocationInstruction>),
     AllocationReportAck(AllocationReportAck),
-    RequestForPositions(RequestForPositions),
+    RequestForPositions(Boxed<RequestForPositions>),
     /// A message of another type, which has this code.
     Unread(TypeCode),
 }

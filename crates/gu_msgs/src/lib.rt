@@ -7,6 +7,7 @@ mod allocation_report_ack;
 mod answer_fields;
 mod answering;
 mod asking;
+mod boxed;
 mod coded_values;
 mod draft;
 mod fault;
@@ -45,7 +46,8 @@ mod writing;
 
 pub use alloc_status::AllocStatus;
 pub use answering::{answer_to, notice_body, positions_answer};
-pub use asking::{Question, Request};
+pub use asking::{Asking, Question, Request};
+pub use boxed::Boxed;
 pub use coded_values::{AllocReportType, BusinessRejectReason, LogoutReason, PosReqResult};
 pub use fault::{Fault, MsgFault};
 pub use header_reading::{header, header_in};

@@ -127,7 +127,10 @@ impl<'n, 'a> Outline<'n, 'a> {
         ensures { ReadsTo self.now (place + 1) (Means self.now place (λ text id. text ≡ id)) result }
     {
         let text = self.required(place);
-        self.judged(place, text, kinds::id(text))
+        match kinds::id(text) {
+            Ok(id) => Ok(id),
+            Err(reason) => Err(self.fault(place, reason)),
+        }
     }
 
     /// The account of a row.

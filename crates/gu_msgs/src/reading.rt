@@ -48,10 +48,10 @@ fn read_outlined(
         MsgType::SequenceReset => read_sequence_reset(outline),
         MsgType::Logout => Ok(Inbound::Logout),
         MsgType::Logon => read_logon(outline),
-        MsgType::TradeCaptureReport => read_trade_capture_report(outline),
+        MsgType::TradeCaptureReport => read_trade_capture_report(alloc, outline),
         MsgType::AllocationInstruction => read_allocation_instruction(alloc, outline),
         MsgType::AllocationReportAck => read_allocation_report_ack(outline),
-        MsgType::RequestForPositions => read_request_for_positions(outline),
+        MsgType::RequestForPositions => read_request_for_positions(alloc, outline),
     }
 }
 

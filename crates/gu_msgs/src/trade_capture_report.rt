@@ -7,6 +7,7 @@ ghost use Rattle.gu_msgs.specs.Shape.{tags_fault};
 ghost use Rattle.gu_msgs.specs.Tables.{entry_rows};
 ghost use Rattle.gu_msgs.specs.declared.msg_type.MsgType.TheVariants as kind;
 
+use crate::boxed::Boxed;
 use crate::fault::{Fault, MsgFault};
 use crate::groups::{text_at, value_at};
 use crate::inbound::{Inbound, TradeCaptureReport};
@@ -15,6 +16,7 @@ use crate::outline::Outline;
 use crate::run::Run;
 use crate::tags::{ACCOUNT, NO_SIDES, SIDE};
 use gu_terms::{AccountId, Side};
+use std::alloc::Global;
 
 /// The places of the rows of its table.
 const TRADE_REPORT_ID_ROW: usize = 10;
@@ -57,7 +59,10 @@ fn one_side(outline: &Outline<'_, '_>) -> Result<(Side, AccountId), Fault>
 
 /// What a report says.
 #[tactic(auto, using(crate::proofs::OutlineLemmas::of_type), unfolding(crate::specs::Tables::header_rows, crate::specs::Tables::body_rows, crate::specs::Tables::entry_rows))]
-pub fn read_trade_capture_report(outline: &Outline<'_, '_>) -> Result<Inbound, MsgFault>
+pub fn read_trade_capture_report(
+    alloc: Global,
+    outline: &Outline<'_, '_>,
+) -> Result<Inbound, MsgFault>
     requires shaped { IsShaped kind.TradeCaptureReport outline.now }
     requires judged { AreJudged outline.now 10 }
     ensures { MatchResult result (Says outline.now.fields) (IsTypedRefusal kind.TradeCaptureReport outline.now.fields) }
@@ -71,7 +76,7 @@ pub fn read_trade_capture_report(outline: &Outline<'_, '_>) -> Result<Inbound, M
     let last_px = outline.price(LAST_PX_ROW)?;
     let trade_date = outline.day(TRADE_DATE_ROW)?;
     let (side, account) = one_side(outline)?;
-    Ok(Inbound::TradeCaptureReport(TradeCaptureReport {
+    let report = TradeCaptureReport {
         trade_report_id,
         trd_match_id,
         symbol,
@@ -80,5 +85,6 @@ pub fn read_trade_capture_report(outline: &Outline<'_, '_>) -> Result<Inbound, M
         trade_date,
         side,
         account,
-    }))
+    };
+    Ok(Inbound::TradeCaptureReport(Boxed::new(alloc, report)?))
 }

@@ -1,19 +1,17 @@
 -- What the rules hand out: the message whose number was expected.
 use Rattle.std.proofs.Common.{◌≡◌, ◌≤◌, ◌+◌, ℕ, Bool, true, false, cond, nat_le, nat_lt, [], ◌∷◌, Option, None, Some, Result, Ok, Err, codes, refl, arith}
 use Rattle.std.specs.Option.{option_map_or}
-use Rattle.gu_msgs.specs.Asking.{question_in, request_of}
-use Rattle.gu_msgs.specs.declared.asking.Question.{Question}
-use Rattle.gu_msgs.specs.declared.asking.Request.{Request}
-use Rattle.gu_msgs.specs.declared.coded_values.LogoutReason.TheVariants.{BadSeqNum, SeqTooLow, CompId}
+use Rattle.gu_msgs.specs.Asking.{asked_on}
+use Rattle.gu_msgs.specs.declared.coded_values.LogoutReason.TheVariants.{BadSeqNum, SeqTooLow}
 use Rattle.gu_msgs.specs.declared.fault.Fault.{Fault}
 use Rattle.gu_msgs.specs.declared.inbound.Inbound.{Inbound}
 use Rattle.gu_msgs.specs.declared.inbound.Inbound.TheVariants as inbound
 use Rattle.gu_msgs.specs.declared.outbound.Body.TheVariants as body
-use Rattle.gu_msgs.specs.declared.reject_reason.SessionRejectReason.TheVariants.{CompIdProblem, ValueIsIncorrect}
+use Rattle.gu_msgs.specs.declared.reject_reason.SessionRejectReason.TheVariants.{ValueIsIncorrect}
 use Rattle.gu_msgs.specs.declared.tags.TheConstants.{NEW_SEQ_NO}
-use Rattle.gu_session.specs.FrameRules.{again_in, as_expected, by_number, frame_plan, on_content, on_gap_fill, on_message, on_number, on_request, on_reset, reject, reset_to, too_high, too_low, wrong_party}
+use Rattle.gu_session.specs.FrameRules.{again_in, as_expected, by_number, frame_plan, on_content, on_gap_fill, on_message, on_number, on_reset, on_wrong_party, reject, reset_to, too_high, too_low, wrong_party}
 use Rattle.gu_session.specs.Hearing.{is_given}
-use Rattle.gu_session.specs.Plans.{leaves, quiet, repeats, says}
+use Rattle.gu_session.specs.Plans.{hands, leaves, quiet, repeats, says}
 use Rattle.gu_session.specs.declared.heard.Heading.{Heading}
 use Rattle.gu_session.specs.declared.heard.Heard.{Heard}
 use Rattle.gu_session.specs.declared.plan.Handed.{Handed}
@@ -23,7 +21,7 @@ use Rattle.gu_session.specs.declared.logged_on.LoggedOn.{LoggedOn}
 -- what is handed out has this number, and the next one is expected after it
 abbrev pub HandsNext : ℕ → Option Handed → LoggedOn → Type 0
 HandsNext expected None after = Unit {0}
-HandsNext expected (Some handed) after = (expected ≡ handed.waiting.reference) × (after.expected ≡ handed.waiting.reference + 1)
+HandsNext expected (Some handed) after = (expected ≡ handed.reference) × (after.expected ≡ handed.reference + 1)
 
 -- a plan where this number was expected: it hands out nothing else, and never goes back
 pub record IsInOrder (expected : ℕ) (plan : Plan) : Type 0 where
@@ -46,12 +44,6 @@ in_order-option expected rule (Some a) other some none = some a
 pub nothing_handed : (expected : ℕ) (plan : Plan) → plan.handed ≡ None → expected ≤ plan.after.expected → IsInOrder expected plan
 nothing_handed expected plan none on = record { hands = rw none tt; on = on }
 
-pub request_in_order : (at : LoggedOn) (number : ℕ) (request : Option Request) (question : Option Question) → at.expected ≡ number + 1 →
-    IsInOrder number (on_request at number request question)
-request_in_order at number (Some request) (Some question) used = record { hands = (refl, used); on = omega (arith, used) }
-request_in_order at number (Some request) None used = record { hands = tt; on = omega (arith, used) }
-request_in_order at number None question used = record { hands = tt; on = omega (arith, used) }
-
 pub gap_fill_in_order : (at : LoggedOn) (heading : Heading) (number to : ℕ) → at.expected ≡ number + 1 → IsInOrder number (on_gap_fill at heading number to)
 gap_fill_in_order at heading number to used =
     in_order-if number (nat_lt number to) (quiet (record at { expected = to })) (says at (reject heading number NEW_SEQ_NO ValueIsIncorrect ∷ []))
@@ -66,14 +58,12 @@ message_in_order at heading number (inbound.SequenceReset m) used = gap_fill_in_
 message_in_order at heading number inbound.Logout used = record { hands = tt; on = omega (arith, used) }
 message_in_order at heading number (inbound.Logon m) used = record { hands = tt; on = omega (arith, used) }
 message_in_order at heading number (inbound.Unread code) used = record { hands = tt; on = omega (arith, used) }
-message_in_order at heading number (inbound.TradeCaptureReport m) used =
-    request_in_order at number (request_of at.firm (inbound.TradeCaptureReport m)) (question_in (inbound.TradeCaptureReport m)) used
-message_in_order at heading number (inbound.AllocationInstruction m) used =
-    request_in_order at number (request_of at.firm (inbound.AllocationInstruction m)) (question_in (inbound.AllocationInstruction m)) used
+message_in_order at heading number (inbound.TradeCaptureReport m) used = record { hands = (refl, used); on = omega (arith, used) }
+message_in_order at heading number (inbound.AllocationInstruction m) used = record { hands = (refl, used); on = omega (arith, used) }
 message_in_order at heading number (inbound.AllocationReportAck m) used =
-    request_in_order at number (request_of at.firm (inbound.AllocationReportAck m)) (question_in (inbound.AllocationReportAck m)) used
-message_in_order at heading number (inbound.RequestForPositions m) used =
-    request_in_order at number (request_of at.firm (inbound.RequestForPositions m)) (question_in (inbound.RequestForPositions m)) used
+    in_order-option number (hands at number) (asked_on m.alloc_report_id m.alloc_status) (quiet at)
+    (λ asking. record { hands = (refl, used); on = omega (arith, used) }) (record { hands = tt; on = omega (arith, used) })
+message_in_order at heading number (inbound.RequestForPositions m) used = record { hands = (refl, used); on = omega (arith, used) }
 
 pub content_in_order : (at : LoggedOn) (heading : Heading) (number : ℕ) (content : Result Inbound Fault) → at.expected ≡ number + 1 → IsInOrder number (on_content at heading number content)
 content_in_order at heading number (Ok message) used = message_in_order at heading number message used
@@ -81,8 +71,7 @@ content_in_order at heading number (Err fault) used = record { hands = tt; on = 
 
 pub expected_in_order : (at : LoggedOn) (heard : Heard) (number : ℕ) → at.expected ≡ number + 1 → IsInOrder number (as_expected at heard number)
 expected_in_order at heard number used =
-    in_order-option number (λ tag. leaves at (reject heard.heading number tag CompIdProblem ∷ body.Logout (Some CompId) ∷ [])) (wrong_party at.firm heard.heading)
-    (on_content at heard.heading number heard.content) (λ tag. record { hands = tt; on = omega (arith, used) }) (content_in_order at heard.heading number heard.content used)
+    in_order-option number (on_wrong_party at heard.heading number) (wrong_party at.firm heard.heading) (on_content at heard.heading number heard.content) (λ tag. record { hands = tt; on = omega (arith, used) }) (content_in_order at heard.heading number heard.content used)
 
 pub high_in_order : (at : LoggedOn) (heard : Heard) → IsInOrder at.expected (too_high at heard)
 high_in_order at heard =

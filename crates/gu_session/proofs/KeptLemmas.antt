@@ -14,6 +14,7 @@ use Rattle.gu_session.specs.Sending.{new_of, sent_by, sent_in}
 use Rattle.gu_session.specs.Sound.{HasRoom, IsSound, extended}
 use Rattle.gu_session.specs.States.{SessionState}
 use Rattle.gu_session.specs.declared.sent_ring.Sent.{Sent}
+use Rattle.gu_session.specs.declared.plan.Plan.{Plan}
 use Rattle.gu_session.specs.declared.ready.Ready.{Ready}
 use Rattle.gu_session.specs.declared.logged_on.LoggedOn.{LoggedOn}
 use Rattle.gu_session.specs.declared.state.State.{State}
@@ -71,24 +72,24 @@ kept_in_room None kept room sent has is = rw (is, has) refl
 kept_in_room (Some at) kept room sent has is = rw (is, has) refl
 
 -- as many messages as are ready are those that a plan sends
-pub committed_sent : (s : SessionState) (now : ℕ) (ready : Ready) → IsReady s now ready →
-    length ready.again.items + length ready.plan.messages ≡ length (sent_by s now ready.plan)
-committed_sent s now ready is =
+pub committed_sent : (s : SessionState) (now : ℕ) (plan : Plan) (ready : Ready) → IsReady s now plan ready →
+    length ready.again.items + length plan.messages ≡ length (sent_by s now plan)
+committed_sent s now plan ready is =
     rw (← is.again)
-    (sym (length-append ready.again.items (new_of s now ready.plan)
-    ∙ ap (λ (n : ℕ). length ready.again.items + n) (length-numbered ready.plan.after.firm now s.next ready.plan.messages)))
+    (sym (length-append ready.again.items (new_of s now plan)
+    ∙ ap (λ (n : ℕ). length ready.again.items + n) (length-numbered plan.after.firm now s.next plan.messages)))
 
 -- a session is sound after a plan
-pub committed_sound : (s : State) (now : ℕ) (ready : Ready) → IsReady (seen s) now ready → IsSoundState s →
-    IsSound (Some ready.plan.after) (s.next + length ready.plan.messages)
-    (buffer (keep_last 4096 (s.kept.items ++ filter_map sent_in (new_of (seen s) now ready.plan))) 4096)
-committed_sound s now ready is sound =
-    let sent = filter_map sent_in (new_of (seen s) now ready.plan) in
+pub committed_sound : (s : State) (now : ℕ) (plan : Plan) (ready : Ready) → IsReady (seen s) now plan ready → IsSoundState s →
+    IsSound (Some plan.after) (s.next + length plan.messages)
+    (buffer (keep_last 4096 (s.kept.items ++ filter_map sent_in (new_of (seen s) now plan))) 4096)
+committed_sound s now plan ready is sound =
+    let sent = filter_map sent_in (new_of (seen s) now plan) in
     record {
       some = omega (arith, sound.some);
       most = is.most;
       room = refl;
       few = omega (arith, length-drop (length (s.kept.items ++ sent) - 4096) (s.kept.items ++ sent));
-      ascending = within-drop (length (s.kept.items ++ sent) - 4096) 1 (s.next + length ready.plan.messages) (s.kept.items ++ sent)
-          (within-append 1 s.next (s.next + length ready.plan.messages) s.kept.items sent sound.ascending (within-numbered ready.plan.after.firm now s.next ready.plan.messages));
+      ascending = within-drop (length (s.kept.items ++ sent) - 4096) 1 (s.next + length plan.messages) (s.kept.items ++ sent)
+          (within-append 1 s.next (s.next + length plan.messages) s.kept.items sent sound.ascending (within-numbered plan.after.firm now s.next plan.messages));
     }

@@ -1,4 +1,3 @@
-mod RequestLemmas
 mod WalkLemmas
 mod OutputLemmas
 mod NumberLemmas

@@ -25,6 +25,7 @@ use Rattle.gu_session.specs.declared.output.Output.TheVariants.{Send, Hand, Clos
 use Rattle.gu_session.specs.declared.output.Taken.{Taken}
 use Rattle.gu_session.specs.declared.plan.Course.{Course}
 use Rattle.gu_session.specs.declared.plan.Course.TheVariants.{Go}
+use Rattle.gu_session.specs.declared.plan.Plan.{Plan}
 use Rattle.gu_session.specs.declared.ready.Ready.{Ready}
 use Rattle.gu_session.proofs.NumberLemmas.{length-numbered}
 use Rattle.gu_session.proofs.OutputLemmas.{AreOutputs-append, buffer_of, ending_is_given, one_more}
@@ -35,10 +36,10 @@ on_err_from (Ok value) here = tt
 on_err_from (Err error) here = here
 
 -- how many messages a plan that is ready sends
-pub length-sent_with : (ready : Ready) (first now : ℕ) → length (sent_with ready first now) ≡ length ready.again.items + length ready.plan.messages
-length-sent_with ready first now =
-    length-append ready.again.items (numbered ready.plan.after.firm now first ready.plan.messages)
-    ∙ ap (λ (n : ℕ). length ready.again.items + n) (length-numbered ready.plan.after.firm now first ready.plan.messages)
+pub length-sent_with : (plan : Plan) (ready : Ready) (first now : ℕ) → length (sent_with plan ready first now) ≡ length ready.again.items + length plan.messages
+length-sent_with plan ready first now =
+    length-append ready.again.items (numbered plan.after.firm now first plan.messages)
+    ∙ ap (λ (n : ℕ). length ready.again.items + n) (length-numbered plan.after.firm now first plan.messages)
 
 -- no message follows at first
 pub follow-none : (text : List ℕ) → FollowText [] text text
@@ -96,35 +97,35 @@ ending_closes (Some asked) true = refl
 ending_closes (Some asked) false = refl
 
 -- the outputs of a plan that is carried out
-pub plan_outputs : (s : SessionState) (now : ℕ) (ready : Ready) (outputs : List Output) (taken : Taken) → IsReady s now ready →
-    AreOutputs (map Sends (sent_with ready s.next now)) outputs → taken.handed ≡ asked_in ready.plan.handed → taken.is_closed ≡ ready.plan.ends →
-    AreOutputs (given_by s now ready.plan) (outputs ++ (handed_outputs taken.handed ++ end_outputs taken.is_closed))
-plan_outputs s now ready outputs taken is are handed ends =
-    let sent = ap (λ (ms : List Outbound). ms ++ new_of s now ready.plan) is.again in
+pub plan_outputs : (s : SessionState) (now : ℕ) (plan : Plan) (ready : Ready) (outputs : List Output) (taken : Taken) → IsReady s now plan ready →
+    AreOutputs (map Sends (sent_with plan ready s.next now)) outputs → taken.handed ≡ asked_in plan.handed → taken.is_closed ≡ plan.ends →
+    AreOutputs (given_by s now plan) (outputs ++ (handed_outputs taken.handed ++ end_outputs taken.is_closed))
+plan_outputs s now plan ready outputs taken is are handed ends =
+    let sent = ap (λ (ms : List Outbound). ms ++ new_of s now plan) is.again in
     rw (← sent, handed, ends)
-    (AreOutputs-append (map Sends (sent_with ready s.next now)) (ending_of ready.plan.handed ready.plan.ends) outputs _ are (ending_is_given ready.plan.handed ready.plan.ends))
+    (AreOutputs-append (map Sends (sent_with plan ready s.next now)) (ending_of plan.handed plan.ends) outputs _ are (ending_is_given plan.handed plan.ends))
 
 -- a plan is carried out, one output after another
-pub plan_steps : (old new : SessionState) (input : Input) (now : ℕ) (ready : Ready) (outputs : List Output) (taken : Taken) → IsStep old input now ready →
-    AreOutputs (map Sends (sent_with ready old.next now)) outputs → taken.handed ≡ asked_in ready.plan.handed → taken.is_closed ≡ ready.plan.ends →
-    new ≡ behind old now ready.plan → StepsWith old input now (outputs ++ (handed_outputs taken.handed ++ end_outputs taken.is_closed)) new
-plan_steps old new input now ready outputs taken is are handed ends behind_is = record {
-  given = given_by old now ready.plan;
+pub plan_steps : (old new : SessionState) (input : Input) (now : ℕ) (plan : Plan) (ready : Ready) (outputs : List Output) (taken : Taken) → IsStep old input now plan ready →
+    AreOutputs (map Sends (sent_with plan ready old.next now)) outputs → taken.handed ≡ asked_in plan.handed → taken.is_closed ≡ plan.ends →
+    new ≡ behind old now plan → StepsWith old input now (outputs ++ (handed_outputs taken.handed ++ end_outputs taken.is_closed)) new
+plan_steps old new input now plan ready outputs taken is are handed ends behind_is = record {
+  given = given_by old now plan;
   steps = rw behind_is is.steps;
-  are_outputs = plan_outputs old now ready outputs taken is.is_ready are handed ends;
+  are_outputs = plan_outputs old now plan ready outputs taken is.is_ready are handed ends;
 }
 
 -- a plan is carried out, with its messages after a text
-pub plan_followed : (old new : SessionState) (now : ℕ) (ready : Ready) (before after : List ℕ) (taken : Taken) → IsReady old now ready →
-    is_over old.next ready.plan ≡ false → FollowText (sent_with ready old.next now) before after →
-    taken.handed ≡ asked_in ready.plan.handed → taken.is_closed ≡ ready.plan.ends →
-    new ≡ behind old now ready.plan → FollowsOnto old (Go ready.plan) now before after taken new
-plan_followed old new now ready before after taken is suffice follow handed ends behind_is =
+pub plan_followed : (old new : SessionState) (now : ℕ) (plan : Plan) (ready : Ready) (before after : List ℕ) (taken : Taken) → IsReady old now plan ready →
+    is_over old.next plan ≡ false → FollowText (sent_with plan ready old.next now) before after →
+    taken.handed ≡ asked_in plan.handed → taken.is_closed ≡ plan.ends →
+    new ≡ behind old now plan → FollowsOnto old (Go plan) now before after taken new
+plan_followed old new now plan ready before after taken is suffice follow handed ends behind_is =
     let ending = handed_outputs taken.handed ++ end_outputs taken.is_closed in
-    let messages = sent_with ready old.next now in
+    let messages = sent_with plan ready old.next now in
     record {
       outputs = follow.outputs ++ ending;
-      are_outputs = rw suffice (plan_outputs old now ready follow.outputs taken is follow.are_outputs handed ends);
+      are_outputs = rw suffice (plan_outputs old now plan ready follow.outputs taken is follow.are_outputs handed ends);
       leaves = rw suffice behind_is;
       text = follow.text ∙ ap (λ (t : List ℕ). before ++ t)
           (sym (append-nil (flat_map bytes_in follow.outputs)) ∙ ap (λ (t : List ℕ). flat_map bytes_in follow.outputs ++ t) (sym (ending_bytes taken.handed taken.is_closed))

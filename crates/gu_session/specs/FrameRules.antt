@@ -3,9 +3,8 @@ use Rattle.std.specs.Prelude.{◌+◌, ℕ, Bool, false, not, nat_le, nat_lt, []
 use Rattle.std.specs.Option.{option_map_or}
 use Rattle.std.specs.Str.{bytes_eq}
 use Rattle.gu_terms.specs.declared.firm.FirmId.{FirmId}
-use Rattle.gu_msgs.specs.Asking.{question_in, request_of}
-use Rattle.gu_msgs.specs.declared.asking.Question.{Question}
-use Rattle.gu_msgs.specs.declared.asking.Request.{Request}
+use Rattle.gu_msgs.specs.Asking.{asked_on}
+use Rattle.gu_msgs.specs.declared.asking.Asking.TheVariants as asking
 use Rattle.gu_msgs.specs.declared.coded_values.BusinessRejectReason.TheVariants.{UnsupportedMessageType}
 use Rattle.gu_msgs.specs.declared.coded_values.LogoutReason.TheVariants as logout
 use Rattle.gu_msgs.specs.declared.fault.Fault.{Fault}
@@ -73,12 +72,7 @@ on_gap_fill at heading number to =
     if nat_lt number to then quiet (record at { expected = to })
     else says at (reject heading number NEW_SEQ_NO ValueIsIncorrect ∷ [])
 
--- a message of another type is handed out, if it asks for anything
-abbrev pub on_request : LoggedOn → ℕ → Option Request → Option Question → Plan
-on_request at number (Some request) (Some question) = hands at number request question
-on_request at number _ _ = quiet at
-
--- a sound message with the number that was expected
+-- a sound message with the number that was expected: what it asks of the house is handed out, and all else is the session's own
 abbrev pub on_message : LoggedOn → Heading → ℕ → Inbound → Plan
 on_message at heading number inbound.Heartbeat = quiet at
 on_message at heading number inbound.Reject = quiet at
@@ -89,18 +83,24 @@ on_message at heading number inbound.Logout = leaves at (body.Logout None ∷ []
 on_message at heading number (inbound.Logon m) = leaves at (body.Logout (Some logout.LoggedOn) ∷ [])
 on_message at heading number (inbound.Unread code) =
     says at (body.Application (application.BusinessMessageReject (record { ref_seq_num = number; reason = UnsupportedMessageType code })) ∷ [])
-on_message at heading number message = on_request at number (request_of at.firm message) (question_in message)
+on_message at heading number (inbound.TradeCaptureReport m) = hands at number (asking.Report m)
+on_message at heading number (inbound.AllocationInstruction m) = hands at number (asking.GiveUp m)
+on_message at heading number (inbound.AllocationReportAck m) = option_map_or (hands at number) (asked_on m.alloc_report_id m.alloc_status) (quiet at)
+on_message at heading number (inbound.RequestForPositions m) = hands at number (asking.Positions m)
 
 -- a message of the right parties, or its fault
 abbrev pub on_content : LoggedOn → Heading → ℕ → Result Inbound Fault → Plan
 on_content at heading number (Err fault) = says at (reject heading number fault.tag fault.reason ∷ [])
 on_content at heading number (Ok message) = on_message at heading number message
 
+-- a party is wrong: the message is rejected, and the session ends
+abbrev pub on_wrong_party : LoggedOn → Heading → ℕ → ℕ → Plan
+on_wrong_party at heading number tag = leaves at (reject heading number tag CompIdProblem ∷ body.Logout (Some logout.CompId) ∷ [])
+
 -- the number was expected: the parties come first, then the message
 abbrev pub as_expected : LoggedOn → Heard → ℕ → Plan
 as_expected at heard number =
-    option_map_or (λ tag. leaves at (reject heard.heading number tag CompIdProblem ∷ body.Logout (Some logout.CompId) ∷ []))
-    (wrong_party at.firm heard.heading) (on_content at heard.heading number heard.content)
+    option_map_or (on_wrong_party at heard.heading number) (wrong_party at.firm heard.heading) (on_content at heard.heading number heard.content)
 
 -- by the number that is expected; one that is met is used up before anything else
 abbrev pub by_number : LoggedOn → Heard → ℕ → Plan

@@ -1,6 +1,7 @@
 -- Machinery: what a session gives besides its messages. No other crate names this file.
 use Rattle.std.specs.Prelude.{Bool, List, [], ◌∷◌, Option, None, Some, if◌then◌else◌}
 use Rattle.std.specs.Option.{option_map}
+use Rattle.gu_session.specs.Sending.{asked_of}
 use Rattle.gu_session.specs.declared.output.Asked.{Asked}
 use Rattle.gu_session.specs.declared.output.Output.{Output}
 use Rattle.gu_session.specs.declared.output.Output.TheVariants.{Hand, Close}
@@ -8,7 +9,7 @@ use Rattle.gu_session.specs.declared.plan.Handed.{Handed}
 
 -- what is asked of the house
 abbrev pub asked_in : Option Handed → Option Asked
-asked_in handed = option_map (λ (handed : Handed). record { what = handed.request; reference = handed.waiting.reference }) handed
+asked_in handed = option_map asked_of handed
 
 -- what is handed out
 abbrev pub handed_outputs : Option Asked → List Output

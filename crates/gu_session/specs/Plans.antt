@@ -1,7 +1,6 @@
 -- What a step does, before numbers are given.
 use Rattle.std.specs.Prelude.{true, false, ℕ, List, [], Option, None, Some}
-use Rattle.gu_msgs.specs.declared.asking.Question.{Question}
-use Rattle.gu_msgs.specs.declared.asking.Request.{Request}
+use Rattle.gu_msgs.specs.declared.asking.Asking.{Asking}
 use Rattle.gu_msgs.specs.declared.inbound.ResendRequest.{ResendRequest}
 use Rattle.gu_msgs.specs.declared.outbound.Body.{Body}
 use Rattle.gu_session.specs.declared.plan.Plan.{Plan}
@@ -24,12 +23,12 @@ abbrev pub repeats : LoggedOn → Option ResendRequest → List Body → Plan
 repeats at again messages = record { after = at; again = again; messages = messages; handed = None; answered = None; ends = false }
 
 -- what a message of this number asks for is handed out
-abbrev pub hands : LoggedOn → ℕ → Request → Question → Plan
-hands at number request question = record {
+abbrev pub hands : LoggedOn → ℕ → Asking → Plan
+hands at number asking = record {
   after = at;
   again = None;
   messages = [];
-  handed = Some (record { request = request; waiting = record { reference = number; question = question } });
+  handed = Some (record { firm = at.firm; reference = number; asking = asking });
   answered = None;
   ends = false;
 }

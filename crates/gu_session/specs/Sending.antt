@@ -4,6 +4,7 @@ use Rattle.std.specs.List.{filter_map}
 use Rattle.std.specs.Option.{option_map, option_map_or, option_to_list}
 use Rattle.circular_buffer.specs.Buffer.{keep_last}
 use Rattle.gu_terms.specs.declared.firm.FirmId.{FirmId}
+use Rattle.gu_msgs.specs.Asking.{question_of, request_of}
 use Rattle.gu_msgs.specs.declared.inbound.ResendRequest.{ResendRequest}
 use Rattle.gu_msgs.specs.declared.outbound.Body.{Body}
 use Rattle.gu_msgs.specs.declared.outbound.Outbound.{Outbound}
@@ -14,6 +15,7 @@ use Rattle.gu_session.specs.SeqNums.{greatest}
 use Rattle.gu_session.specs.States.{SessionState}
 use Rattle.gu_msgs.specs.declared.outbound.Application.{Application}
 use Rattle.gu_session.specs.declared.sent_ring.Sent.{Sent}
+use Rattle.gu_session.specs.declared.output.Asked.{Asked}
 use Rattle.gu_session.specs.declared.plan.Handed.{Handed}
 use Rattle.gu_session.specs.declared.plan.Plan.{Plan}
 use Rattle.gu_session.specs.declared.logged_on.Waiting.{Waiting}
@@ -41,10 +43,18 @@ new_of s now plan = numbered plan.after.firm now s.next plan.messages
 abbrev pub sent_by : SessionState → ℕ → Plan → List Outbound
 sent_by s now plan = repeats_of s now plan ++ new_of s now plan
 
--- what is handed out by a plan, by its reference
+-- what is asked of the house, by its reference
+abbrev pub asked_of : Handed → Asked
+asked_of handed = record { what = request_of handed.firm handed.asking; reference = handed.reference }
+
+-- what its answer needs
+abbrev pub waiting_for : Handed → Waiting
+waiting_for handed = record { reference = handed.reference; question = question_of handed.asking }
+
+-- what is handed out by a plan
 abbrev pub handed_by : Option Handed → List Response
 handed_by None = []
-handed_by (Some handed) = Hands (record { what = handed.request; reference = handed.waiting.reference }) ∷ []
+handed_by (Some handed) = Hands (asked_of handed) ∷ []
 
 -- what is given after the messages: what is handed out, and then the end
 abbrev pub ending_of : Option Handed → Bool → List Response
@@ -72,7 +82,7 @@ unanswered (Some reference) waiting = filter (λ (one : Waiting). not (one.refer
 -- what isn't answered after a plan
 abbrev pub waiting_after : List Waiting → Plan → List Waiting
 waiting_after waiting plan =
-    unanswered plan.answered (waiting ++ option_to_list (option_map (λ (handed : Handed). handed.waiting) plan.handed))
+    unanswered plan.answered (waiting ++ option_to_list (option_map waiting_for plan.handed))
 
 -- the moment of the last sending, also of what is sent again, once so many messages were sent
 abbrev pub sent_at_after : ℕ → ℕ → ℕ → ℕ

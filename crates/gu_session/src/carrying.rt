@@ -1,24 +1,23 @@
 //! What a plan leaves.
 
-ghost use Rattle.std.specs.Prelude.{◌≡◌, ◌≤◌, ◌<◌, ◌+◌, ◌++◌, ◌∷◌, [], Some, None, is_some, length, vec_len, vec_capacity, if◌then◌else◌, IfOk};
+ghost use Rattle.std.specs.Prelude.{◌≡◌, ◌≤◌, ◌<◌, ◌+◌, ◌++◌, [], Some, None, is_some, length, vec_len, vec_capacity, if◌then◌else◌, IfOk};
 ghost use Rattle.std.specs.List.{filter_map};
 ghost use Rattle.std.specs.Option.{option_map, option_map_or, option_to_list};
 ghost use Rattle.circular_buffer.specs.Buffer.{buffer};
 ghost use Rattle.gu_msgs.specs.declared.inbound.ResendRequest.{ResendRequest as RequestOf};
 ghost use Rattle.gu_session.specs.Ascending.{IsAscending};
 ghost use Rattle.gu_session.specs.Resending.{resent};
-ghost use Rattle.gu_session.specs.Sending.{is_over, numbered, sent_at_after, sent_in, unanswered};
+ghost use Rattle.gu_session.specs.Sending.{is_over, numbered, sent_at_after, sent_in, unanswered, waiting_for};
 ghost use Rattle.gu_session.specs.Sound.{extended};
-ghost use Rattle.gu_session.specs.declared.plan.Handed.{Handed as HandedOf};
 
 use crate::ask_ref::AskRef;
 use crate::logged_on::{LoggedOn, Waiting};
-use crate::plan::{Handing, Plan};
+use crate::plan::{Handed, Plan};
 use crate::resending::resent;
 use crate::sent_ring::SentRing;
 use crate::seq_num::GREATEST;
+use gu_msgs::Outbound;
 use gu_msgs::inbound::ResendRequest;
-use gu_msgs::{Outbound, Question};
 use gu_terms::{FirmId, Moment};
 use std::alloc::{AllocError, Global};
 
@@ -89,28 +88,17 @@ fn forget(waiting: &mut Vec<Waiting>, answered: Option<AskRef>)
     }
 }
 
-/// Adds a question.
-fn remember(waiting: &mut Vec<Waiting>, reference: AskRef, question: Question)
-    requires { vec_len waiting.old < vec_capacity waiting.old }
-    ensures { waiting.new.items ≡ waiting.old.items ++ record { reference = reference; question = question } ∷ [] }
-{
-    waiting.push_reserved(Waiting {
-        reference,
-        question,
-    });
-}
-
 /// Adds what was handed out, and takes out what was answered.
-pub fn settle(waiting: &mut Vec<Waiting>, handed: &Option<Handing>, answered: Option<AskRef>)
+pub fn settle(waiting: &mut Vec<Waiting>, handed: &Option<Handed>, answered: Option<AskRef>)
     requires { vec_len waiting.old < vec_capacity waiting.old }
-    ensures { waiting.new.items ≡ unanswered answered (waiting.old.items ++ option_to_list (option_map (λ (handed : HandedOf). handed.waiting) handed.now)) }
+    ensures { waiting.new.items ≡ unanswered answered (waiting.old.items ++ option_to_list (option_map waiting_for handed.now)) }
 {
     if let Some(handed) = handed {
-        let Waiting {
-            reference,
+        let question = handed.asking.question();
+        waiting.push_reserved(Waiting {
+            reference: handed.reference,
             question,
-        } = handed.waiting();
-        remember(waiting, reference, question);
+        });
     }
     forget(waiting, answered);
 }

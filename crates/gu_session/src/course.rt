@@ -39,14 +39,14 @@ fn heard_course(
     alloc: Global,
     firms: &[FirmId],
     at: &Option<LoggedOn>,
-    heard: &mut Heard,
+    heard: Heard,
     now: Moment,
 ) -> Result<Course, AllocError>
-    ensures { IfOk result (λ course. course ≡ frame_course firms.now at.now heard.old now) }
+    ensures { IfOk result (λ course. course ≡ frame_course firms.now at.now heard now) }
 {
     match at {
         Some(at) => Ok(Course::Go(frame_plan(alloc, &at_frame(at, now), heard)?)),
-        None => logon_course(alloc, firms, heard, now),
+        None => logon_course(alloc, firms, &heard, now),
     }
 }
 
@@ -63,8 +63,7 @@ pub fn frame_course(
     let (fields, malformed) = into_fields(alloc, frame)?;
     let heading = read_heading(&fields);
     let content = read_content(alloc, &fields, malformed)?;
-    let mut heard = Heard { heading, content };
-    heard_course(alloc, firms, at, &mut heard, now)
+    heard_course(alloc, firms, at, Heard { heading, content }, now)
 }
 
 /// What is done on a notice.

@@ -3,95 +3,66 @@
 ghost use Rattle.std.specs.Prelude.{◌≡◌, ◌+◌, ◌<◌, ◌≤◌, ◌∷◌, [], length, slice_get, Some, IfOk};
 ghost use Rattle.gu_msgs.specs.Written.{outbound_of};
 ghost use Rattle.gu_session.specs.Plans.{answers, hands, leaves, quiet, repeats, says};
-ghost use Rattle.gu_session.specs.Sending.{numbered};
+ghost use Rattle.gu_session.specs.Sending.{asked_of, numbered};
 
 use crate::ask_ref::AskRef;
-use crate::logged_on::{LoggedOn, Waiting};
+use crate::logged_on::LoggedOn;
 use crate::messages::Messages;
+use crate::output::Asked;
 use crate::seq_num::SeqNum;
 use gu_msgs::inbound::ResendRequest;
 use gu_msgs::outbound::Body;
-use gu_msgs::{OutboundRef, Question, Request};
-use gu_terms::Moment;
+use gu_msgs::{Asking, OutboundRef, Request};
+use gu_terms::{FirmId, Moment};
 use std::alloc::{AllocError, Global};
 use std::marker::Model;
 
-/// What is handed out, with what its answer needs.
+/// What is handed out.
 #[derive(Drop)]
 pub struct Handed {
-    pub request: Request,
-    pub waiting: Waiting,
+    /// Who asks.
+    pub firm: FirmId,
+    pub reference: AskRef,
+    pub asking: Asking,
 }
 
-/// The same in a box, since it is large beside all else of a plan. To a contract it is what is in there.
-#[derive(Drop)]
-pub struct Handing {
-    boxed: Box<Handed>,
-}
-
-impl Model for Handing {
-    ghost use Rattle.gu_session.specs.declared.plan.Handed.{Handed};
-
-    ghost Value = { Handed };
-
-    ghost view = { λ h. h.boxed.value };
-}
-
-impl Handing {
-    /// What is handed out, boxed.
-    pub fn new(alloc: Global, handed: Handed) -> Result<Self, AllocError>
-        ensures { IfOk result (λ handing. handing ≡ handed) }
-    {
-        let boxed = Box::new(alloc, handed)?;
-        Ok(Handing { boxed })
-    }
-
-    /// What its answer needs.
-    pub fn waiting(&self) -> Waiting
-        ensures { result ≡ self.now.waiting }
-    {
-        self.boxed.waiting
-    }
-
+impl Handed {
     /// What is asked of the house.
-    pub fn into_request(self) -> BoxedRequest
-        ensures { result ≡ self.request }
+    pub fn into_asked(self) -> Asked
+        ensures { result ≡ asked_of self }
     {
-        BoxedRequest { boxed: self.boxed }
+        Asked {
+            what: BoxedRequest {
+                firm: self.firm,
+                asking: self.asking,
+            },
+            reference: self.reference,
+        }
     }
 }
 
-/// A request in the box in which it is handed out. To a contract it is the request.
+/// A request as it was read: its parts stay in their box. To a contract it is the request.
 #[derive(Drop)]
 pub struct BoxedRequest {
-    boxed: Box<Handed>,
+    firm: FirmId,
+    asking: Asking,
 }
 
 impl Model for BoxedRequest {
+    ghost use Rattle.gu_msgs.specs.Asking.{request_of};
     ghost use Rattle.gu_msgs.specs.declared.asking.Request.{Request};
 
     ghost Value = { Request };
 
-    ghost view = { λ b. b.boxed.value.request };
+    ghost view = { λ b. request_of b.firm b.asking };
 }
 
 impl BoxedRequest {
-    /// The request.
-    pub fn get(&self) -> &Request
-        ensures { result.now ≡ self.now }
-    {
-        &self.boxed.request
-    }
-
     /// The request, taken out.
     pub fn into_inner(self) -> Request
         ensures { result ≡ self }
     {
-        let Handed {
-            request,
-            waiting: _,
-        } = Box::into_inner(self.boxed);
-        request
+        self.asking.into_request(self.firm)
     }
 }
 
@@ -105,7 +76,7 @@ pub struct Plan {
     /// New messages, which get the next numbers.
     pub messages: Messages,
     /// What is handed out then.
-    pub handed: Option<Handing>,
+    pub handed: Option<Handed>,
     /// What is answered by it.
     pub answered: Option<AskRef>,
     /// Whether the session ends.
@@ -197,29 +168,22 @@ impl Plan {
     }
 
     /// What a message of this number asks for is handed out.
-    pub fn hands(
-        alloc: Global,
-        at: &LoggedOn,
-        number: SeqNum,
-        request: Request,
-        question: Question,
-    ) -> Result<Self, AllocError>
-        ensures { IfOk result (λ plan. plan ≡ hands at.now number request question) }
+    pub fn hands(alloc: Global, at: &LoggedOn, number: SeqNum, asking: Asking) -> Self
+        ensures { result ≡ hands at.now number asking }
     {
-        let reference = AskRef::new(number);
-        let waiting = Waiting {
-            reference,
-            question,
+        let handed = Handed {
+            firm: at.firm,
+            reference: AskRef::new(number),
+            asking,
         };
-        let handed = Handing::new(alloc, Handed { request, waiting })?;
-        Ok(Plan {
+        Plan {
             after: *at,
             again: None,
             messages: Messages::none(alloc),
             handed: Some(handed),
             answered: None,
             ends: false,
-        })
+        }
     }
 
     /// The messages that answer a question.

@@ -1,4 +1,4 @@
-//! Plans that are ready to be carried out.
+//! What it takes memory to carry out a plan.
 
 ghost use Rattle.std.specs.Prelude.{◌≡◌, ◌+◌, ◌<◌, ◌≤◌, length, slice_get, Some};
 ghost use Rattle.gu_msgs.specs.Written.{outbound_of};
@@ -9,10 +9,9 @@ use crate::sent_ring::SentRing;
 use gu_msgs::{Outbound, OutboundRef};
 use gu_terms::Moment;
 
-/// A plan with all that takes memory to carry it out.
+/// All that takes memory to carry out a plan.
 #[derive(Drop)]
 pub struct Ready {
-    pub plan: Plan,
     /// What is sent again.
     pub again: Vec<Outbound>,
     /// Room for what is to be kept, where a firm logs on.
@@ -27,26 +26,32 @@ pub enum Prepared {
     /// The session ends without a byte.
     Leave,
     /// A plan is carried out.
-    Go(Ready),
+    Go(Plan, Ready),
 }
 
 impl Ready {
     /// How many messages are sent.
-    pub fn len(&self) -> usize
-        ensures { result ≡ length self.now.again.items + length self.now.plan.messages }
+    pub fn len(&self, plan: &Plan) -> usize
+        ensures { result ≡ length self.now.again.items + length plan.now.messages }
     {
-        self.again.len() + self.plan.messages.len()
+        self.again.len() + plan.messages.len()
     }
 
     /// The message at a place of all that are sent, where the first new one has this number.
-    pub fn message(&self, first: u64, now: Moment, place: usize) -> OutboundRef<'_>
-        requires place { place < length self.now.again.items + length self.now.plan.messages }
-        requires most { first + length self.now.plan.messages ≤ 1000000001 }
-        ensures { slice_get (sent_with self.now first now) place ≡ Some (outbound_of result) }
+    pub fn message<'a>(
+        &'a self,
+        plan: &'a Plan,
+        first: u64,
+        now: Moment,
+        place: usize,
+    ) -> OutboundRef<'a>
+        requires place { place < length self.now.again.items + length plan.now.messages }
+        requires most { first + length plan.now.messages ≤ 1000000001 }
+        ensures { slice_get (sent_with plan.now self.now first now) place ≡ Some (outbound_of result) }
     {
         if place < self.again.len() {
             return self.again[place].as_ref();
         }
-        self.plan.new_message(first, now, place - self.again.len())
+        plan.new_message(first, now, place - self.again.len())
     }
 }

@@ -8,6 +8,7 @@ ghost use Rattle.gu_session.specs.Given.{end_outputs, handed_outputs};
 ghost use Rattle.gu_session.specs.Readiness.{sent_with};
 
 use crate::output::{Output, Taken};
+use crate::plan::Plan;
 use crate::ready::Ready;
 use gu_fix::{BodyText, encode_onto};
 use gu_msgs::{OutboundRef, write_over};
@@ -53,16 +54,17 @@ impl Pen {
     fn push_all(
         &mut self,
         output: &mut Vec<u8>,
+        plan: &Plan,
         ready: &Ready,
         first: u64,
         now: Moment,
     ) -> Result<(), AllocError>
-        requires { first + length ready.now.plan.messages ≤ 1000000001 }
-        ensures pushed { OnOk result (FollowText (sent_with ready.now first now) output.old.items output.new.items) }
+        requires { first + length plan.now.messages ≤ 1000000001 }
+        ensures pushed { OnOk result (FollowText (sent_with plan.now ready.now first now) output.old.items output.new.items) }
         ensures refused { OnErr result ((tail : List ℕ) × (output.new.items ≡ output.old.items ++ tail)) }
     {
-        for place in 0..ready.len() {
-            self.push(output, &ready.message(first, now, place))?;
+        for place in 0..ready.len(plan) {
+            self.push(output, &ready.message(plan, first, now, place))?;
         }
         Ok(())
     }
@@ -71,16 +73,17 @@ impl Pen {
     pub fn append(
         &mut self,
         output: &mut Vec<u8>,
+        plan: &Plan,
         ready: &Ready,
         first: u64,
         now: Moment,
     ) -> Result<(), AllocError>
-        requires { first + length ready.now.plan.messages ≤ 1000000001 }
-        ensures pushed { OnOk result (FollowText (sent_with ready.now first now) output.old.items output.new.items) }
+        requires { first + length plan.now.messages ≤ 1000000001 }
+        ensures pushed { OnOk result (FollowText (sent_with plan.now ready.now first now) output.old.items output.new.items) }
         ensures refused { OnErr result (output.new.items ≡ output.old.items) }
     {
         let start = output.len();
-        let pushed = self.push_all(output, ready, first, now);
+        let pushed = self.push_all(output, plan, ready, first, now);
         if pushed.is_err() {
             output.truncate(start);
         }
@@ -99,17 +102,18 @@ impl Pen {
     /// All messages of a plan that is ready as outputs, where the first new one has this number, with room for two outputs more.
     pub fn outputs(
         &mut self,
+        plan: &Plan,
         ready: &Ready,
         first: u64,
         now: Moment,
     ) -> Result<Vec<Output>, AllocError>
-        requires { first + length ready.now.plan.messages ≤ 1000000001 }
-        ensures outputs { IfOk result (λ outputs. AreOutputs (map Sends (sent_with ready.now first now)) outputs.items) }
+        requires { first + length plan.now.messages ≤ 1000000001 }
+        ensures outputs { IfOk result (λ outputs. AreOutputs (map Sends (sent_with plan.now ready.now first now)) outputs.items) }
         ensures room { IfOk result (λ outputs. vec_len outputs + 2 ≤ vec_capacity outputs) }
     {
         let mut outputs = Vec::new(self.alloc);
-        for place in 0..ready.len() {
-            let output = self.output(&ready.message(first, now, place))?;
+        for place in 0..ready.len(plan) {
+            let output = self.output(&ready.message(plan, first, now, place))?;
             outputs.push(output)?;
         }
         outputs.reserve(2)?;

@@ -89,17 +89,12 @@ fn too_low(alloc: Global, at: &LoggedOn, heading: &Heading) -> Result<Plan, Allo
 }
 
 /// A frame that is no reset.
-fn by_number(
-    alloc: Global,
-    at: &LoggedOn,
-    heard: &mut Heard,
-    number: SeqNum,
-) -> Result<Plan, AllocError>
-    ensures { IfOk result (λ plan. plan ≡ by_number at.now heard.old number) }
+fn by_number(alloc: Global, at: &LoggedOn, heard: Heard, number: SeqNum) -> Result<Plan, AllocError>
+    ensures { IfOk result (λ plan. plan ≡ by_number at.now heard number) }
 {
     let place = number.get();
     if at.expected < place {
-        return too_high(alloc, at, heard);
+        return too_high(alloc, at, &heard);
     }
     if place < at.expected {
         return too_low(alloc, at, &heard.heading);
@@ -112,13 +107,8 @@ fn by_number(
 }
 
 /// A frame with a number.
-fn on_number(
-    alloc: Global,
-    at: &LoggedOn,
-    heard: &mut Heard,
-    number: SeqNum,
-) -> Result<Plan, AllocError>
-    ensures { IfOk result (λ plan. plan ≡ on_number at.now heard.old number) }
+fn on_number(alloc: Global, at: &LoggedOn, heard: Heard, number: SeqNum) -> Result<Plan, AllocError>
+    ensures { IfOk result (λ plan. plan ≡ on_number at.now heard number) }
 {
     match reset_to(&heard.content) {
         Some(to) => on_reset(alloc, at, &heard.heading, number, to),
@@ -126,9 +116,9 @@ fn on_number(
     }
 }
 
-/// What is done on a frame. What it says may be taken out.
-pub fn frame_plan(alloc: Global, at: &LoggedOn, heard: &mut Heard) -> Result<Plan, AllocError>
-    ensures { IfOk result (λ plan. plan ≡ frame_plan at.now heard.old) }
+/// What is done on a frame.
+pub fn frame_plan(alloc: Global, at: &LoggedOn, heard: Heard) -> Result<Plan, AllocError>
+    ensures { IfOk result (λ plan. plan ≡ frame_plan at.now heard) }
 {
     match heard.heading.number {
         Some(number) => on_number(alloc, at, heard, number),

@@ -92,9 +92,9 @@ impl Session {
                 let _ = self.state.close();
                 Ok(outputs)
             }
-            Prepared::Go(ready) => {
-                let mut outputs = self.pen.outputs(&ready, self.state.next, now)?;
-                push_taken(&mut outputs, self.state.commit(ready, now));
+            Prepared::Go(plan, ready) => {
+                let mut outputs = self.pen.outputs(&plan, &ready, self.state.next, now)?;
+                push_taken(&mut outputs, self.state.commit(plan, ready, now));
                 Ok(outputs)
             }
         }
@@ -115,9 +115,10 @@ impl Session {
             return Ok(self.state.close());
         }
         self.state.waiting.reserve(1)?;
-        let ready = self.state.make_ready(self.alloc, plan, now)?;
-        self.pen.append(output, &ready, self.state.next, now)?;
-        Ok(self.state.commit(ready, now))
+        let ready = self.state.make_ready(self.alloc, &plan, now)?;
+        self.pen
+            .append(output, &plan, &ready, self.state.next, now)?;
+        Ok(self.state.commit(plan, ready, now))
     }
 
     /// Does what is to be done, and appends the bytes that are sent.

@@ -12,7 +12,7 @@ use crate::course::{answer_course, frame_course, notice_course, tick_course};
 use crate::input::Input;
 use crate::logged_on::{LoggedOn, Waiting};
 use crate::output::{Asked, Taken};
-use crate::plan::{Course, Handing, Plan};
+use crate::plan::{Course, Handed, Plan};
 use crate::ready::{Prepared, Ready};
 use crate::sent_ring::SentRing;
 use gu_terms::{FirmId, Moment};
@@ -54,15 +54,10 @@ fn beginning() -> Moment
 }
 
 /// What is asked of the house.
-fn asked_in(handed: Option<Handing>) -> Option<Asked>
+fn asked_in(handed: Option<Handed>) -> Option<Asked>
     ensures { result ≡ asked_in handed }
 {
-    let handed = handed?;
-    let reference = handed.waiting().reference;
-    Some(Asked {
-        what: handed.into_request(),
-        reference,
-    })
+    Some(handed?.into_asked())
 }
 
 impl State {
@@ -110,22 +105,22 @@ impl State {
                 if is_over(self.next, &plan) {
                     return Ok(Prepared::Leave);
                 }
-                Ok(Prepared::Go(self.make_ready(alloc, plan, now)?))
+                let ready = self.make_ready(alloc, &plan, now)?;
+                Ok(Prepared::Go(plan, ready))
             }
         }
     }
 
-    /// A plan for which numbers suffice, with all that takes memory to carry it out.
-    pub fn make_ready(&self, alloc: Global, plan: Plan, now: Moment) -> Result<Ready, AllocError>
-        requires numbers { is_over self.now.next plan ≡ false }
+    /// All that takes memory to carry out a plan for which numbers suffice.
+    pub fn make_ready(&self, alloc: Global, plan: &Plan, now: Moment) -> Result<Ready, AllocError>
+        requires numbers { is_over self.now.next plan.now ≡ false }
         requires sound { IsSoundState self.now }
-        ensures plan { IfOk result (λ ready. ready.plan ≡ plan) }
-        ensures ready { IfOk result (IsReady (seen self.now) now) }
+        ensures { IfOk result (IsReady (seen self.now) now plan.now) }
     {
         let firm = &plan.after.firm;
         let again = repeats(alloc, firm, &now, &self.kept, self.next, &plan.again)?;
         let room = room_for(alloc, &self.at)?;
-        Ok(Ready { plan, again, room })
+        Ok(Ready { again, room })
     }
 
     /// The session ends.
@@ -140,17 +135,17 @@ impl State {
     }
 
     /// A plan that is ready is carried out. This takes no memory.
-    pub fn commit(&mut self, ready: Ready, now: Moment) -> Taken
-        requires ready { IsReady (seen self.old) now ready }
+    pub fn commit(&mut self, plan: Plan, ready: Ready, now: Moment) -> Taken
+        requires ready { IsReady (seen self.old) now plan ready }
         requires place { vec_len self.old.waiting < vec_capacity self.old.waiting }
         requires sound { IsSoundState self.old }
-        ensures behind { seen self.new ≡ behind (seen self.old) now ready.plan }
+        ensures behind { seen self.new ≡ behind (seen self.old) now plan }
         ensures sound { IsSoundState self.new }
-        ensures handed { result.handed ≡ asked_in ready.plan.handed }
-        ensures close { result.is_closed ≡ ready.plan.ends }
+        ensures handed { result.handed ≡ asked_in plan.handed }
+        ensures close { result.is_closed ≡ plan.ends }
     {
-        self.sent_at = sent_at_after(self.sent_at, now, ready.len());
-        let Ready { plan, again, room } = ready;
+        self.sent_at = sent_at_after(self.sent_at, now, ready.len(&plan));
+        let Ready { again, room } = ready;
         drop(again);
         move_to(&mut self.kept, room);
         keep(&mut self.kept, &plan, self.next, now);

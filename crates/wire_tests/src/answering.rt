@@ -1,5 +1,5 @@
 //! What answers a firm's message, and what notices are sent as.
-use crate::reading::inbound_of;
+use crate::reading::{asking_of, inbound_of};
 use crate::rows::{Subject, check, first_word, number};
 use crate::words::{Values, notice_of, rejection_of, rows_of, side_of};
 use crate::writing::text_at_nine;
@@ -127,8 +127,8 @@ fn answer(
 
 /// What a message asks.
 fn question_of(alloc: Global, message: &str) -> Result<Option<Question>, AllocError> {
-    let inbound = inbound_of(alloc, message)?;
-    Ok(inbound.question())
+    let asking = asking_of(inbound_of(alloc, message)?);
+    Ok(asking.map(|asking| asking.question()))
 }
 
 /// The answer to a row's message.

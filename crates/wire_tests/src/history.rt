@@ -1,5 +1,5 @@
 //! Histories of many entries.
-use crate::reading::inbound_of;
+use crate::reading::{asking_of, inbound_of};
 use crate::rows::{Subject, check, first_word, number};
 use crate::words::{Values, reply_of};
 use gu_msgs::Request;
@@ -8,9 +8,12 @@ use std::alloc::{AllocError, Global};
 
 /// The command that the firm asks for by a message.
 fn command_of(alloc: Global, w: &Values, message: &str) -> Result<Option<Command>, AllocError> {
-    match inbound_of(alloc, message)?.request(w.firm) {
-        Some(Request::Enter(command)) => Ok(Some(command)),
-        _ => Ok(None),
+    let Some(asking) = asking_of(inbound_of(alloc, message)?) else {
+        return Ok(None);
+    };
+    match asking.into_request(w.firm) {
+        Request::Enter(command) => Ok(Some(command)),
+        Request::Ask(_) => Ok(None),
     }
 }
 

@@ -3,7 +3,7 @@ use crate::messages::{fields_of, text_in};
 use crate::requests::tell_request;
 use crate::rows::{Subject, check};
 use gu_fix::Fields;
-use gu_msgs::{Inbound, MsgFault, read, sender};
+use gu_msgs::{Asking, Inbound, MsgFault, read, sender};
 use std::alloc::{AllocError, Global};
 
 /// What stands in front of messages after a sound header.
@@ -175,6 +175,17 @@ fn tell_session(text: &mut String, inbound: &Inbound) -> Result<(), AllocError> 
     }
 }
 
+/// What a message asks for, if it asks for anything.
+pub fn asking_of(inbound: Inbound) -> Option<Asking> {
+    match inbound {
+        Inbound::TradeCaptureReport(m) => Some(Asking::Report(m)),
+        Inbound::AllocationInstruction(m) => Some(Asking::GiveUp(m)),
+        Inbound::AllocationReportAck(m) => m.asked(),
+        Inbound::RequestForPositions(m) => Some(Asking::Positions(m)),
+        _ => None,
+    }
+}
+
 /// Tells what a message of these fields says: of the session, or what its firm asks for.
 fn tell_said(text: &mut String, fields: &Fields, inbound: Inbound) -> Result<(), AllocError> {
     tell_session(text, &inbound)?;
@@ -184,8 +195,8 @@ fn tell_said(text: &mut String, fields: &Fields, inbound: Inbound) -> Result<(),
     let Some(firm) = sender(fields) else {
         return text.push_str("no sender");
     };
-    match inbound.request(firm) {
-        Some(request) => tell_request(text, &request),
+    match asking_of(inbound) {
+        Some(asking) => tell_request(text, &asking.into_request(firm)),
         None => text.push_str("asks for nothing"),
     }
 }

@@ -14,6 +14,7 @@ use crate::requests::request_text;
 use crate::rows::{first_word, has_memory, number, parts_at};
 use crate::words::{Values, notice_of, outcome_of, sample};
 use gu_fix::Feed;
+use gu_msgs::Request;
 use gu_session::{AskRef, Input, Output, Session, Taken};
 use gu_terms::{FirmId, Moment, Side};
 use std::alloc::{AllocError, Global};
@@ -38,6 +39,8 @@ struct Talk {
     now: Moment,
     /// What the session gave at the last line and no line was about, the first last.
     given: Vec<Output>,
+    /// What was handed out last, until a line was about it.
+    handed: Option<Request>,
     asked: Option<AskRef>,
 }
 
@@ -50,10 +53,12 @@ impl Drop for Talk {
             time: _,
             now: _,
             given,
+            handed,
             asked: _,
         } = self;
         drop(session);
         drop(given);
+        drop(handed);
     }
 }
 
@@ -146,6 +151,7 @@ impl Talk {
             time: "09:00:00.000",
             now: values.nine,
             given: Vec::new(alloc),
+            handed: None,
             asked: None,
         }))
     }
@@ -204,11 +210,13 @@ impl Talk {
 
     /// What the session gives next, as a text.
     fn told(&self, alloc: Global) -> Result<String, AllocError> {
+        if let Some(request) = &self.handed {
+            return request_text(alloc, request);
+        }
         match self.given.last() {
             Some(Output::Send(bytes)) => shown(alloc, bytes),
-            Some(Output::Hand(asked)) => request_text(alloc, asked.what.get()),
             Some(Output::Close) => String::from_str(alloc, "the end"),
-            None => String::from_str(alloc, "nothing"),
+            _ => String::from_str(alloc, "nothing"),
         }
     }
 
@@ -223,12 +231,22 @@ impl Talk {
         String::from_str(alloc, text)
     }
 
+    /// Takes out what the session hands out next, if that comes next.
+    fn take_handed(&mut self) {
+        if !matches!(self.given.last(), Some(Output::Hand(_))) {
+            return;
+        }
+        if let Some(Output::Hand(asked)) = self.given.pop() {
+            self.asked = Some(asked.reference);
+            self.handed = Some(asked.what.into_inner());
+        }
+    }
+
     /// Passes over what the session gives next.
     fn pass(&mut self) {
-        if let Some(Output::Hand(asked)) = self.given.last() {
-            self.asked = Some(asked.reference);
+        if self.handed.take().is_none() {
+            let _ = self.given.pop();
         }
-        let _ = self.given.pop();
     }
 
     /// Whether this firm is logged on.
@@ -242,6 +260,7 @@ impl Talk {
     /// Whether the session gives next what a line says.
     fn gives(&mut self, alloc: Global, word: &str, text: &str) -> Result<bool, AllocError> {
         let expected = self.expected(alloc, word, text)?;
+        self.take_handed();
         let told = self.told(alloc)?;
         self.pass();
         Ok(told.as_str() == expected.as_str())

@@ -6,7 +6,7 @@ use Rattle.giveup.proofs.Capturings.{found_report}
 use Rattle.giveup.proofs.capturing.report_of.Goals as goal
 
 pub returns-in-Ok : goal.returns-in-Ok
-returns-in-Ok c = found_report c.args.fields.now c.in-Ok.message c.report.result c.in-Ok.ensures.says c.report.ensures
+returns-in-Ok c = found_report c.args.fields.now c.in-Ok.message c.into_report.result c.in-Ok.ensures.says c.into_report.ensures
 
 pub returns-in-Err-Rejected : goal.returns-in-Err-Rejected
 returns-in-Err-Rejected c report says =

@@ -48,7 +48,8 @@ returns c =
     let quantity : Holds QUANTITY (λ text. MeansLots text whole) m.fields = rw c.requires.shaped.is_kind at c.in_ok-quantity.ensures.0 in
     let sums : whole ≡ lots_in_all lines = sym c.get.ensures.number ∙ c.if-get-lots.false ∙ c.lots-2.ensures.lots in
     let id = rw c.requires.shaped.is_kind at c.in_ok-alloc_id.ensures.0 in
-    let exec = c.in_ok-exec_id.ensures.0 in (
+    let exec = c.in_ok-exec_id.ensures.0 in
+    rw c.in_ok-new.ensures (
       of_type AllocationInstruction m c.requires.shaped c.in_ok-lines.ensures.1 (record {
         whole = whole;
         parts = map (λ (l : Line). l.lots) lines;

@@ -23,7 +23,8 @@ returns c =
     let report_id = rw is_kind at c.in_ok-trade_report_id.ensures.0 in
     let match_id = rw is_kind at c.in_ok-trd_match_id.ensures.0 in
     let symbol = rw is_kind at c.in_ok-symbol.ensures.0 in
-    let side = c.in_ok-side.ensures.0 in (
+    let side = c.in_ok-side.ensures.0 in
+    rw c.in_ok-new.ensures (
       of_type TradeCaptureReport m c.requires.shaped c.in_ok-side.ensures.1 tt,
       record {
         report_id = report_id.first ∙ ap Some report_id.such;

@@ -4,7 +4,6 @@ use Rattle.gu_session.specs.Readiness.{seen}
 use Rattle.gu_session.specs.Sending.{is_over}
 use Rattle.gu_session.specs.States.{SessionState}
 use Rattle.gu_session.specs.declared.plan.Course.TheVariants.{Go}
-use Rattle.gu_session.specs.declared.plan.Plan.{Plan}
 use Rattle.gu_session.specs.declared.logged_on.Waiting.{Waiting}
 use Rattle.gu_session.proofs.OntoLemmas.{leaving_followed, plan_followed}
 use Rattle.gu_session.proofs.session.Session.carry_out.Goals as goal
@@ -21,9 +20,7 @@ pub returns-clause-done : goal.returns-clause-done
 returns-clause-done c =
     let state = record c.self.inside.state { waiting = c.reserve.new.self } in
     let same : seen state ≡ c.args.self.now = ap (λ (ws : List Waiting). record (seen c.self.inside.state) { waiting = ws }) c.in_ok-reserve.ensures.items ∙ c.self.view_is in
-    let ready = c.in_ok-ready.ready in
-    let suffice : is_over (seen state).next ready.plan ≡ false = rw c.in_ok-ready.ensures.plan (sym c.is_over.ensures ∙ c.if-is_over.false) in
+    let suffice : is_over (seen state).next c.args.plan ≡ false = sym c.is_over.ensures ∙ c.if-is_over.false in
     subst (λ (s : SessionState). FollowsOnto s (Go c.args.plan) c.args.now c.args.output.now.items c.append.new.output.items c.commit.result (seen c.commit.new.self)) same
-    (subst (λ (p : Plan). FollowsOnto (seen state) (Go p) c.args.now c.args.output.now.items c.append.new.output.items c.commit.result (seen c.commit.new.self)) c.in_ok-ready.ensures.plan
-    (plan_followed (seen state) (seen c.commit.new.self) c.args.now ready c.args.output.now.items c.append.new.output.items c.commit.result c.in_ok-ready.ensures.ready suffice
-    c.in_ok-append.ensures.pushed c.commit.ensures.handed c.commit.ensures.close c.commit.ensures.behind))
+    (plan_followed (seen state) (seen c.commit.new.self) c.args.now c.args.plan c.in_ok-ready.ready c.args.output.now.items c.append.new.output.items c.commit.result
+    c.in_ok-ready.ensures suffice c.in_ok-append.ensures.pushed c.commit.ensures.handed c.commit.ensures.close c.commit.ensures.behind)

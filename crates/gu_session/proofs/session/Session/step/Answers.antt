@@ -14,7 +14,7 @@ returns-in_ok-outputs-in-Go-clause-steps c =
     let state = record c.self.inside.state { waiting = c.reserve.new.self } in
     let same : seen state ≡ c.args.self.now = ap (λ (ws : List Waiting). record (seen c.self.inside.state) { waiting = ws }) c.in_ok-reserve.ensures.items ∙ c.self.view_is in
     let is = subst (λ (p : Prepared). IsPrepared (seen state) c.args.input c.args.now p) c.in-Go.is c.in_ok-prepare.ensures in
-    let steps = plan_steps (seen state) (seen c.commit.new.self) c.args.input c.args.now c.in-Go.ready c.in_ok-outputs-in-Go.outputs.items c.commit.result is
+    let steps = plan_steps (seen state) (seen c.commit.new.self) c.args.input c.args.now c.in-Go.plan c.in-Go.ready c.in_ok-outputs-in-Go.outputs.items c.commit.result is
     c.in_ok-outputs-in-Go.ensures.outputs c.commit.ensures.handed c.commit.ensures.close c.commit.ensures.behind in
     let outputs = c.push_taken.ensures ∙ append_assoc c.in_ok-outputs-in-Go.outputs.items (handed_outputs c.commit.result.handed) (end_outputs c.commit.result.is_closed) in
     subst (λ (s : SessionState). StepsWith s c.args.input c.args.now c.push_taken.new.outputs.items (seen c.commit.new.self)) same
