@@ -86,10 +86,7 @@ fn lines(alloc: Global, outline: &Outline<'_, '_>) -> Result<Lines, MsgFault>
 {
     outline.count(NO_ALLOCS_ROW, 1, 16)?;
     let list = lines_of(alloc, &outline.group(NO_ALLOCS_ROW))?;
-    let Some(lines) = Lines::new(list) else {
-        unreachable!();
-    };
-    Ok(lines)
+    Ok(Lines::known(list))
 }
 
 /// What a give-up says.

@@ -40,8 +40,5 @@ pub fn midnight_of(day: Day) -> Moment
     ensures text { 1970 ≤ day.year → (text : List ℕ) → WritesMoment result text
         → text ≡ date_text day.year day.month day.day ++ codes "-00:00:00.000" }
 {
-    let Some(moment) = Moment::new(DAY * days_after(date_of(day))) else {
-        unreachable!();
-    };
-    moment
+    Moment::known(DAY * days_after(date_of(day)))
 }

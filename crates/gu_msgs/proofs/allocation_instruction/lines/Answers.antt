@@ -1,7 +1,6 @@
-use Rattle.std.proofs.Common.{◌≡◌, ◌<◌, ◌∙◌, List, ap, arith, false, length, refl, subst, true}
+use Rattle.std.proofs.Common.{◌≡◌, ◌<◌, ◌∙◌, List, ap, arith, length, refl, subst}
 use Rattle.std.proofs.lemmas.Result.{err_from_is_err_and}
 use Rattle.std.specs.List.{flat_map}
-use Rattle.gu_terms.specs.Lines.{AreLines}
 use Rattle.gu_msgs.specs.Groups.{entries_by}
 use Rattle.gu_msgs.specs.Items.{Item, items_of}
 use Rattle.gu_msgs.specs.Outlines.{IsRefusedOf, entries_at, entry_rows_at}
@@ -22,14 +21,12 @@ returns-in_err-list c =
     group_refused m 14 _ e c.from_residual-in_err-list.result within c.requires.judged c.in_ok-count.ensures.sound (err_from_is_err_and _ c.from_residual-in_err-list.ensures.1)
     (subst (λ (items : List Item). IsRefusedOf items e) same c.in_err-list.ensures)
 
-pub unreachable-requires : goal.unreachable-requires
+pub known-requires : goal.known-requires
 unfolding header_rows body_rows entry_rows
-unreachable-requires c =
+known-requires c =
     let m = c.args.outline.now in
     let entries : entries_at m 14 ≡ entries_by ALLOC_ACCOUNT c.group.result = rw (c.group.ensures.fields, c.requires.kind) refl in
     let as_many = length-allocs (entries_by ALLOC_ACCOUNT c.group.result) c.in_ok-list.list.items c.in_ok-list.ensures.0 in
     let count = c.in_ok-count.ensures in
     let same = count.counted ∙ ap length entries ∙ as_many in
-    let some : AreLines c.in_ok-list.list.items = record { some = omega (arith, count.from, same); most = omega (arith, count.to, same) } in
-    let none : false ≡ true = c.in_default.ensures.sound.1 some in
-    cc
+    record { some = omega (arith, count.from, same); most = omega (arith, count.to, same) }

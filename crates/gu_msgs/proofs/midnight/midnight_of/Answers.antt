@@ -6,4 +6,4 @@ pub returns-clause-text : goal.returns-clause-text
 returns-clause-text c late text writes =
     let day = c.args.day in
     let is = c.date_of.ensures in
-    midnight_text c.date_of.result c.in-Some.moment day.year day.month day.day text (c.in-Some.ensures.same ∙ ap (λ n. 86400000 * n) c.days_after.ensures.days) is.year is.month is.day late writes
+    midnight_text c.date_of.result c.known.result day.year day.month day.day text (c.known.ensures ∙ ap (λ n. 86400000 * n) c.days_after.ensures.days) is.year is.month is.day late writes
