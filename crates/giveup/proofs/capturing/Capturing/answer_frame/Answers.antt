@@ -1,4 +1,4 @@
-use Rattle.std.proofs.Common.{[], inr, sym, append-nil}
+use Rattle.std.proofs.Common.{◌∙◌, [], inr, Some, ap, sym, append-nil}
 use Rattle.giveup.proofs.Capturings.{acknowledged, passes_faulty, passes_unsaid, passes_unsent, said, unsaid}
 use Rattle.giveup.proofs.capturing.Capturing.answer_frame.Goals as goal
 
@@ -13,5 +13,5 @@ returns-in-None c = ([], sym (append-nil c.args.output.now.items), inr (passes_u
 
 pub returns-in-Some-sender : goal.returns-in-Some-sender
 returns-in-Some-sender c =
-    acknowledged c.acknowledge.result c.args.self.now c.acknowledge.new.self c.args.frame _ _ c.in-Some-sender.firm c.in-Some.report c.args.output.now.items c.acknowledge.new.output.items
-    c.in_ok-fields.ensures (sym c.if-is_some.ensures) (said _ c.in_ok-report.field-0 c.in-Some.report c.in_ok-report.ensures c.in-Some.is) c.in-Some-sender.ensures c.acknowledge.ensures.text c.acknowledge.ensures.after
+    acknowledged c.acknowledge.result c.args.self.now c.acknowledge.new.self c.args.frame _ _ c.in-Some-sender.firm c.get.result.now c.args.output.now.items c.acknowledge.new.output.items
+    c.in_ok-fields.ensures (sym c.if-is_some.ensures) (said _ c.in_ok-report.field-0 c.get.result.now c.in_ok-report.ensures (c.in-Some.is ∙ ap Some (sym c.get.ensures))) c.in-Some-sender.ensures c.acknowledge.ensures.text c.acknowledge.ensures.after
