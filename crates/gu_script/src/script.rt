@@ -80,20 +80,16 @@ impl Script {
     }
 
     /// Does what the line says that the rest was, which is done with it.
-    fn answer(&mut self, said: Option<Line>, output: &mut Vec<u8>) -> Result<(), AllocError>
+    fn answer(&mut self, said: &Option<Line>, output: &mut Vec<u8>) -> Result<(), AllocError>
         requires { self.old.count + 1 < 2 ^ 64 }
-        ensures answered { OnOk result (AnswersSaid self.old.course said output.old.items self.new.course output.new.items) }
+        ensures answered { OnOk result (AnswersSaid self.old.course said.now output.old.items self.new.course output.new.items) }
         ensures counted { self.new.count ≡ self.old.count + 1 }
         ensures done { self.new.rest ≡ [] }
     {
         self.count += 1;
         self.rest.clear();
         match said {
-            Some(said) => {
-                let answered = answer_line(&mut self.world, &said, output);
-                drop(said);
-                answered
-            }
+            Some(said) => answer_line(&mut self.world, said, output),
             None => Ok(()),
         }
     }
@@ -111,7 +107,9 @@ impl Script {
     {
         self.rest.extend_from_slice(part)?;
         let said = Line::read(self.alloc, without_return(&self.rest), self.count + 1)?;
-        self.answer(said, output)?;
+        let answered = self.answer(&said, output);
+        drop(said);
+        answered?;
         Ok(())
     }
 
@@ -154,7 +152,9 @@ impl Script {
             return Ok(());
         }
         let said = Line::read(self.alloc, &self.rest, self.count + 1)?;
-        self.answer(said, output)?;
+        let answered = self.answer(&said, output);
+        drop(said);
+        answered?;
         Ok(())
     }
 
