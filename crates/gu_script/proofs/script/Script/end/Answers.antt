@@ -30,7 +30,7 @@ returns c =
     let both : true ≡ false = sym (ap (λ n. n == 0) empty) ∙ sym c.is_empty.ensures ∙ c.if-is_empty.false in
     cc) in
     record {
-      answered = end_answered c.args.self.now.course c.answer.new.self.course c.args.self.now.rest c.args.output.now.items c.answer.new.output.items none some
-          (said_answered c.args.self.now.course c.answer.new.self.course c.args.self.now.rest c.in_ok-said.said c.args.output.now.items c.answer.new.output.items
-          (rw read at c.in_ok-said.ensures.said) c.in_ok-answer.ensures.answered);
+      answered = end_answered c.args.self.now.course c.answer-answered.new.self.course c.args.self.now.rest c.args.output.now.items c.answer-answered.new.output.items none some
+          (said_answered c.args.self.now.course c.answer-answered.new.self.course c.args.self.now.rest c.in_ok-said.said c.args.output.now.items c.answer-answered.new.output.items
+          (rw read at c.in_ok-said.ensures.said) c.in_ok-answered.ensures.answered);
     }
