@@ -1,7 +1,8 @@
 -- Places that are linked along rows: the last one that passes a test, and one more place.
-use Rattle.std.proofs.Common.{◌≡◌, ◌∙◌, sym, refl, ap, subst, ℕ, zero, suc, ◌+◌, ◌-◌, ◌%◌, ◌<◌, ◌≤◌, ◌==◌, Bool, true, false, cond, List, [], ◌∷◌, ◌++◌, length, get_or, set, inl, inr, eq-eqb, arith, get_or-set_same, get_or-set_other, length-append}
+use Rattle.std.proofs.Common.{◌≡◌, ◌∙◌, sym, refl, ap, subst, ℕ, zero, suc, ◌+◌, ◌-◌, ◌%◌, ◌<◌, ◌≤◌, ◌==◌, Bool, true, false, cond, List, [], ◌∷◌, ◌++◌, length, get_or, set, take, inl, inr, eq-eqb, arith, get_or-set_same, get_or-set_other, length-append}
 use Rattle.std.proofs.lemmas.Bool.{cases_Bool, cases_eq, eqb-true, false_from_ne_true}
-use Rattle.std.proofs.lemmas.List.{get_or_append_left, get_or_push, get_or-map, get_or_default, length-map, length-set, map-append}
+use Rattle.std.proofs.lemmas.List.{get_or_append_left, get_or_push, get_or-map, get_or_default, length-map, length-set, length-take, map-append, take_more_set}
+use Rattle.std.proofs.Math.Seq.{map-set_same}
 use Rattle.std.specs.Prelude.{slice_index}
 use Rattle.gu_trades.specs.Numbered.{has_number, last_before}
 use Rattle.gu_trades.specs.HashIndex.{EndsRows, IsLinked, is_in_row, numbers_of}
@@ -211,3 +212,30 @@ places-push links new last number rows count before few linked ends room m reads
       rw (long, all) (linked-push links last number linked ends some),
       rw (counted, m, all) (ends-push links last number linked ends some),
     )
+
+-- ---- all places again
+
+-- one place more is linked, and keeps its number
+module _ (links : List Link) (last : List ℕ) (place : ℕ) (d : Link) (few : length last ≤ 2147483648) (room : length links < length last) (inside : place < length links)
+    (linked : IsLinked (take place links) (length last)) (ends : EndsRows (take place links) last) where
+  -- its number
+  abbrev own_number : ℕ
+  own_number = (get_or links place d).number
+
+  -- its link
+  abbrev new_link : Link
+  new_link = record { number = own_number; before = get_or last (own_number % length last) 0 }
+
+  pub numbers-again : numbers_of (set links place new_link) ≡ numbers_of links
+  numbers-again = map-set_same (λ (link : Link). link.number) links place new_link d refl
+
+  pub place-again : IsLinked (take (place + 1) (set links place new_link)) (length (set last (own_number % length last) (place + 1)))
+      × EndsRows (take (place + 1) (set links place new_link)) (set last (own_number % length last) (place + 1))
+  place-again =
+      let some : own_number % length last < length last = omega arith in
+      let short : length (take place links) ≡ place = omega (arith, length-take place links) in
+      let more = take_more_set links place new_link inside in
+      let all = places-push (take place links) (take (place + 1) (set links place new_link)) last own_number (length last) (place + 1) (get_or last (own_number % length last) 0)
+      few linked ends (omega arith) refl (get_or_default last (own_number % length last) 0 (get_or last (own_number % length last) 0) some) more
+      (sym (ap length more ∙ length-append (take place links) (new_link ∷ []) ∙ ap (λ n. n + 1) short)) in
+      (all.2, all.3)

@@ -1,8 +1,8 @@
 //! Places of a list, found by numbers that are kept of its elements.
 
-ghost use Rattle.std.specs.Prelude.{◌≡◌, ◌+◌, ◌<◌, ◌≤◌, ◌++◌, ◌∷◌, ◌%◌, [], length, slice_index, IfOk, OnOk, ◌-◌};
+ghost use Rattle.std.specs.Prelude.{◌≡◌, ◌+◌, ◌<◌, ◌≤◌, ◌++◌, ◌∷◌, ◌%◌, [], length, slice_index, OnOk, ◌-◌};
 ghost use Rattle.gu_trades.specs.Numbered.{has_number, last_before, number_of};
-ghost use Rattle.gu_trades.specs.HashIndex.{numbers_of, IsLinked};
+ghost use Rattle.gu_trades.specs.HashIndex.{numbers_of, EndsRows, IsLinked};
 
 use gu_terms::Seed;
 use std::alloc::{AllocError, Global};
@@ -23,23 +23,11 @@ struct Link {
 
 /// The places of a list, by numbers that are kept of its elements. To a contract it is the list of these numbers, and how many more
 /// can be kept without memory.
+#[derive(Drop)]
 pub(crate) struct HashIndex {
     links: Vec<Link>,
     /// The last place of each row, counted from 1; 0 where the row is empty. A number's row is its remainder.
     last: Vec<u32>,
-    alloc: Global,
-}
-
-impl Drop for HashIndex {
-    fn drop(self) {
-        let HashIndex {
-            links,
-            last,
-            alloc: _,
-        } = self;
-        drop(links);
-        drop(last);
-    }
 }
 
 impl Model for HashIndex {
@@ -79,6 +67,25 @@ fn along(links: &[Link], rows: usize, from: u32, number: u32) -> u32
     0
 }
 
+/// Links all places along these rows, whatever they were linked along before.
+fn link_all(links: &mut [Link], last: &mut [u32])
+    requires few { length last.old ≤ MOST_ROWS }
+    requires room { length links.old < length last.old }
+    ensures numbers { numbers_of links.new ≡ numbers_of links.old }
+    ensures rows { length last.new ≡ length last.old }
+    ensures linked { IsLinked links.new (length last.new) }
+    ensures ends { EndsRows links.new last.new }
+{
+    last.fill(0);
+    for place in 0..links.len() {
+        let number = links[place].number;
+        let row = number as usize % last.len();
+        let before = last[row];
+        links[place] = Link { number, before };
+        last[row] = place as u32 + 1;
+    }
+}
+
 impl HashIndex {
     /// No places.
     pub(crate) fn new(alloc: Global) -> Self
@@ -87,7 +94,6 @@ impl HashIndex {
         HashIndex {
             links: Vec::new(alloc),
             last: Vec::new(alloc),
-            alloc,
         }
     }
 
@@ -118,31 +124,16 @@ impl HashIndex {
         ensures room { OnOk result (0 < self.new.spare) }
     {
         if self.links.len() < self.last.len() {
-            return self.links.reserve(1);
+            return Ok(());
         }
-        let rows = self.last.len().max(FEWEST_ROWS / 2);
-        if rows > MOST_ROWS / 2 {
+        let rows = (2 * self.last.len()).max(FEWEST_ROWS);
+        if rows > MOST_ROWS {
             return Err(AllocError);
         }
-        *self = HashIndex::with_rows(self.alloc, 2 * rows, &self.links)?;
+        self.links.reserve(rows - self.links.len())?;
+        self.last.resize(rows, 0)?;
+        link_all(&mut self.links, &mut self.last);
         Ok(())
-    }
-
-    /// The places of these numbers in so many rows.
-    fn with_rows(alloc: Global, rows: usize, links: &[Link]) -> Result<Self, AllocError>
-        requires few { rows ≤ MOST_ROWS }
-        requires within { length links.now < rows }
-        ensures { IfOk result (λ places. (places.numbers ≡ numbers_of links.now) × (0 < places.spare)) }
-    {
-        let mut places = HashIndex {
-            links: Vec::with_capacity(alloc, links.len() + 1)?,
-            last: vec![in alloc; 0; rows]?,
-            alloc,
-        };
-        for link in links {
-            places.push(link.number);
-        }
-        Ok(places)
     }
 
     /// Keeps one more number, for which there is room.
