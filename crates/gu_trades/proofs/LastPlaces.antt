@@ -59,17 +59,20 @@ module _ {X : Type 0} (test : X → Bool) where
           eqb-true (slice_index numbers (from - 1)) number (last_before-passes (has_number numbers number) bound (from - 1) (sym is ∙ one)),
     )
 
-    -- and back from one that doesn't pass
-    pub walk-back : (here next : ℕ) → 0 < here → slice_index numbers (here - 1) ≡ number → at xs (here - 1) ≡ false
+    -- and on from a place
+    pub walk-on : (here next : ℕ) → 0 < here → slice_index numbers (here - 1) ≡ number
         → next ≡ last_before (has_number numbers (slice_index numbers (here - 1))) (here - 1)
-        → (last_before (at xs) here ≡ last_before (at xs) next) × (next < here) × (0 < next → slice_index numbers (next - 1) ≡ number)
-    walk-back here next some own other is =
-        let one : here ≡ suc (here - 1) = omega arith in
-        let walked = walk-from (here - 1) next (is ∙ ap (λ n. last_before (has_number numbers n) (here - 1)) own) in (
-          ap (last_before (at xs)) one ∙ ap (λ b. cond b (suc (here - 1)) (last_before (at xs) (here - 1))) other ∙ walked.0,
-          omega (arith, walked.1),
-          walked.2,
-        )
+        → (last_before (at xs) (here - 1) ≡ last_before (at xs) next) × (next < here) × (0 < next → slice_index numbers (next - 1) ≡ number)
+    walk-on here next some own is =
+        let walked = walk-from (here - 1) next (is ∙ ap (λ n. last_before (has_number numbers n) (here - 1)) own) in
+        (walked.0, omega (arith, walked.1), walked.2)
+
+  -- a walk back from a place that doesn't pass
+  pub walk-back : (xs : List X) (here next : ℕ) → 0 < here → at xs (here - 1) ≡ false → last_before (at xs) (here - 1) ≡ last_before (at xs) next
+      → last_before (at xs) here ≡ last_before (at xs) next
+  walk-back xs here next some other on =
+      let one : here ≡ suc (here - 1) = omega arith in
+      ap (last_before (at xs)) one ∙ ap (λ b. cond b (suc (here - 1)) (last_before (at xs) (here - 1))) other ∙ on
 
   -- ---- what passes up to a place
 

@@ -4,3 +4,4 @@ pub mod LastPlaces
 pub mod OneMore
 pub mod ReportPlaces
 pub mod Rows
+pub mod Walks

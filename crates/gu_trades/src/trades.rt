@@ -1,10 +1,10 @@
 //! The reports of the house, in the order in which they were taken in.
 
-ghost use Rattle.std.specs.Prelude.{◌≡◌, ◌++◌, ◌∷◌, [], false, Some, Contains, is_some, OnOk, OnErr, IfOk, ◌-◌, ◌<◌, ◌≤◌, length, map, slice_get, true, unwrap_or};
-ghost use Rattle.std.specs.Option.{ForSome, option_map};
+ghost use Rattle.std.specs.Prelude.{◌≡◌, ◌++◌, ◌∷◌, [], false, Some, Contains, is_some, OnOk, OnErr, IfOk, ◌<◌, length, slice_get, true};
+ghost use Rattle.std.specs.Option.{option_map};
 ghost use Rattle.gu_terms.specs.declared.report.Report.{Report as ReportOf};
 ghost use Rattle.gu_trades.specs.Counterparts.{counterpart_of, standing_in};
-ghost use Rattle.gu_trades.specs.Kept.{ArePlaced, id_number, is_by_at, is_with_at, match_number};
+ghost use Rattle.gu_trades.specs.Kept.{ArePlaced, id_number, is_by_at, match_number};
 ghost use Rattle.gu_trades.specs.Matching.{conflicts, is_of_trade, matching_of};
 ghost use Rattle.gu_trades.specs.Numbered.{last_before};
 ghost use Rattle.gu_trades.specs.Reports.{has_report, report_by, report_of, with_match};
@@ -73,74 +73,6 @@ fn match_number(seed: &Seed, match_id: &Id) -> u32
     number_of(seed, match_id)
 }
 
-/// The place of the firm's last report with this id, counted from 1; 0 where there is none.
-fn last_by(reports: &Reports, places: &HashIndex, seed: &Seed, firm: &FirmId, id: &Id) -> u32
-    requires { places.now.numbers ≡ map (λ (r : ReportOf). id_number seed.now r.firm r.id) reports.now }
-    ensures { result ≡ last_before (is_by_at reports.now firm.now id.now) (length reports.now) }
-{
-    let mut at = places.last(id_number(seed, firm, id));
-    while at > 0 {
-        let place = at as usize - 1;
-        if reports.kept(place).is_by(firm, id) {
-            return at;
-        }
-        at = places.before(place);
-    }
-    0
-}
-
-/// The place of the last report with this match id, whose number this is, or of the last one below a place that has it, counted
-/// from 1; 0 where there is none.
-fn last_with(
-    reports: &Reports,
-    places: &HashIndex,
-    seed: &Seed,
-    match_id: &Id,
-    number: u32,
-    below: Option<usize>,
-) -> u32
-    requires numbers { places.now.numbers ≡ map (λ (r : ReportOf). match_number seed.now r.match_id) reports.now }
-    requires number { number ≡ match_number seed.now match_id.now }
-    requires with { ForSome below (λ place. is_with_at reports.now match_id.now place ≡ true) }
-    ensures { result ≡ last_before (is_with_at reports.now match_id.now) (unwrap_or below (length reports.now)) }
-{
-    let mut at = match below {
-        None => places.last(number),
-        Some(place) => places.before(place),
-    };
-    while at > 0 {
-        let place = at as usize - 1;
-        if reports.kept(place).is_with(match_id) {
-            return at;
-        }
-        at = places.before(place);
-    }
-    0
-}
-
-/// Puts a report after the others, and its place under the number of its firm and id and under that of its match id. The growths come
-/// first, so that a refusal leaves all as it was.
-fn add(
-    reports: &mut Reports,
-    by_id: &mut HashIndex,
-    by_match: &mut HashIndex,
-    seed: &Seed,
-    report: &ReportRef<'_>,
-) -> Result<(), AllocError>
-    ensures added { OnOk result (reports.new ≡ reports.old ++ report.now ∷ []) }
-    ensures named { OnOk result (by_id.new.numbers ≡ by_id.old.numbers ++ id_number seed.now report.now.firm report.now.id ∷ []) }
-    ensures matched { OnOk result (by_match.new.numbers ≡ by_match.old.numbers ++ match_number seed.now report.now.match_id ∷ []) }
-    ensures err { OnErr result ((reports.new ≡ reports.old)
-        × (by_id.new.numbers ≡ by_id.old.numbers) × (by_match.new.numbers ≡ by_match.old.numbers)) }
-{
-    by_id.reserve()?;
-    by_match.reserve()?;
-    reports.push(report)?;
-    by_id.push(id_number(seed, report.firm(), report.id()));
-    by_match.push(match_number(seed, report.match_id()));
-    Ok(())
-}
-
 impl Trades {
     /// No reports.
     pub fn new(alloc: Global) -> Self
@@ -170,32 +102,40 @@ impl Trades {
         let _ = &self.reports;
     }
 
+    /// The place of the firm's last report with this id, counted from 1; 0 where there is none.
+    fn last_by(&self, firm: &FirmId, id: &Id) -> u32
+        ensures placed { result ≡ last_before (is_by_at self.now firm.now id.now) (length self.now) }
+        ensures sound { IsSound self.now }
+    {
+        let mut at = self.by_id.last(id_number(&self.seed, firm, id));
+        while at > 0 {
+            let place = at as usize - 1;
+            if self.reports.kept(place).is_by(firm, id) {
+                return at;
+            }
+            at = self.by_id.before(place);
+        }
+        0
+    }
+
     /// The places of the last two reports with this match id, counted from 1, the later one first; 0 where there is none.
     fn last_two(&self, match_id: &Id) -> (u32, u32)
         ensures placed { ArePlaced self.now match_id.now result.0 result.1 }
         ensures sound { are_sides (with_match match_id.now self.now) ≡ true }
     {
-        let number = match_number(&self.seed, match_id);
-        let last = last_with(
-            &self.reports,
-            &self.by_match,
-            &self.seed,
-            match_id,
-            number,
-            None,
-        );
-        if last == 0 {
-            return (0, 0);
+        let mut last = 0;
+        let mut at = self.by_match.last(match_number(&self.seed, match_id));
+        while at > 0 {
+            let place = at as usize - 1;
+            if self.reports.kept(place).is_with(match_id) {
+                if last > 0 {
+                    return (last, at);
+                }
+                last = at;
+            }
+            at = self.by_match.before(place);
         }
-        let first = last_with(
-            &self.reports,
-            &self.by_match,
-            &self.seed,
-            match_id,
-            number,
-            Some(last as usize - 1),
-        );
-        (last, first)
+        (last, 0)
     }
 
     /// The reports with this match id, two at most, in the order in which they came.
@@ -237,7 +177,7 @@ impl Trades {
         ensures found { result ≡ report_by self.now firm id }
         ensures known { is_some result ≡ has_report self.now firm id }
     {
-        let at = last_by(&self.reports, &self.by_id, &self.seed, &firm, &id);
+        let at = self.last_by(&firm, &id);
         if at == 0 {
             return None;
         }
@@ -248,14 +188,14 @@ impl Trades {
     pub fn has(&self, firm: &FirmId, id: &Id) -> bool
         ensures { result ≡ has_report self.now firm.now id.now }
     {
-        last_by(&self.reports, &self.by_id, &self.seed, firm, id) != 0
+        self.last_by(firm, id) != 0
     }
 
     /// The terms of the firm's report with this id.
     pub fn terms(&self, firm: &FirmId, id: &Id) -> Option<Terms>
         ensures { result ≡ option_map terms_of (report_by self.now firm.now id.now) }
     {
-        let at = last_by(&self.reports, &self.by_id, &self.seed, firm, id);
+        let at = self.last_by(firm, id);
         if at == 0 {
             return None;
         }
@@ -266,7 +206,7 @@ impl Trades {
     pub fn standing(&self, firm: &FirmId, id: &Id) -> Option<Standing>
         ensures { result ≡ option_map (standing_in self.now) (report_by self.now firm.now id.now) }
     {
-        let at = last_by(&self.reports, &self.by_id, &self.seed, firm, id);
+        let at = self.last_by(firm, id);
         if at == 0 {
             return None;
         }
@@ -322,15 +262,7 @@ impl Trades {
     fn matching(&self, match_id: &Id) -> Matching
         ensures { result ≡ matching_of (with_match match_id.now self.now) }
     {
-        let number = match_number(&self.seed, match_id);
-        let last = last_with(
-            &self.reports,
-            &self.by_match,
-            &self.seed,
-            match_id,
-            number,
-            None,
-        );
+        let (last, _) = self.last_two(match_id);
         Matching::behind(last)
     }
 
@@ -341,13 +273,14 @@ impl Trades {
         ensures taken { OnOk result (self.new ≡ self.old ++ report.now ∷ []) }
         ensures refused { OnErr result (self.new ≡ self.old) }
     {
-        add(
-            &mut self.reports,
-            &mut self.by_id,
-            &mut self.by_match,
-            &self.seed,
-            report,
-        )?;
+        // The growths come first, so that a refusal leaves all as it was.
+        self.by_id.reserve()?;
+        self.by_match.reserve()?;
+        self.reports.push(report)?;
+        self.by_id
+            .push(id_number(&self.seed, report.firm(), report.id()));
+        self.by_match
+            .push(match_number(&self.seed, report.match_id()));
         Ok(())
     }
 }

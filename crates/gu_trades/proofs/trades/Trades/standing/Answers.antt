@@ -1,28 +1,23 @@
-use Rattle.std.proofs.Common.{◌∙◌, sym, ap, ◌-◌, slice_get, List, Some}
+use Rattle.std.proofs.Common.{◌∙◌, sym, ap, ◌-◌, slice_get, Some}
 use Rattle.std.specs.Option.{option_map}
-use Rattle.gu_terms.specs.declared.report.Report.{Report}
 use Rattle.gu_trades.specs.Counterparts.{standing_in}
-use Rattle.gu_trades.specs.Reports.{report_by}
 use Rattle.gu_trades.specs.Terms.{terms_of}
 use Rattle.gu_trades.proofs.ReportPlaces.{by-found, by-none, by-within, standing-is}
 use Rattle.gu_trades.proofs.trades.Trades.standing.Goals as goal
 
 pub returns-then-at-eq0 : goal.returns-then-at-eq0
 returns-then-at-eq0 c =
-    ap (option_map (standing_in c.args.self.now)) (sym (by-none c.self.inside.reports c.args.firm.now c.args.id.now c.last_by-at.result c.self.invariant.sound c.last_by-at.ensures c.if-at-eq0.true)
-    ∙ ap (λ reports. report_by reports c.args.firm.now c.args.id.now) c.self.view_is)
+    ap (option_map (standing_in c.args.self.now)) (sym (by-none c.args.self.now c.args.firm.now c.args.id.now c.last_by-at.result c.last_by-at.ensures.sound c.last_by-at.ensures.placed c.if-at-eq0.true))
 
 pub kept-requires : goal.kept-requires
-kept-requires c = by-within c.self.inside.reports c.args.firm.now c.args.id.now c.last_by-at.result c.self.invariant.sound c.last_by-at.ensures c.if-at-eq0.false
+kept-requires c = rw c.self.view_is (by-within c.args.self.now c.args.firm.now c.args.id.now c.last_by-at.result c.last_by-at.ensures.sound c.last_by-at.ensures.placed c.if-at-eq0.false)
 
 pub is_of_trade-requires : goal.is_of_trade-requires
-is_of_trade-requires c = rw (← c.self.view_is) (by-within c.self.inside.reports c.args.firm.now c.args.id.now c.last_by-at.result c.self.invariant.sound c.last_by-at.ensures c.if-at-eq0.false)
+is_of_trade-requires c = (by-within c.args.self.now c.args.firm.now c.args.id.now c.last_by-at.result c.last_by-at.ensures.sound c.last_by-at.ensures.placed c.if-at-eq0.false)
 
 pub returns : goal.returns
 returns c =
     let own = ap (option_map terms_of) (rw c.self.view_is at c.kept.ensures) ∙ ap Some (sym c.terms.ensures) in
     sym (standing-is c.args.self.now (slice_get c.args.self.now (c.last_by-at.result - 1)) c.terms.result c.is_of_trade.result own c.is_of_trade.ensures)
     ∙ ap (option_map (standing_in c.args.self.now))
-    (ap (λ (reports : List Report). slice_get reports (c.last_by-at.result - 1)) (sym c.self.view_is)
-    ∙ sym (by-found c.self.inside.reports c.args.firm.now c.args.id.now c.last_by-at.result c.self.invariant.sound c.last_by-at.ensures c.if-at-eq0.false)
-    ∙ ap (λ reports. report_by reports c.args.firm.now c.args.id.now) c.self.view_is)
+    (sym (by-found c.args.self.now c.args.firm.now c.args.id.now c.last_by-at.result c.last_by-at.ensures.sound c.last_by-at.ensures.placed c.if-at-eq0.false))
