@@ -119,6 +119,7 @@ impl HashIndex {
     }
 
     /// Makes room for one more number.
+    #[inline(always)]
     pub(crate) fn reserve(&mut self) -> Result<(), AllocError>
         ensures numbers { self.new.numbers ≡ self.old.numbers }
         ensures room { OnOk result (0 < self.new.spare) }
@@ -126,6 +127,15 @@ impl HashIndex {
         if self.links.len() < self.last.len() {
             return Ok(());
         }
+        self.grow()
+    }
+
+    /// Doubles the rows, and links all places along them.
+    #[cold]
+    fn grow(&mut self) -> Result<(), AllocError>
+        ensures numbers { self.new.numbers ≡ self.old.numbers }
+        ensures room { OnOk result (0 < self.new.spare) }
+    {
         let rows = (2 * self.last.len()).max(FEWEST_ROWS);
         if rows > MOST_ROWS {
             return Err(AllocError);
@@ -144,7 +154,7 @@ impl HashIndex {
     {
         let row = number as usize % self.last.len();
         let before = self.last[row];
-        let _ = self.links.push(Link { number, before });
+        self.links.push_reserved(Link { number, before });
         self.last[row] = self.links.len() as u32;
     }
 }

@@ -68,7 +68,7 @@ fn add(
     let kept = Packed::of(report, texts.len() as u32);
     rows.reserve(1)?;
     append_texts(texts, report)?;
-    let _ = rows.push(kept);
+    rows.push_reserved(kept);
     Ok(())
 }
 
