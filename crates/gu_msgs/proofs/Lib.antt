@@ -8,6 +8,7 @@ mod StandingLemmas
 mod TableLemmas
 mod HeldLemmas
 mod OutlineLemmas
+mod OnlyValues
 mod AllocLemmas
 mod DateLemmas
 pub mod NoFault

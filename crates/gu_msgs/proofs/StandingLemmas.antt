@@ -130,7 +130,7 @@ standing_new fields f tag number is none same = record {
 -- ---- a table
 
 -- a row of a table lists its tag
-listed_at : (rows : List Row) (tag place : ℕ) → IsRowOf rows tag place → is_listed rows tag ≡ true
+pub listed_at : (rows : List Row) (tag place : ℕ) → IsRowOf rows tag place → is_listed rows tag ≡ true
 listed_at rows tag place is = list_any_at (λ row. tag_of row == tag) rows place (Required 0 Text) is.within (eq-eqb (tag_of (row_at rows place)) tag is.tagged)
 
 -- what is noted are the standings with one field more

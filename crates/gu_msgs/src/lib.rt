@@ -58,10 +58,10 @@ pub use laws::{
 };
 pub use midnight::midnight_of;
 pub use outbound::{Outbound, OutboundRef};
-pub use reading::read;
+pub use reading::{ReadMessage, read, read_with_header};
 pub use reject_reason::SessionRejectReason;
 pub use rejection::{Rejection, TradeReportRejectReason};
-pub use sending_firm::sender;
+pub use sending_firm::{sender, sender_in};
 pub use standard_header::{Header, HeaderRef};
 pub use tags::{NEW_SEQ_NO, SENDER_COMP_ID, TARGET_COMP_ID};
 pub use test_req_id::TestReqId;

@@ -12,6 +12,7 @@ ghost use Rattle.gu_msgs.specs.Messages.{IsFlag};
 ghost use Rattle.gu_msgs.specs.Outlines.{AreJudged, CountsEntries, HasOneEntry, IsCounter, IsPlain, MayMean, Means, ReadsTo, ReadsToOrMemory, entry_rows_at, row, tag_at, value_at};
 ghost use Rattle.gu_msgs.specs.Rows.{is_required, kind_of};
 ghost use Rattle.gu_msgs.specs.Shape.{fault_at, shape_fault};
+ghost use Rattle.gu_msgs.specs.StandardHeader.{IsHeaderIn};
 ghost use Rattle.gu_msgs.specs.Standings.{AreStandings};
 ghost use Rattle.gu_msgs.specs.Tables.{entry_rows, outer_rows};
 ghost use Rattle.gu_msgs.specs.declared.row.Kind.TheVariants as kind;
@@ -25,6 +26,7 @@ use crate::msg_type::MsgType;
 use crate::reject_reason::SessionRejectReason;
 use crate::run::Run;
 use crate::shape::fault_at;
+use crate::standard_header::HeaderRef;
 use crate::standings::{Standings, value_numbered};
 use crate::tables::{GREATEST, outer_rows};
 use crate::test_req_id::TestReqId;
@@ -32,7 +34,13 @@ use gu_terms::{AccountId, Day, Id, Lots, OfferNo, Price, Symbol};
 use std::alloc::Global;
 use std::marker::Model;
 
-/// The places of MsgSeqNum and PossDupFlag in each table.
+/// The places of the header's tags in each table.
+const MSG_TYPE_PLACE: usize = 2;
+
+const SENDER_COMP_ID_PLACE: usize = 3;
+
+const TARGET_COMP_ID_PLACE: usize = 4;
+
 const MSG_SEQ_NUM_PLACE: usize = 5;
 
 const POSS_DUP_FLAG_PLACE: usize = 7;
@@ -266,6 +274,22 @@ impl<'n, 'a> Outline<'n, 'a> {
         self.number(MSG_SEQ_NUM_PLACE, 0, GREATEST)?;
         self.flag(POSS_DUP_FLAG_PLACE)?;
         Ok(())
+    }
+
+    /// What the header says, where it lies: none of its tags is there twice.
+    #[inline(always)]
+    pub fn header_in(&self) -> HeaderRef<'a>
+        ensures { IsHeaderIn self.now.fields result }
+    {
+        // Shows the prover: the shape is sound.
+        let _ = &self.fields;
+        HeaderRef {
+            msg_type: Some(self.required(MSG_TYPE_PLACE)),
+            sender_comp_id: Some(self.required(SENDER_COMP_ID_PLACE)),
+            target_comp_id: Some(self.required(TARGET_COMP_ID_PLACE)),
+            msg_seq_num: Some(self.required(MSG_SEQ_NUM_PLACE)),
+            poss_dup_flag: self.text(POSS_DUP_FLAG_PLACE),
+        }
     }
 
     /// How many entries the group has that a row counts.

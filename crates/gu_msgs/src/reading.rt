@@ -2,16 +2,18 @@
 
 ghost use Rattle.std.specs.Prelude.{◌≡◌, Some, IfErr, IfOk, MatchResult};
 ghost use Rattle.gu_fix.specs.declared.tag.TheConstants.{MSG_TYPE};
-ghost use Rattle.gu_msgs.specs.Faults.{IsRefusal, untyped_fault};
+ghost use Rattle.gu_msgs.specs.Faults.{IsFaultOf, IsRefusal, untyped_fault};
 ghost use Rattle.gu_msgs.specs.Messages.{Says};
 ghost use Rattle.gu_msgs.specs.MsgTypes.{code_of};
 ghost use Rattle.gu_msgs.specs.Outlines.{AreJudged, IsShaped, IsTypedRefusal};
+ghost use Rattle.gu_msgs.specs.StandardHeader.{IsHeaderIn};
 ghost use Rattle.gu_msgs.specs.Values.{first_value};
 
 use crate::allocation_instruction::read_allocation_instruction;
 use crate::allocation_report_ack::read_allocation_report_ack;
 use crate::fault::{Fault, MsgFault};
 use crate::field_values::first_value;
+use crate::header_reading::header_in;
 use crate::inbound::Inbound;
 use crate::msg_type::MsgType;
 use crate::outline::Outline;
@@ -22,12 +24,27 @@ use crate::session_messages::{
     read_logon, read_resend_request, read_sequence_reset, read_test_request,
 };
 use crate::shape::{fault_at, shape_fault};
+use crate::standard_header::HeaderRef;
 use crate::standings::{NONE_STANDS, standings};
 use crate::tables::header_rows;
 use crate::trade_capture_report::read_trade_capture_report;
 use crate::type_code::TypeCode;
 use gu_fix::{Fields, MSG_TYPE};
-use std::alloc::Global;
+use std::alloc::{AllocError, Global};
+
+/// What is read of a message: what it says or its first fault, and its header.
+#[derive(Drop)]
+pub struct ReadMessage<'a> {
+    pub content: Result<Inbound, Fault>,
+    pub header: HeaderRef<'a>,
+}
+
+/// A message without a fault, and its header.
+#[derive(Drop)]
+struct SoundMessage<'a> {
+    message: Inbound,
+    header: HeaderRef<'a>,
+}
 
 /// A message of this type whose shape is sound, and its header, unless some value isn't allowed.
 #[inline(always)]
@@ -56,9 +73,15 @@ fn read_outlined(
 }
 
 /// A message of this type.
-fn read_typed(alloc: Global, fields: Run<'_>, msg_type: MsgType) -> Result<Inbound, MsgFault>
+#[inline(always)]
+fn read_typed<'a>(
+    alloc: Global,
+    fields: Run<'a>,
+    msg_type: MsgType,
+) -> Result<SoundMessage<'a>, MsgFault>
     requires { first_value MSG_TYPE fields ≡ Some (code_of msg_type) }
-    ensures { MatchResult result (Says fields.entry) (IsTypedRefusal msg_type fields.entry) }
+    ensures read { MatchResult result (λ sound. Says fields.entry sound.message) (IsTypedRefusal msg_type fields.entry) }
+    ensures header { IfOk result (λ sound. IsHeaderIn fields.entry sound.header) }
 {
     let mut numbers = NONE_STANDS;
     if let Some(fault) = shape_fault(&fields, msg_type, &mut numbers) {
@@ -66,7 +89,9 @@ fn read_typed(alloc: Global, fields: Run<'_>, msg_type: MsgType) -> Result<Inbou
     }
     let outline = Outline::new(fields, msg_type, &numbers);
     outline.header()?;
-    read_outlined(alloc, &outline, msg_type)
+    let message = read_outlined(alloc, &outline, msg_type)?;
+    let header = outline.header_in();
+    Ok(SoundMessage { message, header })
 }
 
 /// The fault of fields without a type.
@@ -80,9 +105,10 @@ fn untyped_fault(fields: &Run<'_>) -> Fault
     }
 }
 
-/// What a message's fields say, or their first fault.
-pub fn read(alloc: Global, fields: &Fields) -> Result<Inbound, MsgFault>
-    ensures says { IfOk result (Says fields.now) }
+/// A message without a fault, or the first fault of its fields.
+fn read_sound(alloc: Global, fields: &Fields) -> Result<SoundMessage<'_>, MsgFault>
+    ensures says { IfOk result (λ sound. Says fields.now sound.message) }
+    ensures header { IfOk result (λ sound. IsHeaderIn fields.now sound.header) }
     ensures refused { IfErr result (IsRefusal fields.now) }
 {
     let all = Run::of(fields);
@@ -93,7 +119,39 @@ pub fn read(alloc: Global, fields: &Fields) -> Result<Inbound, MsgFault>
         return read_typed(alloc, all, msg_type);
     }
     match TypeCode::new(text) {
-        Some(code) => Ok(Inbound::Unread(code)),
+        Some(code) => Ok(SoundMessage {
+            message: Inbound::Unread(code),
+            header: header_in(fields),
+        }),
         None => Err(MsgFault::Rejected(fault_at(SessionRejectReason::InvalidMsgType, MSG_TYPE))),
+    }
+}
+
+/// What a message's fields say, or their first fault.
+pub fn read(alloc: Global, fields: &Fields) -> Result<Inbound, MsgFault>
+    ensures says { IfOk result (Says fields.now) }
+    ensures refused { IfErr result (IsRefusal fields.now) }
+{
+    match read_sound(alloc, fields) {
+        Ok(sound) => Ok(sound.message),
+        Err(fault) => Err(fault),
+    }
+}
+
+/// The same, and what the header says, whether or not there is a fault.
+pub fn read_with_header(alloc: Global, fields: &Fields) -> Result<ReadMessage<'_>, AllocError>
+    ensures content { IfOk result (λ read. MatchResult read.content (Says fields.now) (IsFaultOf fields.now)) }
+    ensures header { IfOk result (λ read. IsHeaderIn fields.now read.header) }
+{
+    match read_sound(alloc, fields) {
+        Ok(sound) => Ok(ReadMessage {
+            content: Ok(sound.message),
+            header: sound.header,
+        }),
+        Err(MsgFault::Rejected(fault)) => Ok(ReadMessage {
+            content: Err(fault),
+            header: header_in(fields),
+        }),
+        Err(MsgFault::Memory) => Err(AllocError),
     }
 }

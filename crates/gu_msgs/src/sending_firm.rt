@@ -1,34 +1,45 @@
 //! Who sent a message that no session carries.
 
-ghost use Rattle.std.specs.Prelude.{◌≡◌, ◌↔◌, IsTrue, MatchOption};
+ghost use Rattle.std.specs.Prelude.{◌≡◌, ◌↔◌, IsTrue, List, MatchOption};
+ghost use Rattle.std.specs.Option.{option_map};
+ghost use Rattle.gu_fix.specs.TagValue.{TagValue};
 ghost use Rattle.gu_terms.specs.declared.firm.FirmId.{FirmId as FirmOf};
-ghost use Rattle.gu_msgs.specs.Sender.{IsNumbered, IsSentBy};
+ghost use Rattle.gu_msgs.specs.Kinds.{IsNumberWithin};
+ghost use Rattle.gu_msgs.specs.Sender.{IsSentBy};
+ghost use Rattle.gu_msgs.specs.StandardHeader.{IsHeaderIn};
+ghost use Rattle.gu_msgs.specs.Tables.{greatest};
 
-use crate::field_values::only_value;
+use crate::header_reading::header_in;
 use crate::kinds::number;
-use crate::run::Run;
+use crate::standard_header::HeaderRef;
 use crate::tables::GREATEST;
-use crate::tags::{MSG_SEQ_NUM, SENDER_COMP_ID};
 use gu_fix::Fields;
 use gu_terms::FirmId;
 
-/// Whether the message has a number that a message of a session can have.
-fn is_numbered(fields: &Run<'_>) -> bool
-    ensures { IsTrue result ↔ IsNumbered fields.now }
+/// Whether a message with this MsgSeqNum has a number that a message of a session can have.
+fn is_numbered(text: Option<&[u8]>) -> bool
+    ensures { IsTrue result ↔ MatchOption (option_map (λ bytes. bytes.now) text.entry) ⊥ (IsNumberWithin 1 greatest) }
 {
-    match only_value(fields, MSG_SEQ_NUM) {
+    match text {
         Some(text) => number(text, 1, GREATEST).is_ok(),
         None => false,
     }
+}
+
+/// The firm that sent a message with this header, where it is numbered and names one.
+pub fn sender_in(header: &HeaderRef<'_>) -> Option<FirmId>
+    ensures { (fields : List TagValue) → IsHeaderIn fields header.now
+        → MatchOption result ((firm : FirmOf) → IsSentBy fields firm → ⊥) (λ firm. IsSentBy fields firm) }
+{
+    if !is_numbered(header.msg_seq_num) {
+        return None;
+    }
+    FirmId::new(header.sender_comp_id?)
 }
 
 /// The firm that sent a message, where it is numbered and names one.
 pub fn sender(fields: &Fields) -> Option<FirmId>
     ensures { MatchOption result ((firm : FirmOf) → IsSentBy fields.now firm → ⊥) (λ firm. IsSentBy fields.now firm) }
 {
-    let all = Run::of(fields);
-    if !is_numbered(&all) {
-        return None;
-    }
-    FirmId::new(only_value(&all, SENDER_COMP_ID)?)
+    sender_in(&header_in(fields))
 }
