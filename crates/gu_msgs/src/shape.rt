@@ -147,12 +147,24 @@ fn groups_fault(fields: &Run<'_>, msg_type: MsgType, numbers: &Standings) -> Opt
 
 /// Finds where the outer tags of a message stand first, or the first fault of its shape.
 #[inline(always)]
-pub fn shape_fault(fields: &Run<'_>, msg_type: MsgType, numbers: &mut Standings) -> Option<Fault>
+fn typed_fault(fields: &Run<'_>, msg_type: MsgType, numbers: &mut Standings) -> Option<Fault>
     ensures fault { MatchOption result (shape_fault msg_type fields.now ≡ None) (λ fault. shape_fault msg_type fields.now ≡ Some fault) }
     ensures first { MatchOption result (AreStandings (outer_rows msg_type) fields.now numbers.new) (λ fault. ⊤) }
 {
     match table_fault(fields, outer_rows(msg_type), Some(msg_type), numbers) {
         Some(fault) => Some(fault),
         None => groups_fault(fields, msg_type, numbers),
+    }
+}
+
+/// The same. Reports, of which there are more than of all other messages, have a walk of their own, in which their table is known.
+#[inline(always)]
+pub fn shape_fault(fields: &Run<'_>, msg_type: MsgType, numbers: &mut Standings) -> Option<Fault>
+    ensures fault { MatchOption result (shape_fault msg_type fields.now ≡ None) (λ fault. shape_fault msg_type fields.now ≡ Some fault) }
+    ensures first { MatchOption result (AreStandings (outer_rows msg_type) fields.now numbers.new) (λ fault. ⊤) }
+{
+    match msg_type {
+        MsgType::TradeCaptureReport => { typed_fault(fields, MsgType::TradeCaptureReport, numbers) }
+        other => typed_fault(fields, other, numbers),
     }
 }

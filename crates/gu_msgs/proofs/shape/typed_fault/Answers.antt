@@ -1,7 +1,7 @@
 use Rattle.std.proofs.Common.{subst, sym}
 use Rattle.gu_msgs.specs.Standings.{IsTable}
 use Rattle.gu_msgs.proofs.TableLemmas.{outer_table}
-use Rattle.gu_msgs.proofs.shape.shape_fault.Goals as goal
+use Rattle.gu_msgs.proofs.shape.typed_fault.Goals as goal
 
 pub table_fault-requires-clause-table : goal.table_fault-requires-clause-table
 table_fault-requires-clause-table c = subst IsTable (sym c.outer_rows.ensures) (outer_table c.args.msg_type)
