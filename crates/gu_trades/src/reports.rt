@@ -11,6 +11,9 @@ use std::marker::Model;
 /// The bytes of texts that are kept at most, or a few more. A report that comes then is answered as for a failed allocation.
 const MOST_TEXTS: usize = 4_000_000_000;
 
+/// The bytes that the texts of a report have at most: two ids and three names.
+const LONGEST_TEXTS: usize = 2 * 64 + 3 * 12;
+
 /// Reports, in the order in which they came. To a contract it is their list.
 #[derive(Drop)]
 pub(crate) struct Reports {
@@ -36,17 +39,13 @@ fn append_texts(texts: &mut Vec<u8>, report: &ReportRef<'_>) -> Result<(), Alloc
     ensures appended { OnOk result (texts.new.items ≡ texts.old.items ++ texts_of report.now) }
     ensures refused { OnErr result (texts.new.items ≡ texts.old.items) }
 {
-    let own = report.id().get();
-    let matched = report.match_id().get();
-    let firm = report.firm().get();
-    let symbol = report.terms().symbol.get();
-    let account = report.terms().account.get();
-    texts.reserve(own.len() + matched.len() + firm.len() + symbol.len() + account.len())?;
-    let _ = texts.extend_from_slice(own);
-    let _ = texts.extend_from_slice(matched);
-    let _ = texts.extend_from_slice(firm);
-    let _ = texts.extend_from_slice(symbol);
-    let _ = texts.extend_from_slice(account);
+    texts.reserve(LONGEST_TEXTS)?;
+    let terms = report.terms();
+    report.id().append_to(texts);
+    report.match_id().append_to(texts);
+    report.firm().name.append_to(texts);
+    terms.symbol.name.append_to(texts);
+    terms.account.name.append_to(texts);
     Ok(())
 }
 
