@@ -125,7 +125,7 @@ pub accepted-touches : (reference : Tables) (history : List Entry) (totals : Tot
 accepted-touches reference history totals command (deed.Open day) group offers is = rw is refl
 accepted-touches reference history totals command (deed.SetLimit at key lots) group offers is = rw is refl
 accepted-touches reference history totals command (deed.Report report waiting) group offers is = rw is.is refl
-accepted-touches reference history totals command (deed.GiveUp firm id report lines at first) group offers is = rw is.is refl
+accepted-touches reference history totals command (deed.GiveUp asked at first) group offers is = rw is.is refl
 accepted-touches reference history totals command (deed.Claim claimed) group offers is = rw (is.is, is.group_is) (of-offer history totals group is.offer claimed.number offers is.seen.shown)
 accepted-touches reference history totals command (deed.Refuse number at lots) group offers is = rw is.is (of-group history totals group at number offers is.group_is)
 accepted-touches reference history totals command (deed.Reverse reversed) group offers is = rw (is.is, is.group_is) (of-offer history totals group is.offer reversed.number offers is.seen.shown)

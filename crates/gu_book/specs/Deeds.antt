@@ -30,6 +30,7 @@ use Rattle.gu_rules.specs.Positions.{report_after}
 use Rattle.gu_book.specs.Beside.{state_in, waiting_of}
 use Rattle.gu_book.specs.declared.deed.Deed.{Deed}
 use Rattle.gu_book.specs.declared.deed.Deed.TheVariants.{Open, SetLimit, Report as Reports, GiveUp, Claim, Refuse, Reverse}
+use Rattle.gu_book.specs.declared.deed.GiveUpRef.{GiveUpRef}
 use Rattle.gu_book.specs.declared.deed.Moved.{Moved}
 use Rattle.gu_book.specs.declared.totals.Totals.{Totals}
 use Rattle.gu_book.specs.declared.versions.Touched.{Touched}
@@ -40,7 +41,7 @@ abbrev pub done_by : Deed → Done
 done_by (Open day) = Opened
 done_by (SetLimit group key lots) = LimitSet
 done_by (Reports report waiting) = Reported (is_some waiting)
-done_by (GiveUp firm id report lines group first) = Offered group first (length lines.now)
+done_by (GiveUp asked group first) = Offered group first (length asked.lines.now)
 done_by (Claim claimed) = Claimed claimed.lots
 done_by (Refuse number group lots) = Refused lots
 done_by (Reverse reversed) = Reversed reversed.lots
@@ -50,7 +51,7 @@ abbrev pub touched_by : Deed → Touched
 touched_by (Open day) = Every
 touched_by (SetLimit group key lots) = Only group
 touched_by (Reports report waiting) = Nothing
-touched_by (GiveUp firm id report lines group first) = Only group
+touched_by (GiveUp asked group first) = Only group
 touched_by (Claim claimed) = Only claimed.group
 touched_by (Refuse number group lots) = Only group
 touched_by (Reverse reversed) = Only reversed.group
@@ -88,9 +89,9 @@ pub record MakesReport (totals : Totals) (command : Command) (report : Report) (
   pub met : waiting ≡ waiting_of (counterpart_of (with_match report.match_id totals.trades) (terms_of report))
 
 -- a command gives these lines up, of a report of this group
-pub record GivesLines (reference : Tables) (totals : Totals) (command : Command) (firm : FirmId) (id report : Id) (lines : List Line) (group : Group) : Type 0 where
-  pub is : command ≡ asked.GiveUp firm id report lines
-  pub group_is : option_map (λ g. g.1) (given_up reference (state_in totals) firm report) ≡ Some group
+pub record GivesLines (reference : Tables) (totals : Totals) (command : Command) (given : GiveUpRef) (group : Group) : Type 0 where
+  pub is : command ≡ asked.GiveUp given.firm.now given.id.now given.report.now given.lines.now
+  pub group_is : option_map (λ g. g.1) (given_up reference (state_in totals) given.firm.now given.report.now) ≡ Some group
 
 -- a command refuses an offer of this group
 pub record RefusesOffer (totals : Totals) (command : Command) (number : ℕ) (group : Group) : Type 0 where
@@ -104,7 +105,7 @@ abbrev pub IsDeedOf : Tables → Totals → Command → Deed → Type 0
 IsDeedOf reference totals command (Open day) = command ≡ asked.OpenDay day
 IsDeedOf reference totals command (SetLimit group key lots) = command ≡ asked.SetLimit group key lots
 IsDeedOf reference totals command (Reports report waiting) = MakesReport totals command report waiting
-IsDeedOf reference totals command (GiveUp firm id report lines group first) = GivesLines reference totals command firm.now id.now report.now lines.now group
+IsDeedOf reference totals command (GiveUp asked group first) = GivesLines reference totals command asked group
 IsDeedOf reference totals command (Claim claimed) = MovesLots reference totals command asked.Claim claimed (left_in totals.offers claimed.number)
 IsDeedOf reference totals command (Refuse number group lots) = RefusesOffer totals command number group
 IsDeedOf reference totals command (Reverse reversed) = MovesLots reference totals command asked.Reverse reversed (today_in totals.offers reversed.number)

@@ -8,6 +8,7 @@ ghost use Rattle.std.specs.Result.{result_err};
 ghost use Rattle.gu_limits.specs.Limits.{AreLimitsOf, room_in};
 ghost use Rattle.gu_ref.specs.Reference.{partner_between};
 ghost use Rattle.gu_ref.specs.Tables.{Tables};
+ghost use Rattle.gu_terms.specs.declared.alloc_reject.AllocReject.{AllocReject as AllocRejectOf};
 ghost use Rattle.gu_terms.specs.declared.firm.FirmId.{FirmId as FirmIdOf};
 ghost use Rattle.gu_terms.specs.declared.reply.Done.TheVariants.{LimitSet, Opened, Reported};
 ghost use Rattle.gu_terms.specs.declared.reply.Reply.TheVariants.{Accepted, Denied};
@@ -20,13 +21,13 @@ ghost use Rattle.gu_offers.specs.Rows.{Row, left_in, row_at, today_in};
 ghost use Rattle.gu_book.specs.Beside.{answer_to_match, group_named_by, some_lots, standing_given_up, state_in, waiting_of};
 ghost use Rattle.gu_book.specs.Deeds.{HaveReports, IsDeedOf, reply_by};
 
-use crate::deed::{Deed, Moved};
+use crate::deed::{Deed, GiveUpRef, Moved};
 use crate::totals::Totals;
 use gu_limits::{LimitTable, PathLimits, path_by};
 use gu_ref::{Partner, Reference};
 use gu_terms::{
-    AllocReject, Command, Day, FirmId, Group, Id, LimitKey, Line, Lines, Lots, MOST_LIMIT,
-    MOST_OPEN_OFFERS, Offer, OfferNo, Path, Refusal,
+    Command, Day, FirmId, Group, Id, LimitKey, Line, Lots, MOST_LIMIT, MOST_OPEN_OFFERS, Offer,
+    OfferNo, Path, Refusal,
 };
 use gu_trades::{Counterpart, ReportRef, Standing, Terms};
 
@@ -199,27 +200,25 @@ fn lacks_agreement(reference: &Reference, firm: &FirmId, lines: &[Line]) -> bool
 /// Why lines of a firm's report can't be given up in its group, if they can't.
 fn refusal_of_lines(
     totals: &Totals,
-    firm: &FirmId,
-    report: &Id,
-    standing: &Standing,
-    group: &Group,
-    lines: &Lines,
+    asked: GiveUpRef<'_>,
+    given: &(Standing, Group),
     lacks: bool,
 ) -> Option<Refusal>
-    ensures { (reference : Tables) → lacks ≡ lacks_agreement reference firm.now lines.now
-        → result ≡ refusal_in (tests_of_lines reference totals.now.offers firm.now report.now standing.now group.now lines.now) }
+    ensures { (reference : Tables) → lacks ≡ lacks_agreement reference asked.entry.firm.now asked.entry.lines.now
+        → result ≡ refusal_in (tests_of_lines reference totals.now.offers asked.entry.firm.now asked.entry.report.now given.now.0 given.now.1 asked.entry.lines.now) }
 {
+    let (standing, group) = given;
     if !standing.is_of_trade {
         return Some(Refusal::NotMatched);
     }
     if lacks {
         return Some(Refusal::NoAgreement);
     }
-    let counted = totals.offers.counted(*firm, *report);
-    if standing.terms.lots.get().saturating_sub(counted) < lines.lots() {
+    let counted = totals.offers.counted(*asked.firm, *asked.report);
+    if standing.terms.lots.get().saturating_sub(counted) < asked.lines.lots() {
         return Some(Refusal::TooManyLots);
     }
-    if MOST_OPEN_OFFERS - lines.as_slice().len() < totals.offers.open_count(*group) {
+    if MOST_OPEN_OFFERS - asked.lines.as_slice().len() < totals.offers.open_count(*group) {
         return Some(Refusal::TooManyOffers);
     }
     None
@@ -229,37 +228,31 @@ fn refusal_of_lines(
 fn decide_give_up<'a>(
     reference: &Reference,
     totals: &Totals,
-    firm: &'a FirmId,
-    id: &'a Id,
-    report: &'a Id,
-    lines: &'a Lines,
+    asked: GiveUpRef<'a>,
 ) -> Result<Deed<'a>, Refusal>
     requires { length totals.now.offers < 16000000 }
-    ensures reply { reply_by result ≡ answer_in reference.now (state_in totals.now) (Command.GiveUp firm.now id.now report.now lines.now) }
-    ensures deed { IfOk result (IsDeedOf reference.now totals.now (Command.GiveUp firm.now id.now report.now lines.now)) }
+    ensures reply { reply_by result ≡ answer_in reference.now (state_in totals.now) (Command.GiveUp asked.entry.firm.now asked.entry.id.now asked.entry.report.now asked.entry.lines.now) }
+    ensures deed { IfOk result (IsDeedOf reference.now totals.now (Command.GiveUp asked.entry.firm.now asked.entry.id.now asked.entry.report.now asked.entry.lines.now)) }
 {
     if totals.today.is_none() {
         return Err(Refusal::NoDay);
     }
-    let lacks = lacks_agreement(reference, firm, lines.as_slice());
-    if has_unknown_account_without(reference, lines.as_slice(), lacks) {
+    let lacks = lacks_agreement(reference, asked.firm, asked.lines.as_slice());
+    if has_unknown_account_without(reference, asked.lines.as_slice(), lacks) {
         return Err(Refusal::UnknownAccount);
     }
-    if totals.has_give_up(firm, id) {
+    if totals.has_give_up(asked.firm, asked.id) {
         return Err(Refusal::DuplicateId);
     }
-    let Some((standing, group)) = given_up(reference, totals, firm, report) else {
+    let Some(given) = given_up(reference, totals, asked.firm, asked.report) else {
         return Err(Refusal::UnknownTrade);
     };
-    if let Some(refusal) = refusal_of_lines(totals, firm, report, &standing, &group, lines, lacks) {
+    if let Some(refusal) = refusal_of_lines(totals, asked, &given, lacks) {
         return Err(refusal);
     }
     Ok(Deed::GiveUp {
-        firm,
-        id,
-        report,
-        lines,
-        group,
+        asked,
+        group: given.1,
         first: OfferNo::known(totals.offers.count() as u64 + 1),
     })
 }
@@ -410,16 +403,15 @@ fn decide_claim<'a>(
     Ok(Deed::Claim { claimed })
 }
 
-/// Decides a refusal.
+/// Decides a refusal, whatever its reason.
 fn decide_refusal<'a>(
     reference: &Reference,
     totals: &Totals,
     firm: FirmId,
     number: OfferNo,
-    why: AllocReject,
 ) -> Result<Deed<'a>, Refusal>
-    ensures reply { reply_by result ≡ answer_in reference.now (state_in totals.now) (Command.Refuse firm number why) }
-    ensures deed { IfOk result (IsDeedOf reference.now totals.now (Command.Refuse firm number why)) }
+    ensures reply { (why : AllocRejectOf) → reply_by result ≡ answer_in reference.now (state_in totals.now) (Command.Refuse firm number why) }
+    ensures deed { (why : AllocRejectOf) → IfOk result (IsDeedOf reference.now totals.now (Command.Refuse firm number why)) }
 {
     let (offer, _) = offer_to(reference, totals, firm, number)?;
     let Some(lots) = lots_left(totals, number) else {
@@ -506,11 +498,21 @@ pub fn decide<'a>(
             id,
             report,
             lines,
-        } => decide_give_up(reference, totals, firm, id, report, lines),
-        Command::Claim { firm, offer } => decide_claim(reference, totals, *firm, *offer),
-        Command::Refuse { firm, offer, why } => {
-            decide_refusal(reference, totals, *firm, *offer, *why)
+        } => {
+            let asked = GiveUpRef {
+                firm,
+                id,
+                report,
+                lines,
+            };
+            decide_give_up(reference, totals, asked)
         }
+        Command::Claim { firm, offer } => decide_claim(reference, totals, *firm, *offer),
+        Command::Refuse {
+            firm,
+            offer,
+            why: _,
+        } => decide_refusal(reference, totals, *firm, *offer),
         Command::Reverse { firm, offer } => decide_reversal(reference, totals, *firm, *offer),
     }
 }

@@ -22,6 +22,15 @@ pub struct Moved {
     pub lots: Lots,
 }
 
+/// A give-up as a firm asks for it: its parts stay where they are.
+#[derive(Clone, Copy)]
+pub struct GiveUpRef<'a> {
+    pub firm: &'a FirmId,
+    pub id: &'a Id,
+    pub report: &'a Id,
+    pub lines: &'a Lines,
+}
+
 /// What an accepted command does, with all that was found as it was decided.
 #[derive(Drop)]
 pub enum Deed<'a> {
@@ -39,10 +48,7 @@ pub enum Deed<'a> {
         waiting: Option<Terms>,
     },
     GiveUp {
-        firm: &'a FirmId,
-        id: &'a Id,
-        report: &'a Id,
-        lines: &'a Lines,
+        asked: GiveUpRef<'a>,
         group: Group,
         first: OfferNo,
     },
@@ -71,14 +77,13 @@ impl<'a> Deed<'a> {
                 matched: waiting.is_some(),
             },
             Deed::GiveUp {
-                lines,
+                asked,
                 group,
                 first,
-                ..
             } => Done::Offered {
                 group: *group,
                 first: *first,
-                count: lines.as_slice().len() as u64,
+                count: asked.lines.as_slice().len() as u64,
             },
             Deed::Claim { claimed } => Done::Claimed { lots: claimed.lots },
             Deed::Refuse { lots, .. } => Done::Refused { lots: *lots },

@@ -24,16 +24,13 @@ pub fn take_in(totals: &mut Totals, deed: &Deed<'_>) -> Result<(), AllocError>
         Deed::SetLimit { group, key, lots } => totals.set_limit(group, key, *lots),
         Deed::Report { report, waiting } => totals.report(report, waiting),
         Deed::GiveUp {
-            firm,
-            id,
-            report,
-            lines,
+            asked,
             group,
             first: _,
         } => {
-            // The lines tell how many they are.
-            let _ = lines.as_slice();
-            totals.give_up(*firm, *id, *report, group, *lines)
+            // Shows the prover: how many lines there may be.
+            let _ = asked.lines.as_slice();
+            totals.give_up(asked, group)
         }
         Deed::Claim { claimed } => totals.claim(claimed),
         Deed::Refuse {

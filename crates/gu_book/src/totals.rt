@@ -20,11 +20,11 @@ ghost use Rattle.gu_book.specs.Beside.{is_kept_give_up, waiting_of};
 ghost use Rattle.gu_book.specs.Effects.{HoldsMore, HoldsMoved, IsEven, KeepsMade, OnlyRowsOf, SameAnswers, SameEntries, UsesNothing, made_a_trade};
 ghost use Rattle.gu_book.specs.Moving.{given_by};
 
-use crate::deed::Moved;
+use crate::deed::{GiveUpRef, Moved};
 use gu_limits::LimitTable;
 use gu_offers::Offers;
 use gu_positions::{Positions, RowNo};
-use gu_terms::{AccountId, Day, FirmId, Group, Id, LimitKey, Lines, Offer, OfferNo, Seed, Symbol};
+use gu_terms::{AccountId, Day, FirmId, Group, Id, LimitKey, Offer, OfferNo, Seed, Symbol};
 use gu_trades::{ReportRef, Terms, Trades};
 use indexmap::IndexSet;
 use std::alloc::{AllocError, Global};
@@ -168,29 +168,23 @@ impl Totals {
     }
 
     /// Lines of a report are given up.
-    pub fn give_up(
-        &mut self,
-        firm: &FirmId,
-        id: &Id,
-        report: &Id,
-        group: &Group,
-        lines: &Lines,
-    ) -> Result<(), AllocError>
-        requires new_id { is_kept_give_up self.old.give_ups.keys firm.now id.now ≡ false }
-        requires numbers { length self.old.offers + length lines.now ≤ 16000000 }
+    pub fn give_up(&mut self, asked: &GiveUpRef<'_>, group: &Group) -> Result<(), AllocError>
+        requires new_id { is_kept_give_up self.old.give_ups.keys asked.now.firm.now asked.now.id.now ≡ false }
+        requires numbers { length self.old.offers + length asked.now.lines.now ≤ 16000000 }
         ensures today { self.new.today ≡ self.old.today }
         ensures trades { self.new.trades ≡ self.old.trades }
-        ensures give_ups { OnOk result (self.new.give_ups.keys ≡ self.old.give_ups.keys ++ record { firm = firm.now; id = id.now } ∷ []) }
-        ensures offers { OnOk result (self.new.offers ≡ with_lines self.old.offers firm.now report.now group.now lines.now) }
+        ensures give_ups { OnOk result (self.new.give_ups.keys ≡ self.old.give_ups.keys ++ record { firm = asked.now.firm.now; id = asked.now.id.now } ∷ []) }
+        ensures offers { OnOk result (self.new.offers ≡ with_lines self.old.offers asked.now.firm.now asked.now.report.now group.now asked.now.lines.now) }
         ensures limits { self.new.limits ≡ self.old.limits }
         ensures positions { self.new.positions ≡ self.old.positions }
         ensures refused { OnErr result (SameAnswers self.old self.new) }
     {
         self.give_ups.reserve(1)?;
-        self.offers.give_up(*firm, *report, *group, lines)?;
+        self.offers
+            .give_up(*asked.firm, *asked.report, *group, asked.lines)?;
         self.give_ups.insert(GiveUpKey {
-            firm: *firm,
-            id: *id,
+            firm: *asked.firm,
+            id: *asked.id,
         })?;
         Ok(())
     }

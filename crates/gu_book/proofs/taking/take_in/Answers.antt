@@ -74,7 +74,7 @@ give_up-requires-clause-numbers c =
     let totals = c.args.totals.now in
     let at = c.in-GiveUp in
     let it = subst (MayDo c.requires.0 totals) at.is c.requires.1 in
-    give_up-numbers c.requires.0 totals at.firm.now at.id.now at.report.now at.lines.now c.as_slice.ensures.sound.most (subst (MayTakeIn c.requires.0 totals) it.is.is it.may)
+    give_up-numbers c.requires.0 totals at.asked.firm.now at.asked.id.now at.asked.report.now at.asked.lines.now c.as_slice.ensures.sound.most (subst (MayTakeIn c.requires.0 totals) it.is.is it.may)
 
 pub returns-in-GiveUp-clause-taken : goal.returns-in-GiveUp-clause-taken
 returns-in-GiveUp-clause-taken c =
@@ -85,9 +85,9 @@ returns-in-GiveUp-clause-taken c =
     subst (λ (deed : Deed). OnOk c.give_up.result (TakesDeed old new deed)) (sym at.is)
     (on_ok_two c.give_up.result
     (λ give_ups offers reference command is.
-    let given = group-given reference old at.firm.now at.report.now at.group is.group_is in
+    let given = group-given reference old at.asked.firm.now at.asked.report.now at.group is.group_is in
     subst (TakesIn reference old new) (sym is.is)
-    (give_up-taken reference old new at.firm.now at.id.now at.report.now at.lines.now given.0 at.group c.as_slice.ensures.sound.most given.1 e.today e.trades e.limits e.positions give_ups offers))
+    (give_up-taken reference old new at.asked.firm.now at.asked.id.now at.asked.report.now at.asked.lines.now given.0 at.group c.as_slice.ensures.sound.most given.1 e.today e.trades e.limits e.positions give_ups offers))
     e.give_ups e.offers)
 
 pub returns-in-GiveUp-clause-known : goal.returns-in-GiveUp-clause-known
@@ -97,7 +97,7 @@ returns-in-GiveUp-clause-known c =
     let e = c.give_up.ensures in
     subst (KeepsAccounts old c.give_up.new.self) (sym at.is)
     (λ reference may.
-    known-given_up reference old c.give_up.new.self at.firm.now at.id.now at.report.now at.lines.now at.group c.give_up.result (subst (MayTakeIn reference old) may.is.is may.may) e.trades e.positions e.offers e.refused)
+    known-given_up reference old c.give_up.new.self at.asked.firm.now at.asked.id.now at.asked.report.now at.asked.lines.now at.group c.give_up.result (subst (MayTakeIn reference old) may.is.is may.may) e.trades e.positions e.offers e.refused)
 
 -- ---- claims
 
