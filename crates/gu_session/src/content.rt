@@ -25,7 +25,7 @@ pub fn is_sender(firm: &FirmId, sender: &Option<FirmId>) -> bool
     ensures { result ≡ is_sender firm.now sender.now }
 {
     match sender {
-        Some(named) => named.get() == firm.get(),
+        Some(named) => named == firm,
         None => false,
     }
 }

@@ -12,7 +12,7 @@ ghost use Rattle.gu_session.specs.declared.logged_on.LoggedOn.{LoggedOn as Logge
 use crate::answers::{on_answer, on_notice};
 use crate::ask_ref::AskRef;
 use crate::heard::Heard;
-use crate::hearing::{read_content, read_heading};
+use crate::hearing::hear;
 use crate::heartbeat::on_tick;
 use crate::input::Outcome;
 use crate::logged_on::{LoggedOn, Waiting};
@@ -60,10 +60,9 @@ pub fn frame_course(
 ) -> Result<Course, AllocError>
     ensures { IfOk result (IsFrameCourse firms.now at.now frame now) }
 {
-    let (fields, malformed) = into_fields(alloc, frame)?;
-    let heading = read_heading(&fields);
-    let content = read_content(alloc, &fields, malformed)?;
-    heard_course(alloc, firms, at, Heard { heading, content }, now)
+    let (fields, fault) = into_fields(alloc, frame)?;
+    let heard = hear(alloc, &fields, fault)?;
+    heard_course(alloc, firms, at, heard, now)
 }
 
 /// What is done on a notice.

@@ -1,14 +1,17 @@
 //! What frames say.
 
-ghost use Rattle.std.specs.Prelude.{◌≡◌, codes, IfOk, option_and_then};
+ghost use Rattle.std.specs.Prelude.{◌≡◌, codes, IfOk, List, option_and_then, Some};
 ghost use Rattle.std.specs.Option.{option_map};
+ghost use Rattle.gu_fix.specs.TagValue.{TagValue};
+ghost use Rattle.gu_msgs.specs.StandardHeader.{IsHeaderIn};
 ghost use Rattle.gu_session.specs.Hearing.{IsContent, IsFirmIn, IsHeading, IsNumberIn, code_in, is_given};
 
-use crate::heard::Heading;
+use crate::heard::{Heading, Heard};
 use crate::seq_num::SeqNum;
 use gu_fix::{FieldFault, Fields};
 use gu_msgs::{
-    Fault, Inbound, MsgFault, SessionRejectReason, TypeCode, header_in, is_numeral, number_of, read,
+    Fault, HeaderRef, ReadMessage, SessionRejectReason, TypeCode, header_in, is_numeral, number_of,
+    read_with_header,
 };
 use gu_terms::FirmId;
 use std::alloc::{AllocError, Global};
@@ -72,11 +75,10 @@ fn is_yes(value: Option<&[u8]>) -> bool
     }
 }
 
-/// What the header of these fields says.
-pub fn read_heading(fields: &Fields) -> Heading
-    ensures { IsHeading fields.now result }
+/// What a header says, which is that of these fields.
+fn heading_of(header: &HeaderRef<'_>) -> Heading
+    ensures { (fields : List TagValue) → IsHeaderIn fields header.now → IsHeading fields result }
 {
-    let header = header_in(fields);
     Heading {
         number: number_in(header.msg_seq_num),
         msg_type: code_in(header.msg_type),
@@ -86,24 +88,30 @@ pub fn read_heading(fields: &Fields) -> Heading
     }
 }
 
-/// What these fields say, or what is wrong with them; a malformed one comes first.
-pub fn read_content(
-    alloc: Global,
-    fields: &Fields,
-    malformed: Option<FieldFault>,
-) -> Result<Result<Inbound, Fault>, AllocError>
-    ensures { IfOk result (IsContent malformed fields.now) }
+/// What fields say of which one is malformed.
+fn malformed(fields: &Fields, fault: FieldFault) -> Heard
+    ensures heading { IsHeading fields.now result.heading }
+    ensures content { IsContent (Some fault) fields.now result.content }
 {
-    if let Some(fault) = malformed {
-        let reason = SessionRejectReason::from(fault.reason);
-        return Ok(Err(Fault {
+    let reason = SessionRejectReason::from(fault.reason);
+    Heard {
+        heading: heading_of(&header_in(fields)),
+        content: Err(Fault {
             tag: fault.tag,
             reason,
-        }));
+        }),
     }
-    match read(alloc, fields) {
-        Ok(message) => Ok(Ok(message)),
-        Err(MsgFault::Rejected(fault)) => Ok(Err(fault)),
-        Err(MsgFault::Memory) => Err(AllocError),
+}
+
+/// What these fields say: their header, and their message or what is wrong with it; a malformed field comes first.
+pub fn hear(alloc: Global, fields: &Fields, fault: Option<FieldFault>) -> Result<Heard, AllocError>
+    ensures heading { IfOk result (λ heard. IsHeading fields.now heard.heading) }
+    ensures content { IfOk result (λ heard. IsContent fault fields.now heard.content) }
+{
+    if let Some(fault) = fault {
+        return Ok(malformed(fields, fault));
     }
+    let ReadMessage { content, header } = read_with_header(alloc, fields)?;
+    let heading = heading_of(&header);
+    Ok(Heard { heading, content })
 }
