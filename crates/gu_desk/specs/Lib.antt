@@ -1,5 +1,8 @@
 pub mod Audits
 pub mod Holds
+pub mod KeptReceipts
+pub mod Marks
+pub mod PackedReceipts
 pub mod Refusals
 pub mod Seating
 pub mod Sweeps

@@ -1,12 +1,18 @@
 //! Audits.
 
-ghost use Rattle.std.specs.Prelude.{◌≡◌, ◌-◌, ◌<◌, ◌≤◌, ℕ, Bool, true, false, length, slice_get, IfErr, IfNone, IfSome, OnOk, Some};
+ghost use Rattle.std.specs.Prelude.{◌≡◌, ◌-◌, ◌<◌, ◌≤◌, ◌∷◌, ◌++◌, [], ℕ, Bool, List, true, false, length, slice_get, IfErr, IfNone, IfOk, IfSome, OnOk, Some};
+ghost use Rattle.std.specs.List.{flat_map};
+ghost use Rattle.gu_terms.specs.declared.entry.Entry.{Entry as EntryOf};
+ghost use Rattle.gu_terms.specs.declared.receipt.Receipt.{Receipt as ReceiptOf};
 ghost use Rattle.gu_desk.specs.Audits.{AreReceiptsOf, IsFaultOf, IsFirstFault, IsNumber, IsReceiptOf};
+ghost use Rattle.gu_desk.specs.KeptReceipts.{receipts_in};
+ghost use Rattle.gu_desk.specs.Marks.{AreMarks};
 
 use crate::error::AuditFault;
+use crate::kept_receipts::KeptReceipts;
 use gu_book::Book;
 use gu_terms::{History, Receipt};
-use std::alloc::Global;
+use std::alloc::{AllocError, Global};
 
 #[tactic(auto, using(crate::proofs::AuditLemmas::entry_number, crate::proofs::AuditLemmas::no_entry))]
 /// What is wrong with a receipt, where it is known which entries have a receipt already.
@@ -27,6 +33,49 @@ fn fault_of(history: &History, with_receipt: &[bool], receipt: &Receipt) -> Opti
     }
 }
 
+/// Marks the entry of a receipt, or says what is wrong with the receipt.
+fn mark(
+    history: &History,
+    with_receipt: &mut Vec<bool>,
+    receipt: &Receipt,
+) -> Result<(), AuditFault>
+    requires { length with_receipt.old.items ≡ length history.now }
+    ensures sized { length with_receipt.new.items ≡ length history.now }
+    ensures ok { (seen : List ReceiptOf) → AreMarks history.now seen with_receipt.old.items
+        → OnOk result (AreMarks history.now (seen ++ receipt.now ∷ []) with_receipt.new.items) }
+    ensures fault { (seen rest : List ReceiptOf) → AreMarks history.now seen with_receipt.old.items
+        → IfErr result (IsFirstFault history.now (seen ++ receipt.now ∷ rest)) }
+{
+    if let Some(fault) = fault_of(history, with_receipt.as_slice(), receipt) {
+        return Err(fault);
+    }
+    with_receipt[receipt.number as usize - 1] = true;
+    Ok(())
+}
+
+/// Marks the entries of receipts, one after the other, up to the first that something is wrong with.
+fn mark_kept(
+    history: &History,
+    with_receipt: &mut Vec<bool>,
+    receipts: &KeptReceipts,
+) -> Result<(), AuditFault>
+    requires { length with_receipt.old.items ≡ length history.now }
+    ensures sized { length with_receipt.new.items ≡ length history.now }
+    ensures ok { (seen : List ReceiptOf) → AreMarks history.now seen with_receipt.old.items
+        → OnOk result (AreMarks history.now (seen ++ receipts_in receipts.now) with_receipt.new.items) }
+    ensures fault { (seen rest : List ReceiptOf) → AreMarks history.now seen with_receipt.old.items
+        → IfErr result (IsFirstFault history.now (seen ++ (receipts_in receipts.now ++ rest))) }
+{
+    for place in 0..receipts.earlier.len() {
+        let receipt = receipts.earlier.at(place)?;
+        mark(history, with_receipt, &receipt)?;
+    }
+    match &receipts.last {
+        Some(last) => mark(history, with_receipt, last),
+        None => Ok(()),
+    }
+}
+
 /// The least number of an entry without a receipt.
 fn first_without(with_receipt: &[bool]) -> Option<u64>
     ensures some { IfSome result (λ number.
@@ -43,6 +92,26 @@ fn first_without(with_receipt: &[bool]) -> Option<u64>
     None
 }
 
+/// Whether each entry is marked; else the least number of one that isn't.
+fn end(with_receipt: &[bool]) -> Result<(), AuditFault>
+    ensures ok { (history : List EntryOf) (receipts : List ReceiptOf) → AreMarks history receipts with_receipt.now
+        → OnOk result (AreReceiptsOf history receipts) }
+    ensures fault { (history : List EntryOf) (receipts : List ReceiptOf) → AreMarks history receipts with_receipt.now
+        → IfErr result (IsFirstFault history receipts) }
+{
+    match first_without(with_receipt) {
+        Some(number) => Err(AuditFault::Unclaimed(number)),
+        None => Ok(()),
+    }
+}
+
+/// Marks for the entries of a history, none of which has a receipt yet.
+fn no_marks(alloc: Global, history: &History) -> Result<Vec<bool>, AllocError>
+    ensures { IfOk result (λ marks. AreMarks history.now [] marks.items) }
+{
+    vec![in alloc; false; history.len()]
+}
+
 /// Whether the receipts are those of a book, one for each entry; else their first fault. It takes one byte an entry, and copies
 /// no entry.
 pub fn audit(alloc: Global, book: &Book, receipts: &[Receipt]) -> Result<(), AuditFault>
@@ -50,15 +119,23 @@ pub fn audit(alloc: Global, book: &Book, receipts: &[Receipt]) -> Result<(), Aud
     ensures fault { IfErr result (IsFirstFault book.now.history receipts.now) }
 {
     let history = book.history();
-    let mut with_receipt = vec![in alloc; false; history.len()]?;
+    let mut with_receipt = no_marks(alloc, history)?;
     for receipt in receipts {
-        if let Some(fault) = fault_of(history, with_receipt.as_slice(), receipt) {
-            return Err(fault);
-        }
-        with_receipt[receipt.number as usize - 1] = true;
+        mark(history, &mut with_receipt, receipt)?;
     }
-    match first_without(with_receipt.as_slice()) {
-        Some(number) => Err(AuditFault::Unclaimed(number)),
-        None => Ok(()),
+    end(with_receipt.as_slice())
+}
+
+/// Whether the receipts of all parts are those of a book, one for each entry; else their first fault. It takes one byte an entry, and
+/// copies one entry at a time.
+pub fn audit_kept(alloc: Global, book: &Book, parts: &[KeptReceipts]) -> Result<(), AuditFault>
+    ensures ok { OnOk result (AreReceiptsOf book.now.history (flat_map receipts_in parts.now)) }
+    ensures fault { IfErr result (IsFirstFault book.now.history (flat_map receipts_in parts.now)) }
+{
+    let history = book.history();
+    let mut with_receipt = no_marks(alloc, history)?;
+    for part in parts {
+        mark_kept(history, &mut with_receipt, part)?;
     }
+    end(with_receipt.as_slice())
 }

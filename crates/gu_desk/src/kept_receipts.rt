@@ -1,0 +1,77 @@
+//! Receipts that are kept until an audit.
+
+ghost use Rattle.std.specs.Prelude.{◌≡◌, List, [], ◌∷◌, ◌++◌, IfOk, IfSome, OnOk};
+ghost use Rattle.gu_terms.specs.declared.receipt.Receipt.{Receipt as ReceiptOf};
+
+use crate::packed_receipts::PackedReceipts;
+use gu_terms::Receipt;
+use std::alloc::{AllocError, Global};
+
+/// Receipts that are kept until an audit. The last one is kept as it is, and is packed with the others when room is made for the next:
+/// so a receipt for which there is room is kept without an allocation.
+pub struct KeptReceipts {
+    pub(crate) earlier: PackedReceipts,
+    pub(crate) last: Option<Receipt>,
+}
+
+// By hand, so that each exit of a caller drops it by one call.
+impl Drop for KeptReceipts {
+    fn drop(self) {
+        let KeptReceipts { earlier, last } = self;
+        drop(earlier);
+        drop(last);
+    }
+}
+
+impl KeptReceipts {
+    ghost use Rattle.gu_desk.specs.KeptReceipts.{receipts_in, HasRoom};
+
+    /// No receipts.
+    pub fn new(alloc: Global) -> Self
+        ensures { receipts_in result ≡ [] }
+    {
+        KeptReceipts {
+            earlier: PackedReceipts::new(alloc),
+            last: None,
+        }
+    }
+
+    /// These receipts.
+    pub fn of(alloc: Global, receipts: Vec<Receipt>) -> Result<Self, AllocError>
+        ensures { IfOk result (λ kept. receipts_in kept ≡ receipts.items) }
+    {
+        let mut kept = KeptReceipts::new(alloc);
+        for receipt in receipts {
+            kept.reserve()?;
+            kept.push_reserved(receipt);
+        }
+        Ok(kept)
+    }
+
+    /// Makes room for one receipt more. The receipts stay the same.
+    pub fn reserve(&mut self) -> Result<(), AllocError>
+        ensures room { OnOk result (HasRoom self.new) }
+        ensures same { receipts_in self.new ≡ receipts_in self.old }
+    {
+        if let Some(receipt) = &self.last {
+            self.earlier.push(receipt)?;
+            self.last = None;
+        }
+        Ok(())
+    }
+
+    /// Adds a receipt, for which there is room, after the others.
+    pub fn push_reserved(&mut self, receipt: Receipt)
+        requires { HasRoom self.old }
+        ensures { receipts_in self.new ≡ receipts_in self.old ++ receipt ∷ [] }
+    {
+        self.last = Some(receipt);
+    }
+
+    /// The last receipt, where no room was made for another since.
+    pub fn last(&self) -> Option<&Receipt>
+        ensures { IfSome result (λ last. (earlier : List ReceiptOf) × (receipts_in self.now ≡ earlier ++ last.now ∷ [])) }
+    {
+        self.last.as_ref()
+    }
+}
