@@ -11,7 +11,7 @@ use crate::day_receipts::DayReceipts;
 use crate::seat_receipts::SeatReceipts;
 use crate::serving::Shift;
 use gu_book::Book;
-use gu_desk::{AuditFault, Desk, EntryLedger, LotLedger, Seat, audit};
+use gu_desk::{AuditFault, Desk, EntryLedger, LotLedger, Seat};
 use gu_streams::StreamError;
 use gu_terms::Receipt;
 use std::alloc::{AllocError, Global};
@@ -57,11 +57,11 @@ fn audit_text(alloc: Global, found: Option<AuditFault>) -> Result<String, AllocE
 fn finding_of(
     alloc: Global,
     book: &Book,
-    receipts: &[Receipt],
+    receipts: &DayReceipts,
 ) -> Result<Option<AuditFault>, AllocError>
     ensures { IfOk result (Finds book.now.history receipts.now) }
 {
-    match audit(alloc, book, receipts) {
+    match receipts.audit(alloc, book) {
         Ok(()) => Ok(None),
         Err(AuditFault::Memory) => Err(AllocError),
         Err(fault) => Ok(Some(fault)),
@@ -82,8 +82,8 @@ fn end_of(alloc: Global, book: &Book, receipts: DayReceipts) -> DayEnd
     ensures { IfOk result (λ r. (found : Option FaultOf) × Finds book.now.history receipts found
         × (string_bytes r.0 ≡ day_text book.now.history found) × (r.1 ≡ is_none found)) }
 {
-    let receipts = receipts.joined(alloc)?;
     let found = finding_of(alloc, book, &receipts)?;
+    drop(receipts);
     let entries = book.history().len();
     let swept = book.lots_swept();
     let audit = audit_text(alloc, found)?;

@@ -1,7 +1,11 @@
 //! The receipts of a day, as the threads hand them back.
 
-ghost use Rattle.std.specs.Prelude.{◌≡◌, ◌++◌, IfOk, OnOk};
+ghost use Rattle.std.specs.Prelude.{◌≡◌, ◌++◌, IfErr, IfOk, OnOk};
+ghost use Rattle.gu_desk.specs.Audits.{AreReceiptsOf, IsFirstFault};
+ghost use Rattle.gu_desk.specs.KeptReceipts.{receipts_in};
 
+use gu_book::Book;
+use gu_desk::{AuditFault, KeptReceipts, audit_kept};
 use gu_terms::Receipt;
 use std::alloc::{AllocError, Global};
 use std::marker::Model;
@@ -10,7 +14,7 @@ use std::marker::Model;
 ///
 /// A part is added as it is: no receipt is moved, and where there is room for the part nothing is allocated.
 pub struct DayReceipts {
-    parts: Vec<Vec<Receipt>>,
+    parts: Vec<KeptReceipts>,
 }
 
 // By hand, so that each exit of a caller drops it by one call.
@@ -25,10 +29,11 @@ impl Model for DayReceipts {
     ghost use Rattle.std.specs.Prelude.{List};
     ghost use Rattle.std.specs.List.{flat_map};
     ghost use Rattle.gu_terms.specs.declared.receipt.Receipt.{Receipt as ReceiptOf};
+    ghost use Rattle.gu_desk.specs.KeptReceipts.{receipts_in};
 
     ghost Value = { List ReceiptOf };
 
-    ghost view = { λ r. flat_map (λ part. part.items) r.parts.items };
+    ghost view = { λ r. flat_map receipts_in r.parts.items };
 }
 
 impl DayReceipts {
@@ -37,27 +42,24 @@ impl DayReceipts {
         ensures { IfOk result (λ receipts. receipts ≡ first.items) }
     {
         let mut parts = Vec::with_capacity(alloc, more.saturating_add(1))?;
+        let first = KeptReceipts::of(alloc, first)?;
         parts.push(first)?;
         Ok(DayReceipts { parts })
     }
 
     /// Adds a part after the others.
-    pub fn add(&mut self, part: Vec<Receipt>) -> Result<(), AllocError>
-        ensures { OnOk result (self.new ≡ self.old ++ part.items) }
+    pub fn add(&mut self, part: KeptReceipts) -> Result<(), AllocError>
+        ensures { OnOk result (self.new ≡ self.old ++ receipts_in part) }
     {
         self.parts.push(part)?;
         Ok(())
     }
 
-    /// All of them in one list.
-    pub fn joined(self, alloc: Global) -> Result<Vec<Receipt>, AllocError>
-        ensures { IfOk result (λ receipts. receipts.items ≡ self) }
+    /// Whether they are those of a book, one for each entry; else their first fault.
+    pub fn audit(&self, alloc: Global, book: &Book) -> Result<(), AuditFault>
+        ensures ok { OnOk result (AreReceiptsOf book.now.history self.now) }
+        ensures fault { IfErr result (IsFirstFault book.now.history self.now) }
     {
-        let DayReceipts { parts } = self;
-        let mut all = Vec::new(alloc);
-        for mut part in parts {
-            all.append(&mut part)?;
-        }
-        Ok(all)
+        audit_kept(alloc, book, self.parts.as_slice())
     }
 }

@@ -4,6 +4,7 @@ ghost use Rattle.std.specs.Prelude.{◌≡◌, ◌↔◌, ℕ, ◌+◌, false, I
 ghost use Rattle.gu_ref.specs.Reference.{is_group};
 ghost use Rattle.gu_terms.specs.Histories.{swept_by};
 ghost use Rattle.gu_book.specs.Questions.{IsUnknown};
+ghost use Rattle.gu_desk.specs.KeptReceipts.{receipts_in};
 ghost use Rattle.gu_desk.specs.Holds.{IsAnswered, IsEntered, IsTold};
 ghost use Rattle.gu_desk.specs.Sweeps.{DiffersIfStale};
 ghost use Rattle.gu_desk.specs.Totals.{with_entry, with_sweep, IsEmpty};
@@ -11,7 +12,7 @@ ghost use Rattle.gu_server.specs.Receipts.{HasReceipts};
 
 use crate::next::Next;
 use gu_book::{Answer, AskError, EnterError};
-use gu_desk::{Desk, Direct, EntryLedger, LotLedger, Seat, SweepError};
+use gu_desk::{Desk, Direct, EntryLedger, KeptReceipts, LotLedger, Seat, SweepError};
 use gu_terms::{Command, Entry, FirmId, Group, Query, Receipt, Reply, Stretch};
 use std::alloc::{AllocError, Global};
 use std::marker::Model;
@@ -23,7 +24,7 @@ const TRIES: u32 = 3;
 /// A seat that keeps a receipt for each entry that is made from it. To a contract it is the shares of the seat.
 pub struct SeatReceipts<E: EntryLedger, S: LotLedger> {
     seat: Seat<E, S>,
-    receipts: Vec<Receipt>,
+    receipts: KeptReceipts,
 }
 
 // By hand, so that each exit of a caller drops it by one call.
@@ -36,6 +37,7 @@ impl<E: EntryLedger, S: LotLedger> Drop for SeatReceipts<E, S> {
 }
 
 impl<E: EntryLedger, S: LotLedger> Model for SeatReceipts<E, S> {
+    ghost use Rattle.gu_desk.specs.KeptReceipts.{receipts_in};
     ghost use Rattle.gu_desk.specs.Totals.{Shares};
     ghost use Rattle.gu_server.specs.Receipts.{HasReceipts};
 
@@ -43,7 +45,7 @@ impl<E: EntryLedger, S: LotLedger> Model for SeatReceipts<E, S> {
 
     ghost view = { λ s. s.seat };
 
-    ghost invariant = { λ s. HasReceipts E.reference E.opening s.seat.entries s.receipts.items };
+    ghost invariant = { λ s. HasReceipts E.reference E.opening s.seat.entries (receipts_in s.receipts) };
 }
 
 /// The lots of a sweep.
@@ -77,14 +79,14 @@ impl<E: EntryLedger, S: LotLedger> SeatReceipts<E, S> {
     {
         SeatReceipts {
             seat,
-            receipts: Vec::new(alloc),
+            receipts: KeptReceipts::new(alloc),
         }
     }
 
     /// The seat, and the receipts.
-    pub fn into_parts(self) -> (Seat<E, S>, Vec<Receipt>)
+    pub fn into_parts(self) -> (Seat<E, S>, KeptReceipts)
         ensures seat { result.0 ≡ self }
-        ensures receipts { HasReceipts E.reference E.opening self.entries result.1.items }
+        ensures receipts { HasReceipts E.reference E.opening self.entries (receipts_in result.1) }
     {
         let SeatReceipts { seat, receipts } = self;
         (seat, receipts)
@@ -103,7 +105,7 @@ impl<E: EntryLedger, S: LotLedger> SeatReceipts<E, S> {
         ensures refused { OnErr result (self.new ≡ self.old) }
     {
         // Room for the receipt first: once the command is entered, its receipt is kept without an allocation.
-        if self.receipts.reserve(1).is_err() {
+        if self.receipts.reserve().is_err() {
             return Err(EnterError::Memory);
         }
         let (number, reply) = desk.enter(rt, &mut self.seat, &command)?;
@@ -127,7 +129,7 @@ impl<E: EntryLedger, S: LotLedger> SeatReceipts<E, S> {
         ensures counted { IfOk result (λ r. self.new ≡ with_entry self.old) }
         ensures refused { OnErr result (self.new ≡ self.old) }
     {
-        if self.receipts.reserve(1).is_err() {
+        if self.receipts.reserve().is_err() {
             return Err(EnterError::Memory);
         }
         let (number, reply, stretch) = desk.enter_and_tell(
@@ -154,7 +156,7 @@ impl<E: EntryLedger, S: LotLedger> SeatReceipts<E, S> {
         ensures stale { IfErr result DiffersIfStale }
         ensures refused { OnErr result (self.new ≡ self.old) }
     {
-        self.receipts.reserve(1)?;
+        self.receipts.reserve()?;
         let swept = desk.sweep_until(rt, &mut self.seat, group, TRIES, &Direct)?;
         let lots = lots_of(&swept);
         self.receipts.push_reserved(swept);

@@ -7,4 +7,4 @@ returns c =
     let found = c.in_ok-found.found in
     let text : string_bytes c.in_ok-text.text ≡ day_text c.args.book.now.history found = search rules in
     let none : c.is_none.result ≡ is_none found = search rules in
-    (found, rw (← c.in_ok-receipts.ensures, ← c.deref.ensures.value) c.in_ok-found.ensures, text, none)
+    (found, c.in_ok-found.ensures, text, none)
