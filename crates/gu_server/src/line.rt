@@ -25,6 +25,8 @@ pub struct Line<'a> {
     is_holding: Cell<bool>,
     /// Whether the last read filled its room, so that more may have come.
     may_have_more: Cell<bool>,
+    /// Whether reads and writes of the stream wait. While nothing is held, they do.
+    is_waiting: Cell<bool>,
 }
 
 impl Drop for Line<'_> {
@@ -35,6 +37,7 @@ impl Drop for Line<'_> {
             held,
             is_holding: _,
             may_have_more: _,
+            is_waiting: _,
         } = self;
         drop(held);
     }
@@ -70,6 +73,7 @@ impl<'a> Line<'a> {
             held: Cell::new(Vec::new(alloc)),
             is_holding: Cell::new(false),
             may_have_more: Cell::new(false),
+            is_waiting: Cell::new(true),
         }
     }
 
@@ -83,10 +87,22 @@ impl<'a> Line<'a> {
         holds
     }
 
+    /// Lets reads and writes of the stream wait from now on, or not.
+    fn set_waiting(&self, is_waiting: bool) -> io::Result<()> {
+        if self.is_waiting.get() != is_waiting {
+            self.stream.set_nonblocking(!is_waiting)?;
+            self.is_waiting.set(is_waiting);
+        }
+        Ok(())
+    }
+
     /// Sends what is held.
     pub fn send_held(&self) -> Result<(), StreamError> {
         if !self.is_holding.get() {
             return Ok(());
+        }
+        if self.set_waiting(true).is_err() {
+            return Err(StreamError::Write);
         }
         let mut held = self.held.replace(Vec::new(self.alloc));
         let mut writer = Steady {
@@ -103,11 +119,9 @@ impl<'a> Line<'a> {
     fn read_at_once(&self, buf: &mut [u8]) -> io::Result<usize>
         ensures { ReadsAtMost result buf.new }
     {
-        self.stream.set_nonblocking(true)?;
+        self.set_waiting(false)?;
         let mut stream = self.stream;
-        let read = stream.read(buf);
-        self.stream.set_nonblocking(false)?;
-        read
+        stream.read(buf)
     }
 
     /// Reads what has come, without waiting where something is held that can be sent meanwhile.
