@@ -33,7 +33,9 @@ fn push_parts(text: &mut Vec<u8>, tag: u32, parts: &[&[u8]]) -> Result<usize, Al
     push_tag(text, tag)?;
     let start = text.len();
     extend_by_each(text, parts)?;
-    text.push(SOH)?;
+    // Room by itself: `push` would be a call for each field.
+    text.reserve(1)?;
+    text.push_reserved(SOH);
     Ok(start)
 }
 
