@@ -128,7 +128,7 @@ fn move_take(totals: &mut Totals, view: &View, take: &Take)
         unreachable!();
     };
     totals.limits.charge(&offer.group, &shown.path, take.lots);
-    totals.move_lots(take.offer, &offer, &report, take.lots);
+    totals.move_lots(take, &offer, &report);
 }
 
 /// Moves the lots of takes of a view's offers, one after another. It takes no memory.

@@ -24,7 +24,7 @@ use crate::deed::{GiveUpRef, Moved};
 use gu_limits::LimitTable;
 use gu_offers::Offers;
 use gu_positions::{Positions, RowNo};
-use gu_terms::{AccountId, Day, FirmId, Group, Id, LimitKey, Offer, OfferNo, Seed, Symbol};
+use gu_terms::{AccountId, Day, FirmId, Group, Id, LimitKey, Offer, OfferNo, Seed, Symbol, Take};
 use gu_trades::{ReportRef, Terms, Trades};
 use indexmap::IndexSet;
 use std::alloc::{AllocError, Global};
@@ -156,10 +156,8 @@ impl Totals {
         let terms = report.terms();
         let rows = make_rows(
             &mut self.positions,
-            &terms.account,
-            &terms.symbol,
-            &waiting.account,
-            &waiting.symbol,
+            (&terms.account, &terms.symbol),
+            (&waiting.account, &waiting.symbol),
         )?;
         self.trades.push(report)?;
         hold(&mut self.positions, &rows.1, waiting);
@@ -214,32 +212,30 @@ impl Totals {
     {
         make_rows(
             &mut self.positions,
-            &report.account,
-            &report.symbol,
-            account,
-            &report.symbol,
+            (&report.account, &report.symbol),
+            (account, &report.symbol),
         )
     }
 
-    /// Lots of an offer are moved: they leave the account of its report for its own. The rows are made. It takes no memory.
-    pub fn move_lots(&mut self, number: OfferNo, offer: &Offer, report: &Terms, lots: u64)
-        requires left { lots ≤ left_in self.old.offers number }
-        requires there { lots ≤ lots_in self.old.positions report.now.side report.now.account report.now.symbol }
+    /// Lots of an offer are taken: they leave the account of its report for its own. The rows are made. It takes no memory.
+    pub fn move_lots(&mut self, take: &Take, offer: &Offer, report: &Terms)
+        requires left { take.now.lots ≤ left_in self.old.offers take.now.offer }
+        requires there { take.now.lots ≤ lots_in self.old.positions report.now.side report.now.account report.now.symbol }
         requires from { has_row self.old.positions report.now.account report.now.symbol ≡ true }
         requires to { has_row self.old.positions offer.now.account report.now.symbol ≡ true }
         ensures entries { SameEntries self.old self.new }
-        ensures offers { self.new.offers ≡ changed self.old.offers number (taken lots) }
+        ensures offers { self.new.offers ≡ changed self.old.offers take.now.offer (taken take.now.lots) }
         ensures limits { self.new.limits ≡ self.old.limits }
-        ensures positions { HoldsMoved self.old.positions self.new.positions report.now report.now.account offer.now.account lots }
+        ensures positions { HoldsMoved self.old.positions self.new.positions report.now report.now.account offer.now.account take.now.lots }
         ensures rows { KeepsRows self.old.positions self.new.positions }
     {
-        self.offers.take(number, lots);
+        self.offers.take(take.offer, take.lots);
         self.positions.shift(
             report.account,
             offer.account,
             report.symbol,
             report.side,
-            lots,
+            take.lots,
         );
     }
 
@@ -291,24 +287,22 @@ impl Totals {
     }
 }
 
-/// Makes the rows of two accounts, each of an instrument.
+/// Makes the rows of two accounts, each with its instrument.
 fn make_rows(
     positions: &mut Positions,
-    one: &AccountId,
-    its: &Symbol,
-    two: &AccountId,
-    other: &Symbol,
+    one: (&AccountId, &Symbol),
+    two: (&AccountId, &Symbol),
 ) -> Result<(RowNo, RowNo), AllocError>
-    ensures one { OnOk result (has_row positions.new one.now its.now ≡ true) }
-    ensures two { OnOk result (has_row positions.new two.now other.now ≡ true) }
-    ensures first { IfOk result (λ rows. IsRowOf positions.new one.now its.now rows.0) }
-    ensures second { IfOk result (λ rows. IsRowOf positions.new two.now other.now rows.1) }
+    ensures one { OnOk result (has_row positions.new one.entry.0.now one.entry.1.now ≡ true) }
+    ensures two { OnOk result (has_row positions.new two.entry.0.now two.entry.1.now ≡ true) }
+    ensures first { IfOk result (λ rows. IsRowOf positions.new one.entry.0.now one.entry.1.now rows.0) }
+    ensures second { IfOk result (λ rows. IsRowOf positions.new two.entry.0.now two.entry.1.now rows.1) }
     ensures stay { KeepsMade positions.old positions.new }
     ensures same_lots { KeepsLots positions.old positions.new }
-    ensures rows { OnlyRowsOf positions.old positions.new (one.now ∷ two.now ∷ []) }
+    ensures rows { OnlyRowsOf positions.old positions.new (one.entry.0.now ∷ two.entry.0.now ∷ []) }
 {
-    let first = positions.make_row(one, its)?;
-    let second = positions.make_row(two, other)?;
+    let first = positions.make_row(one.0, one.1)?;
+    let second = positions.make_row(two.0, two.1)?;
     Ok((first, second))
 }
 
