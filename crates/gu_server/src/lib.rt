@@ -2,6 +2,7 @@
 #![tactic(auto)]
 
 mod accepting;
+mod ahead;
 mod at_desk;
 mod closing;
 mod crew;

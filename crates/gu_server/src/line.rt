@@ -2,9 +2,10 @@
 
 ghost use Rattle.std.specs.Io.{ReadsAtMost};
 
+use crate::ahead::Ahead;
 use crate::timed::write_past_signals;
 use gu_streams::{StreamError, send};
-use std::alloc::Global;
+use std::alloc::{AllocError, Global};
 use std::cell::Cell;
 use std::io;
 use std::io::{ErrorKind, Read, Write};
@@ -13,17 +14,18 @@ use std::net::TcpStream;
 /// How many bytes are held at most.
 const MOST_HELD: usize = 65_536;
 
-/// A connection's stream. While more has come on it than was read, what is written is held, up to 65,536 bytes, and then goes out in
-/// one write: at the latest before a read that may wait.
+/// A connection's stream, of which more is read at once than is asked for, where more has come. While that is so, what is written is
+/// held, up to 65,536 bytes, and then goes out in one write: at the latest before a read that may wait.
 ///
 /// What is held when the line is let go isn't sent, unless `send_held` was called before.
 pub struct Line<'a> {
     alloc: Global,
     stream: &'a TcpStream,
+    ahead: Cell<Ahead>,
     held: Cell<Vec<u8>>,
     /// Whether anything is held.
     is_holding: Cell<bool>,
-    /// Whether the last read filled its room, so that more may have come.
+    /// Whether more was read than was asked for, or may have come.
     may_have_more: Cell<bool>,
     /// Whether reads and writes of the stream wait. While nothing is held, they do.
     is_waiting: Cell<bool>,
@@ -34,11 +36,13 @@ impl Drop for Line<'_> {
         let Line {
             alloc: _,
             stream: _,
+            ahead,
             held,
             is_holding: _,
             may_have_more: _,
             is_waiting: _,
         } = self;
+        drop(ahead);
         drop(held);
     }
 }
@@ -66,15 +70,17 @@ fn aborted() -> io::Error {
 
 impl<'a> Line<'a> {
     /// A line on which nothing has come yet.
-    pub fn new(alloc: Global, stream: &'a TcpStream) -> Self {
-        Line {
+    pub fn new(alloc: Global, stream: &'a TcpStream) -> Result<Self, AllocError> {
+        let ahead = Ahead::new(alloc)?;
+        Ok(Line {
             alloc,
             stream,
+            ahead: Cell::new(ahead),
             held: Cell::new(Vec::new(alloc)),
             is_holding: Cell::new(false),
             may_have_more: Cell::new(false),
             is_waiting: Cell::new(true),
-        }
+        })
     }
 
     /// Holds a text after what is held, if there is room for it.
@@ -115,39 +121,48 @@ impl<'a> Line<'a> {
         sent
     }
 
-    /// Reads what has come, without waiting.
-    fn read_at_once(&self, buf: &mut [u8]) -> io::Result<usize>
-        ensures { ReadsAtMost result buf.new }
-    {
+    /// Reads ahead what has come, without waiting.
+    fn fill_at_once(&self, ahead: &mut Ahead) -> io::Result<()> {
         self.set_waiting(false)?;
         let mut stream = self.stream;
-        stream.read(buf)
+        ahead.fill(&mut stream)
     }
 
-    /// Reads what has come, without waiting where something is held that can be sent meanwhile.
-    fn read_some(&self, buf: &mut [u8]) -> io::Result<usize>
-        ensures { ReadsAtMost result buf.new }
-    {
+    /// Reads ahead what has come, without waiting where something is held that can be sent meanwhile.
+    fn fill(&self, ahead: &mut Ahead) -> io::Result<()> {
         if self.is_holding.get() && self.may_have_more.get() {
-            match self.read_at_once(buf) {
+            match self.fill_at_once(ahead) {
                 Err(error) if error.kind() == ErrorKind::WouldBlock => {}
-                read => return read,
+                filled => return filled,
             }
         }
         if self.send_held().is_err() {
             return Err(aborted());
         }
         let mut stream = self.stream;
-        stream.read(buf)
+        ahead.fill(&mut stream)
+    }
+
+    /// Reads the next bytes: those that were read ahead, or once there are none more of them, those that have come.
+    fn read_next(&self, ahead: &mut Ahead, buf: &mut [u8]) -> io::Result<usize>
+        ensures { ReadsAtMost result buf.new }
+    {
+        if ahead.is_empty() {
+            let filled = self.fill(ahead);
+            self.may_have_more.set(false);
+            filled?;
+        }
+        let count = ahead.take(buf);
+        self.may_have_more.set(!ahead.is_empty() || ahead.is_full());
+        Ok(count)
     }
 }
 
 impl Read for &Line<'_> {
     fn read(&mut self, buf: &mut [u8]) -> io::Result<usize> {
-        let room = buf.len();
-        let read = self.read_some(buf);
-        self.may_have_more
-            .set(matches!(read, Ok(count) if count == room));
+        let mut ahead = self.ahead.replace(Ahead::none(self.alloc));
+        let read = self.read_next(&mut ahead, buf);
+        self.ahead.set(ahead);
         read
     }
 }

@@ -105,9 +105,11 @@ fn exchange<'a, E: EntryLedger, S: LotLedger, R: Wait + Clock>(
     let Ok(firms) = Vec::from_slice(floor.alloc, floor.firms) else {
         return (house, Err(StreamError::Memory));
     };
+    let Ok(line) = Line::new(floor.alloc, stream) else {
+        return (house, Err(StreamError::Memory));
+    };
     let clock = SystemClock::new(floor.rt);
     let mut connection = Connection::new(floor.alloc, firms, house, clock);
-    let line = Line::new(floor.alloc, stream);
     let mut reads = CountedReads::patient(Timed::new(&line, &timer));
     let mut writer = Timed::new(&line, &timer);
     let talked = converse(floor.alloc, &mut connection, &mut reads, &mut writer);
