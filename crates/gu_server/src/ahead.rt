@@ -1,20 +1,29 @@
 //! Bytes of a stream that were read before they were asked for.
 
-ghost use Rattle.std.specs.Prelude.{◌≤◌, length};
+ghost use Rattle.std.specs.Prelude.{◌≡◌, ◌≤◌, ◌↔◌, ◌++◌, ℕ, List, [], length, take, drop, min, IfOk, OnOk, OnErr, IsTrue};
+ghost use Rattle.std.specs.Io.KnownBytes.{Consumes, Keeps};
 
 use std::alloc::{AllocError, Global};
 use std::io;
 use std::io::Read;
+use std::marker::Model;
 
 /// How many bytes are read at once at most.
 const MOST_AHEAD: usize = 16_384;
 
-/// Bytes of a stream that were read before they were asked for.
+/// Bytes of a stream that were read before they were asked for. A contract sees those that are left.
 pub struct Ahead {
     bytes: Vec<u8>,
     from: usize,
     until: usize,
-    ghost within: { (from ≤ until) × (until ≤ length bytes.items) },
+}
+
+impl Model for Ahead {
+    ghost Value = { List ℕ };
+
+    ghost view = { λ ahead. drop ahead.from (take ahead.until ahead.bytes.items) };
+
+    ghost invariant = { λ ahead. (ahead.from ≤ ahead.until) × (ahead.until ≤ length ahead.bytes.items) };
 }
 
 // By hand, so that each exit of a caller drops it by one call.
@@ -31,7 +40,9 @@ impl Drop for Ahead {
 
 impl Ahead {
     /// No bytes, and no room for any.
-    pub fn none(alloc: Global) -> Self {
+    pub fn none(alloc: Global) -> Self
+        ensures { result ≡ [] }
+    {
         Ahead {
             bytes: Vec::new(alloc),
             from: 0,
@@ -40,7 +51,9 @@ impl Ahead {
     }
 
     /// Room for bytes, of which there are none yet.
-    pub fn new(alloc: Global) -> Result<Self, AllocError> {
+    pub fn new(alloc: Global) -> Result<Self, AllocError>
+        ensures { IfOk result (λ ahead. ahead ≡ []) }
+    {
         let bytes = vec![in alloc; 0; MOST_AHEAD]?;
         Ok(Ahead {
             bytes,
@@ -49,28 +62,45 @@ impl Ahead {
         })
     }
 
-    /// Whether all bytes that there were have been asked for.
-    pub fn is_empty(&self) -> bool {
-        self.from == self.until
+    /// The bytes that are left.
+    fn left(&self) -> &[u8]
+        ensures { result.now ≡ self.now }
+    {
+        &self.bytes[self.from..self.until]
     }
 
-    /// Whether there is no room for a byte more than there are.
+    /// Whether none are left.
+    pub fn is_empty(&self) -> bool
+        ensures { IsTrue result ↔ self.now ≡ [] }
+    {
+        self.left().is_empty()
+    }
+
+    /// Whether the last read filled the room, so that more may have come. It stays so once all that it gave has been taken.
     pub fn is_full(&self) -> bool {
         self.until == self.bytes.len()
     }
 
-    /// Puts the next bytes into a buffer, as many as there are and as it has room for. How many these are.
+    /// Puts the next bytes into a buffer, as many as are left and as it has room for. How many these are.
     pub fn take(&mut self, buf: &mut [u8]) -> usize
-        ensures { result ≤ length buf.new }
+        ensures count { result ≡ min (length buf.old) (length self.old) }
+        ensures bytes { buf.new ≡ take result self.old ++ drop result buf.old }
+        ensures left { self.new ≡ drop result self.old }
     {
-        let count = buf.len().min(self.until - self.from);
-        buf[..count].copy_from_slice(&self.bytes[self.from..self.from + count]);
+        let left = self.left();
+        let count = buf.len().min(left.len());
+        buf[..count].copy_from_slice(&left[..count]);
         self.from += count;
         count
     }
 
-    /// Reads from a stream, in place of the bytes that there were.
-    pub fn fill<R: Read>(&mut self, stream: &mut R) -> io::Result<()> {
+    /// Reads from a stream, once none are left.
+    pub fn fill<R: Read>(&mut self, stream: &mut R) -> io::Result<()>
+        requires { self.old ≡ [] }
+        ensures bytes { OnOk result (Consumes (R.remaining stream.old) (R.remaining stream.new) self.new) }
+        ensures kept { OnErr result (Keeps (R.remaining stream.old) (R.remaining stream.new)) }
+        ensures none { OnErr result (self.new ≡ []) }
+    {
         self.from = 0;
         self.until = 0;
         self.until = stream.read(self.bytes.as_mut_slice())?;

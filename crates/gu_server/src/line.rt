@@ -1,5 +1,6 @@
 //! A connection's stream on which answers go out together, where messages came together.
 
+ghost use Rattle.std.specs.Prelude.{◌≡◌, [], OnErr};
 ghost use Rattle.std.specs.Io.{ReadsAtMost};
 
 use crate::ahead::Ahead;
@@ -122,14 +123,19 @@ impl<'a> Line<'a> {
     }
 
     /// Reads ahead what has come, without waiting.
-    fn fill_at_once(&self, ahead: &mut Ahead) -> io::Result<()> {
+    fn fill_at_once(&self, ahead: &mut Ahead) -> io::Result<()>
+        requires { ahead.old ≡ [] }
+        ensures { OnErr result (ahead.new ≡ []) }
+    {
         self.set_waiting(false)?;
         let mut stream = self.stream;
         ahead.fill(&mut stream)
     }
 
     /// Reads ahead what has come, without waiting where something is held that can be sent meanwhile.
-    fn fill(&self, ahead: &mut Ahead) -> io::Result<()> {
+    fn fill(&self, ahead: &mut Ahead) -> io::Result<()>
+        requires { ahead.old ≡ [] }
+    {
         if self.is_holding.get() && self.may_have_more.get() {
             match self.fill_at_once(ahead) {
                 Err(error) if error.kind() == ErrorKind::WouldBlock => {}
