@@ -1,11 +1,13 @@
 //! Trade capture without a session.
 
-ghost use Rattle.std.specs.Prelude.{◌≡◌, ◌≤◌, ◌++◌, IfOk, IsErrOf, IsOk, List, MatchOption, None, OnOk, length, ℕ};
+ghost use Rattle.std.specs.Prelude.{◌≡◌, ◌≤◌, ◌++◌, IfOk, IsErrOf, IsOk, List, MatchOption, MatchResult, None, OnOk, length, ℕ};
 ghost use Rattle.gu_fix.specs.Encoding.{fault_of, message_of};
+ghost use Rattle.gu_fix.specs.TagValue.{TagValue};
 ghost use Rattle.gu_fix.specs.WholeMessage.{IsWhole};
 ghost use Rattle.gu_streams.specs.Reads.{HasStopped};
 ghost use Rattle.gu_streams.specs.Streams.{streams_of};
 ghost use Rattle.gu_msgs.specs.Asking.{side_of};
+ghost use Rattle.gu_msgs.specs.Faults.{IsFaultOf};
 ghost use Rattle.gu_msgs.specs.Messages.{Says};
 ghost use Rattle.gu_msgs.specs.Written.{IsWritten};
 ghost use Rattle.gu_msgs.specs.declared.inbound.Inbound.TheVariants as inbound;
@@ -15,10 +17,11 @@ ghost use Rattle.giveup.specs.Capture.{AnswersFrame, Captured, CapturedInPart, C
 use crate::position_lines::positions_text;
 use gu_book::{Book, EnterError};
 use gu_engine::{Answerer, ClockFault, Event, run};
-use gu_fix::{BodyText, Fields, Frame, encode_onto, into_fields};
+use gu_fix::{BodyText, Frame, encode_onto, into_fields};
 use gu_msgs::inbound::TradeCaptureReport;
 use gu_msgs::{
-    Boxed, MsgFault, Outbound, Rejection, answer_to, midnight_of, read, sender, write_over,
+    Boxed, Fault, Inbound, Outbound, ReadMessage, Rejection, answer_to, midnight_of,
+    read_with_header, sender_in, write_over,
 };
 use gu_ref::Reference;
 use gu_streams::{CountedReads, StreamError, send};
@@ -30,19 +33,15 @@ use std::marker::Model;
 /// The last number that a message can have.
 const LAST_NUMBER: u64 = 1_000_000_000;
 
-/// The report that fields say.
-fn report_of(
-    alloc: Global,
-    fields: &Fields,
-) -> Result<Option<Boxed<TradeCaptureReport>>, AllocError>
-    ensures { IfOk result (λ found. MatchOption found
-        ((report : ReportOf) → Says fields.now (inbound.TradeCaptureReport report) → ⊥)
-        (λ report. Says fields.now (inbound.TradeCaptureReport report))) }
+/// The report that a message is.
+fn report_in(content: Result<Inbound, Fault>) -> Option<Boxed<TradeCaptureReport>>
+    ensures { (fields : List TagValue) → MatchResult content (Says fields) (IsFaultOf fields) → MatchOption result
+        ((report : ReportOf) → Says fields (inbound.TradeCaptureReport report) → ⊥)
+        (λ report. Says fields (inbound.TradeCaptureReport report)) }
 {
-    match read(alloc, fields) {
-        Ok(message) => Ok(message.into_report()),
-        Err(MsgFault::Rejected(_)) => Ok(None),
-        Err(MsgFault::Memory) => Err(AllocError),
+    match content {
+        Ok(message) => message.into_report(),
+        Err(_) => None,
     }
 }
 
@@ -154,10 +153,11 @@ impl Capturing {
         if fault.is_some() {
             return Ok(());
         }
-        let Some(report) = report_of(self.alloc, &fields)? else {
+        let ReadMessage { content, header } = read_with_header(self.alloc, &fields)?;
+        let Some(report) = report_in(content) else {
             return Ok(());
         };
-        match sender(&fields) {
+        match sender_in(&header) {
             Some(firm) => self.acknowledge(fields.into_room(), &firm, report.get(), output),
             None => Ok(()),
         }
