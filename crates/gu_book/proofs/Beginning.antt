@@ -55,7 +55,7 @@ nothing-kept reference totals versions today trades offers give_ups limits posit
   counted = record { each = none; days = omega (arith, days) };
 }
 
--- where a growth was refused, what was kept still is
+-- where an allocation failed, what was kept still is
 pub still-kept : (reference : Tables) (history : List Entry) (old new : Totals) → IsKept reference history old → SameAnswers old new → IsKept reference history new
 still-kept reference history old new kept same =
     let b = kept.beside in

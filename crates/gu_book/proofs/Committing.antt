@@ -42,7 +42,7 @@ may-move book proposal old mid versions view takes kept current right same made 
     subst (λ (offers : List ViewOffer). MayMove book.reference mid offers takes) (sym shown)
     (subst (MayMove book.reference mid (offers_shown book.reference book.history proposal.view.group)) (sym are) may)
 
--- where a growth was refused, all stays
+-- where an allocation failed, all stays
 pub legal-still : (reference : Tables) (history : List Entry) (old mid : Totals) (old_counts new_counts : Versions) → IsKeptLegal reference history old old_counts → SameAnswers old mid
     → (IsAccounted reference old → IsAccounted reference mid) → new_counts.days ≡ old_counts.days → ((group : Group) → version_in new_counts group ≡ version_in old_counts group)
     → IsKeptLegal reference history mid new_counts

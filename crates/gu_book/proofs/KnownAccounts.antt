@@ -61,7 +61,7 @@ rows-known reference old new accounts known all only account symbol h =
           | inr miss ↦ among more all.1 (sym (rw miss refl) ∙ e)
         ]
 
--- offers of which one is changed, where a growth wasn't refused
+-- offers of which one is changed, where no allocation failed
 pub offers-known : {T E : Type 0} (reference : Tables) (old new : Totals) (r : Result T E) (n : ℕ) (row : Row) (change : Row → Row) → row_at old.offers n ≡ Some row → (change row).offer ≡ row.offer
     → AllByRecursion (λ (o : Row). is_there reference o.offer.account) old.offers → OnOk r (new.offers ≡ changed old.offers n change) → OnErr r (SameAnswers old new)
     → AllByRecursion (λ (o : Row). is_there reference o.offer.account) new.offers

@@ -75,7 +75,7 @@ waiting_of Conflicting = None
 abbrev pub group_named_by : Tables → Terms → Option Group
 group_named_by reference terms = option_map (λ (i : Instrument). i.group) (instrument_row reference terms.symbol)
 
--- the firm's report with this id as it stands, and the product group of its instrument
+-- the firm's report with this id as it is now, and the product group of its instrument
 abbrev pub standing_given_up : Tables → Totals → FirmId → Id → Option (Standing × Group)
 standing_given_up reference totals firm id =
     option_and_then (λ (s : Standing). option_map (λ group. (s, group)) (group_named_by reference s.terms))
@@ -128,7 +128,7 @@ abbrev pub register_kept : Tables → Totals → Register
 register_kept reference totals =
     record { reference = reference; reports = totals.trades; offer = λ n. option_map (λ (r : Row). r.offer) (row_at totals.offers n) }
 
--- and with it, of each of the first entries, a set of firms that may hold whom it tells
+-- and with it, of each of the first entries, a set of firms that may hold whom it informs
 pub record IsKeptWhole (reference : Tables) (history : List Entry) (totals : Totals) (versions : Versions) (recipients : List FirmFilter) : Type 0 where
   pub entries : IsKeptLegal reference history totals versions
   pub told : AreRecipients (register_of (record { reference = reference; history = history })) history recipients

@@ -14,7 +14,7 @@ use Rattle.gu_book.specs.declared.error.CommitError.TheVariants.{Memory, Full, S
 abbrev pub sweep_of : ProposedSweep → SweepEntry
 sweep_of proposal = record { group = proposal.view.group; takes = proposal.takes; cut = proposal.cut; lots = proposal.lots }
 
--- the book has room for an entry, and the view is that of its group as the book stands
+-- the book has room for an entry, and the view is that of its group as the book is now
 pub record IsCurrent (book : BookState) (view : GroupView) : Type 0 where
   pub room : length book.history < 1000000
   pub known : is_group book.reference view.group ≡ true
@@ -33,7 +33,7 @@ pub record IsForeign (book : BookState) (view : GroupView) : Type 0 where
   pub untouched : view.version ≡ version_of book.history view.group
   pub other : ¬ IsCurrent book view
 
--- what each refusal says. A full book, a stale view, a foreign view and a current one: just one of the four stands
+-- what each refusal says. A full book, a stale view, a foreign view and a current one: exactly one of the four is so
 abbrev pub Refuses : BookState → GroupView → CommitError → Type 0
 Refuses book view Memory = IsCurrent book view
 Refuses book view Full = 1000000 ≤ length book.history

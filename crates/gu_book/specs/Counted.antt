@@ -17,7 +17,7 @@ own_in versions group = unwrap_or (get same_group versions.own group) 0
 abbrev pub version_in : Versions → Group → ℕ
 version_in versions group = versions.days + own_in versions group
 
--- a group has its count, and it stands at this place
+-- a group has its count, and it is at this place
 pub record IsCountAt (versions : Versions) (place : ℕ) (group : Group) : Type 0 where
   pub count : ℕ
   pub here : slice_get versions.own.entries place ≡ Some (group, count)

@@ -149,7 +149,7 @@ fn group_of(reference: &Reference, terms: &Terms) -> Option<Group>
     Some(instrument.group)
 }
 
-/// The firm's report with this id, as it stands, and the product group of its instrument.
+/// The firm's report with this id, as it is now, and the product group of its instrument.
 fn given_up(
     reference: &Reference,
     totals: &Totals,
@@ -508,11 +508,7 @@ pub fn decide<'a>(
             decide_give_up(reference, totals, asked)
         }
         Command::Claim { firm, offer } => decide_claim(reference, totals, *firm, *offer),
-        Command::Refuse {
-            firm,
-            offer,
-            why: _,
-        } => decide_refusal(reference, totals, *firm, *offer),
+        Command::Refuse { firm, offer, .. } => decide_refusal(reference, totals, *firm, *offer),
         Command::Reverse { firm, offer } => decide_reversal(reference, totals, *firm, *offer),
     }
 }

@@ -154,7 +154,7 @@ impl Book {
         ensures reply { IfOk result (λ reply. reply ≡ answer self.old.reference self.old.history command.now) }
         ensures stands { IfOk result (λ reply. StandsLast self.old.reference (length self.old.history + 1) (Entry.Asked command.now reply)) }
 
-        // Nothing is entered in a full book, or where a growth is refused.
+        // Nothing is entered in a full book, or where an allocation fails.
         ensures full { IsErrOf result EnterError.Full ↔ (1000000 ≤ length self.old.history) }
         ensures reference { self.new.reference ≡ self.old.reference }
         ensures refused { OnErr result (self.new.history ≡ self.old.history) }
@@ -172,7 +172,7 @@ impl Book {
         ensures entry { IfOk result (λ r. r.entry ≡ Entry.Asked command (answer self.old.reference self.old.history command)) }
         ensures stands { IfOk result (λ r. StandsLast self.old.reference r.number r.entry) }
 
-        // Nothing is entered in a full book, or where a growth is refused.
+        // Nothing is entered in a full book, or where an allocation fails.
         ensures full { IsErrOf result EnterError.Full ↔ (1000000 ≤ length self.old.history) }
         ensures reference { self.new.reference ≡ self.old.reference }
         ensures refused { OnErr result (self.new.history ≡ self.old.history) }
@@ -228,7 +228,7 @@ impl Book {
         }))
     }
 
-    /// The limits that were set in a group, as they stand: executing firms, agreements, accounts, carrying firms, guarantors,
+    /// The limits that were set in a group, as they are now: executing firms, agreements, accounts, carrying firms, guarantors,
     /// each in the order of the reference, guarantors in that of the firms.
     pub fn limits(&self, group: &Group) -> Result<Vec<LimitRow>, AllocError>
         ensures rows { IfOk result (λ rows. rows.items ≡ limit_rows self.now group.now) }
@@ -274,7 +274,7 @@ impl Book {
         stretch_of(self.alloc, &register, &log, &firm, from)
     }
 
-    /// The view of a group as the book stands: its open offers, and the room of each key that they come under.
+    /// The view of a group as the book is now: its open offers, and the room of each key that they come under.
     pub fn view(&self, group: &Group) -> Result<View, AskError>
         ensures view { IfOk result (λ view. view ≡ group_view self.now.reference self.now.history group.now) }
         ensures nested { IfOk result (λ view. IsNested view) }
@@ -401,7 +401,7 @@ impl Book {
         Ok(receipt_and_view(self.history.len() as u64, proposal))
     }
 
-    /// Commits a proposal: its sweep is entered, and its takes are claimed, where the group still stands as the proposal's view shows it.
+    /// Commits a proposal: its sweep is entered, and its takes are claimed, where the group is still as the proposal's view shows it.
     pub fn commit(&mut self, proposal: Proposal) -> Result<Receipt, (CommitError, Proposal)>
         ensures entered { IfOk result (λ r. self.new.history ≡ self.old.history ++ r.entry ∷ []) }
         ensures number { IfOk result (λ r. r.number ≡ length self.old.history + 1) }

@@ -8,7 +8,7 @@ use thiserror::Error;
 /// Why a command was not entered. The book is as it was.
 #[derive(Debug, Drop, Clone, Copy, PartialEq, Eq, Error)]
 pub enum EnterError {
-    /// A growth was refused.
+    /// An allocation failed.
     #[error("Memory")]
     Memory,
     /// The book has 1,000,000 entries.
@@ -29,7 +29,7 @@ impl From<AllocError> for EnterError {
 /// Why a question has no answer.
 #[derive(Debug, Drop, Clone, Copy, PartialEq, Eq, Error)]
 pub enum AskError {
-    /// A growth was refused.
+    /// An allocation failed.
     #[error("Memory")]
     Memory,
     /// The reference has no such group.
@@ -50,7 +50,7 @@ impl From<AllocError> for AskError {
 /// Why a sweep was not committed. The book is as it was.
 #[derive(Debug, Drop, Clone, Copy, PartialEq, Eq, Error)]
 pub enum CommitError {
-    /// A growth was refused.
+    /// An allocation failed.
     #[error("Memory")]
     Memory,
     /// The book has 1,000,000 entries.

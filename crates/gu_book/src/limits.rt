@@ -1,4 +1,4 @@
-//! Limits as they stand, in the order of the reference.
+//! Limits as they are now, in the order of the reference.
 
 ghost use Rattle.std.specs.Prelude.{◌≡◌, ◌++◌, IfOk, OnOk, map};
 ghost use Rattle.std.specs.List.{filter_map};

@@ -42,7 +42,7 @@ pub struct Totals {
     pub today: Option<Day>,
     /// The reports that were taken in.
     pub trades: Trades,
-    /// The offers that were made, as they stand.
+    /// The offers that were made, as they are now.
     pub offers: Offers,
     /// The give-ups that were accepted.
     pub give_ups: IndexSet<GiveUpKey, Seed>,

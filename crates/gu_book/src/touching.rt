@@ -19,7 +19,7 @@ pub fn know(versions: &mut Versions, touched: &Touched) -> Result<usize, AllocEr
     }
 }
 
-/// An entry touches these groups; the count of one that is touched alone stands at this place.
+/// An entry touches these groups; the count of one that is touched alone is at this place.
 pub fn touch(versions: &mut Versions, touched: &Touched, place: usize)
     requires known { HasCounts versions.old place touched.now }
     requires fits { (group : GroupOf) → version_in versions.old group + 1 < 2 ^ 64 }

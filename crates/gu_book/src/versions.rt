@@ -82,7 +82,7 @@ impl Versions {
         Ok(place)
     }
 
-    /// An entry touches a group, whose count stands at this place.
+    /// An entry touches a group, whose count is at this place.
     pub fn touch(&mut self, group: &Group, place: usize)
         requires known { IsCountAt self.old place group.now }
         requires fits { version_in self.old group.now + 1 < 2 ^ 64 }

@@ -27,7 +27,7 @@ use Rattle.gu_terms.specs.declared.takes.Take.{Take}
 use Rattle.gu_ref.specs.Tables.{Tables}
 use Rattle.gu_trades.specs.Reports.{report_of}
 use Rattle.gu_offers.specs.Changes.{changed, taken}
-use Rattle.gu_offers.specs.Rows.{Row, left_in, left_of}
+use Rattle.gu_offers.specs.Rows.{Row, left_in, left_of, row_at}
 use Rattle.gu_rules.specs.Legal.{IsAccepted, IsLegal, MayFollow, accepted_entry}
 use Rattle.gu_rules.specs.Answer.{done_of, state_of, tests_of}
 use Rattle.gu_rules.specs.Orderly.{IsShown}
@@ -142,14 +142,20 @@ denied reference history command why ordered =
 -- ---- sweeps
 
 -- the lots of a take are left of its offer
-abbrev IsLeft : List Row → Take → Type 0
+abbrev pub IsLeft : List Row → Take → Type 0
 IsLeft rows t = (0 < left_in rows t.offer) × (t.lots ≤ left_in rows t.offer)
 
--- takes, one after another
-all-taken : (reference : Tables) (sweep : SweepEntry) (takes : List Take) (history : List Entry) → IsOrdered reference history → Later (λ (a b : Take). a.offer < b.offer) takes
-    → AllByRecursion (IsLeft (standing_of history)) takes → IsOrdered reference (history ++ parts sweep takes)
-all-taken reference sweep [] history ordered later left = subst (IsOrdered reference) (sym (append-nil history)) ordered
-all-taken reference sweep (take ∷ takes) history ordered later left =
+-- one take of a sweep: what it makes of the offers, after which the others are still left
+pub record TakesFirst (reference : Tables) (history : List Entry) (sweep : SweepEntry) (take : Take) (takes : List Take) : Type 0 where
+  pub row : Row
+  pub at : row_at (standing_of history) take.offer ≡ Some row
+  pub rows : standing_of (history ++ part sweep take ∷ []) ≡ changed (standing_of history) take.offer (taken take.lots)
+  pub ordered : IsOrdered reference (history ++ part sweep take ∷ [])
+  pub left : AllByRecursion (IsLeft (standing_of (history ++ part sweep take ∷ []))) takes
+
+pub takes_first : (reference : Tables) (sweep : SweepEntry) (take : Take) (takes : List Take) (history : List Entry) → IsOrdered reference history → Later (λ (a b : Take). a.offer < b.offer) (take ∷ takes)
+    → AllByRecursion (IsLeft (standing_of history)) (take ∷ takes) → TakesFirst reference history sweep take takes
+takes_first reference sweep take takes history ordered later left =
     let entry = part sweep take in
     let old = standing_of history in
     let new = standing_of (history ++ entry ∷ []) in
@@ -157,31 +163,46 @@ all-taken reference sweep (take ∷ takes) history ordered later left =
     let one = part-takes sweep take in
     let rows : new ≡ changed old take.offer (taken take.lots) =
     standing_of-one history entry take.offer f.0 (taken take.lots) refl refl ordered.order.balanced (takes-others entry take.offer take.lots one) f.2.at (takes-own entry take.offer take.lots f.0 one) in
-    let next : IsOrdered reference (history ++ entry ∷ []) = record {
-      order = ordered-taken history entry take.offer take.lots f.0 one ordered.order f.2.at f.3 (omega (arith, f.4, left.0.1));
-      shown = subst (IsShown reference) (sym rows) (shown-taken reference old take.offer take.lots ordered.shown);
-    } in
     let stays : (t : Take) → take.offer < t.offer → left_in new t.offer ≡ left_in old t.offer = λ t after.
     ap (λ (rs : List Row). left_in rs t.offer) rows
     ∙ ap (λ (o : Option Row). option_map_or left_of o 0) (row_at-other old take.offer t.offer (taken take.lots) (λ same. absurd (omega (arith, after, same)))) in
-    let still = along2 (λ (t : Take). take.offer < t.offer) (IsLeft old) (IsLeft new) takes (λ t after has. (omega (arith, has.0, stays t after), omega (arith, has.1, stays t after))) later.0 left.1 in
-    subst (IsOrdered reference) (append_assoc history (entry ∷ []) (parts sweep takes)) (all-taken reference sweep takes (history ++ entry ∷ []) next later.1 still)
+    record {
+      row = f.0;
+      at = f.2.at;
+      rows = rows;
+      ordered = record {
+        order = ordered-taken history entry take.offer take.lots f.0 one ordered.order f.2.at f.3 (omega (arith, f.4, left.0.1));
+        shown = subst (IsShown reference) (sym rows) (shown-taken reference old take.offer take.lots ordered.shown);
+      };
+      left = along2 (λ (t : Take). take.offer < t.offer) (IsLeft old) (IsLeft new) takes (λ t after has. (omega (arith, has.0, stays t after), omega (arith, has.1, stays t after))) later.0 left.1;
+    }
+
+-- takes, one after another
+all-taken : (reference : Tables) (sweep : SweepEntry) (takes : List Take) (history : List Entry) → IsOrdered reference history → Later (λ (a b : Take). a.offer < b.offer) takes
+    → AllByRecursion (IsLeft (standing_of history)) takes → IsOrdered reference (history ++ parts sweep takes)
+all-taken reference sweep [] history ordered later left = subst (IsOrdered reference) (sym (append-nil history)) ordered
+all-taken reference sweep (take ∷ takes) history ordered later left =
+    let first = takes_first reference sweep take takes history ordered later left in
+    subst (IsOrdered reference) (append_assoc history (part sweep take ∷ []) (parts sweep takes)) (all-taken reference sweep takes (history ++ part sweep take ∷ []) first.ordered later.1 first.left)
+
+-- what a sweep takes is left
+pub sweep_left : (reference : Tables) (history : List Entry) (sweep : SweepEntry) → IsSweepOf (group_view reference history sweep.group) sweep → AllByRecursion (IsLeft (standing_of history)) sweep.takes
+sweep_left reference history sweep right =
+    let rows = standing_of history in
+    along (TakesLeft reference rows sweep.group (offers_shown reference history sweep.group)) (IsLeft rows) sweep.takes
+    (λ t takes.
+    let is : left_in rows t.offer ≡ left_of takes.stands.row = ap (left_in rows) (sym takes.number) ∙ ap (λ (o : Option Row). option_map_or left_of o 0) takes.stands.at in
+    (omega (arith, is, takes.stands.is_left), omega (arith, is, takes.lots, takes.stands.lots)))
+    (all-left reference history sweep right)
 
 -- a sweep that may follow
 swept : (reference : Tables) (history : List Entry) (sweep : SweepEntry) → IsOrdered reference history → IsSweepOf (group_view reference history sweep.group) sweep
     → IsOrdered reference (history ++ Swept sweep ∷ [])
 swept reference history sweep ordered right =
-    let rows = standing_of history in
-    let offers = offers_shown reference history sweep.group in
-    let left = along (TakesLeft reference rows sweep.group offers) (IsLeft rows) sweep.takes
-    (λ t takes.
-    let is : left_in rows t.offer ≡ left_of takes.stands.row = ap (left_in rows) (sym takes.number) ∙ ap (λ (o : Option Row). option_map_or left_of o 0) takes.stands.at in
-    (omega (arith, is, takes.stands.is_left), omega (arith, is, takes.lots, takes.stands.lots)))
-    (all-left reference history sweep right) in
     let one = history ++ parts sweep sweep.takes in
     let two = history ++ Swept sweep ∷ [] in
     let same = parts-same history sweep right.ascending in
-    let all = all-taken reference sweep sweep.takes history ordered (Later-from_AllPairs (λ (a b : Take). a.offer < b.offer) sweep.takes right.ascending) left in
+    let all = all-taken reference sweep sweep.takes history ordered (Later-from_AllPairs (λ (a b : Take). a.offer < b.offer) sweep.takes right.ascending) (sweep_left reference history sweep right) in
     record {
       order = ordered-same one two same all.order;
       shown = subst (IsShown reference) (standing_of-same one two same) all.shown;

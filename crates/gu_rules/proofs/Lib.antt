@@ -5,6 +5,7 @@ pub mod Ascending
 pub mod Balanced
 pub mod ChangedPositions
 pub mod ChangedSums
+pub mod Charges
 pub mod Covered
 pub mod Elsewhere
 pub mod Even
@@ -35,6 +36,7 @@ pub mod StillShown
 pub mod StretchLemmas
 pub mod SweptLots
 pub mod SweptOffers
+pub mod SweptRooms
 pub mod Takers
 pub mod Today
 pub mod UnknownGroups

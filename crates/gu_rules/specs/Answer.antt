@@ -1,4 +1,4 @@
--- The answer to a command: the first refusal that stands, or else what the command did.
+-- The answer to a command: the first refusal whose condition holds, or else what the command did.
 use Rattle.std.specs.Prelude.{ℕ, ◌+◌, ◌-◌, ◌==◌, ◌&&◌, ◌++◌, Bool, true, false, not, nat_lt, List, [], ◌∷◌, length, map, Option, Some, None, is_none, is_some, if◌then◌else◌}
 use Rattle.std.specs.List.{find, list_any}
 use Rattle.std.specs.Option.{option_and_then, option_map, option_map_or}
@@ -35,12 +35,12 @@ use Rattle.gu_rules.specs.Limits.{path_after, room_of}
 use Rattle.gu_rules.specs.Offers.{has_give_up, standing_of}
 use Rattle.gu_rules.specs.Reports.{open_day, reports_of}
 
--- the first refusal whose condition stands, or else what the command did
+-- the first refusal whose condition holds, or else what the command did
 abbrev pub first_standing : List (Bool × Refusal) → Done → Reply
 first_standing [] done = Accepted done
 first_standing (test ∷ tests) done = if test.0 then Denied test.1 else first_standing tests done
 
--- the first refusal whose condition stands, if one does
+-- the first refusal whose condition holds, if one does
 abbrev pub refusal_in : List (Bool × Refusal) → Option Refusal
 refusal_in tests = option_map (λ test. test.1) (find (λ test. test.0) tests)
 
@@ -92,11 +92,11 @@ report_tests reference reports report day =
     ∷ (conflicts (with_match report.match_id reports) report, MatchConflict)
     ∷ []
 
--- the keys that stand in the way of a claim: each key of a path under which there is less room than these lots
+-- the keys that refuse a claim: each key of a path under which there is less room than these lots
 abbrev pub room_tests : (LimitKey → ℕ) → ℕ → List LimitKey → List (Bool × Refusal)
 room_tests room lots path = map (λ key. (nat_lt (room key) lots, LimitReached key)) path
 
--- what answers depend on: the open day, the reports, the offers as they stand, which give-ups there were, and the room under each key
+-- what answers depend on: the open day, the reports, the offers as they are now, which give-ups there were, and the room under each key
 pub record State : Type 0 where
   pub today : Option Day
   pub reports : List Report
@@ -127,11 +127,11 @@ has_unknown_account reference lines = list_any (λ (l : Line). is_none (account_
 abbrev pub lacks_agreement : Tables → FirmId → List Line → Bool
 lacks_agreement reference firm lines = list_any (λ (l : Line). is_none (agreement_between reference firm l.account)) lines
 
--- the lots of a firm's report with this id, of so many, that may still be given up
+-- of this number of lots of a firm's report with this id, those that may still be given up
 abbrev pub free_lots : List Row → FirmId → Id → ℕ → ℕ
 free_lots offers firm id lots = lots - counted_under offers firm id
 
--- the tests of a give-up of a firm's report with this id, which stands so, in this group
+-- the tests of a give-up of a firm's report with this id and this standing, in this group
 abbrev pub tests_of_lines : Tables → List Row → FirmId → Id → Standing → Group → List Line → List (Bool × Refusal)
 tests_of_lines reference offers firm id standing group lines =
     (not standing.is_of_trade, NotMatched)
@@ -199,7 +199,7 @@ tests_of reference state (Claim firm offer) = offer_tests reference state firm o
 tests_of reference state (Refuse firm offer why) = offer_tests reference state firm offer ++ refuse_tests state offer
 tests_of reference state (Reverse firm offer) = offer_tests reference state firm offer ++ reverse_tests state offer
 
--- what a command does where no test stands. (A give-up without a report, for which there is no group, is refused by a test.)
+-- what a command does where no test holds. (A give-up without a report, for which there is no group, is refused by a test.)
 abbrev pub done_of : Tables → State → Command → Done
 done_of reference state (OpenDay day) = Opened
 done_of reference state (SetLimit group key lots) = LimitSet

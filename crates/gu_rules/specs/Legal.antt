@@ -9,7 +9,7 @@ use Rattle.gu_ref.specs.Tables.{Tables}
 use Rattle.gu_rules.specs.Answer.{answer, done_of, state_of}
 use Rattle.gu_rules.specs.Sweeps.{MaySweep}
 
--- an entry that may come after these: a command with the answer that they give, or a sweep of a group as it stands
+-- an entry that may come after these: a command with the answer that they give, or a sweep of a group as it is then
 abbrev pub MayFollow : Tables → List Entry → Entry → Type 0
 MayFollow reference before (Asked command reply) = reply ≡ answer reference before command
 MayFollow reference before (Swept sweep) = MaySweep reference before sweep
@@ -19,7 +19,7 @@ pub record IsLegal (reference : Tables) (history : List Entry) : Type 0 where
   pub within : length history ≤ 1000000
   pub each : (k : ℕ) (entry : Entry) → slice_get history k ≡ Some entry → MayFollow reference (take k history) entry
 
--- the entry is the last of some legal history of so many entries
+-- the entry is the last of some legal history of this number of entries
 pub record StandsLast (reference : Tables) (number : ℕ) (entry : Entry) : Type 0 where
   pub before : List Entry
   pub legal : IsLegal reference (before ++ entry ∷ [])

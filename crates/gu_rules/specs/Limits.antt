@@ -54,7 +54,7 @@ use_of reference history group key = use_in reference (standing_of history) grou
 abbrev pub room_of : Tables → List Entry → Group → LimitKey → ℕ
 room_of reference history group key = limit_of history group key - use_of reference history group key
 
--- a limit as it stands, where one was set
+-- a limit as it is now, where one was set
 abbrev pub limit_row : Tables → List Entry → Group → LimitKey → Option LimitRow
 limit_row reference history group key =
     option_map

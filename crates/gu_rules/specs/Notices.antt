@@ -1,4 +1,4 @@
--- Notices: what entries tell of their own accord, and whom.
+-- Notices: what entries send of their own accord, and to whom.
 use Rattle.std.specs.Prelude.{◌≡◌, ℕ, ◌+◌, ◌-◌, ◌<◌, ◌≤◌, ◌++◌, ◌&&◌, ◌⊎◌, ◌↔◌, IsTrue, nat_le, true, false, List, [], ◌∷◌, drop, filter, length, map, max, take, Option, if◌then◌else◌}
 use Rattle.std.specs.List.{flat_map, range_with_len}
 use Rattle.std.specs.Option.{option_map_or}
@@ -44,7 +44,7 @@ pub record Told : Type 0 where
   pub firm : FirmId
   pub notice : Notice
 
--- an event of an offer, of so many lots: the account is the offer's, the rest is of the trade that it gives up
+-- an event of an offer, of this number of lots: the account is the offer's, the rest is of the trade that it gives up
 abbrev pub offer_notice : ℕ → OfferEvent → ℕ → Offer → Terms → Notice
 offer_notice n event lots o t =
     OfferOf (record { offer = n; event = event; lots = lots; account = o.account; symbol = t.symbol; side = t.side; price = t.price; day = t.day })
@@ -81,7 +81,7 @@ told_on number side reports = map (λ (r : Report). record { firm = r.firm; noti
 abbrev pub told_of_trade : ℕ → List Report → List Told
 told_of_trade number reports = told_on number Buy reports ++ told_on number Sell reports
 
--- what the entry of a number tells: a report that makes a trade, a give-up by its lines, a claim, a refusal, a reversal, and a sweep by its takes; all else tells nothing
+-- the notices of the entry of a number: of a report that makes a trade, a give-up by its lines, a claim, a refusal, a reversal, and a sweep by its takes; nothing else has any
 abbrev pub told_by : Register → ℕ → Entry → List Told
 told_by register number (Asked (ReportSide firm id match_id symbol lots price day side account) (Accepted (Reported true))) = told_of_trade number (with_match match_id register.reports)
 told_by register number (Asked (GiveUp firm id report lines) (Accepted (Offered group first count))) = flat_map (told_of_line register) (range_with_len first (length lines))
@@ -91,7 +91,7 @@ told_by register number (Asked (Reverse firm n) (Accepted (Reversed lots))) = to
 told_by register number (Swept sweep) = flat_map (told_of_take register) sweep.takes
 told_by register number _ = []
 
--- what entries tell, of which the first has this number
+-- the notices of entries, of which the first has this number
 abbrev pub told_from : Register → ℕ → List Entry → List Told
 told_from register number [] = []
 told_from register number (entry ∷ later) = told_by register number entry ++ told_from register (number + 1) later
@@ -128,6 +128,6 @@ pub record IsStretchOf (register : Register) (history : List Entry) (firm : Firm
   pub onwards : stretch.is_last ≡ false → max 1 from < stretch.notices.next
   pub full : stretch.is_last ≡ false → (stretch.notices.next ≡ max 1 from + 1024) ⊎ (1024 ≤ length stretch.notices.list.items)
 
--- a stretch of what a book tells a firm from a number on
+-- a stretch of the notices of a book to a firm from a number on
 abbrev pub IsStretch : BookState → FirmId → ℕ → Stretch → Type 0
 IsStretch book firm from stretch = IsStretchOf (register_of book) book.history firm from stretch

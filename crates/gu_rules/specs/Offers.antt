@@ -50,17 +50,17 @@ closes n _ = false
 abbrev pub is_shut : List Entry → ℕ → Bool
 is_shut history n = list_any (closes n) history
 
--- an offer of this number, as it stands
+-- an offer of this number, as it is now
 abbrev pub standing : List Entry → ℕ → Offer → Row
 standing history n offer =
     record { offer = offer; moved = moved_of history n; today = moved_of (entries_today history) n; is_shut = is_shut history n }
 
--- offers, numbered from this number on, as they stand
+-- offers, numbered from this number on, as they are now
 abbrev pub standing_from : List Entry → ℕ → List Offer → List Row
 standing_from history n [] = []
 standing_from history n (offer ∷ offers) = standing history n offer ∷ standing_from history (n + 1) offers
 
--- all offers as they stand: the first has number 1
+-- all offers as they are now: the first has number 1
 abbrev pub standing_of : List Entry → List Row
 standing_of history = standing_from history 1 (offers_of history)
 

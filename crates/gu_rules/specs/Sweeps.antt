@@ -22,7 +22,7 @@ pub record IsSweepOf (view : GroupView) (sweep : SweepEntry) : Type 0 where
   pub right : IsRight view sweep.takes sweep.cut sweep.lots
   pub greatest : IsGreatest view (lots_of sweep.takes)
 
--- a sweep that may come after these entries: of a group of the reference, as its view stands then
+-- a sweep that may come after these entries: of a group of the reference, as its view is then
 pub record MaySweep (reference : Tables) (before : List Entry) (sweep : SweepEntry) : Type 0 where
   pub known : is_group reference sweep.group ≡ true
   pub sweeps : IsSweepOf (group_view reference before sweep.group) sweep

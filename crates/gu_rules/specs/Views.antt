@@ -21,7 +21,7 @@ shown reference o =
     (λ agreement. record { number = o.number; lots = o.left; agreement = agreement; path = path_after reference o.offer })
     (agreement_between reference o.offer.firm o.offer.account)
 
--- the open offers of a group, in the order of their numbers
+-- the open offers of a group, in the order of their numbers (each has an agreement, by the law that each offer gives up a trade by one)
 abbrev pub offers_shown : Tables → List Entry → Group → List ViewOffer
 offers_shown reference history group = filter_map (shown reference) (open_offers (standing_of history) group)
 

@@ -16,7 +16,7 @@ ghost use Rattle.gu_rules.specs.Notices.{notices_between, notices_of};
 ghost use Rattle.gu_rules.specs.Versions.{touches, touching, touching_after, version_of};
 ghost use Rattle.gu_rules.specs.Views.{group_view};
 
-/// The refusals of a command are tested in the order of their numbers: of those that stand, the one with the least
+/// The refusals of a command are tested in the order of their numbers: of those whose condition holds, the one with the least
 /// number is the reply.
 pub fn the_least_refusal_is_given()
     ensures ascend { (reference : Tables) (state : State) (command : CommandOf)

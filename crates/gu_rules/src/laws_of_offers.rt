@@ -1,11 +1,12 @@
 //! What holds of every legal history: of its offers, its positions and its views.
 
-ghost use Rattle.std.specs.Prelude.{◌≡◌, ◌≤◌, ◌*◌, ℕ, false, true, is_some, length, take, slice_get, List, Some};
+ghost use Rattle.std.specs.Prelude.{◌≡◌, ◌<◌, ◌≤◌, ◌*◌, ◌++◌, ◌∷◌, [], ℕ, false, true, is_some, length, take, slice_get, List, Some};
 ghost use Rattle.gu_terms.specs.declared.account.AccountId.{AccountId as AccountOf};
 ghost use Rattle.gu_terms.specs.declared.agreement.AgreementId.{AgreementId as AgreementOf};
 ghost use Rattle.gu_terms.specs.declared.entry.Entry.{Entry as EntryOf};
 ghost use Rattle.gu_terms.specs.declared.firm.FirmId.{FirmId as FirmOf};
 ghost use Rattle.gu_terms.specs.declared.group.Group.{Group as GroupOf};
+ghost use Rattle.gu_terms.specs.declared.limit_key.LimitKey.{LimitKey as KeyOf};
 ghost use Rattle.gu_terms.specs.declared.side.Side.{Side as SideOf};
 ghost use Rattle.gu_terms.specs.declared.symbol.Symbol.{Symbol as SymbolOf};
 ghost use Rattle.gu_limits.specs.Paths.{path_of};
@@ -14,7 +15,8 @@ ghost use Rattle.gu_ref.specs.Rules.{IsSound};
 ghost use Rattle.gu_ref.specs.Tables.{Tables};
 ghost use Rattle.gu_offers.specs.Rows.{open_count};
 ghost use Rattle.gu_rules.specs.Laws.{AllGiveUpTrades, AreShort};
-ghost use Rattle.gu_rules.specs.Legal.{IsLegal};
+ghost use Rattle.gu_rules.specs.Legal.{IsLegal, MayFollow};
+ghost use Rattle.gu_rules.specs.Limits.{limit_of, use_of};
 ghost use Rattle.gu_rules.specs.Offers.{offers_of, standing_of};
 ghost use Rattle.gu_rules.specs.Orderly.{AreWithin, IsBalanced, IsCovered};
 ghost use Rattle.gu_rules.specs.Positions.{LongIsShort, moved_out, traded};
@@ -44,6 +46,14 @@ pub fn no_more_leaves_an_account_than_it_traded()
     ensures { (reference : Tables) (history : List EntryOf) (side : SideOf) (account : AccountOf) (symbol : SymbolOf)
         → IsLegal reference history
         → moved_out (reports_of history) (standing_of history) side account symbol ≤ traded (reports_of history) side account symbol }
+{}
+
+/// Where an entry makes the use of a key greater, the use is at most the key's limit: nothing is charged above what was set.
+pub fn no_more_is_charged_than_a_limit_allows()
+    ensures { (reference : Tables) (history : List EntryOf) (entry : EntryOf) (group : GroupOf) (key : KeyOf)
+        → IsLegal reference history → length history < 1000000 → MayFollow reference history entry
+        → use_of reference history group key < use_of reference (history ++ entry ∷ []) group key
+        → use_of reference (history ++ entry ∷ []) group key ≤ limit_of (history ++ entry ∷ []) group key }
 {}
 
 /// Over the accounts of the reference, as many lots of each instrument are held long as short.

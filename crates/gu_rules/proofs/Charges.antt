@@ -1,0 +1,230 @@
+-- What an entry makes of the use of a key: where it grows, it stays within the limit.
+use Rattle.std.proofs.Common.{◌≡◌, ℕ, zero, suc, ◌+◌, ◌-◌, ◌<◌, ◌≤◌, ◌++◌, ◌&&◌, true, List, [], ◌∷◌, length, sum_by, Option, refl, sym, ap, ◌∙◌, arith, append-nil, append_assoc, inl, inr, subst, unwrap_or}
+use Rattle.std.proofs.lemmas.Bool.{cases_Bool}
+use Rattle.std.proofs.lemmas.List.Sums.{sum_by-cons}
+use Rattle.std.specs.List.{AllByRecursion}
+use Rattle.std.specs.Option.{option_map_or}
+use Rattle.std.specs.Prelude.{slice_index_or}
+use Rattle.gu_terms.proofs.KeyLemmas.{key_eq-same}
+use Rattle.gu_terms.proofs.Lists.{Later, Later-from_AllPairs}
+use Rattle.gu_terms.proofs.SameNames.{same_group-true}
+use Rattle.gu_terms.proofs.SameValues.{both}
+use Rattle.gu_terms.specs.LimitKeys.{has_key, key_eq}
+use Rattle.gu_terms.specs.Same.{same_group}
+use Rattle.gu_terms.specs.Takes.{lots_of}
+use Rattle.gu_terms.specs.declared.command.Command.{Command}
+use Rattle.gu_terms.specs.declared.command.Command.TheVariants.{OpenDay, SetLimit, ReportSide, GiveUp, Claim, Refuse, Reverse}
+use Rattle.gu_terms.specs.declared.entry.Entry.{Entry}
+use Rattle.gu_terms.specs.declared.entry.Entry.TheVariants.{Asked, Swept}
+use Rattle.gu_terms.specs.declared.entry.SweepEntry.{SweepEntry}
+use Rattle.gu_terms.specs.declared.firm.FirmId.{FirmId}
+use Rattle.gu_terms.specs.declared.group.Group.{Group}
+use Rattle.gu_terms.specs.declared.id.Id.{Id}
+use Rattle.gu_terms.specs.declared.limit_key.LimitKey.{LimitKey}
+use Rattle.gu_terms.specs.declared.lines.Line.{Line}
+use Rattle.gu_terms.specs.declared.reply.Done.{Done}
+use Rattle.gu_terms.specs.declared.reply.Reply.{Reply}
+use Rattle.gu_terms.specs.declared.reply.Reply.TheVariants.{Accepted, Denied}
+use Rattle.gu_terms.specs.declared.takes.Take.{Take}
+use Rattle.gu_ref.specs.Tables.{Tables}
+use Rattle.gu_limits.specs.Changes.{lots_under as lots_charged}
+use Rattle.gu_offers.specs.Changes.{changed, closed, reversed, taken}
+use Rattle.gu_offers.specs.Rows.{Row, left_in}
+use Rattle.gu_rules.specs.Legal.{IsAccepted, IsLegal, MayFollow, accepted_entry}
+use Rattle.gu_rules.specs.Limits.{limit_of, limit_set, path_after, room_of, use_in, use_of}
+use Rattle.gu_rules.specs.Offers.{standing_of}
+use Rattle.gu_rules.specs.Sweeps.{IsSweepOf, part, parts}
+use Rattle.gu_rules.specs.Views.{group_view, offers_shown}
+use Rattle.gu_rules.proofs.AcceptedCommands.{giving_up, is-accepted, opening, setting}
+use Rattle.gu_rules.proofs.ChangedSums.{use_in-closed, use_in-next_day, use_in-reversed, use_in-taken, use_in-with_lines}
+use Rattle.gu_rules.proofs.Facts.{claimable, refusable, reversible, row_at-other, today-is}
+use Rattle.gu_rules.proofs.GivenUp.{givable}
+use Rattle.gu_rules.proofs.InOrder.{IsInOrder}
+use Rattle.gu_rules.proofs.LegalOrder.{IsLeft, IsOrdered, legal_ordered, sweep_left, takes_first}
+use Rattle.gu_rules.proofs.Parts.{parts-same, standing_of-same}
+use Rattle.gu_rules.proofs.Quiet.{denied-lines, denied-quiet, limit_set-kept}
+use Rattle.gu_rules.proofs.Spoken.{denied-idle, refused, refused-others, refused-own, taken_back, taken_back-others, taken_back-own}
+use Rattle.gu_rules.proofs.StandingLemmas.{IsIdle}
+use Rattle.gu_rules.proofs.Stepping.{standing_of-idle, standing_of-lines, standing_of-one, standing_of-opened}
+use Rattle.gu_rules.proofs.SweptOffers.{all-left}
+use Rattle.gu_rules.proofs.SweptRooms.{all-used, none-used, under-room, used_by}
+use Rattle.gu_rules.proofs.Takers.{claim-takes, claimed, sweep-takes, takes-others, takes-own}
+
+-- where the use of a key grows with an entry, it is within the limit
+abbrev pub StaysWithin : Tables → List Entry → Entry → Group → LimitKey → Type 0
+StaysWithin reference history entry group key =
+    use_of reference history group key < use_of reference (history ++ entry ∷ []) group key
+    → use_of reference (history ++ entry ∷ []) group key ≤ limit_of (history ++ entry ∷ []) group key
+
+module _ (reference : Tables) (history : List Entry) (group : Group) (key : LimitKey) where
+  -- an entry that leaves the offers leaves the use
+  still : (entry : Entry) → standing_of (history ++ entry ∷ []) ≡ standing_of history → StaysWithin reference history entry group key
+  still entry same grows = absurd (omega (arith, grows, ap (λ (rs : List Row). use_in reference rs group key) same))
+
+  -- so does one that makes no use greater
+  lower : (entry : Entry) (rows : List Row) → standing_of (history ++ entry ∷ []) ≡ rows → use_in reference rows group key ≤ use_of reference history group key → StaysWithin reference history entry group key
+  lower entry rows are less grows = absurd (omega (arith, grows, less, ap (λ (rs : List Row). use_in reference rs group key) are))
+
+  -- and lots for which there is room may be added
+  higher : (entry : Entry) (lots : ℕ) → use_of reference (history ++ entry ∷ []) group key ≡ use_of reference history group key + lots → lots ≤ room_of reference history group key
+      → limit_set (history ++ entry ∷ []) group key ≡ limit_set history group key → StaysWithin reference history entry group key
+  higher entry lots more fits same grows =
+      let limit : limit_of (history ++ entry ∷ []) group key ≡ limit_of history group key = ap (λ (set : Option ℕ). unwrap_or set 0) same in
+      omega (arith, more, fits, limit, grows)
+
+-- what holds of each key by its place holds of one that is among them
+keyed-at : (P : LimitKey → Type 0) (keys : List LimitKey) (key : LimitKey) → has_key keys key ≡ true → ((k : ℕ) (d : LimitKey) → k < length keys → P (slice_index_or keys k d)) → P key
+keyed-at P [] key has each = cc
+keyed-at P (first ∷ keys) key has each =
+    elim (cases_Bool (key_eq first key)) [
+      | inl hit ↦ subst P (key_eq-same first key hit) (each zero first (omega arith))
+      | inr miss ↦ keyed-at P keys key (sym (rw miss refl) ∙ has) (λ k d within. each (suc k) d (omega (arith, within)))
+    ]
+
+-- ---- commands
+
+module _ (reference : Tables) (history : List Entry) (group : Group) (key : LimitKey) (o : IsInOrder history) where
+  -- a claim
+  claims : (firm : FirmId) (n : ℕ) → IsAccepted reference history (Claim firm n) → StaysWithin reference history (claimed firm n (left_in (standing_of history) n)) group key
+  claims firm n is =
+      let f = claimable reference history firm n o is in
+      let row = f.0 in
+      let may = f.2 in
+      let lots = left_in (standing_of history) n in
+      let entry = claimed firm n lots in
+      let takes = claim-takes firm n lots in
+      let path = path_after reference row.offer in
+      let rows = standing_of-one history entry n row (taken lots) takes.only.opens takes.only.lines o.balanced (takes-others entry n lots takes) may.there.at (takes-own entry n lots row takes) in
+      let more = ap (λ (rs : List Row). use_in reference rs group key) rows ∙ use_in-taken reference (standing_of history) n row lots may.there.at group key in
+      elim (cases_Bool (same_group group row.offer.group && has_key path key)) [
+        | inl under ↦
+            let parts = both _ _ under in
+            let own : group ≡ row.offer.group = same_group-true group row.offer.group parts.0 in
+            let fits : lots ≤ room_of reference history row.offer.group key = keyed-at (λ k. lots ≤ room_of reference history row.offer.group k) path key parts.1 may.room in
+            let charged : lots_charged row.offer.group path lots group key ≡ lots = rw under refl in
+            higher reference history group key entry (lots_charged row.offer.group path lots group key) more
+            (omega (arith, charged, fits, ap (λ (g : Group). room_of reference history g key) own))
+            (limit_set-kept history entry group key (takes.only.sets group key))
+        | inr apart ↦
+            let charged : lots_charged row.offer.group path lots group key ≡ 0 = rw apart refl in
+            λ grows. absurd (omega (arith, grows, more, charged))
+      ]
+
+  -- a give-up
+  gives_up : (firm : FirmId) (id own : Id) (lines : List Line) → IsAccepted reference history (GiveUp firm id own lines)
+      → StaysWithin reference history (accepted_entry reference history (GiveUp firm id own lines)) group key
+  gives_up firm id own lines is =
+      let f = givable reference history firm id own lines is in
+      let report = f.0 in
+      let at = f.1 in
+      let may = f.2 in
+      let entry = giving_up firm id own lines at (length (standing_of history) + 1) in
+      let idle : IsIdle entry = record { takes = λ n. refl; gives = λ n. refl; closed = λ n. refl } in
+      subst (λ (d : Done). StaysWithin reference history (Asked (GiveUp firm id own lines) (Accepted d)) group key) (sym may.did)
+      (lower reference history group key entry _ (standing_of-lines history entry firm own at lines refl idle refl o.balanced o.named)
+      (omega (arith, use_in-with_lines reference (standing_of history) firm own at lines group key)))
+
+  -- any command that is accepted
+  accepted : (command : Command) → IsAccepted reference history command → StaysWithin reference history (accepted_entry reference history command) group key
+  accepted (OpenDay day) is =
+      lower reference history group key (opening day) _ (standing_of-opened history (opening day) day refl refl (record { takes = λ n. refl; gives = λ n. refl; closed = λ n. refl }) o.balanced)
+      (omega (arith, use_in-next_day reference (standing_of history) group key))
+  accepted (SetLimit at on lots) is =
+      still reference history group key (setting at on lots) (standing_of-idle history (setting at on lots) refl refl o.balanced (record { takes = λ n. refl; gives = λ n. refl; closed = λ n. refl }))
+  accepted (ReportSide firm id match_id symbol lots price day side account) is =
+      let entry = accepted_entry reference history (ReportSide firm id match_id symbol lots price day side account) in
+      still reference history group key entry (standing_of-idle history entry refl refl o.balanced (record { takes = λ n. refl; gives = λ n. refl; closed = λ n. refl }))
+  accepted (GiveUp firm id own lines) is = gives_up firm id own lines is
+  accepted (Claim firm n) is = claims firm n is
+  accepted (Refuse firm n why) is =
+      let f = refusable reference history firm n why o is in
+      let lots = left_in (standing_of history) n in
+      lower reference history group key (refused firm n why lots) _
+      (standing_of-one history (refused firm n why lots) n f.0 closed refl refl o.balanced (refused-others firm n why lots) f.2.at (refused-own firm n why lots f.0))
+      (omega (arith, use_in-closed reference (standing_of history) n f.0 f.2.at group key))
+  accepted (Reverse firm n) is =
+      let f = reversible reference history firm n o is in
+      subst (λ (lots : ℕ). StaysWithin reference history (taken_back firm n lots) group key) (sym (today-is (standing_of history) n f.0 f.2.there.at))
+      (lower reference history group key (taken_back firm n f.0.today) _
+      (standing_of-one history (taken_back firm n f.0.today) n f.0 reversed refl refl o.balanced (taken_back-others firm n f.0.today) f.2.there.at (taken_back-own firm n f.0))
+      (omega (arith, use_in-reversed reference (standing_of history) n f.0 f.2.there.at group key)))
+
+-- ---- sweeps
+
+module _ (reference : Tables) (sweep : SweepEntry) (group : Group) (key : LimitKey) where
+  -- the lots that takes use, of these offers
+  abbrev used : List Row → List Take → ℕ
+  used rows takes = sum_by (used_by reference rows sweep.group (offers_shown reference [] sweep.group) group key) takes
+
+  -- takes of later offers use what they did
+  used-later : (rows : List Row) (n lots : ℕ) (takes : List Take) → AllByRecursion (λ (t : Take). n < t.offer) takes → used (changed rows n (taken lots)) takes ≡ used rows takes
+  used-later rows n lots [] later = refl
+  used-later rows n lots (take ∷ takes) later =
+      let same = row_at-other rows n take.offer (taken lots) (λ is. absurd (omega (arith, later.0, is))) in
+      let one : used_by reference (changed rows n (taken lots)) sweep.group (offers_shown reference [] sweep.group) group key take ≡ used_by reference rows sweep.group (offers_shown reference [] sweep.group) group key take =
+      ap (λ (found : Option Row). option_map_or (λ (r : Row). lots_charged r.offer.group (path_after reference r.offer) take.lots group key) found 0) same in
+      omega (
+        arith,
+        sum_by-cons (used_by reference (changed rows n (taken lots)) sweep.group (offers_shown reference [] sweep.group) group key) take takes,
+        sum_by-cons (used_by reference rows sweep.group (offers_shown reference [] sweep.group) group key) take takes,
+        one,
+        used-later rows n lots takes later.1,
+      )
+
+  -- takes, one after another, add to the use what they use
+  all-charged : (takes : List Take) (history : List Entry) → IsOrdered reference history → Later (λ (a b : Take). a.offer < b.offer) takes → AllByRecursion (IsLeft (standing_of history)) takes
+      → use_of reference (history ++ parts sweep takes) group key ≡ use_of reference history group key + used (standing_of history) takes
+  all-charged [] history ordered later left = ap (λ (h : List Entry). use_of reference h group key) (append-nil history) ∙ omega arith
+  all-charged (take ∷ takes) history ordered later left =
+      let old = standing_of history in
+      let next = history ++ part sweep take ∷ [] in
+      let first = takes_first reference sweep take takes history ordered later left in
+      let whole : use_of reference (history ++ parts sweep (take ∷ takes)) group key ≡ use_of reference (next ++ parts sweep takes) group key =
+      ap (λ (h : List Entry). use_of reference h group key) (sym (append_assoc history (part sweep take ∷ []) (parts sweep takes))) in
+      let mine : used_by reference old sweep.group (offers_shown reference [] sweep.group) group key take ≡ lots_charged first.row.offer.group (path_after reference first.row.offer) take.lots group key = rw first.at refl in
+      omega (
+        arith,
+        whole,
+        all-charged takes next first.ordered later.1 first.left,
+        ap (λ (rs : List Row). use_in reference rs group key) first.rows,
+        use_in-taken reference old take.offer first.row take.lots first.at group key,
+        ap (λ (rs : List Row). used rs takes) first.rows,
+        used-later old take.offer take.lots takes later.0,
+        sum_by-cons (used_by reference old sweep.group (offers_shown reference [] sweep.group) group key) take takes,
+        mine,
+      )
+
+  -- a sweep of a group's view
+  pub sweeps : (history : List Entry) → IsOrdered reference history → IsSweepOf (group_view reference history sweep.group) sweep → StaysWithin reference history (Swept sweep) group key
+  sweeps history ordered right =
+      let rows = standing_of history in
+      let later = Later-from_AllPairs (λ (a b : Take). a.offer < b.offer) sweep.takes right.ascending in
+      let all = all-charged sweep.takes history ordered later (sweep_left reference history sweep right) in
+      let same = standing_of-same (history ++ parts sweep sweep.takes) (history ++ Swept sweep ∷ []) (parts-same history sweep right.ascending) in
+      let more : use_of reference (history ++ Swept sweep ∷ []) group key ≡ use_of reference history group key + used rows sweep.takes = sym (ap (λ (rs : List Row). use_in reference rs group key) same) ∙ all in
+      let left = all-left reference history sweep right in
+      elim (cases_Bool (same_group group sweep.group)) [
+        | inl own ↦
+            let one : group ≡ sweep.group = same_group-true group sweep.group own in
+            let within = all-used reference rows sweep.group (offers_shown reference history sweep.group) group key sweep.takes later left in
+            let fits = under-room reference history sweep.group key (lots_of sweep.takes) right.right.admissible in
+            higher reference history group key (Swept sweep) (used rows sweep.takes) more (omega (arith, within, fits, ap (λ (g : Group). room_of reference history g key) one))
+            (limit_set-kept history (Swept sweep) group key ((sweep-takes sweep).sets group key))
+        | inr other ↦
+            let none = none-used reference rows sweep.group (offers_shown reference history sweep.group) group key sweep.takes other left in
+            λ grows. absurd (omega (arith, grows, more, none))
+      ]
+
+-- ---- all of it
+
+-- an entry that may follow a legal history
+pub stays_within : (reference : Tables) (history : List Entry) (entry : Entry) (group : Group) (key : LimitKey) → IsLegal reference history → length history < 1000000 → MayFollow reference history entry
+    → StaysWithin reference history entry group key
+stays_within reference history (Asked command (Denied why)) group key legal room may =
+    let o = (legal_ordered reference history legal).order in
+    still reference history group key (Asked command (Denied why)) (standing_of-idle history (Asked command (Denied why)) (denied-quiet history command why).opens (denied-lines command why) o.balanced (denied-idle command why))
+stays_within reference history (Asked command (Accepted done)) group key legal room may =
+    let is = is-accepted reference history command (Accepted done) room may refl in
+    subst (λ (r : Reply). StaysWithin reference history (Asked command r) group key) (sym (may ∙ is.accepted))
+    (accepted reference history group key (legal_ordered reference history legal).order command is)
+stays_within reference history (Swept sweep) group key legal room may = sweeps reference sweep group key history (legal_ordered reference history legal) may.sweeps
