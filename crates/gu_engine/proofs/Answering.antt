@@ -115,6 +115,10 @@ module _ {S : Type 0} (engine : Engine S) (now : ℕ) where
   pub all_done : (old : S) (brought : List Event) → engine.is_done old ≡ true → AnswersAll engine now old brought [] old
   all_done old brought done = record { some = some_none old brought; all = inr done }
 
+  -- where nothing is left to be done it stays so
+  pub done_stays : (mid new : S) (brought : List Event) (text : List ℕ) → engine.is_done mid ≡ true → AnswersAll engine now mid brought text new → engine.is_done new ≡ true
+  done_stays mid new brought text done all = ap engine.is_done (none_done mid new all.some.events text done all.some.answered).1 ∙ done
+
   -- of nothing that was brought, nothing is left
   none_other : (old new : S) (text : List ℕ) (some : AnswersSome engine now old [] text new) → (brought_in some.events ≡ []) × (some.others ≡ [])
   none_other old new text some = both_none (brought_in some.events) some.others some.split
@@ -182,6 +186,10 @@ module _ {S : Type 0} (engine : Engine S) (now : ℕ) where
     split = ap (λ (es : List Event). es ++ more) some.split ∙ append_assoc (brought_in some.events) some.others more;
     answered = some.answered;
   }
+
+  -- where nothing is left to be done all of more is answered
+  pub all_more : (old new : S) (brought more : List Event) (text : List ℕ) → AnswersAll engine now old brought text new → engine.is_done new ≡ true → AnswersAll engine now old (brought ++ more) text new
+  all_more old new brought more text all done = record { some = some_more old new brought more text all.some; all = inr done }
 
   -- and so of what was written
   pub part_more : (old : S) (brought more : List Event) (held : List ℕ) (o p : Option (List ℕ)) → GivesPart engine now old brought held o p → GivesPart engine now old (brought ++ more) held o p

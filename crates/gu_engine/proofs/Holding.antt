@@ -40,5 +40,5 @@ wrote_after text more held mid o p q first part =
     subst (λ (t : List ℕ). WrotePart t o q) parts (wrote_then first.sent (mid ++ more) o p q first.appended part)
 
 -- a text was given, and then all that is held was written
-pub wrote_held : (text held : List ℕ) (o p q : Option (List ℕ)) → Gives text [] held o p → Appends p q held → Appends o q text
-wrote_held text held o p q gives sent = subst (Appends o q) (sym gives.parts) (Appends-trans o p q gives.sent held gives.appended sent)
+pub wrote_held : (text old held : List ℕ) (o p q : Option (List ℕ)) → Gives text old held o p → Appends p q held → Appends o q (old ++ text)
+wrote_held text old held o p q gives sent = subst (Appends o q) (sym gives.parts) (Appends-trans o p q gives.sent held gives.appended sent)

@@ -1,19 +1,19 @@
 -- The turns of an engine.
-use Rattle.std.proofs.Common.{◌≡◌, ◌<◌, ◌≤◌, ◌+◌, ℕ, true, false, List, [], ◌∷◌, ◌++◌, length, map, take, Option, None, Some, inl, inr, refl, sym, ap, subst, ◌∙◌, arith}
+use Rattle.std.proofs.Common.{◌≡◌, ◌⊎◌, ◌<◌, ◌≤◌, ◌+◌, ℕ, Bool, true, false, List, [], ◌∷◌, ◌++◌, length, take, Option, None, Some, inl, inr, refl, sym, ap, subst, ◌∙◌, arith}
 use Rattle.std.specs.List.{concat}
 use Rattle.std.specs.Io.KnownBytes.{Consumes, Appends, Keeps, IsAtEnd}
 use Rattle.std.proofs.KnownBytes.{Appends-trans, Appends-nil, Consumes-trans, Consumes-nil, Consumes-kept}
 use Rattle.std.proofs.lemmas.List.{append-nil, length-take, map-append}
 use Rattle.std.proofs.lemmas.List.Folds.{concat-append}
-use Rattle.gu_fix.specs.Stream.{TakesPiece}
+use Rattle.gu_fix.specs.Stream.{AreFrames, LeadsOn}
 use Rattle.gu_streams.specs.Reads.{Stopped, Took, Waited, bytes_left, waits_left}
 use Rattle.gu_streams.specs.Streams.{streams_of}
 use Rattle.gu_streams.specs.declared.counted_reads.CountedReads.{CountedReads}
 use Rattle.gu_streams.proofs.Writing.{wrote_all, wrote_then}
 use Rattle.gu_engine.specs.Running.{AnswersAll, AnswersPiece, AnswersPieces, Between, Brings, Engine, HasRead, HaveBytes, Piece, Served, ServedInPart, ServedSoFar, turns_of, wait_of, waits_in}
-use Rattle.gu_engine.specs.Sends.{GivesPart}
+use Rattle.gu_engine.specs.Sends.{BringsFrames, GivesPart}
 use Rattle.gu_engine.specs.declared.event.Event.{Event}
-use Rattle.gu_engine.specs.declared.event.Event.TheVariants.{Frame, Over}
+use Rattle.gu_engine.specs.declared.event.Event.TheVariants.{Over}
 use Rattle.gu_engine.proofs.InTurn.{each_more}
 
 -- a state, and the bytes that make no frame yet
@@ -40,9 +40,20 @@ no_wait [] some = absurd (omega arith)
 no_wait (byte ∷ bytes) some = refl
 
 -- what a turn with bytes brings
-pub brings_frames : (kept bytes : List ℕ) (frames : List (List ℕ)) (next : List ℕ) → 0 < length bytes → TakesPiece kept bytes frames next → Brings kept bytes (map Frame frames ++ Over ∷ []) next
-brings_frames kept [] frames next some takes = absurd (omega arith)
-brings_frames kept (byte ∷ bytes) frames next some takes = (frames, takes, refl)
+pub brings_frames : (kept bytes all : List ℕ) (brought : List Event) (brings : BringsFrames all brought) → all ≡ kept ++ bytes → 0 < length bytes → Brings kept bytes (brought ++ Over ∷ []) brings.kept
+brings_frames kept [] all brought brings is some = absurd (omega arith)
+brings_frames kept (byte ∷ bytes) all brought brings is some = (
+  brings.frames,
+  record {
+    given_are = subst (λ (t : List ℕ). AreFrames t brings.frames) is brings.takes.given_are;
+    leads_on = subst (λ (t : List ℕ). LeadsOn t brings.frames brings.kept) is brings.takes.leads_on;
+  },
+  ap (λ (es : List Event). es ++ Over ∷ []) brings.brought_is,
+)
+
+-- all that is kept is left, where something is left to be done
+pub still_kept : (kept left : List ℕ) (done : Bool) → done ≡ false → (kept ≡ left) ⊎ (done ≡ true) → kept ≡ left
+still_kept kept left done more is = elim is [ inl same ↦ same | inr all ↦ absurd (let e : true ≡ false = sym all ∙ more in cc) ]
 
 -- the bytes and the waits of one turn more
 concat_more : (turns : List (List ℕ)) (bytes : List ℕ) → concat turns ++ bytes ≡ concat (turns ++ bytes ∷ [])

@@ -1,4 +1,4 @@
-//! The loop of an engine of messages: a reader, a feed, what answers, and a writer; and one connection of a firm as what answers.
+//! The loop of an engine of messages: a reader, an intake, what answers, and a writer; and one connection of a firm as what answers.
 #![tactic(auto)]
 
 mod answerer;

@@ -1,18 +1,17 @@
-//! The loop of every engine of messages: reader, feed, what answers, and writer.
+//! The loop of every engine of messages: reader, intake, what answers, and writer.
 
-ghost use Rattle.std.specs.Prelude.{◌≡◌, ◌⊎◌, ◌≤◌, ◌++◌, ◌∷◌, ◌<◌, [], List, ℕ, true, false, length, map, IfErr, IsErrOf, OnErr, OnOk};
+ghost use Rattle.std.specs.Prelude.{◌≡◌, ◌⊎◌, ◌≤◌, ◌++◌, ◌∷◌, ◌<◌, [], List, ℕ, true, false, length, IfErr, IsErrOf, OnErr, OnOk};
 ghost use Rattle.std.specs.Io.KnownBytes.{Appends};
-ghost use Rattle.std.specs.Option.{option_map};
 ghost use Rattle.gu_streams.specs.Reads.{HasStopped};
 ghost use Rattle.gu_streams.specs.Streams.{streams_of};
 ghost use Rattle.gu_streams.specs.Written.{WrotePart};
 ghost use Rattle.gu_engine.specs.Running.{Answers, AnswersAll, FailsToBegin, Served, ServedInPart, ServedSoFar, brought_in, is_more};
-ghost use Rattle.gu_engine.specs.Sends.{Gives, GivesPart, IsAnswerFault, IsReady, events_of};
-ghost use Rattle.gu_engine.specs.declared.event.Event.TheVariants.{Frame as FrameOf, Over};
+ghost use Rattle.gu_engine.specs.Sends.{BringsFrames, Gives, GivesPart, IsAnswerFault, IsReady, LeavesKept};
+ghost use Rattle.gu_engine.specs.declared.event.Event.TheVariants.{Over, Silence};
 
 use crate::answerer::Answerer;
 use crate::event::Event;
-use gu_fix::{Feed, Frame};
+use gu_fix::Intake;
 use gu_streams::{CountedReads, LONGEST_READ, StreamError, Turn, send};
 use gu_terms::Moment;
 use std::alloc::Global;
@@ -96,64 +95,102 @@ fn answer_event<W: Write, A: Answerer>(
     give_due(writer, answerer, now, output)
 }
 
-/// Answers frames, one after another.
+/// Takes frames one after another, and answers each before the next is taken, until there is none or nothing is left to be done.
 fn answer_frames<W: Write, A: Answerer>(
     writer: &mut W,
     answerer: &mut A,
-    frames: Vec<Frame>,
+    intake: &mut Intake,
     now: Moment,
     output: &mut Vec<u8>,
 ) -> Result<(), StreamError>
     requires { IsReady A.engine answerer.old }
-    ensures answered { OnOk result ((text : List ℕ) × AnswersAll A.engine now answerer.old (map FrameOf frames.items) text answerer.new
+    ensures answered { OnOk result ((brought : List Event) × LeavesKept A.engine intake.old brought answerer.new intake.new
+        × (text : List ℕ) × AnswersAll A.engine now answerer.old brought text answerer.new
         × Gives text output.old.items output.new.items (W.contents writer.old) (W.contents writer.new)) }
-    ensures part { OnErr result (GivesPart A.engine now answerer.old (map FrameOf frames.items) output.old.items (W.contents writer.old) (W.contents writer.new)) }
+    ensures part { OnErr result ((brought : List Event) × BringsFrames intake.old brought
+        × GivesPart A.engine now answerer.old brought output.old.items (W.contents writer.old) (W.contents writer.new)) }
     ensures faults { IfErr result IsAnswerFault }
 {
-    for frame in frames {
+    'frames: while !answerer.is_done() {
+        let Ok(next) = intake.next_frame() else {
+            return Err(StreamError::Memory);
+        };
+        let Some(frame) = next else {
+            return Ok(());
+        };
         answer_event(writer, answerer, Event::Frame(frame), now, output)?;
     }
     Ok(())
 }
 
-/// Answers what a turn gave: frames, or nothing.
-fn answer_given<W: Write, A: Answerer>(
+/// Gives what is due from before a turn.
+fn begin_answers<W: Write, A: Answerer>(
     writer: &mut W,
     answerer: &mut A,
-    frames: Option<Vec<Frame>>,
+    now: Moment,
+    output: &mut Vec<u8>,
+) -> Result<(), StreamError>
+    ensures answered { OnOk result ((text : List ℕ) × AnswersAll A.engine now answerer.old [] text answerer.new
+        × Gives text [] output.new.items (W.contents writer.old) (W.contents writer.new)) }
+    ensures part { OnErr result (GivesPart A.engine now answerer.old [] [] (W.contents writer.old) (W.contents writer.new)) }
+    ensures faults { IfErr result IsAnswerFault }
+{
+    output.clear();
+    give_due(writer, answerer, now, output)
+}
+
+/// Answers that a turn is over, and sends what is held.
+fn end_answers<W: Write, A: Answerer>(
+    writer: &mut W,
+    answerer: &mut A,
     now: Moment,
     output: &mut Vec<u8>,
 ) -> Result<(), StreamError>
     requires { IsReady A.engine answerer.old }
-    ensures answered { OnOk result ((text : List ℕ) × AnswersAll A.engine now answerer.old (events_of (option_map (λ frames. frames.items) frames)) text answerer.new
-        × Gives text output.old.items output.new.items (W.contents writer.old) (W.contents writer.new)) }
-    ensures part { OnErr result (GivesPart A.engine now answerer.old (events_of (option_map (λ frames. frames.items) frames)) output.old.items (W.contents writer.old) (W.contents writer.new)) }
+    ensures answered { OnOk result ((text : List ℕ) × AnswersAll A.engine now answerer.old (Over ∷ []) text answerer.new
+        × Appends (W.contents writer.old) (W.contents writer.new) (output.old.items ++ text)) }
+    ensures part { OnErr result (GivesPart A.engine now answerer.old (Over ∷ []) output.old.items (W.contents writer.old) (W.contents writer.new)) }
     ensures faults { IfErr result IsAnswerFault }
 {
-    match frames {
-        Some(frames) => answer_frames(writer, answerer, frames, now, output),
-        None => answer_event(writer, answerer, Event::Silence, now, output),
-    }
+    answer_event(writer, answerer, Event::Over, now, output)?;
+    send(writer, output)
 }
 
-/// Answers a turn, and sends the answers.
-fn answer_turn<W: Write, A: Answerer>(
+/// Answers a turn that gave bytes, and sends the answers.
+fn answer_bytes<W: Write, A: Answerer>(
     writer: &mut W,
     answerer: &mut A,
-    frames: Option<Vec<Frame>>,
+    intake: &mut Intake,
     now: Moment,
     output: &mut Vec<u8>,
 ) -> Result<(), StreamError>
-    ensures answered { OnOk result ((text : List ℕ) × AnswersAll A.engine now answerer.old (events_of (option_map (λ frames. frames.items) frames) ++ Over ∷ []) text answerer.new
+    ensures answered { OnOk result ((brought : List Event) × LeavesKept A.engine intake.old brought answerer.new intake.new
+        × (text : List ℕ) × AnswersAll A.engine now answerer.old (brought ++ Over ∷ []) text answerer.new
         × Appends (W.contents writer.old) (W.contents writer.new) text) }
-    ensures part { OnErr result (GivesPart A.engine now answerer.old (events_of (option_map (λ frames. frames.items) frames) ++ Over ∷ []) [] (W.contents writer.old) (W.contents writer.new)) }
+    ensures part { OnErr result ((brought : List Event) × BringsFrames intake.old brought
+        × GivesPart A.engine now answerer.old (brought ++ Over ∷ []) [] (W.contents writer.old) (W.contents writer.new)) }
     ensures faults { IfErr result IsAnswerFault }
 {
-    output.clear();
-    give_due(writer, answerer, now, output)?;
-    answer_given(writer, answerer, frames, now, output)?;
-    answer_event(writer, answerer, Event::Over, now, output)?;
-    send(writer, output)
+    begin_answers(writer, answerer, now, output)?;
+    answer_frames(writer, answerer, intake, now, output)?;
+    end_answers(writer, answerer, now, output)
+}
+
+/// Answers a turn that gave nothing, and sends the answers.
+fn answer_silence<W: Write, A: Answerer>(
+    writer: &mut W,
+    answerer: &mut A,
+    now: Moment,
+    output: &mut Vec<u8>,
+) -> Result<(), StreamError>
+    ensures answered { OnOk result ((text : List ℕ) × AnswersAll A.engine now answerer.old (Silence ∷ Over ∷ []) text answerer.new
+        × Appends (W.contents writer.old) (W.contents writer.new) text) }
+    ensures part { OnErr result (GivesPart A.engine now answerer.old (Silence ∷ Over ∷ []) [] (W.contents writer.old) (W.contents writer.new)) }
+    ensures faults { IfErr result IsAnswerFault }
+{
+    begin_answers(writer, answerer, now, output)?;
+    answer_event(writer, answerer, Event::Silence, now, output)?;
+    end_answers(writer, answerer, now, output)
 }
 
 /// Answers what the reader gives, turn by turn, until it is at its end or nothing is left to be done.
@@ -175,7 +212,7 @@ pub fn run<R: Read, W: Write, A: Answerer>(
     // In any case, and so after each error: what was written is a prefix of the answers to what was read.
     ensures part { ServedInPart A.engine answerer.old (streams_of R.remaining W.contents reads.old reads.new writer.old writer.new) }
 {
-    let mut feed = Feed::new(alloc);
+    let mut intake = Intake::new(alloc);
     let mut output = Vec::new(alloc);
     let mut buffer = [0; LONGEST_READ];
     'turns: while !answerer.is_done() {
@@ -186,16 +223,16 @@ pub fn run<R: Read, W: Write, A: Answerer>(
                 let Ok(now) = answerer.begin_turn() else {
                     return Err(StreamError::Read);
                 };
-                let Ok(frames) = feed.push(&buffer[..count]) else {
+                let Ok(()) = intake.push(&buffer[..count]) else {
                     return Err(StreamError::Memory);
                 };
-                answer_turn(writer, answerer, Some(frames), now, &mut output)?;
+                answer_bytes(writer, answerer, &mut intake, now, &mut output)?;
             }
             Turn::Nothing => {
                 let Ok(now) = answerer.begin_turn() else {
                     return Err(StreamError::Read);
                 };
-                answer_turn(writer, answerer, None, now, &mut output)?;
+                answer_silence(writer, answerer, now, &mut output)?;
             }
         }
     }

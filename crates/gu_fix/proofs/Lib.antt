@@ -1,5 +1,6 @@
 pub mod WholeLemmas
 pub mod StreamLaws
+pub mod NextFrames
 pub mod OneReading
 pub mod ReadBack
 mod Lists

@@ -8,3 +8,4 @@ pub mod Places
 pub mod SoundLength
 pub mod Sums
 pub mod Spans
+pub mod Scans

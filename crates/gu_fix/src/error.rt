@@ -8,7 +8,7 @@ use thiserror::Error;
 /// Why a feed takes no piece.
 #[derive(Clone, Copy, Debug, Error, PartialEq, Eq)]
 pub enum FeedError {
-    /// A growth was refused. The feed is as it was, and the piece may be fed again.
+    /// An allocation failed. The feed is as it was, and the piece may be fed again.
     #[error("Memory")]
     Memory,
 }
@@ -27,7 +27,7 @@ impl From<AllocError> for FeedError {
 /// Why fields make no message, in the order in which it is looked for over all of them.
 #[derive(Clone, Copy, Debug, Error, PartialEq, Eq)]
 pub enum EncodeError {
-    /// A growth was refused.
+    /// An allocation failed.
     #[error("Memory")]
     Memory,
     /// The first tag isn't 35, or a tag is 0, 8, 9, 10 or above 999,999,999.

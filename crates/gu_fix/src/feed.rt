@@ -10,6 +10,8 @@ use std::alloc::Global;
 use std::marker::Model;
 
 /// What keeps the bytes of a stream that are not decided yet. To a contract it is those bytes.
+///
+/// The program takes its frames one at a time, by an `Intake`.
 #[derive(Drop)]
 pub struct Feed {
     alloc: Global,

@@ -7,6 +7,7 @@ mod error;
 mod feed;
 mod field;
 mod frame;
+mod intake;
 mod laws;
 mod prefix;
 mod scan;
@@ -20,6 +21,7 @@ pub use error::{EncodeError, FeedError, FieldFault, SessionRejectReason};
 pub use feed::Feed;
 pub use field::{Field, Fields, Iter};
 pub use frame::Frame;
+pub use intake::Intake;
 pub use laws::{
     a_message_in_front_is_the_first_frame, a_message_is_read_back,
     a_message_of_sound_fields_is_whole, frames_are_those_of_the_joined_pieces, frames_exist,

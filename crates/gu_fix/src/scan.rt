@@ -1,13 +1,22 @@
 //! The frames of bytes that lie together.
 ghost use Rattle.std.specs.Prelude.{◌≡◌, ◌<◌, ◌≤◌, IfOk, length, drop};
-ghost use Rattle.gu_fix.specs.WholeMessage.{IsWhole};
 ghost use Rattle.gu_fix.specs.Stream.{AreFrames, GarbledBefore, IsGarbled, IsOpen, LeadsOn};
+ghost use Rattle.gu_fix.specs.Scans.{ComesNext};
 
 use crate::frame::Frame;
 use crate::prefix::{Prefix, place_at};
 use crate::window::Window;
 use memchr::memchr;
 use std::alloc::{AllocError, Global};
+
+/// What comes next of a window.
+#[derive(Clone, Copy)]
+pub enum Next {
+    /// A whole message, from one place up to another.
+    Whole(usize, usize),
+    /// A place from which a message may still come.
+    Open(usize),
+}
 
 /// The next place after a garbled one at which a message may begin, or the end.
 fn next_start(bytes: &[u8]) -> usize
@@ -23,6 +32,26 @@ fn next_start(bytes: &[u8]) -> usize
     }
 }
 
+/// What comes next of the window from a place on, where garbled places are passed over.
+pub fn next_from(window: &mut Window, from: usize) -> Result<Next, AllocError>
+    requires within { from ≤ length window.old }
+    ensures next { IfOk result (λ next. ComesNext next window.old from) }
+    ensures same { window.new ≡ window.old }
+{
+    let mut at = from;
+    'places: loop {
+        let rest = &window.bytes()[at..];
+        match place_at(rest, window, at) {
+            Prefix::Whole(len) => return Ok(Next::Whole(at, at + len)),
+            Prefix::Open => return Ok(Next::Open(at)),
+            Prefix::Garbled => {
+                at += next_start(rest);
+                window.keep_sums()?;
+            }
+        }
+    }
+}
+
 /// The frames of the window, and how many bytes lie before the place that stays open.
 pub fn scan(alloc: Global, window: &mut Window) -> Result<(Vec<Frame>, usize), AllocError>
     ensures within { IfOk result (λ r. r.1 ≤ length window.old) }
@@ -33,18 +62,14 @@ pub fn scan(alloc: Global, window: &mut Window) -> Result<(Vec<Frame>, usize), A
 {
     let mut frames = Vec::new(alloc);
     let mut at = 0;
-    'places: loop {
-        let rest = &window.bytes()[at..];
-        match place_at(rest, window, at) {
-            Prefix::Whole(len) => {
-                frames.push(Frame::new(alloc, &rest[..len])?)?;
-                at += len;
+    'messages: loop {
+        let next = next_from(window, at)?;
+        match next {
+            Next::Whole(start, end) => {
+                frames.push(Frame::new(alloc, &window.bytes()[start..end])?)?;
+                at = end;
             }
-            Prefix::Open => return Ok((frames, at)),
-            Prefix::Garbled => {
-                at += next_start(rest);
-                window.keep_sums()?;
-            }
+            Next::Open(place) => return Ok((frames, place)),
         }
     }
 }

@@ -21,6 +21,20 @@ fn joined(alloc: Global, frames: &[Frame]) -> Result<Vec<u8>, AllocError> {
     Ok(bytes)
 }
 
+/// The bytes of the messages that a feed gives of a stream in pieces of so many bytes, one after another.
+pub fn given_by_pieces(
+    alloc: Global,
+    feed: &mut Feed,
+    stream: &[u8],
+    size: usize,
+) -> Result<Vec<u8>, AllocError> {
+    let mut given = Vec::new(alloc);
+    for piece in stream.chunks(size.max(1)) {
+        given.extend_from_slice(&given_of(alloc, feed, piece)?)?;
+    }
+    Ok(given)
+}
+
 /// The bytes of the messages that a feed gives of a stream, one after another.
 fn given_of(alloc: Global, feed: &mut Feed, stream: &[u8]) -> Result<Vec<u8>, AllocError> {
     let frames = pushed(feed, stream)?;
@@ -28,7 +42,7 @@ fn given_of(alloc: Global, feed: &mut Feed, stream: &[u8]) -> Result<Vec<u8>, Al
 }
 
 /// Two texts one after another, on the wire.
-fn stream_of(alloc: Global, first: &str, second: &str) -> Result<String, AllocError> {
+pub fn stream_of(alloc: Global, first: &str, second: &str) -> Result<String, AllocError> {
     let text = format!(in alloc; "{first}{second}")?;
     wire(alloc, text.as_str())
 }
@@ -42,14 +56,14 @@ pub fn told(alloc: Global, front: &str) -> Result<String, AllocError> {
 }
 
 /// Fronts that a message may follow from.
-const OPEN: &str = "\
+pub const OPEN: &str = "\
 8=FIXT.1.1|9=65510|35=
 8=FIXT.1.1|9=0000200|35=0|
 8=FIXT.1.1|9=200|35=0|
 ";
 
 /// Fronts whose last byte fits no message.
-const GARBLED: &str = "\
+pub const GARBLED: &str = "\
 8=FIXT.1.1|9=5| -> SECOND
  -> SECOND
 8=FIXT.1.1|9=65511 -> SECOND
@@ -75,7 +89,7 @@ fn a_front_is_kept_while_a_message_may_follow_from_it_and_no_longer(rt: HostRunt
 }
 
 /// A message whose text holds another, with a sound CheckSum and with a wrong one.
-const INSIDE: &str = "\
+pub const INSIDE: &str = "\
 8=FIXT.1.1|9=37|35=0|58=x|8=FIXT.1.1|9=5|35=0|10=241|10=112| -> 8=FIXT.1.1|9=37|35=0|58=x|8=FIXT.1.1|9=5|35=0|10=241|10=112|SECOND
 8=FIXT.1.1|9=37|35=0|58=x|8=FIXT.1.1|9=5|35=0|10=241|10=113| -> 8=FIXT.1.1|9=5|35=0|10=241|SECOND
 ";
@@ -137,7 +151,7 @@ pub fn pieces_told(alloc: Global, asked: &str) -> Result<String, AllocError> {
 /// Streams and the sizes of their pieces: how many messages are given each time, and how many bytes they have. Pieces of 9
 /// bytes are kept twice before a message is whole. Behind thousands of openings, one inside another, a message is found
 /// when the length that they say has come.
-const PIECES: &str = "\
+pub const PIECES: &str = "\
 {8=FIXT.1.1|9=5|35=0|10=241|*20} by 9 -> (20, 540)
 8=FIXT.1.1|9=65510|35=0|58={x*65501}|10=000| by 65536 4096 65535 1000 -> (1, 65536)(1, 65536)(1, 65536)(1, 65536)
 {8=FIXT.1.1|9=47|35=0|49=E1|56=GIVEUP|34=2|52=20260105-09:00:00|10=151|*5000} by 70 4096 350000 -> (5000, 350000)(5000, 350000)(5000, 350000)

@@ -22,6 +22,8 @@ mod heartbeats;
 #[cfg(test)]
 mod history;
 #[cfg(test)]
+mod intake;
+#[cfg(test)]
 mod logons;
 #[cfg(test)]
 mod memory;

@@ -16,6 +16,12 @@ fn refused_to_a_feed_leaves_the_piece_to_be_fed_again(rt: HostRuntime) {
     check(&rt, rt.alloc(), Subject::Pieces, PIECES);
 }
 
+#[test]
+fn refused_to_an_intake_leaves_the_next_message_to_be_taken_again(rt: HostRuntime) {
+    check(&rt, rt.alloc(), Subject::TakenAfter, FRONT);
+    check(&rt, rt.alloc(), Subject::TakenIn, PIECES);
+}
+
 /// Fields, and fields with a fault: memory is wanted where there is none.
 const FIELDS: &str = "\
 35=0|49=E1|56=GIVEUP|34=2|52=20260105-09:00:00| -> 8=FIXT.1.1|9=47|35=0|49=E1|56=GIVEUP|34=2|52=20260105-09:00:00|10=151|

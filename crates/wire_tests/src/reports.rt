@@ -5,7 +5,7 @@ use crate::rows::{Subject, check, first_word, number};
 use crate::words::{Values, rejection_of};
 use gu_fix::{BodyText, encode_onto};
 use gu_msgs::outbound::{Application, Body, TradeCaptureReportAck};
-use gu_msgs::{Outbound, midnight_of, sender, write_over};
+use gu_msgs::{Outbound, Stamp, midnight_of, sender, write_over};
 use gu_terms::{FirmId, Id};
 use std::alloc::{AllocError, Global};
 
@@ -111,7 +111,8 @@ fn ack_to(w: &Values, firm: FirmId, words: &str) -> Option<Outbound> {
 
 /// A message on the wire, after an `x`.
 fn on_the_wire(alloc: Global, message: &Outbound) -> Result<String, AllocError> {
-    let fields = write_over(alloc, BodyText::new(alloc), &message.as_ref())?;
+    let stamp = Stamp::new(message.sending_time);
+    let fields = write_over(alloc, BodyText::new(alloc), &message.as_ref(), &stamp)?;
     let mut output = Vec::from_slice(alloc, b"x")?;
     encode_onto(&mut output, &fields)?;
     shown(alloc, &output)

@@ -3,8 +3,8 @@
 use crate::messages::meant;
 use crate::words::{Values, sample};
 use crate::{
-    answering, cut, encoding, feed, fields, header, history, names, numbers, reading, receipts,
-    reports, takes, writing,
+    answering, cut, encoding, feed, fields, header, history, intake, names, numbers, reading,
+    receipts, reports, takes, writing,
 };
 use std::alloc::{AllocError, Global};
 use std::process::Abort;
@@ -33,6 +33,11 @@ pub enum Subject {
     Pieces,
     /// How many messages a feed gives wherever a stream is cut, or which ones where a byte of it is another.
     Places(feed::Change),
+    /// The messages that an intake gives after this front, and how many it gives of a stream in pieces.
+    TakenAfter,
+    TakenIn,
+    /// The sizes of pieces in which an intake gives other messages of this stream than a feed.
+    Unlike,
     /// The fields of this message, and its first malformed one.
     Fields(fields::Holder),
     /// The message of these fields.
@@ -70,6 +75,9 @@ fn told(alloc: Global, w: &Values, subject: Subject, asked: &str) -> Result<Stri
         Subject::Fronts => feed::told(alloc, asked),
         Subject::Pieces => feed::pieces_told(alloc, asked),
         Subject::Places(change) => feed::places_told(alloc, change),
+        Subject::TakenAfter => intake::told(alloc, asked),
+        Subject::TakenIn => intake::pieces_told(alloc, asked),
+        Subject::Unlike => intake::unlike_told(alloc, asked),
         Subject::Fields(holder) => fields::told(alloc, holder, asked),
         Subject::Encoding => encoding::told(alloc, asked),
         Subject::Header => header::told(alloc, asked),

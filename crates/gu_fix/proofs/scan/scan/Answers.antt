@@ -1,60 +1,40 @@
-use Rattle.std.proofs.Common.{length, ℕ, ◌+◌, List, ◌∷◌, [], ◌++◌, drop, sym, subst, ap, ◌∙◌, arith}
-use Rattle.std.proofs.lemmas.List.{take_rest, length-drop}
-use Rattle.gu_fix.specs.Stream.{AreFrames, IsOpen, LeadsOn}
-use Rattle.gu_fix.proofs.Scanning.{garbled_some, leads_on_whole, leads_on_garbled}
+use Rattle.std.proofs.Common.{◌≡◌, List, ℕ, ◌-◌, ◌∷◌, [], ◌++◌, length, take, drop, sym, subst, ap, ◌∙◌, arith}
+use Rattle.gu_fix.specs.Stream.{AreFrames, LeadsOn}
 use Rattle.gu_fix.proofs.StreamLaws.{given_from}
+use Rattle.gu_fix.proofs.Scanning.{leads_on_next, leads_on_passed}
 use Rattle.gu_fix.proofs.scan.scan.Goals as goal
 
-pub places-preserved-in-Whole : goal.places-preserved-in-Whole
-places-preserved-in-Whole c =
-    let bytes = c.places.window in
-    let at = c.places.at in
-    let stands = simp (take_rest, c.bytes.ensures) at c.in-Whole.ensures in
-    let copied = simp (take_rest, c.bytes.ensures) at c.in_ok-new-in-Whole.ensures in
-    let items = c.in_ok-push-in-Whole.ensures.items in
+pub messages-preserved : goal.messages-preserved
+messages-preserved c =
+    let bytes = c.messages.window in
+    let given = c.messages.frames.items in
+    let start = c.in-Whole.start in
+    let end = c.in-Whole.end in
+    let next = rw c.in-Whole.is at c.in_ok-next.ensures.next in
+    let same = c.in_ok-next.ensures.same in
+    let copied : c.in_ok-new-in-Whole.field-0 ≡ take (end - start) (drop start c.bytes.result.now) = c.in_ok-new-in-Whole.ensures in
+    let message = copied ∙ ap (λ (t : List ℕ). take (end - start) (drop start t)) (c.bytes.ensures ∙ same) in
+    let items = ◌∙◌ {A = List (List ℕ)} c.in_ok-push-in-Whole.ensures.items (ap (λ (m : List ℕ). given ++ m ∷ []) message) in
     record {
-      within = omega (arith, stands.0, length-drop at bytes);
-      leads_on = subst (λ (fs : List (List ℕ)). LeadsOn bytes fs (drop (at + c.in-Whole.len) bytes)) (sym (◌∙◌ {A = List (List ℕ)} items (ap (λ (m : List ℕ). c.places.frames.items ++ m ∷ []) copied)))
-          (leads_on_whole bytes c.places.frames.items at c.in-Whole.len c.places.invariant.leads_on stands.0 stands.1);
-      same = c.places.invariant.same;
+      within = omega (arith, next.1.high, ap length same);
+      leads_on = subst (λ (fs : List (List ℕ)). LeadsOn c.next_from.new.window fs (drop end c.next_from.new.window)) (sym items)
+          (subst (λ (t : List ℕ). LeadsOn t (given ++ take (end - start) (drop start bytes) ∷ []) (drop end t)) (sym same)
+          (leads_on_next bytes given c.messages.at start end c.messages.invariant.leads_on next.0 next.1));
+      same = same ∙ c.messages.invariant.same;
     }
 
-pub next_start-requires-clause-some : goal.next_start-requires-clause-some
-next_start-requires-clause-some c = garbled_some _ c.in-Garbled.ensures
+pub returns-in-Open-clause-given : goal.returns-in-Open-clause-given
+returns-in-Open-clause-given c =
+    let bytes = c.messages.window in
+    let given = c.messages.frames.items in
+    let next = rw c.in-Open.is at c.in_ok-next.ensures.next in
+    subst (λ (t : List ℕ). AreFrames t given) c.messages.invariant.same
+    (given_from bytes given (drop c.in-Open.place bytes) (leads_on_passed bytes given c.messages.at c.in-Open.place c.messages.invariant.leads_on next.0) next.1)
 
-pub places-preserved : goal.places-preserved
-places-preserved c =
-    let bytes = c.places.window in
-    let at = c.places.at in
-    let next = simp (take_rest, c.bytes.ensures) at c.next_start.ensures in
-    let kept = c.in_ok-keep_sums-in-Garbled.ensures in
-    record {
-      within = omega (arith, next.within, length-drop at bytes, ap length kept);
-      leads_on = subst (λ (t : List ℕ). LeadsOn t c.places.frames.items (drop (at + c.next_start.result) t)) (sym kept)
-          (leads_on_garbled bytes c.places.frames.items at c.next_start.result c.places.invariant.leads_on next.within next.garbled);
-      same = kept ∙ c.places.invariant.same;
-    }
-
-pub returns-in-Open : goal.returns-in-Open
-returns-in-Open c =
-    let bytes = c.places.window in
-    let at = c.places.at in
-    let frames = c.places.frames.items in
-    let old = c.places.invariant.same in
-    let still = simp (take_rest, c.bytes.ensures) at c.in-Open.ensures in
-    record {
-      within = omega (arith, c.places.invariant.within, ap length old);
-      given = subst (λ (t : List ℕ). AreFrames t frames) old (given_from bytes frames (drop at bytes) c.places.invariant.leads_on still);
-      stays_open = subst (λ (t : List ℕ). IsOpen (drop at t)) old still;
-      leads_on = subst (λ (t : List ℕ). LeadsOn t frames (drop at t)) old c.places.invariant.leads_on;
-      same = old;
-    }
-
-pub returns-in_err-new-in-Whole-clause-same : goal.returns-in_err-new-in-Whole-clause-same
-returns-in_err-new-in-Whole-clause-same c = c.places.invariant.same
-
-pub returns-in_err-push-in-Whole-clause-same : goal.returns-in_err-push-in-Whole-clause-same
-returns-in_err-push-in-Whole-clause-same c = c.places.invariant.same
-
-pub returns-in_err-keep_sums-in-Garbled-clause-same : goal.returns-in_err-keep_sums-in-Garbled-clause-same
-returns-in_err-keep_sums-in-Garbled-clause-same c = c.keep_sums.ensures ∙ c.places.invariant.same
+pub returns-in-Open-clause-leads_on : goal.returns-in-Open-clause-leads_on
+returns-in-Open-clause-leads_on c =
+    let bytes = c.messages.window in
+    let given = c.messages.frames.items in
+    let next = rw c.in-Open.is at c.in_ok-next.ensures.next in
+    subst (λ (t : List ℕ). LeadsOn t given (drop c.in-Open.place t)) c.messages.invariant.same
+    (leads_on_passed bytes given c.messages.at c.in-Open.place c.messages.invariant.leads_on next.0)
