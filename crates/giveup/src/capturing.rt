@@ -20,7 +20,7 @@ use gu_engine::{Answerer, ClockFault, Event, run};
 use gu_fix::{BodyText, Frame, encode_onto, into_fields};
 use gu_msgs::inbound::TradeCaptureReport;
 use gu_msgs::{
-    Boxed, Fault, Inbound, Outbound, ReadMessage, Rejection, answer_to, midnight_of,
+    Boxed, Fault, Inbound, Outbound, ReadMessage, Rejection, Stamp, answer_to, midnight_of,
     read_with_header, sender_in, write_over,
 };
 use gu_ref::Reference;
@@ -51,7 +51,7 @@ pub struct Capturing {
     alloc: Global,
     book: Book,
     /// When its messages are sent.
-    sending_time: Moment,
+    sending_time: Stamp,
     /// The number of the next message.
     next: u64,
 }
@@ -97,11 +97,11 @@ impl Capturing {
         let message = Outbound {
             firm: *firm,
             msg_seq_num: self.next,
-            sending_time: self.sending_time,
+            sending_time: self.sending_time.moment(),
             orig_sending_time: None,
             body: answer_to(report, rejection),
         };
-        write_over(self.alloc, room, &message.as_ref())
+        write_over(self.alloc, room, &message.as_ref(), &self.sending_time)
     }
 
     /// Appends the message that says to a firm what became of its report.
@@ -180,7 +180,7 @@ impl Answerer for Capturing {
     }
 
     fn begin_turn(&mut self) -> Result<Moment, ClockFault> {
-        Ok(self.sending_time)
+        Ok(self.sending_time.moment())
     }
 
     fn answer(
@@ -210,7 +210,7 @@ fn opened(
         Ok(_) => Ok(Capturing {
             alloc,
             book,
-            sending_time: midnight_of(day),
+            sending_time: Stamp::new(midnight_of(day)),
             next: 1,
         }),
         Err(_) => Err(AllocError),

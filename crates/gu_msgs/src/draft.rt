@@ -10,11 +10,11 @@ ghost use Rattle.gu_terms.specs.WrittenNumbers.{date_text, price_text};
 ghost use Rattle.gu_msgs.specs.MomentTexts.{WritesMoment};
 ghost use Rattle.gu_msgs.specs.WrittenBodies.{number_field};
 
-use crate::moment_texts::moment_text;
 use crate::rejection::Rejection;
+use crate::stamp::Stamp;
 use crate::tags::TEXT;
 use gu_fix::BodyText;
-use gu_terms::{Day, Id, Moment, Price};
+use gu_terms::{Day, Id, Price};
 use itoa::Buffer;
 use std::alloc::{AllocError, Global};
 use std::marker::Model;
@@ -127,10 +127,10 @@ impl Draft {
 
     /// Appends a moment.
     #[inline(always)]
-    pub fn push_moment(&mut self, tag: u32, moment: Moment) -> Result<(), AllocError>
-        ensures { OnOk result ((text : List ℕ) × WritesMoment moment text × (self.new ≡ self.old ++ tag_value tag text ∷ [])) }
+    pub fn push_moment(&mut self, tag: u32, moment: &Stamp) -> Result<(), AllocError>
+        ensures { OnOk result ((text : List ℕ) × WritesMoment moment.now text × (self.new ≡ self.old ++ tag_value tag text ∷ [])) }
     {
-        self.push(tag, &moment_text(moment))
+        self.push(tag, moment.text())
     }
 
     /// Appends why a command isn't in the book.

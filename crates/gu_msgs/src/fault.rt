@@ -14,7 +14,7 @@ pub struct Fault {
 /// Why fields are read as no message.
 #[derive(Clone, Copy, Debug, Error)]
 pub enum MsgFault {
-    /// A growth was refused.
+    /// An allocation failed.
     #[error("Memory")]
     Memory,
     /// The first fault of the message.

@@ -16,6 +16,7 @@ use crate::draft::Draft;
 use crate::notice_fields::{push_allocation, push_report};
 use crate::outbound::{Application, Body, Outbound, OutboundRef};
 use crate::session_fields::{push_business_reject, push_logon, push_reject};
+use crate::stamp::Stamp;
 use crate::tags::{
     BEGIN_SEQ_NO, END_SEQ_NO, GAP_FILL_FLAG, MSG_SEQ_NUM, NEW_SEQ_NO, ORIG_SENDING_TIME,
     POSS_DUP_FLAG, SENDER_COMP_ID, SENDING_TIME, TARGET_COMP_ID, TEST_REQ_ID, TEXT,
@@ -121,47 +122,62 @@ fn push_marks(draft: &mut Draft, first: Option<Moment>) -> Result<(), AllocError
 {
     if let Some(moment) = first {
         draft.push(POSS_DUP_FLAG, b"Y")?;
-        draft.push_moment(ORIG_SENDING_TIME, moment)?;
+        draft.push_moment(ORIG_SENDING_TIME, &Stamp::new(moment))?;
     }
     Ok(())
 }
 
 /// Appends the fields of a message to none, in order.
 #[inline(always)]
-fn push_message(draft: &mut Draft, message: &OutboundRef<'_>) -> Result<(), AllocError>
-    requires { draft.old ≡ [] }
+fn push_message(
+    draft: &mut Draft,
+    message: &OutboundRef<'_>,
+    stamp: &Stamp,
+) -> Result<(), AllocError>
+    requires none { draft.old ≡ [] }
+    requires time { stamp.now ≡ message.now.sending_time }
     ensures { OnOk result (IsWritten (outbound_of message.now) draft.new) }
 {
     draft.push(MSG_TYPE, message.body.code().as_bytes())?;
     draft.push(SENDER_COMP_ID, HOUSE)?;
     draft.push_name(TARGET_COMP_ID, message.firm.get())?;
     draft.push_number(MSG_SEQ_NUM, message.msg_seq_num)?;
-    draft.push_moment(SENDING_TIME, message.sending_time)?;
+    draft.push_moment(SENDING_TIME, stamp)?;
     push_marks(draft, message.orig_sending_time)?;
     push_body(draft, message.body)
 }
 
 /// The fields of a message in the room of a draft without fields, each with a value that can be encoded.
 #[inline(always)]
-fn fields_of(mut draft: Draft, message: &OutboundRef<'_>) -> Result<BodyText, AllocError>
-    requires { draft ≡ [] }
+fn fields_of(
+    mut draft: Draft,
+    message: &OutboundRef<'_>,
+    stamp: &Stamp,
+) -> Result<BodyText, AllocError>
+    requires none { draft ≡ [] }
+    requires time { stamp.now ≡ message.now.sending_time }
     ensures written { IfOk result (λ fields. IsWritten (outbound_of message.now) fields) }
     ensures plain { IfOk result ArePlain }
 {
-    push_message(&mut draft, message)?;
+    push_message(&mut draft, message, stamp)?;
     Ok(draft.into_fields())
 }
 
 /// The fields of a message in the room of a draft without fields. They can be encoded as a whole message, and are read back.
 #[inline(always)]
-fn written_in(draft: Draft, message: &OutboundRef<'_>) -> Result<BodyText, AllocError>
-    requires { draft ≡ [] }
+fn written_in(
+    draft: Draft,
+    message: &OutboundRef<'_>,
+    stamp: &Stamp,
+) -> Result<BodyText, AllocError>
+    requires none { draft ≡ [] }
+    requires time { stamp.now ≡ message.now.sending_time }
     ensures written { IfOk result (λ fields. IsWritten (outbound_of message.now) fields) }
     ensures encodable { IfOk result (λ fields. fault_of fields ≡ None) }
     ensures whole { IfOk result (λ fields. IsWhole (message_of fields)) }
     ensures read_back { IfOk result (λ fields. HasFields (message_of fields) (fields_of_message fields) None) }
 {
-    fields_of(draft, message)
+    fields_of(draft, message, stamp)
 }
 
 /// The fields of a message. They can be encoded as a whole message, of 65,536 bytes at most, and are read back.
@@ -172,20 +188,24 @@ pub fn write(alloc: Global, message: &Outbound) -> Result<Fields, AllocError>
     ensures read_back { IfOk result (λ fields. HasFields (message_of fields) (fields_of_message fields) None) }
 {
     let draft = Draft::new(alloc)?;
-    let body = written_in(draft, &message.as_ref())?;
+    let stamp = Stamp::new(message.sending_time);
+    let body = written_in(draft, &message.as_ref(), &stamp)?;
     Ok(body.into_fields())
 }
 
-/// The same of a borrowed message, as the text that `gu_fix::encode_onto` takes, in the room of fields that aren't used any more.
+/// The same of a borrowed message, as the text that `gu_fix::encode_onto` takes, in the room of fields that aren't used any more, with
+/// the moment of its sending.
 pub fn write_over(
     alloc: Global,
     fields: BodyText,
     message: &OutboundRef<'_>,
+    stamp: &Stamp,
 ) -> Result<BodyText, AllocError>
+    requires { stamp.now ≡ message.now.sending_time }
     ensures written { IfOk result (λ fields. IsWritten (outbound_of message.now) fields) }
     ensures encodable { IfOk result (λ fields. fault_of fields ≡ None) }
     ensures whole { IfOk result (λ fields. IsWhole (message_of fields)) }
     ensures read_back { IfOk result (λ fields. HasFields (message_of fields) (fields_of_message fields) None) }
 {
-    written_in(Draft::over(alloc, fields), message)
+    written_in(Draft::over(alloc, fields), message, stamp)
 }

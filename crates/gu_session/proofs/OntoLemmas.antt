@@ -11,13 +11,13 @@ use Rattle.std.proofs.lemmas.List.Folds.{list_any-append}
 use Rattle.gu_msgs.specs.declared.outbound.Outbound.{Outbound}
 use Rattle.gu_session.specs.Appending.{FollowText, FollowsText}
 use Rattle.gu_session.specs.Encoded.{AreOutputs, Closes, Sends}
-use Rattle.gu_session.specs.Following.{FollowsOnto}
+use Rattle.gu_session.specs.Following.{Follows, FollowsOnto}
 use Rattle.gu_session.specs.Given.{asked_in, end_outputs, handed_outputs}
 use Rattle.gu_session.specs.Outputs.{StepsOnto, bytes_in, handed_in, is_close}
-use Rattle.gu_session.specs.Readiness.{IsReady, IsStep, sent_with}
+use Rattle.gu_session.specs.Readiness.{IsReady, sent_with}
 use Rattle.gu_session.specs.Sending.{behind, closed, ending_of, given_by, is_over, new_of, numbered}
 use Rattle.gu_session.specs.States.{SessionState}
-use Rattle.gu_session.specs.Steps.{IsCourse, StepsWith, responses_of, session_after}
+use Rattle.gu_session.specs.Steps.{IsCourse, responses_of, session_after}
 use Rattle.gu_session.specs.declared.input.Input.{Input}
 use Rattle.gu_session.specs.declared.output.Asked.{Asked}
 use Rattle.gu_session.specs.declared.output.Output.{Output}
@@ -106,13 +106,12 @@ plan_outputs s now plan ready outputs taken is are handed ends =
     (AreOutputs-append (map Sends (sent_with plan ready s.next now)) (ending_of plan.handed plan.ends) outputs _ are (ending_is_given plan.handed plan.ends))
 
 -- a plan is carried out, one output after another
-pub plan_steps : (old new : SessionState) (input : Input) (now : ℕ) (plan : Plan) (ready : Ready) (outputs : List Output) (taken : Taken) → IsStep old input now plan ready →
-    AreOutputs (map Sends (sent_with plan ready old.next now)) outputs → taken.handed ≡ asked_in plan.handed → taken.is_closed ≡ plan.ends →
-    new ≡ behind old now plan → StepsWith old input now (outputs ++ (handed_outputs taken.handed ++ end_outputs taken.is_closed)) new
-plan_steps old new input now plan ready outputs taken is are handed ends behind_is = record {
-  given = given_by old now plan;
-  steps = rw behind_is is.steps;
-  are_outputs = plan_outputs old now plan ready outputs taken is.is_ready are handed ends;
+pub plan_given : (old new : SessionState) (now : ℕ) (plan : Plan) (ready : Ready) (outputs : List Output) (taken : Taken) → IsReady old now plan ready →
+    is_over old.next plan ≡ false → AreOutputs (map Sends (sent_with plan ready old.next now)) outputs → taken.handed ≡ asked_in plan.handed →
+    taken.is_closed ≡ plan.ends → new ≡ behind old now plan → Follows old (Go plan) now (outputs ++ (handed_outputs taken.handed ++ end_outputs taken.is_closed)) new
+plan_given old new now plan ready outputs taken is suffice are handed ends behind_is = record {
+  are_outputs = rw suffice (plan_outputs old now plan ready outputs taken is are handed ends);
+  leaves = rw suffice behind_is;
 }
 
 -- a plan is carried out, with its messages after a text

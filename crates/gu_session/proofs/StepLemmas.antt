@@ -1,22 +1,28 @@
 -- Steps by what is done.
-use Rattle.std.proofs.Common.{◌≡◌, ℕ, false, inr, List, Result, Ok, Err, refl}
-use Rattle.std.specs.Prelude.{IfOk, OnOk}
-use Rattle.gu_session.specs.Encoded.{AreOutputs}
-use Rattle.gu_session.specs.Sending.{closed}
+use Rattle.std.proofs.Common.{◌≡◌, ℕ, false, inr, Result, Vec, refl, subst}
+use Rattle.std.specs.Prelude.{IfOk}
+use Rattle.std.specs.declared.alloc.Global.{Global}
+use Rattle.std.proofs.lemmas.Result.{IfOk-weaker}
+use Rattle.gu_session.specs.Following.{Follows}
 use Rattle.gu_session.specs.States.{SessionState}
 use Rattle.gu_session.specs.Steps.{IsCourse, StepsWith, responses_of}
 use Rattle.gu_session.specs.declared.input.Input.{Input}
 use Rattle.gu_session.specs.declared.output.Output.{Output}
-use Rattle.gu_session.specs.declared.plan.Course.TheVariants.{Leave}
+use Rattle.gu_session.specs.declared.plan.Course.{Course}
 
--- an open session that leaves gives the end, and is closed
-pub leaving_steps : {X E : Type 0} (items : X → List Output) (old new : SessionState) (input : Input) (now : ℕ) (result : Result X E) →
-    old.is_closed ≡ false → IsCourse old input now Leave →
-    IfOk result (λ outputs. AreOutputs (responses_of old 0 Leave) (items outputs)) → OnOk result (new ≡ closed old) →
-    IfOk result (λ outputs. StepsWith old input now (items outputs) new)
-leaving_steps items old new input now (Ok outputs) is_open course given ended = record {
-  given = responses_of old 0 Leave;
-  steps = inr (record { is_open = is_open; course = Leave; is_course = course; gives = refl; leaves = ended });
-  are_outputs = given;
-}
-leaving_steps items old new input now (Err error) is_open course given ended = tt
+-- an open session that follows its course steps
+pub performed_steps : {E : Type 0} (s old new : SessionState) (input : Input) (course : Course) (now : ℕ) (result : Result (Vec Output Global) E) → s ≡ old →
+    s.is_closed ≡ false → IsCourse s input now course → IfOk result (λ outputs. Follows old course now outputs.items new) →
+    IfOk result (λ outputs. StepsWith old input now outputs.items new)
+performed_steps s old new input course now result same is_open is done =
+    IfOk-weaker result (λ outputs. Follows old course now outputs.items new) (λ outputs. StepsWith old input now outputs.items new) (λ outputs follows. record {
+      given = responses_of old now course;
+      steps = inr (record {
+        is_open = subst (λ (s : SessionState). s.is_closed ≡ false) same is_open;
+        course = course;
+        is_course = subst (λ (s : SessionState). IsCourse s input now course) same is;
+        gives = refl;
+        leaves = follows.leaves;
+      });
+      are_outputs = follows.are_outputs;
+    }) done

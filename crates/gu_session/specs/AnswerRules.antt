@@ -47,6 +47,10 @@ on_answer at waiting reference outcome =
     option_map_or (λ messages. Go (answers at reference messages))
     (option_and_then (λ (one : Waiting). answer_messages one.question one.reference outcome) (asked_by reference waiting)) Stay
 
+-- a message is sent
+abbrev pub message_course : LoggedOn → Body → Course
+message_course at body = Go (says at (body ∷ []))
+
 -- a notice is sent as its message
 abbrev pub on_notice : LoggedOn → Notice → Course
-on_notice at notice = Go (says at (notice_body notice ∷ []))
+on_notice at notice = message_course at (notice_body notice)

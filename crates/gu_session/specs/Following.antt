@@ -1,4 +1,4 @@
--- Machinery: a course that is followed with its messages after a text. No other crate names this file.
+-- Machinery: a course that is followed. No other crate names this file.
 use Rattle.std.specs.Prelude.{◌≡◌, ◌++◌, ℕ, List}
 use Rattle.std.specs.List.{filter_map, flat_map, list_any}
 use Rattle.std.specs.Option.{option_to_list}
@@ -9,6 +9,11 @@ use Rattle.gu_session.specs.Steps.{responses_of, session_after}
 use Rattle.gu_session.specs.declared.output.Output.{Output}
 use Rattle.gu_session.specs.declared.output.Taken.{Taken}
 use Rattle.gu_session.specs.declared.plan.Course.{Course}
+
+-- a course is followed: all that it gives is given
+pub record Follows (old : SessionState) (course : Course) (now : ℕ) (outputs : List Output) (new : SessionState) : Type 0 where
+  pub are_outputs : AreOutputs (responses_of old now course) outputs
+  pub leaves : new ≡ session_after old now course
 
 -- a course is followed: all bytes that it gives follow a text, in order; what it hands out, and whether it closes, is taken
 pub record FollowsOnto (old : SessionState) (course : Course) (now : ℕ) (before after : List ℕ) (taken : Taken) (new : SessionState) : Type 0 where

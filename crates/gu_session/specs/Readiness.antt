@@ -1,16 +1,11 @@
 -- Machinery: what it takes memory to carry out a plan. No other crate names this file.
-use Rattle.std.specs.Prelude.{◌≡◌, ◌+◌, ◌≤◌, ℕ, List, [], ◌∷◌, ◌++◌, length, None, Some, is_some, if◌then◌else◌}
+use Rattle.std.specs.Prelude.{◌≡◌, ◌+◌, ◌≤◌, ℕ, List, [], ◌++◌, length, None, Some, is_some, if◌then◌else◌}
 use Rattle.circular_buffer.specs.Buffer.{buffer}
 use Rattle.gu_msgs.specs.declared.outbound.Outbound.{Outbound}
-use Rattle.gu_session.specs.Encoded.{Closes}
-use Rattle.gu_session.specs.Sending.{behind, closed, given_by, numbered, repeats_of}
+use Rattle.gu_session.specs.Sending.{numbered, repeats_of}
 use Rattle.gu_session.specs.Sound.{IsSound}
 use Rattle.gu_session.specs.States.{SessionState}
-use Rattle.gu_session.specs.Steps.{Steps}
-use Rattle.gu_session.specs.declared.input.Input.{Input}
 use Rattle.gu_session.specs.declared.plan.Plan.{Plan}
-use Rattle.gu_session.specs.declared.ready.Prepared.{Prepared}
-use Rattle.gu_session.specs.declared.ready.Prepared.TheVariants.{Stay, Leave, Go}
 use Rattle.gu_session.specs.declared.ready.Ready.{Ready}
 use Rattle.gu_session.specs.declared.state.State.{State}
 
@@ -39,14 +34,3 @@ pub record IsReady (s : SessionState) (now : ℕ) (plan : Plan) (ready : Ready) 
   pub again : ready.again.items ≡ repeats_of s now plan
   pub most : s.next + length plan.messages ≤ 1000000001
   pub room : ready.room ≡ (if is_some s.at then None else Some (buffer [] 4096))
-
--- what a plan that is ready gives, and the session it leaves, are those of a step
-pub record IsStep (s : SessionState) (input : Input) (now : ℕ) (plan : Plan) (ready : Ready) : Type 0 where
-  pub steps : Steps s input now (given_by s now plan) (behind s now plan)
-  pub is_ready : IsReady s now plan ready
-
--- what is to be done on an input is its step
-abbrev pub IsPrepared : SessionState → Input → ℕ → Prepared → Type 0
-IsPrepared s input now Stay = Steps s input now [] s
-IsPrepared s input now Leave = Steps s input now (Closes ∷ []) (closed s)
-IsPrepared s input now (Go plan ready) = IsStep s input now plan ready

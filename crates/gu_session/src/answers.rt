@@ -1,8 +1,8 @@
-//! Answers to what was handed out, and notices.
+//! Answers to what was handed out.
 
 ghost use Rattle.std.specs.Prelude.{◌≡◌, IfOk};
 ghost use Rattle.std.specs.Option.{option_copied};
-ghost use Rattle.gu_session.specs.AnswerRules.{answer_messages, asked_by, command_messages, entered, on_answer, on_notice};
+ghost use Rattle.gu_session.specs.AnswerRules.{answer_messages, asked_by, command_messages, entered, on_answer};
 ghost use Rattle.gu_session.specs.declared.input.Outcome.TheVariants.{Replied};
 
 use crate::ask_ref::AskRef;
@@ -10,8 +10,8 @@ use crate::input::{Failure, Outcome};
 use crate::logged_on::{LoggedOn, Waiting};
 use crate::messages::Messages;
 use crate::plan::{Course, Plan};
-use gu_msgs::{Question, Rejection, notice_body, positions_answer};
-use gu_terms::{Notice, Reply};
+use gu_msgs::{Question, Rejection, positions_answer};
+use gu_terms::Reply;
 use std::alloc::{AllocError, Global};
 
 /// What became of a command, by the reply to it.
@@ -48,7 +48,7 @@ fn command_messages(
     question: &Question,
     number: u64,
     outcome: &Outcome,
-) -> Result<Option<Messages>, AllocError>
+) -> Result<Option<Messages<'static>>, AllocError>
     ensures { IfOk result (λ messages. messages ≡ command_messages question.now number outcome.now) }
 {
     let Some(why) = entered(question, outcome) else {
@@ -63,7 +63,7 @@ fn answer_messages(
     question: &Question,
     number: u64,
     outcome: &Outcome,
-) -> Result<Option<Messages>, AllocError>
+) -> Result<Option<Messages<'static>>, AllocError>
     ensures { IfOk result (λ messages. messages ≡ answer_messages question.now number outcome.now) }
 {
     let Question::Positions(request) = question else {
@@ -96,7 +96,7 @@ pub fn on_answer(
     waiting: &[Waiting],
     reference: AskRef,
     outcome: &Outcome,
-) -> Result<Course, AllocError>
+) -> Result<Course<'static>, AllocError>
     ensures { IfOk result (λ course. course ≡ on_answer at.now waiting.now reference outcome.now) }
 {
     let Some(one) = asked_by(reference, waiting) else {
@@ -106,12 +106,4 @@ pub fn on_answer(
         Some(messages) => Ok(Course::Go(Plan::answers(at, reference, messages))),
         None => Ok(Course::Stay),
     }
-}
-
-/// What is done on a notice.
-pub fn on_notice(alloc: Global, at: &LoggedOn, notice: &Notice) -> Result<Course, AllocError>
-    ensures { IfOk result (λ course. course ≡ on_notice at.now notice.now) }
-{
-    let messages = Messages::one(alloc, notice_body(notice))?;
-    Ok(Course::Go(Plan::sends(at, messages)))
 }

@@ -22,7 +22,7 @@ use gu_terms::{FirmId, Moment};
 use std::alloc::{AllocError, Global};
 
 /// Whether a plan needs a number above the greatest, where this number is the next.
-pub fn is_over(next: u64, plan: &Plan) -> bool
+pub fn is_over(next: u64, plan: &Plan<'_>) -> bool
     requires { next ≤ 1000000001 }
     ensures { result ≡ is_over next plan.now }
 {
@@ -68,7 +68,7 @@ pub fn move_to(kept: &mut SentRing, room: Option<SentRing>)
 }
 
 /// Keeps the new messages of a plan after the others; the first of them has this number.
-pub fn keep(kept: &mut SentRing, plan: &Plan, first: u64, now: Moment)
+pub fn keep(kept: &mut SentRing, plan: &Plan<'_>, first: u64, now: Moment)
     requires some { 1 ≤ first }
     requires most { first + length plan.now.messages ≤ 1000000001 }
     requires few { length kept.old.items ≤ kept.old.capacity }

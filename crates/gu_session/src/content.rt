@@ -51,7 +51,7 @@ fn on_gap_fill(
     heading: &Heading,
     number: SeqNum,
     to: u64,
-) -> Result<Plan, AllocError>
+) -> Result<Plan<'static>, AllocError>
     ensures { IfOk result (λ plan. plan ≡ on_gap_fill at.now heading.now number to) }
 {
     if number.get() < to {
@@ -59,7 +59,7 @@ fn on_gap_fill(
             expected: to,
             ..*at
         };
-        return Ok(Plan::quiet(alloc, &after));
+        return Ok(Plan::quiet(&after));
     }
     let reason = SessionRejectReason::ValueIsIncorrect;
     Plan::says(alloc, at, reject(heading, number, NEW_SEQ_NO, reason))
@@ -82,27 +82,25 @@ fn on_message(
     heading: &Heading,
     number: SeqNum,
     message: Inbound,
-) -> Result<Plan, AllocError>
+) -> Result<Plan<'static>, AllocError>
     ensures { IfOk result (λ plan. plan ≡ on_message at.now heading.now number message) }
 {
     match message {
-        Inbound::Heartbeat | Inbound::Reject => Ok(Plan::quiet(alloc, at)),
+        Inbound::Heartbeat | Inbound::Reject => Ok(Plan::quiet(at)),
         Inbound::TestRequest(m) => { Plan::says(alloc, at, Body::Heartbeat(Some(m.test_req_id))) }
-        Inbound::ResendRequest(m) => Ok(Plan::repeats(at, Some(m), Messages::none(alloc))),
+        Inbound::ResendRequest(m) => Ok(Plan::repeats(at, Some(m), Messages::none())),
         Inbound::SequenceReset(m) => on_gap_fill(alloc, at, heading, number, m.new_seq_no),
         Inbound::Logout => Plan::leaves_with(alloc, at, Body::Logout(None)),
         Inbound::Logon(_) => {
             Plan::leaves_with(alloc, at, Body::Logout(Some(LogoutReason::LoggedOn)))
         }
         Inbound::Unread(code) => Plan::says(alloc, at, unsupported(number, code)),
-        Inbound::TradeCaptureReport(m) => Ok(Plan::hands(alloc, at, number, Asking::Report(m))),
-        Inbound::AllocationInstruction(m) => Ok(Plan::hands(alloc, at, number, Asking::GiveUp(m))),
-        Inbound::RequestForPositions(m) => {
-            Ok(Plan::hands(alloc, at, number, Asking::Positions(m)))
-        }
+        Inbound::TradeCaptureReport(m) => Ok(Plan::hands(at, number, Asking::Report(m))),
+        Inbound::AllocationInstruction(m) => Ok(Plan::hands(at, number, Asking::GiveUp(m))),
+        Inbound::RequestForPositions(m) => { Ok(Plan::hands(at, number, Asking::Positions(m))) }
         Inbound::AllocationReportAck(m) => match m.asked() {
-            Some(asking) => Ok(Plan::hands(alloc, at, number, asking)),
-            None => Ok(Plan::quiet(alloc, at)),
+            Some(asking) => Ok(Plan::hands(at, number, asking)),
+            None => Ok(Plan::quiet(at)),
         },
     }
 }
@@ -114,7 +112,7 @@ fn on_wrong_party(
     heading: &Heading,
     number: SeqNum,
     tag: u32,
-) -> Result<Plan, AllocError>
+) -> Result<Plan<'static>, AllocError>
     ensures { IfOk result (λ plan. plan ≡ on_wrong_party at.now heading.now number tag) }
 {
     let first = reject(heading, number, tag, SessionRejectReason::CompIdProblem);
@@ -129,7 +127,7 @@ pub fn as_expected(
     at: &LoggedOn,
     heard: Heard,
     number: SeqNum,
-) -> Result<Plan, AllocError>
+) -> Result<Plan<'static>, AllocError>
     ensures { IfOk result (λ plan. plan ≡ as_expected at.now heard number) }
 {
     let Heard { heading, content } = heard;

@@ -2,14 +2,14 @@
 
 ghost use Rattle.std.specs.Prelude.{◌≡◌, IfOk};
 ghost use Rattle.std.specs.Option.{option_map_or};
-ghost use Rattle.gu_session.specs.AnswerRules.{on_answer, on_notice};
+ghost use Rattle.gu_session.specs.AnswerRules.{message_course, on_answer};
 ghost use Rattle.gu_session.specs.Hearing.{Hears};
 ghost use Rattle.gu_session.specs.Steps.{IsFrameCourse, at_frame, frame_course};
 ghost use Rattle.gu_session.specs.TimeRules.{on_tick};
 ghost use Rattle.gu_session.specs.declared.plan.Course.TheVariants.{Stay};
 ghost use Rattle.gu_session.specs.declared.logged_on.LoggedOn.{LoggedOn as LoggedOnOf};
 
-use crate::answers::{on_answer, on_notice};
+use crate::answers::on_answer;
 use crate::ask_ref::AskRef;
 use crate::heard::Heard;
 use crate::hearing::hear;
@@ -17,11 +17,14 @@ use crate::heartbeat::on_tick;
 use crate::input::Outcome;
 use crate::logged_on::{LoggedOn, Waiting};
 use crate::logon::logon_course;
-use crate::plan::Course;
+use crate::messages::Messages;
+use crate::plan::{Course, Plan};
 use crate::sequence::frame_plan;
 use gu_fix::{Frame, into_fields};
-use gu_terms::{FirmId, Moment, Notice};
+use gu_msgs::outbound::Body;
+use gu_terms::{FirmId, Moment};
 use std::alloc::{AllocError, Global};
+use std::slice;
 
 /// How a session stands once it hears a frame.
 fn at_frame(at: &LoggedOn, now: Moment) -> LoggedOn
@@ -41,7 +44,7 @@ fn heard_course(
     at: &Option<LoggedOn>,
     heard: Heard,
     now: Moment,
-) -> Result<Course, AllocError>
+) -> Result<Course<'static>, AllocError>
     ensures { IfOk result (λ course. course ≡ frame_course firms.now at.now heard now) }
 {
     match at {
@@ -57,7 +60,7 @@ pub fn frame_course(
     at: &Option<LoggedOn>,
     frame: Frame,
     now: Moment,
-) -> Result<Course, AllocError>
+) -> Result<Course<'static>, AllocError>
     ensures { IfOk result (IsFrameCourse firms.now at.now frame now) }
 {
     let (fields, fault) = into_fields(alloc, frame)?;
@@ -65,17 +68,13 @@ pub fn frame_course(
     heard_course(alloc, firms, at, heard, now)
 }
 
-/// What is done on a notice.
-pub fn notice_course(
-    alloc: Global,
-    at: &Option<LoggedOn>,
-    notice: &Notice,
-) -> Result<Course, AllocError>
-    ensures { IfOk result (λ course. course ≡ option_map_or (λ (at : LoggedOnOf). on_notice at notice.now) at.now Stay) }
+/// What is done on what is sent as this message.
+pub fn message_course<'a>(at: &Option<LoggedOn>, body: &'a Body) -> Course<'a>
+    ensures { result ≡ option_map_or (λ (at : LoggedOnOf). message_course at body.now) at.now Stay }
 {
     match at {
-        Some(at) => on_notice(alloc, at, notice),
-        None => Ok(Course::Stay),
+        Some(at) => Course::Go(Plan::sends(at, Messages::borrowed(slice::from_ref(body)))),
+        None => Course::Stay,
     }
 }
 
@@ -86,7 +85,7 @@ pub fn answer_course(
     waiting: &[Waiting],
     reference: AskRef,
     outcome: &Outcome,
-) -> Result<Course, AllocError>
+) -> Result<Course<'static>, AllocError>
     ensures { IfOk result (λ course. course ≡ option_map_or (λ (at : LoggedOnOf). on_answer at waiting.now reference outcome.now) at.now Stay) }
 {
     match at {
@@ -101,7 +100,7 @@ pub fn tick_course(
     at: &Option<LoggedOn>,
     sent_at: Moment,
     now: Moment,
-) -> Result<Course, AllocError>
+) -> Result<Course<'static>, AllocError>
     ensures { IfOk result (λ course. course ≡ option_map_or (λ (at : LoggedOnOf). on_tick at sent_at now) at.now Stay) }
 {
     match at {

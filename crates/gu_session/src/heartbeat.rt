@@ -31,7 +31,7 @@ pub fn on_tick(
     at: &LoggedOn,
     sent_at: Moment,
     now: Moment,
-) -> Result<Course, AllocError>
+) -> Result<Course<'static>, AllocError>
     ensures { IfOk result (λ course. course ≡ on_tick at.now sent_at now) }
 {
     if at.heart_bt_int == 0 {

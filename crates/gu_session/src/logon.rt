@@ -68,7 +68,7 @@ fn logged_on(
     number: SeqNum,
     logon: &Logon,
     now: Moment,
-) -> Result<Plan, AllocError>
+) -> Result<Plan<'static>, AllocError>
     ensures { IfOk result (λ plan. plan ≡ logged_on firm number logon.now now) }
 {
     let mut after = LoggedOn {
@@ -92,7 +92,7 @@ pub fn logon_course(
     firms: &[FirmId],
     heard: &Heard,
     now: Moment,
-) -> Result<Course, AllocError>
+) -> Result<Course<'static>, AllocError>
     ensures { IfOk result (λ course. course ≡ logon_course firms.now heard.now now) }
 {
     let Some(number) = heard.heading.number else {

@@ -5,67 +5,83 @@ ghost use Rattle.std.specs.Option.{option_to_list};
 
 use gu_msgs::outbound::Body;
 use std::alloc::{AllocError, Global};
+use std::borrow::CowSlice;
 use std::marker::Model;
+use std::slice;
 
-/// Messages, in the order in which they are to be sent. To a contract they are their list.
+/// Messages, in the order in which they are to be sent: borrowed, or in a list of their own. To a contract they are their list.
 #[derive(Drop)]
-pub struct Messages {
-    bodies: Vec<Body>,
+pub struct Messages<'a> {
+    bodies: CowSlice<'a, Body>,
 }
 
-impl Model for Messages {
+impl<'a> Model for Messages<'a> {
     ghost use Rattle.std.specs.Prelude.{List};
+    ghost use Rattle.std.specs.Cow.{cow_slice_items};
     ghost use Rattle.gu_msgs.specs.declared.outbound.Body.{Body};
 
     ghost Value = { List Body };
 
-    ghost view = { λ m. m.bodies.items };
+    ghost view = { λ m. cow_slice_items m.bodies };
 }
 
-impl Messages {
+impl<'a> Messages<'a> {
     /// No messages.
-    pub fn none(alloc: Global) -> Self
+    pub fn none() -> Self
         ensures { result ≡ [] }
     {
+        Messages::borrowed(&[])
+    }
+
+    /// These messages.
+    pub fn borrowed(bodies: &'a [Body]) -> Self
+        ensures { result ≡ bodies.now }
+    {
         Messages {
-            bodies: Vec::new(alloc),
+            bodies: CowSlice::Borrowed(bodies),
         }
     }
 
-    /// One message.
+    /// One message of its own.
     pub fn one(alloc: Global, body: Body) -> Result<Self, AllocError>
         ensures { IfOk result (λ messages. messages ≡ body ∷ []) }
     {
         let mut bodies = Vec::with_capacity(alloc, 1)?;
         bodies.push_reserved(body);
-        Ok(Messages { bodies })
+        Ok(Messages {
+            bodies: CowSlice::Owned(bodies),
+        })
     }
 
-    /// Two messages.
+    /// The message as its own, if there is one.
+    pub fn of_option(alloc: Global, body: Option<Body>) -> Result<Self, AllocError>
+        ensures { IfOk result (λ messages. messages ≡ option_to_list body) }
+    {
+        match body {
+            Some(body) => Messages::one(alloc, body),
+            None => Ok(Messages::none()),
+        }
+    }
+
+    /// These messages as its own.
+    pub fn of(bodies: Vec<Body>) -> Self
+        ensures { result ≡ bodies.items }
+    {
+        Messages {
+            bodies: CowSlice::Owned(bodies),
+        }
+    }
+
+    /// Two messages of its own.
     pub fn two(alloc: Global, first: Body, second: Body) -> Result<Self, AllocError>
         ensures { IfOk result (λ messages. messages ≡ first ∷ second ∷ []) }
     {
         let mut bodies = Vec::with_capacity(alloc, 2)?;
         bodies.push_reserved(first);
         bodies.push_reserved(second);
-        Ok(Messages { bodies })
-    }
-
-    /// These messages.
-    pub fn of(bodies: Vec<Body>) -> Self
-        ensures { result ≡ bodies.items }
-    {
-        Messages { bodies }
-    }
-
-    /// The message, if there is one.
-    pub fn of_option(alloc: Global, body: Option<Body>) -> Result<Self, AllocError>
-        ensures { IfOk result (λ messages. messages ≡ option_to_list body) }
-    {
-        match body {
-            Some(body) => Messages::one(alloc, body),
-            None => Ok(Messages::none(alloc)),
-        }
+        Ok(Messages {
+            bodies: CowSlice::Owned(bodies),
+        })
     }
 
     /// How many there are.
@@ -73,7 +89,7 @@ impl Messages {
         ensures len { result ≡ length self.now }
         ensures few { result < 2 ^ 63 }
     {
-        self.bodies.len()
+        self.bodies.as_slice().len()
     }
 
     /// The message at a place.
@@ -81,6 +97,6 @@ impl Messages {
         requires { place < length self.now }
         ensures { slice_get self.now place ≡ Some result.now }
     {
-        &self.bodies[place]
+        &self.bodies.as_slice()[place]
     }
 }

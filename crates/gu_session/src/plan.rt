@@ -68,13 +68,13 @@ impl BoxedRequest {
 
 /// What is done in a step of a session in which a firm is logged on.
 #[derive(Drop)]
-pub struct Plan {
+pub struct Plan<'a> {
     /// How the session comes after it.
     pub after: LoggedOn,
     /// What is sent again first.
     pub again: Option<ResendRequest>,
     /// New messages, which get the next numbers.
-    pub messages: Messages,
+    pub messages: Messages<'a>,
     /// What is handed out then.
     pub handed: Option<Handed>,
     /// What is answered by it.
@@ -85,24 +85,24 @@ pub struct Plan {
 
 /// What a step does.
 #[derive(Drop)]
-pub enum Course {
+pub enum Course<'a> {
     /// Nothing.
     Stay,
     /// The session ends without a byte.
     Leave,
     /// A plan is carried out.
-    Go(Plan),
+    Go(Plan<'a>),
 }
 
-impl Plan {
+impl<'a> Plan<'a> {
     /// Nothing is sent.
-    pub fn quiet(alloc: Global, at: &LoggedOn) -> Self
+    pub fn quiet(at: &LoggedOn) -> Self
         ensures { result ≡ quiet at.now }
     {
         Plan {
             after: *at,
             again: None,
-            messages: Messages::none(alloc),
+            messages: Messages::none(),
             handed: None,
             answered: None,
             ends: false,
@@ -110,8 +110,8 @@ impl Plan {
     }
 
     /// New messages.
-    pub fn sends(at: &LoggedOn, messages: Messages) -> Self
-        ensures { result ≡ says at.now messages }
+    pub fn sends(at: &LoggedOn, messages: Messages<'a>) -> Self
+        ensures { result ≡ says at.now messages.entry }
     {
         Plan {
             after: *at,
@@ -132,8 +132,8 @@ impl Plan {
     }
 
     /// New messages, and the end.
-    pub fn leaves(at: &LoggedOn, messages: Messages) -> Self
-        ensures { result ≡ leaves at.now messages }
+    pub fn leaves(at: &LoggedOn, messages: Messages<'a>) -> Self
+        ensures { result ≡ leaves at.now messages.entry }
     {
         Plan {
             after: *at,
@@ -154,8 +154,8 @@ impl Plan {
     }
 
     /// What was asked for again, then new messages.
-    pub fn repeats(at: &LoggedOn, again: Option<ResendRequest>, messages: Messages) -> Self
-        ensures { result ≡ repeats at.now again messages }
+    pub fn repeats(at: &LoggedOn, again: Option<ResendRequest>, messages: Messages<'a>) -> Self
+        ensures { result ≡ repeats at.now again messages.entry }
     {
         Plan {
             after: *at,
@@ -168,7 +168,7 @@ impl Plan {
     }
 
     /// What a message of this number asks for is handed out.
-    pub fn hands(alloc: Global, at: &LoggedOn, number: SeqNum, asking: Asking) -> Self
+    pub fn hands(at: &LoggedOn, number: SeqNum, asking: Asking) -> Self
         ensures { result ≡ hands at.now number asking }
     {
         let handed = Handed {
@@ -179,7 +179,7 @@ impl Plan {
         Plan {
             after: *at,
             again: None,
-            messages: Messages::none(alloc),
+            messages: Messages::none(),
             handed: Some(handed),
             answered: None,
             ends: false,
@@ -187,8 +187,8 @@ impl Plan {
     }
 
     /// The messages that answer a question.
-    pub fn answers(at: &LoggedOn, reference: AskRef, messages: Messages) -> Self
-        ensures { result ≡ answers at.now reference messages }
+    pub fn answers(at: &LoggedOn, reference: AskRef, messages: Messages<'a>) -> Self
+        ensures { result ≡ answers at.now reference messages.entry }
     {
         Plan {
             after: *at,

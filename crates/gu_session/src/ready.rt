@@ -18,20 +18,9 @@ pub struct Ready {
     pub room: Option<SentRing>,
 }
 
-/// What is to be done on an input.
-#[derive(Drop)]
-pub enum Prepared {
-    /// Nothing.
-    Stay,
-    /// The session ends without a byte.
-    Leave,
-    /// A plan is carried out.
-    Go(Plan, Ready),
-}
-
 impl Ready {
     /// How many messages are sent.
-    pub fn len(&self, plan: &Plan) -> usize
+    pub fn len(&self, plan: &Plan<'_>) -> usize
         ensures { result ≡ length self.now.again.items + length plan.now.messages }
     {
         self.again.len() + plan.messages.len()
@@ -40,7 +29,7 @@ impl Ready {
     /// The message at a place of all that are sent, where the first new one has this number.
     pub fn message<'a>(
         &'a self,
-        plan: &'a Plan,
+        plan: &'a Plan<'a>,
         first: u64,
         now: Moment,
         place: usize,

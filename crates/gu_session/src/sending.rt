@@ -10,21 +10,27 @@ ghost use Rattle.gu_session.specs.Readiness.{sent_with};
 use crate::output::{Output, Taken};
 use crate::plan::Plan;
 use crate::ready::Ready;
+use crate::state::beginning;
 use gu_fix::{BodyText, encode_onto};
-use gu_msgs::{OutboundRef, write_over};
+use gu_msgs::{OutboundRef, Stamp, write_over};
 use gu_terms::Moment;
 use std::alloc::{AllocError, Global};
 use std::mem;
 
-/// Writes messages, all in the same room for their fields.
+/// Writes messages, all in the same room for their fields. The moment's text is made once for all messages of a moment.
 pub struct Pen {
     alloc: Global,
     room: BodyText,
+    stamp: Stamp,
 }
 
 impl Drop for Pen {
     fn drop(self) {
-        let Pen { alloc: _, room } = self;
+        let Pen {
+            alloc: _,
+            room,
+            stamp: _,
+        } = self;
         drop(room);
     }
 }
@@ -35,7 +41,18 @@ impl Pen {
         Pen {
             alloc,
             room: BodyText::new(alloc),
+            stamp: Stamp::new(beginning()),
         }
+    }
+
+    /// The moment and its text.
+    fn stamp_at(&mut self, moment: Moment) -> &Stamp
+        ensures { result.now ≡ moment }
+    {
+        if self.stamp.moment() != moment {
+            self.stamp = Stamp::new(moment);
+        }
+        &self.stamp
     }
 
     /// Appends a message.
@@ -44,18 +61,19 @@ impl Pen {
         ensures refused { OnErr result (output.new.items ≡ output.old.items) }
     {
         let room = mem::replace(&mut self.room, BodyText::new(self.alloc));
-        let fields = write_over(self.alloc, room, message)?;
+        let alloc = self.alloc;
+        let fields = write_over(alloc, room, message, self.stamp_at(message.sending_time))?;
         encode_onto(output, &fields)?;
         self.room = fields;
         Ok(())
     }
 
     /// Appends all messages of a plan that is ready, where the first new one has this number, or the first of them.
-    fn push_all(
+    fn push_all<'a>(
         &mut self,
         output: &mut Vec<u8>,
-        plan: &Plan,
-        ready: &Ready,
+        plan: &'a Plan<'a>,
+        ready: &'a Ready,
         first: u64,
         now: Moment,
     ) -> Result<(), AllocError>
@@ -70,11 +88,11 @@ impl Pen {
     }
 
     /// Appends all messages of a plan that is ready, where the first new one has this number, or nothing.
-    pub fn append(
+    pub fn append<'a>(
         &mut self,
         output: &mut Vec<u8>,
-        plan: &Plan,
-        ready: &Ready,
+        plan: &'a Plan<'a>,
+        ready: &'a Ready,
         first: u64,
         now: Moment,
     ) -> Result<(), AllocError>
@@ -100,10 +118,10 @@ impl Pen {
     }
 
     /// All messages of a plan that is ready as outputs, where the first new one has this number, with room for two outputs more.
-    pub fn outputs(
+    pub fn outputs<'a>(
         &mut self,
-        plan: &Plan,
-        ready: &Ready,
+        plan: &'a Plan<'a>,
+        ready: &'a Ready,
         first: u64,
         now: Moment,
     ) -> Result<Vec<Output>, AllocError>

@@ -16,6 +16,7 @@ use gu_msgs::outbound::{Application, Body};
 use gu_terms::Moment;
 use std::alloc::{AllocError, Global};
 use std::marker::Model;
+use std::slice;
 
 /// How many messages are kept.
 const MOST_KEPT: usize = 4096;
@@ -106,11 +107,11 @@ impl SentRing {
     }
 
     /// Keeps a message after the others. Where there is no room the first of them goes.
-    fn push(&mut self, sent: Sent)
-        ensures { self.new ≡ extended self.old (sent ∷ []) }
+    fn push(&mut self, sent: &Sent)
+        ensures { self.new ≡ extended self.old (sent.now ∷ []) }
     {
         if let Some(ring) = &mut self.ring {
-            ring.extend_from_slice(&[sent]);
+            ring.extend_from_slice(slice::from_ref(sent));
         }
     }
 
@@ -120,7 +121,7 @@ impl SentRing {
         requires few { length self.old.items ≤ self.old.capacity }
         ensures { self.new ≡ extended self.old (option_to_list (sent_in (outbound_of message.now))) }
     {
-        if let Some(sent) = sent_in(message) {
+        if let Some(sent) = &sent_in(message) {
             self.push(sent);
         }
     }

@@ -53,7 +53,7 @@ fn on_reset(
     heading: &Heading,
     number: SeqNum,
     to: u64,
-) -> Result<Plan, AllocError>
+) -> Result<Plan<'static>, AllocError>
     ensures { IfOk result (λ plan. plan ≡ on_reset at.now heading.now number to) }
 {
     if at.expected <= to {
@@ -61,14 +61,14 @@ fn on_reset(
             expected: to,
             ..*at
         };
-        return Ok(Plan::quiet(alloc, &after));
+        return Ok(Plan::quiet(&after));
     }
     let reason = SessionRejectReason::ValueIsIncorrect;
     Plan::says(alloc, at, reject(heading, number, NEW_SEQ_NO, reason))
 }
 
 /// Messages are missing before this frame.
-fn too_high(alloc: Global, at: &LoggedOn, heard: &Heard) -> Result<Plan, AllocError>
+fn too_high(alloc: Global, at: &LoggedOn, heard: &Heard) -> Result<Plan<'static>, AllocError>
     ensures { IfOk result (λ plan. plan ≡ too_high at.now heard.now) }
 {
     if is_logout(&heard.heading.msg_type) {
@@ -79,17 +79,22 @@ fn too_high(alloc: Global, at: &LoggedOn, heard: &Heard) -> Result<Plan, AllocEr
 }
 
 /// The number was used already.
-fn too_low(alloc: Global, at: &LoggedOn, heading: &Heading) -> Result<Plan, AllocError>
+fn too_low(alloc: Global, at: &LoggedOn, heading: &Heading) -> Result<Plan<'static>, AllocError>
     ensures { IfOk result (λ plan. plan ≡ too_low at.now heading.now) }
 {
     if heading.is_poss_dup {
-        return Ok(Plan::quiet(alloc, at));
+        return Ok(Plan::quiet(at));
     }
     Plan::leaves_with(alloc, at, Body::Logout(Some(LogoutReason::SeqTooLow)))
 }
 
 /// A frame that is no reset.
-fn by_number(alloc: Global, at: &LoggedOn, heard: Heard, number: SeqNum) -> Result<Plan, AllocError>
+fn by_number(
+    alloc: Global,
+    at: &LoggedOn,
+    heard: Heard,
+    number: SeqNum,
+) -> Result<Plan<'static>, AllocError>
     ensures { IfOk result (λ plan. plan ≡ by_number at.now heard number) }
 {
     let place = number.get();
@@ -107,7 +112,12 @@ fn by_number(alloc: Global, at: &LoggedOn, heard: Heard, number: SeqNum) -> Resu
 }
 
 /// A frame with a number.
-fn on_number(alloc: Global, at: &LoggedOn, heard: Heard, number: SeqNum) -> Result<Plan, AllocError>
+fn on_number(
+    alloc: Global,
+    at: &LoggedOn,
+    heard: Heard,
+    number: SeqNum,
+) -> Result<Plan<'static>, AllocError>
     ensures { IfOk result (λ plan. plan ≡ on_number at.now heard number) }
 {
     match reset_to(&heard.content) {
@@ -117,7 +127,7 @@ fn on_number(alloc: Global, at: &LoggedOn, heard: Heard, number: SeqNum) -> Resu
 }
 
 /// What is done on a frame.
-pub fn frame_plan(alloc: Global, at: &LoggedOn, heard: Heard) -> Result<Plan, AllocError>
+pub fn frame_plan(alloc: Global, at: &LoggedOn, heard: Heard) -> Result<Plan<'static>, AllocError>
     ensures { IfOk result (λ plan. plan ≡ frame_plan at.now heard) }
 {
     match heard.heading.number {

@@ -1,9 +1,11 @@
 //! A session.
 
-ghost use Rattle.std.specs.Prelude.{◌≡◌, List, ℕ, IfOk, OnErr};
+ghost use Rattle.std.specs.Prelude.{◌≡◌, [], ◌∷◌, List, ℕ, IfOk, OnOk, OnErr};
 ghost use Rattle.std.specs.Option.{option_map};
-ghost use Rattle.gu_session.specs.Following.{FollowsOnto};
+ghost use Rattle.gu_session.specs.Encoded.{AreOutputs, Closes};
+ghost use Rattle.gu_session.specs.Following.{Follows, FollowsOnto};
 ghost use Rattle.gu_session.specs.Outputs.{StepsOnto};
+ghost use Rattle.gu_session.specs.Sending.{closed};
 ghost use Rattle.gu_session.specs.States.{new_session};
 ghost use Rattle.gu_session.specs.Steps.{StepsWith};
 ghost use Rattle.gu_session.specs.declared.plan.Course.TheVariants.{Go};
@@ -11,14 +13,14 @@ ghost use Rattle.gu_session.specs.declared.logged_on.LoggedOn.{LoggedOn as Logge
 
 use crate::ask_ref::AskRef;
 use crate::carrying::is_over;
-use crate::course::{answer_course, frame_course, notice_course, tick_course};
+use crate::course::{answer_course, frame_course, message_course, tick_course};
 use crate::input::{Input, Outcome};
 use crate::output::{Output, Taken};
 use crate::plan::{Course, Plan};
-use crate::ready::Prepared;
 use crate::sending::{Pen, close, push_taken};
 use crate::state::State;
 use gu_fix::Frame;
+use gu_msgs::notice_body;
 use gu_terms::{FirmId, Moment, Notice};
 use std::alloc::{AllocError, Global};
 use std::marker::Model;
@@ -76,38 +78,84 @@ impl Session {
         }
     }
 
+    /// Ends, and lists that.
+    fn leave(&mut self) -> Result<Vec<Output>, AllocError>
+        ensures given { IfOk result (λ outputs. AreOutputs (Closes ∷ []) outputs.items) }
+        ensures closed { OnOk result (self.new ≡ closed self.old) }
+        ensures refused { OnErr result (self.new ≡ self.old) }
+    {
+        let outputs = close(self.alloc)?;
+        let _ = self.state.close();
+        Ok(outputs)
+    }
+
+    /// Carries out a plan, and lists what is given.
+    fn give(&mut self, plan: Plan<'_>, now: Moment) -> Result<Vec<Output>, AllocError>
+        ensures done { IfOk result (λ outputs. Follows self.old (Go plan.entry) now outputs.items self.new) }
+        ensures refused { OnErr result (self.new ≡ self.old) }
+    {
+        if is_over(self.state.next, &plan) {
+            return self.leave();
+        }
+        self.state.waiting.reserve(1)?;
+        let ready = self.state.make_ready(self.alloc, &plan, now)?;
+        let mut outputs = self.pen.outputs(&plan, &ready, self.state.next, now)?;
+        push_taken(&mut outputs, self.state.commit(plan, ready, now));
+        Ok(outputs)
+    }
+
+    /// Does what is to be done, and lists what is given.
+    fn perform(&mut self, course: Course<'_>, now: Moment) -> Result<Vec<Output>, AllocError>
+        ensures done { IfOk result (λ outputs. Follows self.old course.entry now outputs.items self.new) }
+        ensures refused { OnErr result (self.new ≡ self.old) }
+    {
+        match course {
+            Course::Stay => Ok(Vec::new(self.alloc)),
+            Course::Leave => self.leave(),
+            Course::Go(plan) => self.give(plan, now),
+        }
+    }
+
     /// Takes an input at a moment. Where an allocation fails the session stays as it was.
     pub fn step(&mut self, input: Input, now: Moment) -> Result<Vec<Output>, AllocError>
         ensures steps { IfOk result (λ outputs. StepsWith self.old input now outputs.items self.new) }
         ensures refused { OnErr result (self.new ≡ self.old) }
     {
-        if self.state.is_closed {
+        let state = &self.state;
+        if state.is_closed {
             return Ok(Vec::new(self.alloc));
         }
-        self.state.waiting.reserve(1)?;
-        match self.state.prepare(self.alloc, input, now)? {
-            Prepared::Stay => Ok(Vec::new(self.alloc)),
-            Prepared::Leave => {
-                let outputs = close(self.alloc)?;
-                let _ = self.state.close();
-                Ok(outputs)
+        match input {
+            Input::Frame(frame) => {
+                let course = frame_course(self.alloc, &state.firms, &state.at, frame, now)?;
+                self.perform(course, now)
             }
-            Prepared::Go(plan, ready) => {
-                let mut outputs = self.pen.outputs(&plan, &ready, self.state.next, now)?;
-                push_taken(&mut outputs, self.state.commit(plan, ready, now));
-                Ok(outputs)
+            Input::Notice(notice) => {
+                let body = notice_body(&notice);
+                let course = message_course(&state.at, &body);
+                self.perform(course, now)
             }
+            Input::Answer(reference, outcome) => {
+                let waiting = &state.waiting;
+                let course = answer_course(self.alloc, &state.at, waiting, reference, &outcome)?;
+                self.perform(course, now)
+            }
+            Input::Tick => {
+                let course = tick_course(self.alloc, &state.at, state.sent_at, now)?;
+                self.perform(course, now)
+            }
+            Input::End => self.perform(Course::Leave, now),
         }
     }
 
     /// Carries out a plan, and appends the bytes that are sent.
     fn carry_out(
         &mut self,
-        plan: Plan,
+        plan: Plan<'_>,
         now: Moment,
         output: &mut Vec<u8>,
     ) -> Result<Taken, AllocError>
-        ensures done { IfOk result (λ taken. FollowsOnto self.old (Go plan) now output.old.items output.new.items taken self.new) }
+        ensures done { IfOk result (λ taken. FollowsOnto self.old (Go plan.entry) now output.old.items output.new.items taken self.new) }
         ensures refused { OnErr result (self.new ≡ self.old) }
         ensures kept { OnErr result (output.new.items ≡ output.old.items) }
     {
@@ -124,11 +172,11 @@ impl Session {
     /// Does what is to be done, and appends the bytes that are sent.
     fn follow(
         &mut self,
-        course: Course,
+        course: Course<'_>,
         now: Moment,
         output: &mut Vec<u8>,
     ) -> Result<Taken, AllocError>
-        ensures done { IfOk result (λ taken. FollowsOnto self.old course now output.old.items output.new.items taken self.new) }
+        ensures done { IfOk result (λ taken. FollowsOnto self.old course.entry now output.old.items output.new.items taken self.new) }
         ensures refused { OnErr result (self.new ≡ self.old) }
         ensures kept { OnErr result (output.new.items ≡ output.old.items) }
     {
@@ -174,7 +222,8 @@ impl Session {
         if state.is_closed {
             return Ok(Taken::nothing());
         }
-        let course = notice_course(self.alloc, &state.at, notice)?;
+        let body = notice_body(notice);
+        let course = message_course(&state.at, &body);
         self.follow(course, now, output)
     }
 

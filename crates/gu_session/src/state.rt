@@ -2,18 +2,15 @@
 
 ghost use Rattle.std.specs.Prelude.{◌≡◌, ◌<◌, [], true, false, None, vec_len, vec_capacity, IfOk};
 ghost use Rattle.gu_session.specs.Given.{asked_in};
-ghost use Rattle.gu_session.specs.Readiness.{IsPrepared, IsReady, IsSoundState, seen};
+ghost use Rattle.gu_session.specs.Readiness.{IsReady, IsSoundState, seen};
 ghost use Rattle.gu_session.specs.Sending.{behind, closed, is_over};
 ghost use Rattle.gu_session.specs.States.{new_session};
-ghost use Rattle.gu_session.specs.Steps.{IsCourse};
 
-use crate::carrying::{is_over, keep, move_to, repeats, room_for, sent_at_after, settle};
-use crate::course::{answer_course, frame_course, notice_course, tick_course};
-use crate::input::Input;
+use crate::carrying::{keep, move_to, repeats, room_for, sent_at_after, settle};
 use crate::logged_on::{LoggedOn, Waiting};
 use crate::output::{Asked, Taken};
-use crate::plan::{Course, Handed, Plan};
-use crate::ready::{Prepared, Ready};
+use crate::plan::{Handed, Plan};
+use crate::ready::Ready;
 use crate::sent_ring::SentRing;
 use gu_terms::{FirmId, Moment};
 use std::alloc::{AllocError, Global};
@@ -47,7 +44,7 @@ impl Drop for State {
 }
 
 /// The beginning of time.
-fn beginning() -> Moment
+pub fn beginning() -> Moment
     ensures { result ≡ 0 }
 {
     Moment::new(0).unwrap()
@@ -77,42 +74,13 @@ impl State {
         }
     }
 
-    /// What is done on an input.
-    fn course(&self, alloc: Global, input: Input, now: Moment) -> Result<Course, AllocError>
-        ensures { IfOk result (IsCourse (seen self.now) input now) }
-    {
-        match input {
-            Input::Frame(frame) => frame_course(alloc, &self.firms, &self.at, frame, now),
-            Input::Notice(notice) => notice_course(alloc, &self.at, &notice),
-            Input::Answer(reference, outcome) => {
-                answer_course(alloc, &self.at, &self.waiting, reference, &outcome)
-            }
-            Input::Tick => tick_course(alloc, &self.at, self.sent_at, now),
-            Input::End => Ok(Course::Leave),
-        }
-    }
-
-    /// What is to be done on an input, with all that takes memory.
-    pub fn prepare(&self, alloc: Global, input: Input, now: Moment) -> Result<Prepared, AllocError>
-        requires open { self.now.is_closed ≡ false }
-        requires sound { IsSoundState self.now }
-        ensures { IfOk result (IsPrepared (seen self.now) input now) }
-    {
-        match self.course(alloc, input, now)? {
-            Course::Stay => Ok(Prepared::Stay),
-            Course::Leave => Ok(Prepared::Leave),
-            Course::Go(plan) => {
-                if is_over(self.next, &plan) {
-                    return Ok(Prepared::Leave);
-                }
-                let ready = self.make_ready(alloc, &plan, now)?;
-                Ok(Prepared::Go(plan, ready))
-            }
-        }
-    }
-
     /// All that takes memory to carry out a plan for which numbers suffice.
-    pub fn make_ready(&self, alloc: Global, plan: &Plan, now: Moment) -> Result<Ready, AllocError>
+    pub fn make_ready(
+        &self,
+        alloc: Global,
+        plan: &Plan<'_>,
+        now: Moment,
+    ) -> Result<Ready, AllocError>
         requires numbers { is_over self.now.next plan.now ≡ false }
         requires sound { IsSoundState self.now }
         ensures { IfOk result (IsReady (seen self.now) now plan.now) }
@@ -135,14 +103,14 @@ impl State {
     }
 
     /// A plan that is ready is carried out. This takes no memory.
-    pub fn commit(&mut self, plan: Plan, ready: Ready, now: Moment) -> Taken
+    pub fn commit(&mut self, plan: Plan<'_>, ready: Ready, now: Moment) -> Taken
         requires ready { IsReady (seen self.old) now plan ready }
         requires place { vec_len self.old.waiting < vec_capacity self.old.waiting }
         requires sound { IsSoundState self.old }
-        ensures behind { seen self.new ≡ behind (seen self.old) now plan }
+        ensures behind { seen self.new ≡ behind (seen self.old) now plan.entry }
         ensures sound { IsSoundState self.new }
-        ensures handed { result.handed ≡ asked_in plan.handed }
-        ensures close { result.is_closed ≡ plan.ends }
+        ensures handed { result.handed ≡ asked_in plan.entry.handed }
+        ensures close { result.is_closed ≡ plan.entry.ends }
     {
         self.sent_at = sent_at_after(self.sent_at, now, ready.len(&plan));
         let Ready { again, room } = ready;
