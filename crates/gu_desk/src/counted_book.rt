@@ -1,4 +1,4 @@
-//! What is after a desk's lock: the book, and the ledgers of what its seats entered and swept. Each hold of the lock is one call.
+//! What a desk's lock guards: the book, and the ledgers of what its seats entered and swept. Each hold of the lock is one call.
 
 ghost use Rattle.std.specs.Prelude.{◌≡◌, ◌↔◌, ◌+◌, ◌<◌, ◌≤◌, length, sum_by, vec_len, false, IfErr, IfOk, IfSome, IsErrOf, OnErr};
 ghost use Rattle.gu_terms.specs.Histories.{lots_swept};
@@ -78,7 +78,7 @@ impl<E: EntryLedger, S: LotLedger> CountedBook<E, S> {
         }
     }
 
-    /// Enters a command from a seat, and answers the number of the entry and the reply.
+    /// Enters a command from a seat, and returns the number of the entry and the reply.
     pub(crate) fn submit(
         &mut self,
         seat: &mut Seat<E, S>,
@@ -121,14 +121,14 @@ impl<E: EntryLedger, S: LotLedger> CountedBook<E, S> {
     {
         let CountedBook { book, entries, .. } = self;
         entries.audit(&mut seat.entries);
-        // The entries since the last stretch. Where this fails, more of them are looked into.
+        // Whom the entries since the last stretch inform. Where this fails, more of them are looked into.
         let _ = book.note_recipients();
         // Shows the prover: the history is legal.
         let _ = book.history();
         book.stretch(firm, from)
     }
 
-    /// Enters a command from a seat, and answers the number of the entry, the reply, and a stretch of what a firm is told of the entries
+    /// Enters a command from a seat, and returns the number of the entry, the reply, and a stretch of what a firm is told of the entries
     /// from a number on, this entry among them; none where an allocation fails for it.
     pub(crate) fn submit_and_tell(
         &mut self,
@@ -161,7 +161,7 @@ impl<E: EntryLedger, S: LotLedger> CountedBook<E, S> {
         book.view(group)
     }
 
-    /// Commits a proposal for a seat, and answers the number of the entry. What the history keeps of the sweep was made before.
+    /// Commits a proposal for a seat, and returns the number of the entry. What the history keeps of the sweep was made before.
     pub(crate) fn commit(
         &mut self,
         seat: &mut Seat<E, S>,

@@ -67,7 +67,7 @@ impl<E: EntryLedger, S: LotLedger> Model for Desk<E, S> {
 
 impl<E: EntryLedger, S: LotLedger> Desk<E, S> {
     /// A desk over a book, with its seats. The blanks are those of the two ledgers that the desk's type names, each of one part more
-    /// than there are seats. Each entry is read once, to note whom it tells.
+    /// than there are seats. Each entry is read once, to note whom it informs.
     pub fn new(
         alloc: Global,
         book: Book,
@@ -133,8 +133,8 @@ impl<E: EntryLedger, S: LotLedger> Desk<E, S> {
     }
 
     /// Enters a command from a seat, and returns its number, the reply, and a stretch of what a firm is told of the entries from a number
-    /// on, this entry among them; no stretch where an allocation fails for it. It may wait for the lock, which it holds once, while it looks
-    /// at 1,024 entries at most.
+    /// on, this entry among them. The stretch may always be missing, as it is where an allocation fails for it. It may wait for the lock,
+    /// which it holds once, while it looks at 1,024 entries at most, and notes whom those inform that came since any seat's last stretch.
     pub fn enter_and_tell<R: Wait>(
         &self,
         rt: &R,
@@ -186,7 +186,7 @@ impl<E: EntryLedger, S: LotLedger> Desk<E, S> {
     }
 
     /// A stretch of what a firm is told of the entries from a number on. It may wait for the lock, which it holds once, while it
-    /// looks at 1,024 entries at most, and notes whom those tell that came since any seat's last stretch.
+    /// looks at 1,024 entries at most, and notes whom those inform that came since any seat's last stretch.
     pub fn stretch<R: Wait>(
         &self,
         rt: &R,

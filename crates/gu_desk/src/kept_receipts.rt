@@ -1,6 +1,6 @@
 //! Receipts that are kept until an audit.
 
-ghost use Rattle.std.specs.Prelude.{◌≡◌, List, [], ◌∷◌, ◌++◌, IfOk, IfSome, OnOk};
+ghost use Rattle.std.specs.Prelude.{◌≡◌, ◌↔◌, List, [], ◌∷◌, ◌++◌, IfOk, IfSome, IsNone, OnOk};
 ghost use Rattle.gu_terms.specs.declared.receipt.Receipt.{Receipt as ReceiptOf};
 
 use crate::packed_receipts::PackedReceipts;
@@ -70,7 +70,8 @@ impl KeptReceipts {
 
     /// The last receipt, where no room was made for another since.
     pub fn last(&self) -> Option<&Receipt>
-        ensures { IfSome result (λ last. (earlier : List ReceiptOf) × (receipts_in self.now ≡ earlier ++ last.now ∷ [])) }
+        ensures last { IfSome result (λ last. (earlier : List ReceiptOf) × (receipts_in self.now ≡ earlier ++ last.now ∷ [])) }
+        ensures none { IsNone result ↔ HasRoom self.now }
     {
         self.last.as_ref()
     }

@@ -1,6 +1,6 @@
 -- Receipts: one more, and those of two seats together.
-use Rattle.std.proofs.Common.{◌≡◌, ◌∙◌, ℕ, ◌+◌, List, [], ◌∷◌, ◌++◌, length, ap, sym, arith, append_assoc, append-nil, length-append}
-use Rattle.std.proofs.lemmas.List.Elements.{All-push, All-append, All-nil}
+use Rattle.std.proofs.Common.{◌≡◌, ◌∙◌, ℕ, ◌+◌, ◌<◌, List, [], ◌∷◌, ◌++◌, length, Option, Some, None, IfSome, Bor, ap, sym, arith, append_assoc, append-nil, length-append}
+use Rattle.std.proofs.lemmas.List.Elements.{All-push, All-append, All-nil, All-pop}
 use Rattle.gu_terms.specs.declared.entry.Entry.{Entry}
 use Rattle.gu_terms.specs.declared.receipt.Receipt.{Receipt}
 use Rattle.gu_ref.specs.Tables.{Tables}
@@ -23,6 +23,16 @@ one_more reference opening entries rs r have entered = record {
   count = let count = have.count in omega (arith, length-append rs (r ∷ []));
   each = All-push (IsEntered reference opening) rs r have.each (entered_later reference opening entries r entered);
 }
+
+-- the last of a seat's receipts, where it is there
+pub last_entered : (reference : Tables) (opening entries : ℕ) (rs : List Receipt) (o : Option (Bor Receipt))
+    → IfSome o (λ last. (earlier : List Receipt) × (rs ≡ earlier ++ last.now ∷ [])) → HasReceipts reference opening entries rs
+    → IfSome o (λ last. (0 < entries) × IsEntered reference opening last.now)
+last_entered reference opening entries rs None is have = tt
+last_entered reference opening entries rs (Some last) is have =
+    let long = ap length is.1 in
+    let count = have.count in
+    (omega (arith, length-append is.0 (last.now ∷ [])), (All-pop (IsEntered reference opening) rs is.0 (Some last.now) is.1 have.each).1)
 
 -- the receipts of two seats
 together : (reference : Tables) (opening m n : ℕ) (rs ss : List Receipt)

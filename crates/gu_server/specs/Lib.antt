@@ -1,3 +1,4 @@
 pub mod DayEnds
+pub mod ReadAhead
 pub mod Receipts
 pub mod SeatHouse

@@ -190,6 +190,7 @@ pub fn close<E: EntryLedger, S: LotLedger>(
     ensures receipts { IfOk result (λ closed. AddsReceipts E.reference E.opening ending.receipts
         closed.book.history closed.receipts) }
     ensures count { length ending.receipts ≡ E.opening → IfOk result (λ closed. length closed.receipts ≡ length closed.book.history) }
+    ensures fault { IfOk result (λ closed. closed.fault ≡ shift.fault) }
 {
     let (keeping, fault) = shift.into_parts();
     let (seats, mut receipts) = ending.into_parts();

@@ -1,6 +1,6 @@
 //! The seats of a day, and the threads that have some of them.
 
-ghost use Rattle.std.specs.Prelude.{◌≡◌, ◌+◌, ◌<◌, ◌≤◌, vec_capacity, vec_len, IfSome, IsSome, OnOk};
+ghost use Rattle.std.specs.Prelude.{◌≡◌, ◌↔◌, ◌+◌, ◌<◌, ◌≤◌, [], ◌∷◌, ◌++◌, vec_capacity, vec_len, IfSome, IfNone, IsSome, OnOk};
 
 use crate::seat_receipts::SeatReceipts;
 use gu_desk::{EntryLedger, LotLedger};
@@ -28,7 +28,10 @@ impl<E: EntryLedger, S: LotLedger> Drop for Crew<E, S> {
 
 impl<E: EntryLedger, S: LotLedger> Crew<E, S> {
     /// These seats, and no thread yet.
-    pub fn new(alloc: Global, seats: Vec<SeatReceipts<E, S>>) -> Self {
+    pub fn new(alloc: Global, seats: Vec<SeatReceipts<E, S>>) -> Self
+        ensures seats { result.seats.items ≡ seats.items }
+        ensures threads { result.threads.items ≡ [] }
+    {
         Crew {
             seats,
             threads: Vec::new(alloc),
@@ -36,14 +39,18 @@ impl<E: EntryLedger, S: LotLedger> Crew<E, S> {
     }
 
     /// How many seats no thread has.
-    pub fn idle(&self) -> usize {
+    pub fn idle(&self) -> usize
+        ensures { result ≡ vec_len self.now.seats }
+    {
         self.seats.len()
     }
 
     /// Makes room for one more thread, and for the seat that it will hand back.
     pub fn reserve(&mut self) -> Result<(), AllocError>
-        ensures { OnOk result ((vec_len self.new.threads < vec_capacity self.new.threads)
+        ensures room { OnOk result ((vec_len self.new.threads < vec_capacity self.new.threads)
             × (vec_len self.new.seats + vec_len self.new.threads < vec_capacity self.new.seats)) }
+        ensures seats { self.new.seats.items ≡ self.old.seats.items }
+        ensures threads { self.new.threads.items ≡ self.old.threads.items }
     {
         self.threads.reserve(1)?;
         self.seats.reserve(self.threads.len() + 1)
@@ -53,13 +60,19 @@ impl<E: EntryLedger, S: LotLedger> Crew<E, S> {
     pub fn add(&mut self, thread: Seated<E, S>)
         requires thread { vec_len self.old.threads < vec_capacity self.old.threads }
         requires seat { vec_len self.old.seats + vec_len self.old.threads < vec_capacity self.old.seats }
+        ensures seats { self.new.seats.items ≡ self.old.seats.items }
+        ensures threads { self.new.threads.items ≡ self.old.threads.items ++ thread ∷ [] }
     {
         self.threads.push_reserved(thread);
     }
 
     /// Takes a seat for a thread. There is room for it here, should it come back at once.
     pub fn take_seat(&mut self) -> Option<SeatReceipts<E, S>>
-        ensures { IsSome result → vec_len self.new.seats + vec_len self.new.threads < vec_capacity self.new.seats }
+        ensures some { IsSome result ↔ (0 < vec_len self.old.seats) }
+        ensures seat { IfSome result (λ seat. self.old.seats.items ≡ self.new.seats.items ++ seat ∷ []) }
+        ensures none { IfNone result (self.new.seats.items ≡ self.old.seats.items) }
+        ensures threads { self.new.threads.items ≡ self.old.threads.items }
+        ensures room { IsSome result → vec_len self.new.seats + vec_len self.new.threads < vec_capacity self.new.seats }
     {
         self.seats.pop()
     }
@@ -67,6 +80,8 @@ impl<E: EntryLedger, S: LotLedger> Crew<E, S> {
     /// Puts back a seat that no thread got.
     pub fn put_back(&mut self, seat: SeatReceipts<E, S>)
         requires { vec_len self.old.seats + vec_len self.old.threads < vec_capacity self.old.seats }
+        ensures seats { self.new.seats.items ≡ self.old.seats.items ++ seat ∷ [] }
+        ensures threads { self.new.threads.items ≡ self.old.threads.items }
     {
         self.seats.push_reserved(seat);
     }

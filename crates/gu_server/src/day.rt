@@ -80,7 +80,7 @@ fn with_receipts<E: EntryLedger, S: LotLedger>(
 }
 
 /// Opens a desk over a book, serves the connections that come to a listener, and closes the desk after the last one. The listener is
-/// closed once the last connection was accepted. What is done is told at a terminal, where there is one.
+/// closed once the last connection was accepted. What is done is printed at a terminal, where there is one.
 pub fn serve_day<
     E: EntryLedger + Send + Sync,
     S: LotLedger + Send + Sync,

@@ -1,7 +1,8 @@
 //! A connection's stream on which answers go out together, where messages came together.
 
-ghost use Rattle.std.specs.Prelude.{◌≡◌, [], OnErr};
+ghost use Rattle.std.specs.Prelude.{◌≡◌, ◌≢◌, [], IfOk, IsOk, OnErr};
 ghost use Rattle.std.specs.Io.{ReadsAtMost};
+ghost use Rattle.gu_server.specs.ReadAhead.{GivesFirst};
 
 use crate::ahead::Ahead;
 use crate::timed::write_past_signals;
@@ -18,7 +19,7 @@ const MOST_HELD: usize = 65_536;
 /// A connection's stream, of which more is read at once than is asked for, where more has come. While that is so, what is written is
 /// held, up to 65,536 bytes, and then goes out in one write: at the latest before a read that may wait.
 ///
-/// What is held when the line is let go isn't sent, unless `send_held` was called before.
+/// What is held when the line is dropped isn't sent, unless `send_held` was called before.
 pub struct Line<'a> {
     alloc: Global,
     stream: &'a TcpStream,
@@ -64,7 +65,7 @@ impl Write for Steady<'_> {
     }
 }
 
-/// What a reader or a writer answers where what was held can't be sent: no kind that means that there is nothing for now.
+/// What a reader or a writer returns where what was held can't be sent: no kind that means that there is nothing for now.
 fn aborted() -> io::Error {
     io::Error::from(ErrorKind::ConnectionAborted)
 }
@@ -124,17 +125,19 @@ impl<'a> Line<'a> {
 
     /// Reads ahead what has come, without waiting.
     fn fill_at_once(&self, ahead: &mut Ahead) -> io::Result<()>
-        requires { ahead.old ≡ [] }
-        ensures { OnErr result (ahead.new ≡ []) }
+        requires { ahead.old.left ≡ [] }
+        ensures { OnErr result (ahead.new.left ≡ []) }
     {
         self.set_waiting(false)?;
         let mut stream = self.stream;
         ahead.fill(&mut stream)
     }
 
-    /// Reads ahead what has come, without waiting where something is held that can be sent meanwhile.
+    /// Reads ahead what has come, without waiting where something is held that can be sent meanwhile. What a socket gives is in no clause,
+    /// so neither is what is ahead then.
     fn fill(&self, ahead: &mut Ahead) -> io::Result<()>
-        requires { ahead.old ≡ [] }
+        requires { ahead.old.left ≡ [] }
+        ensures { OnErr result (ahead.new.left ≡ []) }
     {
         if self.is_holding.get() && self.may_have_more.get() {
             match self.fill_at_once(ahead) {
@@ -149,15 +152,29 @@ impl<'a> Line<'a> {
         ahead.fill(&mut stream)
     }
 
-    /// Reads the next bytes: those that were read ahead, or once there are none more of them, those that have come.
-    fn read_next(&self, ahead: &mut Ahead, buf: &mut [u8]) -> io::Result<usize>
-        ensures { ReadsAtMost result buf.new }
+    /// Reads ahead once none are left.
+    fn refill(&self, ahead: &mut Ahead) -> io::Result<()>
+        ensures kept { ahead.old.left ≢ [] → IsOk result × (ahead.new.left ≡ ahead.old.left) }
+        ensures none { OnErr result ((ahead.old.left ≡ []) × (ahead.new.left ≡ [])) }
     {
-        if ahead.is_empty() {
-            let filled = self.fill(ahead);
-            self.may_have_more.set(false);
-            filled?;
+        if !ahead.is_empty() {
+            return Ok(());
         }
+        let filled = self.fill(ahead);
+        self.may_have_more.set(false);
+        filled
+    }
+
+    /// Reads the next bytes: those that were read ahead, or once none of them are left, those that have come. So 0 bytes are given, where
+    /// the buffer has room, only where none were ahead and the socket gave none. It fails only where none were ahead.
+    ///
+    /// What a cell holds is in no clause: that a read finds ahead what the one before left there is only tested.
+    fn read_next(&self, ahead: &mut Ahead, buf: &mut [u8]) -> io::Result<usize>
+        ensures bound { ReadsAtMost result buf.new }
+        ensures gives { IfOk result (GivesFirst ahead.old.left ahead.new.left buf.old buf.new) }
+        ensures none { OnErr result ((ahead.old.left ≡ []) × (ahead.new.left ≡ []) × (buf.new ≡ buf.old)) }
+    {
+        self.refill(ahead)?;
         let count = ahead.take(buf);
         self.may_have_more.set(!ahead.is_empty() || ahead.is_full());
         Ok(count)

@@ -1,12 +1,13 @@
 //! A seat that keeps its receipts.
 
-ghost use Rattle.std.specs.Prelude.{◌≡◌, ◌↔◌, ℕ, ◌+◌, false, IfErr, IfOk, IfSome, IsErrOf, OnErr};
+ghost use Rattle.std.specs.Prelude.{◌≡◌, ◌↔◌, ℕ, ◌+◌, ◌<◌, false, IfErr, IfOk, IfSome, IsErrOf, OnErr};
 ghost use Rattle.gu_ref.specs.Reference.{is_group};
 ghost use Rattle.gu_terms.specs.Histories.{swept_by};
+ghost use Rattle.gu_terms.specs.declared.receipt.Receipt.{Receipt as ReceiptOf};
 ghost use Rattle.gu_book.specs.Questions.{IsUnknown};
 ghost use Rattle.gu_desk.specs.KeptReceipts.{receipts_in};
 ghost use Rattle.gu_desk.specs.Holds.{IsAnswered, IsEntered, IsTold};
-ghost use Rattle.gu_desk.specs.Sweeps.{DiffersIfStale};
+ghost use Rattle.gu_desk.specs.Sweeps.{DiffersIfStale, Sweeps};
 ghost use Rattle.gu_desk.specs.Totals.{with_entry, with_sweep, IsEmpty};
 ghost use Rattle.gu_server.specs.Receipts.{HasReceipts};
 
@@ -151,6 +152,8 @@ impl<E: EntryLedger, S: LotLedger> SeatReceipts<E, S> {
         desk: &Desk<E, S>,
         group: Group,
     ) -> Result<u64, SweepError>
+        ensures swept { IfOk result (λ lots. (receipt : ReceiptOf) × Sweeps group receipt.entry × (swept_by receipt.entry ≡ lots)
+            × IsEntered E.reference (E.opening + self.old.entries) receipt) }
         ensures counted { IfOk result (λ lots. self.new ≡ with_sweep self.old lots) }
         ensures unknown { IsErrOf result SweepError.UnknownGroup → is_group E.reference group ≡ false }
         ensures stale { IfErr result DiffersIfStale }
@@ -191,8 +194,11 @@ impl<E: EntryLedger, S: LotLedger> SeatReceipts<E, S> {
         desk.stretch(rt, &mut self.seat, firm, from)
     }
 
-    /// The receipt of what was entered last.
-    pub fn last(&self) -> Option<&Receipt> {
+    /// The receipt of what was entered last, where nothing was refused since. To a contract it is one of those that are kept: a seat's
+    /// value doesn't have the receipts, and so can't say which one it is, or where there is none.
+    pub fn last(&self) -> Option<&Receipt>
+        ensures { IfSome result (λ last. (0 < self.now.entries) × IsEntered E.reference E.opening last.now) }
+    {
         self.receipts.last()
     }
 }

@@ -1,5 +1,6 @@
 //! The threads of a day: one for each connection, and sweepers beside them.
 
+ghost use Rattle.std.specs.Prelude.{◌≡◌};
 ghost use denote.Param.Send.{IsSend, IsSync};
 
 use crate::accepting::{Ends, accept_all};
@@ -34,13 +35,16 @@ impl<E: EntryLedger, S: LotLedger> Drop for Shift<E, S> {
 
 impl<E: EntryLedger, S: LotLedger> Shift<E, S> {
     /// The seats, and the fault.
-    pub fn into_parts(self) -> (Vec<SeatReceipts<E, S>>, Option<StreamError>) {
+    pub fn into_parts(self) -> (Vec<SeatReceipts<E, S>>, Option<StreamError>)
+        ensures seats { result.0 ≡ self.seats }
+        ensures fault { result.1 ≡ self.fault }
+    {
         let Shift { seats, fault } = self;
         (seats, fault)
     }
 }
 
-/// The thread that tells the counts at a terminal, until its channel's end here is gone.
+/// The thread that prints the counts at a terminal, until its channel's end here is gone.
 struct Teller {
     until: Sender<()>,
     thread: JoinHandle<()>,
@@ -55,7 +59,7 @@ impl Drop for Teller {
 }
 
 impl Teller {
-    /// Waits until the last counts were told.
+    /// Waits until the last counts were printed.
     fn end<R: Threads>(self, rt: &R) {
         let Teller { until, thread } = self;
         drop(until);
@@ -63,7 +67,7 @@ impl Teller {
     }
 }
 
-/// Starts the thread that tells the counts at a terminal, where there is one. Where it can't be started, they aren't told.
+/// Starts the thread that prints the counts at a terminal, where there is one. Where it can't be started, they aren't printed.
 fn start_teller<
     's,
     X,

@@ -1,5 +1,7 @@
 //! The thread of a connection.
 
+ghost use Rattle.std.specs.Prelude.{◌≡◌};
+
 use crate::at_desk::AtDesk;
 use crate::floor::Floor;
 use crate::line::Line;
@@ -46,12 +48,18 @@ impl<E: EntryLedger, S: LotLedger> Drop for Call<E, S> {
 
 impl<E: EntryLedger, S: LotLedger> Call<E, S> {
     /// A connection, and the seat from which it is served.
-    pub fn new(stream: TcpStream, seat: SeatReceipts<E, S>) -> Self {
+    pub fn new(stream: TcpStream, seat: SeatReceipts<E, S>) -> Self
+        ensures stream { result.stream ≡ stream }
+        ensures seat { result.seat ≡ seat }
+    {
         Call { stream, seat }
     }
 
     /// The connection, and its seat.
-    pub fn into_parts(self) -> (TcpStream, SeatReceipts<E, S>) {
+    pub fn into_parts(self) -> (TcpStream, SeatReceipts<E, S>)
+        ensures stream { result.0 ≡ self.stream }
+        ensures seat { result.1 ≡ self.seat }
+    {
         let Call { stream, seat } = self;
         (stream, seat)
     }

@@ -53,7 +53,7 @@ impl Tally {
         let _ = self.entries.fetch_add(1, Ordering::Relaxed);
     }
 
-    /// One more sweep was committed, of so many lots.
+    /// One more sweep was committed, of this many lots.
     pub fn add_sweep(&self, lots: u64) {
         self.add_entry();
         let _ = self.lots.fetch_add(lots, Ordering::Relaxed);

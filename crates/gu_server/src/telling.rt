@@ -27,7 +27,7 @@ fn tell<T: Write>(terminal: &mut T, counts: Counts) -> io::Result<()> {
     terminal.flush()
 }
 
-/// Tells the counts once a second, where they changed, until the other end of the channel is gone, and ends the line then. What can't
+/// Prints the counts once a second, where they changed, until the other end of the channel is gone, and ends the line then. What can't
 /// be written is lost.
 pub fn tell_all<R: Wait + Clock, T: Write>(
     rt: &R,

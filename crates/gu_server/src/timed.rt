@@ -1,5 +1,6 @@
 //! Streams of a connection whose firm has to log on in time.
 
+ghost use Rattle.std.specs.Prelude.{◌≡◌};
 ghost use Rattle.std.specs.Io.{ReadsAtMost, WritesAtMost};
 ghost use Rattle.std.specs.Io.KnownBytes.{ReadConsumes, WriteAppends};
 
@@ -45,8 +46,8 @@ impl<'a, R: Clock> LogonTimer<'a, R> {
     }
 }
 
-/// A stream under a timer: once the firm is late, reads fail. A read that a signal cut short has nothing for now, and such a write is made
-/// again.
+/// A stream under a timer: once the firm is late, reads fail. A read that a signal cut short has nothing for now, and a write that one cut
+/// short is made again.
 #[derive(Drop)]
 pub struct Timed<'a, T, R> {
     stream: T,
@@ -55,7 +56,9 @@ pub struct Timed<'a, T, R> {
 
 impl<'a, T, R> Timed<'a, T, R> {
     /// A stream under a timer.
-    pub fn new(stream: T, timer: &'a LogonTimer<'a, R>) -> Self {
+    pub fn new(stream: T, timer: &'a LogonTimer<'a, R>) -> Self
+        ensures { result.stream ≡ stream }
+    {
         Timed { stream, timer }
     }
 }

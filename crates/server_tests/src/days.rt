@@ -6,7 +6,7 @@ ghost use denote.Param.Send.{IsSend, IsSync};
 
 use crate::clients::{Client, Ending, Visit};
 use crate::machine::Machine;
-use crate::opening::{A_TRADE, book_after};
+use crate::opening::{A_TRADE, A_TRADE_OF_G2, book_after};
 use gu_desk::{EntryLedger, LotLedger};
 use gu_server::{Closed, Opening, serve_day};
 use gu_streams::StreamError;
@@ -34,6 +34,21 @@ const GIVES_UP: Visit = Visit {
     firm: "E1",
     parts: &[GIVES_UP_LINES],
     ending: Ending::LogsOut(3),
+};
+
+/// A firm gives up its lots of the other group.
+const GIVES_UP_IN_G2: Visit = Visit {
+    firm: "E1",
+    parts: &[
+        "\
+in A 1 98=0|108=30|1137=9|
+and J 2 70=L1|71=0|53=10|124=1|17=R1|78=1|79=A1|80=10|
+out A 1 98=0|108=30|1137=9|
+out AE 2 571=7-B|572=R1|573=0|880=M1|55=YF6|32=10|31=101.5|75=20260105|552=1|54=1|1=H1|
+out P 3 70=L1|87=0|
+",
+    ],
+    ending: Ending::HangsUp,
 };
 
 /// A firm gives up its lots in two parts, and hangs up.
@@ -180,10 +195,11 @@ out P 3 70=L2|87=0|
     ending: Ending::HangsUp,
 };
 
-/// Connections one after the other, and how they are served: every K-th accepted give-up of one has its group swept. What the day comes
-/// to then.
+/// What the day begins with, connections one after the other, and how they are served: every K-th accepted give-up of one has its group
+/// swept. What the day comes to then.
 #[derive(Clone, Copy)]
 struct Row {
+    begin: &'static str,
     doing: Doing,
     connections: usize,
     every: u64,
@@ -191,39 +207,53 @@ struct Row {
 }
 
 /// Connections to the book of a trade of ten lots, which has seven entries.
-const ROWS: [Row; 12] = [
+const ROWS: [Row; 13] = [
     Row {
+        begin: A_TRADE,
         doing: Doing::Visits(&[GIVES_UP, IS_OFFERED]),
         connections: 2,
         every: 1,
         end: "ENTRIES 9\nSWEPT 10\nAUDIT OK\n",
     },
     Row {
+        begin: A_TRADE,
         doing: Doing::Visits(&[GIVES_UP, IS_OFFERED]),
         connections: 2,
         every: 0,
         end: "ENTRIES 8\nSWEPT 0\nAUDIT OK\n",
     },
     Row {
+        begin: A_TRADE,
         doing: Doing::Visits(&[GIVES_UP]),
         connections: 1,
         every: 2,
         end: "ENTRIES 8\nSWEPT 0\nAUDIT OK\n",
     },
     Row {
+        begin: A_TRADE,
         doing: Doing::Visits(&[GIVES_UP_TWICE]),
         connections: 1,
         every: 2,
         end: "ENTRIES 10\nSWEPT 10\nAUDIT OK\n",
     },
+    // It is the give-up's own group that is swept.
+    Row {
+        begin: A_TRADE_OF_G2,
+        doing: Doing::Visits(&[GIVES_UP_IN_G2]),
+        connections: 1,
+        every: 1,
+        end: "ENTRIES 9\nSWEPT 10\nAUDIT OK\n",
+    },
     // Each accepted give-up has its group swept; and the second, but not the third.
     Row {
+        begin: A_TRADE,
         doing: Doing::Visits(&[GIVES_UP_AGAIN]),
         connections: 1,
         every: 1,
         end: "ENTRIES 11\nSWEPT 10\nAUDIT OK\n",
     },
     Row {
+        begin: A_TRADE,
         doing: Doing::Visits(&[GIVES_UP_ONE_MORE]),
         connections: 1,
         every: 2,
@@ -231,36 +261,42 @@ const ROWS: [Row; 12] = [
     },
     // A report and what is refused count for no order, and each connection counts its own give-ups.
     Row {
+        begin: A_TRADE,
         doing: Doing::Visits(&[GIVES_UP_FOUR, GIVES_UP_SIX]),
         connections: 2,
         every: 2,
         end: "ENTRIES 11\nSWEPT 0\nAUDIT OK\n",
     },
     Row {
+        begin: A_TRADE,
         doing: Doing::Visits(&[GIVES_UP_FOUR]),
         connections: 1,
         every: 1,
         end: "ENTRIES 11\nSWEPT 4\nAUDIT OK\n",
     },
     Row {
+        begin: A_TRADE,
         doing: Doing::Visits(&[COMES_IN_BURSTS]),
         connections: 1,
         every: 0,
         end: "ENTRIES 7\nSWEPT 0\nAUDIT OK\n",
     },
     Row {
+        begin: A_TRADE,
         doing: Doing::Visits(&[STRANGER, HASTY]),
         connections: 2,
         every: 1,
         end: "ENTRIES 7\nSWEPT 0\nAUDIT OK\n",
     },
     Row {
+        begin: A_TRADE,
         doing: Doing::Waits,
         connections: 2,
         every: 0,
         end: "ENTRIES 8\nSWEPT 0\nAUDIT OK\n",
     },
     Row {
+        begin: A_TRADE,
         doing: Doing::Visits(&[STRANGER, GIVES_UP, HASTY, IS_OFFERED]),
         connections: 4,
         every: 1,
@@ -398,7 +434,7 @@ fn day<
 
 /// What the day of a row begins with.
 fn opening_of(rt: &impl Abort, alloc: Global, row: &Row) -> Opening {
-    let (book, receipts) = book_after(alloc, A_TRADE).ok().expect(rt, "a book");
+    let (book, receipts) = book_after(alloc, row.begin).ok().expect(rt, "a book");
     let connections = row.connections;
     assert!(rt; 1 <= connections && connections <= 32);
     let parts = connections as u64 + 3;
@@ -447,6 +483,7 @@ fn a_day_is_served_and_its_receipts_are_its_entries(rt: HostRuntime) -> Result<(
 
 /// Two connections are to be accepted, and one firm is there.
 const LACKS_ONE: Row = Row {
+    begin: A_TRADE,
     doing: Doing::Visits(&[]),
     connections: 2,
     every: 1,

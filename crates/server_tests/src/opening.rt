@@ -40,6 +40,17 @@ REPORT E1 R1 M1 B XF6 10 101.5 H1
 REPORT E2 R2 M1 S XF6 10 101.5 H2
 ";
 
+/// A day of the other group: with limits of 100 on the path of P1, and a trade of ten lots.
+pub const A_TRADE_OF_G2: &str = "\
+DAY 20260105
+LIMIT G2 EXEC E1 100
+LIMIT G2 AGR P1 100
+LIMIT G2 ACCT A1 100
+LIMIT G2 CARRY C1 100
+REPORT E1 R1 M1 B YF6 10 101.5 H1
+REPORT E2 R2 M1 S YF6 10 101.5 H2
+";
+
 /// The book of the sample after a script, and the receipts of its entries.
 pub fn book_after(alloc: Global, script: &str) -> Result<(Book, Vec<Receipt>), ScriptError> {
     let Ok(reference) = Reference::read(alloc, &mut CountedReads::new(ROWS.as_bytes())) else {

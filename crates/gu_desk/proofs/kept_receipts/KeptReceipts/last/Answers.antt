@@ -11,5 +11,5 @@ after_others : (kept : KeptReceipts) (o : Option (Bor Receipt)) → option_copie
 after_others kept None is = tt
 after_others kept (Some last) is = (kept.earlier, ap (λ (l : Option Receipt). kept.earlier ++ option_to_list l) (sym is))
 
-pub returns : goal.returns
-returns c = after_others c.args.self.now c.as_ref.result c.as_ref.ensures.value
+pub returns-clause-last : goal.returns-clause-last
+returns-clause-last c = after_others c.args.self.now c.as_ref.result c.as_ref.ensures.value
