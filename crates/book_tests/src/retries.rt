@@ -3,7 +3,7 @@
 
 use crate::transcript::{Patience, follow_all};
 
-/// Each growth is refused where a vector or a map is full: after 4, 8, 16, 32, 64 and 128 entries.
+/// Each allocation fails where a vector or a map is full: after 4, 8, 16, 32, 64 and 128 entries.
 const TRANSCRIPTS: &str = "\
 == reports and limits
 ROWS GUARANTOR,E2,C1; GUARANTOR,E2,C2; GUARANTOR,C1,E1

@@ -25,11 +25,11 @@ abbrev pub cuts_offers : (ℕ → Bool) → List Arc → List Room → ℕ → B
 cuts_offers reached arcs rooms place =
     leads_out reached (arc_at arcs place) && not ((arc_at arcs place).capacity == (room_at rooms place).lots)
 
--- of the agreements whose rooms stand before a place, no offers are cut
+-- of the agreements whose rooms come before a place, no offers are cut
 abbrev pub AreNoOffersCut : (ℕ → Bool) → List Arc → List Room → ℕ → Type 0
 AreNoOffersCut reached arcs rooms before = (k : ℕ) → k < before → cuts_offers reached arcs rooms k ≡ false
 
--- of so many names, these members are those that are cut and stand before a place, and each of them is known
+-- of this number of names, these members are those that are cut and come before a place, and each of them is known
 pub record AreCut {X : Type 0} (eq : X → X → Bool) (is_known : X → Bool) (name : ℕ → X)
     (cuts : ℕ → Bool) (names : ℕ) (members : List X) (before : ℕ) : Type 0 where
   pub exact : (k : ℕ) → k < names → list_any (λ x. eq x (name k)) members ≡ (nat_lt k before && cuts k)

@@ -1,4 +1,4 @@
--- Machinery: networks, and the two ends of each arc: 2k stands for the tail of the arc at place k, and 2k + 1 for its head.
+-- Machinery: networks, and the two ends of each arc: 2k is the tail of the arc at place k, and 2k + 1 its head.
 use Rattle.std.specs.Prelude.{◌≡◌, ℕ, zero, suc, ◌+◌, ◌-◌, ◌*◌, ◌/◌, ◌%◌, ◌^◌, ◌<◌, ◌≤◌, ◌==◌, Bool, if◌then◌else◌, List, All, length, slice_index, slice_index_or, sum_by}
 use Rattle.gu_flow.specs.declared.network.Arc.{Arc}
 
@@ -32,7 +32,7 @@ residual_in arcs flow e = if is_tail e then slice_index flow (e / 2) else (arc_a
 abbrev pub residual_out : List Arc → List ℕ → ℕ → ℕ
 residual_out arcs flow e = if is_tail e then (arc_at arcs (e / 2)).capacity - slice_index flow (e / 2) else slice_index flow (e / 2)
 
--- each arc joins two of so many nodes
+-- each arc joins two of this number of nodes
 abbrev pub JoinsNodes : List Arc → ℕ → Type 0
 JoinsNodes arcs nodes = All (λ a. (a.from < nodes) × (a.to < nodes)) arcs
 

@@ -3,7 +3,7 @@ use Rattle.std.specs.Prelude.{◌≡◌, ◌≢◌, ℕ, zero, suc, ◌-◌, ◌
 use Rattle.gu_flow.specs.declared.network.Arc.{Arc}
 use Rattle.gu_flow.specs.Ends.{arc_at, is_tail, near, far, residual_in, residual_out}
 
--- the places of a list with so many elements
+-- the places of a list with this number of elements
 unfoldable pub places : ℕ → List ℕ
 places zero = []
 places (suc n) = 0 ∷ map suc (places n)
@@ -34,7 +34,7 @@ pub record IsFlow (arcs : List Arc) (flow : List ℕ) : Type 0 where
   pub kept : (n : ℕ) → n ≢ 0 → n ≢ 1 → inflow arcs flow n ≡ outflow arcs flow n
   pub taken : outflow arcs flow 1 ≤ inflow arcs flow 1
 
--- so many lots more are brought over an end from its node to the other, and nothing else changes
+-- this number of lots more is brought over an end from its node to the other, and nothing else changes
 pub record Pushes (arcs : List Arc) (old new : List ℕ) (end lots : ℕ) : Type 0 where
   pub within : IsWithin arcs new
   pub nodes : (n : ℕ)

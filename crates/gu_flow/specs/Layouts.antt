@@ -19,7 +19,7 @@ abbrev pub node_or_sink : Option ℕ → ℕ
 node_or_sink None = 1
 node_or_sink (Some place) = node_of place
 
--- where a way stands after so many steps: at the source, at the node of its first place, then at that of each place
+-- where a way is after a number of steps: at the source, at the node of its first place, then at that of each place
 -- but the second, and after the last at the sink
 abbrev pub node_at : List ℕ → ℕ → ℕ
 node_at way steps = if steps == 0 then 0 else node_or_sink (slice_get way (if steps == 1 then 0 else steps))

@@ -36,7 +36,7 @@ pub record IsTree (arcs : List Arc) (flow : List ℕ) (entries : List Label) : T
 abbrev pub reached_count : List Label → ℕ
 reached_count entries = count_by (λ (e : Label). nat_lt 0 e.level) entries
 
--- the nodes that were reached stand in the queue, and nowhere else
+-- the nodes that were reached are those in the queue
 pub record IsQueue (entries : List Label) (queue : List ℕ) (count : ℕ) : Type 0 where
   pub counted : reached_count entries ≡ count
   pub waits : (n : ℕ) → 0 < level_at entries n → (k : ℕ) × ((k < count) × (slice_index queue k ≡ n))

@@ -11,7 +11,7 @@ pub record IsPreflow (arcs : List Arc) (flow excess : List ℕ) : Type 0 where
   pub taken : outflow arcs flow 1 ≤ inflow arcs flow 1
   pub sink : slice_index excess 1 ≡ 0
 
--- a preflow while lots are pushed down: each list has a place for each of so many nodes, and each node an end to go on at
+-- a preflow while lots are pushed down: each list has a place for each node, and each node an end to go on at
 pub record IsSurge (arcs : List Arc) (nodes : ℕ) (flow excess heights current : List ℕ) (ring : ℕ) : Type 0 where
   pub preflow : IsPreflow arcs flow excess
   pub lists : (length excess ≡ nodes) × (length heights ≡ nodes) × (length current ≡ nodes) × (ring ≡ nodes)

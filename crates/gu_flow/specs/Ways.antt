@@ -5,11 +5,11 @@ use Rattle.gu_flow.specs.declared.levels.Label.{Label}
 use Rattle.gu_flow.specs.Ends.{near, far, residual_in}
 use Rattle.gu_flow.specs.Levels.{level_at, IsStep}
 
--- the node at which a way from the sink stands after so many steps
+-- the node that a way from the sink has come to after a number of steps
 abbrev pub stand : List Arc → List ℕ → ℕ → ℕ
 stand arcs way steps = if steps == 0 then 1 else far arcs (slice_index way (steps - 1))
 
--- each step leads on from the node where the way stands
+-- each step leads on from the node that the way has come to
 pub record IsWay (arcs : List Arc) (way : List ℕ) (steps : ℕ) : Type 0 where
   pub ends : (i : ℕ) → i < steps → slice_index way i < 2 * length arcs
   pub joined : (i : ℕ) → i < steps → near arcs (slice_index way i) ≡ stand arcs way i
@@ -24,11 +24,11 @@ pub record IsWhole (arcs : List Arc) (way : List ℕ) : Type 0 where
   pub source : stand arcs way (length way) ≡ 0
   pub once : TakesEachOnce way (length way)
 
--- each step has room for so many lots
+-- each step has room for this number of lots
 abbrev pub HasRoom : List Arc → List ℕ → List ℕ → ℕ → ℕ → Type 0
 HasRoom arcs flow way steps lots = (i : ℕ) → i < steps → lots ≤ residual_in arcs flow (slice_index way i)
 
--- some step has room for exactly so many lots
+-- some step has room for exactly this number of lots
 pub record IsNarrow (arcs : List Arc) (flow way : List ℕ) (steps lots : ℕ) : Type 0 where
   pub step : ℕ
   pub within : step < steps

@@ -24,7 +24,7 @@ fn step_of(key: LimitKey) -> usize
     }
 }
 
-/// Where a way stands after so many steps: at the source, at the node of its first place, then at that of each place
+/// Where a way is after a number of steps: at the source, at the node of its first place, then at that of each place
 /// but the second, and after the last at the sink.
 fn node_at(way: &[u32], steps: usize) -> u32
     requires { All (λ p. p < 2 ^ 31) way.now }

@@ -50,7 +50,7 @@ pub(crate) fn clear_steps(net: &Network, flow: &[u64], way: &[u32]) -> usize
     way.len()
 }
 
-/// The node at which a way stands.
+/// The node that a way has come to.
 fn stand(net: &Network, way: &[u32], steps: usize) -> u32
     requires within { steps ≤ length way.now }
     requires way { IsWay net.now.arcs.items way.now steps }
@@ -109,7 +109,7 @@ fn next_down(
     None
 }
 
-/// Leads a way on to the source, back and forth from where it stands, if there is a way.
+/// Leads a way on to the source, back and forth from where it is, if there is a way.
 pub(crate) fn extend(
     net: &Network,
     flow: &[u64],

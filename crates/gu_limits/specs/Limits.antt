@@ -57,7 +57,7 @@ used_in limits group key = option_map_or (λ l. l.used) (limit_for limits group 
 abbrev pub room_in : List GroupLimit → Group → LimitKey → ℕ
 room_in limits group key = limit_in limits group key - used_in limits group key
 
--- a limit as it stands, where one was set
+-- a limit as it is now, where one was set
 abbrev pub row_in : List GroupLimit → Group → LimitKey → Option LimitRow
 row_in limits group key =
     if has_limit limits group key

@@ -8,7 +8,7 @@ use thiserror::Error;
 /// Why a limit was not set. The limits are as they were.
 #[derive(Debug, Drop, Clone, Copy, PartialEq, Eq, Error)]
 pub enum SetError {
-    /// A growth was refused.
+    /// An allocation failed.
     #[error("Memory")]
     Memory,
     /// It is above 1,000,000,000 lots.

@@ -28,7 +28,7 @@ fn through(
 }
 
 /// The keys that an agreement's offers come under, in order: executing firm, agreement, account, the firm that carries the
-/// account, and that firm's guarantor, where it has one. A guarantor's own guarantor isn't followed, and no key stands twice.
+/// account, and that firm's guarantor, where it has one. A guarantor's own guarantor isn't followed, and no key is there twice.
 pub fn path(reference: &Reference, agreement: AgreementId) -> Option<Path>
     ensures keys { result ≡ path_of reference.now agreement }
     ensures once { IfSome result (IsDistinct key_eq) }
@@ -47,7 +47,7 @@ pub fn path(reference: &Reference, agreement: AgreementId) -> Option<Path>
     ))
 }
 
-/// The path of the agreement that is known to stand between an executing firm and an account.
+/// The path of the agreement that is known to be between an executing firm and an account.
 pub fn path_by(
     reference: &Reference,
     executing: &FirmId,

@@ -104,7 +104,7 @@ impl LimitTable {
         Some((kept.limit, kept.used_on(self.day)))
     }
 
-    /// A limit as it stands, where one was set.
+    /// A limit as it is now, where one was set.
     pub fn row(&self, group: &Group, key: &LimitKey) -> Option<LimitRow>
         ensures { result ≡ row_in self.now group.now key.now }
     {

@@ -47,7 +47,7 @@ told-then old mid new (Ok value) before after first then = record {
       ∙ ap (λ (list : List Notice). old.list.items ++ list) (sym (told_to-append old.firm before after));
 }
 
--- where a growth was refused, the firm stays
+-- where an allocation failed, the firm stays
 pub told-refused : {T E : Type 0} (old mid new : Mailbox) (error : E) (before after told : List Told) → IsToldSoFar old mid before → IsTold {T = T} mid new (Err error) after → IsTold {T = T} old new (Err error) told
 told-refused old mid new error before after told first then = record { firm = then.firm ∙ first.firm; list = tt }
 

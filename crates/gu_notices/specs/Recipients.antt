@@ -1,4 +1,4 @@
--- Machinery: which firms an entry may tell something, now and after later entries.
+-- Machinery: which firms an entry may inform, now and after later entries.
 use Rattle.std.specs.Prelude.{◌≡◌, ℕ, ◌≤◌, ◌++◌, ⊤, true, List, [], ◌∷◌, length, Some, IfSome}
 use Rattle.std.specs.List.{AllByRecursion}
 use Rattle.gu_terms.specs.declared.entry.Entry.{Entry}
@@ -23,7 +23,7 @@ pub record Grows (register later : Register) : Type 0 where
   pub sides : (id : Id) → length (with_match id later.reports) ≤ 2
   pub offers : (n : ℕ) (o : Offer) → register.offer n ≡ Some o → later.offer n ≡ Some o
 
--- a set may hold whom something tells, now and later
+-- a set may hold whom something informs, now and later
 abbrev pub CoversEach : Register → FirmFilter → (Register → List Told) → Type 0
 CoversEach register firms tell = (later : Register) → Grows register later → Holds firms (tell later)
 
@@ -31,11 +31,11 @@ CoversEach register firms tell = (later : Register) → Grows register later →
 abbrev pub CoversCarrier : Register → Offer → FirmFilter → Type 0
 CoversCarrier register o firms = IfSome (carrier_in register.reference o) (λ (firm : FirmId). may_hold firms firm ≡ true)
 
--- it may hold whom an entry tells
+-- it may hold whom an entry informs
 abbrev pub Covers : Register → Entry → FirmFilter → Type 0
 Covers register entry firms = (number : ℕ) → CoversEach register firms (λ later. told_by later number entry)
 
--- the first entries each have a set that may hold whom it tells; those after them have none yet
+-- the first entries each have a set that may hold whom it informs; those after them have none yet
 abbrev pub AreRecipients : Register → List Entry → List FirmFilter → Type 0
 AreRecipients register history [] = ⊤
 AreRecipients register [] (firms ∷ recipients) = ⊥

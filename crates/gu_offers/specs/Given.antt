@@ -35,7 +35,7 @@ given_in ids g =
       is_shut = g.is_shut;
     }
 
--- the id stands among those of all
+-- the id is among those of all
 pub record IsWithin (ids : List ℕ) (g : Given) : Type 0 where
   pub within : g.at + g.len ≤ length ids
   pub id : IsId (report_in ids g)

@@ -6,7 +6,7 @@ ghost use Rattle.gu_offers.specs.Given.{given_in, row_of, IsWithin};
 
 use gu_terms::{AccountId, FirmId, Group, Lots};
 
-/// What is kept of an offer: all but the id of its report, which stands among those of all offers. The fields stand from small to
+/// What is kept of an offer: all but the id of its report, which is among those of all offers. The fields are ordered from small to
 /// large, so that they take little room.
 #[derive(Clone, Copy)]
 pub(crate) struct Given {
@@ -17,7 +17,7 @@ pub(crate) struct Given {
     pub(crate) len: u8,
     pub(crate) is_shut: bool,
     pub(crate) lots: Lots,
-    /// From which byte on the id stands.
+    /// At which byte the id begins.
     pub(crate) at: usize,
     pub(crate) moved: u64,
     /// The number of the day on which lots of it were moved last.

@@ -9,7 +9,7 @@ abbrev pub held : Side → Holding → ℕ
 held Buy h = h.long
 held Sell h = h.short
 
--- no lots, of an instrument whose open interest stands at a place
+-- no lots, of an instrument whose open interest is at a place
 abbrev pub nothing_at : ℕ → Holding
 nothing_at place = record { long = 0; short = 0; interest = place }
 

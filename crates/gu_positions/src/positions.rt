@@ -118,7 +118,7 @@ fn know(interests: &mut IndexMap<Symbol, u64>, symbol: &Symbol) -> Result<usize,
     Ok(place)
 }
 
-/// Puts an empty row last. The growths come first, so that a refusal leaves both tables as they were.
+/// Puts an empty row last. The allocations come first, so that one that fails leaves both tables as they were.
 fn make(
     rows: &mut IndexMap<Place, Holding>,
     interests: &mut IndexMap<Symbol, u64>,

@@ -20,7 +20,7 @@ pub record IsWithinLimits (t : Tables) : Type 0 where
   pub agreements : length t.agreements ≤ 10000
   pub guarantors : length t.guarantors ≤ 1000
 
--- each name stands once in its kind, each pair of executing firm and account has one agreement, and a firm has one guarantor at most
+-- each name is there once in its kind, each pair of executing firm and account has one agreement, and a firm has one guarantor at most
 pub record IsOnce (t : Tables) : Type 0 where
   pub firms : IsDistinct same_firm t.firms
   pub groups : IsDistinct same_group t.groups

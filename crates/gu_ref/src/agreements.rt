@@ -17,7 +17,7 @@ pub struct Agreement {
     pub account: AccountId,
 }
 
-/// What an agreement stands between. No two agreements stand between the same.
+/// What an agreement is between. No two agreements are between the same.
 #[derive(Clone, Copy, Debug, PartialEq, Eq, Hash)]
 struct Pair {
     executing: FirmId,
@@ -66,7 +66,7 @@ fn pair_up(pairs: &mut IndexMap<Pair, Agreement>, agreement: &Agreement) -> Resu
     Ok(())
 }
 
-/// Puts an agreement under its name and under its pair. The growths come first, so that a refusal leaves both as they were.
+/// Puts an agreement under its name and under its pair. The allocations come first, so that one that fails leaves both as they were.
 fn add(
     rows: &mut IndexMap<AgreementId, Agreement>,
     pairs: &mut IndexMap<Pair, Agreement>,

@@ -9,7 +9,7 @@ use thiserror::Error;
 /// Why a reference file was not accepted. A line is the number of a record in the file, from 1.
 #[derive(Debug, Drop, Clone, Copy, PartialEq, Eq, Error)]
 pub enum RefFault {
-    /// A growth was refused.
+    /// An allocation failed.
     #[error("Memory")]
     Memory,
     /// The record says no row, or an agreement with an account of the executing firm's own.

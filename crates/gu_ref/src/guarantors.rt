@@ -47,7 +47,7 @@ impl Model for Guarantors {
     ghost invariant = { IsGuaranteed };
 }
 
-/// Puts a row under the firm that it guarantees, and its guarantor among the guarantors. The growths come first, so that
+/// Puts a row under the firm that it guarantees, and its guarantor among the guarantors. The allocations come first, so that
 /// a refusal leaves both as they were.
 fn add(
     rows: &mut IndexMap<FirmId, Guarantor>,

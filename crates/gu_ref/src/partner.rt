@@ -1,4 +1,4 @@
-//! What stands between an executing firm and an account.
+//! What is between an executing firm and an account.
 
 use gu_terms::{AgreementId, FirmId};
 

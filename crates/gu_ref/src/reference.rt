@@ -80,7 +80,7 @@ impl Reference {
     ghost use Rattle.gu_ref.specs.Reference.{is_firm, is_group, is_instrument, instrument_row, account_row, agreement_row, agreement_between};
     ghost use Rattle.gu_ref.specs.Reference.{guarantor_of, is_guarantor, partner_between};
 
-    /// The rules of every reference. One firm carries an account, one agreement stands between a firm and an account, and a
+    /// The rules of every reference. One firm carries an account, one agreement is between a firm and an account, and a
     /// firm has one guarantor at most.
     pub fn rules(&self)
         ensures sound { IsSound self.now }

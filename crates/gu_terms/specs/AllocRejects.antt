@@ -3,7 +3,7 @@ use Rattle.std.specs.Prelude.{ℕ}
 use Rattle.gu_terms.specs.declared.alloc_reject.AllocReject.{AllocReject}
 use Rattle.gu_terms.specs.declared.alloc_reject.AllocReject.TheVariants.{BlockLevel, AccountLevel, Intermediary}
 
--- the number that stands for a reason
+-- the number of a reason
 abbrev pub reject_number : AllocReject → ℕ
 reject_number BlockLevel = 1
 reject_number AccountLevel = 2

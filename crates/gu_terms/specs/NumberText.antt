@@ -28,31 +28,31 @@ pub record IsNumberText (text : List ℕ) : Type 0 where
   pub fraction : AllDigits 10 (fraction_digits text)
   pub some : 1 ≤ length (whole_digits text) + length (fraction_digits text)
 
--- so many parts of a unit, with the text's sign
+-- this number of parts of a unit, with the text's sign
 abbrev pub with_sign : List ℕ → ℕ → ℤ
 with_sign text n = if has_minus text then neg_ℤ (pos n) else pos n
 
--- without its sign the text stands for so many parts, of which so many make one
+-- without its sign the text means this number of parts, of which the second number makes one
 abbrev pub CountsParts : List ℕ → ℕ → ℕ → Type 0
 CountsParts text parts n = digits_value 10 (whole_digits text ++ fraction_digits text) * parts ≡ n * 10 ^ length (fraction_digits text)
 
--- digits after a point stand for so many millionths
+-- digits after a point mean this number of millionths
 abbrev pub CountsMillionths : List ℕ → ℕ → Type 0
 CountsMillionths fraction n = digits_value 10 fraction * 1000000 ≡ n * 10 ^ length fraction
 
--- the number that the text stands for is so many parts, of which so many make one
+-- the number that the text means is this number of parts, of which the second number makes one
 pub record Means (text : List ℕ) (parts : ℕ) (z : ℤ) : Type 0 where
   pub is_number : IsNumberText text
   pub size : ℕ
   pub counts : CountsParts text parts size
   pub sign : z ≡ with_sign text size
 
--- the text stands for this number of lots
+-- the text means this number of lots
 pub record MeansLots (text : List ℕ) (n : ℕ) : Type 0 where
   pub means : Means text 1 (pos n)
   pub sound : IsLots n
 
--- the text stands for this price in millionths
+-- the text means this price in millionths
 pub record MeansPrice (text : List ℕ) (z : ℤ) : Type 0 where
   pub means : Means text 1000000 z
   pub sound : IsPrice z

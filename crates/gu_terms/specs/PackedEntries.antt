@@ -1,4 +1,4 @@
--- Machinery: entries as a history keeps them. The texts of all stand in one list of bytes, and of each entry is known where its own stand there.
+-- Machinery: entries as a history keeps them. The texts of all lie in one list of bytes, and each entry says where its own lie there.
 use Rattle.std.specs.Prelude.{◌≡◌, ℕ, ℤ, ◌+◌, ◌-◌, ◌<◌, ◌≤◌, ◌^◌, ◌++◌, All, AllPairs, List, [], ◌∷◌, length, slice_get, take, drop}
 use Rattle.std.specs.Option.{option_map_or}
 use Rattle.gu_terms.specs.LimitKeys.{key_by}
@@ -21,7 +21,7 @@ use Rattle.gu_terms.specs.declared.reply.Done.TheVariants as done
 use Rattle.gu_terms.specs.declared.reply.Reply.{Reply}
 use Rattle.gu_terms.specs.declared.reply.Reply.TheVariants.{Accepted, Denied}
 
--- so many bytes from a place on
+-- this number of bytes from a place on
 abbrev pub text_at : List ℕ → ℕ → ℕ → List ℕ
 text_at texts at len = take len (drop at texts)
 
@@ -43,11 +43,11 @@ pub record Texts : Type 0 where
 abbrev pub no_texts : Texts
 no_texts = record { first = []; second = []; third = []; fourth = []; fifth = []; reply = [] }
 
--- they stand one after the other
+-- they lie one after the other
 abbrev pub joined : Texts → List ℕ
 joined t = t.first ++ (t.second ++ (t.third ++ (t.fourth ++ (t.fifth ++ t.reply))))
 
--- where they stand, from a place on
+-- where they lie, from a place on
 abbrev pub span_of : ℕ → Texts → Span
 span_of at t = record {
   at = at;
@@ -63,7 +63,7 @@ span_of at t = record {
 abbrev pub size_of : Span → ℕ
 size_of span = span.first + span.second + span.third + span.fourth + span.fifth + span.reply
 
--- the texts that stand so among all
+-- the texts that lie there among all
 abbrev pub texts_at : List ℕ → Span → Texts
 texts_at texts span = record {
   first = text_at texts span.at span.first;
@@ -168,7 +168,7 @@ pub record IsCommandOf (t : Texts) (body : Body) (command : Command) (name : Lis
   pub reply : t.reply ≡ name
   pub same : (reply : Reply) → entry_by t body reply ≡ Asked command reply
 
--- the texts of a kept entry stand within all
+-- the texts of a kept entry lie within all
 pub record IsWithin (texts : List ℕ) (kept : Packed) : Type 0 where
   pub within : end_of kept ≤ length texts
   pub sound : AreSound (texts_at texts kept.span) kept

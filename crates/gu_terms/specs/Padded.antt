@@ -4,7 +4,7 @@ use Rattle.std.proofs.Common.{◌∙◌, ap, arith, length-take}
 use Rattle.std.proofs.lemmas.List.{take-append-drop}
 use Rattle.gu_terms.specs.declared.padded.Padded.TheInside.{Inside}
 
--- so many bytes of the array are the text, and the others are zeros
+-- this number of bytes of the array are the text, and the others are zeros
 pub record IsPadded (size : ℕ) (array : List ℕ) (len : ℕ) : Type 0 where
   pub size_is : length array ≡ size
   pub within : len ≤ size

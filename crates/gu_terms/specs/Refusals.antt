@@ -7,7 +7,7 @@ use Rattle.gu_terms.specs.declared.limit_key.LimitKey.{LimitKey}
 use Rattle.gu_terms.specs.declared.refusal.Refusal.{Refusal}
 use Rattle.gu_terms.specs.declared.refusal.Refusal.TheVariants.{NoDay, WrongDay, UnknownInstrument, UnknownAccount, NotYours, DuplicateId, MatchConflict, UnknownTrade, NotMatched, NoAgreement, TooManyLots, TooManyOffers, UnknownOffer, OfferClosed, LimitReached, UnknownKey, TooHigh, OfferOpen, NothingToReverse}
 
--- its number: of those that stand the least is the reply
+-- its number: of those whose condition holds, the least is the reply
 abbrev pub number_of : Refusal → ℕ
 number_of NoDay = 1
 number_of WrongDay = 2

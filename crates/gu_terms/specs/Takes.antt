@@ -12,7 +12,7 @@ IsAscending takes = AllPairs (λ a b. a.offer < b.offer) takes
 abbrev pub IsNamed : List Take → ℕ → Type 0
 IsNamed takes offer = Any (λ t. t.offer ≡ offer) takes
 
--- so many takes come first, of earlier offers, and the others are of this offer or later ones
+-- this number of takes come first, of earlier offers, and the others are of this offer or later ones
 pub record IsPlace (takes : List Take) (place offer : ℕ) : Type 0 where
   pub within : place ≤ length takes
   pub before : AllWithin (λ t. t.offer < offer) takes 0 place

@@ -53,7 +53,7 @@ impl Drop for History {
 }
 
 #[tactic(auto, using(crate::proofs::PackedLemmas::entries_more))]
-/// Adds an entry after the others, and its texts after theirs. The growths come first.
+/// Adds an entry after the others, and its texts after theirs. The allocations come first.
 #[inline(always)]
 fn add(
     entries: &mut Vec<Packed>,

@@ -1,4 +1,4 @@
-//! The texts of an entry, its ids and names, as they stand among those of all entries.
+//! The texts of an entry, its ids and names, as they lie among those of all entries.
 
 ghost use Rattle.std.specs.Prelude.{◌≡◌, ◌+◌, ◌++◌, ◌≤◌, length, vec_capacity, OnOk, OnErr};
 ghost use Rattle.gu_terms.specs.Names.{IsId, IsName};
@@ -9,7 +9,7 @@ use crate::id::Id;
 use std::alloc::AllocError;
 use std::marker::Model;
 
-/// From which byte of all texts on those of an entry stand, and how many bytes each has, one after the other.
+/// At which byte of all texts those of an entry begin, and how many bytes each has, one after the other.
 #[derive(Clone, Copy)]
 pub(crate) struct Span {
     at: u32,
@@ -72,7 +72,7 @@ impl Span {
             + usize::from(self.reply)
     }
 
-    /// The texts that stand there.
+    /// The texts that lie there.
     pub(crate) fn texts(self, all: &[u8]) -> Texts<'_>
         requires { self.at + size_of self ≤ length all.now }
         ensures { result ≡ texts_at all.now self }
@@ -150,7 +150,7 @@ impl<'a> Texts<'a> {
         }
     }
 
-    /// Where they stand, from a place on.
+    /// Where they lie, from a place on.
     pub(crate) fn span(&self, at: u32) -> Span
         ensures { result ≡ span_of at self.now }
     {

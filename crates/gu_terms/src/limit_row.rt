@@ -1,4 +1,4 @@
-//! Limits as they stand.
+//! Limits as they are at a moment.
 
 use crate::limit_key::LimitKey;
 

@@ -52,7 +52,7 @@ impl Lots {
     }
 }
 
-/// The lots that a text's parts stand for.
+/// The lots that a text's parts mean.
 fn lots_of(parts: NumberText<'_>) -> Option<Lots>
     requires whole { AllDigits 10 parts.whole.now }
     requires fraction { AllDigits 10 parts.fraction.now }
@@ -71,7 +71,7 @@ fn lots_of(parts: NumberText<'_>) -> Option<Lots>
     Lots::new(number)
 }
 
-/// The lots that a number text stands for.
+/// The lots that a number text means.
 pub fn read_lots(text: &[u8]) -> Result<Lots, NumberError>
     ensures lots { IfOk result (MeansLots text.now) }
     ensures bad_number { IsErrOf result NumberError.BadNumber ↔ (¬ IsNumberText text.now) }

@@ -93,7 +93,7 @@ pub(crate) fn parts_of(text: &[u8]) -> Option<NumberText<'_>>
     })
 }
 
-/// What stands before the point and after it.
+/// What is before the point and after it.
 fn parted(text: &[u8]) -> (&[u8], &[u8])
     ensures before { result.0.now ≡ before_first (λ b. b == 46) text.now }
     ensures after { result.1.now ≡ after_first (λ b. b == 46) text.now }

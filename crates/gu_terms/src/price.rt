@@ -58,7 +58,7 @@ impl Price {
     }
 }
 
-/// The millionths that digits after a point stand for, where they are whole ones.
+/// The millionths that digits after a point mean, where they are whole ones.
 fn millionths_of(fraction: &[u8]) -> Option<u64>
     requires { AllDigits 10 fraction.now }
     ensures { MatchOption result ((n : ℕ) → CountsMillionths fraction.now n → ⊥) (λ n. (n < 1000000) × CountsMillionths fraction.now n) }
@@ -73,7 +73,7 @@ fn millionths_of(fraction: &[u8]) -> Option<u64>
     Some(value * 10_u64.pow((PLACES - count) as u32))
 }
 
-/// The price that a text's parts stand for.
+/// The price that a text's parts mean.
 fn price_of(parts: NumberText<'_>) -> Option<Price>
     requires whole { AllDigits 10 parts.whole.now }
     requires fraction { AllDigits 10 parts.fraction.now }
@@ -102,7 +102,7 @@ fn signed(size: u64, is_negative: bool) -> i64
     }
 }
 
-/// The price that a number text stands for.
+/// The price that a number text means.
 pub fn read_price(text: &[u8]) -> Result<Price, NumberError>
     ensures price { IfOk result (MeansPrice text.now) }
     ensures bad_number { IsErrOf result NumberError.BadNumber ↔ (¬ IsNumberText text.now) }

@@ -13,7 +13,7 @@ pub record IsParted (bytes front behind : List ℕ) : Type 0 where
   pub parts : bytes ≡ front ++ 10 ∷ behind
   pub first : HasNoLineFeed front
 
--- of what stands between LFs, all but the last is ended by one, and a CR before it is dropped
+-- of what lies between LFs, all but the last is ended by one, and a CR before it is dropped
 abbrev pub ended_parts : List (List ℕ) → List (List ℕ)
 ended_parts [] = []
 ended_parts (last ∷ []) = []
@@ -23,7 +23,7 @@ ended_parts (part ∷ next ∷ others) = strip_carriage_return part ∷ ended_pa
 abbrev pub ended_lines : List ℕ → List (List ℕ)
 ended_lines text = ended_parts (slice_split (λ b. b == 10) text)
 
--- these lines of a text are ended, and a rest is left: whatever comes after the text, these lines stand first, and the others are those of
+-- these lines of a text are ended, and a rest is left: whatever comes after the text, these lines come first, and the others are those of
 -- the rest with what comes after it
 pub record LeavesOpen (text : List ℕ) (ended : List (List ℕ)) (rest : List ℕ) : Type 0 where
   pub lines_are : (more : List ℕ) → lines (text ++ more) ≡ ended ++ lines (rest ++ more)

@@ -17,7 +17,7 @@ use Rattle.gu_text.specs.Words.{is_ragged, words_of}
 use Rattle.gu_text.specs.declared.sheet_line.SheetLine.{SheetLine}
 use Rattle.gu_text.specs.declared.sheet_line.SheetLine.TheVariants as line
 
--- a byte that may stand in a word: no blank, no LF and no CR
+-- a byte that may be in a word: no blank, no LF and no CR
 abbrev pub is_word_byte : ℕ → Bool
 is_word_byte b = not (b == 32 || b == 10 || b == 13)
 

@@ -113,7 +113,7 @@ abbrev pub said_by : List (List ℕ) → Option SheetLine
 said_by [] = None
 said_by (kind ∷ words) = words_say kind words
 
--- what a line of words says: it is at most 1,024 bytes long, and no blank stands at its ends
+-- what a line of words says: it is at most 1,024 bytes long, and no blank is at its ends
 abbrev pub spoken : List ℕ → Option SheetLine
 spoken line = if nat_lt longest_line (length line) || is_ragged line then None else said_by (words_of line)
 

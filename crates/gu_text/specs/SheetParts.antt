@@ -22,7 +22,7 @@ part_of (line.CutKey key) = part.Cut
 part_of (line.CutOffer number) = part.Cut
 part_of line.End = part.End
 
--- the parts stand in this order
+-- the parts come in this order
 abbrev pub rank_of : Part → ℕ
 rank_of part.Head = 0
 rank_of part.Offers = 1

@@ -12,7 +12,7 @@ pub record SheetPlace : Type 0 where
   pub count : ℕ
   pub rest : List ℕ
 
--- so many lines of a text are ended and read, and these bytes of it are left
+-- this number of lines of a text are ended and read, and these bytes of it are left
 pub record IsReadUpTo (text : List ℕ) (so_far : SheetSoFar) (count : ℕ) (left : List ℕ) : Type 0 where
   pub ended : List (List ℕ)
   pub leaves : LeavesOpen text ended left
@@ -23,7 +23,7 @@ pub record IsReadUpTo (text : List ℕ) (so_far : SheetSoFar) (count : ℕ) (lef
 abbrev pub IsReadSoFar : List ℕ → SheetPlace → Type 0
 IsReadSoFar text place = IsReadUpTo text place.so_far place.count place.rest
 
--- all lines of a text are read, which are so many
+-- all lines of a text are read, and this is their number
 pub record IsReadWhole (text : List ℕ) (so_far : SheetSoFar) (count : ℕ) : Type 0 where
   pub read : IsReadTo (lines text) so_far
   pub count_is : count ≡ length (lines text)

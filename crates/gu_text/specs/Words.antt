@@ -12,11 +12,11 @@ abbrev pub is_empty : List ℕ → Bool
 is_empty [] = true
 is_empty (first ∷ rest) = false
 
--- the words of a line: what stands between its blanks
+-- the words of a line: what lies between its blanks
 abbrev pub words_of : List ℕ → List (List ℕ)
 words_of line = filter (λ word. not (is_empty word)) (slice_split is_blank line)
 
--- a blank stands at a place
+-- a blank is at a place
 abbrev pub is_blank_at : List ℕ → ℕ → Bool
 is_blank_at line place = option_map_or is_blank (slice_get line place) false
 

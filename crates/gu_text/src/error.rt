@@ -6,10 +6,10 @@ use thiserror::Error;
 /// Why a text isn't read.
 #[derive(Clone, Copy, Debug, Drop, PartialEq, Eq, Error)]
 pub enum TextError {
-    /// A growth was refused.
+    /// An allocation failed.
     #[error("Memory")]
     Memory,
-    /// This line, counted from 1, may not stand there; where the end of a sheet is missing, it is the number after the last line.
+    /// This line, counted from 1, may not be there; where the end of a sheet is missing, it is the number after the last line.
     #[error("BadLine {0}")]
     BadLine(u64),
 }

@@ -122,7 +122,7 @@ impl Parts {
         }
     }
 
-    /// Adds what a line gives, and answers whether the line may stand there.
+    /// Adds what a line gives, and answers whether the line may be there.
     pub(crate) fn add(&mut self, line: SheetLine) -> Result<bool, AllocError>
         ensures fits { IfOk result (λ fits. fits ≡ fits_after self.old line) }
         ensures parts { IfOk result (λ fits. IsTrue fits → self.new ≡ with_kept self.old line) }

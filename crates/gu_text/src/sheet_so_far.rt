@@ -35,7 +35,7 @@ impl Drop for SheetSoFar {
     }
 }
 
-/// Adds what a line of words says, and answers whether the line may stand there.
+/// Adds what a line of words says, and answers whether the line may be there.
 fn add_spoken(parts: &mut Parts, line: &[u8]) -> Result<bool, AllocError>
     ensures fits { IfOk result (λ fits. fits ≡ option_map_or (fits_after parts.old) (spoken line.now) false) }
     ensures parts { IfOk result (λ fits. IsTrue fits → parts.new ≡ option_map_or (with_kept parts.old) (spoken line.now) parts.old) }
@@ -46,7 +46,7 @@ fn add_spoken(parts: &mut Parts, line: &[u8]) -> Result<bool, AllocError>
     }
 }
 
-/// Adds what a line says, and answers whether the line may stand there.
+/// Adds what a line says, and answers whether the line may be there.
 fn add_line(parts: &mut Parts, line: &[u8]) -> Result<bool, AllocError>
     ensures fits { IfOk result (λ fits. fits ≡ line_fits parts.old line.now) }
     ensures parts { IfOk result (λ fits. IsTrue fits → parts.new ≡ with_kept_line parts.old line.now) }

@@ -98,7 +98,7 @@ pub(crate) fn side_of(word: &[u8]) -> Option<Side>
     }
 }
 
-/// The lots that a word stands for.
+/// The lots that a word means.
 pub(crate) fn lots_of(word: &[u8]) -> Option<Lots>
     ensures { MatchOption result ((n : ℕ) → ¬ MeansLots word.now n) (MeansLots word.now) }
 {
@@ -108,7 +108,7 @@ pub(crate) fn lots_of(word: &[u8]) -> Option<Lots>
     }
 }
 
-/// The price that a word stands for.
+/// The price that a word means.
 pub(crate) fn price_of(word: &[u8]) -> Option<Price>
     ensures { MatchOption result ((z : ℤ) → ¬ MeansPrice word.now z) (MeansPrice word.now) }
 {

@@ -1,4 +1,4 @@
--- What the reports that were taken in are for one that is new, and how one of them stands.
+-- What the reports that were taken in are for one that is new, and what one of them is among the others.
 use Rattle.std.specs.Prelude.{List, [], ◌∷◌, if◌then◌else◌}
 use Rattle.gu_terms.specs.declared.report.Report.{Report}
 use Rattle.gu_trades.specs.declared.counterpart.Counterpart.{Counterpart}
@@ -14,6 +14,6 @@ counterpart_of [] terms = Nobody
 counterpart_of (first ∷ []) terms = if have_other_sides (terms_of first) terms then Waiting (terms_of first) else Conflicting
 counterpart_of (first ∷ second ∷ more) terms = Conflicting
 
--- a report as it stands among these: its terms, and whether it is a side of a trade
+-- a report as it is among these: its terms, and whether it is a side of a trade
 abbrev pub standing_in : List Report → Report → Standing
 standing_in reports r = record { terms = terms_of r; is_of_trade = is_of_trade reports r }

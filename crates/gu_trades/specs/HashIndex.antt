@@ -8,7 +8,7 @@ use Rattle.gu_trades.specs.Numbered.{Numbered, last_before}
 abbrev pub numbers_of : List Link → List ℕ
 numbers_of links = map (λ (link : Link). link.number) links
 
--- the place is in a row, of so many
+-- the place is in a row, of this number of rows
 abbrev pub is_in_row : List ℕ → ℕ → ℕ → ℕ → Bool
 is_in_row numbers rows row place = slice_index numbers place % rows == row
 

@@ -2,7 +2,7 @@
 
 use crate::terms::Terms;
 
-/// What stands under a match id for a new report.
+/// What a new report meets under its match id.
 #[derive(Clone, Copy, Debug, PartialEq, Eq)]
 pub enum Counterpart {
     /// No report.

@@ -13,7 +13,7 @@ pub enum Matching {
 }
 
 impl Matching {
-    /// What one more report with a match id does, where the last one with it stands at this place, counted from 1; 0 where there is none.
+    /// What one more report with a match id does, where the last one with it is at this place, counted from 1; 0 where there is none.
     pub(crate) fn behind(last: u32) -> Self
         ensures { result ≡ (if last == 0 then IsOpened else IsMatched) }
     {

@@ -49,7 +49,7 @@ fn append_texts(texts: &mut Vec<u8>, report: &ReportRef<'_>) -> Result<(), Alloc
     Ok(())
 }
 
-/// Adds what is kept of a report after the others, and its texts after theirs. The growths come first.
+/// Adds what is kept of a report after the others, and its texts after theirs. The allocations come first.
 fn add(
     rows: &mut Vec<Packed>,
     texts: &mut Vec<u8>,

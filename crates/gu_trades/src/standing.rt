@@ -1,8 +1,8 @@
-//! A report as it stands.
+//! A report among the others.
 
 use crate::terms::Terms;
 
-/// A report that was taken in, as it stands among the others.
+/// A report that was taken in, as it is among the others.
 #[derive(Clone, Copy, Debug, PartialEq, Eq)]
 pub struct Standing {
     pub terms: Terms,

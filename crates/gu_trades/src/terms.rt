@@ -6,7 +6,7 @@ ghost use Rattle.gu_trades.specs.Terms.{terms_of};
 
 use gu_terms::{AccountId, Day, Lots, Price, Report, Side, Symbol};
 
-/// What a report says but its firm and its ids. The fields stand from small to large, so that they take little room.
+/// What a report says but its firm and its ids. The fields are ordered from small to large, so that they take little room.
 #[derive(Clone, Copy, Debug, PartialEq, Eq)]
 pub struct Terms {
     pub symbol: Symbol,

@@ -202,7 +202,7 @@ impl Trades {
         Some(self.reports.kept(at as usize - 1).terms())
     }
 
-    /// The firm's report with this id, as it stands.
+    /// The firm's report with this id, as it is now.
     pub fn standing(&self, firm: &FirmId, id: &Id) -> Option<Standing>
         ensures { result ≡ option_map (standing_in self.now) (report_by self.now firm.now id.now) }
     {
@@ -273,7 +273,7 @@ impl Trades {
         ensures taken { OnOk result (self.new ≡ self.old ++ report.now ∷ []) }
         ensures refused { OnErr result (self.new ≡ self.old) }
     {
-        // The growths come first, so that a refusal leaves all as it was.
+        // The allocations come first, so that one that fails leaves all as it was.
         self.by_id.reserve()?;
         self.by_match.reserve()?;
         self.reports.push(report)?;

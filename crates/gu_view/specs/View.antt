@@ -20,7 +20,7 @@ pub record GroupView : Type 0 where
   pub offers : List ViewOffer
   pub rooms : List Room
 
--- keys, each once, where it first stands
+-- keys, each once, where it first comes
 abbrev pub firsts : List LimitKey → List LimitKey
 firsts [] = []
 firsts (k ∷ keys) = k ∷ filter (λ j. not (key_eq k j)) (firsts keys)

@@ -22,7 +22,7 @@ impl Model for Board {
     ghost view = { λ b. b.views };
 }
 
-/// Says which view stands on which board.
+/// Says which view is on which board.
 #[derive(Drop)]
 pub struct ViewToken {
     shown: boxcar::Pushed<View>,

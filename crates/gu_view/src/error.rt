@@ -19,7 +19,7 @@ pub enum ViewError {
     /// The rooms aren't those of the paths' keys, each once, or one is above 1,000,000,000.
     #[error("BadRooms")]
     BadRooms,
-    /// A growth was refused.
+    /// An allocation failed.
     #[error("Memory")]
     Memory,
 }

@@ -98,7 +98,7 @@ impl View {
         ensures made { IfOk result (λ view. view ≡ view_of group version offers.items rooms.items) }
         ensures accepted { OnOk result (MakesView offers.items rooms.items) }
 
-        // What each refusal says; memory is refused only where a growth was.
+        // What each refusal says; of Memory nothing is said.
         ensures refused { IfErr result (Refuses offers.items rooms.items) }
         ensures bad_offer { (number : ℕ) → (result ≡ Err (ViewError.BadOffer number)) ↔ (bad_offer offers.items ≡ Some number) }
     {

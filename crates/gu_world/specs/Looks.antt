@@ -1,4 +1,4 @@
--- Machinery: what is kept for each worker, and the look that it stands for.
+-- Machinery: what is kept for each worker, and the look that it is short for.
 use Rattle.std.specs.Prelude.{◌≡◌, ℕ, ◌≤◌, ◌⊎◌, true, List, [], ◌∷◌, ◌++◌, length, map, replicate, take, Option, Some, None, slice_index_or}
 use Rattle.std.specs.Option.{option_map}
 use Rattle.gu_terms.specs.declared.entry.Entry.{Entry}

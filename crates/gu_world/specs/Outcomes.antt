@@ -32,7 +32,7 @@ outcome_in history (kept.Stale seen now) = Stale seen now
 outcome_in history kept.Foreign = Foreign
 outcome_in history kept.Nothing = Nothing
 
--- a number that is kept is that of one of so many entries
+-- a number that is kept is that of one of this number of entries
 abbrev pub IsNumbered : ℕ → KeptOutcome → Type 0
 IsNumbered count (kept.Asked n) = (1 ≤ n) × (n ≤ count)
 IsNumbered count (kept.Swept n) = (1 ≤ n) × (n ≤ count)

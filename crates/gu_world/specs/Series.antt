@@ -6,7 +6,7 @@ use Rattle.gu_world.specs.declared.outcomes.KeptOutcome.TheVariants as kept
 use Rattle.gu_world.specs.declared.series.Series.{Series}
 use Rattle.gu_world.specs.declared.series.Series.TheVariants as row
 
--- the outcomes that a series stands for: of commands that were entered one after the other, the numbers from the first on; of any other step, its own alone
+-- the outcomes that a series is short for: of commands that were entered one after the other, the numbers from the first on; of any other step, its own alone
 abbrev pub outcomes_of : Series → List KeptOutcome
 outcomes_of (row.Asked first more) = map kept.Asked (range_with_len first (more + 1))
 outcomes_of row.Full = kept.Full ∷ []
@@ -18,7 +18,7 @@ outcomes_of (row.Stale seen now) = kept.Stale seen now ∷ []
 outcomes_of row.Foreign = kept.Foreign ∷ []
 outcomes_of row.Nothing = kept.Nothing ∷ []
 
--- the outcomes that all of them stand for, in order
+-- the outcomes that all of them are short for, in order
 abbrev pub all_outcomes : List Series → List KeptOutcome
 all_outcomes list = flat_map outcomes_of list
 

@@ -61,7 +61,7 @@ impl Series {
     }
 
     #[tactic(auto, using(crate::proofs::SeriesLemmas::asked_len))]
-    /// How many outcomes it stands for.
+    /// How many outcomes it is short for.
     pub(crate) fn len(&self) -> usize
         ensures len { result ≡ length (outcomes_of self.now) }
         ensures some { 1 ≤ result }

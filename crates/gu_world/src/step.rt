@@ -11,7 +11,7 @@ use std::alloc::AllocError;
 pub enum Step {
     /// A command is entered.
     Enter(Command),
-    /// A worker looks at a group: its view, as the book stands.
+    /// A worker looks at a group: its view, as the book is then.
     See(Worker, Group),
     /// A worker proposes a sweep of the view that it saw.
     Propose(Worker),
