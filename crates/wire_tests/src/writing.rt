@@ -3,7 +3,7 @@ use crate::messages::{fields_of, replaced, text_of};
 use crate::rows::{Subject, check, first_word, number};
 use crate::words::Values;
 use gu_msgs::outbound::Body;
-use gu_msgs::{Outbound, write, write_over};
+use gu_msgs::{Outbound, Stamp, write, write_over};
 use gu_terms::Moment;
 use std::alloc::{AllocError, Global};
 
@@ -21,7 +21,8 @@ fn at_nine(w: &Values, body: Body) -> Outbound {
 /// The fields of a message that is written in the room of longer ones, as a text.
 fn written(alloc: Global, message: &Outbound) -> Result<String, AllocError> {
     let room = fields_of(alloc, "{58=a longer text than any other|*30}")?.into_room();
-    let fields = write_over(alloc, room, &message.as_ref())?;
+    let stamp = Stamp::new(message.sending_time);
+    let fields = write_over(alloc, room, &message.as_ref(), &stamp)?;
     text_of(alloc, &fields.into_fields())
 }
 
