@@ -34,7 +34,7 @@ pub record HasTag (part : List ℕ) (tag : ℕ) (value : List ℕ) : Type 0 wher
   pub is_tag : IsTag text tag
   pub parts : part ≡ text ++ equals ∷ value
 
--- a part has no `=`, or what stands before the first one is no tag
+-- a part has no `=`, or what comes before the first one is no tag
 abbrev pub HasNoTag : List ℕ → Type 0
 HasNoTag part = (tag : ℕ) (value : List ℕ) → ¬ HasTag part tag value
 

@@ -28,12 +28,12 @@ pub record AreSpelled (bytes : List ℕ) (spans : List Span) : Type 0 where
   pub within : AreWithin bytes spans
   pub text : bytes ≡ fields_text (fields_in bytes spans)
 
--- a byte stands at this place
+-- this byte is at this place
 pub record StandsAt (byte place : ℕ) (bytes : List ℕ) : Type 0 where
   pub within : place < length bytes
   pub there : slice_index bytes place ≡ byte
 
--- digits stand in front of the first `=`, nine at most: their number, and its place
+-- digits come before the first `=`, nine at most: their number, and its place
 pub record HasNumber (part : List ℕ) (number place : ℕ) : Type 0 where
   pub behind : StandsAt equals place part
   pub most : place ≤ 9

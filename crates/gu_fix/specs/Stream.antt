@@ -2,7 +2,7 @@
 use Rattle.std.specs.Prelude.{◌≡◌, ℕ, ◌<◌, List, [], ◌∷◌, ◌++◌, length, drop}
 use Rattle.gu_fix.specs.WholeMessage.{IsWhole}
 
--- a whole message stands at the front of these bytes
+-- these bytes begin with a whole message
 pub record Stands (bytes : List ℕ) : Type 0 where
   pub message : List ℕ
   pub rest : List ℕ
@@ -15,7 +15,7 @@ pub record IsOpen (bytes : List ℕ) : Type 0 where
   pub some : 0 < length more
   pub is_whole : IsWhole (bytes ++ more)
 
--- neither: whatever may still come, no message stands here
+-- neither: whatever may still come, no message begins here
 abbrev pub IsGarbled : List ℕ → Type 0
 IsGarbled bytes = (¬ (Stands bytes)) × (¬ (IsOpen bytes))
 
@@ -23,14 +23,14 @@ IsGarbled bytes = (¬ (Stands bytes)) × (¬ (IsOpen bytes))
 abbrev pub GarbledBefore : List ℕ → ℕ → Type 0
 GarbledBefore stream place = (k : ℕ) → k < place → IsGarbled (drop k stream)
 
--- a message stands at the first place that isn't garbled, and this is the rest after it
+-- a message begins at the first place that isn't garbled, and this is the rest after it
 pub record IsFirstFrame (stream message rest : List ℕ) : Type 0 where
   pub place : ℕ
   pub before : GarbledBefore stream place
   pub is_whole : IsWhole message
   pub parts : drop place stream ≡ message ++ rest
 
--- what stands at the first place that isn't garbled can only be continued to a message
+-- what begins at the first place that isn't garbled can only be continued to a message
 pub record HasNoFrameYet (stream : List ℕ) : Type 0 where
   pub place : ℕ
   pub before : GarbledBefore stream place

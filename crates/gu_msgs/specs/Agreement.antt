@@ -15,11 +15,11 @@ use Rattle.gu_msgs.specs.declared.tags.TheConstants.{ALLOC_QTY, BEGIN_SEQ_NO, EN
 abbrev pub number_at : ℕ → List TagValue → ℕ
 number_at tag fields = option_map_or (digits_value 10) (first_value tag fields) 0
 
--- the last number that is asked for is 0, which stands for all, or not below the first
+-- the last number that is asked for is 0, which means all, or not below the first
 abbrev pub EndsRight : List TagValue → Type 0
 EndsRight fields = (number_at END_SEQ_NO fields ≡ 0) ⊎ (number_at BEGIN_SEQ_NO fields ≤ number_at END_SEQ_NO fields)
 
--- texts stand for these lots
+-- texts mean these lots
 abbrev pub AreLots : List (List ℕ) → List ℕ → Type 0
 AreLots [] [] = ⊤
 AreLots (text ∷ texts) (n ∷ ns) = MeansLots text n × AreLots texts ns

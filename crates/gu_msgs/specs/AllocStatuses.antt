@@ -6,7 +6,7 @@ use Rattle.gu_terms.specs.declared.notice.OfferEvent.TheVariants as event
 use Rattle.gu_msgs.specs.declared.alloc_status.AllocStatus.{AllocStatus}
 use Rattle.gu_msgs.specs.declared.alloc_status.AllocStatus.TheVariants.{Accepted, Rejected, AllocationPending, Reversed}
 
--- the number that stands for a status
+-- the number of a status
 abbrev pub status_number : AllocStatus → ℕ
 status_number Accepted = 0
 status_number (Rejected reject) = reject_number reject

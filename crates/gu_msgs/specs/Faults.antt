@@ -38,7 +38,7 @@ abbrev pub IsFirstFault : MsgType → List TagValue → Fault → Type 0
 IsFirstFault kind fields fault =
     (shape_fault kind fields ≡ Some fault) ⊎ IsValueFault kind fields fault ⊎ IsDisagreement kind fields fault
 
--- the fault of fields without a type: a tag of the header that stands twice, or else the missing type
+-- the fault of fields without a type: a tag of the header that is there twice, or else the missing type
 abbrev pub untyped_fault : List TagValue → Fault
 untyped_fault fields = option_map_or (fault_at TagAppearsMoreThanOnce) (repeated header_rows fields) (fault_at RequiredTagMissing MSG_TYPE)
 

@@ -16,7 +16,7 @@ up_to is_such (field ∷ fields) = if is_such field.tag then [] else field ∷ u
 abbrev pub group_of : MsgType → ℕ → List TagValue → List TagValue
 group_of kind counter fields = up_to (is_listed (outer_rows kind)) (behind counter fields)
 
--- its entries: each standing of the first tag begins one, which reaches to the next standing; what stands before the
+-- its entries: each field with the first tag begins one, which reaches to the next such field; what comes before the
 -- first of them is in no entry
 abbrev pub entries_by : ℕ → List TagValue → List (List TagValue)
 entries_by first [] = []

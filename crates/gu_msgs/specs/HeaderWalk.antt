@@ -5,7 +5,7 @@ use Rattle.gu_msgs.specs.Values.{only_value, stands}
 use Rattle.gu_msgs.specs.declared.header_reading.Found.{Found}
 use Rattle.gu_msgs.specs.declared.header_reading.Found.TheVariants.{Nowhere, Once, Twice}
 
--- the value of a tag that stands exactly once, in these fields or in those before, where this was found of it
+-- the value of a tag that is there exactly once, in these fields or in those before, where this was found of it
 abbrev pub only_after : Found → ℕ → List TagValue → Option (List ℕ)
 only_after Nowhere tag rest = only_value tag rest
 only_after (Once value) tag rest = if stands tag rest then None else Some value.now

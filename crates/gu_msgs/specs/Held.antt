@@ -16,7 +16,7 @@ use Rattle.gu_msgs.specs.declared.msg_type.MsgType.{MsgType}
 use Rattle.gu_msgs.specs.declared.row.Row.{Row}
 use Rattle.gu_msgs.specs.declared.row.Row.TheVariants.{Required, Optional}
 
--- a row's tag stands where it must, and what it holds is allowed
+-- a row's tag is there where it must be, and what it holds is allowed
 abbrev pub IsHeld : List TagValue → Row → Type 0
 IsHeld fields (Required tag kind) = Holds tag (IsSound kind) fields
 IsHeld fields (Optional tag kind) = MayHold tag (IsSound kind) fields

@@ -13,7 +13,7 @@ use Rattle.gu_msgs.specs.declared.reject_reason.SessionRejectReason.{SessionReje
 use Rattle.gu_msgs.specs.declared.row.Kind.{Kind}
 use Rattle.gu_msgs.specs.declared.row.Row.{Row}
 
--- a value that is looked into: its tag, what it must be, and its text where the tag stands
+-- a value that is looked into: its tag, what it must be, and its text where the tag is there
 pub record Item : Type 0 where
   pub tag : ℕ
   pub kind : Kind

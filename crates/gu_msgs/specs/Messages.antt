@@ -34,7 +34,7 @@ abbrev pub IsFlag : ℕ → List TagValue → Bool → Type 0
 IsFlag tag fields true = first_value tag fields ≡ Some (codes "Y")
 IsFlag tag fields false = first_value tag fields ≢ Some (codes "Y")
 
--- the number that stands for a side (Side, tag 54)
+-- the number of a side (Side, tag 54)
 abbrev pub side_number : Side → ℕ
 side_number Buy = 1
 side_number Sell = 2

@@ -30,7 +30,7 @@ pub record Outlined : Type 0 where
   pub kind : MsgType
   pub fields : List TagValue
 
--- its shape is sound, and the tags of its type's table stand first so
+-- its shape is sound, and the tags of its type's table are first at these fields
 pub record IsOutline (kind : MsgType) (fields : List TagValue) (numbers : List ℕ) : Type 0 where
   pub shape : shape_fault kind fields ≡ None
   pub standings : AreStandings (outer_rows kind) fields numbers
@@ -78,7 +78,7 @@ abbrev pub ReadsToOrMemory : {T : Type 0} → Outlined → ℕ → (T → Type 0
 ReadsToOrMemory m place Says (Ok value) = Says value × AreJudged m place
 ReadsToOrMemory m place Says (Err e) = IsRefusedOf (message_items m.kind m.fields) e
 
--- what the text of the row at a place means, where the row must stand
+-- what the text of the row at a place means, where the row is required
 abbrev pub Means : {T : Type 0} → Outlined → ℕ → (List ℕ → T → Type 0) → T → Type 0
 Means m place IsMeant value = Holds (tag_at m place) (λ text. IsMeant text value) m.fields
 

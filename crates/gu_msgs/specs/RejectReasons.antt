@@ -5,7 +5,7 @@ use Rattle.gu_fix.specs.declared.error.SessionRejectReason.TheVariants as field
 use Rattle.gu_msgs.specs.declared.reject_reason.SessionRejectReason.{SessionRejectReason}
 use Rattle.gu_msgs.specs.declared.reject_reason.SessionRejectReason.TheVariants.{InvalidTagNumber, RequiredTagMissing, TagSpecifiedWithoutAValue, ValueIsIncorrect, IncorrectDataFormat, CompIdProblem, InvalidMsgType, TagAppearsMoreThanOnce, IncorrectNumInGroupCount}
 
--- the number that stands for a reason
+-- the number of a reason
 abbrev pub number_of : SessionRejectReason → ℕ
 number_of InvalidTagNumber = 0
 number_of RequiredTagMissing = 1

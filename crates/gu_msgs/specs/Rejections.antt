@@ -14,7 +14,7 @@ reason_of (Refused UnknownAccount) = reason.InvalidPartyInformation
 reason_of (Refused NotYours) = reason.InvalidPartyInformation
 reason_of _ = reason.Other
 
--- the number that stands for a kind
+-- the number of a kind
 abbrev pub reason_number : TradeReportRejectReason → ℕ
 reason_number reason.InvalidPartyInformation = 1
 reason_number reason.UnknownInstrument = 2

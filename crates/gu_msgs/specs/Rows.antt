@@ -1,4 +1,4 @@
--- A row of the table of messages: a tag, whether it must stand, and what its text must be.
+-- A row of the table of messages: a tag, whether it is required, and what its text must be.
 use Rattle.std.specs.Prelude.{ℕ, Bool, true, false, ◌==◌, List}
 use Rattle.std.specs.List.{list_any}
 use Rattle.gu_msgs.specs.declared.row.Kind.{Kind}
@@ -15,7 +15,7 @@ abbrev pub kind_of : Row → Kind
 kind_of (Required tag kind) = kind
 kind_of (Optional tag kind) = kind
 
--- whether the tag must stand
+-- whether the tag is required
 abbrev pub is_required : Row → Bool
 is_required (Required tag kind) = true
 is_required (Optional tag kind) = false

@@ -1,4 +1,4 @@
--- Machinery: fields that stand one after another. No other crate names this file.
+-- Machinery: fields that follow one another. No other crate names this file.
 use Rattle.std.specs.Prelude.{ℕ, ◌-◌, ◌≤◌, List, length, take, drop}
 use Rattle.gu_fix.specs.TagValue.{TagValue}
 

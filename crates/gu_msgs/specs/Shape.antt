@@ -1,4 +1,4 @@
--- The shape of a message: tags that stand twice, tags that are missing, and groups that differ from their counters.
+-- The shape of a message: tags that are there twice, tags that are missing, and groups that differ from their counters.
 use Rattle.std.specs.Prelude.{ℕ, Bool, not, ◌&&◌, ◌==◌, List, [], ◌∷◌, ◌++◌, length, Option, None, Some, if◌then◌else◌, ◌≡◌, ◌<◌, true, take, slice_get, MatchOption}
 use Rattle.std.specs.Option.{option_map, option_or}
 use Rattle.std.specs.Str.Parse.{digits_value}
@@ -17,7 +17,7 @@ use Rattle.gu_msgs.specs.declared.row.Row.{Row}
 abbrev pub fault_at : SessionRejectReason → ℕ → Fault
 fault_at reason tag = record { tag = tag; reason = reason }
 
--- a field with a tag of these rows that stands before it too
+-- a field with a tag of these rows, which a field before it has too
 abbrev pub is_second : List Row → List TagValue → TagValue → Bool
 is_second rows before field = is_listed rows field.tag && stands field.tag before
 
@@ -27,15 +27,15 @@ repeated_after rows before [] = None
 repeated_after rows before (field ∷ fields) =
     if is_second rows before field then Some field.tag else repeated_after rows (before ++ field ∷ []) fields
 
--- the leftmost second standing of a tag of these rows
+-- the leftmost field that repeats a tag of these rows
 abbrev pub repeated : List Row → List TagValue → Option ℕ
 repeated rows fields = repeated_after rows [] fields
 
--- at this place stands a tag of these rows that stands before it too
+-- the field at this place has a tag of these rows, which a field before it has too
 abbrev pub StandsAgain : List Row → List TagValue → ℕ → Type 0
 StandsAgain rows fields place = MatchOption (slice_get fields place) ⊥ (λ field. is_second rows (take place fields) field ≡ true)
 
--- this tag stands again at a place, and at no place to the left of it stands any again
+-- this tag is repeated at a place, and at no place to the left of it is any
 pub record StandsAgainFirst (rows : List Row) (fields : List TagValue) (tag : ℕ) : Type 0 where
   pub place : ℕ
   pub value : List ℕ
@@ -43,12 +43,12 @@ pub record StandsAgainFirst (rows : List Row) (fields : List TagValue) (tag : �
   pub again : StandsAgain rows fields place
   pub first : (earlier : ℕ) → earlier < place → ¬ StandsAgain rows fields earlier
 
--- the first tag of these rows that must stand and doesn't
+-- the first tag of these rows that is required and isn't there
 abbrev pub missing : List Row → List TagValue → Option ℕ
 missing [] fields = None
 missing (row ∷ rows) fields = if is_required row && not (stands (tag_of row) fields) then Some (tag_of row) else missing rows fields
 
--- the first fault of these rows: a tag that stands twice comes before one that is missing
+-- the first fault of these rows: a tag that is there twice comes before one that is missing
 abbrev pub tags_fault : List Row → List TagValue → Option Fault
 tags_fault rows fields =
     option_or (option_map (fault_at TagAppearsMoreThanOnce) (repeated rows fields))

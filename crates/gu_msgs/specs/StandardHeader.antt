@@ -8,7 +8,7 @@ use Rattle.gu_msgs.specs.declared.standard_header.Header.{Header}
 use Rattle.gu_msgs.specs.declared.standard_header.HeaderRef.{HeaderRef}
 use Rattle.gu_msgs.specs.declared.tags.TheConstants.{SENDER_COMP_ID, TARGET_COMP_ID, MSG_SEQ_NUM, POSS_DUP_FLAG}
 
--- the type is that of the first MsgType; each other part is the value of a tag that stands exactly once
+-- the type is that of the first MsgType; each other part is the value of a tag that is there exactly once
 pub record IsHeader (fields : List TagValue) (header : Header) : Type 0 where
   pub msg_type : option_map (λ bytes. bytes.items) header.msg_type ≡ first_value MSG_TYPE fields
   pub sender : option_map (λ bytes. bytes.items) header.sender_comp_id ≡ only_value SENDER_COMP_ID fields

@@ -1,4 +1,4 @@
--- Machinery: where the tags of a table stand first among fields. No other crate names this file.
+-- Machinery: at which fields the tags of a table are first. No other crate names this file.
 use Rattle.std.specs.Prelude.{◌≡◌, ◌≢◌, ◌<◌, ◌≤◌, ◌⊎◌, ℕ, zero, suc, Bool, true, false, List, [], Option, None, length, drop, slice_get, slice_index, slice_index_or, slice_set}
 use Rattle.std.specs.Option.{option_map}
 use Rattle.gu_fix.specs.TagValue.{TagValue}
@@ -18,7 +18,7 @@ abbrev pub fields_after : List TagValue → ℕ → List TagValue
 fields_after fields zero = []
 fields_after fields (suc place) = drop (suc place) fields
 
--- the number of the first field with a tag, 0 where the tag doesn't stand
+-- the number of the first field with a tag, 0 where no field has it
 pub record IsStanding (fields : List TagValue) (tag number : ℕ) : Type 0 where
   pub within : number ≤ length fields
   pub first : first_value tag fields ≡ value_numbered fields number

@@ -18,7 +18,7 @@ abbrev pub behind : ℕ → List TagValue → List TagValue
 behind tag [] = []
 behind tag (field ∷ fields) = if field.tag == tag then fields else behind tag fields
 
--- the value of a tag that stands exactly once
+-- the value of a tag that is there exactly once
 abbrev pub only_value : ℕ → List TagValue → Option (List ℕ)
 only_value tag fields = if stands tag (behind tag fields) then None else first_value tag fields
 
@@ -26,12 +26,12 @@ only_value tag fields = if stands tag (behind tag fields) then None else first_v
 abbrev pub is_numeral : List ℕ → Bool
 is_numeral text = nat_lt 0 (length text) && list_all (λ b. nat_lt (digit_value b) 10) text
 
--- the tag stands, and its first value is such
+-- the tag is there, and its first value is such
 pub record Holds (tag : ℕ) (IsSuch : List ℕ → Type 0) (fields : List TagValue) : Type 0 where
   pub value : List ℕ
   pub first : first_value tag fields ≡ Some value
   pub such : IsSuch value
 
--- the tag doesn't stand, or its first value is such
+-- the tag isn't there, or its first value is such
 abbrev pub MayHold : ℕ → (List ℕ → Type 0) → List TagValue → Type 0
 MayHold tag IsSuch fields = MatchOption (first_value tag fields) ⊤ IsSuch

@@ -131,7 +131,7 @@ lacks_agreement reference firm lines = list_any (λ (l : Line). is_none (agreeme
 abbrev pub free_lots : List Row → FirmId → Id → ℕ → ℕ
 free_lots offers firm id lots = lots - counted_under offers firm id
 
--- the tests of a give-up of a firm's report with this id and this standing, in this group
+-- the tests of a give-up of a firm's report with this id, as it is now, in this group
 abbrev pub tests_of_lines : Tables → List Row → FirmId → Id → Standing → Group → List Line → List (Bool × Refusal)
 tests_of_lines reference offers firm id standing group lines =
     (not standing.is_of_trade, NotMatched)

@@ -42,7 +42,7 @@ code_in text = if is_type_text text then Some text else None
 abbrev pub is_given : List ℕ → Option (List ℕ) → Bool
 is_given text value = option_map_or (bytes_eq text) value false
 
--- what the header says: the type is that of the first MsgType, and each other part is the value of a tag that stands once
+-- what the header says: the type is that of the first MsgType, and each other part is the value of a tag that is there once
 pub record IsHeading (fields : List TagValue) (heading : Heading) : Type 0 where
   pub number : IsNumberIn (only_value MSG_SEQ_NUM fields) heading.number
   pub msg_type : heading.msg_type ≡ option_and_then code_in (first_value MSG_TYPE fields)

@@ -51,13 +51,13 @@ AsksForTheGap = (at : LoggedOn) (heard : Heard) (number : ℕ) → at.expected <
     reset_to heard.content ≡ None → is_given (codes "5") heard.heading.msg_type ≡ false →
     (by_number at heard number).messages ≡ body.ResendRequest at.expected ∷ []
 
--- a message stands for the numbers from its own up to another: itself, or a gap fill for all of them
+-- a message takes the place of the numbers from its own up to another: itself, or a gap fill for all of them
 abbrev pub StandsUpTo : Outbound → ℕ → Type 0
 StandsUpTo message to =
     ((is_some (application_of message.body) ≡ true) × (to ≡ message.msg_seq_num + 1))
     ⊎ ((message.body ≡ body.SequenceReset to) × (message.msg_seq_num < to))
 
--- messages stand for all numbers from one up to another, each number once, in order
+-- messages take the place of all numbers from one up to another, each number once, in order
 abbrev pub Covers : ℕ → ℕ → List Outbound → Type 0
 Covers from to [] = from ≡ to
 Covers from to (message ∷ messages) =
@@ -70,7 +70,7 @@ HasLongestRuns (message ∷ []) = ⊤
 HasLongestRuns (message ∷ other ∷ messages) =
     ((is_some (application_of message.body) ≡ true) ⊎ (is_some (application_of other.body) ≡ true)) × HasLongestRuns (other ∷ messages)
 
--- how a request is served: each number from the first up to the last that is asked for and was sent stands once, gap fills are the
+-- how a request is served: each number from the first up to the last that is asked for and was sent is covered once, gap fills are the
 -- longest, and where the first wasn't sent nothing is given
 pub record IsServed (next : ℕ) (request : ResendRequest) (messages : List Outbound) : Type 0 where
   pub each_once : request.begin_seq_no ≤ behind_last next request.end_seq_no →

@@ -15,7 +15,7 @@ use Rattle.gu_session.specs.declared.plan.Course.TheVariants.{Leave, Go}
 use Rattle.gu_session.specs.declared.plan.Plan.{Plan}
 use Rattle.gu_session.specs.declared.logged_on.LoggedOn.{LoggedOn}
 
--- how a session stands that a firm begins, where this number is expected next
+-- a session that a firm begins, where this number is expected next
 abbrev pub begun : FirmId → Logon → ℕ → ℕ → LoggedOn
 begun firm m now expected =
     record { firm = firm; heart_bt_int = m.heart_bt_int; expected = expected; heard_at = now; is_tested = false }

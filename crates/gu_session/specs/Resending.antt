@@ -16,7 +16,7 @@ again firm now sent = record {
   body = body.Application sent.message;
 }
 
--- a gap fill that stands for all numbers from one up to another
+-- a gap fill in the place of all numbers from one up to another
 abbrev pub gap_fill : FirmId → ℕ → ℕ → ℕ → Outbound
 gap_fill firm now from to = record {
   firm = firm;
@@ -36,7 +36,7 @@ with_gaps firm now from to [] = gap firm now from to
 with_gaps firm now from to (sent ∷ later) =
     gap firm now from sent.number ++ again firm now sent ∷ with_gaps firm now (sent.number + 1) to later
 
--- the number after the last that is asked for: 0, or a number that wasn't sent, stands for the last that was
+-- the number after the last that is asked for: 0, or a number that wasn't sent, means the last that was
 abbrev pub behind_last : ℕ → ℕ → ℕ
 behind_last next last = if last == 0 then next else min (last + 1) next
 

@@ -18,7 +18,7 @@ use Rattle.gu_session.specs.declared.plan.Course.{Course}
 use Rattle.gu_session.specs.declared.plan.Course.TheVariants.{Stay, Leave, Go}
 use Rattle.gu_session.specs.declared.logged_on.LoggedOn.{LoggedOn}
 
--- how a session stands once a frame is heard, whatever it says
+-- a session once a frame came, whatever it says
 abbrev pub at_frame : LoggedOn → ℕ → LoggedOn
 at_frame at now = record at { heard_at = now; is_tested = false }
 
