@@ -88,7 +88,7 @@ fn push_number(text: &mut String, n: u64) -> Result<(), AllocError> {
     }
 }
 
-/// How much more than the number stands for a `#`, by the text after it, and the rest of this text.
+/// How much more than the number a `#` means, by the text after it, and the rest of this text.
 fn more_after(part: &str) -> (u64, &str) {
     if let Some(rest) = part.strip_prefix("+1") {
         return (1, rest);
@@ -111,7 +111,7 @@ pub fn push_numbered(text: &mut String, form: &str, n: u64) -> Result<(), AllocE
     Ok(())
 }
 
-/// Adds a row, or as many as the number after ` x ` says, in which that of each stands for `#`, from 0 on.
+/// Adds a row, or as many as the number after ` x ` says, in which that of each takes the place of `#`, from 0 on.
 fn push_rows(file: &mut String, row: &str) -> Result<(), AllocError> {
     let (form, count) = row.split_once(" x ").unwrap_or((row, "1"));
     for n in 0..count.parse::<u64>().unwrap_or(0) {

@@ -1,5 +1,5 @@
 //! Transcripts: what is said to a world line by line, and after ` = ` what it tells. `== name` begins one, in a world of its own,
-//! whose reference is the sample. Below it may stand `FILE name` for another file, `ROWS row; row` for more rows, and `BEHIND name`
+//! whose reference is the sample. Below it `FILE name` may give another file, `ROWS row; row` for more rows, and `BEHIND name`
 //! for the lines of a beginning. A line is one of a script (docs/rules/script.md), or one of these:
 //!
 //! - `20260105 REPORT ..`: a report that names its day
@@ -15,7 +15,7 @@
 //! - `STRETCHES E1 7`: how many stretches there are from a number on, and how many notices they have: those of `NOTICES E1 7`
 //! - `ROWS E1 H1`: how many instruments an account holds, and the lots of all, long and short
 //! - `ENTRIES`: how many entries are found by their numbers
-//! - `EACH 10 40 3: line; line`: these lines for each third number from 10 up to 40, which stands for `#`, and the next two for
+//! - `EACH 10 40 3: line; line`: these lines for each third number from 10 up to 40, which takes the place of `#`, and the next two of
 //!   `#+1` and `#+2`; what is told to each has in it what comes after ` = `
 //!
 //! What is told in several lines has `, ` between two of them.

@@ -184,7 +184,7 @@ fn check_case(rt: &impl Abort, alloc: Global, besides: &str, case: &str) {
     assert_eq!(rt; found, entries.parse().unwrap_or(0), "{name}");
 }
 
-/// Asserts that each case of a table is so. An empty line stands between them.
+/// Asserts that each case of a table is so. An empty line is between them.
 pub fn check_cases(rt: &impl Abort, alloc: Global, besides: &str, table: &str) {
     for case in table.split("\n\n") {
         check_case(rt, alloc, besides, case);

@@ -61,7 +61,7 @@ fn up_to_outer<'a>(fields: &Run<'a>, msg_type: MsgType) -> Run<'a>
     fields.first(fields.len() - left_from_outer(fields, msg_type))
 }
 
-/// The group after the field with this number, which is the first standing of its counter.
+/// The group after the field with this number, which is the first with its counter.
 #[inline(always)]
 pub fn group_after<'a>(fields: &Run<'a>, msg_type: MsgType, number: usize) -> Run<'a>
     requires { number ≤ length fields.now }
@@ -102,7 +102,7 @@ pub fn has_entries(group: &Run<'_>, first: u32, number: u64) -> bool
     left == 0
 }
 
-/// The text of a tag that stands in an entry.
+/// The text of a tag that an entry has.
 pub fn text_at<'a>(entry: &Run<'a>, tag: u32) -> &'a [u8]
     requires { IsTrue (stands tag entry.now) }
     ensures { first_value tag entry.now ≡ Some result.now }

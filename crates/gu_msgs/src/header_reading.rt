@@ -26,11 +26,11 @@ fn bytes_of(alloc: Global, value: Option<&[u8]>) -> Result<Option<Vec<u8>>, Allo
 /// What is found of a tag as fields are walked.
 #[derive(Clone, Copy)]
 enum Found<'a> {
-    /// It doesn't stand so far.
+    /// No field had it so far.
     Nowhere,
-    /// It stands once, with this value.
+    /// One field had it, with this value.
     Once(&'a [u8]),
-    /// It stands more than once.
+    /// More than one field had it.
     Twice,
 }
 
@@ -50,7 +50,7 @@ impl<'a> Found<'a> {
         }
     }
 
-    /// The value of the tag, where it stands exactly once.
+    /// The value of the tag, where it is there exactly once.
     fn only(self) -> Option<&'a [u8]>
         ensures { (tag : ℕ) → option_map (λ bytes. bytes.now) result ≡ only_after self.entry tag [] }
     {
@@ -61,7 +61,7 @@ impl<'a> Found<'a> {
     }
 }
 
-/// The header of a message, where it lies: the first MsgType, and of the others each that stands exactly once. One walk finds these.
+/// The header of a message, where it lies: the first MsgType, and of the others each that is there exactly once. One walk finds these.
 pub fn header_in(fields: &Fields) -> HeaderRef<'_>
     ensures { IsHeaderIn fields.now result }
 {

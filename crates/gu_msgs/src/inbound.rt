@@ -23,7 +23,7 @@ pub struct ResendRequest {
 /// A new number in place of those before it (FIX: SequenceReset, MsgType 4).
 #[derive(Clone, Copy)]
 pub struct SequenceReset {
-    /// Whether it stands for messages that aren't sent again.
+    /// Whether it takes the place of messages that aren't sent again.
     pub is_gap_fill: bool,
     pub new_seq_no: u64,
 }

@@ -29,7 +29,7 @@ pub fn one_message()
     ensures { (fields : List TagValue) (message other : InboundOf) → Says fields message → Says fields other → message ≡ other }
 {}
 
-/// The tag that is named for standing twice is that of the leftmost second standing; where none is named, none stands twice.
+/// The tag that is named as repeated is that of the leftmost field that repeats one; where none is named, none is repeated.
 pub fn the_leftmost_second_standing_is_named()
     ensures { (rows : List RowOf) (fields : List TagValue)
         → MatchOption (repeated rows fields) ((place : ℕ) → ¬ StandsAgain rows fields place) (StandsAgainFirst rows fields) }

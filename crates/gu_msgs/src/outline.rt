@@ -65,7 +65,7 @@ impl<'n, 'a> Model for Outline<'n, 'a> {
 }
 
 impl<'n, 'a> Outline<'n, 'a> {
-    /// The message with these fields, whose tags stand first so.
+    /// The message with these fields, whose tags are first at these places.
     pub fn new(fields: Run<'a>, msg_type: MsgType, numbers: &'n Standings) -> Self
         requires shape { shape_fault msg_type fields ≡ None }
         requires standings { AreStandings (outer_rows msg_type) fields numbers.now }
@@ -78,7 +78,7 @@ impl<'n, 'a> Outline<'n, 'a> {
         }
     }
 
-    /// The text of a row's tag, where it stands.
+    /// The text of a row's tag, where it is there.
     #[inline(always)]
     fn text(&self, place: usize) -> Option<&'a [u8]>
         requires { place < length (outer_rows self.now.kind) }
@@ -87,7 +87,7 @@ impl<'n, 'a> Outline<'n, 'a> {
         value_numbered(&self.fields, self.numbers[place])
     }
 
-    /// The text of a tag that must stand.
+    /// The text of a tag that is required.
     #[inline(always)]
     fn required(&self, place: usize) -> &'a [u8]
         requires within { place < length (outer_rows self.now.kind) }

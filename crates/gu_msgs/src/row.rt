@@ -24,14 +24,14 @@ pub enum Kind {
     Date,
     /// A whole number from one number to another.
     Number(u64, u64),
-    /// A whole number that stands for an AllocStatus.
+    /// The whole number of an AllocStatus.
     Status,
 }
 
 /// A tag that is read, and what its text must be.
 #[derive(Clone, Copy)]
 pub enum Row {
-    /// It must stand.
+    /// It is required.
     Required(u32, Kind),
     /// It may be absent.
     Optional(u32, Kind),
@@ -47,7 +47,7 @@ impl Row {
         }
     }
 
-    /// Whether the tag must stand.
+    /// Whether the tag is required.
     pub fn is_required(self) -> bool
         ensures { result ≡ is_required self }
     {

@@ -1,4 +1,4 @@
-//! Fields that stand one after another in a message.
+//! Fields that follow one another in a message.
 
 ghost use Rattle.std.specs.Prelude.{◌≡◌, ◌<◌, ◌≤◌, ◌^◌, length, slice_get, Some, take, drop};
 ghost use Rattle.gu_fix.specs.TagValue.{tag_value};
@@ -6,7 +6,7 @@ ghost use Rattle.gu_fix.specs.TagValue.{tag_value};
 use gu_fix::{Field, Fields};
 use std::marker::Model;
 
-/// Fields that stand one after another. To a contract they are the list of their tags and values.
+/// Fields that follow one another. To a contract they are the list of their tags and values.
 #[derive(Drop)]
 pub struct Run<'a> {
     fields: &'a Fields,

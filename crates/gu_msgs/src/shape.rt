@@ -1,4 +1,4 @@
-//! The shape of a message: tags that stand twice, tags that are missing, and groups.
+//! The shape of a message: tags that are there twice, tags that are missing, and groups.
 
 ghost use Rattle.std.specs.Prelude.{◌≡◌, ◌<◌, ◌^◌, ◌==◌, length, IfSome, IsTrue, MatchOption, None, Some, ⊤};
 ghost use Rattle.std.specs.Option.{option_or, option_map};
@@ -26,7 +26,7 @@ pub fn fault_at(reason: SessionRejectReason, tag: u32) -> Fault
     Fault { tag, reason }
 }
 
-/// Finds where the tags of these rows stand first, or their first fault: a tag that stands twice, or else one that is missing. The
+/// Finds the first fields with the tags of these rows, or their first fault: a tag that is there twice, or else a missing one. The
 /// rows are those of the outer level of messages of a type where one is named.
 #[inline(always)]
 fn table_fault(
@@ -113,7 +113,7 @@ fn counted_fault(counter: u32, text: &[u8], group: &Run<'_>, rows: &[Row]) -> Op
     }
 }
 
-/// The first fault of the group with this counter, which stands first at the field with this number.
+/// The first fault of the group with this counter, which is first at the field with this number.
 #[inline(always)]
 fn group_fault(fields: &Run<'_>, msg_type: MsgType, counter: u32, number: usize) -> Option<Fault>
     requires { IsStanding fields.now counter number }
@@ -129,7 +129,7 @@ fn group_fault(fields: &Run<'_>, msg_type: MsgType, counter: u32, number: usize)
     }
 }
 
-/// The first fault of a message's groups, in order, where its outer tags stand first so.
+/// The first fault of a message's groups, in order, where its outer tags are first at these fields.
 #[inline(always)]
 fn groups_fault(fields: &Run<'_>, msg_type: MsgType, numbers: &Standings) -> Option<Fault>
     requires { AreStandings (outer_rows msg_type) fields.now numbers.now }
@@ -145,7 +145,7 @@ fn groups_fault(fields: &Run<'_>, msg_type: MsgType, numbers: &Standings) -> Opt
     None
 }
 
-/// Finds where the outer tags of a message stand first, or the first fault of its shape.
+/// Finds the first fields with the outer tags of a message, or the first fault of its shape.
 #[inline(always)]
 fn typed_fault(fields: &Run<'_>, msg_type: MsgType, numbers: &mut Standings) -> Option<Fault>
     ensures fault { MatchOption result (shape_fault msg_type fields.now ≡ None) (λ fault. shape_fault msg_type fields.now ≡ Some fault) }

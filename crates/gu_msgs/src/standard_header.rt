@@ -3,7 +3,7 @@
 /// What a header says (FIX: Standard Header), as bytes.
 #[derive(Drop)]
 pub struct Header {
-    /// The type: the first that stands.
+    /// The type: the first that is there.
     pub msg_type: Option<Vec<u8>>,
     pub sender_comp_id: Option<Vec<u8>>,
     pub target_comp_id: Option<Vec<u8>>,
@@ -14,7 +14,7 @@ pub struct Header {
 /// The same, where its parts lie in the message.
 #[derive(Clone, Copy)]
 pub struct HeaderRef<'a> {
-    /// The type: the first that stands.
+    /// The type: the first that is there.
     pub msg_type: Option<&'a [u8]>,
     pub sender_comp_id: Option<&'a [u8]>,
     pub target_comp_id: Option<&'a [u8]>,

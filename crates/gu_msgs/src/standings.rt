@@ -1,4 +1,4 @@
-//! Where the tags of a table stand first among fields.
+//! At which fields the tags of a table are first.
 
 ghost use Rattle.std.specs.Prelude.{◌≡◌, ◌≤◌, length, false, IfSome, List, MatchOption, None, Some, ⊤};
 ghost use Rattle.gu_fix.specs.TagValue.{TagValue};
@@ -15,10 +15,10 @@ use crate::run::Run;
 /// The rows that a table has at most.
 const MOST_ROWS: usize = 20;
 
-/// For each row of a table the number of the first field with its tag, from 1, or 0 where the tag doesn't stand.
+/// For each row of a table the number of the first field with its tag, from 1, or 0 where no field has it.
 pub type Standings = [usize; MOST_ROWS];
 
-/// The standings where no tag stands.
+/// The standings where no field has a tag of the table.
 pub const NONE_STANDS: Standings = [0; MOST_ROWS];
 
 /// Notes the number of the first field with a tag, unless one was noted before.
@@ -44,7 +44,7 @@ fn note(
     true
 }
 
-/// Finds where the tags of these rows stand first, unless one stands twice: then the leftmost second standing. The rows are those of
+/// Finds the first fields with the tags of these rows, unless a tag is repeated: then the leftmost that is. The rows are those of
 /// the outer level of messages of a type where one is named.
 #[inline(always)]
 pub fn standings(
@@ -69,7 +69,7 @@ pub fn standings(
     None
 }
 
-/// The first tag of these rows that must stand and doesn't.
+/// The first tag of these rows that is required and missing.
 #[inline(always)]
 pub fn missing(rows: &[Row], numbers: &Standings) -> Option<u32>
     requires { length rows.now ≤ 20 }

@@ -73,7 +73,7 @@ fn push_resend_request(draft: &mut Draft, from: u64) -> Result<(), AllocError>
     draft.push_number(END_SEQ_NO, 0)
 }
 
-/// Appends what stands for messages up to a number.
+/// Appends what takes the place of messages up to a number.
 fn push_gap_fill(draft: &mut Draft, to: u64) -> Result<(), AllocError>
     ensures { OnOk result (draft.new ≡ draft.old ++ tag_value GAP_FILL_FLAG (codes "Y") ∷ number_field NEW_SEQ_NO to ∷ []) }
 {

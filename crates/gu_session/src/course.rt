@@ -26,7 +26,7 @@ use gu_terms::{FirmId, Moment};
 use std::alloc::{AllocError, Global};
 use std::slice;
 
-/// How a session stands once it hears a frame.
+/// A session once a frame came.
 fn at_frame(at: &LoggedOn, now: Moment) -> LoggedOn
     ensures { result ≡ at_frame at.now now }
 {

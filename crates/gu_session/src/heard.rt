@@ -7,11 +7,11 @@ use gu_terms::FirmId;
 /// What the header of a frame says.
 #[derive(Clone, Copy)]
 pub struct Heading {
-    /// Its number, where that stands once and is one.
+    /// Its number, where that is there once and is one.
     pub number: Option<SeqNum>,
     /// Its type, where that has the form of one.
     pub msg_type: Option<TypeCode>,
-    /// Who sends it, where that stands once and is a firm's name.
+    /// Who sends it, where that is there once and is a firm's name.
     pub sender: Option<FirmId>,
     /// Whether it is to the house.
     pub is_to_house: bool,

@@ -13,7 +13,7 @@ pub fn keeps_the_last_sent()
     ensures { KeepsTheLastSent }
 {}
 
-/// A request for messages once more is served by messages that stand for each number that is asked for once.
+/// A request for messages once more is served by messages that cover each number that is asked for once.
 pub fn serves_what_is_asked()
     ensures { ServesWhatIsAsked }
 {}

@@ -25,7 +25,7 @@ fn again(firm: FirmId, now: Moment, sent: &Sent) -> Outbound
     }
 }
 
-/// What stands for a run of numbers.
+/// What takes the place of a run of numbers.
 fn gap_fill(firm: FirmId, now: Moment, from: u64, to: u64) -> Outbound
     ensures { result ≡ gap_fill firm now from to }
 {
@@ -39,7 +39,7 @@ fn gap_fill(firm: FirmId, now: Moment, from: u64, to: u64) -> Outbound
     }
 }
 
-/// Appends what stands for the numbers from one up to another.
+/// Appends what takes the place of the numbers from one up to another.
 fn push_gap(
     messages: &mut Vec<Outbound>,
     firm: &FirmId,
@@ -55,7 +55,7 @@ fn push_gap(
     Ok(())
 }
 
-/// Appends a message that was kept, and what stands for the numbers before it; answers the number after it.
+/// Appends a message that was kept, and what takes the place of the numbers before it; returns the number after it.
 fn push_again(
     messages: &mut Vec<Outbound>,
     firm: &FirmId,

@@ -223,7 +223,7 @@ fn view_named(name: &str) -> &'static str {
     ""
 }
 
-/// The text that a row speaks of. Behind the name of a view and `:` stand the lines between its rooms and its end; else the
+/// The text that a row speaks of. After the name of a view and `:` come the lines between its rooms and its end; else the
 /// row has the whole text.
 pub fn sheet_text_of(alloc: Global, asked: &str) -> Result<String, AllocError> {
     match asked.split_once(':') {

@@ -41,7 +41,7 @@ fn told_again(alloc: Global, subject: Subject, asked: &str) -> Result<String, Al
     }
 }
 
-/// What stands in front of the ` -> ` of a row, and what comes after it.
+/// What comes before the ` -> ` of a row, and what comes after it.
 fn columns(row: &str) -> (&str, &str) {
     row.split_once(" -> ").unwrap_or((row, ""))
 }
@@ -91,7 +91,7 @@ pub fn number(word: &str) -> u64 {
     word.parse().unwrap_or(0)
 }
 
-/// A text of a row as it is meant: with ends of lines, and with so many times what is to stand so often.
+/// A text of a row as it is meant: with ends of lines, and with what is to be repeated so many times.
 pub fn meant(alloc: Global, text: &str) -> Result<String, AllocError> {
     let (front, rest) = text.split_once('(').unwrap_or((text, ""));
     let (unit, rest) = rest.split_once('*').unwrap_or(("", ""));

@@ -152,7 +152,7 @@ REPORT E1 R1 M/1# B XF6 1000000 0001.50000000 H1 -> report E1 R1 M/1# Buy XF6 H1
 REPORT E1 (!*64) M1 B XF6 10 101.5 H1 -> report E1 !!!!!!!!!!!!!!!!!!!!!!!!!!!!!!!!!!!!!!!!!!!!!!!!!!!!!!!!!!!!!!!! M1 Buy XF6 H1 10 101500000 false
 ";
 
-/// Give-ups to accounts of which one may stand twice; claims, refusals and reversals.
+/// Give-ups to accounts of which one may be named twice; claims, refusals and reversals.
 const OF_OFFERS: &str = "\
 GIVEUP E1 L1 R1 A1 10 -> give up E1 L1 R1: A1 10
 GIVEUP E1 L1 R1 A1 5 A1 5. -> give up E1 L1 R1: A1 5 A1 5

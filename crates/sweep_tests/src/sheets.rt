@@ -134,7 +134,7 @@ SHEET G1 0|# a comment|| -> bad at 4
 (#*1024) -> bad at 2
 ";
 
-/// Parts that are out of their order, or stand twice.
+/// Parts that are out of their order, or there twice.
 const OUT_OF_ORDER: &str = "\
 END| -> bad at 1
 SHEET G1 0|SHEET G1 0|END| -> bad at 2

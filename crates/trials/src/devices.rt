@@ -1,4 +1,4 @@
-//! Readers and writers that give and take in pieces, and fail in the end. In a text `|` stands for SOH, and `/` for the end of a line.
+//! Readers and writers that give and take in pieces, and fail in the end. In a text `|` is SOH, and `/` the end of a line.
 
 ghost use Rattle.std.specs.Prelude.{◌≡◌, Some};
 

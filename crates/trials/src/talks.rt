@@ -42,7 +42,7 @@ impl Drop for Talk {
     }
 }
 
-/// How many milliseconds each place of a time as `09:00:30.000` stands for.
+/// How many milliseconds each place of a time as `09:00:30.000` is worth.
 const PLACES: [u64; 12] = [
     36_000_000, 3_600_000, 0, 600_000, 60_000, 0, 10_000, 1_000, 0, 100, 10, 1,
 ];

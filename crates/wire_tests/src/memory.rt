@@ -33,7 +33,7 @@ fn refused_to_fields_leaves_them_to_be_encoded_again(rt: HostRuntime) {
     check(&rt, rt.alloc(), Subject::Encoding, FIELDS);
 }
 
-/// What stands in front of give-ups.
+/// What comes before give-ups.
 const GIVE_UP: &str = "8=FIXT.1.1|9=100|10=000|35=J|49=E1|56=GIVEUP|34=2|52=x|70=L1|";
 
 /// A give-up of two parts, and one with a fault.

@@ -11,7 +11,7 @@ pub const FIRST: &str =
 pub const SECOND: &str =
     "8=FIXT.1.1|9=112|35=AE|49=E2|56=GIVEUP|34=1|52=20260105-09:00:00|571=R2|880=M1|55=XF6|32=10|31=101.5|75=20260105|552=1|54=2|1=H2|10=239|";
 
-/// Appends a part of a text: so many times what is to stand so often, and what comes after it.
+/// Appends a part of a text: what is to be repeated so many times, and what comes after it.
 fn push_part(meant: &mut String, part: &str) -> Result<(), AllocError> {
     let (unit, rest) = part.split_once('*').unwrap_or(("", part));
     let (times, end) = rest.split_once('}').unwrap_or(("", rest));
@@ -21,7 +21,7 @@ fn push_part(meant: &mut String, part: &str) -> Result<(), AllocError> {
     meant.push_str(end)
 }
 
-/// A text as it is meant: with so many times what is to stand so often.
+/// A text as it is meant: with what is to be repeated so many times.
 pub fn meant(alloc: Global, text: &str) -> Result<String, AllocError> {
     let mut meant = String::new(alloc);
     for part in text.split('{') {

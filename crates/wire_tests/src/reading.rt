@@ -6,10 +6,10 @@ use gu_fix::Fields;
 use gu_msgs::{Asking, Inbound, MsgFault, read, sender};
 use std::alloc::{AllocError, Global};
 
-/// What stands in front of messages after a sound header.
+/// What comes before messages after a sound header.
 const SOUND: &str = "8=FIXT.1.1|9=100|10=000|49=E1|56=GIVEUP|34=2|52=x|";
 
-/// What stands in front of whole messages.
+/// What comes before whole messages.
 const FRAMED: &str = "8=FIXT.1.1|9=100|10=000|";
 
 /// Whole messages.
@@ -72,7 +72,7 @@ const HOUSE: &str = "\
 35=AN|710=Q 1|724=0|1=A1| -> 710: 5
 ";
 
-/// What stands in front of trade capture reports.
+/// What comes before trade capture reports.
 const REPORT: &str =
     "8=FIXT.1.1|9=100|10=000|35=AE|49=E1|56=GIVEUP|34=2|52=20260105-09:00:00|571=R1|";
 
@@ -93,7 +93,7 @@ const REPORTS: &str = "\
 880=M1|55=X|32=1|31=1|43=X|552=1|54=1|1=H1| -> 43: 5
 ";
 
-/// What stands in front of the sides of trade capture reports.
+/// What comes before the sides of trade capture reports.
 const SIDE: &str =
     "8=FIXT.1.1|9=100|10=000|35=AE|49=E1|56=GIVEUP|34=2|52=x|571=R1|880=M1|55=XF6|32=0010.0|31=1|";
 
@@ -119,7 +119,7 @@ const SIDES: &str = "\
  -> 552: 1
 ";
 
-/// What stands in front of give-ups.
+/// What comes before give-ups.
 const GIVE_UP: &str = "8=FIXT.1.1|9=100|10=000|35=J|49=E1|56=GIVEUP|34=2|52=x|70=L1|";
 
 /// Give-ups; one may have sixteen parts.

@@ -25,7 +25,7 @@ const FORMS: &str = "\
 |10=222| by |10=222|54=2|1=H9| -> E1: E1 reports R1 of M1: H1 buys 10 XF6 at 101500000 on (2026, 1, 5)
 ";
 
-/// A part of the first report and what stands in its place, and why that is no report of a firm's.
+/// A part of the first report and what is in its place, and why that is no report of a firm's.
 const OTHERS: &str = "\
 |35=AE| by |35=AR| -> E1: unread AR
 |35=AE| by |35=AE|35=AE| -> E1: 35: 13

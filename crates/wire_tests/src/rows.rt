@@ -132,7 +132,7 @@ pub fn check(rt: &impl Abort, alloc: Global, subject: Subject, table: &str) {
     }
 }
 
-/// What stands in front of a mark in a text, and what comes after it: the whole text, and nothing, where the mark isn't in it.
+/// What comes before a mark in a text, and what comes after it: the whole text, and nothing, where the mark isn't in it.
 pub fn parts_at<'a>(text: &'a str, mark: &str) -> (&'a str, &'a str) {
     text.split_once(mark).unwrap_or((text, ""))
 }

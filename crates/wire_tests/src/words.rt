@@ -103,7 +103,7 @@ pub fn notice_of(w: &Values, side: Side, words: &str) -> Option<Notice> {
     Some(offered(w, side, event_of(words)?))
 }
 
-/// What was done, by its word; after it stands how many offers or lots there are, ten lots where no number does.
+/// What was done, by its word; after it comes how many offers or lots there are, ten lots where no number does.
 fn done_of(w: &Values, words: &str) -> Option<Done> {
     let (word, count) = first_word(words);
     let count = number(count);
