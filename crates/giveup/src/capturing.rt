@@ -1,7 +1,7 @@
 //! Trade capture without a session.
 
 ghost use Rattle.std.specs.Prelude.{◌≡◌, ◌≤◌, ◌++◌, IfOk, IsErrOf, IsOk, List, MatchOption, MatchResult, None, OnOk, length, ℕ};
-ghost use Rattle.gu_fix.specs.Encoding.{fault_of, message_of};
+ghost use Rattle.gu_fix.specs.Encoding.{message_of};
 ghost use Rattle.gu_fix.specs.TagValue.{TagValue};
 ghost use Rattle.gu_fix.specs.WholeMessage.{IsWhole};
 ghost use Rattle.gu_streams.specs.Reads.{HasStopped};
@@ -9,7 +9,6 @@ ghost use Rattle.gu_streams.specs.Streams.{streams_of};
 ghost use Rattle.gu_msgs.specs.Asking.{side_of};
 ghost use Rattle.gu_msgs.specs.Faults.{IsFaultOf};
 ghost use Rattle.gu_msgs.specs.Messages.{Says};
-ghost use Rattle.gu_msgs.specs.Written.{IsWritten};
 ghost use Rattle.gu_msgs.specs.declared.inbound.Inbound.TheVariants as inbound;
 ghost use Rattle.gu_msgs.specs.declared.inbound.TradeCaptureReport.{TradeCaptureReport as ReportOf};
 ghost use Rattle.giveup.specs.Capture.{AnswersFrame, Captured, CapturedInPart, CapturedSoFar, IsTextOf, acknowledgement, message_to, number_after, capture_after, capture_at_start, rejection_in, book_after};
@@ -17,10 +16,10 @@ ghost use Rattle.giveup.specs.Capture.{AnswersFrame, Captured, CapturedInPart, C
 use crate::position_lines::positions_text;
 use gu_book::{Book, EnterError};
 use gu_engine::{Answerer, ClockFault, Event, run};
-use gu_fix::{BodyText, Frame, encode_onto, into_fields};
+use gu_fix::{Frame, encode_onto, into_fields};
 use gu_msgs::inbound::TradeCaptureReport;
 use gu_msgs::{
-    Boxed, Fault, Inbound, Outbound, ReadMessage, Rejection, Stamp, answer_to, midnight_of,
+    Boxed, Draft, Fault, Inbound, Outbound, ReadMessage, Rejection, Stamp, answer_to, midnight_of,
     read_with_header, sender_in, write_over,
 };
 use gu_ref::Reference;
@@ -50,6 +49,8 @@ fn report_in(content: Result<Inbound, Fault>) -> Option<Boxed<TradeCaptureReport
 pub struct Capturing {
     alloc: Global,
     book: Book,
+    /// In which its messages are written, one over the other.
+    draft: Draft,
     /// When its messages are sent.
     sending_time: Stamp,
     /// The number of the next message.
@@ -83,31 +84,27 @@ impl Capturing {
         }
     }
 
-    /// The fields of the message that says to a firm what became of its report, in the room of the report's.
-    fn ack_fields(
+    /// The message that says to a firm what became of its report.
+    fn message_to(
         &self,
-        room: BodyText,
         firm: &FirmId,
         report: &TradeCaptureReport,
         rejection: Option<Rejection>,
-    ) -> Result<BodyText, AllocError>
-        ensures written { IfOk result (λ fields. IsWritten (message_to self.now firm.now report.now rejection) fields) }
-        ensures encodable { IfOk result (λ fields. fault_of fields ≡ None) }
+    ) -> Outbound
+        ensures { result ≡ message_to self.now firm.now report.now rejection }
     {
-        let message = Outbound {
+        Outbound {
             firm: *firm,
             msg_seq_num: self.next,
             sending_time: self.sending_time.moment(),
             orig_sending_time: None,
             body: answer_to(report, rejection),
-        };
-        write_over(self.alloc, room, &message.as_ref(), &self.sending_time)
+        }
     }
 
-    /// Appends the message that says to a firm what became of its report.
+    /// Appends that message.
     fn answer_report(
         &mut self,
-        room: BodyText,
         firm: &FirmId,
         report: &TradeCaptureReport,
         rejection: Option<Rejection>,
@@ -117,8 +114,9 @@ impl Capturing {
             × (output.new.items ≡ output.old.items ++ text)) }
         ensures after { OnOk result (self.new ≡ record self.old { next = number_after self.old.next }) }
     {
-        let fields = self.ack_fields(room, firm, report, rejection)?;
-        encode_onto(output, &fields)?;
+        let message = self.message_to(firm, report, rejection);
+        write_over(&mut self.draft, &message.as_ref(), &self.sending_time)?;
+        encode_onto(output, self.draft.fields())?;
         self.next = (self.next + 1).min(LAST_NUMBER);
         Ok(())
     }
@@ -126,7 +124,6 @@ impl Capturing {
     /// Enters a firm's report, and appends its acknowledgement.
     fn acknowledge(
         &mut self,
-        room: BodyText,
         firm: &FirmId,
         report: &TradeCaptureReport,
         output: &mut Vec<u8>,
@@ -137,7 +134,7 @@ impl Capturing {
     {
         let command = report.side_of(*firm);
         match self.enter(&command) {
-            Ok(rejection) => self.answer_report(room, firm, report, rejection, output),
+            Ok(rejection) => self.answer_report(firm, report, rejection, output),
             Err(refused) => Err(refused),
         }
     }
@@ -158,7 +155,7 @@ impl Capturing {
             return Ok(());
         };
         match sender_in(&header) {
-            Some(firm) => self.acknowledge(fields.into_room(), &firm, report.get(), output),
+            Some(firm) => self.acknowledge(&firm, report.get(), output),
             None => Ok(()),
         }
     }
@@ -210,6 +207,7 @@ fn opened(
         Ok(_) => Ok(Capturing {
             alloc,
             book,
+            draft: Draft::new(alloc),
             sending_time: Stamp::new(midnight_of(day)),
             next: 1,
         }),

@@ -81,21 +81,12 @@ impl BodyText {
         })
     }
 
-    /// No fields, in the room of others.
-    pub(crate) fn over(mut text: Vec<u8>, mut spans: Vec<Span>) -> Self
-        ensures { result ≡ [] }
+    /// Takes all fields away. Their room stays.
+    pub fn clear(&mut self)
+        ensures { self.new ≡ [] }
     {
-        text.clear();
-        spans.clear();
-        BodyText { text, spans }
-    }
-
-    /// No fields, with the room that these had.
-    pub fn cleared(self) -> Self
-        ensures { result ≡ [] }
-    {
-        let BodyText { text, spans } = self;
-        BodyText::over(text, spans)
+        self.text.clear();
+        self.spans.clear();
     }
 
     /// Appends a field whose value is these parts, one after another.

@@ -6,7 +6,6 @@ ghost use Rattle.gu_fix.specs.Encoding.{has_soh};
 ghost use Rattle.gu_fix.specs.Spans.{AreWithin, fields_in};
 ghost use Rattle.gu_fix.specs.TagValue.{TagValue, tag_value};
 
-use crate::body_text::BodyText;
 use crate::prefix::SOH;
 use std::alloc::{AllocError, Global};
 use std::marker::Model;
@@ -78,14 +77,6 @@ impl Fields {
             bytes: Vec::new(alloc),
             spans: Vec::new(alloc),
         }
-    }
-
-    /// No fields yet of a body, with the room that these had.
-    pub fn into_room(self) -> BodyText
-        ensures { result ≡ [] }
-    {
-        let Fields { bytes, spans } = self;
-        BodyText::over(bytes, spans)
     }
 
     /// The fields whose values lie there in a buffer.

@@ -1,6 +1,5 @@
 -- What is written can be encoded.
-use Rattle.std.proofs.Common.{◌≡◌, ℕ, ◌*◌, ◌≤◌, ◌==◌, ◌&&◌, Bool, true, false, cond, List, [], ◌∷◌, ◌++◌, length, nat_le, Option, None, Some, Ok, Err, refl, ◌∙◌, subst, arith}
-use Rattle.std.specs.Prelude.{IfOk, Result}
+use Rattle.std.proofs.Common.{◌≡◌, ℕ, ◌*◌, ◌≤◌, ◌==◌, ◌&&◌, Bool, true, false, cond, List, [], ◌∷◌, ◌++◌, length, nat_le, Option, None, Some, refl, ◌∙◌, subst, arith}
 use Rattle.std.specs.Fmt.{decimal}
 use Rattle.std.specs.List.{list_any, list_all}
 use Rattle.std.proofs.lemmas.Bool.{and_parts, leb-true, le-ltb, not-true}
@@ -141,7 +140,7 @@ tags-append : (xs ys : List TagValue) → HaveTags xs → HaveTags ys → HaveTa
 tags-append xs ys p q = list_all-append (λ f. is_body_tag f.tag) xs ys ∙ rw (p, q) refl
 
 -- the fields of a message have no fault, if each value can be encoded
-encodable : (m : Outbound) (fields : List TagValue) → IsWritten m fields → ArePlain fields → fault_of fields ≡ None
+pub encodable : (m : Outbound) (fields : List TagValue) → IsWritten m fields → ArePlain fields → fault_of fields ≡ None
 encodable m fields is plain =
     let header = header_fields m is.time in
     let said = body_fields m.body in
@@ -156,9 +155,3 @@ encodable m fields is plain =
       leb-true (length said) 20 laid.1,
     ) in
     rw is.parts (no_fault (header ++ is.marks ++ said) refl tags (subst ArePlain is.parts plain) few)
-
--- so what holds of fields without a fault holds of those that are written
-pub of_written : {E : Type 0} (m : Outbound) (result : Result (List TagValue) E) → IfOk result (IsWritten m) → IfOk result ArePlain
-    → (P : List TagValue → Type 0) → ((fields : List TagValue) → fault_of fields ≡ None → P fields) → IfOk result P
-of_written m (Ok fields) is plain P holds = holds fields (encodable m fields is plain)
-of_written m (Err error) is plain P holds = is

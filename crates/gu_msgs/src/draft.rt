@@ -13,7 +13,7 @@ ghost use Rattle.gu_msgs.specs.WrittenBodies.{number_field};
 use crate::rejection::Rejection;
 use crate::stamp::Stamp;
 use crate::tags::TEXT;
-use gu_fix::BodyText;
+use gu_fix::{BodyText, Fields};
 use gu_terms::{Day, Id, Price};
 use itoa::Buffer;
 use std::alloc::{AllocError, Global};
@@ -22,8 +22,8 @@ use std::marker::Model;
 /// The bytes for which a draft has room from the start: more than any message has but for ids of TestRequests.
 const ROOM: usize = 512;
 
-/// The fields of a message so far, each with a value that can be encoded. To a contract they are the list of their tags
-/// and values.
+/// A message that is being written, in the room that earlier ones had: its fields so far, each with a value that can be encoded. To a
+/// contract they are the list of their tags and values.
 #[derive(Drop)]
 pub struct Draft {
     alloc: Global,
@@ -44,22 +44,29 @@ impl Model for Draft {
 }
 
 impl Draft {
+    /// No fields yet, and no room.
+    pub fn new(alloc: Global) -> Draft
+        ensures { result ≡ [] }
+    {
+        Draft {
+            alloc,
+            fields: BodyText::new(alloc),
+        }
+    }
+
     /// No fields yet, with room for those of a message.
-    pub fn new(alloc: Global) -> Result<Draft, AllocError>
+    pub fn with_room(alloc: Global) -> Result<Draft, AllocError>
         ensures { IfOk result (λ draft. draft ≡ []) }
     {
         let fields = BodyText::with_room(alloc, ROOM)?;
         Ok(Draft { alloc, fields })
     }
 
-    /// No fields yet, with the room of these.
-    pub fn over(alloc: Global, fields: BodyText) -> Draft
-        ensures { result ≡ [] }
+    /// Takes all fields away. Their room stays.
+    pub fn clear(&mut self)
+        ensures { self.new ≡ [] }
     {
-        Draft {
-            alloc,
-            fields: fields.cleared(),
-        }
+        self.fields.clear();
     }
 
     /// The allocator of its texts.
@@ -144,11 +151,18 @@ impl Draft {
         }
     }
 
-    /// The fields.
-    pub fn into_fields(self) -> BodyText
-        ensures fields { result ≡ self }
-        ensures plain { ArePlain self }
+    /// The fields, as the text that `gu_fix::encode_onto` takes.
+    pub fn fields(&self) -> &BodyText
+        ensures fields { result.now ≡ self.now }
+        ensures plain { ArePlain self.now }
     {
-        self.fields
+        &self.fields
+    }
+
+    /// The fields, to be looked at one by one.
+    pub fn into_fields(self) -> Fields
+        ensures { result ≡ self }
+    {
+        self.fields.into_fields()
     }
 }

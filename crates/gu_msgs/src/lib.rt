@@ -50,6 +50,7 @@ pub use answering::{answer_to, notice_body, positions_answer};
 pub use asking::{Asking, Question, Request};
 pub use boxed::Boxed;
 pub use coded_values::{AllocReportType, BusinessRejectReason, LogoutReason, PosReqResult};
+pub use draft::Draft;
 pub use fault::{Fault, MsgFault};
 pub use header_reading::{header, header_in};
 pub use inbound::Inbound;

@@ -5,7 +5,7 @@ ghost use Rattle.gu_fix.specs.Encoding.{fault_of, fields_of_message, message_of}
 ghost use Rattle.gu_fix.specs.Fields.{HasFields};
 ghost use Rattle.gu_fix.specs.TagValue.{TagValue, tag_value};
 ghost use Rattle.gu_fix.specs.WholeMessage.{IsWhole};
-ghost use Rattle.gu_msgs.specs.Encodable.{ArePlain, is_plain};
+ghost use Rattle.gu_msgs.specs.Encodable.{is_plain};
 ghost use Rattle.gu_msgs.specs.WrittenBodies.{number_field};
 ghost use Rattle.gu_msgs.specs.Written.{IsWritten, MarksResend, application_code, application_fields, body_code, body_fields, outbound_of};
 
@@ -21,7 +21,7 @@ use crate::tags::{
     BEGIN_SEQ_NO, END_SEQ_NO, GAP_FILL_FLAG, MSG_SEQ_NUM, NEW_SEQ_NO, ORIG_SENDING_TIME,
     POSS_DUP_FLAG, SENDER_COMP_ID, SENDING_TIME, TARGET_COMP_ID, TEST_REQ_ID, TEXT,
 };
-use gu_fix::{BodyText, Fields, MSG_TYPE};
+use gu_fix::{Fields, MSG_TYPE};
 use gu_terms::Moment;
 use std::alloc::{AllocError, Global};
 
@@ -147,37 +147,24 @@ fn push_message(
     push_body(draft, message.body)
 }
 
-/// The fields of a message in the room of a draft without fields, each with a value that can be encoded.
-#[inline(always)]
-fn fields_of(
-    mut draft: Draft,
+/// Writes a message over what a draft had, with the moment of its sending. Its fields can be encoded as a whole message, of 65,536 bytes
+/// at most, and are read back.
+pub fn write_over(
+    draft: &mut Draft,
     message: &OutboundRef<'_>,
     stamp: &Stamp,
-) -> Result<BodyText, AllocError>
-    requires none { draft ≡ [] }
-    requires time { stamp.now ≡ message.now.sending_time }
-    ensures written { IfOk result (λ fields. IsWritten (outbound_of message.now) fields) }
-    ensures plain { IfOk result ArePlain }
+) -> Result<(), AllocError>
+    requires { stamp.now ≡ message.now.sending_time }
+    ensures written { OnOk result (IsWritten (outbound_of message.now) draft.new) }
+    ensures encodable { OnOk result (fault_of draft.new ≡ None) }
+    ensures whole { OnOk result (IsWhole (message_of draft.new)) }
+    ensures read_back { OnOk result (HasFields (message_of draft.new) (fields_of_message draft.new) None) }
 {
-    push_message(&mut draft, message, stamp)?;
-    Ok(draft.into_fields())
-}
-
-/// The fields of a message in the room of a draft without fields. They can be encoded as a whole message, and are read back.
-#[inline(always)]
-fn written_in(
-    draft: Draft,
-    message: &OutboundRef<'_>,
-    stamp: &Stamp,
-) -> Result<BodyText, AllocError>
-    requires none { draft ≡ [] }
-    requires time { stamp.now ≡ message.now.sending_time }
-    ensures written { IfOk result (λ fields. IsWritten (outbound_of message.now) fields) }
-    ensures encodable { IfOk result (λ fields. fault_of fields ≡ None) }
-    ensures whole { IfOk result (λ fields. IsWhole (message_of fields)) }
-    ensures read_back { IfOk result (λ fields. HasFields (message_of fields) (fields_of_message fields) None) }
-{
-    fields_of(draft, message, stamp)
+    draft.clear();
+    push_message(draft, message, stamp)?;
+    // Shows the prover: each value can be encoded.
+    let _ = draft.fields();
+    Ok(())
 }
 
 /// The fields of a message. They can be encoded as a whole message, of 65,536 bytes at most, and are read back.
@@ -187,25 +174,8 @@ pub fn write(alloc: Global, message: &Outbound) -> Result<Fields, AllocError>
     ensures whole { IfOk result (λ fields. IsWhole (message_of fields)) }
     ensures read_back { IfOk result (λ fields. HasFields (message_of fields) (fields_of_message fields) None) }
 {
-    let draft = Draft::new(alloc)?;
+    let mut draft = Draft::with_room(alloc)?;
     let stamp = Stamp::new(message.sending_time);
-    let body = written_in(draft, &message.as_ref(), &stamp)?;
-    Ok(body.into_fields())
-}
-
-/// The same of a borrowed message, as the text that `gu_fix::encode_onto` takes, in the room of fields that aren't used any more, with
-/// the moment of its sending.
-pub fn write_over(
-    alloc: Global,
-    fields: BodyText,
-    message: &OutboundRef<'_>,
-    stamp: &Stamp,
-) -> Result<BodyText, AllocError>
-    requires { stamp.now ≡ message.now.sending_time }
-    ensures written { IfOk result (λ fields. IsWritten (outbound_of message.now) fields) }
-    ensures encodable { IfOk result (λ fields. fault_of fields ≡ None) }
-    ensures whole { IfOk result (λ fields. IsWhole (message_of fields)) }
-    ensures read_back { IfOk result (λ fields. HasFields (message_of fields) (fields_of_message fields) None) }
-{
-    written_in(Draft::over(alloc, fields), message, stamp)
+    write_over(&mut draft, &message.as_ref(), &stamp)?;
+    Ok(draft.into_fields())
 }

@@ -11,16 +11,15 @@ use crate::output::{Output, Taken};
 use crate::plan::Plan;
 use crate::ready::Ready;
 use crate::state::beginning;
-use gu_fix::{BodyText, encode_onto};
-use gu_msgs::{OutboundRef, Stamp, write_over};
+use gu_fix::encode_onto;
+use gu_msgs::{Draft, OutboundRef, Stamp, write_over};
 use gu_terms::Moment;
 use std::alloc::{AllocError, Global};
-use std::mem;
 
 /// Writes messages, all in the same room for their fields. The moment's text is made once for all messages of a moment.
 pub struct Pen {
     alloc: Global,
-    room: BodyText,
+    draft: Draft,
     stamp: Stamp,
 }
 
@@ -28,10 +27,10 @@ impl Drop for Pen {
     fn drop(self) {
         let Pen {
             alloc: _,
-            room,
+            draft,
             stamp: _,
         } = self;
-        drop(room);
+        drop(draft);
     }
 }
 
@@ -40,19 +39,18 @@ impl Pen {
     pub fn new(alloc: Global) -> Self {
         Pen {
             alloc,
-            room: BodyText::new(alloc),
+            draft: Draft::new(alloc),
             stamp: Stamp::new(beginning()),
         }
     }
 
-    /// The moment and its text.
-    fn stamp_at(&mut self, moment: Moment) -> &Stamp
-        ensures { result.now ≡ moment }
+    /// Has the text of a moment from now on.
+    fn set_moment(&mut self, moment: Moment)
+        ensures { self.new.stamp ≡ moment }
     {
         if self.stamp.moment() != moment {
             self.stamp = Stamp::new(moment);
         }
-        &self.stamp
     }
 
     /// Appends a message.
@@ -60,12 +58,9 @@ impl Pen {
         ensures pushed { OnOk result (FollowsText (outbound_of message.now) output.old.items output.new.items) }
         ensures refused { OnErr result (output.new.items ≡ output.old.items) }
     {
-        let room = mem::replace(&mut self.room, BodyText::new(self.alloc));
-        let alloc = self.alloc;
-        let fields = write_over(alloc, room, message, self.stamp_at(message.sending_time))?;
-        encode_onto(output, &fields)?;
-        self.room = fields;
-        Ok(())
+        self.set_moment(message.sending_time);
+        write_over(&mut self.draft, message, &self.stamp)?;
+        encode_onto(output, self.draft.fields())
     }
 
     /// Appends all messages of a plan that is ready, where the first new one has this number, or the first of them.

@@ -3,9 +3,9 @@ use crate::messages::{FIRST, shown, text_in};
 use crate::reading::{answer, fields_in};
 use crate::rows::{Subject, check, first_word, number};
 use crate::words::{Values, rejection_of};
-use gu_fix::{BodyText, encode_onto};
+use gu_fix::encode_onto;
 use gu_msgs::outbound::{Application, Body, TradeCaptureReportAck};
-use gu_msgs::{Outbound, Stamp, midnight_of, sender, write_over};
+use gu_msgs::{Draft, Outbound, Stamp, midnight_of, sender, write_over};
 use gu_terms::{FirmId, Id};
 use std::alloc::{AllocError, Global};
 
@@ -112,9 +112,10 @@ fn ack_to(w: &Values, firm: FirmId, words: &str) -> Option<Outbound> {
 /// A message on the wire, after an `x`.
 fn on_the_wire(alloc: Global, message: &Outbound) -> Result<String, AllocError> {
     let stamp = Stamp::new(message.sending_time);
-    let fields = write_over(alloc, BodyText::new(alloc), &message.as_ref(), &stamp)?;
+    let mut draft = Draft::new(alloc);
+    write_over(&mut draft, &message.as_ref(), &stamp)?;
     let mut output = Vec::from_slice(alloc, b"x")?;
-    encode_onto(&mut output, &fields)?;
+    encode_onto(&mut output, draft.fields())?;
     shown(alloc, &output)
 }
 

@@ -1,9 +1,9 @@
 //! What messages are written as.
-use crate::messages::{fields_of, replaced, text_of};
+use crate::messages::{replaced, text_of};
 use crate::rows::{Subject, check, first_word, number};
 use crate::words::Values;
 use gu_msgs::outbound::Body;
-use gu_msgs::{Outbound, Stamp, write, write_over};
+use gu_msgs::{Draft, LogoutReason, Outbound, Stamp, write, write_over};
 use gu_terms::Moment;
 use std::alloc::{AllocError, Global};
 
@@ -18,17 +18,19 @@ fn at_nine(w: &Values, body: Body) -> Outbound {
     }
 }
 
-/// The fields of a message that is written in the room of longer ones, as a text.
-fn written(alloc: Global, message: &Outbound) -> Result<String, AllocError> {
-    let room = fields_of(alloc, "{58=a longer text than any other|*30}")?.into_room();
+/// The fields of a message that is written over another one, as a text.
+fn written(alloc: Global, w: &Values, message: &Outbound) -> Result<String, AllocError> {
     let stamp = Stamp::new(message.sending_time);
-    let fields = write_over(alloc, room, &message.as_ref(), &stamp)?;
-    text_of(alloc, &fields.into_fields())
+    let mut draft = Draft::new(alloc);
+    let earlier = at_nine(w, Body::Logout(Some(LogoutReason::SeqTooLow)));
+    write_over(&mut draft, &earlier.as_ref(), &Stamp::new(w.nine))?;
+    write_over(&mut draft, &message.as_ref(), &stamp)?;
+    text_of(alloc, &draft.into_fields())
 }
 
 /// What a message that is sent at nine is written as, but for those parts of the header that each has, where it has them.
 pub fn text_at_nine(alloc: Global, w: &Values, body: Body) -> Result<String, AllocError> {
-    let text = written(alloc, &at_nine(w, body))?;
+    let text = written(alloc, w, &at_nine(w, body))?;
     let each = "49=GIVEUP|56=E1|34=3|52=20260105-09:00:00.000|";
     replaced(alloc, text.as_str(), each, "")
 }
