@@ -1,15 +1,16 @@
 //! The body of a message that is being written: its fields, as a message has them.
-ghost use Rattle.std.specs.Prelude.{◌≡◌, ◌+◌, List, ℕ, [], ◌∷◌, ◌++◌, length, IfOk, OnOk, OnErr};
+ghost use Rattle.std.specs.Prelude.{◌≡◌, ◌+◌, List, ℕ, [], ◌∷◌, ◌++◌, ◌≤◌, length, vec_len, vec_capacity, IfOk, OnOk, OnErr};
 ghost use Rattle.std.specs.Fmt.{decimal};
 ghost use Rattle.std.specs.List.{flat_map};
 ghost use Rattle.gu_fix.specs.Encoding.{field_text, fields_text};
 ghost use Rattle.gu_fix.specs.TagValue.{tag_value};
 
-use crate::encoding::push_tag;
+use crate::encoding::{TAG_ROOM, extend_reserved, push_tag, push_tag_reserved};
 use crate::field::{Fields, Span};
 use crate::prefix::SOH;
 use std::alloc::{AllocError, Global};
 use std::marker::Model;
+use std::mem::replace;
 
 /// Appends parts, one after another.
 #[inline(always)]
@@ -37,6 +38,24 @@ fn push_parts(text: &mut Vec<u8>, tag: u32, parts: &[&[u8]]) -> Result<usize, Al
     text.reserve(1)?;
     text.push_reserved(SOH);
     Ok(start)
+}
+
+/// A value of at most so many bytes is copied byte by byte.
+const SHORT: usize = 32;
+
+/// The text with one more field, for which it has room, and where the value begins. It comes by value, so that its length isn't
+/// written and read again for each byte.
+#[inline(always)]
+fn with_field(mut text: Vec<u8>, tag: u32, value: &[u8]) -> (Vec<u8>, usize)
+    requires { vec_len text + TAG_ROOM + length value.now + 1 ≤ vec_capacity text }
+    ensures text { result.0.items ≡ text.items ++ field_text (tag_value tag value.now) }
+    ensures start { result.1 ≡ length text.items + length (decimal tag) + 1 }
+{
+    push_tag_reserved(&mut text, tag);
+    let start = text.len();
+    extend_reserved(&mut text, value);
+    text.push_reserved(SOH);
+    (text, start)
 }
 
 /// The fields of a body, which are kept as their text in a message. To a contract they are the list of their tags and values.
@@ -109,6 +128,24 @@ impl BodyText {
     /// Appends a field with this value.
     #[inline(always)]
     pub fn push(&mut self, tag: u32, value: &[u8]) -> Result<(), AllocError>
+        ensures ok { OnOk result (self.new ≡ self.old ++ tag_value tag value.now ∷ []) }
+        ensures err { OnErr result (self.new ≡ self.old) }
+    {
+        if value.len() > SHORT {
+            return self.push_long(tag, value);
+        }
+        self.spans.reserve(1)?;
+        self.text.reserve(TAG_ROOM + value.len() + 1)?;
+        let alloc = *self.text.allocator();
+        let (text, start) = with_field(replace(&mut self.text, Vec::new(alloc)), tag, value);
+        self.text = text;
+        self.spans.push_reserved(Span::new(tag, start, value.len()));
+        Ok(())
+    }
+
+    /// Appends a field whose value isn't short.
+    #[inline(never)]
+    fn push_long(&mut self, tag: u32, value: &[u8]) -> Result<(), AllocError>
         ensures ok { OnOk result (self.new ≡ self.old ++ tag_value tag value.now ∷ []) }
         ensures err { OnErr result (self.new ≡ self.old) }
     {

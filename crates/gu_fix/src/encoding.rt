@@ -1,5 +1,5 @@
 //! Messages from fields.
-ghost use Rattle.std.specs.Prelude.{◌≡◌, ◌==◌, ◌≤◌, ◌<◌, ◌+◌, ◌++◌, ◌↔◌, List, ℕ, [], ◌∷◌, length, drop, sum, ◌%◌, Some, None, IfOk, OnOk, OnErr, IsErrOf, MatchOption, MatchResult, IsTrue, not, ◌&&◌};
+ghost use Rattle.std.specs.Prelude.{◌≡◌, ◌==◌, ◌≤◌, ◌<◌, ◌+◌, ◌++◌, ◌↔◌, List, ℕ, [], ◌∷◌, length, drop, sum, ◌%◌, Some, None, IfOk, OnOk, OnErr, IsErrOf, MatchOption, MatchResult, IsTrue, not, ◌&&◌, vec_len, vec_capacity};
 ghost use Rattle.std.specs.List.{list_any, list_all};
 ghost use Rattle.std.specs.Fmt.{decimal};
 ghost use Rattle.gu_fix.specs.WholeMessage.{soh, front_of, trailer_after, IsWhole};
@@ -108,23 +108,51 @@ fn three_digits(tag: u32) -> [u8; 4]
     ]
 }
 
-/// Appends a tag, of which most have two or three digits, and `=`.
+/// The bytes that a tag and `=` take at most.
+pub(crate) const TAG_ROOM: usize = 11;
+
+/// Appends bytes, for which there is room, one by one.
 #[inline(always)]
-pub(crate) fn push_tag(out: &mut Vec<u8>, tag: u32) -> Result<(), AllocError>
-    ensures ok { OnOk result (out.new.items ≡ out.old.items ++ decimal tag ++ 61 ∷ []) }
-    ensures err { OnErr result ((tail : List ℕ) × (out.new.items ≡ out.old.items ++ tail)) }
+pub(crate) fn extend_reserved(out: &mut Vec<u8>, bytes: &[u8])
+    requires { vec_len out.old + length bytes.now ≤ vec_capacity out.old }
+    ensures items { out.new.items ≡ out.old.items ++ bytes.now }
+    ensures len { vec_len out.new ≡ vec_len out.old + length bytes.now }
+    ensures capacity { vec_capacity out.new ≡ vec_capacity out.old }
+{
+    for byte in bytes {
+        out.push_reserved(*byte);
+    }
+}
+
+/// Appends a tag, of which most have two or three digits, and `=`, for which there is room.
+#[inline(always)]
+pub(crate) fn push_tag_reserved(out: &mut Vec<u8>, tag: u32)
+    requires { vec_len out.old + TAG_ROOM ≤ vec_capacity out.old }
+    ensures items { out.new.items ≡ out.old.items ++ decimal tag ++ 61 ∷ [] }
+    ensures len { vec_len out.new ≤ vec_len out.old + TAG_ROOM }
+    ensures capacity { vec_capacity out.new ≡ vec_capacity out.old }
 {
     if 10 <= tag {
         if tag < 100 {
-            return out.extend_from_slice(&two_digits(tag));
+            return extend_reserved(out, &two_digits(tag));
         }
         if tag < 1000 {
-            return out.extend_from_slice(&three_digits(tag));
+            return extend_reserved(out, &three_digits(tag));
         }
     }
     let mut digits = Buffer::new();
-    out.extend_from_slice(digits.format(tag).as_bytes())?;
-    out.push(b'=')?;
+    extend_reserved(out, digits.format(tag).as_bytes());
+    out.push_reserved(b'=');
+}
+
+/// Appends a tag and `=`.
+#[inline(always)]
+pub(crate) fn push_tag(out: &mut Vec<u8>, tag: u32) -> Result<(), AllocError>
+    ensures ok { OnOk result (out.new.items ≡ out.old.items ++ decimal tag ++ 61 ∷ []) }
+    ensures err { OnErr result (out.new.items ≡ out.old.items) }
+{
+    out.reserve(TAG_ROOM)?;
+    push_tag_reserved(out, tag);
     Ok(())
 }
 
