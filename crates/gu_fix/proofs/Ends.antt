@@ -1,93 +1,85 @@
--- Where the parts of a message end, as its SOHs are found one after another.
-use Rattle.std.proofs.Common.{◌≡◌, ◌<◌, ◌≤◌, ◌+◌, ◌-◌, ℕ, zero, suc, Bool, true, false, cond, List, [], ◌∷◌, length, drop, get_or, refl, ap, sym, subst, ◌∙◌, arith, inl, inr}
-use Rattle.std.proofs.lemmas.Bool.{cases_order}
-use Rattle.std.proofs.lemmas.List.{get_or-drop, length-drop}
-use Rattle.memchr.specs.Find.{Nowhere, Passes, is_byte, places_between, places_from}
-use Rattle.gu_fix.specs.WholeMessage.{soh}
+-- Where the parts of a message end, as the marks of the SOHs among sixteen bytes show it.
+use Rattle.std.proofs.Common.{◌≡◌, ◌<◌, ◌≤◌, ◌+◌, ◌-◌, ◌/◌, ◌^◌, ℕ, zero, suc, Bool, true, false, cond, eqb, List, [], ◌∷◌, length, take, drop, get_or, map, not, ap, sym, ◌∙◌, arith, inl, inr, shr-shr, w64}
+use Rattle.std.specs.Int.{trailing_zeros}
+use Rattle.std.specs.List.{prefix_len}
+use Rattle.std.specs.Simd.Lanes.{mask_l}
+use Rattle.std.proofs.lemmas.Bool.{cases_lt, eq-eqb, eqb-true}
+use Rattle.std.proofs.lemmas.List.{drop-drop, drop-map, get_or-drop, get_or-take, get_or_past, length-drop, length-map, length-take, take-take, take_all}
+use Rattle.std.proofs.lemmas.Nat.Bits.{bit_at-trailing_zeros}
+use Rattle.std.proofs.lemmas.Simd.{bit_mask_l, trailing_mask_l, run_in_chunk_fails, run_in_chunk_stops}
+use Rattle.gu_fix.specs.Spans.{EndsPart, soh_marks}
 
--- the first of the places that pass a test, and the others
-record IsNext (test : ℕ → Bool) (hay : List ℕ) (i n k : ℕ) (later : List ℕ) : Type 0 where
-  low : i ≤ k
-  high : k < i + n
-  before : Nowhere (Passes test hay) i k
-  there : Passes test hay k
-  others : later ≡ places_from test hay (k + 1) (i + n - (k + 1))
+-- the test of each byte
+abbrev is_soh : ℕ → Bool
+is_soh b = eqb b 1
 
--- none of them is this one
-past : (test : ℕ → Bool) (hay : List ℕ) (i k : ℕ) → test (get_or hay i 0) ≡ false → Nowhere (Passes test hay) (i + 1) k → Nowhere (Passes test hay) i k
-past test hay i k not_here before j low high passes =
-    elim (cases_order i j) [
-      | inl same ↦ (let there = ap (λ m. test (get_or hay m 0)) same in cc)
-      | inr (inl less) ↦ before j (omega (arith, less)) high passes
-      | inr (inr more) ↦ omega (arith, more, low)
+-- the lowest bit that is set stands for one of the bytes
+lowest_within : (tests : List Bool) → 0 < mask_l tests → mask_l tests < 2 ^ 64 → trailing_zeros w64 (mask_l tests) < length tests
+lowest_within tests some fits =
+    let low = bit_at-trailing_zeros w64 (mask_l tests) some fits in
+    let place = trailing_zeros w64 (mask_l tests) in
+    elim (cases_lt place (length tests)) [
+      | inl lt ↦ lt
+      | inr le ↦
+          let none = ap {B = ℕ} (λ b. cond b 1 0) (get_or_past tests place false le) in
+          absurd (omega (arith, low.1, bit_mask_l tests place, none))
     ]
 
-next_place : (test : ℕ → Bool) (hay : List ℕ) (i n k : ℕ) (later : List ℕ) → places_from test hay i n ≡ k ∷ later → IsNext test hay i n k later
-unfolding places_from
-next_place test hay i zero k later e = cc
-next_place test hay i (suc n) k later e =
-    let ahead : List ℕ = places_from test hay (i + 1) n in
-    let P : Bool → Type 0 = λ b. test (get_or hay i 0) ≡ b → cond b (i ∷ ahead) ahead ≡ k ∷ later → IsNext test hay i (suc n) k later in
-    let here : P true = λ passes same.
-    (let is : i ≡ k = cc in
-    let rest : ahead ≡ later = cc in
-    let left : n ≡ i + suc n - (k + 1) = omega arith in
-    record {
-      low = omega arith;
-      high = omega arith;
-      before = λ j low high p. omega (arith, low, high, is);
-      there = ap (λ m. test (get_or hay m 0)) (sym is) ∙ passes;
-      others = sym rest ∙ ap (λ m. places_from test hay (m + 1) n) is ∙ ap (places_from test hay (k + 1)) left;
-    }) in
-    let behind : P false = λ passes same.
-    (let found = next_place test hay (i + 1) n k later same in
-    let left : i + 1 + n - (k + 1) ≡ i + suc n - (k + 1) = omega arith in
-    record {
-      low = omega (arith, found.low);
-      high = omega (arith, found.high);
-      before = past test hay i k passes found.before;
-      there = found.there;
-      others = found.others ∙ ap (places_from test hay (k + 1)) left;
-    }) in
-    let at : (b : Bool) → P b = λ b. elim b as P [ true ↦ here | false ↦ behind ] in
-    at (test (get_or hay i 0)) refl e
+-- without its lowest bits a mask is that of the tests after them
+shifted : (tests : List Bool) (n : ℕ) → mask_l tests / 2 ^ n ≡ mask_l (drop n tests)
+shifted tests zero = omega arith
+shifted [] (suc n) = omega arith
+shifted (b ∷ bs) (suc n) =
+    let tests : List Bool = b ∷ bs in
+    let bit : cond b 1 0 < 2 = elim b as (λ (t : Bool). cond t 1 0 < 2) [ true ↦ omega arith | false ↦ omega arith ] in
+    let half : mask_l tests / 2 ^ 1 ≡ mask_l bs = omega (arith, bit) in
+    let count : suc n ≡ 1 + n = omega arith in
+    ap (λ (k : ℕ). mask_l tests / 2 ^ k) count ∙ sym (shr-shr (mask_l tests) 1 n) ∙ ap (λ (k : ℕ). k / 2 ^ n) half ∙ shifted bs n
 
-no_place : (test : ℕ → Bool) (hay : List ℕ) (i n : ℕ) → places_from test hay i n ≡ [] → Nowhere (Passes test hay) i (i + n)
-unfolding places_from
-no_place test hay i zero e = λ j low high p. omega (arith, low, high)
-no_place test hay i (suc n) e =
-    let ahead : List ℕ = places_from test hay (i + 1) n in
-    let P : Bool → Type 0 = λ b. test (get_or hay i 0) ≡ b → cond b (i ∷ ahead) ahead ≡ [] → Nowhere (Passes test hay) i (i + suc n) in
-    let here : P true = λ passes none. cc in
-    let behind : P false = λ passes none.
-    (let end : i + 1 + n ≡ i + suc n = omega arith in
-    past test hay i (i + suc n) passes (subst (Nowhere (Passes test hay) (i + 1)) end (no_place test hay (i + 1) n none))) in
-    let at : (b : Bool) → P b = λ b. elim b as P [ true ↦ here | false ↦ behind ] in
-    at (test (get_or hay i 0)) refl e
+-- where fewer than sixteen bytes are left, their marks are among those of the last sixteen
+pub last_marks : (bytes : List ℕ) (start : ℕ) → 16 ≤ length bytes → length bytes - 16 ≤ start → start ≤ length bytes
+    → soh_marks (take 16 (drop (length bytes - 16) bytes)) / 2 ^ (start - (length bytes - 16)) ≡ soh_marks (take 16 (drop start bytes))
+last_marks bytes start long low high =
+    let last = length bytes - 16 in
+    let passed = start - last in
+    let lanes = take 16 (drop last bytes) in
+    let later : drop passed lanes ≡ take 16 (drop start bytes) =
+    ap (drop passed) (take_all 16 (drop last bytes) (omega (arith, length-drop last bytes)))
+    ∙ drop-drop passed last bytes
+    ∙ ap (λ (k : ℕ). drop k bytes) (omega (arith, low))
+    ∙ sym (take_all 16 (drop start bytes) (omega (arith, length-drop start bytes))) in
+    shifted (map is_soh lanes) passed ∙ ap mask_l (drop-map is_soh passed lanes ∙ ap (map is_soh) later)
 
--- the next SOH of a message from a place on
-pub record EndsNext (bytes : List ℕ) (start end : ℕ) (later : List ℕ) : Type 0 where
-  pub low : start ≤ end
-  pub high : end < length bytes
-  pub before : (k : ℕ) → 0 ≤ k → k < end - start → is_byte soh (get_or (drop start bytes) k 0) ≡ true → ⊥
-  pub there : is_byte soh (get_or (drop start bytes) (end - start) 0) ≡ true
-  pub others : later ≡ places_between (is_byte soh) bytes (end + 1) (length bytes)
+-- the part ends at the first SOH from its beginning on
+pub ends_part : (bytes : List ℕ) (start end : ℕ) → start ≤ end → end < length bytes → ((k : ℕ) → start ≤ k → k < end → is_soh (get_or bytes k 0) ≡ false) → is_soh (get_or bytes end 0) ≡ true
+    → EndsPart bytes start end
+ends_part bytes start end low high before there = record {
+  low = low;
+  high = high;
+  none = λ k lt e. (
+      let within : k < end - start = omega (arith, lt, length-take (end - start) (drop start bytes)) in
+      let place = get_or-take (end - start) (drop start bytes) k 0 within ∙ get_or-drop start bytes k 0 in
+      let other = before (start + k) (omega arith) (omega (arith, within)) in
+      let same = eq-eqb (get_or bytes (start + k) 0) 1 (sym place ∙ e) in
+      cc
+      );
+  there = eqb-true (get_or bytes end 0) 1 there;
+}
 
-pub next_end : (bytes : List ℕ) (start end : ℕ) (later : List ℕ) → start ≤ length bytes → places_between (is_byte soh) bytes start (length bytes) ≡ end ∷ later → EndsNext bytes start end later
-next_end bytes start end later within e =
-    let found = next_place (is_byte soh) bytes start (length bytes - start) end later e in
-    let all : start + (length bytes - start) ≡ length bytes = omega arith in
-    let place : start + (end - start) ≡ end = omega (arith, found.low) in
-    record {
-      low = found.low;
-      high = omega (arith, found.high);
-      before = λ k low high p. found.before (start + k) (omega arith) (omega (arith, high)) (sym (ap (is_byte soh) (get_or-drop start bytes k 0)) ∙ p);
-      there = ap (is_byte soh) (get_or-drop start bytes (end - start) 0 ∙ ap (λ m. get_or bytes m 0) place) ∙ found.there;
-      others = found.others ∙ ap (λ m. places_from (is_byte soh) bytes (end + 1) (m - (end + 1))) all;
-    }
-
--- there is none
-pub no_end : (bytes : List ℕ) (start : ℕ) → start ≤ length bytes → places_between (is_byte soh) bytes start (length bytes) ≡ []
-    → (k : ℕ) → k < length (drop start bytes) → is_byte soh (get_or (drop start bytes) k 0) ≡ true → ⊥
-no_end bytes start within e k less p =
-    no_place (is_byte soh) bytes start (length bytes - start) e (start + k) (omega arith) (omega (arith, less, length-drop start bytes)) (sym (ap (is_byte soh) (get_or-drop start bytes k 0)) ∙ p)
+-- the marks of the bytes from a place on show where the part ends
+pub first_marked : (bytes : List ℕ) (start marks : ℕ) → start ≤ length bytes → marks ≡ soh_marks (take 16 (drop start bytes)) → 0 < marks → marks < 2 ^ 64
+    → EndsPart bytes start (start + trailing_zeros w64 marks)
+first_marked bytes start marks within is some fits =
+    let rest = drop start bytes in
+    let lanes = take 16 rest in
+    let n = length lanes in
+    let place = trailing_zeros w64 marks in
+    let few : n ≤ 16 = omega (arith, length-take 16 rest) in
+    let room : start + n ≤ length bytes = omega (arith, length-take 16 rest, length-drop start bytes) in
+    let same : trailing_zeros w64 (mask_l (map is_soh lanes)) ≡ place = ap (trailing_zeros w64) (sym is) in
+    let near : place < n = omega (arith, same, is, length-map lanes is_soh, lowest_within (map is_soh lanes) (omega (arith, is, some)) (omega (arith, is, fits))) in
+    let whole : lanes ≡ take n rest = sym (take_all n lanes (omega arith)) ∙ take-take n 16 rest few in
+    let counted = sym same ∙ trailing_mask_l is_soh 64 lanes (omega (arith, few)) (omega (arith, is, some)) ∙ ap (λ (t : List ℕ). prefix_len (λ b. not (is_soh b)) t) whole in
+    ends_part bytes start (start + place) (omega arith) (omega (arith, near, room))
+    (λ k low high. run_in_chunk_fails is_soh bytes start n place 0 room counted k low high)
+    (run_in_chunk_stops is_soh bytes start n place 0 room counted near)

@@ -1,10 +1,11 @@
 -- The steps of the reader of fields: what was read so far leads on to what the rest reads as.
-use Rattle.std.proofs.Common.{◌≡◌, ℕ, ◌-◌, ◌<◌, ◌≤◌, eqb, true, List, [], ◌∷◌, ◌++◌, length, take, drop, get_or, Option, None, Some, Ok, Err, refl, sym, ap, subst, ◌∙◌, append_assoc, arith}
+use Rattle.std.proofs.Common.{◌≡◌, ℕ, ◌-◌, ◌<◌, ◌≤◌, List, [], ◌∷◌, ◌++◌, length, drop, get_or, Option, None, Some, Ok, Err, refl, sym, ap, subst, ◌∙◌, append_assoc, arith}
 use Rattle.std.specs.Prelude.{codes, sum, ◌%◌, is_some, if◌then◌else◌}
 use Rattle.std.specs.List.{flat_map}
-use Rattle.std.proofs.lemmas.List.{append-nil, length-append, get_or_at, get_or-take, get_or-drop, length-take, length-drop}
-use Rattle.std.proofs.lemmas.Bool.{eq-eqb}
-use Rattle.gu_fix.specs.WholeMessage.{soh, front_of, body_of, trailer_of, three_digits, IsWhole}
+use Rattle.std.proofs.lemmas.List.{append-nil, length-append, get_or_at, get_or-drop, length-drop}
+use Rattle.gu_fix.specs.WholeMessage.{soh, opening, front_of, body_of, trailer_of, trailer_after, three_digits, IsWhole}
+use Rattle.gu_fix.proofs.Bodies.{length-body}
+use Rattle.gu_fix.proofs.WholeLemmas.{length-opening}
 use Rattle.gu_fix.specs.TagValue.{TagValue}
 use Rattle.gu_fix.specs.Fields.{NoSoh, IsField, IsFault, HasFields}
 use Rattle.gu_fix.specs.declared.error.FieldFault.{FieldFault}
@@ -101,6 +102,21 @@ whole_ends message whole =
     let at : length before ≡ length message - 1 = omega (arith, long, length-append before (soh ∷ [])) in
     record { last = λ some. ap (λ (t : List ℕ). get_or t (length message - 1) 0) e ∙ get_or_at before soh [] 0 (length message - 1) at }
 
+-- and isn't short
+pub whole_long : (message : List ℕ) → IsWhole message → 16 ≤ length message
+whole_long message whole =
+    let body = body_of whole.inner in
+    let front = front_of whole.digits body in
+    omega (
+      arith,
+      ap length whole.spelled,
+      length-append front (trailer_after front),
+      length-append (opening ++ whole.digits) (soh ∷ body),
+      length-append opening whole.digits,
+      length-opening,
+      length-body whole.inner,
+    )
+
 -- so does what is left of it
 pub ends-drop : (bytes : List ℕ) (n : ℕ) → EndsWithSoh bytes → EndsWithSoh (drop n bytes)
 ends-drop bytes n ends = record {
@@ -118,9 +134,3 @@ nothing_left (b ∷ bs) ends none = absurd (none (length (b ∷ bs) - 1) (omega 
 -- all parts were read
 pub all_fields : (bytes rest : List ℕ) (fields : List TagValue) (fault : Option FieldFault) → ReadsOn bytes rest fields fault → EndsWithSoh rest → NoSoh rest → HasFields bytes fields fault
 all_fields bytes rest fields fault so_far ends none = all_read bytes fields fault (subst (λ (t : List ℕ). ReadsOn bytes t fields fault) (nothing_left rest ends none) so_far)
-
--- what stands before the first SOH has none
-pub front_without : (rest : List ℕ) (end : ℕ) → ((k : ℕ) → 0 ≤ k → k < end → eqb (get_or rest k 0) 1 ≡ true → ⊥) → NoSoh (take end rest)
-front_without rest end none k lt e =
-    let before : k < end = omega (arith, length-take end rest) in
-    none k (omega arith) before (eq-eqb (get_or rest k 0) 1 (sym (get_or-take end rest k 0 before) ∙ e))

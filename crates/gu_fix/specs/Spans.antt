@@ -1,9 +1,11 @@
 -- Machinery: where values lie in one buffer. No other crate names this file.
-use Rattle.std.specs.Prelude.{◌≡◌, ℕ, ◌+◌, ◌<◌, ◌≤◌, List, length, slice_index, take, drop, map}
+use Rattle.std.specs.Prelude.{◌≡◌, ℕ, ◌+◌, ◌-◌, ◌<◌, ◌≤◌, ◌==◌, List, length, slice_index, take, drop, map}
 use Rattle.std.specs.List.{AllByRecursion}
 use Rattle.std.specs.Str.Parse.{AllDigits, digits_value}
 use Rattle.gu_fix.specs.Encoding.{fields_text}
-use Rattle.gu_fix.specs.Fields.{equals}
+use Rattle.std.specs.Simd.Lanes.{mask_l}
+use Rattle.gu_fix.specs.Fields.{NoSoh, equals}
+use Rattle.gu_fix.specs.WholeMessage.{soh}
 use Rattle.gu_fix.specs.TagValue.{TagValue, tag_value}
 use Rattle.gu_fix.specs.declared.field.Span.{Span}
 
@@ -45,3 +47,14 @@ pub record LiesBefore (span : Span) (bytes : List ℕ) (tag len left : ℕ) : Ty
   pub tagged : span.tag ≡ tag
   pub sized : span.len ≡ len
   pub ends : span.start + len + 1 + left ≡ length bytes
+
+-- bit k is set where byte k is SOH
+abbrev pub soh_marks : List ℕ → ℕ
+soh_marks bytes = mask_l (map (λ b. b == soh) bytes)
+
+-- the part that begins at a place ends here: before the first SOH
+pub record EndsPart (bytes : List ℕ) (start end : ℕ) : Type 0 where
+  pub low : start ≤ end
+  pub high : end < length bytes
+  pub none : NoSoh (take (end - start) (drop start bytes))
+  pub there : slice_index bytes end ≡ soh

@@ -1,16 +1,17 @@
 //! A message into its fields.
-ghost use Rattle.std.specs.Prelude.{◌≡◌, ◌+◌, ◌≤◌, MatchOption, MatchResult, IfOk, is_some, if◌then◌else◌, length, take, Some};
+ghost use Rattle.std.specs.Prelude.{◌≡◌, ◌+◌, ◌≤◌, MatchOption, MatchResult, IfOk, is_some, if◌then◌else◌, length, take, drop, Some};
 ghost use Rattle.gu_fix.specs.WholeMessage.{IsWhole};
 ghost use Rattle.gu_fix.specs.TagValue.{tag_value};
-ghost use Rattle.gu_fix.specs.Fields.{IsTag, IsField, IsFault, HasFields, HasNoTag, equals};
-ghost use Rattle.gu_fix.specs.Spans.{AreWithin, HasNumber, LiesBefore, StandsAt, fields_in};
+ghost use Rattle.gu_fix.specs.Fields.{IsTag, IsField, IsFault, HasFields, HasNoTag, NoSoh, equals};
+ghost use Rattle.gu_fix.specs.Spans.{AreWithin, EndsPart, HasNumber, LiesBefore, StandsAt, fields_in, soh_marks};
 
 use crate::error::{FieldFault, SessionRejectReason};
 use crate::field::{Field, Fields, Span};
 use crate::frame::Frame;
 use crate::prefix::SOH;
-use memchr::memchr_iter;
+use memchr::memchr;
 use std::alloc::{AllocError, Global};
+use std::simd::prelude::*;
 
 /// The number in front of a part's first `=`, of at most nine digits, and where that stands.
 fn number_in_front(part: &[u8]) -> Option<(u32, usize)>
@@ -32,10 +33,31 @@ fn number_in_front(part: &[u8]) -> Option<(u32, usize)>
     None
 }
 
+/// What the digits `00` count as bytes.
+const TWO_ZEROS: u32 = 11 * b'0' as u32;
+
+/// What the digits `000` count as bytes.
+const THREE_ZEROS: u32 = 111 * b'0' as u32;
+
 /// The tag in front of a part's first `=`, and where that stands.
 fn tag_in_front(part: &[u8]) -> Option<(u32, usize)>
     ensures { MatchOption result (HasNoTag part.now) (λ r. IsTag (take r.1 part.now) r.0 × StandsAt equals r.1 part.now) }
 {
+    // Most tags have two digits or three.
+    if let [tens @ b'1'..=b'9', ones @ b'0'..=b'9', b'=', ..] = part {
+        return Some((10 * u32::from(*tens) + u32::from(*ones) - TWO_ZEROS, 2));
+    }
+    if let [
+        hundreds @ b'1'..=b'9',
+        tens @ b'0'..=b'9',
+        ones @ b'0'..=b'9',
+        b'=',
+        ..
+    ] = part
+    {
+        let front = 100 * u32::from(*hundreds) + 10 * u32::from(*tens);
+        return Some((front + u32::from(*ones) - THREE_ZEROS, 3));
+    }
     let Some((number, end)) = number_in_front(part) else {
         return None;
     };
@@ -90,6 +112,47 @@ fn span_of(bytes: &[u8], field: Field<'_>, left: usize) -> Span
     Span::new(field.tag, bytes.len() - left - 1 - len, len)
 }
 
+/// The marks of the SOHs among sixteen bytes.
+#[inline(always)]
+fn marks_at(bytes: &[u8], place: usize) -> u64
+    requires { place + 16 ≤ length bytes.now }
+    ensures { result ≡ soh_marks (take 16 (drop place bytes.now)) }
+{
+    u8x16::from_slice(&bytes[place..])
+        .simd_eq(u8x16::splat(SOH))
+        .to_bitmask()
+}
+
+/// The marks of the SOHs among the next sixteen bytes, where fewer may be left.
+#[inline(always)]
+fn next_marks(bytes: &[u8], start: usize) -> u64
+    requires { (16 ≤ length bytes.now) × (start ≤ length bytes.now) }
+    ensures { result ≡ soh_marks (take 16 (drop start bytes.now)) }
+{
+    let last = bytes.len() - 16;
+    if start <= last {
+        marks_at(bytes, start)
+    } else {
+        marks_at(bytes, last) >> (start - last)
+    }
+}
+
+/// Where the next SOH is, from a place on. Most are near.
+#[inline(always)]
+fn next_soh(bytes: &[u8], start: usize) -> Option<usize>
+    requires { (16 ≤ length bytes.now) × (start ≤ length bytes.now) }
+    ensures { MatchOption result (NoSoh (drop start bytes.now)) (EndsPart bytes.now start) }
+{
+    let marks = next_marks(bytes, start);
+    if marks != 0 {
+        return Some(start + marks.trailing_zeros() as usize);
+    }
+    match memchr(SOH, &bytes[start..]) {
+        Some(len) => Some(start + len),
+        None => None,
+    }
+}
+
 /// Where the values of a message's fields lie, and the first part that is none.
 fn spans_of(alloc: Global, bytes: &[u8]) -> Result<(Vec<Span>, Option<FieldFault>), AllocError>
     requires { IsWhole bytes.now }
@@ -100,7 +163,7 @@ fn spans_of(alloc: Global, bytes: &[u8]) -> Result<(Vec<Span>, Option<FieldFault
     let mut spans = Vec::with_capacity(alloc, bytes.len() / 4)?;
     let mut fault = None;
     let mut start = 0;
-    'parts: for end in memchr_iter(SOH, bytes) {
+    'parts: while let Some(end) = next_soh(bytes, start) {
         match read_part(&bytes[start..end]) {
             Ok(field) => {
                 spans.push_reserved(span_of(bytes, field, bytes.len() - end - 1));

@@ -1,14 +1,12 @@
 use Rattle.std.proofs.Common.{◌≡◌, ◌≤◌, ◌<◌, ◌-◌, ◌+◌, ◌++◌, ◌∷◌, [], None, ℕ, List, length, take, drop, get_or, ap, sym, subst, ◌∙◌, append_assoc, arith}
-use Rattle.std.proofs.lemmas.Bool.{eq-eqb, eqb-true}
-use Rattle.std.proofs.lemmas.List.{drop-drop, length-append, length-drop, length-take}
+use Rattle.std.proofs.lemmas.List.{drop-drop, get_or-drop, length-append, length-drop, length-take}
 use Rattle.gu_fix.specs.WholeMessage.{soh}
 use Rattle.gu_fix.specs.Fields.{IsField, equals}
 use Rattle.gu_fix.specs.Spans.{AreWithin, fields_in}
 use Rattle.gu_fix.specs.TagValue.{TagValue, tag_value}
 use Rattle.gu_fix.specs.declared.field.Span.{Span}
-use Rattle.gu_fix.proofs.Ends.{next_end, no_end}
 use Rattle.gu_fix.proofs.Lengths.{split_at}
-use Rattle.gu_fix.proofs.PartsRead.{EndsWithSoh, ReadsOn, nothing_read, all_fields, field_read, fault_read, front_without, whole_ends, ends-drop}
+use Rattle.gu_fix.proofs.PartsRead.{EndsWithSoh, ReadsOn, nothing_read, all_fields, field_read, fault_read, whole_ends, whole_long, ends-drop}
 use Rattle.gu_fix.proofs.SpanLemmas.{value_lies, within-push, fields_in-one_more}
 use Rattle.gu_fix.proofs.splitting.spans_of.Goals as goal
 
@@ -22,26 +20,25 @@ parts-init c =
       short = omega arith;
       few = omega (arith, c.in_ok-spans.ensures.len);
       room = omega (arith, c.in_ok-spans.ensures.capacity);
-      ahead = c.into_iter-end-iterator.ensures.into_iter_gives ∙ c.memchr_iter-end-items.ensures.value;
     }
 
 pub slice_bounds-read_part-count : goal.slice_bounds-read_part-count
 slice_bounds-read_part-count c =
-    (next_end c.args.bytes.now c.parts.start c.in-Some.end c.next.new.self c.parts.invariant.short (sym c.parts.invariant.ahead ∙ c.in-Some.ensures.steps)).low
+    c.in-Some.ensures.low
 
 pub slice_bounds-read_part-start : goal.slice_bounds-read_part-start
 slice_bounds-read_part-start c =
-    let found = next_end c.args.bytes.now c.parts.start c.in-Some.end c.next.new.self c.parts.invariant.short (sym c.parts.invariant.ahead ∙ c.in-Some.ensures.steps) in
+    let found = c.in-Some.ensures in
     omega (arith, found.low, found.high)
 
 pub slice_bounds-read_part-end : goal.slice_bounds-read_part-end
 slice_bounds-read_part-end c =
-    let found = next_end c.args.bytes.now c.parts.start c.in-Some.end c.next.new.self c.parts.invariant.short (sym c.parts.invariant.ahead ∙ c.in-Some.ensures.steps) in
+    let found = c.in-Some.ensures in
     omega (arith, found.low, found.high)
 
 pub overflow_sub-bytes-in-Ok : goal.overflow_sub-bytes-in-Ok
 overflow_sub-bytes-in-Ok c =
-    let found = next_end c.args.bytes.now c.parts.start c.in-Some.end c.next.new.self c.parts.invariant.short (sym c.parts.invariant.ahead ∙ c.in-Some.ensures.steps) in
+    let found = c.in-Some.ensures in
     omega (arith, found.high)
 
 -- a field and its SOH take four bytes at least
@@ -54,13 +51,13 @@ pub push_reserved-requires : goal.push_reserved-requires
 push_reserved-requires c =
     let bytes = c.args.bytes.now in
     let inv = c.parts.invariant in
-    let found = next_end bytes c.parts.start c.in-Some.end c.next.new.self inv.short (sym inv.ahead ∙ c.in-Some.ensures.steps) in
+    let found = c.in-Some.ensures in
     omega (arith, inv.few, inv.room, found.low, found.high, field_is_long bytes c.parts.start c.in-Some.end c.in-Ok.field.tag c.in-Ok.field.value.now found.low found.high c.in-Ok.ensures)
 
 pub span_of-requires : goal.span_of-requires
 span_of-requires c =
     let bytes = c.args.bytes.now in
-    let found = next_end bytes c.parts.start c.in-Some.end c.next.new.self c.parts.invariant.short (sym c.parts.invariant.ahead ∙ c.in-Some.ensures.steps) in
+    let found = c.in-Some.ensures in
     let part = c.in-Ok.ensures.has_tag in
     let size = ap length part.parts in
     let value = c.in-Ok.field.value.now in
@@ -72,14 +69,15 @@ parts-preserved c =
     let start = c.parts.start in
     let rest = drop start bytes in
     let inv = c.parts.invariant in
-    let found = next_end bytes start c.in-Some.end c.next.new.self inv.short (sym inv.ahead ∙ c.in-Some.ensures.steps) in
+    let found = c.in-Some.ensures in
     let end = c.in-Some.end - start in
     let high : end + 1 ≤ length rest = omega (arith, found.low, found.high, length-drop start bytes) in
     let after = drop (end + 1) rest in
     let next : after ≡ drop (c.in-Some.end + 1) bytes = drop-drop (end + 1) start bytes ∙ ap (λ k. drop k bytes) (omega (arith, found.low)) in
     let left : length after ≡ length bytes - c.in-Some.end - 1 = omega (arith, found.low, found.high, length-drop (end + 1) rest, length-drop start bytes) in
     let spans = c.parts.spans.items in
-    let parts = split_at rest end soh (omega (arith, high)) (eqb-true (get_or rest end 0) 1 found.there) in
+    let at : start + end ≡ c.in-Some.end = omega (arith, found.low) in
+    let parts = split_at rest end soh (omega (arith, high)) (get_or-drop start bytes end 0 ∙ ap (λ k. get_or bytes k 0) at ∙ found.there) in
     let value = c.in-Ok.field.value.now in
     let field = tag_value c.in-Ok.field.tag value in
     let tagged = c.in-Ok.ensures.has_tag in
@@ -93,7 +91,7 @@ parts-preserved c =
     (record { tagged = lies.tagged; sized = lies.sized; ends = omega (arith, lies.ends, left) }) in
     let more : c.push_reserved.new.self.items ≡ spans ++ span ∷ [] = c.push_reserved.ensures.items in
     let fields : fields_in bytes c.push_reserved.new.self.items ≡ fields_in bytes spans ++ field ∷ [] = ap (fields_in bytes) more ∙ fields_in-one_more bytes spans span field there.1 in
-    let read = field_read bytes rest (take end rest) after (fields_in bytes spans) c.parts.fault field inv.reads_on parts (front_without rest end found.before) c.in-Ok.ensures in
+    let read = field_read bytes rest (take end rest) after (fields_in bytes spans) c.parts.fault field inv.reads_on parts found.none c.in-Ok.ensures in
     record {
       reads_on = subst (λ (t : List ℕ). ReadsOn bytes t (fields_in bytes c.push_reserved.new.self.items) c.parts.fault) next (subst (λ (t : List TagValue). ReadsOn bytes after t c.parts.fault) (sym fields) read);
       within = subst (AreWithin bytes) (sym more) (within-push bytes spans span inv.within there.0);
@@ -101,7 +99,6 @@ parts-preserved c =
       short = omega (arith, found.high);
       few = omega (arith, inv.few, found.low, c.push_reserved.ensures.len, field_is_long bytes start c.in-Some.end c.in-Ok.field.tag value found.low found.high c.in-Ok.ensures);
       room = omega (arith, inv.room, c.push_reserved.ensures.capacity);
-      ahead = found.others;
     }
 
 pub parts-preserved-in-Err : goal.parts-preserved-in-Err
@@ -111,12 +108,13 @@ parts-preserved-in-Err c =
     let rest = drop start bytes in
     let fields = fields_in bytes c.parts.spans.items in
     let inv = c.parts.invariant in
-    let found = next_end bytes start c.in-Some.end c.next.new.self inv.short (sym inv.ahead ∙ c.in-Some.ensures.steps) in
+    let found = c.in-Some.ensures in
     let end = c.in-Some.end - start in
     let high : end + 1 ≤ length rest = omega (arith, found.low, found.high, length-drop start bytes) in
     let next : drop (end + 1) rest ≡ drop (c.in-Some.end + 1) bytes = drop-drop (end + 1) start bytes ∙ ap (λ k. drop k bytes) (omega (arith, found.low)) in
-    let parts = split_at rest end soh (omega (arith, high)) (eqb-true (get_or rest end 0) 1 found.there) in
-    let read = fault_read bytes rest (take end rest) (drop (end + 1) rest) fields c.parts.fault c.in-Err.found inv.reads_on parts (front_without rest end found.before) c.in-Err.ensures in
+    let at : start + end ≡ c.in-Some.end = omega (arith, found.low) in
+    let parts = split_at rest end soh (omega (arith, high)) (get_or-drop start bytes end 0 ∙ ap (λ k. get_or bytes k 0) at ∙ found.there) in
+    let read = fault_read bytes rest (take end rest) (drop (end + 1) rest) fields c.parts.fault c.in-Err.found inv.reads_on parts found.none c.in-Err.ensures in
     record {
       reads_on = subst (λ (t : List ℕ). ReadsOn bytes t fields c.first_of-fault.result) next (subst (λ o. ReadsOn bytes (drop (end + 1) rest) fields o) (sym c.first_of-fault.ensures) read);
       within = inv.within;
@@ -124,14 +122,11 @@ parts-preserved-in-Err c =
       short = omega (arith, found.high);
       few = omega (arith, inv.few, found.low);
       room = inv.room;
-      ahead = found.others;
     }
 
 pub returns-clause-fields : goal.returns-clause-fields
 returns-clause-fields c =
-    let bytes = c.args.bytes.now in
-    let start = c.parts.start in
-    let inv = c.parts.invariant in
-    let none = no_end bytes start inv.short (sym inv.ahead ∙ c.in-None.ensures.steps.0) in
-    all_fields bytes (drop start bytes) (fields_in bytes c.parts.spans.items) c.parts.fault inv.reads_on inv.ends
-    (λ k lt e. none k lt (eq-eqb (get_or (drop start bytes) k 0) 1 e))
+    all_fields c.args.bytes.now (drop c.parts.start c.args.bytes.now) (fields_in c.args.bytes.now c.parts.spans.items) c.parts.fault c.parts.invariant.reads_on c.parts.invariant.ends c.in_default.ensures
+
+pub next_soh-requires : goal.next_soh-requires
+next_soh-requires c = (whole_long c.args.bytes.now c.requires, c.parts.invariant.short)

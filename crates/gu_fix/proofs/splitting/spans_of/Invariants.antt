@@ -1,8 +1,6 @@
-use Rattle.std.proofs.Common.{◌≡◌, ◌≤◌, ◌<◌, ◌+◌, ◌*◌, drop, length}
+use Rattle.std.proofs.Common.{◌≤◌, ◌<◌, ◌-◌, ◌+◌, ◌*◌, drop, length}
 use Rattle.std.specs.Vec.{vec_len, vec_capacity}
-use Rattle.memchr.specs.Find.{is_byte, places_between}
 use Rattle.gu_fix.specs.Spans.{AreWithin, fields_in}
-use Rattle.gu_fix.specs.WholeMessage.{soh}
 use Rattle.gu_fix.proofs.PartsRead.{ReadsOn, EndsWithSoh}
 use Rattle.gu_fix.proofs.splitting.spans_of.Given as goal
 
@@ -14,5 +12,7 @@ invariant-parts l = record {
   short : l.start ≤ length l.bytes;
   few : 4 * vec_len l.spans ≤ l.start;
   room : length l.bytes < 4 * vec_capacity l.spans + 4;
-  ahead : l.end-iterator ≡ places_between (is_byte soh) l.bytes l.start (length l.bytes);
 }
+
+abbrev pub decreases-parts : goal.decreases-parts
+decreases-parts l = length l.bytes - l.start
