@@ -1,5 +1,5 @@
 -- Places that are linked along rows: the last one that passes a test, and one more place.
-use Rattle.std.proofs.Common.{◌≡◌, ◌∙◌, sym, refl, ap, subst, ℕ, zero, suc, ◌+◌, ◌-◌, ◌%◌, ◌<◌, ◌≤◌, ◌==◌, Bool, true, false, cond, List, [], ◌∷◌, ◌++◌, length, get_or, set, take, inl, inr, eq-eqb, arith, get_or-set_same, get_or-set_other, length-append}
+use Rattle.std.proofs.Common.{◌≡◌, ◌∙◌, sym, refl, ap, subst, ℕ, zero, suc, ◌+◌, ◌-◌, ◌*◌, ◌/◌, ◌%◌, ◌<◌, ◌≤◌, ◌==◌, Bool, true, false, cond, List, [], ◌∷◌, ◌++◌, length, get_or, set, take, inl, inr, eq-eqb, arith, get_or-set_same, get_or-set_other, length-append}
 use Rattle.std.proofs.lemmas.Bool.{cases_Bool, cases_eq, eqb-true, false_from_ne_true}
 use Rattle.std.proofs.lemmas.List.{get_or_append_left, get_or_push, get_or-map, get_or_default, length-map, length-set, length-take, map-append, take_more_set}
 use Rattle.std.proofs.Math.Seq.{map-set_same}
@@ -195,47 +195,47 @@ module _ (links : List Link) (last : List ℕ) (number : ℕ) (linked : IsLinked
       ended = get_or-set_same last row (length links + 1) 0 (omega arith) ∙ omega arith
 
 -- what is kept after one more place
-pub places-push : (links new : List Link) (last : List ℕ) (number rows count before : ℕ) → length last ≤ 2147483648 → IsLinked links (length last) → EndsRows links last → length links < length last
-    → rows ≡ length last → before ≡ get_or last (number % rows) before → new ≡ links ++ (record { number = number; before = before }) ∷ [] → count ≡ length new
-    → (length (set last (number % rows) count) ≤ 2147483648) × (length new ≤ length (set last (number % rows) count))
-    × IsLinked new (length (set last (number % rows) count)) × EndsRows new (set last (number % rows) count)
-places-push links new last number rows count before few linked ends room m reads is counts =
+pub places-push : (links new : List Link) (last : List ℕ) (number row count before : ℕ) → length last ≤ 4294967296 → IsLinked links (length last) → EndsRows links last → length links < length last / 2
+    → row ≡ number % length last → before ≡ get_or last row before → new ≡ links ++ (record { number = number; before = before }) ∷ [] → count ≡ length new
+    → (length (set last row count) ≤ 4294967296) × (length new ≤ length (set last row count) / 2)
+    × IsLinked new (length (set last row count)) × EndsRows new (set last row count)
+places-push links new last number row count before few linked ends room own_row reads is counts =
     let some : 0 < length last = omega arith in
-    let inside : number % rows < length last = rw m (omega arith) in
-    let own : before ≡ slice_index last (number % length last) = reads ∙ get_or_default last (number % rows) before 0 inside ∙ ap (λ n. slice_index last (number % n)) m in
+    let inside : row < length last = rw own_row (omega arith) in
+    let own : before ≡ slice_index last (number % length last) = reads ∙ get_or_default last row before 0 inside ∙ ap (slice_index last) own_row in
     let all : new ≡ links ++ link links last number linked ends some ∷ [] = is ∙ ap (λ b. links ++ (record { number = number; before = b }) ∷ []) own in
-    let long : length (set last (number % rows) count) ≡ length last = length-set last (number % rows) count in
+    let long : length (set last row count) ≡ length last = length-set last row count in
     let size : length new ≡ length links + 1 = ap length all ∙ length-append links (link links last number linked ends some ∷ []) in
     let counted : count ≡ length links + 1 = counts ∙ size in (
       omega arith,
       omega arith,
       rw (long, all) (linked-push links last number linked ends some),
-      rw (counted, m, all) (ends-push links last number linked ends some),
+      rw (counted, own_row, all) (ends-push links last number linked ends some),
     )
 
 -- ---- all places again
 
 -- one place more is linked, and keeps its number
-module _ (links : List Link) (last : List ℕ) (place : ℕ) (d : Link) (few : length last ≤ 2147483648) (room : length links < length last) (inside : place < length links)
-    (linked : IsLinked (take place links) (length last)) (ends : EndsRows (take place links) last) where
+module _ (links : List Link) (last : List ℕ) (place row : ℕ) (d : Link) (few : length last ≤ 4294967296) (room : 2 * length links ≤ length last) (inside : place < length links)
+    (linked : IsLinked (take place links) (length last)) (ends : EndsRows (take place links) last) (own_row : row ≡ (get_or links place d).number % length last) where
   -- its number
   abbrev own_number : ℕ
   own_number = (get_or links place d).number
 
   -- its link
   abbrev new_link : Link
-  new_link = record { number = own_number; before = get_or last (own_number % length last) 0 }
+  new_link = record { number = own_number; before = get_or last row 0 }
 
   pub numbers-again : numbers_of (set links place new_link) ≡ numbers_of links
   numbers-again = map-set_same (λ (link : Link). link.number) links place new_link d refl
 
-  pub place-again : IsLinked (take (place + 1) (set links place new_link)) (length (set last (own_number % length last) (place + 1)))
-      × EndsRows (take (place + 1) (set links place new_link)) (set last (own_number % length last) (place + 1))
+  pub place-again : IsLinked (take (place + 1) (set links place new_link)) (length (set last row (place + 1)))
+      × EndsRows (take (place + 1) (set links place new_link)) (set last row (place + 1))
   place-again =
-      let some : own_number % length last < length last = omega arith in
+      let some : row < length last = rw own_row (omega arith) in
       let short : length (take place links) ≡ place = omega (arith, length-take place links) in
       let more = take_more_set links place new_link inside in
-      let all = places-push (take place links) (take (place + 1) (set links place new_link)) last own_number (length last) (place + 1) (get_or last (own_number % length last) 0)
-      few linked ends (omega arith) refl (get_or_default last (own_number % length last) 0 (get_or last (own_number % length last) 0) some) more
+      let all = places-push (take place links) (take (place + 1) (set links place new_link)) last own_number row (place + 1) (get_or last row 0)
+      few linked ends (omega arith) own_row (get_or_default last row 0 (get_or last row 0) some) more
       (sym (ap length more ∙ length-append (take place links) (new_link ∷ []) ∙ ap (λ n. n + 1) short)) in
       (all.2, all.3)

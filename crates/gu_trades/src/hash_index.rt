@@ -1,6 +1,7 @@
 //! Places of a list, found by numbers that are kept of its elements.
 
-ghost use Rattle.std.specs.Prelude.{◌≡◌, ◌+◌, ◌<◌, ◌≤◌, ◌++◌, ◌∷◌, ◌%◌, [], length, slice_index, OnOk, ◌-◌};
+ghost use Rattle.std.specs.Int.{IsPowerOfTwo};
+ghost use Rattle.std.specs.Prelude.{◌≡◌, ◌+◌, ◌*◌, ◌<◌, ◌≤◌, ◌++◌, ◌∷◌, ◌%◌, [], length, slice_index, OnOk, ◌-◌};
 ghost use Rattle.gu_trades.specs.Numbered.{has_number, last_before, number_of};
 ghost use Rattle.gu_trades.specs.HashIndex.{numbers_of, EndsRows, IsLinked};
 
@@ -12,7 +13,7 @@ use std::marker::Model;
 /// As few rows as there are, and as many.
 const FEWEST_ROWS: usize = 16;
 
-const MOST_ROWS: usize = 1 << 31;
+const MOST_ROWS: usize = 1 << 32;
 
 /// The number of a place, and the place before it in its row, counted from 1; 0 where it is the first.
 #[derive(Clone, Copy, Debug)]
@@ -26,7 +27,8 @@ struct Link {
 #[derive(Drop)]
 pub(crate) struct HashIndex {
     links: Vec<Link>,
-    /// The last place of each row, counted from 1; 0 where the row is empty. A number's row is its remainder.
+    /// The last place of each row, counted from 1; 0 where the row is empty. A number's row is its remainder. There are twice as many
+    /// rows as places at least, so that most look-ups of a number that isn't there end at an empty row.
     last: Vec<u32>,
 }
 
@@ -47,6 +49,15 @@ pub(crate) fn number_of<K: Hash + Drop>(seed: &Seed, key: K) -> u32
     ensures { result ≡ number_of seed.now (K.hash_input key) }
 {
     (seed.hash_one(key) >> 32) as u32
+}
+
+/// The row of a number. The rows are a power of two, so its remainder takes no division.
+#[inline(always)]
+fn row_of(number: u32, rows: usize) -> usize
+    requires { IsPowerOfTwo rows }
+    ensures { result ≡ number % rows }
+{
+    number as usize & (rows - 1)
 }
 
 /// The last place with a number, from one back along its row. Places are counted from 1.
@@ -70,7 +81,8 @@ fn along(links: &[Link], rows: usize, from: u32, number: u32) -> u32
 /// Links all places along these rows, whatever they were linked along before.
 fn link_all(links: &mut [Link], last: &mut [u32])
     requires few { length last.old ≤ MOST_ROWS }
-    requires room { length links.old < length last.old }
+    requires power { IsPowerOfTwo (length last.old) }
+    requires room { 2 * length links.old ≤ length last.old }
     ensures numbers { numbers_of links.new ≡ numbers_of links.old }
     ensures rows { length last.new ≡ length last.old }
     ensures linked { IsLinked links.new (length last.new) }
@@ -79,7 +91,7 @@ fn link_all(links: &mut [Link], last: &mut [u32])
     last.fill(0);
     for place in 0..links.len() {
         let number = links[place].number;
-        let row = number as usize % last.len();
+        let row = row_of(number, last.len());
         let before = last[row];
         links[place] = Link { number, before };
         last[row] = place as u32 + 1;
@@ -105,7 +117,7 @@ impl HashIndex {
             return 0;
         }
         let rows = self.last.len();
-        let from = self.last[number as usize % rows];
+        let from = self.last[row_of(number, rows)];
         along(&self.links, rows, from, number)
     }
 
@@ -124,7 +136,7 @@ impl HashIndex {
         ensures numbers { self.new.numbers ≡ self.old.numbers }
         ensures room { OnOk result (0 < self.new.spare) }
     {
-        if self.links.len() < self.last.len() {
+        if self.links.len() < self.last.len() / 2 {
             return Ok(());
         }
         self.grow()
@@ -140,7 +152,7 @@ impl HashIndex {
         if rows > MOST_ROWS {
             return Err(AllocError);
         }
-        self.links.reserve(rows - self.links.len())?;
+        self.links.reserve(rows / 2 - self.links.len())?;
         self.last.resize(rows, 0)?;
         link_all(&mut self.links, &mut self.last);
         Ok(())
@@ -152,7 +164,7 @@ impl HashIndex {
         ensures numbers { self.new.numbers ≡ self.old.numbers ++ number ∷ [] }
         ensures spare { self.old.spare ≤ self.new.spare + 1 }
     {
-        let row = number as usize % self.last.len();
+        let row = row_of(number, self.last.len());
         let before = self.last[row];
         self.links.push_reserved(Link { number, before });
         self.last[row] = self.links.len() as u32;

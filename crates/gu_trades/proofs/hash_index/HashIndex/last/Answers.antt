@@ -9,17 +9,17 @@ use Rattle.gu_trades.proofs.Rows.{end-start, found-along, start-row, start-withi
 use Rattle.gu_trades.proofs.hash_index.HashIndex.last.Goals as goal
 
 -- a number's row ends where it is read
-start : (inside : Inside) (number rows from : ℕ) → IsHashIndex inside → (length inside.last.items == 0) ≡ false → rows ≡ length inside.last.items → from ≡ get_or inside.last.items (number % rows) from
+start : (inside : Inside) (number row from : ℕ) → IsHashIndex inside → (length inside.last.items == 0) ≡ false → row ≡ number % length inside.last.items → from ≡ get_or inside.last.items row from
     → from ≡ last_before (is_in_row (numbers_of inside.links.items) (length inside.last.items) (number % length inside.last.items)) (length inside.links.items)
-start inside number rows from places some is read =
+start inside number row from places some is read =
     let nonempty = eqb-false (length inside.last.items) 0 some in
     let within : number % length inside.last.items < length inside.last.items = omega arith in
-    end-start inside.links.items inside.last.items (number % length inside.last.items) from places.ends within (read ∙ ap (λ n. get_or inside.last.items (number % n) from) is)
+    end-start inside.links.items inside.last.items (number % length inside.last.items) from places.ends within (read ∙ ap (λ n. get_or inside.last.items n from) is)
 
 pub along-requires-clause-within : goal.along-requires-clause-within
 along-requires-clause-within c =
     let some = ap (λ n. n == 0) (sym c.self.inside.last.ok.0) ∙ sym c.is_empty.ensures ∙ c.if-is_empty.false in
-    let begun = start c.self.inside c.args.number c.len-rows.result c.index-from.result.now c.self.invariant some (c.len-rows.ensures ∙ c.self.inside.last.ok.0) c.index-from.ensures in
+    let begun = start c.self.inside c.args.number c.row_of.result c.index-from.result.now c.self.invariant some (c.row_of.ensures ∙ ap (λ rows. c.args.number % rows) (c.len-rows.ensures ∙ c.self.inside.last.ok.0)) c.index-from.ensures in
     rw c.deref.ensures.value
     (start-within (numbers_of c.self.inside.links.items) (length c.self.inside.last.items) (c.args.number % length c.self.inside.last.items) (length c.self.inside.links.items) c.index-from.result.now
     begun (length c.self.inside.links.items) (omega arith))
@@ -27,7 +27,7 @@ along-requires-clause-within c =
 pub along-requires-clause-row : goal.along-requires-clause-row
 along-requires-clause-row c =
     let some = ap (λ n. n == 0) (sym c.self.inside.last.ok.0) ∙ sym c.is_empty.ensures ∙ c.if-is_empty.false in
-    let begun = start c.self.inside c.args.number c.len-rows.result c.index-from.result.now c.self.invariant some (c.len-rows.ensures ∙ c.self.inside.last.ok.0) c.index-from.ensures in
+    let begun = start c.self.inside c.args.number c.row_of.result c.index-from.result.now c.self.invariant some (c.row_of.ensures ∙ ap (λ rows. c.args.number % rows) (c.len-rows.ensures ∙ c.self.inside.last.ok.0)) c.index-from.ensures in
     rw (c.deref.ensures.value, c.len-rows.ensures, c.self.inside.last.ok.0)
     (start-row (numbers_of c.self.inside.links.items) (length c.self.inside.last.items) (c.args.number % length c.self.inside.last.items) (length c.self.inside.links.items) c.index-from.result.now begun)
 
@@ -35,7 +35,7 @@ pub returns : goal.returns
 returns c =
     let links = c.self.inside.links.items in
     let some = ap (λ n. n == 0) (sym c.self.inside.last.ok.0) ∙ sym c.is_empty.ensures ∙ c.if-is_empty.false in
-    let begun = start c.self.inside c.args.number c.len-rows.result c.index-from.result.now c.self.invariant some (c.len-rows.ensures ∙ c.self.inside.last.ok.0) c.index-from.ensures in
+    let begun = start c.self.inside c.args.number c.row_of.result c.index-from.result.now c.self.invariant some (c.row_of.ensures ∙ ap (λ rows. c.args.number % rows) (c.len-rows.ensures ∙ c.self.inside.last.ok.0)) c.index-from.ensures in
     found-along (numbers_of links) (length c.self.inside.last.items) (c.args.number % length c.self.inside.last.items) (length links) c.index-from.result.now begun c.args.number c.along.result refl
     (c.along.ensures ∙ ap (λ ls. last_before (has_number (numbers_of ls) c.args.number) c.index-from.result.now) c.deref.ensures.value)
     ∙ ap (λ n. last_before (has_number (numbers_of links) c.args.number) n) (sym (length-map links (λ (link : Link). link.number)))
