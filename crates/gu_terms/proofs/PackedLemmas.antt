@@ -4,7 +4,7 @@ use Rattle.std.specs.List.{AllPairs, slice_get}
 use Rattle.std.specs.Option.{option_map}
 use Rattle.std.proofs.lemmas.Bool.{cases_eq}
 use Rattle.std.proofs.lemmas.Option.{slice_get-get_or, slice_get-map, slice_get_read}
-use Rattle.std.proofs.lemmas.List.{append-nil, append_assoc, drop-append-le, length-append, get_or-take, length-drop, length-take, length-take-le, map-append, nil_from_length, take-append-le, take-map}
+use Rattle.std.proofs.lemmas.List.{append-nil, append_assoc, drop-append-le, length-append, get_or-take, length-drop, length-take, length-take-le, map-append, take-append-le, take-map}
 use Rattle.std.proofs.lemmas.List.Elements.{All-push, All-take}
 use Rattle.std.proofs.lemmas.List.Quantifiers.{all_pairs_push}
 use Rattle.std.proofs.Math.Seq.{drop-append_seam, take-append_seam}
@@ -49,10 +49,6 @@ map-front texts more [] h = refl
 map-front texts more (k ∷ ks) h =
     ap (λ e. e ∷ map (entry_of (texts ++ more)) ks) (entry_of-front texts more k (h 0 k (omega arith)))
     ∙ ap (λ es. entry_of texts k ∷ es) (map-front texts more ks (λ i d within. h (suc i) d (omega arith)))
-
--- texts without bytes change nothing
-pub none_joined : (all : List ℕ) (t : Texts) → length (joined t) ≡ 0 → all ++ joined t ≡ all
-none_joined all t none = rw (nil_from_length (joined t) none) (append-nil all)
 
 -- a text after others is found where it stands
 text_at-new : (before text more all : List ℕ) (at : ℕ) → all ≡ before ++ (text ++ more) → at ≡ length before → text_at all at (length text) ≡ text

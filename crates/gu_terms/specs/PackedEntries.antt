@@ -158,7 +158,6 @@ pub record AreSound (t : Texts) (kept : Packed) : Type 0 where
 
 -- a reply is this name and what is kept beside it
 pub record IsReplyOf (name : List ℕ) (kept : KeptReply) (reply : Reply) : Type 0 where
-  pub short : length name ≤ 12
   pub sound : IsNameOf name kept
   pub same : reply_by name kept ≡ reply
 

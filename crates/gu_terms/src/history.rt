@@ -10,8 +10,9 @@ use crate::entry::Entry;
 use crate::entry_ref::EntryRef;
 use crate::kept_reply::KeptReply;
 use crate::kept_sweep::KeptSweep;
-use crate::kept_texts::Texts;
+use crate::kept_texts::Given;
 use crate::packed::{Body, Packed};
+use crate::padded::Padded;
 use crate::reply::{Done, Reply};
 use std::alloc::{AllocError, Global};
 use std::marker::Model;
@@ -58,7 +59,7 @@ impl Drop for History {
 fn add(
     entries: &mut Vec<Packed>,
     all: &mut Vec<u8>,
-    texts: &Texts<'_>,
+    texts: &Given<'_>,
     entry: Packed,
 ) -> Result<(), AllocError>
     requires kept { AreKept all.old.items entries.old.items }
@@ -179,7 +180,8 @@ impl History {
         ensures added { OnOk result (self.new ≡ self.old ++ entry_by no_texts body (Reply.Accepted Done.Opened) ∷ []) }
         ensures refused { OnErr result (self.new ≡ self.old) }
     {
-        let texts = Texts::of_reply(&[]);
+        let (id, name) = (Padded::new(&[]), Padded::new(&[]));
+        let texts = Given::of(&id, &name);
         let entry = Packed {
             span: texts.span(self.texts.len() as u32),
             reply: KeptReply::Opened,
@@ -198,18 +200,23 @@ impl History {
         self.push_alone(Body::Whole(entry))
     }
 
-    /// Adds a command with its reply after the others, its texts apart where there is room.
-    fn push_parts<'a>(&mut self, command: &'a Command, reply: &'a Reply) -> Result<(), AllocError>
+    /// Adds a command with its reply after the others, its texts apart where there is room, in place of these.
+    fn push_parts<'a>(
+        &mut self,
+        command: &'a Command,
+        reply: &'a Reply,
+        none: Given<'a>,
+    ) -> Result<(), AllocError>
         ensures added { OnOk result (self.new ≡ self.old ++ Entry.Asked command.now reply.now ∷ []) }
         ensures refused { OnErr result (self.new ≡ self.old) }
     {
         if self.texts.len() > MOST_TEXTS {
             return self.push_whole(command, *reply);
         }
-        let Some((name, kept)) = KeptReply::of(reply) else {
+        let Some((reply, kept)) = KeptReply::of(reply, none.reply) else {
             return self.push_whole(command, *reply);
         };
-        let (texts, body) = Body::of(self.alloc, command, name)?;
+        let (texts, body) = Body::of(self.alloc, command, Given { reply, ..none })?;
         let entry = Packed {
             span: texts.span(self.texts.len() as u32),
             reply: kept,
@@ -223,7 +230,8 @@ impl History {
         ensures added { OnOk result (self.new ≡ self.old ++ Entry.Asked command.now reply ∷ []) }
         ensures refused { OnErr result (self.new ≡ self.old) }
     {
-        self.push_parts(command, &reply)
+        let (id, name) = (Padded::new(&[]), Padded::new(&[]));
+        self.push_parts(command, &reply, Given::of(&id, &name))
     }
 
     /// Adds a sweep after the others.

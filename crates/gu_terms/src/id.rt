@@ -7,7 +7,7 @@ use crate::padded::Padded;
 use std::marker::Model;
 
 /// The bytes that an id has at most.
-const LONGEST_ID: usize = 64;
+pub(crate) const LONGEST_ID: usize = 64;
 
 /// 1 to 64 bytes of printed ASCII without the blank: 0x21 to 0x7E. To a contract it is these bytes.
 #[derive(Clone, Copy, Debug, PartialEq, Eq, Hash)]
@@ -73,6 +73,15 @@ impl Id {
         ensures sound { IsId self.now }
     {
         self.text.get()
+    }
+
+    /// Its bytes, where they are kept.
+    #[inline(always)]
+    pub(crate) fn padded(&self) -> &Padded<LONGEST_ID>
+        ensures bytes { result.now ≡ self.now }
+        ensures sound { IsId self.now }
+    {
+        &self.text
     }
 
     /// Appends its bytes to others that have room for 64 more.

@@ -6,8 +6,9 @@ ghost use Rattle.gu_terms.specs.PackedEntries.{reply_by, IsNameOf, IsReplyOf};
 use crate::group::Group;
 use crate::limit_key::KeyKind;
 use crate::lots::Lots;
-use crate::name::Name;
+use crate::name::{LONGEST_NAME, Name};
 use crate::offer_no::OfferNo;
+use crate::padded::Padded;
 use crate::refusal::Refusal;
 use crate::reply::{Done, Reply};
 
@@ -28,15 +29,17 @@ pub(crate) enum KeptReply {
 }
 
 impl KeptReply {
-    /// The name in a reply, or no bytes, and what is kept beside it. None where there is no room for its count of offers.
-    pub(crate) fn of(reply: &Reply) -> Option<(&[u8], KeptReply)>
+    /// The name in a reply, or another text where it has none, and what is kept beside it. None where there is no room for its count of offers.
+    pub(crate) fn of<'a>(
+        reply: &'a Reply,
+        none: &'a Padded<LONGEST_NAME>,
+    ) -> Option<(&'a Padded<LONGEST_NAME>, KeptReply)>
         ensures { IfSome result (λ kept. IsReplyOf kept.0.now kept.1 reply.now) }
     {
-        let none: &[u8] = &[];
         let done = match reply {
             Reply::Accepted(done) => done,
             Reply::Denied(Refusal::LimitReached(key)) => {
-                return Some((key.name(), KeptReply::LimitReached(KeyKind::of(*key))));
+                return Some((key.padded(), KeptReply::LimitReached(KeyKind::of(*key))));
             }
             Reply::Denied(refusal) => return Some((none, KeptReply::Denied(refusal.code()))),
         };
@@ -54,7 +57,7 @@ impl KeptReply {
                 }
                 let count = *count as u32;
                 return Some((
-                    group.get(),
+                    group.name.padded(),
                     KeptReply::Offered {
                         first: *first,
                         count,

@@ -1,13 +1,18 @@
 //! The texts of an entry, its ids and names, as they lie among those of all entries.
 
-ghost use Rattle.std.specs.Prelude.{◌≡◌, ◌+◌, ◌++◌, ◌≤◌, length, vec_capacity, OnOk, OnErr};
+ghost use Rattle.std.specs.Prelude.{◌≡◌, ◌+◌, ◌++◌, ◌≤◌, length, OnOk, OnErr};
 ghost use Rattle.gu_terms.specs.Names.{IsId, IsName};
-ghost use Rattle.gu_terms.specs.PackedEntries.{joined, no_texts, size_of, span_of, text_at, texts_at};
+ghost use Rattle.gu_terms.specs.PackedEntries.{joined, size_of, span_of, text_at, texts_at, AreShort};
 
 use crate::firm::FirmId;
-use crate::id::Id;
+use crate::id::{Id, LONGEST_ID};
+use crate::name::LONGEST_NAME;
+use crate::padded::Padded;
 use std::alloc::AllocError;
 use std::marker::Model;
+
+/// The bytes that the texts of an entry have at most.
+const LONGEST_TEXTS: usize = 2 * LONGEST_ID + 4 * LONGEST_NAME;
 
 /// At which byte of all texts those of an entry begin, and how many bytes each has, one after the other.
 #[derive(Clone, Copy)]
@@ -32,6 +37,33 @@ pub(crate) struct Texts<'a> {
     pub(crate) fourth: &'a [u8],
     pub(crate) fifth: &'a [u8],
     pub(crate) reply: &'a [u8],
+}
+
+/// The same texts where a command and its reply have them, from where they are appended without a look at their lengths. What there
+/// isn't has no bytes. To a contract it is the texts.
+#[derive(Drop)]
+pub(crate) struct Given<'a> {
+    pub(crate) first: &'a Padded<LONGEST_ID>,
+    pub(crate) second: &'a Padded<LONGEST_ID>,
+    pub(crate) third: &'a Padded<LONGEST_NAME>,
+    pub(crate) fourth: &'a Padded<LONGEST_NAME>,
+    pub(crate) fifth: &'a Padded<LONGEST_NAME>,
+    pub(crate) reply: &'a Padded<LONGEST_NAME>,
+}
+
+impl<'a> Model for Given<'a> {
+    ghost use Rattle.gu_terms.specs.PackedEntries.{Texts as TextsOf};
+
+    ghost Value = { TextsOf };
+
+    ghost view = { λ t. record {
+      first = t.first.now;
+      second = t.second.now;
+      third = t.third.now;
+      fourth = t.fourth.now;
+      fifth = t.fifth.now;
+      reply = t.reply.now;
+    } };
 }
 
 impl<'a> Model for Texts<'a> {
@@ -93,18 +125,6 @@ impl Span {
     }
 }
 
-/// Appends a text, for which there is room.
-#[inline(always)]
-fn put(all: &mut Vec<u8>, text: &[u8])
-    requires { length all.old.items + length text.now ≤ vec_capacity all.old }
-    ensures text { all.new.items ≡ all.old.items ++ text.now }
-    ensures room { vec_capacity all.old ≤ vec_capacity all.new }
-{
-    if !text.is_empty() {
-        let _ = all.extend_from_slice(text);
-    }
-}
-
 /// So many bytes of all texts from a place on.
 fn text_at(all: &[u8], at: usize, len: u8) -> &[u8]
     requires { at + len ≤ length all.now }
@@ -113,18 +133,17 @@ fn text_at(all: &[u8], at: usize, len: u8) -> &[u8]
     &all[at..at + usize::from(len)]
 }
 
-impl<'a> Texts<'a> {
-    /// The name in a reply, and no other text.
-    pub(crate) fn of_reply(name: &'a [u8]) -> Self
-        requires { length name.now ≤ 12 }
-        ensures { result ≡ record no_texts { reply = name.now } }
+impl<'a> Given<'a> {
+    /// This id, twice, and this name wherever there is one.
+    pub(crate) fn of(id: &'a Padded<LONGEST_ID>, name: &'a Padded<LONGEST_NAME>) -> Self
+        ensures { result ≡ record { first = id.now; second = id.now; third = name.now; fourth = name.now; fifth = name.now; reply = name.now } }
     {
-        Texts {
-            first: &[],
-            second: &[],
-            third: &[],
-            fourth: &[],
-            fifth: &[],
+        Given {
+            first: id,
+            second: id,
+            third: name,
+            fourth: name,
+            fifth: name,
             reply: name,
         }
     }
@@ -134,8 +153,8 @@ impl<'a> Texts<'a> {
         ensures texts { result ≡ record self.entry { fifth = firm.now.name } }
         ensures sound { IsName firm.now.name }
     {
-        let fifth = firm.get();
-        Texts { fifth, ..self }
+        let fifth = firm.name.padded();
+        Given { fifth, ..self }
     }
 
     /// These texts with two ids.
@@ -143,57 +162,41 @@ impl<'a> Texts<'a> {
         ensures texts { result ≡ record self.entry { first = first.now; second = second.now } }
         ensures sound { IsId first.now × IsId second.now }
     {
-        Texts {
-            first: first.get(),
-            second: second.get(),
+        Given {
+            first: first.padded(),
+            second: second.padded(),
             ..self
         }
     }
 
     /// Where they lie, from a place on.
     pub(crate) fn span(&self, at: u32) -> Span
-        ensures { result ≡ span_of at self.now }
+        ensures span { result ≡ span_of at self.now }
+        ensures short { AreShort self.now }
     {
         Span {
             at,
-            first: self.first.len() as u8,
-            second: self.second.len() as u8,
-            third: self.third.len() as u8,
-            fourth: self.fourth.len() as u8,
-            fifth: self.fifth.len() as u8,
-            reply: self.reply.len() as u8,
+            first: self.first.size(),
+            second: self.second.size(),
+            third: self.third.size(),
+            fourth: self.fourth.size(),
+            fifth: self.fifth.size(),
+            reply: self.reply.size(),
         }
     }
 
-    /// How many bytes they have together.
-    fn len(&self) -> usize
-        ensures { result ≡ length (joined self.now) }
-    {
-        self.first.len()
-            + self.second.len()
-            + self.third.len()
-            + self.fourth.len()
-            + self.fifth.len()
-            + self.reply.len()
-    }
-
-    #[tactic(auto, using(crate::proofs::PackedLemmas::none_joined))]
     /// Appends them to all texts, or none.
     pub(crate) fn append(&self, all: &mut Vec<u8>) -> Result<(), AllocError>
         ensures appended { OnOk result (all.new.items ≡ all.old.items ++ joined self.now) }
         ensures refused { OnErr result (all.new.items ≡ all.old.items) }
     {
-        let len = self.len();
-        if len == 0 {
-            return Ok(());
-        }
-        all.reserve(len)?;
-        put(all, self.first);
-        put(all, self.second);
-        put(all, self.third);
-        put(all, self.fourth);
-        put(all, self.fifth);
-        put(all, self.reply);
+        all.reserve(LONGEST_TEXTS)?;
+        self.first.append_to(all);
+        self.second.append_to(all);
+        self.third.append_to(all);
+        self.fourth.append_to(all);
+        self.fifth.append_to(all);
+        self.reply.append_to(all);
         Ok(())
     }
 }

@@ -7,7 +7,8 @@ ghost use Rattle.gu_terms.specs.Names.{IsName};
 use crate::account::AccountId;
 use crate::agreement::AgreementId;
 use crate::firm::FirmId;
-use crate::name::Name;
+use crate::name::{LONGEST_NAME, Name};
+use crate::padded::Padded;
 
 /// What a daily lot limit is set on, in one product group.
 #[derive(Clone, Copy, Debug, PartialEq, Eq, Hash)]
@@ -63,6 +64,20 @@ impl LimitKey {
             LimitKey::Exec(firm) | LimitKey::Carry(firm) | LimitKey::Guar(firm) => firm.get(),
             LimitKey::Agr(agreement) => agreement.get(),
             LimitKey::Acct(account) => account.get(),
+        }
+    }
+
+    /// The same name, where it is kept.
+    pub(crate) fn padded(&self) -> &Padded<LONGEST_NAME>
+        ensures name { result.now ≡ name_of_key self.now }
+        ensures sound { IsName (name_of_key self.now) }
+    {
+        match self {
+            LimitKey::Exec(firm) | LimitKey::Carry(firm) | LimitKey::Guar(firm) => {
+                firm.name.padded()
+            }
+            LimitKey::Agr(agreement) => agreement.name.padded(),
+            LimitKey::Acct(account) => account.name.padded(),
         }
     }
 

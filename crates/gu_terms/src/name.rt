@@ -15,7 +15,7 @@ use std::hash::{Hash, Hasher};
 use std::marker::Model;
 
 /// The bytes that a name has at most.
-const LONGEST_NAME: usize = 12;
+pub(crate) const LONGEST_NAME: usize = 12;
 
 /// 1 to 12 bytes of A-Z, 0-9 and `-`. To a contract it is these bytes.
 #[derive(Clone, Copy, Debug)]
@@ -129,6 +129,15 @@ impl Name {
         ensures sound { IsName self.now }
     {
         self.text.get()
+    }
+
+    /// Its bytes, where they are kept.
+    #[inline(always)]
+    pub(crate) fn padded(&self) -> &Padded<LONGEST_NAME>
+        ensures bytes { result.now ≡ self.now }
+        ensures sound { IsName self.now }
+    {
+        &self.text
     }
 
     /// Appends its bytes to others that have room for 12 more.

@@ -1,12 +1,12 @@
 //! Commands taken apart, as a history keeps them.
 
-ghost use Rattle.std.specs.Prelude.{◌≡◌, ◌≤◌, length, IfOk};
+ghost use Rattle.std.specs.Prelude.{◌≡◌, IfOk};
 ghost use Rattle.gu_terms.specs.Names.{IsId, IsName};
 ghost use Rattle.gu_terms.specs.PackedEntries.{firm_by, IsCommandOf};
 
 use crate::command::Command;
 use crate::group::Group;
-use crate::kept_texts::Texts;
+use crate::kept_texts::Given;
 use crate::limit_key::{KeyKind, LimitKey};
 use crate::lines::Lines;
 use crate::packed::{Body, KeptReport};
@@ -14,16 +14,16 @@ use std::alloc::{AllocError, Global};
 
 /// A limit taken apart, its group and the name of its key added to these texts.
 fn limit_parts<'a>(
-    texts: Texts<'a>,
+    texts: Given<'a>,
     group: &'a Group,
     key: &'a LimitKey,
     lots: u64,
-) -> (Texts<'a>, Body)
+) -> (Given<'a>, Body)
     ensures { IsCommandOf result.0 result.1 (Command.SetLimit group.now key.now lots) texts.entry.reply }
 {
-    let texts = Texts {
-        third: group.get(),
-        fourth: key.name(),
+    let texts = Given {
+        third: group.name.padded(),
+        fourth: key.padded(),
         ..texts
     };
     let kind = KeyKind::of(*key);
@@ -33,9 +33,9 @@ fn limit_parts<'a>(
 /// A give-up of these lines taken apart, the account of one line added to its other texts.
 fn give_up_parts<'a>(
     alloc: Global,
-    texts: Texts<'a>,
+    texts: Given<'a>,
     lines: &'a Lines,
-) -> Result<(Texts<'a>, Body), AllocError>
+) -> Result<(Given<'a>, Body), AllocError>
     requires ids { IsId texts.first × IsId texts.second }
     requires firm { IsName texts.fifth }
     ensures { IfOk result (λ parts. IsCommandOf parts.0 parts.1
@@ -45,22 +45,20 @@ fn give_up_parts<'a>(
         let lines = Box::new(alloc, lines.copy()?)?;
         return Ok((texts, Body::GiveUp(lines)));
     };
-    let fourth = line.account.get();
+    let fourth = line.account.name.padded();
     let lots = line.lots;
-    Ok((Texts { fourth, ..texts }, Body::GiveUpOne { lots }))
+    Ok((Given { fourth, ..texts }, Body::GiveUpOne { lots }))
 }
 
 impl Body {
-    /// A command taken apart: its texts, with the name in its reply, and what is kept beside them.
+    /// A command taken apart: its texts in place of others, but for the name in its reply, and what is kept beside them.
     pub(crate) fn of<'a>(
         alloc: Global,
         command: &'a Command,
-        name: &'a [u8],
-    ) -> Result<(Texts<'a>, Body), AllocError>
-        requires { length name.now ≤ 12 }
-        ensures { IfOk result (λ parts. IsCommandOf parts.0 parts.1 command.now name.now) }
+        texts: Given<'a>,
+    ) -> Result<(Given<'a>, Body), AllocError>
+        ensures { IfOk result (λ parts. IsCommandOf parts.0 parts.1 command.now texts.entry.reply) }
     {
-        let texts = Texts::of_reply(name);
         Ok(match command {
             Command::OpenDay { day } => (texts, Body::OpenDay { day: *day }),
             Command::SetLimit { group, key, lots } => limit_parts(texts, group, key, *lots),
@@ -75,9 +73,9 @@ impl Body {
                 side,
                 account,
             } => {
-                let texts = Texts {
-                    third: symbol.get(),
-                    fourth: account.get(),
+                let texts = Given {
+                    third: symbol.name.padded(),
+                    fourth: account.name.padded(),
                     ..texts.with_firm(firm).with_ids(id, match_id)
                 };
                 let report = KeptReport {

@@ -72,6 +72,14 @@ impl<const N: usize> Padded<N> {
         self.len as usize
     }
 
+    /// The bytes that it has, which are no more than its room.
+    pub(crate) fn size(&self) -> u8
+        ensures size { result ≡ length self.now }
+        ensures within { length self.now ≤ N }
+    {
+        self.len
+    }
+
     /// The text with the zeros after it: `N` bytes.
     pub fn with_zeros(&self) -> &[u8; N]
         ensures { result.now ≡ padded N self.now }
