@@ -1,6 +1,6 @@
 //! Prices.
 
-ghost use Rattle.std.specs.Prelude.{◌≡◌, ◌↔◌, ◌<◌, ◌≤◌, ℕ, ℤ, pos, neg_ℤ, if◌then◌else◌, List, IsSome, IfSome, IfOk, IsErrOf, MatchOption};
+ghost use Rattle.std.specs.Prelude.{◌≡◌, ◌↔◌, ◌<◌, ◌≤◌, ◌^◌, ℕ, ℤ, pos, neg_ℤ, if◌then◌else◌, List, IsSome, IfSome, IfOk, IsErrOf, MatchOption};
 ghost use Rattle.std.specs.Str.Parse.{AllDigits};
 ghost use Rattle.gu_terms.specs.Numbers.{IsPrice};
 ghost use Rattle.gu_terms.specs.NumberText.{CountsMillionths, IsNumberText, IsTakenApart, MeansPrice};
@@ -58,6 +58,22 @@ impl Price {
     }
 }
 
+/// Ten to a power of six at most, by a look-up.
+fn power_of_ten(power: usize) -> u64
+    requires { power ≤ 6 }
+    ensures { result ≡ 10 ^ power }
+{
+    match power {
+        0 => 1,
+        1 => 10,
+        2 => 100,
+        3 => 1_000,
+        4 => 10_000,
+        5 => 100_000,
+        _ => 1_000_000,
+    }
+}
+
 /// The millionths that digits after a point mean, where they are whole ones.
 fn millionths_of(fraction: &[u8]) -> Option<u64>
     requires { AllDigits 10 fraction.now }
@@ -70,7 +86,7 @@ fn millionths_of(fraction: &[u8]) -> Option<u64>
     let Some(value) = value_of(&fraction[..count], 1_000_000) else {
         return None;
     };
-    Some(value * 10_u64.pow((PLACES - count) as u32))
+    Some(value * power_of_ten(PLACES - count))
 }
 
 /// The price that a text's parts mean.

@@ -17,7 +17,7 @@ pub returns : goal.returns
 returns c =
     let tells = simp take_rest at c.is_zero.ensures in
     let counts = front_counts c.args.fraction.now c.min-count.result (6 - c.min-count.result) c.min-count.ensures refl (tells.0 c.if-not-is_zero.false) in
-    let product : digits_value 10 (take c.min-count.result c.args.fraction.now) * 10 ^ (6 - c.min-count.result) ≡ c.in-Some.value * c.pow.result =
-    ap (λ (n : ℕ). n * 10 ^ (6 - c.min-count.result)) (sym c.in-Some.ensures.0) ∙ ap (λ (n : ℕ). c.in-Some.value * n) (sym c.pow.ensures) in
+    let product : digits_value 10 (take c.min-count.result c.args.fraction.now) * 10 ^ (6 - c.min-count.result) ≡ c.in-Some.value * c.power_of_ten.result =
+    ap (λ (n : ℕ). n * 10 ^ (6 - c.min-count.result)) (sym c.in-Some.ensures.0) ∙ ap (λ (n : ℕ). c.in-Some.value * n) (sym c.power_of_ten.ensures) in
     let all = subst (λ (n : ℕ). CountsMillionths c.args.fraction.now n) product counts in
     (millionths_are_few c.args.fraction.now _ c.requires all, all)
