@@ -1,6 +1,6 @@
 //! The texts of an entry, its ids and names, as they lie among those of all entries.
 
-ghost use Rattle.std.specs.Prelude.{◌≡◌, ◌+◌, ◌++◌, ◌≤◌, length, OnOk, OnErr};
+ghost use Rattle.std.specs.Prelude.{◌≡◌, ◌+◌, ◌++◌, ◌≤◌, length, vec_capacity, OnOk, OnErr};
 ghost use Rattle.gu_terms.specs.Names.{IsId, IsName};
 ghost use Rattle.gu_terms.specs.PackedEntries.{joined, size_of, span_of, text_at, texts_at, AreShort};
 
@@ -125,6 +125,19 @@ impl Span {
     }
 }
 
+/// Appends a text, for which there is room, where it has bytes.
+#[inline(always)]
+fn put<const N: usize>(all: &mut Vec<u8>, text: &Padded<N>)
+    requires { length all.old.items + N ≤ vec_capacity all.old }
+    ensures text { all.new.items ≡ all.old.items ++ text.now }
+    ensures room { vec_capacity all.old ≤ vec_capacity all.new }
+    ensures short { length text.now ≤ N }
+{
+    if text.size() > 0 {
+        text.append_to(all);
+    }
+}
+
 /// So many bytes of all texts from a place on.
 fn text_at(all: &[u8], at: usize, len: u8) -> &[u8]
     requires { at + len ≤ length all.now }
@@ -191,12 +204,12 @@ impl<'a> Given<'a> {
         ensures refused { OnErr result (all.new.items ≡ all.old.items) }
     {
         all.reserve(LONGEST_TEXTS)?;
-        self.first.append_to(all);
-        self.second.append_to(all);
-        self.third.append_to(all);
-        self.fourth.append_to(all);
-        self.fifth.append_to(all);
-        self.reply.append_to(all);
+        put(all, self.first);
+        put(all, self.second);
+        put(all, self.third);
+        put(all, self.fourth);
+        put(all, self.fifth);
+        put(all, self.reply);
         Ok(())
     }
 }
