@@ -1,5 +1,5 @@
 -- Places that are linked along rows: the last one that passes a test, and one more place.
-use Rattle.std.proofs.Common.{◌≡◌, ◌∙◌, sym, refl, ap, subst, ℕ, zero, suc, ◌+◌, ◌-◌, ◌*◌, ◌/◌, ◌%◌, ◌<◌, ◌≤◌, ◌==◌, Bool, true, false, cond, List, [], ◌∷◌, ◌++◌, length, get_or, set, take, inl, inr, eq-eqb, arith, get_or-set_same, get_or-set_other, length-append}
+use Rattle.std.proofs.Common.{◌≡◌, ◌∙◌, sym, refl, ap, subst, ℕ, zero, suc, ◌+◌, ◌-◌, ◌%◌, ◌<◌, ◌≤◌, ◌==◌, Bool, true, false, cond, List, [], ◌∷◌, ◌++◌, length, get_or, set, take, inl, inr, eq-eqb, arith, get_or-set_same, get_or-set_other, length-append}
 use Rattle.std.proofs.lemmas.Bool.{cases_Bool, cases_eq, eqb-true, false_from_ne_true}
 use Rattle.std.proofs.lemmas.List.{get_or_append_left, get_or_push, get_or-map, get_or_default, length-map, length-set, length-take, map-append, take_more_set}
 use Rattle.std.proofs.Math.Seq.{map-set_same}
@@ -195,9 +195,9 @@ module _ (links : List Link) (last : List ℕ) (number : ℕ) (linked : IsLinked
       ended = get_or-set_same last row (length links + 1) 0 (omega arith) ∙ omega arith
 
 -- what is kept after one more place
-pub places-push : (links new : List Link) (last : List ℕ) (number row count before : ℕ) → length last ≤ 4294967296 → IsLinked links (length last) → EndsRows links last → length links < length last / 2
+pub places-push : (links new : List Link) (last : List ℕ) (number row count before : ℕ) → length last ≤ 2147483648 → IsLinked links (length last) → EndsRows links last → length links < length last
     → row ≡ number % length last → before ≡ get_or last row before → new ≡ links ++ (record { number = number; before = before }) ∷ [] → count ≡ length new
-    → (length (set last row count) ≤ 4294967296) × (length new ≤ length (set last row count) / 2)
+    → (length (set last row count) ≤ 2147483648) × (length new ≤ length (set last row count))
     × IsLinked new (length (set last row count)) × EndsRows new (set last row count)
 places-push links new last number row count before few linked ends room own_row reads is counts =
     let some : 0 < length last = omega arith in
@@ -216,7 +216,7 @@ places-push links new last number row count before few linked ends room own_row 
 -- ---- all places again
 
 -- one place more is linked, and keeps its number
-module _ (links : List Link) (last : List ℕ) (place row : ℕ) (d : Link) (few : length last ≤ 4294967296) (room : 2 * length links ≤ length last) (inside : place < length links)
+module _ (links : List Link) (last : List ℕ) (place row : ℕ) (d : Link) (few : length last ≤ 2147483648) (room : length links < length last) (inside : place < length links)
     (linked : IsLinked (take place links) (length last)) (ends : EndsRows (take place links) last) (own_row : row ≡ (get_or links place d).number % length last) where
   -- its number
   abbrev own_number : ℕ

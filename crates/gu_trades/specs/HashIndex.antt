@@ -1,6 +1,6 @@
 -- Machinery: places of a list, found by numbers that are kept of its elements.
 use Rattle.std.specs.Int.{IsPowerOfTwo}
-use Rattle.std.specs.Prelude.{◌≡◌, ℕ, ◌-◌, ◌/◌, ◌%◌, ◌<◌, ◌≤◌, ◌==◌, Bool, List, length, map, slice_index, slice_index_or, vec_capacity}
+use Rattle.std.specs.Prelude.{◌≡◌, ℕ, ◌-◌, ◌%◌, ◌<◌, ◌≤◌, ◌==◌, Bool, List, length, map, slice_index, slice_index_or, vec_capacity}
 use Rattle.gu_trades.specs.declared.hash_index.Link.{Link}
 use Rattle.gu_trades.specs.declared.hash_index.HashIndex.TheInside.{Inside}
 use Rattle.gu_trades.specs.Numbered.{Numbered, last_before}
@@ -28,12 +28,12 @@ EndsRows links last =
 
 -- the places that can be kept without memory
 abbrev pub numbered : Inside → Numbered
-numbered p = record { numbers = numbers_of p.links.items; spare = length p.last.items / 2 - length p.links.items }
+numbered p = record { numbers = numbers_of p.links.items; spare = length p.last.items - length p.links.items }
 
 pub record IsHashIndex (p : Inside) : Type 0 where
-  pub few : length p.last.items ≤ 4294967296
+  pub few : length p.last.items ≤ 2147483648
   pub power : 0 < length p.last.items → IsPowerOfTwo (length p.last.items)
-  pub within : length p.links.items ≤ length p.last.items / 2
-  pub room : length p.last.items / 2 ≤ vec_capacity p.links
+  pub within : length p.links.items ≤ length p.last.items
+  pub room : length p.last.items ≤ vec_capacity p.links
   pub linked : IsLinked p.links.items (length p.last.items)
   pub ends : EndsRows p.links.items p.last.items

@@ -1,7 +1,7 @@
 //! Places of a list, found by numbers that are kept of its elements.
 
 ghost use Rattle.std.specs.Int.{IsPowerOfTwo};
-ghost use Rattle.std.specs.Prelude.{◌≡◌, ◌+◌, ◌*◌, ◌<◌, ◌≤◌, ◌++◌, ◌∷◌, ◌%◌, [], length, slice_index, OnOk, ◌-◌};
+ghost use Rattle.std.specs.Prelude.{◌≡◌, ◌+◌, ◌<◌, ◌≤◌, ◌++◌, ◌∷◌, ◌%◌, [], length, slice_index, OnOk, ◌-◌};
 ghost use Rattle.gu_trades.specs.Numbered.{has_number, last_before, number_of};
 ghost use Rattle.gu_trades.specs.HashIndex.{numbers_of, EndsRows, IsLinked};
 
@@ -13,7 +13,7 @@ use std::marker::Model;
 /// As few rows as there are, and as many.
 const FEWEST_ROWS: usize = 16;
 
-const MOST_ROWS: usize = 1 << 32;
+const MOST_ROWS: usize = 1 << 31;
 
 /// The number of a place, and the place before it in its row, counted from 1; 0 where it is the first.
 #[derive(Clone, Copy, Debug)]
@@ -27,8 +27,7 @@ struct Link {
 #[derive(Drop)]
 pub(crate) struct HashIndex {
     links: Vec<Link>,
-    /// The last place of each row, counted from 1; 0 where the row is empty. A number's row is its remainder. There are twice as many
-    /// rows as places at least, so that most look-ups of a number that isn't there end at an empty row.
+    /// The last place of each row, counted from 1; 0 where the row is empty. A number's row is its remainder.
     last: Vec<u32>,
 }
 
@@ -82,7 +81,7 @@ fn along(links: &[Link], rows: usize, from: u32, number: u32) -> u32
 fn link_all(links: &mut [Link], last: &mut [u32])
     requires few { length last.old ≤ MOST_ROWS }
     requires power { IsPowerOfTwo (length last.old) }
-    requires room { 2 * length links.old ≤ length last.old }
+    requires room { length links.old < length last.old }
     ensures numbers { numbers_of links.new ≡ numbers_of links.old }
     ensures rows { length last.new ≡ length last.old }
     ensures linked { IsLinked links.new (length last.new) }
@@ -136,7 +135,7 @@ impl HashIndex {
         ensures numbers { self.new.numbers ≡ self.old.numbers }
         ensures room { OnOk result (0 < self.new.spare) }
     {
-        if self.links.len() < self.last.len() / 2 {
+        if self.links.len() < self.last.len() {
             return Ok(());
         }
         self.grow()
@@ -152,7 +151,7 @@ impl HashIndex {
         if rows > MOST_ROWS {
             return Err(AllocError);
         }
-        self.links.reserve(rows / 2 - self.links.len())?;
+        self.links.reserve(rows - self.links.len())?;
         self.last.resize(rows, 0)?;
         link_all(&mut self.links, &mut self.last);
         Ok(())

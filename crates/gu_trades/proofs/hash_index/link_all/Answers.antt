@@ -1,4 +1,4 @@
-use Rattle.std.proofs.Common.{◌∙◌, ◌*◌, ◌<◌, ◌≤◌, subst, length, arith}
+use Rattle.std.proofs.Common.{◌∙◌, ◌<◌, ◌≤◌, subst, length, arith}
 use Rattle.std.proofs.lemmas.List.{length-set, take_all}
 use Rattle.gu_trades.specs.HashIndex.{IsLinked}
 use Rattle.gu_trades.specs.declared.hash_index.Link.{Link}
@@ -9,8 +9,8 @@ pub loop-place-preserved : goal.loop-place-preserved
 loop-place-preserved c =
     let d : Link = record { number = 0; before = 0 } in
     let kept = c.loop-place.invariant in
-    let few : length c.loop-place.last ≤ 4294967296 = omega arith in
-    let room : 2 * length c.loop-place.links ≤ length c.loop-place.last = omega arith in
+    let few : length c.loop-place.last ≤ 2147483648 = omega arith in
+    let room : length c.loop-place.links < length c.loop-place.last = omega arith in
     let inside : c.loop-place.place < length c.loop-place.links = omega arith in
     let own_row = c.row_of-row.ensures in
     let again = place-again c.loop-place.links c.loop-place.last c.loop-place.place c.row_of-row.result d few room inside kept.linked kept.ends own_row in

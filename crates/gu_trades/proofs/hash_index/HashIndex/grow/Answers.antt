@@ -1,4 +1,4 @@
-use Rattle.std.proofs.Common.{rules, ◌≡◌, ◌∙◌, sym, ap, subst, max, ◌*◌, ◌/◌, ◌≤◌, length, arith}
+use Rattle.std.proofs.Common.{rules, ◌≡◌, ◌∙◌, sym, ap, subst, max, ◌*◌, ◌≤◌, length, arith}
 use Rattle.std.proofs.lemmas.List.{length-map, with_items_is}
 use Rattle.std.specs.Int.{IsPowerOfTwo}
 use Rattle.std.specs.Prelude.{vec_capacity}
@@ -16,7 +16,7 @@ invariant_of-self-2 c =
     sym (length-map c.link_all.new.links (λ (link : Link). link.number)) ∙ ap length c.link_all.ensures.numbers ∙ length-map _ _ ∙ search rules in
     let all_links = with_items_is c.reserve.new.self c.link_all.new.links (search rules) in
     let all_last = with_items_is c.resize.new.self c.link_all.new.last (search rules) in
-    let room : length c.link_all.new.last / 2 ≤ vec_capacity c.reserve.new.self = search rules in
+    let room : length c.link_all.new.last ≤ vec_capacity c.reserve.new.self = search rules in
     record {
       few = rw all_last (omega arith);
       power = λ some. subst IsPowerOfTwo (sym (ap length all_last ∙ rows)) (twice_rows (length c.self.inside.last.items) c.self.invariant.power);
