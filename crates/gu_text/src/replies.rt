@@ -6,7 +6,9 @@ ghost use Rattle.gu_terms.specs.LimitKeys.{kind_of};
 ghost use Rattle.gu_text.specs.Replies.{done_words, key_words, refusal_words, reply_text};
 ghost use Rattle.gu_text.specs.Texts.{last_word, line_of};
 
-use crate::reserved::{LINE_ROOM, put_ended, put_last_number, put_last_word, put_number, put_word};
+use crate::reserved::{
+    LINE_ROOM, put, put_ended, put_last_number, put_last_word, put_number, put_word,
+};
 use gu_terms::{Done, LimitKey, Lots, OfferNo, Refusal, Reply};
 use itoa::Buffer;
 use std::alloc::{AllocError, Global};
@@ -53,17 +55,8 @@ fn put_lots(output: &mut Vec<u8>, lots: Lots)
     requires { vec_len output.old + 63 ≤ vec_capacity output.old }
     ensures { output.new.items ≡ output.old.items ++ line_of (codes "OK" ∷ codes "LOTS" ∷ decimal lots ∷ []) }
 {
-    put_word(output, b"OK");
-    put_word(output, b"LOTS");
+    put(output, b"OK LOTS ");
     put_last_number(output, lots.get());
-}
-
-/// The word for a report: whether it made a trade.
-fn report_word(matched: bool) -> &'static [u8]
-    ensures word { done_words (Done.Reported matched) ≡ result.now ∷ [] }
-    ensures short { length result.now ≤ 20 }
-{
-    if matched { b"MATCHED" } else { b"OPEN" }
 }
 
 /// Puts what an accepted command did, which ends the line, onto room that is there.
@@ -72,18 +65,15 @@ fn put_done(output: &mut Vec<u8>, done: Done)
     ensures { output.new.items ≡ output.old.items ++ line_of (codes "OK" ∷ done_words done) }
 {
     match done {
-        Done::Opened | Done::LimitSet => put_last_word(output, b"OK"),
-        Done::Reported { matched } => {
-            put_word(output, b"OK");
-            put_last_word(output, report_word(matched));
-        }
+        Done::Opened | Done::LimitSet => put(output, b"OK\n"),
+        Done::Reported { matched: true } => put(output, b"OK MATCHED\n"),
+        Done::Reported { matched: false } => put(output, b"OK OPEN\n"),
         Done::Offered {
             group: _,
             first,
             count,
         } => {
-            put_word(output, b"OK");
-            put_word(output, b"OFFERS");
+            put(output, b"OK OFFERS ");
             put_number(output, first.get());
             put_last_offer(output, first, count);
         }

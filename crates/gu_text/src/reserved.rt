@@ -9,6 +9,19 @@ use itoa::Buffer;
 /// The room that a line is given: eight words of at most 20 bytes, each with the byte that ends it.
 pub(crate) const LINE_ROOM: usize = 168;
 
+/// Puts bytes after a text.
+#[inline(always)]
+pub(crate) fn put(output: &mut Vec<u8>, bytes: &[u8])
+    requires { vec_len output.old + length bytes.now ≤ vec_capacity output.old }
+    ensures items { output.new.items ≡ output.old.items ++ bytes.now }
+    ensures len { vec_len output.new ≡ vec_len output.old + length bytes.now }
+    ensures capacity { vec_capacity output.old ≤ vec_capacity output.new }
+{
+    let Ok(()) = output.extend_from_slice(bytes) else {
+        unreachable!();
+    };
+}
+
 /// Puts a word and the byte that ends it after a text.
 #[inline(always)]
 pub(crate) fn put_ended(output: &mut Vec<u8>, bytes: &[u8], end: u8)
@@ -17,9 +30,7 @@ pub(crate) fn put_ended(output: &mut Vec<u8>, bytes: &[u8], end: u8)
     ensures len { vec_len output.new ≡ vec_len output.old + length bytes.now + 1 }
     ensures capacity { vec_capacity output.old ≤ vec_capacity output.new }
 {
-    let Ok(()) = output.extend_from_slice(bytes) else {
-        unreachable!();
-    };
+    put(output, bytes);
     output.push_reserved(end);
 }
 
