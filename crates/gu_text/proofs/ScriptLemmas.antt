@@ -1,5 +1,6 @@
 -- A line of a script is read.
-use Rattle.std.proofs.Common.{◌≡◌, ◌≢◌, ◌∷◌, [], ◌∙◌, ◌<◌, ◌≤◌, ℕ, true, false, List, Option, None, Some, length, MatchOption, IsTrue, IsErrOf, IfOk, Result, Ok, Err, refl, sym, ap, subst, arith}
+use Rattle.std.proofs.Common.{◌≡◌, ◌≢◌, ◌∷◌, [], ◌∙◌, ◌<◌, ◌≤◌, ℕ, true, false, List, Option, None, Some, length, MatchOption, IsErrOf, Result, refl, sym, ap, subst, arith}
+use Rattle.std.specs.Option.{is_some}
 use Rattle.gu_terms.specs.declared.command.Command.TheVariants.{OpenDay, SetLimit, ReportSide, GiveUp, Claim, Refuse, Reverse}
 use Rattle.gu_world.specs.declared.step.Step.TheVariants.{Enter, See, Propose, Commit}
 use Rattle.gu_text.specs.Lines.{is_silent, longest_line}
@@ -121,11 +122,10 @@ begun_said text f words read is reads =
     words_said text read is.speaks is.short is.even
     (subst (λ (ws : List (List ℕ)). ReadsWords ws read) (sym is.words_are) (begun words f read reads))
 
--- a line of which something is told says it
-pub told_says : (text : List ℕ) (number : ℕ) (result : Result (Option Line) TextError) → IsTold text number result → IfOk result (λ said. MatchOption said (IsTrue (is_silent text)) (Says text))
-told_says text number (Ok (Some said)) told = told
-told_says text number (Ok None) told = absurd told
-told_says text number (Err error) told = tt
+-- and is bad where nothing is read of them
+pub unread_bad : (text : List ℕ) (f : Form) (words : List (List ℕ)) (read : Option Line) → IsBegun text f words → Reads f words read → is_some read ≡ false → IsBad text
+unread_bad text f words None is reads none = begun_said text f words None is reads
+unread_bad text f words (Some said) is reads none = let both : true ≡ false = none in cc
 
 -- a line that is told to be bad is
 pub told_bad : (text : List ℕ) (number : ℕ) (result : Result (Option Line) TextError) → IsTold text number result → (n : ℕ) → IsErrOf result (BadLine n) → (n ≡ number) × IsBad text

@@ -158,6 +158,7 @@ fn lines_said(alloc: Global, words: &[u8]) -> Result<Option<Lines>, AllocError>
 }
 
 /// A give-up: the firm, its ids of the give-up and of the report, and accounts with lots.
+#[inline(never)]
 pub(crate) fn give_up_said(alloc: Global, words: &[u8]) -> Result<Option<Line>, AllocError>
     ensures { IfOk result (Reads Form.GiveUp (words_of words.now)) }
 {

@@ -1,8 +1,8 @@
 //! What a line of a script says.
 
-ghost use Rattle.std.specs.Prelude.{◌≡◌, ◌≢◌, ℕ, List, false, IfOk, IsErrOf, IsTrue, MatchOption};
+ghost use Rattle.std.specs.Prelude.{◌≡◌, ℕ, false, IfOk, IsErrOf, IsTrue, MatchOption};
 ghost use Rattle.gu_text.specs.Lines.{is_silent};
-ghost use Rattle.gu_text.specs.ScriptForms.{IsBegun, IsTold, Reads};
+ghost use Rattle.gu_text.specs.ScriptForms.{IsBegun};
 ghost use Rattle.gu_text.specs.Scripts.{IsBad, Says};
 ghost use Rattle.gu_text.specs.Words.{words_of};
 
@@ -32,29 +32,6 @@ pub enum Line {
     Limits(Group),
 }
 
-/// What the words after the word of a form say that takes no memory.
-fn plain_said(form: Form, words: &[u8]) -> Option<Line>
-    requires { form ≢ Form.GiveUp }
-    ensures { Reads form (words_of words.now) result }
-{
-    match form {
-        Form::GiveUp => unreachable!(),
-        Form::Day => day_said(words),
-        Form::Limit => limit_said(words),
-        Form::Report => report_said(words),
-        Form::Claim => claim_said(words),
-        Form::Refuse => refuse_said(words),
-        Form::Reverse => reverse_said(words),
-        Form::See => see_said(words),
-        Form::Propose => propose_said(words),
-        Form::Commit => commit_said(words),
-        Form::Sweep => sweep_said(words),
-        Form::Position => position_said(words),
-        Form::Interest => interest_said(words),
-        Form::Limits => limits_said(words),
-    }
-}
-
 #[tactic(auto, using(crate::proofs::ScriptLemmas::is_begun))]
 /// The form of a line that isn't silent, and the words after the word of the form.
 fn begun(line: &[u8]) -> Option<(Form, &[u8])>
@@ -69,17 +46,6 @@ fn begun(line: &[u8]) -> Option<(Form, &[u8])>
     Some((form, words))
 }
 
-/// What is told of a give-up in the line with this number.
-#[inline(never)]
-fn give_up_told(alloc: Global, words: &[u8], number: u64) -> Result<Option<Line>, TextError>
-    ensures { (text : List ℕ) → IsBegun text Form.GiveUp (words_of words.now) → IsTold text number result }
-{
-    let Some(said) = give_up_said(alloc, words)? else {
-        return Err(TextError::BadLine(number));
-    };
-    Ok(Some(said))
-}
-
 impl Line {
     /// What the line with this number says: nothing where it is silent.
     pub fn read(alloc: Global, line: &[u8], number: u64) -> Result<Option<Line>, TextError>
@@ -92,12 +58,25 @@ impl Line {
         let Some((form, words)) = begun(line) else {
             return Err(TextError::BadLine(number));
         };
-        if let Form::GiveUp = form {
-            return give_up_told(alloc, words, number);
-        }
-        let Some(said) = plain_said(form, words) else {
-            return Err(TextError::BadLine(number));
+        let said = match form {
+            Form::GiveUp => give_up_said(alloc, words)?,
+            Form::Day => day_said(words),
+            Form::Limit => limit_said(words),
+            Form::Report => report_said(words),
+            Form::Claim => claim_said(words),
+            Form::Refuse => refuse_said(words),
+            Form::Reverse => reverse_said(words),
+            Form::See => see_said(words),
+            Form::Propose => propose_said(words),
+            Form::Commit => commit_said(words),
+            Form::Sweep => sweep_said(words),
+            Form::Position => position_said(words),
+            Form::Interest => interest_said(words),
+            Form::Limits => limits_said(words),
         };
-        Ok(Some(said))
+        if said.is_none() {
+            return Err(TextError::BadLine(number));
+        }
+        Ok(said)
     }
 }
