@@ -20,10 +20,11 @@ fn at_nine(w: &Values, body: Body) -> Outbound {
 
 /// The fields of a message that is written over another one, as a text.
 fn written(alloc: Global, w: &Values, message: &Outbound) -> Result<String, AllocError> {
-    let stamp = Stamp::new(message.sending_time);
     let mut draft = Draft::new(alloc);
     let earlier = at_nine(w, Body::Logout(Some(LogoutReason::SeqTooLow)));
-    write_over(&mut draft, &earlier.as_ref(), &Stamp::new(w.nine))?;
+    let before = Stamp::new(earlier.sending_time);
+    write_over(&mut draft, &earlier.as_ref(), &before)?;
+    let stamp = Stamp::new(message.sending_time);
     write_over(&mut draft, &message.as_ref(), &stamp)?;
     text_of(alloc, &draft.into_fields())
 }
