@@ -1,4 +1,4 @@
-use Rattle.std.proofs.Common.{◌≡◌, ℕ, List, Err, inl, inr, subst, ap, ◌∙◌}
+use Rattle.std.proofs.Common.{◌≡◌, ℕ, List, Err, inl, inr, subst, ap, rules, ◌∙◌}
 use Rattle.std.specs.Io.KnownBytes.{Appends}
 use Rattle.gu_streams.specs.Streams.{streams_of}
 use Rattle.gu_streams.specs.Written.{WrotePart}
@@ -53,3 +53,13 @@ pub returns-in_err-run-clause-stopped : goal.returns-in_err-run-clause-stopped
 returns-in_err-run-clause-stopped g c read =
     let same = error_passed c.from_residual-in_err-run.result _ _ c.from_residual-in_err-run.ensures.1 read in
     elim (c.in_err-run.ensures.stopped (ap Err same)) [ inl stopped ↦ stopped | inr fails ↦ absurd fails.1 ]
+
+pub returns-in_err-lines-clause-answered : goal.returns-in_err-lines-clause-answered
+returns-in_err-lines-clause-answered g c read =
+    let none : ⊥ = search rules in
+    absurd none
+
+pub returns-clause-answered : goal.returns-clause-answered
+returns-clause-answered g c read =
+    let none : ⊥ = search rules in
+    absurd none

@@ -10,8 +10,8 @@ returns-in_default c =
     let found = c.report_in.ensures _ c.in_ok-content.ensures.content in
     ([], sym (append-nil c.args.output.now.items), inr (passes_unsaid c.args.self.now c.args.frame _ _ c.in_ok-fields.ensures (unsaid _ c.report_in.result found c.in_default.is)))
 
-pub returns-in-None : goal.returns-in-None
-returns-in-None c =
+pub returns : goal.returns
+returns c =
     let sent = c.sender_in.ensures _ c.in_ok-content.ensures.header in
     ([], sym (append-nil c.args.output.now.items), inr (passes_unsent c.args.self.now c.args.frame _ _ c.in_ok-fields.ensures (rw c.in-None.is at sent)))
 
