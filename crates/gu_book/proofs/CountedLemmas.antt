@@ -24,9 +24,7 @@ use Rattle.gu_rules.specs.Offers.{offers_of, standing_from, standing_of}
 use Rattle.gu_rules.specs.Versions.{is_of_group, touches}
 use Rattle.gu_rules.proofs.VersionLemmas.{version-le, version_of-push}
 use Rattle.gu_book.specs.Counted.{AreVersions, IsCountAt, is_touched, own_in, version_in}
-use Rattle.gu_book.specs.Deeds.{IsDeedOf, done_by, touched_by}
-use Rattle.gu_book.specs.declared.deed.Deed.{Deed}
-use Rattle.gu_book.specs.declared.deed.Deed.TheVariants as deed
+use Rattle.gu_book.specs.Deeds.{Claims, Deed, GivesUp, IsDeedOf, Opens, Refuses, Reports, Reverses, SetsLimit, done_by, touched_by}
 use Rattle.gu_book.specs.declared.totals.Totals.{Totals}
 use Rattle.gu_book.specs.declared.versions.Touched.{Touched}
 use Rattle.gu_book.specs.declared.versions.Versions.{Versions}
@@ -122,13 +120,13 @@ of-offer history totals group offer n offers shown = of-group history totals gro
 -- a deed touches the groups that its entry touches
 pub accepted-touches : (reference : Tables) (history : List Entry) (totals : Totals) (command : Command) (deed : Deed) (group : Group) → totals.offers ≡ standing_of history → IsDeedOf reference totals command deed
     → is_touched (touched_by deed) group ≡ touches history group (Asked command (Accepted (done_by deed)))
-accepted-touches reference history totals command (deed.Open day) group offers is = rw is refl
-accepted-touches reference history totals command (deed.SetLimit at key lots) group offers is = rw is refl
-accepted-touches reference history totals command (deed.Report report waiting) group offers is = rw is.is refl
-accepted-touches reference history totals command (deed.GiveUp asked at first) group offers is = rw is.is refl
-accepted-touches reference history totals command (deed.Claim claimed) group offers is = rw (is.is, is.group_is) (of-offer history totals group is.offer claimed.number offers is.seen.shown)
-accepted-touches reference history totals command (deed.Refuse number at lots) group offers is = rw is.is (of-group history totals group at number offers is.group_is)
-accepted-touches reference history totals command (deed.Reverse reversed) group offers is = rw (is.is, is.group_is) (of-offer history totals group is.offer reversed.number offers is.seen.shown)
+accepted-touches reference history totals command (Opens day) group offers is = rw is refl
+accepted-touches reference history totals command (SetsLimit at key lots) group offers is = rw is refl
+accepted-touches reference history totals command (Reports report waiting) group offers is = rw is.is refl
+accepted-touches reference history totals command (GivesUp asked at first) group offers is = rw is.is refl
+accepted-touches reference history totals command (Claims claimed) group offers is = rw (is.is, is.group_is) (of-offer history totals group is.offer claimed.number offers is.seen.shown)
+accepted-touches reference history totals command (Refuses number at lots) group offers is = rw is.is (of-group history totals group at number offers is.group_is)
+accepted-touches reference history totals command (Reverses reversed) group offers is = rw (is.is, is.group_is) (of-offer history totals group is.offer reversed.number offers is.seen.shown)
 
 -- and a refused command touches none
 pub denied-touches : (history : List Entry) (command : Command) (why : Refusal) (group : Group) → false ≡ touches history group (Asked command (Denied why))

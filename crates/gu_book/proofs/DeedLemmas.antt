@@ -21,9 +21,8 @@ use Rattle.gu_rules.proofs.InOrder.{in_order}
 use Rattle.gu_rules.proofs.OrderlyLemmas.{all-at}
 use Rattle.gu_book.specs.Accepted.{MayDo, MayTakeIn, TakesIn}
 use Rattle.gu_book.specs.Beside.{IsKept, state_in}
-use Rattle.gu_book.specs.Deeds.{HaveReports, IsDeedOf, MakesReport, done_by, reply_by}
+use Rattle.gu_book.specs.Deeds.{Deed, HaveReports, IsDeedOf, MakesReport, done_by, reply_by}
 use Rattle.gu_book.specs.Effects.{HoldsMore, made_a_trade}
-use Rattle.gu_book.specs.declared.deed.Deed.{Deed}
 use Rattle.gu_book.specs.declared.totals.Totals.{Totals}
 use Rattle.gu_book.proofs.Accepting.{answer_is}
 use Rattle.gu_book.proofs.TakenIn.{report-fits, report-taken}
@@ -44,13 +43,15 @@ has-report totals n offer all shown = by (row_at totals.offers n) refl shown
         let same : offer ≡ row.offer = ap (λ (o : Option Offer). unwrap_or o offer) e in
         subst (λ (o : Offer). is_some (report_by totals.trades o.firm o.report) ≡ true) (sym same) (all-at (λ (r : Row). is_some (report_after totals.trades r) ≡ true) totals.offers n row at all)
 
--- a deed by which a command is answered may be done, and that is its answer
-pub may-do : (reference : Tables) (history : List Entry) (totals : Totals) (command : Command) (decided : Result Deed Refusal) (deed : Deed) → IsKept reference history totals → length history < 1000000
-    → decided ≡ Ok deed → reply_by decided ≡ answer_in reference (state_in totals) command → IsDeedOf reference totals command deed
-    → (Accepted (done_by deed) ≡ answer reference history command) × MayDo reference totals deed
-may-do reference history totals command decided deed kept room ok told is =
-    let same : Accepted (done_by deed) ≡ answer reference history command = ap reply_by (sym ok) ∙ told ∙ answer_is reference history totals command kept.beside in
-    (same, record { command = command; may = record { history = history; kept = kept; accepted = is-accepted reference history command (Accepted (done_by deed)) room same refl }; is = is })
+-- a deed by which a command is answered, as one of its kind, may be done; that is its answer, and its deed
+pub may-do : {D : Type 0} → (does : D → Deed) → (reference : Tables) (history : List Entry) (totals : Totals) (command asked : Command) (decided : Result D Refusal) (deed : D) → command ≡ asked
+    → IsKept reference history totals → length history < 1000000 → decided ≡ Ok deed → reply_by does decided ≡ answer_in reference (state_in totals) asked → IsDeedOf reference totals asked (does deed)
+    → (Accepted (done_by (does deed)) ≡ answer reference history command) × (MayDo reference totals (does deed) × IsDeedOf reference totals command (does deed))
+may-do does reference history totals command asked decided deed same kept room ok told is =
+    let reply : Accepted (done_by (does deed)) ≡ answer reference history command =
+    ap (reply_by does) (sym ok) ∙ told ∙ ap (answer_in reference (state_in totals)) (sym same) ∙ answer_is reference history totals command kept.beside in
+    let its : IsDeedOf reference totals command (does deed) = subst (λ (c : Command). IsDeedOf reference totals c (does deed)) (sym same) is in
+    (reply, (record { command = command; may = record { history = history; kept = kept; accepted = is-accepted reference history command (Accepted (done_by (does deed))) room reply refl }; is = its }, its))
 
 -- ---- reports
 

@@ -5,8 +5,7 @@ use Rattle.gu_terms.specs.declared.entry.Entry.{Entry}
 use Rattle.gu_ref.specs.Tables.{Tables}
 use Rattle.gu_rules.specs.Legal.{IsAccepted, accepted_entry}
 use Rattle.gu_book.specs.Beside.{IsAccounted, IsKept}
-use Rattle.gu_book.specs.Deeds.{IsDeedOf}
-use Rattle.gu_book.specs.declared.deed.Deed.{Deed}
+use Rattle.gu_book.specs.Deeds.{Deed, IsDeedOf}
 use Rattle.gu_book.specs.declared.totals.Totals.{Totals}
 
 -- a command is accepted after a history beside which this is kept

@@ -8,7 +8,7 @@ use Rattle.gu_terms.specs.declared.command.Command.TheVariants as asked
 use Rattle.gu_terms.specs.declared.day.Day.{Day}
 use Rattle.gu_terms.specs.declared.firm.FirmId.{FirmId}
 use Rattle.gu_terms.specs.declared.group.Group.{Group}
-use Rattle.gu_terms.specs.declared.id.Id.{Id}
+use Rattle.gu_terms.specs.declared.limit_key.LimitKey.{LimitKey}
 use Rattle.gu_terms.specs.declared.lines.Line.{Line}
 use Rattle.gu_terms.specs.declared.offer.Offer.{Offer}
 use Rattle.gu_terms.specs.declared.refusal.Refusal.{Refusal}
@@ -28,38 +28,46 @@ use Rattle.gu_rules.specs.Answer.{given_up}
 use Rattle.gu_rules.specs.Limits.{path_after}
 use Rattle.gu_rules.specs.Positions.{report_after}
 use Rattle.gu_book.specs.Beside.{state_in, waiting_of}
-use Rattle.gu_book.specs.declared.deed.Deed.{Deed}
-use Rattle.gu_book.specs.declared.deed.Deed.TheVariants.{Open, SetLimit, Report as Reports, GiveUp, Claim, Refuse, Reverse}
-use Rattle.gu_book.specs.declared.deed.GiveUpRef.{GiveUpRef}
+use Rattle.gu_book.specs.declared.asked.GiveUpRef.{GiveUpRef}
 use Rattle.gu_book.specs.declared.deed.Moved.{Moved}
 use Rattle.gu_book.specs.declared.totals.Totals.{Totals}
 use Rattle.gu_book.specs.declared.versions.Touched.{Touched}
 use Rattle.gu_book.specs.declared.versions.Touched.TheVariants.{Nothing, Only, Every}
 
+-- what an accepted command does, with all that was found as it was decided
+pub data Deed : Type 0 where
+  Opens : (day : Day) → Deed
+  SetsLimit : (group : Group) (key : LimitKey) (lots : ℕ) → Deed
+  Reports : (report : Report) (waiting : Option Terms) → Deed
+  GivesUp : (asked : GiveUpRef) (group : Group) (first : ℕ) → Deed
+  Claims : (claimed : Moved) → Deed
+  Refuses : (number : ℕ) (group : Group) (lots : ℕ) → Deed
+  Reverses : (reversed : Moved) → Deed
+
 -- what the reply to a command says of which this was decided
 abbrev pub done_by : Deed → Done
-done_by (Open day) = Opened
-done_by (SetLimit group key lots) = LimitSet
+done_by (Opens day) = Opened
+done_by (SetsLimit group key lots) = LimitSet
 done_by (Reports report waiting) = Reported (is_some waiting)
-done_by (GiveUp asked group first) = Offered group first (length asked.lines.now)
-done_by (Claim claimed) = Claimed claimed.lots
-done_by (Refuse number group lots) = Refused lots
-done_by (Reverse reversed) = Reversed reversed.lots
+done_by (GivesUp asked group first) = Offered group first (length asked.lines.now)
+done_by (Claims claimed) = Claimed claimed.lots
+done_by (Refuses number group lots) = Refused lots
+done_by (Reverses reversed) = Reversed reversed.lots
 
 -- the groups that it touches (a refused command touches none)
 abbrev pub touched_by : Deed → Touched
-touched_by (Open day) = Every
-touched_by (SetLimit group key lots) = Only group
+touched_by (Opens day) = Every
+touched_by (SetsLimit group key lots) = Only group
 touched_by (Reports report waiting) = Nothing
-touched_by (GiveUp asked group first) = Only group
-touched_by (Claim claimed) = Only claimed.group
-touched_by (Refuse number group lots) = Only group
-touched_by (Reverse reversed) = Only reversed.group
+touched_by (GivesUp asked group first) = Only group
+touched_by (Claims claimed) = Only claimed.group
+touched_by (Refuses number group lots) = Only group
+touched_by (Reverses reversed) = Only reversed.group
 
--- that reply, or the refusal
-abbrev pub reply_by : Result Deed Refusal → Reply
-reply_by (Ok deed) = Accepted (done_by deed)
-reply_by (Err why) = Denied why
+-- that reply, where a command was decided so, or the refusal
+abbrev pub reply_by : {D : Type 0} → (D → Deed) → Result D Refusal → Reply
+reply_by does (Ok deed) = Accepted (done_by (does deed))
+reply_by does (Err why) = Denied why
 
 -- each offer gives up a report that was taken in
 abbrev pub HaveReports : Totals → Type 0
@@ -102,10 +110,10 @@ pub record RefusesOffer (totals : Totals) (command : Command) (number : ℕ) (gr
 
 -- what an accepted command does, where this is kept: a claim moves all that is left, a reversal all that was moved today
 abbrev pub IsDeedOf : Tables → Totals → Command → Deed → Type 0
-IsDeedOf reference totals command (Open day) = command ≡ asked.OpenDay day
-IsDeedOf reference totals command (SetLimit group key lots) = command ≡ asked.SetLimit group key lots
+IsDeedOf reference totals command (Opens day) = command ≡ asked.OpenDay day
+IsDeedOf reference totals command (SetsLimit group key lots) = command ≡ asked.SetLimit group key lots
 IsDeedOf reference totals command (Reports report waiting) = MakesReport totals command report waiting
-IsDeedOf reference totals command (GiveUp asked group first) = GivesLines reference totals command asked group
-IsDeedOf reference totals command (Claim claimed) = MovesLots reference totals command asked.Claim claimed (left_in totals.offers claimed.number)
-IsDeedOf reference totals command (Refuse number group lots) = RefusesOffer totals command number group
-IsDeedOf reference totals command (Reverse reversed) = MovesLots reference totals command asked.Reverse reversed (today_in totals.offers reversed.number)
+IsDeedOf reference totals command (GivesUp asked group first) = GivesLines reference totals command asked group
+IsDeedOf reference totals command (Claims claimed) = MovesLots reference totals command asked.Claim claimed (left_in totals.offers claimed.number)
+IsDeedOf reference totals command (Refuses number group lots) = RefusesOffer totals command number group
+IsDeedOf reference totals command (Reverses reversed) = MovesLots reference totals command asked.Reverse reversed (today_in totals.offers reversed.number)

@@ -9,6 +9,7 @@ ghost use Rattle.gu_limits.specs.Limits.{AreLimitsOf, room_in};
 ghost use Rattle.gu_ref.specs.Reference.{partner_between};
 ghost use Rattle.gu_ref.specs.Tables.{Tables};
 ghost use Rattle.gu_terms.specs.declared.alloc_reject.AllocReject.{AllocReject as AllocRejectOf};
+ghost use Rattle.gu_terms.specs.declared.command.Command.{Command};
 ghost use Rattle.gu_terms.specs.declared.firm.FirmId.{FirmId as FirmIdOf};
 ghost use Rattle.gu_terms.specs.declared.reply.Done.TheVariants.{LimitSet, Opened, Reported};
 ghost use Rattle.gu_terms.specs.declared.reply.Reply.TheVariants.{Accepted, Denied};
@@ -21,13 +22,17 @@ ghost use Rattle.gu_offers.specs.Rows.{Row, left_in, row_at, today_in};
 ghost use Rattle.gu_book.specs.Beside.{answer_to_match, group_named_by, some_lots, standing_given_up, state_in, waiting_of};
 ghost use Rattle.gu_book.specs.Deeds.{HaveReports, IsDeedOf, reply_by};
 
-use crate::deed::{Deed, GiveUpRef, Moved};
+use crate::asked::{
+    Asked, ClaimAsked, GiveUpRef, LimitAsked, OpeningAsked, RefusalAsked, ReportAsked,
+    ReversalAsked,
+};
+use crate::deed::{Claim, Closing, LimitChange, Moved, NewOffers, NewReport, Opening, Reversal};
 use crate::totals::Totals;
 use gu_limits::{LimitTable, PathLimits, path_by};
 use gu_ref::{Partner, Reference};
 use gu_terms::{
-    Command, Day, FirmId, Group, Id, LimitKey, Line, Lots, MOST_LIMIT, MOST_OPEN_OFFERS, Offer,
-    OfferNo, Path, Refusal,
+    Day, FirmId, Group, Id, LimitKey, Line, Lots, MOST_LIMIT, MOST_OPEN_OFFERS, Offer, OfferNo,
+    Path, Refusal,
 };
 use gu_trades::{Counterpart, ReportRef, Standing, Terms};
 
@@ -76,68 +81,68 @@ fn waiting_of(counterpart: &Counterpart) -> Result<Option<Terms>, Refusal>
     }
 }
 
-/// Decides a report of the open day, whose firm names this day or none.
-fn decide_report<'a>(
-    reference: &Reference,
-    totals: &Totals,
-    report: ReportRef<'a>,
-    day: Option<Day>,
-) -> Result<Deed<'a>, Refusal>
-    requires { totals.now.today ≡ Some report.day }
-    ensures reply { reply_by result ≡ first_standing (report_tests reference.now totals.now.trades report.entry day)
-        (Reported (is_waiting (with_match report.entry.match_id totals.now.trades))) }
-    ensures deed { IfOk result (IsDeedOf reference.now totals.now (Command.ReportSide report.entry.firm report.entry.id report.entry.match_id
-        report.entry.symbol report.entry.lots report.entry.price day report.entry.side report.entry.account)) }
-{
-    let terms = report.terms();
-    if is_other_day(terms.day, day) {
-        return Err(Refusal::WrongDay);
+impl<'a> Asked for ReportAsked<'a> {
+    type Does = NewReport<'a>;
+
+    ghost command = { λ a. Command.ReportSide a.firm.now a.id.now a.match_id.now a.symbol.now a.lots a.price a.day a.side a.account.now };
+
+    fn decide(&self, reference: &Reference, totals: &Totals) -> Result<NewReport<'a>, Refusal> {
+        let Some(today) = totals.today else {
+            return Err(Refusal::NoDay);
+        };
+        if is_other_day(today, self.day) {
+            return Err(Refusal::WrongDay);
+        }
+        if !reference.is_instrument(*self.symbol) {
+            return Err(Refusal::UnknownInstrument);
+        }
+        let Some(row) = reference.account(*self.account) else {
+            return Err(Refusal::UnknownAccount);
+        };
+        if row.firm != *self.firm {
+            return Err(Refusal::NotYours);
+        }
+        if totals.trades.has(self.firm, self.id) {
+            return Err(Refusal::DuplicateId);
+        }
+        let report = self.report_on(today);
+        let counterpart = totals.trades.counterpart(self.match_id, report.terms());
+        let waiting = waiting_of(&counterpart)?;
+        Ok(NewReport { report, waiting })
     }
-    if !reference.is_instrument(terms.symbol) {
-        return Err(Refusal::UnknownInstrument);
-    }
-    let Some(row) = reference.account(terms.account) else {
-        return Err(Refusal::UnknownAccount);
-    };
-    if row.firm != *report.firm() {
-        return Err(Refusal::NotYours);
-    }
-    if totals.trades.has(report.firm(), report.id()) {
-        return Err(Refusal::DuplicateId);
-    }
-    let counterpart = totals.trades.counterpart(report.match_id(), terms);
-    let waiting = waiting_of(&counterpart)?;
-    Ok(Deed::Report { report, waiting })
 }
 
-/// Decides a limit.
-fn decide_limit<'a>(
-    reference: &Reference,
-    group: Group,
-    key: LimitKey,
-    lots: u64,
-) -> Result<Deed<'a>, Refusal>
-    ensures reply { reply_by result ≡ first_standing (limit_tests reference.now group key lots) LimitSet }
-    ensures deed { IfOk result (λ deed. deed ≡ Deed.SetLimit group key lots) }
-{
-    if !(reference.group(group) && is_known_key(reference, key)) {
-        return Err(Refusal::UnknownKey);
+impl<'a> Asked for LimitAsked<'a> {
+    type Does = LimitChange;
+
+    ghost command = { λ a. Command.SetLimit a.group.now a.key.now a.lots };
+
+    fn decide(&self, reference: &Reference, _totals: &Totals) -> Result<LimitChange, Refusal> {
+        if !(reference.group(*self.group) && is_known_key(reference, *self.key)) {
+            return Err(Refusal::UnknownKey);
+        }
+        if self.lots > MOST_LIMIT {
+            return Err(Refusal::TooHigh);
+        }
+        Ok(LimitChange {
+            group: *self.group,
+            key: *self.key,
+            lots: self.lots,
+        })
     }
-    if lots > MOST_LIMIT {
-        return Err(Refusal::TooHigh);
-    }
-    Ok(Deed::SetLimit { group, key, lots })
 }
 
-/// Decides an opening.
-fn decide_opening<'a>(today: Option<Day>, day: Day) -> Result<Deed<'a>, Refusal>
-    ensures reply { reply_by result ≡ first_standing (opening_tests today day) Opened }
-    ensures deed { IfOk result (λ deed. deed ≡ Deed.Open day) }
-{
-    if is_later(today, day) {
-        Ok(Deed::Open { day })
-    } else {
-        Err(Refusal::WrongDay)
+impl Asked for OpeningAsked {
+    type Does = Opening;
+
+    ghost command = { λ a. Command.OpenDay a.day };
+
+    fn decide(&self, _reference: &Reference, totals: &Totals) -> Result<Opening, Refusal> {
+        if is_later(totals.today, self.day) {
+            Ok(Opening { day: self.day })
+        } else {
+            Err(Refusal::WrongDay)
+        }
     }
 }
 
@@ -224,37 +229,34 @@ fn refusal_of_lines(
     None
 }
 
-/// Decides a give-up.
-fn decide_give_up<'a>(
-    reference: &Reference,
-    totals: &Totals,
-    asked: GiveUpRef<'a>,
-) -> Result<Deed<'a>, Refusal>
-    requires { length totals.now.offers < 16000000 }
-    ensures reply { reply_by result ≡ answer_in reference.now (state_in totals.now) (Command.GiveUp asked.entry.firm.now asked.entry.id.now asked.entry.report.now asked.entry.lines.now) }
-    ensures deed { IfOk result (IsDeedOf reference.now totals.now (Command.GiveUp asked.entry.firm.now asked.entry.id.now asked.entry.report.now asked.entry.lines.now)) }
-{
-    if totals.today.is_none() {
-        return Err(Refusal::NoDay);
+impl<'a> Asked for GiveUpRef<'a> {
+    type Does = NewOffers<'a>;
+
+    ghost command = { λ a. Command.GiveUp a.firm.now a.id.now a.report.now a.lines.now };
+
+    fn decide(&self, reference: &Reference, totals: &Totals) -> Result<NewOffers<'a>, Refusal> {
+        if totals.today.is_none() {
+            return Err(Refusal::NoDay);
+        }
+        let lacks = lacks_agreement(reference, self.firm, self.lines.as_slice());
+        if has_unknown_account_without(reference, self.lines.as_slice(), lacks) {
+            return Err(Refusal::UnknownAccount);
+        }
+        if totals.has_give_up(self.firm, self.id) {
+            return Err(Refusal::DuplicateId);
+        }
+        let Some(given) = given_up(reference, totals, self.firm, self.report) else {
+            return Err(Refusal::UnknownTrade);
+        };
+        if let Some(refusal) = refusal_of_lines(totals, *self, &given, lacks) {
+            return Err(refusal);
+        }
+        Ok(NewOffers {
+            asked: *self,
+            group: given.1,
+            first: OfferNo::known(totals.offers.count() as u64 + 1),
+        })
     }
-    let lacks = lacks_agreement(reference, asked.firm, asked.lines.as_slice());
-    if has_unknown_account_without(reference, asked.lines.as_slice(), lacks) {
-        return Err(Refusal::UnknownAccount);
-    }
-    if totals.has_give_up(asked.firm, asked.id) {
-        return Err(Refusal::DuplicateId);
-    }
-    let Some(given) = given_up(reference, totals, asked.firm, asked.report) else {
-        return Err(Refusal::UnknownTrade);
-    };
-    if let Some(refusal) = refusal_of_lines(totals, asked, &given, lacks) {
-        return Err(refusal);
-    }
-    Ok(Deed::GiveUp {
-        asked,
-        group: given.1,
-        first: OfferNo::known(totals.offers.count() as u64 + 1),
-    })
 }
 
 /// Whether a firm isn't the one that carries an offer's account, where the agreement by which it was made is known, or that there is none.
@@ -372,143 +374,73 @@ fn terms_given_up(totals: &Totals, offer: &Offer) -> Terms
     report
 }
 
-/// Decides a claim.
-fn decide_claim<'a>(
-    reference: &Reference,
-    totals: &Totals,
-    firm: FirmId,
-    number: OfferNo,
-) -> Result<Deed<'a>, Refusal>
-    requires { HaveReports totals.now }
-    ensures reply { reply_by result ≡ answer_in reference.now (state_in totals.now) (Command.Claim firm number) }
-    ensures deed { IfOk result (IsDeedOf reference.now totals.now (Command.Claim firm number)) }
-{
-    let (offer, partner) = offer_to(reference, totals, firm, number)?;
-    let Some(lots) = lots_left(totals, number) else {
-        return Err(Refusal::OfferClosed);
-    };
-    let path = path_with(reference, &offer, &partner);
-    let limits = match limits_with_room(&totals.limits, &offer.group, &path, lots.get()) {
-        Ok(limits) => limits,
-        Err(key) => return Err(Refusal::LimitReached(key)),
-    };
-    let claimed = Moved {
-        number,
-        group: offer.group,
-        account: offer.account,
-        report: terms_given_up(totals, &offer),
-        limits,
-        lots,
-    };
-    Ok(Deed::Claim { claimed })
-}
+impl Asked for ClaimAsked {
+    type Does = Claim;
 
-/// Decides a refusal, whatever its reason.
-fn decide_refusal<'a>(
-    reference: &Reference,
-    totals: &Totals,
-    firm: FirmId,
-    number: OfferNo,
-) -> Result<Deed<'a>, Refusal>
-    ensures reply { (why : AllocRejectOf) → reply_by result ≡ answer_in reference.now (state_in totals.now) (Command.Refuse firm number why) }
-    ensures deed { (why : AllocRejectOf) → IfOk result (IsDeedOf reference.now totals.now (Command.Refuse firm number why)) }
-{
-    let (offer, _) = offer_to(reference, totals, firm, number)?;
-    let Some(lots) = lots_left(totals, number) else {
-        return Err(Refusal::OfferClosed);
-    };
-    Ok(Deed::Refuse {
-        number,
-        group: offer.group,
-        lots,
-    })
-}
+    ghost command = { λ a. Command.Claim a.firm a.offer };
 
-/// Decides a reversal.
-fn decide_reversal<'a>(
-    reference: &Reference,
-    totals: &Totals,
-    firm: FirmId,
-    number: OfferNo,
-) -> Result<Deed<'a>, Refusal>
-    requires { HaveReports totals.now }
-    ensures reply { reply_by result ≡ answer_in reference.now (state_in totals.now) (Command.Reverse firm number) }
-    ensures deed { IfOk result (IsDeedOf reference.now totals.now (Command.Reverse firm number)) }
-{
-    let (offer, partner) = offer_to(reference, totals, firm, number)?;
-    if totals.offers.left(number) > 0 {
-        return Err(Refusal::OfferOpen);
-    }
-    let Some(lots) = lots_moved_today(totals, number) else {
-        return Err(Refusal::NothingToReverse);
-    };
-    let path = path_with(reference, &offer, &partner);
-    let reversed = Moved {
-        number,
-        group: offer.group,
-        account: offer.account,
-        report: terms_given_up(totals, &offer),
-        limits: limits_of(&totals.limits, &offer.group, &path),
-        lots,
-    };
-    Ok(Deed::Reverse { reversed })
-}
-
-/// Decides a command, where a history comes to this: what it does, or why it is refused.
-pub fn decide<'a>(
-    reference: &Reference,
-    totals: &Totals,
-    command: &'a Command,
-) -> Result<Deed<'a>, Refusal>
-    requires numbers { length totals.now.offers < 16000000 }
-    requires reports { HaveReports totals.now }
-    ensures reply { reply_by result ≡ answer_in reference.now (state_in totals.now) command.now }
-    ensures deed { IfOk result (IsDeedOf reference.now totals.now command.now) }
-{
-    match command {
-        Command::OpenDay { day } => decide_opening(totals.today, *day),
-        Command::SetLimit { group, key, lots } => { decide_limit(reference, *group, *key, *lots) }
-        Command::ReportSide {
-            firm,
-            id,
-            match_id,
-            symbol,
+    fn decide(&self, reference: &Reference, totals: &Totals) -> Result<Claim, Refusal> {
+        let (offer, partner) = offer_to(reference, totals, self.firm, self.offer)?;
+        let Some(lots) = lots_left(totals, self.offer) else {
+            return Err(Refusal::OfferClosed);
+        };
+        let path = path_with(reference, &offer, &partner);
+        let limits = match limits_with_room(&totals.limits, &offer.group, &path, lots.get()) {
+            Ok(limits) => limits,
+            Err(key) => return Err(Refusal::LimitReached(key)),
+        };
+        let claimed = Moved {
+            number: self.offer,
+            group: offer.group,
+            account: offer.account,
+            report: terms_given_up(totals, &offer),
+            limits,
             lots,
-            price,
-            day,
-            side,
-            account,
-        } => {
-            let Some(today) = totals.today else {
-                return Err(Refusal::NoDay);
-            };
-            let terms = Terms {
-                symbol: *symbol,
-                account: *account,
-                side: *side,
-                day: today,
-                lots: *lots,
-                price: *price,
-            };
-            let report = ReportRef::new(firm, id, match_id, terms);
-            decide_report(reference, totals, report, *day)
+        };
+        Ok(Claim { claimed })
+    }
+}
+
+impl Asked for RefusalAsked {
+    type Does = Closing;
+
+    ghost command = { λ a. Command.Refuse a.firm a.offer a.why };
+
+    fn decide(&self, reference: &Reference, totals: &Totals) -> Result<Closing, Refusal> {
+        let (offer, _) = offer_to(reference, totals, self.firm, self.offer)?;
+        let Some(lots) = lots_left(totals, self.offer) else {
+            return Err(Refusal::OfferClosed);
+        };
+        Ok(Closing {
+            number: self.offer,
+            group: offer.group,
+            lots,
+        })
+    }
+}
+
+impl Asked for ReversalAsked {
+    type Does = Reversal;
+
+    ghost command = { λ a. Command.Reverse a.firm a.offer };
+
+    fn decide(&self, reference: &Reference, totals: &Totals) -> Result<Reversal, Refusal> {
+        let (offer, partner) = offer_to(reference, totals, self.firm, self.offer)?;
+        if totals.offers.left(self.offer) > 0 {
+            return Err(Refusal::OfferOpen);
         }
-        Command::GiveUp {
-            firm,
-            id,
-            report,
-            lines,
-        } => {
-            let asked = GiveUpRef {
-                firm,
-                id,
-                report,
-                lines,
-            };
-            decide_give_up(reference, totals, asked)
-        }
-        Command::Claim { firm, offer } => decide_claim(reference, totals, *firm, *offer),
-        Command::Refuse { firm, offer, .. } => decide_refusal(reference, totals, *firm, *offer),
-        Command::Reverse { firm, offer } => decide_reversal(reference, totals, *firm, *offer),
+        let Some(lots) = lots_moved_today(totals, self.offer) else {
+            return Err(Refusal::NothingToReverse);
+        };
+        let path = path_with(reference, &offer, &partner);
+        let reversed = Moved {
+            number: self.offer,
+            group: offer.group,
+            account: offer.account,
+            report: terms_given_up(totals, &offer),
+            limits: limits_of(&totals.limits, &offer.group, &path),
+            lots,
+        };
+        Ok(Reversal { reversed })
     }
 }

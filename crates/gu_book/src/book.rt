@@ -15,15 +15,18 @@ ghost use Rattle.gu_rules.specs.Views.{group_view};
 ghost use Rattle.gu_book.specs.Commits.{IsCurrent, Refuses, sweep_of};
 ghost use Rattle.gu_view.specs.View.{IsNested};
 
-use crate::answering::decide;
+use crate::asked::{
+    Asked, ClaimAsked, GiveUpRef, LimitAsked, OpeningAsked, RefusalAsked, ReportAsked,
+    ReversalAsked,
+};
 use crate::current::shows_all;
+use crate::deed::Deed;
 use crate::error::{AskError, CommitError, EnterError};
 use crate::limits::rows_in_order;
 use crate::positions::{is_of_firm, rows_of_account};
 use crate::sweeping::{
     asks_for_a_sweep, kept_sweep, make_ways, move_takes, receipt_and_view, sum_swept,
 };
-use crate::taking::take_in;
 use crate::telling::register_of;
 use crate::totals::Totals;
 use crate::touching::{know, touch};
@@ -121,6 +124,34 @@ impl Book {
         Ok(Reply::Denied(*why))
     }
 
+    /// Adds a command of one kind with its answer, and tells the answer.
+    fn append_asked<A: Asked>(&mut self, command: &Command, asked: &A) -> Result<Reply, AllocError>
+        requires room { length self.old.history < 1000000 }
+        requires same { command.now ≡ A.command asked.now }
+        ensures entered { IfOk result (λ reply. self.new.history ≡ self.old.history ++ Entry.Asked command.now reply ∷ []) }
+        ensures reply { IfOk result (λ reply. reply ≡ answer self.old.reference self.old.history command.now) }
+        ensures stands { IfOk result (λ reply. StandsLast self.old.reference (length self.old.history + 1) (Entry.Asked command.now reply)) }
+        ensures reference { self.new.reference ≡ self.old.reference }
+        ensures refused { OnErr result (self.new.history ≡ self.old.history) }
+    {
+        let deed = match asked.decide(&self.reference, &self.totals) {
+            Ok(deed) => deed,
+            Err(why) => return self.append_denied(command, &why),
+        };
+        let touched = deed.touched();
+        let place = know(&mut self.versions, &touched)?;
+        let count = self.history.len();
+        self.history.push_asked(command, deed.reply())?;
+        if let Err(refused) = deed.take_in(&mut self.totals) {
+            self.history.truncate(count);
+            return Err(refused);
+        }
+        touch(&mut self.versions, &touched, place);
+        // Shows the prover: no match id has more than two reports.
+        self.totals.trades.rules();
+        Ok(deed.reply())
+    }
+
     /// Adds a command with its answer, and tells the answer.
     fn append(&mut self, command: &Command) -> Result<Reply, AllocError>
         requires room { length self.old.history < 1000000 }
@@ -130,22 +161,63 @@ impl Book {
         ensures reference { self.new.reference ≡ self.old.reference }
         ensures refused { OnErr result (self.new.history ≡ self.old.history) }
     {
-        let deed = match decide(&self.reference, &self.totals, command) {
-            Ok(deed) => deed,
-            Err(why) => return self.append_denied(command, &why),
-        };
-        let touched = deed.touched();
-        let place = know(&mut self.versions, &touched)?;
-        let count = self.history.len();
-        self.history.push_asked(command, deed.reply())?;
-        if let Err(refused) = take_in(&mut self.totals, &deed) {
-            self.history.truncate(count);
-            return Err(refused);
+        match command {
+            Command::OpenDay { day } => self.append_asked(command, &OpeningAsked { day: *day }),
+            Command::SetLimit { group, key, lots } => {
+                let lots = *lots;
+                self.append_asked(command, &LimitAsked { group, key, lots })
+            }
+            Command::ReportSide {
+                firm,
+                id,
+                match_id,
+                symbol,
+                lots,
+                price,
+                day,
+                side,
+                account,
+            } => {
+                let asked = ReportAsked {
+                    firm,
+                    id,
+                    match_id,
+                    symbol,
+                    lots: *lots,
+                    price: *price,
+                    day: *day,
+                    side: *side,
+                    account,
+                };
+                self.append_asked(command, &asked)
+            }
+            Command::GiveUp {
+                firm,
+                id,
+                report,
+                lines,
+            } => {
+                let asked = GiveUpRef {
+                    firm,
+                    id,
+                    report,
+                    lines,
+                };
+                self.append_asked(command, &asked)
+            }
+            Command::Claim { firm, offer } => {
+                let (firm, offer) = (*firm, *offer);
+                self.append_asked(command, &ClaimAsked { firm, offer })
+            }
+            Command::Refuse { firm, offer, why } => {
+                let (firm, offer, why) = (*firm, *offer, *why);
+                self.append_asked(command, &RefusalAsked { firm, offer, why })
+            }
+            Command::Reverse { firm, offer } => {
+                let (firm, offer) = (*firm, *offer);
+                self.append_asked(command, &ReversalAsked { firm, offer })
+            }
         }
-        touch(&mut self.versions, &touched, place);
-        // Shows the prover: no match id has more than two reports.
-        self.totals.trades.rules();
-        Ok(deed.reply())
     }
 
     /// Enters a command with its answer, a refusal too, and tells the answer alone.

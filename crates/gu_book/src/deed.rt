@@ -1,12 +1,40 @@
 //! What accepted commands do.
 
-ghost use Rattle.std.specs.Prelude.{◌≡◌};
-ghost use Rattle.gu_book.specs.Deeds.{done_by, touched_by};
+ghost use Rattle.std.specs.Prelude.{◌≡◌, OnErr, OnOk};
+ghost use Rattle.gu_ref.specs.Tables.{Tables};
+ghost use Rattle.gu_book.specs.Accepted.{KeepsAccounts, MayDo, TakesDeed};
+ghost use Rattle.gu_book.specs.Deeds.{Claims, Deed as DeedOf, GivesUp, Opens, Refuses, Reports, Reverses, SetsLimit, done_by, touched_by};
+ghost use Rattle.gu_book.specs.Effects.{SameAnswers};
 
+use crate::asked::GiveUpRef;
+use crate::totals::Totals;
 use crate::versions::Touched;
 use gu_limits::PathLimits;
-use gu_terms::{AccountId, Day, Done, FirmId, Group, Id, LimitKey, Lines, Lots, OfferNo, Reply};
+use gu_terms::{AccountId, Day, Done, Group, LimitKey, Lots, OfferNo, Reply};
 use gu_trades::{ReportRef, Terms};
+use std::alloc::AllocError;
+
+/// What an accepted command does, with all that was found as it was decided. Each kind has a type, so that what one kind needs is
+/// never moved for another.
+pub trait Deed: Drop {
+    /// Which deed it is.
+    ghost does: { Self → DeedOf };
+
+    /// The reply to its command.
+    fn reply(&self) -> Reply
+        ensures { result ≡ Reply.Accepted (done_by (does self.now)) };
+
+    /// The groups that it touches.
+    fn touched(&self) -> Touched
+        ensures { result ≡ touched_by (does self.now) };
+
+    /// It is done to the totals.
+    fn take_in(&self, totals: &mut Totals) -> Result<(), AllocError>
+        requires { (reference : Tables) × MayDo reference totals.old (does self.now) }
+        ensures taken { OnOk result (TakesDeed totals.old totals.new (does self.now)) }
+        ensures refused { OnErr result (SameAnswers totals.old totals.new) }
+        ensures known { KeepsAccounts totals.old totals.new (does self.now) };
+}
 
 /// Lots of an offer that are claimed or taken back.
 #[derive(Clone, Copy, Debug)]
@@ -22,95 +50,179 @@ pub struct Moved {
     pub lots: Lots,
 }
 
-/// A give-up as a firm asks for it: its parts stay where they are.
-#[derive(Clone, Copy)]
-pub struct GiveUpRef<'a> {
-    pub firm: &'a FirmId,
-    pub id: &'a Id,
-    pub report: &'a Id,
-    pub lines: &'a Lines,
-}
-
-/// What an accepted command does, with all that was found as it was decided.
+/// A day is opened.
 #[derive(Drop)]
-pub enum Deed<'a> {
-    Open {
-        day: Day,
-    },
-    SetLimit {
-        group: Group,
-        key: LimitKey,
-        lots: u64,
-    },
-    Report {
-        report: ReportRef<'a>,
-        /// The terms of the report that waits for it, where one does.
-        waiting: Option<Terms>,
-    },
-    GiveUp {
-        asked: GiveUpRef<'a>,
-        group: Group,
-        first: OfferNo,
-    },
-    Claim {
-        claimed: Moved,
-    },
-    Refuse {
-        number: OfferNo,
-        group: Group,
-        lots: Lots,
-    },
-    Reverse {
-        reversed: Moved,
-    },
+pub struct Opening {
+    pub day: Day,
 }
 
-impl<'a> Deed<'a> {
-    /// What the reply to its command says.
-    fn done(&self) -> Done
-        ensures { result ≡ done_by self.now }
-    {
-        match self {
-            Deed::Open { .. } => Done::Opened,
-            Deed::SetLimit { .. } => Done::LimitSet,
-            Deed::Report { waiting, .. } => Done::Reported {
-                matched: waiting.is_some(),
-            },
-            Deed::GiveUp {
-                asked,
-                group,
-                first,
-            } => Done::Offered {
-                group: *group,
-                first: *first,
-                count: asked.lines.as_slice().len() as u64,
-            },
-            Deed::Claim { claimed } => Done::Claimed { lots: claimed.lots },
-            Deed::Refuse { lots, .. } => Done::Refused { lots: *lots },
-            Deed::Reverse { reversed } => Done::Reversed {
-                lots: reversed.lots,
-            },
-        }
+/// A limit is set.
+#[derive(Drop)]
+pub struct LimitChange {
+    pub group: Group,
+    pub key: LimitKey,
+    pub lots: u64,
+}
+
+/// A report is made.
+#[derive(Drop)]
+pub struct NewReport<'a> {
+    pub report: ReportRef<'a>,
+    /// The terms of the report that waits for it, where one does.
+    pub waiting: Option<Terms>,
+}
+
+/// Lines of a report are given up.
+#[derive(Drop)]
+pub struct NewOffers<'a> {
+    pub asked: GiveUpRef<'a>,
+    pub group: Group,
+    pub first: OfferNo,
+}
+
+/// An offer is claimed.
+#[derive(Drop)]
+pub struct Claim {
+    pub claimed: Moved,
+}
+
+/// An offer is refused.
+#[derive(Drop)]
+pub struct Closing {
+    pub number: OfferNo,
+    pub group: Group,
+    pub lots: Lots,
+}
+
+/// What was moved of an offer today is moved back.
+#[derive(Drop)]
+pub struct Reversal {
+    pub reversed: Moved,
+}
+
+impl Deed for Opening {
+    ghost does = { λ d. Opens d.day };
+
+    fn reply(&self) -> Reply {
+        Reply::Accepted(Done::Opened)
     }
 
-    /// The reply to its command.
-    pub fn reply(&self) -> Reply
-        ensures { result ≡ Reply.Accepted (done_by self.now) }
-    {
-        Reply::Accepted(self.done())
+    fn touched(&self) -> Touched {
+        Touched::Every
     }
 
-    /// The groups that it touches.
-    pub fn touched(&self) -> Touched
-        ensures { result ≡ touched_by self.now }
-    {
-        match self {
-            Deed::Open { .. } => Touched::Every,
-            Deed::SetLimit { group, .. } => Touched::Only(*group),
-            Deed::Report { .. } => Touched::Nothing,
-            Deed::GiveUp { group, .. } | Deed::Refuse { group, .. } => Touched::Only(*group),
-            Deed::Claim { claimed } => Touched::Only(claimed.group),
-            Deed::Reverse { reversed } => Touched::Only(reversed.group),
-        }
+    fn take_in(&self, totals: &mut Totals) -> Result<(), AllocError> {
+        totals.open(self.day);
+        Ok(())
+    }
+}
+
+impl Deed for LimitChange {
+    ghost does = { λ d. SetsLimit d.group d.key d.lots };
+
+    fn reply(&self) -> Reply {
+        Reply::Accepted(Done::LimitSet)
+    }
+
+    fn touched(&self) -> Touched {
+        let LimitChange { group, .. } = self;
+        Touched::Only(*group)
+    }
+
+    fn take_in(&self, totals: &mut Totals) -> Result<(), AllocError> {
+        totals.set_limit(&self.group, &self.key, self.lots)
+    }
+}
+
+impl<'a> Deed for NewReport<'a> {
+    ghost does = { λ d. Reports d.report d.waiting };
+
+    fn reply(&self) -> Reply {
+        Reply::Accepted(Done::Reported {
+            matched: self.waiting.is_some(),
+        })
+    }
+
+    fn touched(&self) -> Touched {
+        Touched::Nothing
+    }
+
+    fn take_in(&self, totals: &mut Totals) -> Result<(), AllocError> {
+        totals.report(&self.report, &self.waiting)
+    }
+}
+
+impl<'a> Deed for NewOffers<'a> {
+    ghost does = { λ d. GivesUp d.asked d.group d.first };
+
+    fn reply(&self) -> Reply {
+        Reply::Accepted(Done::Offered {
+            group: self.group,
+            first: self.first,
+            count: self.asked.lines.as_slice().len() as u64,
+        })
+    }
+
+    fn touched(&self) -> Touched {
+        Touched::Only(self.group)
+    }
+
+    fn take_in(&self, totals: &mut Totals) -> Result<(), AllocError> {
+        // Shows the prover: how many lines there may be.
+        let _ = self.asked.lines.as_slice();
+        totals.give_up(&self.asked, &self.group)
+    }
+}
+
+impl Deed for Claim {
+    ghost does = { λ d. Claims d.claimed };
+
+    fn reply(&self) -> Reply {
+        Reply::Accepted(Done::Claimed {
+            lots: self.claimed.lots,
+        })
+    }
+
+    fn touched(&self) -> Touched {
+        Touched::Only(self.claimed.group)
+    }
+
+    fn take_in(&self, totals: &mut Totals) -> Result<(), AllocError> {
+        totals.claim(&self.claimed)
+    }
+}
+
+impl Deed for Closing {
+    ghost does = { λ d. Refuses d.number d.group d.lots };
+
+    fn reply(&self) -> Reply {
+        Reply::Accepted(Done::Refused { lots: self.lots })
+    }
+
+    fn touched(&self) -> Touched {
+        Touched::Only(self.group)
+    }
+
+    fn take_in(&self, totals: &mut Totals) -> Result<(), AllocError> {
+        totals.offers.close(self.number);
+        Ok(())
+    }
+}
+
+impl Deed for Reversal {
+    ghost does = { λ d. Reverses d.reversed };
+
+    fn reply(&self) -> Reply {
+        Reply::Accepted(Done::Reversed {
+            lots: self.reversed.lots,
+        })
+    }
+
+    fn touched(&self) -> Touched {
+        Touched::Only(self.reversed.group)
+    }
+
+    fn take_in(&self, totals: &mut Totals) -> Result<(), AllocError> {
+        totals.reverse(&self.reversed)
     }
 }

@@ -2,6 +2,7 @@
 #![tactic(auto)]
 
 mod answering;
+mod asked;
 mod asking;
 mod book;
 mod current;
@@ -11,7 +12,6 @@ mod limits;
 mod positions;
 mod showing;
 mod sweeping;
-mod taking;
 mod telling;
 mod totals;
 mod touching;

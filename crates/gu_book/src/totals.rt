@@ -20,7 +20,8 @@ ghost use Rattle.gu_book.specs.Beside.{is_kept_give_up, waiting_of};
 ghost use Rattle.gu_book.specs.Effects.{HoldsMore, HoldsMoved, IsEven, KeepsMade, OnlyRowsOf, SameAnswers, SameEntries, UsesNothing, made_a_trade};
 ghost use Rattle.gu_book.specs.Moving.{given_by};
 
-use crate::deed::{GiveUpRef, Moved};
+use crate::asked::GiveUpRef;
+use crate::deed::Moved;
 use gu_limits::LimitTable;
 use gu_offers::Offers;
 use gu_positions::{Positions, RowNo};

@@ -2,11 +2,11 @@ use Rattle.std.proofs.Common.{◌∙◌, ◌+◌, ◌<◌, List, length, ap, ari
 use Rattle.gu_terms.specs.declared.entry.Entry.{Entry}
 use Rattle.gu_terms.specs.declared.entry.Entry.TheVariants.{Asked}
 use Rattle.gu_terms.specs.declared.reply.Reply.TheVariants.{Accepted}
-use Rattle.gu_rules.specs.Answer.{answer}
+use Rattle.gu_rules.specs.Answer.{answer, answer_in}
 use Rattle.gu_rules.specs.BookState.{BookState}
 use Rattle.gu_rules.specs.Legal.{StandsLast}
 use Rattle.gu_rules.proofs.Growing.{stands_last}
-use Rattle.gu_book.specs.Beside.{IsKeptWhole}
+use Rattle.gu_book.specs.Beside.{IsKeptWhole, state_in}
 use Rattle.gu_book.specs.Deeds.{done_by, reply_by}
 use Rattle.gu_book.proofs.Accepting.{answer_is, few_offers}
 use Rattle.gu_book.proofs.Beginning.{legal-accepted, legal-refused}
@@ -15,38 +15,38 @@ use Rattle.gu_book.proofs.ClaimLemmas.{truncated}
 use Rattle.gu_book.proofs.DeedLemmas.{have_reports, may-do}
 use Rattle.gu_notices.proofs.RecipientLemmas.{few_sides}
 use Rattle.gu_book.proofs.TellingLemmas.{legal-counted, whole-more}
-use Rattle.gu_book.proofs.book.Book.append.Goals as goal
+use Rattle.gu_book.proofs.book.Book.append_asked.Goals as goal
 
 pub decide-requires-clause-numbers : goal.decide-requires-clause-numbers
-decide-requires-clause-numbers c =
+decide-requires-clause-numbers g c =
     let old = c.self.inside in
     let room : length old.history < 1000000 = rw (sym c.self.view_is) at c.requires.room in
     omega (arith, few_offers old.reference old.history old.totals c.self.invariant.entries.kept, room)
 
 pub decide-requires-clause-reports : goal.decide-requires-clause-reports
-decide-requires-clause-reports c = have_reports c.self.inside.reference c.self.inside.history c.self.inside.totals c.self.invariant.entries.kept
+decide-requires-clause-reports g c = have_reports c.self.inside.reference c.self.inside.history c.self.inside.totals c.self.invariant.entries.kept
 
 pub append_denied-requires-clause-answered : goal.append_denied-requires-clause-answered
-append_denied-requires-clause-answered c =
+append_denied-requires-clause-answered g c =
     let old = c.self.inside in
-    ap reply_by (sym c.in-Err.is) ∙ c.decide.ensures.reply ∙ answer_is old.reference old.history old.totals c.args.command.now c.self.invariant.entries.kept.beside
+    ap (reply_by g.A.Does.Deed.does) (sym c.in-Err.is) ∙ c.decide.ensures.reply ∙ ap (answer_in old.reference (state_in old.totals)) (sym c.requires.same) ∙ answer_is old.reference old.history old.totals c.args.command.now c.self.invariant.entries.kept.beside
     ∙ ap (λ (k : BookState). answer k.reference k.history c.args.command.now) c.self.view_is
 
 pub take_in-requires : goal.take_in-requires
-take_in-requires c =
+take_in-requires g c =
     let old = c.self.inside in (
       old.reference,
-      (may-do old.reference old.history old.totals c.args.command.now c.decide.result c.in-Ok.deed c.self.invariant.entries.kept (rw (sym c.self.view_is) at c.requires.room) c.in-Ok.is c.decide.ensures.reply c.in-Ok.ensures.deed).1,
+      (may-do g.A.Does.Deed.does old.reference old.history old.totals c.args.command.now (g.A.Asked.command c.args.asked.now) c.decide.result c.in-Ok.deed c.requires.same c.self.invariant.entries.kept (rw (sym c.self.view_is) at c.requires.room) c.in-Ok.is c.decide.ensures.reply c.in-Ok.ensures.deed).1.0,
     )
 
 pub touch-requires-clause-fits : goal.touch-requires-clause-fits
-touch-requires-clause-fits c group =
+touch-requires-clause-fits g c group =
     let old = c.self.inside in
     versions-fit old.history c.know.new.versions (versions-same old.history old.versions c.know.new.versions c.self.invariant.entries.counted c.know.ensures.days c.know.ensures.same)
     c.self.invariant.entries.legal.within group
 
 pub invariant_of-self-in_err-push_asked : goal.invariant_of-self-in_err-push_asked
-invariant_of-self-in_err-push_asked c =
+invariant_of-self-in_err-push_asked g c =
     let old = c.self.inside in
     let kept =
     legal-counted old.reference old.history old.totals old.versions c.know.new.versions c.self.invariant.entries
@@ -55,49 +55,49 @@ invariant_of-self-in_err-push_asked c =
     (record { entries = kept; told = c.self.invariant.told })
 
 pub invariant_of-self-in-Err-take_in : goal.invariant_of-self-in-Err-take_in
-invariant_of-self-in-Err-take_in c =
+invariant_of-self-in-Err-take_in g c =
     let old = c.self.inside in
     let may =
-    may-do old.reference old.history old.totals c.args.command.now c.decide.result c.in-Ok.deed c.self.invariant.entries.kept (rw (sym c.self.view_is) at c.requires.room) c.in-Ok.is c.decide.ensures.reply c.in-Ok.ensures.deed in
+    may-do g.A.Does.Deed.does old.reference old.history old.totals c.args.command.now (g.A.Asked.command c.args.asked.now) c.decide.result c.in-Ok.deed c.requires.same c.self.invariant.entries.kept (rw (sym c.self.view_is) at c.requires.room) c.in-Ok.is c.decide.ensures.reply c.in-Ok.ensures.deed in
     let kept =
-    legal-refused old.reference old.history old.totals c.take_in.new.totals old.versions c.know.new.versions c.self.invariant.entries c.in-Err-take_in.ensures.refused (c.take_in.ensures.known old.reference may.1)
+    legal-refused old.reference old.history old.totals c.take_in.new.totals old.versions c.know.new.versions c.self.invariant.entries c.in-Err-take_in.ensures.refused (c.take_in.ensures.known old.reference may.1.0)
     (versions-same old.history old.versions c.know.new.versions c.self.invariant.entries.counted c.know.ensures.days c.know.ensures.same) in
     let back = truncated old.history (Asked c.args.command.now c.reply.result) c.len-count.result c.push_asked.new.self c.truncate.new.self c.len-count.ensures c.in_ok-push_asked.ensures.added c.truncate.ensures in
     subst (λ (history : List Entry). IsKeptWhole old.reference history c.take_in.new.totals c.know.new.versions old.recipients.items) (sym back)
     (record { entries = kept; told = c.self.invariant.told })
 
 pub invariant_of-self-2 : goal.invariant_of-self-2
-invariant_of-self-2 c =
+invariant_of-self-2 g c =
     let old = c.self.inside in
     let command = c.args.command.now in
     let deed = c.in-Ok.deed in
-    let reply = Accepted (done_by deed) in
+    let reply = Accepted (done_by (g.A.Does.Deed.does deed)) in
     let entry = Asked command reply in
     let room = rw (sym c.self.view_is) at c.requires.room in
-    let may = may-do old.reference old.history old.totals command c.decide.result deed c.self.invariant.entries.kept room c.in-Ok.is c.decide.ensures.reply c.in-Ok.ensures.deed in
+    let may = may-do g.A.Does.Deed.does old.reference old.history old.totals command (g.A.Asked.command c.args.asked.now) c.decide.result deed c.requires.same c.self.invariant.entries.kept room c.in-Ok.is c.decide.ensures.reply c.in-Ok.ensures.deed in
     let counted =
     versions-push old.history entry c.know.new.versions c.touch.new.versions c.touched-touched.result
     (versions-same old.history old.versions c.know.new.versions c.self.invariant.entries.counted c.know.ensures.days c.know.ensures.same)
-    (rw c.touched-touched.ensures (λ group. accepted-touches old.reference old.history old.totals command deed group c.self.invariant.entries.kept.beside.offers c.in-Ok.ensures.deed))
+    (rw c.touched-touched.ensures (λ group. accepted-touches old.reference old.history old.totals command (g.A.Does.Deed.does deed) group c.self.invariant.entries.kept.beside.offers may.1.1))
     c.touch.ensures.touched c.touch.ensures.days in
     let kept =
     legal-accepted old.reference old.history old.totals c.take_in.new.totals old.versions c.touch.new.versions command reply c.self.invariant.entries room may.0 refl
-    (c.in_default.ensures.taken old.reference command c.in-Ok.ensures.deed) (c.take_in.ensures.known old.reference may.1) counted in
+    (c.in_default.ensures.taken old.reference command may.1.1) (c.take_in.ensures.known old.reference may.1.0) counted in
     let whole = whole-more old.reference old.history entry c.take_in.new.totals c.touch.new.versions old.recipients.items c.self.invariant.told kept (λ id. few_sides _ (c.rules.ensures.sound.sides id)) in
     rw (c.in_ok-push_asked.ensures.added, c.reply.ensures) whole
 
 pub returns-clause-stands : goal.returns-clause-stands
-returns-clause-stands c =
+returns-clause-stands g c =
     let old = c.self.inside in
     let command = c.args.command.now in
-    let entry = Asked command (Accepted (done_by c.in-Ok.deed)) in
+    let entry = Asked command (Accepted (done_by (g.A.Does.Deed.does c.in-Ok.deed))) in
     let room = rw (sym c.self.view_is) at c.requires.room in
-    let may = may-do old.reference old.history old.totals command c.decide.result c.in-Ok.deed c.self.invariant.entries.kept room c.in-Ok.is c.decide.ensures.reply c.in-Ok.ensures.deed in
+    let may = may-do g.A.Does.Deed.does old.reference old.history old.totals command (g.A.Asked.command c.args.asked.now) c.decide.result c.in-Ok.deed c.requires.same c.self.invariant.entries.kept room c.in-Ok.is c.decide.ensures.reply c.in-Ok.ensures.deed in
     rw c.reply-2.ensures
     (subst (λ (k : BookState). StandsLast k.reference (length k.history + 1) entry) c.self.view_is (stands_last old.reference old.history entry c.self.invariant.entries.legal room may.0))
 
 pub returns-clause-reply : goal.returns-clause-reply
-returns-clause-reply c =
+returns-clause-reply g c =
     let old = c.self.inside in
-    let may = may-do old.reference old.history old.totals c.args.command.now c.decide.result c.in-Ok.deed c.self.invariant.entries.kept (rw (sym c.self.view_is) at c.requires.room) c.in-Ok.is c.decide.ensures.reply c.in-Ok.ensures.deed in
+    let may = may-do g.A.Does.Deed.does old.reference old.history old.totals c.args.command.now (g.A.Asked.command c.args.asked.now) c.decide.result c.in-Ok.deed c.requires.same c.self.invariant.entries.kept (rw (sym c.self.view_is) at c.requires.room) c.in-Ok.is c.decide.ensures.reply c.in-Ok.ensures.deed in
     rw c.reply-2.ensures (may.0 ∙ ap (λ (k : BookState). answer k.reference k.history c.args.command.now) c.self.view_is)
