@@ -1,5 +1,6 @@
 -- What is kept beside no history, and after what was refused.
 use Rattle.std.proofs.Common.{◌≡◌, true, false, ◌<◌, ◌++◌, List, [], ◌∷◌, length, None, sym, ap, ◌∙◌, arith, subst}
+use Rattle.gu_terms.specs.Commands.{MayBeAsked}
 use Rattle.gu_terms.specs.declared.command.Command.{Command}
 use Rattle.gu_terms.specs.declared.entry.Entry.{Entry}
 use Rattle.gu_terms.specs.declared.entry.Entry.TheVariants.{Asked}
@@ -30,7 +31,7 @@ use Rattle.gu_book.proofs.KeptQuiet.{kept-denied}
 pub nothing-kept : (reference : Tables) (totals : Totals) (versions : Versions) → totals.today ≡ None → totals.trades ≡ [] → totals.offers ≡ [] → totals.give_ups.keys ≡ [] → totals.limits ≡ [] → totals.positions ≡ []
     → versions.days ≡ 0 → ((group : Group) → version_in versions group ≡ 0) → IsKeptLegal reference [] totals versions
 nothing-kept reference totals versions today trades offers give_ups limits positions days none = record {
-  legal = record { within = omega arith; each = λ k entry at. cc };
+  legal = record { within = omega arith; entered = λ k entry at. cc; each = λ k entry at. cc };
   kept = record {
     orderly = nothing-orderly;
     beside = record {
@@ -76,15 +77,15 @@ still-kept reference history old new kept same =
 
 -- a legal history grows by it
 pub legal-accepted : (reference : Tables) (history : List Entry) (old new : Totals) (before after : Versions) (command : Command) (reply : Reply) → IsKeptLegal reference history old before
-    → length history < 1000000 → reply ≡ answer reference history command → accepts reply ≡ true → TakesIn reference old new command → (IsAccounted reference old → IsAccounted reference new)
+    → length history < 1000000 → MayBeAsked command → reply ≡ answer reference history command → accepts reply ≡ true → TakesIn reference old new command → (IsAccounted reference old → IsAccounted reference new)
     → AreVersions (history ++ Asked command reply ∷ []) after → IsKeptLegal reference (history ++ Asked command reply ∷ []) new after
-legal-accepted reference history old new before after command reply kept room is accepted takes known counted =
+legal-accepted reference history old new before after command reply kept room asked is accepted takes known counted =
     let it = is-accepted reference history command reply room is accepted in
     let grown : IsKept reference (history ++ Asked command reply ∷ []) new =
     subst (λ (r : Reply). IsKept reference (history ++ Asked command r ∷ []) new) (sym (is ∙ it.accepted)) (takes history kept.kept it) in
     let rows = shown-accepted reference history command (in_order history kept.kept.orderly) it (subst (IsShown reference) kept.kept.beside.offers kept.shown) in
     record {
-      legal = legal_push reference history (Asked command reply) kept.legal room is;
+      legal = legal_push reference history (Asked command reply) kept.legal room asked is;
       kept = grown;
       known = known kept.known;
       shown = subst (IsShown reference) (sym grown.beside.offers)
@@ -94,12 +95,12 @@ legal-accepted reference history old new before after command reply kept room is
 
 -- and by one that was refused
 pub legal-denied : (reference : Tables) (history : List Entry) (totals : Totals) (before after : Versions) (command : Command) (reply : Reply) → IsKeptLegal reference history totals before
-    → length history < 1000000 → reply ≡ answer reference history command → accepts reply ≡ false
+    → length history < 1000000 → MayBeAsked command → reply ≡ answer reference history command → accepts reply ≡ false
     → AreVersions (history ++ Asked command reply ∷ []) after → IsKeptLegal reference (history ++ Asked command reply ∷ []) totals after
-legal-denied reference history totals before after command reply kept room is denied counted =
+legal-denied reference history totals before after command reply kept room asked is denied counted =
     let one = refused reply denied in
     record {
-      legal = legal_push reference history (Asked command reply) kept.legal room is;
+      legal = legal_push reference history (Asked command reply) kept.legal room asked is;
       kept = subst (λ (r : Reply). IsKept reference (history ++ Asked command r ∷ []) totals) (sym one.1) (kept-denied reference history totals command one.0 kept.kept);
       known = kept.known;
       shown = kept.shown;

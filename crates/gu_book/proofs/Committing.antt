@@ -61,7 +61,7 @@ pub legal-swept : (book : BookState) (proposal : ProposedSweep) (mid new : Total
     → IsKeptLegal book.reference (book.history ++ Swept (sweep_of proposal) ∷ []) new new_counts
 legal-swept book proposal mid new counts new_counts kept current right moves days touched =
     let sweep = sweep_of proposal in record {
-      legal = legal_push book.reference book.history (Swept sweep) kept.legal current.room (may-sweep book proposal current right);
+      legal = legal_push book.reference book.history (Swept sweep) kept.legal current.room tt (may-sweep book proposal current right);
       kept = kept-whole book.reference book.history sweep new right.ascending kept.kept.orderly.few (λ side symbol. omega (arith, moves.sums side symbol, kept.kept.beside.sums side symbol))
           (moves.kept book.history sweep kept.kept);
       known = moves.known kept.known;
@@ -72,4 +72,4 @@ legal-swept book proposal mid new counts new_counts kept current right moves day
 -- in which it stands last
 pub swept-last : (book : BookState) (proposal : ProposedSweep) (totals : Totals) (versions : Versions) → IsKeptLegal book.reference book.history totals versions → IsCurrent book proposal.view
     → IsSweepOf proposal.view (sweep_of proposal) → StandsLast book.reference (length book.history + 1) (Swept (sweep_of proposal))
-swept-last book proposal totals versions kept current right = stands_last book.reference book.history (Swept (sweep_of proposal)) kept.legal current.room (may-sweep book proposal current right)
+swept-last book proposal totals versions kept current right = stands_last book.reference book.history (Swept (sweep_of proposal)) kept.legal current.room tt (may-sweep book proposal current right)

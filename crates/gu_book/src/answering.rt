@@ -84,13 +84,13 @@ fn waiting_of(counterpart: &Counterpart) -> Result<Option<Terms>, Refusal>
 impl<'a> Asked for ReportAsked<'a> {
     type Does = NewReport<'a>;
 
-    ghost command = { λ a. Command.ReportSide a.firm.now a.id.now a.match_id.now a.symbol.now a.lots a.price a.day a.side a.account.now };
+    ghost command = { λ a. Command.ReportSide a.firm.now a.id.now a.match_id.now a.symbol.now a.lots.now a.price.now a.day.now a.side.now a.account.now };
 
     fn decide(&self, reference: &Reference, totals: &Totals) -> Result<NewReport<'a>, Refusal> {
         let Some(today) = totals.today else {
             return Err(Refusal::NoDay);
         };
-        if is_other_day(today, self.day) {
+        if is_other_day(today, *self.day) {
             return Err(Refusal::WrongDay);
         }
         if !reference.is_instrument(*self.symbol) {
@@ -115,31 +115,31 @@ impl<'a> Asked for ReportAsked<'a> {
 impl<'a> Asked for LimitAsked<'a> {
     type Does = LimitChange;
 
-    ghost command = { λ a. Command.SetLimit a.group.now a.key.now a.lots };
+    ghost command = { λ a. Command.SetLimit a.group.now a.key.now a.lots.now };
 
     fn decide(&self, reference: &Reference, _totals: &Totals) -> Result<LimitChange, Refusal> {
         if !(reference.group(*self.group) && is_known_key(reference, *self.key)) {
             return Err(Refusal::UnknownKey);
         }
-        if self.lots > MOST_LIMIT {
+        if *self.lots > MOST_LIMIT {
             return Err(Refusal::TooHigh);
         }
         Ok(LimitChange {
             group: *self.group,
             key: *self.key,
-            lots: self.lots,
+            lots: *self.lots,
         })
     }
 }
 
-impl Asked for OpeningAsked {
+impl<'a> Asked for OpeningAsked<'a> {
     type Does = Opening;
 
-    ghost command = { λ a. Command.OpenDay a.day };
+    ghost command = { λ a. Command.OpenDay a.day.now };
 
     fn decide(&self, _reference: &Reference, totals: &Totals) -> Result<Opening, Refusal> {
-        if is_later(totals.today, self.day) {
-            Ok(Opening { day: self.day })
+        if is_later(totals.today, *self.day) {
+            Ok(Opening { day: *self.day })
         } else {
             Err(Refusal::WrongDay)
         }
@@ -374,14 +374,14 @@ fn terms_given_up(totals: &Totals, offer: &Offer) -> Terms
     report
 }
 
-impl Asked for ClaimAsked {
+impl<'a> Asked for ClaimAsked<'a> {
     type Does = Claim;
 
-    ghost command = { λ a. Command.Claim a.firm a.offer };
+    ghost command = { λ a. Command.Claim a.firm.now a.offer.now };
 
     fn decide(&self, reference: &Reference, totals: &Totals) -> Result<Claim, Refusal> {
-        let (offer, partner) = offer_to(reference, totals, self.firm, self.offer)?;
-        let Some(lots) = lots_left(totals, self.offer) else {
+        let (offer, partner) = offer_to(reference, totals, *self.firm, *self.offer)?;
+        let Some(lots) = lots_left(totals, *self.offer) else {
             return Err(Refusal::OfferClosed);
         };
         let path = path_with(reference, &offer, &partner);
@@ -390,7 +390,7 @@ impl Asked for ClaimAsked {
             Err(key) => return Err(Refusal::LimitReached(key)),
         };
         let claimed = Moved {
-            number: self.offer,
+            number: *self.offer,
             group: offer.group,
             account: offer.account,
             report: terms_given_up(totals, &offer),
@@ -401,40 +401,40 @@ impl Asked for ClaimAsked {
     }
 }
 
-impl Asked for RefusalAsked {
+impl<'a> Asked for RefusalAsked<'a> {
     type Does = Closing;
 
-    ghost command = { λ a. Command.Refuse a.firm a.offer a.why };
+    ghost command = { λ a. Command.Refuse a.firm.now a.offer.now a.why.now };
 
     fn decide(&self, reference: &Reference, totals: &Totals) -> Result<Closing, Refusal> {
-        let (offer, _) = offer_to(reference, totals, self.firm, self.offer)?;
-        let Some(lots) = lots_left(totals, self.offer) else {
+        let (offer, _) = offer_to(reference, totals, *self.firm, *self.offer)?;
+        let Some(lots) = lots_left(totals, *self.offer) else {
             return Err(Refusal::OfferClosed);
         };
         Ok(Closing {
-            number: self.offer,
+            number: *self.offer,
             group: offer.group,
             lots,
         })
     }
 }
 
-impl Asked for ReversalAsked {
+impl<'a> Asked for ReversalAsked<'a> {
     type Does = Reversal;
 
-    ghost command = { λ a. Command.Reverse a.firm a.offer };
+    ghost command = { λ a. Command.Reverse a.firm.now a.offer.now };
 
     fn decide(&self, reference: &Reference, totals: &Totals) -> Result<Reversal, Refusal> {
-        let (offer, partner) = offer_to(reference, totals, self.firm, self.offer)?;
-        if totals.offers.left(self.offer) > 0 {
+        let (offer, partner) = offer_to(reference, totals, *self.firm, *self.offer)?;
+        if totals.offers.left(*self.offer) > 0 {
             return Err(Refusal::OfferOpen);
         }
-        let Some(lots) = lots_moved_today(totals, self.offer) else {
+        let Some(lots) = lots_moved_today(totals, *self.offer) else {
             return Err(Refusal::NothingToReverse);
         };
         let path = path_with(reference, &offer, &partner);
         let reversed = Moved {
-            number: self.offer,
+            number: *self.offer,
             group: offer.group,
             account: offer.account,
             report: terms_given_up(totals, &offer),

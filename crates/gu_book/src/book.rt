@@ -1,6 +1,7 @@
 //! The book.
 
 ghost use Rattle.std.specs.Prelude.{◌≡◌, ◌↔◌, ◌<◌, ◌≤◌, ◌+◌, ◌++◌, ◌∷◌, [], false, is_some, length, true, IfOk, IfErr, IfSome, MatchOption, OnOk, OnErr, IsErrOf};
+ghost use Rattle.gu_terms.specs.Commands.{MayBeAsked};
 ghost use Rattle.gu_terms.specs.Histories.{lots_swept};
 ghost use Rattle.gu_ref.specs.Reference.{is_group};
 ghost use Rattle.gu_rules.specs.Legal.{IsLegal, MayFollow, StandsLast};
@@ -111,6 +112,7 @@ impl Book {
     /// Adds a command that is refused.
     fn append_denied(&mut self, command: &Command, why: &Refusal) -> Result<Reply, AllocError>
         requires room { length self.old.history < 1000000 }
+        requires asked { MayBeAsked command.now }
         requires answered { Reply.Denied why.now ≡ answer self.old.reference self.old.history command.now }
         ensures entered { IfOk result (λ reply. self.new.history ≡ self.old.history ++ Entry.Asked command.now reply ∷ []) }
         ensures reply { IfOk result (λ reply. reply ≡ answer self.old.reference self.old.history command.now) }
@@ -134,6 +136,8 @@ impl Book {
         ensures reference { self.new.reference ≡ self.old.reference }
         ensures refused { OnErr result (self.new.history ≡ self.old.history) }
     {
+        // Shows the prover: what the type of a give-up's lines keeps.
+        command.rules();
         let deed = match asked.decide(&self.reference, &self.totals) {
             Ok(deed) => deed,
             Err(why) => return self.append_denied(command, &why),
@@ -162,9 +166,8 @@ impl Book {
         ensures refused { OnErr result (self.new.history ≡ self.old.history) }
     {
         match command {
-            Command::OpenDay { day } => self.append_asked(command, &OpeningAsked { day: *day }),
+            Command::OpenDay { day } => self.append_asked(command, &OpeningAsked { day }),
             Command::SetLimit { group, key, lots } => {
-                let lots = *lots;
                 self.append_asked(command, &LimitAsked { group, key, lots })
             }
             Command::ReportSide {
@@ -183,10 +186,10 @@ impl Book {
                     id,
                     match_id,
                     symbol,
-                    lots: *lots,
-                    price: *price,
-                    day: *day,
-                    side: *side,
+                    lots,
+                    price,
+                    day,
+                    side,
                     account,
                 };
                 self.append_asked(command, &asked)
@@ -196,25 +199,14 @@ impl Book {
                 id,
                 report,
                 lines,
-            } => {
-                let asked = GiveUpRef {
-                    firm,
-                    id,
-                    report,
-                    lines,
-                };
-                self.append_asked(command, &asked)
-            }
+            } => self.append_asked(command, &GiveUpRef::new(firm, id, report, lines)),
             Command::Claim { firm, offer } => {
-                let (firm, offer) = (*firm, *offer);
                 self.append_asked(command, &ClaimAsked { firm, offer })
             }
             Command::Refuse { firm, offer, why } => {
-                let (firm, offer, why) = (*firm, *offer, *why);
                 self.append_asked(command, &RefusalAsked { firm, offer, why })
             }
             Command::Reverse { firm, offer } => {
-                let (firm, offer) = (*firm, *offer);
                 self.append_asked(command, &ReversalAsked { firm, offer })
             }
         }

@@ -14,28 +14,6 @@ use gu_terms::{AccountId, Day, Done, Group, LimitKey, Lots, OfferNo, Reply};
 use gu_trades::{ReportRef, Terms};
 use std::alloc::AllocError;
 
-/// What an accepted command does, with all that was found as it was decided. Each kind has a type, so that what one kind needs is
-/// never moved for another.
-pub trait Deed: Drop {
-    /// Which deed it is.
-    ghost does: { Self → DeedOf };
-
-    /// The reply to its command.
-    fn reply(&self) -> Reply
-        ensures { result ≡ Reply.Accepted (done_by (does self.now)) };
-
-    /// The groups that it touches.
-    fn touched(&self) -> Touched
-        ensures { result ≡ touched_by (does self.now) };
-
-    /// It is done to the totals.
-    fn take_in(&self, totals: &mut Totals) -> Result<(), AllocError>
-        requires { (reference : Tables) × MayDo reference totals.old (does self.now) }
-        ensures taken { OnOk result (TakesDeed totals.old totals.new (does self.now)) }
-        ensures refused { OnErr result (SameAnswers totals.old totals.new) }
-        ensures known { KeepsAccounts totals.old totals.new (does self.now) };
-}
-
 /// Lots of an offer that are claimed or taken back.
 #[derive(Clone, Copy, Debug)]
 pub struct Moved {
@@ -98,6 +76,28 @@ pub struct Closing {
 #[derive(Drop)]
 pub struct Reversal {
     pub reversed: Moved,
+}
+
+/// What an accepted command does, with all that was found as it was decided. Each kind has a type, so that what one kind needs is
+/// never moved for another.
+pub trait Deed: Drop {
+    /// Which deed it is.
+    ghost does: { Self → DeedOf };
+
+    /// The reply to its command.
+    fn reply(&self) -> Reply
+        ensures { result ≡ Reply.Accepted (done_by (does self.now)) };
+
+    /// The groups that it touches.
+    fn touched(&self) -> Touched
+        ensures { result ≡ touched_by (does self.now) };
+
+    /// It is done to the totals.
+    fn take_in(&self, totals: &mut Totals) -> Result<(), AllocError>
+        requires { (reference : Tables) × MayDo reference totals.old (does self.now) }
+        ensures taken { OnOk result (TakesDeed totals.old totals.new (does self.now)) }
+        ensures refused { OnErr result (SameAnswers totals.old totals.new) }
+        ensures known { KeepsAccounts totals.old totals.new (does self.now) };
 }
 
 impl Deed for Opening {

@@ -7,7 +7,7 @@ use Rattle.std.proofs.lemmas.List.Elements.{filter_map-append}
 use Rattle.gu_terms.proofs.Gathered.{last_or-last, push_each}
 use Rattle.gu_terms.specs.declared.entry.Entry.{Entry}
 use Rattle.gu_terms.specs.declared.report.Report.{Report}
-use Rattle.gu_rules.specs.Legal.{IsLegal, MayFollow, StandsLast}
+use Rattle.gu_rules.specs.Legal.{IsLegal, MayBeEntered, MayFollow, StandsLast}
 use Rattle.gu_rules.specs.Reports.{open_day, report_on, reports_after, reports_of}
 use Rattle.gu_ref.specs.Tables.{Tables}
 
@@ -42,12 +42,13 @@ pub reports_of-next : (history : List Entry) (i : ℕ) {entry : Entry} → i < l
 reports_of-next history i {entry} within is = ap reports_of (take-next history i within is) ∙ reports_of-push (take i history) entry
 
 -- a legal history grows by an entry that may follow it
-pub legal_push : (reference : Tables) (history : List Entry) (entry : Entry) → IsLegal reference history → length history < 1000000 → MayFollow reference history entry → IsLegal reference (history ++ entry ∷ [])
-legal_push reference history entry legal room may = record {
+pub legal_push : (reference : Tables) (history : List Entry) (entry : Entry) → IsLegal reference history → length history < 1000000 → MayBeEntered entry → MayFollow reference history entry → IsLegal reference (history ++ entry ∷ [])
+legal_push reference history entry legal room entered may = record {
   within = omega (arith, length-append history (entry ∷ []));
+  entered = push_each (λ (before : List Entry) (e : Entry). MayBeEntered e) history entry legal.entered entered;
   each = push_each (MayFollow reference) history entry legal.each may;
 }
 
 -- and stands in it as the last one
-pub stands_last : (reference : Tables) (history : List Entry) (entry : Entry) → IsLegal reference history → length history < 1000000 → MayFollow reference history entry → StandsLast reference (length history + 1) entry
-stands_last reference history entry legal room may = record { before = history; legal = legal_push reference history entry legal room may; number_is = refl }
+pub stands_last : (reference : Tables) (history : List Entry) (entry : Entry) → IsLegal reference history → length history < 1000000 → MayBeEntered entry → MayFollow reference history entry → StandsLast reference (length history + 1) entry
+stands_last reference history entry legal room entered may = record { before = history; legal = legal_push reference history entry legal room entered may; number_is = refl }

@@ -1,5 +1,5 @@
 -- Laws of legal histories.
-use Rattle.std.proofs.Common.{◌≡◌, ℕ, ◌+◌, ◌*◌, ◌≤◌, ◌++◌, true, false, List, [], ◌∷◌, length, take, slice_get, Option, Some, is_some, refl, sym, ap, ◌∙◌, arith, length-append, take-append-drop}
+use Rattle.std.proofs.Common.{◌≡◌, ℕ, ◌+◌, ◌*◌, ◌≤◌, ◌++◌, true, false, suc, List, [], ◌∷◌, length, take, slice_get, Option, Some, is_some, refl, sym, ap, ◌∙◌, arith, length-append, take-append-drop}
 use Rattle.std.proofs.lemmas.List.{length-map, length-take}
 use Rattle.std.proofs.lemmas.Option.{slice_get_within}
 use Rattle.std.specs.Prelude.{drop}
@@ -21,8 +21,7 @@ use Rattle.gu_limits.specs.Paths.{path_of}
 use Rattle.gu_ref.specs.Reference.{agreement_between}
 use Rattle.gu_ref.specs.Rules.{IsSound}
 use Rattle.gu_ref.specs.Tables.{Tables}
-use Rattle.gu_rules.specs.Laws.{AreShort, IsShort}
-use Rattle.gu_rules.specs.Legal.{IsLegal}
+use Rattle.gu_rules.specs.Legal.{IsLegal, MayBeEntered}
 use Rattle.gu_rules.specs.Offers.{lines_by, offers_of, standing_of}
 use Rattle.gu_rules.specs.Positions.{LongIsShort, moved_out, traded}
 use Rattle.gu_rules.specs.Reports.{reports_of}
@@ -57,16 +56,19 @@ has_path reference firm account agreement sound between =
 -- ---- how many offers there are
 
 -- an entry makes an offer a line
-few-made : (entry : Entry) → IsShort entry → length (lines_by entry) ≤ 16
-few-made (Asked (GiveUp firm id report lines) (Accepted (Offered group first count))) short =
-    omega (arith, short, length-map {B = Offer} lines (λ (l : Line). record { firm = firm; report = report; group = group; account = l.account; lots = l.lots }))
-few-made entry short = omega arith
+few-made : (entry : Entry) → MayBeEntered entry → length (lines_by entry) ≤ 16
+few-made (Asked (GiveUp firm id report lines) (Accepted (Offered group first count))) lines_are =
+    omega (arith, lines_are.most, length-map {B = Offer} lines (λ (l : Line). record { firm = firm; report = report; group = group; account = l.account; lots = l.lots }))
+few-made entry entered = omega arith
 
-pub few_offers_made : (history : List Entry) → AreShort history → length (offers_of history) ≤ 16 * length history
-few_offers_made [] short = omega arith
-few_offers_made (entry ∷ later) short =
+few-offers : (history : List Entry) → ((k : ℕ) (entry : Entry) → slice_get history k ≡ Some entry → MayBeEntered entry) → length (offers_of history) ≤ 16 * length history
+few-offers [] entered = omega arith
+few-offers (entry ∷ later) entered =
     let size : length (offers_of (entry ∷ later)) ≡ length (lines_by entry) + length (offers_of later) = length-append (lines_by entry) (offers_of later) in
-    omega (arith, size, few-made entry short.0, few_offers_made later short.1)
+    omega (arith, size, few-made entry (entered 0 entry refl), few-offers later (λ k. entered (suc k)))
+
+pub few_offers_made : (reference : Tables) (history : List Entry) → IsLegal reference history → length (offers_of history) ≤ 16 * length history
+few_offers_made reference history legal = few-offers history legal.entered
 
 -- ---- views
 

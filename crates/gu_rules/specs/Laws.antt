@@ -1,10 +1,8 @@
--- Words of the laws of legal histories: give-ups as they are made, and what an offer gives up.
-use Rattle.std.specs.Prelude.{◌≡◌, ◌≤◌, true, List, length, Some, is_some}
+-- Words of the laws of legal histories: what an offer gives up.
+use Rattle.std.specs.Prelude.{◌≡◌, true, List, Some, is_some}
 use Rattle.std.specs.List.{AllByRecursion}
 use Rattle.gu_terms.specs.declared.agreement.AgreementId.{AgreementId}
-use Rattle.gu_terms.specs.declared.command.Command.TheVariants.{GiveUp}
 use Rattle.gu_terms.specs.declared.entry.Entry.{Entry}
-use Rattle.gu_terms.specs.declared.entry.Entry.TheVariants.{Asked}
 use Rattle.gu_terms.specs.declared.offer.Offer.{Offer}
 use Rattle.gu_terms.specs.declared.report.Report.{Report}
 use Rattle.gu_ref.specs.Reference.{account_row, agreement_between}
@@ -14,15 +12,6 @@ use Rattle.gu_trades.specs.Reports.{report_by}
 use Rattle.gu_rules.specs.Answer.{group_of}
 use Rattle.gu_rules.specs.Offers.{offers_of}
 use Rattle.gu_rules.specs.Reports.{reports_of}
-
--- an entry is no give-up of more than sixteen lines
-abbrev pub IsShort : Entry → Type 0
-IsShort (Asked (GiveUp firm id report lines) reply) = length lines ≤ 16
-IsShort entry = Unit {0}
-
--- no give-up has more than sixteen lines, as none that is made has. (The lists of these definitions have no such bound.)
-abbrev pub AreShort : List Entry → Type 0
-AreShort history = AllByRecursion IsShort history
 
 -- an offer gives up a report that is a side of a trade, in the group of its instrument, to an account of the reference,
 -- by the agreement between it and the firm

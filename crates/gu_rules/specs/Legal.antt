@@ -5,6 +5,7 @@ use Rattle.gu_terms.specs.declared.entry.Entry.TheVariants.{Asked, Swept}
 use Rattle.gu_terms.specs.declared.reply.Reply.TheVariants.{Accepted, Denied}
 use Rattle.gu_terms.specs.declared.reply.Reply.{Reply}
 use Rattle.gu_terms.specs.declared.command.Command.{Command}
+use Rattle.gu_terms.specs.Commands.{MayBeAsked}
 use Rattle.gu_ref.specs.Tables.{Tables}
 use Rattle.gu_rules.specs.Answer.{answer, done_of, state_of}
 use Rattle.gu_rules.specs.Sweeps.{MaySweep}
@@ -14,9 +15,15 @@ abbrev pub MayFollow : Tables → List Entry → Entry → Type 0
 MayFollow reference before (Asked command reply) = reply ≡ answer reference before command
 MayFollow reference before (Swept sweep) = MaySweep reference before sweep
 
--- at most a million entries, of which each may follow those before it
+-- an entry whose command may be asked, or a sweep
+abbrev pub MayBeEntered : Entry → Type 0
+MayBeEntered (Asked command reply) = MayBeAsked command
+MayBeEntered (Swept sweep) = Unit {0}
+
+-- at most a million entries, of which each may be entered, and may follow those before it
 pub record IsLegal (reference : Tables) (history : List Entry) : Type 0 where
   pub within : length history ≤ 1000000
+  pub entered : (k : ℕ) (entry : Entry) → slice_get history k ≡ Some entry → MayBeEntered entry
   pub each : (k : ℕ) (entry : Entry) → slice_get history k ≡ Some entry → MayFollow reference (take k history) entry
 
 -- the entry is the last of some legal history of this number of entries

@@ -8,7 +8,6 @@ use Rattle.gu_terms.specs.declared.entry.Entry.{Entry}
 use Rattle.gu_terms.specs.declared.entry.Entry.TheVariants.{Swept}
 use Rattle.gu_ref.specs.Tables.{Tables}
 use Rattle.gu_view.proofs.Checked.{ok_from_right}
-use Rattle.gu_rules.specs.Laws.{IsShort}
 use Rattle.gu_rules.specs.Legal.{IsLegal, MayFollow}
 use Rattle.gu_rules.specs.Views.{group_view}
 use Rattle.gu_script.specs.CommittedSheets.{AreTyped, HasLots, PrintRightSheets}
@@ -31,6 +30,9 @@ taken_entry (entry ∷ history) (suc k) (suc j) less = taken_entry history k j (
 legal_first : (reference : Tables) (history : List Entry) (k : ℕ) → IsLegal reference history → IsLegal reference (take k history)
 legal_first reference history k legal = record {
   within = omega (arith, length-take k history, legal.within);
+  entered = λ j entry at.
+      let within = slice_get_within (take k history) j entry at in
+      legal.entered j entry (sym (taken_entry history k j (omega (arith, within, length-take k history))) ∙ at);
   each = λ j entry at.
       let within = slice_get_within (take k history) j entry at in
       let less : j < k = omega (arith, within, length-take k history) in
@@ -47,7 +49,6 @@ typed_first reference history k typed = record {
   accounts = typed.accounts;
   agreements = typed.agreements;
   guarantors = typed.guarantors;
-  short = first_each IsShort history k typed.short;
   lots = first_each HasLots history k typed.lots;
 }
 

@@ -286,7 +286,7 @@ module _ (reference : Tables) (history : List Entry) (group : Group) (typed : Ar
         (subst (AllByRecursion (λ (o : ViewOffer). IsOfferNo o.number)) (sym offers-given)
         (numbers_shown reference typed.sound rows (open_numbers rows group)
         (along (λ m. (1 ≤ m) × (m < 1 + length rows)) IsOfferNo (open_numbers rows group)
-        (λ m h. record { some = h.0; most = omega (arith, h.1, standing-length history 1 (offers_of history), few_offers_made history typed.short, legal.within) }) (numbers-within group 1 rows))));
+        (λ m h. record { some = h.0; most = omega (arith, h.1, standing-length history 1 (offers_of history), few_offers_made reference history legal, legal.within) }) (numbers-within group 1 rows))));
     names = All-from_recursion (λ (o : ViewOffer). IsTrue (list_all (λ k. is_name (name_of_key k)) o.path)) (offers_shown reference history group)
         (along (HasPath reference) (λ (o : ViewOffer). list_all (λ k. is_name (name_of_key k)) o.path ≡ true) (offers_shown reference history group)
         (λ o has. path_named reference history typed o.agreement o.path has) paths_there);

@@ -69,7 +69,7 @@ abbrev pub IsEntered : State → Outcome → State → Type 0
 IsEntered old outcome new = (((receipt : Receipt) × (outcome ≡ Asked receipt)) ⊎ (outcome ≡ Full)) × (new.looks ≡ old.looks)
 
 pub step_entered : (old new : State) (command : Command) (outcome : Outcome) → LeadsTo old (Enter command) outcome new → IsEntered old outcome new
-step_entered old new command outcome leads = along (is_full old) leads
+step_entered old new command outcome leads = along (is_full old) leads.1
   where
     along : (full : Bool) → IsResult outcome new (cond full (Full, old) (Asked (next_receipt old (AskedEntry command (answer old.book.reference old.book.history command))), with_entry old (AskedEntry command (answer old.book.reference old.book.history command)))) → IsEntered old outcome new
     along true is = (inr (ap (λ (p : Outcome × State). p.0) is), ap (λ (p : Outcome × State). p.1.looks) is)

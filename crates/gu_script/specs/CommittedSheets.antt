@@ -15,7 +15,6 @@ use Rattle.gu_ref.specs.Rules.{IsSound}
 use Rattle.gu_ref.specs.Tables.{Tables}
 use Rattle.gu_view.specs.Check.{verdict}
 use Rattle.gu_view.specs.View.{GroupView}
-use Rattle.gu_rules.specs.Laws.{AreShort}
 use Rattle.gu_rules.specs.Views.{group_view}
 use Rattle.gu_text.specs.SheetText.{sheet_text}
 use Rattle.gu_text.specs.Sheets.{IsSheet}
@@ -43,12 +42,11 @@ HasLots (Asked (GiveUp firm id report lines) reply) = AllByRecursion (λ l. IsLo
 HasLots entry = Unit {0}
 
 -- what the types of a reference and of commands keep, and these tables and lists alone don't: the reference is sound and its names are
--- names, and a give-up has at most sixteen lines, of 1 to 1,000,000 lots each
+-- names, and the lines of a give-up have 1 to 1,000,000 lots each
 pub record AreTyped (reference : Tables) (history : List Entry) : Type 0 where
   pub sound : IsSound reference
   pub groups : All (λ g. IsTrue (is_name g.name)) reference.groups
   pub accounts : All (λ a. IsTrue (is_name a.firm.name)) reference.accounts
   pub agreements : All (λ a. IsTrue (is_name a.id.name && is_name a.executing.name && is_name a.account.name)) reference.agreements
   pub guarantors : All (λ g. IsTrue (is_name g.guarantor.name)) reference.guarantors
-  pub short : AreShort history
   pub lots : AllByRecursion HasLots history

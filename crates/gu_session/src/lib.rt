@@ -14,6 +14,7 @@ mod laws;
 mod logged_on;
 mod logon;
 mod messages;
+mod orders;
 mod output;
 mod plan;
 mod ready;
@@ -29,9 +30,12 @@ mod state;
 pub use ask_ref::AskRef;
 pub use input::{Failure, Input, Outcome};
 pub use laws::{
-    asks_for_the_gap, close_is_last, closed_for_good, expected_never_falls, hands_out_in_order,
-    keeps_the_last_sent, nothing_before_the_logon, numbers_go_up_by_one, one_answer, one_step,
-    references_go_up, resends_what_was_sent, serves_what_is_asked,
+    asks_for_the_gap, closed_for_good, keeps_the_last_sent, numbers_go_up_by_one, one_step,
+    resends_what_was_sent, serves_what_is_asked,
+};
+pub use orders::{
+    close_is_last, expected_never_falls, hands_out_in_order, nothing_before_the_logon, one_answer,
+    references_go_up,
 };
 pub use output::{Asked, Output, Taken};
 pub use plan::BoxedRequest;

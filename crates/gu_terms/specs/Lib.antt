@@ -1,4 +1,5 @@
 pub mod AllocRejects
+pub mod Commands
 pub mod Cuts
 pub mod Days
 pub mod Events

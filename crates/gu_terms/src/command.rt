@@ -1,6 +1,7 @@
 //! What is asked of the house.
 
 ghost use Rattle.std.specs.Prelude.{◌≡◌, ◌↔◌, IsTrue, IfOk};
+ghost use Rattle.gu_terms.specs.Commands.{MayBeAsked};
 ghost use Rattle.gu_terms.specs.PackedEntries.{IsReport};
 
 use crate::account::AccountId;
@@ -85,6 +86,15 @@ pub(crate) fn is_same_day(day: Option<Day>, other: Option<Day>) -> bool
 }
 
 impl Command {
+    /// What the type of a give-up's lines keeps. Nothing is done: callers show it to the prover.
+    pub fn rules(&self)
+        ensures { MayBeAsked self.now }
+    {
+        if let Command::GiveUp { lines, .. } = self {
+            let _ = lines.as_slice();
+        }
+    }
+
     /// A copy.
     pub fn copy(&self) -> Result<Command, AllocError>
         ensures { IfOk result (λ command. command ≡ self.now) }

@@ -74,7 +74,7 @@ commits-known (Some look) state worker = of look.proposal
     of (Some sweep) = either (is_full (with_look state worker None)) _ _ (λ e. cc) (either (is_overtaken (with_look state worker None) look) _ _ (λ e. cc) (λ e. cc))
 
 leads-known : (old : State) (step : Step) (outcome : Outcome) (new : State) → LeadsTo old step outcome new → outcome ≢ Foreign
-leads-known old (Enter command) outcome new h foreign = either (is_full old) _ _ (λ e. cc) (λ e. cc) (sym (ap (λ (p : Outcome × State). p.0) h) ∙ foreign)
+leads-known old (Enter command) outcome new h foreign = either (is_full old) _ _ (λ e. cc) (λ e. cc) (sym (ap (λ (p : Outcome × State). p.0) h.1) ∙ foreign)
 leads-known old (See worker group) outcome new h foreign = either (is_group old.book.reference group) _ _ (λ e. cc) (λ e. cc) (sym (ap (λ (p : Outcome × State). p.0) h) ∙ foreign)
 leads-known old (Propose worker) outcome new h foreign = proposes-known (look_of old worker) old worker outcome new h foreign
 leads-known old (Commit worker) outcome new h foreign = commits-known (look_of old worker) old worker (sym (ap (λ (p : Outcome × State). p.0) h) ∙ foreign)

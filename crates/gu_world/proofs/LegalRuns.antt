@@ -12,7 +12,7 @@ use Rattle.gu_ref.specs.Reference.{is_group}
 use Rattle.gu_ref.specs.Tables.{Tables}
 use Rattle.gu_view.specs.View.{GroupView}
 use Rattle.gu_rules.specs.Answer.{answer}
-use Rattle.gu_rules.specs.Legal.{IsLegal, MayFollow}
+use Rattle.gu_rules.specs.Legal.{IsLegal, MayBeEntered, MayFollow}
 use Rattle.gu_rules.specs.Sweeps.{IsSweepOf, MaySweep}
 use Rattle.gu_rules.specs.Versions.{version_of}
 use Rattle.gu_rules.specs.Views.{group_view}
@@ -68,9 +68,9 @@ module _ (state : State) (good : IsGood state) where
   }
 
   -- an entry more leaves what was seen
-  good_entry : (entry : Entry) → is_full state ≡ false → MayFollow state.book.reference state.book.history entry → IsGood (with_entry state entry)
-  good_entry entry room may = record {
-    legal = legal_push state.book.reference state.book.history entry good.legal (leb-false 1000000 (length state.book.history) room) may;
+  good_entry : (entry : Entry) → is_full state ≡ false → MayBeEntered entry → MayFollow state.book.reference state.book.history entry → IsGood (with_entry state entry)
+  good_entry entry room entered may = record {
+    legal = legal_push state.book.reference state.book.history entry good.legal (leb-false 1000000 (length state.book.history) room) entered may;
     looks = λ worker look at.
         let one = good.looks worker look at in
         let front : take look.seen (state.book.history ++ entry ∷ []) ≡ take look.seen state.book.history = take-append-le look.seen state.book.history (entry ∷ []) one.seen in
@@ -120,11 +120,11 @@ good_committed old good worker (Some look) at = by look.proposal refl
     by (Some sweep) is =
         let left = good_without old good worker in
         either (is_full (with_look old worker None)) _ _ left
-        (λ room. either (is_overtaken (with_look old worker None) look) _ _ left (λ quiet. good_entry (with_look old worker None) left (SweptEntry sweep) room (still (with_look old worker None) left look sweep (good.looks worker look at) is quiet)))
+        (λ room. either (is_overtaken (with_look old worker None) look) _ _ left (λ quiet. good_entry (with_look old worker None) left (SweptEntry sweep) room tt (still (with_look old worker None) left look sweep (good.looks worker look at) is quiet)))
 
 good_leads : (old : State) (step : Step) (outcome : Outcome) (new : State) → LeadsTo old step outcome new → IsGood old → IsGood new
 good_leads old (Enter command) outcome new h good =
-    subst IsGood (sym (ap (λ (p : Outcome × State). p.1) h)) (either (is_full old) _ _ good (λ room. good_entry old good (AskedEntry command (answer old.book.reference old.book.history command)) room refl))
+    subst IsGood (sym (ap (λ (p : Outcome × State). p.1) h.1)) (either (is_full old) _ _ good (λ room. good_entry old good (AskedEntry command (answer old.book.reference old.book.history command)) room h.0 refl))
 good_leads old (See worker group) outcome new h good =
     let one : IsSeen old.book.reference old.book.history (record { group = group; seen = length old.book.history; proposal = None }) = record { seen = omega arith; may = λ sweep is. cc } in
     let put = good_look old good worker (record { group = group; seen = length old.book.history; proposal = None }) one in
@@ -142,7 +142,7 @@ good_run old (s ∷ steps) (o ∷ outcomes) new h good = good_run h.0 steps outc
 
 good_start : (reference : Tables) → IsGood (start reference)
 good_start reference = record {
-  legal = record { within = omega arith; each = λ k entry at. cc };
+  legal = record { within = omega arith; entered = λ k entry at. cc; each = λ k entry at. cc };
   looks = λ worker look at. let none : look_of (start reference) worker ≡ None = index-nothing 64 worker in cc;
 }
 

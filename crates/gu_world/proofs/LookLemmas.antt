@@ -46,7 +46,7 @@ commits-grow (Some look) state worker = of look.proposal
 
 pub leads-grow : (old : State) (step : Step) (outcome : Outcome) (new : State) → LeadsTo old step outcome new → Grows old.book new.book
 leads-grow old (Enter command) outcome new h =
-    subst (λ (p : Outcome × State). Grows old.book p.1.book) (sym h) (either (is_full old) old.book _ _ (stays old.book) (adds old.book _))
+    subst (λ (p : Outcome × State). Grows old.book p.1.book) (sym h.1) (either (is_full old) old.book _ _ (stays old.book) (adds old.book _))
 leads-grow old (See worker group) outcome new h =
     subst (λ (p : Outcome × State). Grows old.book p.1.book) (sym h) (either (is_group old.book.reference group) old.book _ _ (stays old.book) (stays old.book))
 leads-grow old (Propose worker) outcome new h = proposes-grows (look_of old worker) old worker outcome new h

@@ -113,7 +113,7 @@ proposes-told (Some look) old worker outcome new h =
     subst (λ (o : Outcome). IsToldBy o new) (sym h.outcome_is) (no_entry (Proposed h.sweep.lots) new (λ history. refl) (λ count. tt))
 
 pub leads-told : (old : State) (step : Step) (outcome : Outcome) (new : State) → LeadsTo old step outcome new → IsToldBy outcome new
-leads-told old (Enter command) outcome new h = subst IsTold (sym h) (either (is_full old) _ _ (no_entry Full old (λ history. refl) (λ count. tt)) (asked_entry old _))
+leads-told old (Enter command) outcome new h = subst IsTold (sym h.1) (either (is_full old) _ _ (no_entry Full old (λ history. refl) (λ count. tt)) (asked_entry old _))
 leads-told old (See worker group) outcome new h =
     subst IsTold (sym h) (either (is_group old.book.reference group) _ _ (no_entry _ _ (λ history. refl) (λ count. tt)) (no_entry NoGroup old (λ history. refl) (λ count. tt)))
 leads-told old (Propose worker) outcome new h = proposes-told (look_of old worker) old worker outcome new h

@@ -71,7 +71,7 @@ proposes-reference (Some look) old worker outcome new h = ap (λ (s : State). s.
 
 -- no step changes it
 pub leads-reference : (old : State) (step : Step) (outcome : Outcome) (new : State) → LeadsTo old step outcome new → new.book.reference ≡ old.book.reference
-leads-reference old (Enter command) outcome new h = ap (λ (p : Outcome × State). p.1.book.reference) h ∙ either (is_full old) old.book.reference _ _ refl refl
+leads-reference old (Enter command) outcome new h = ap (λ (p : Outcome × State). p.1.book.reference) h.1 ∙ either (is_full old) old.book.reference _ _ refl refl
 leads-reference old (See worker group) outcome new h = ap (λ (p : Outcome × State). p.1.book.reference) h ∙ either (is_group old.book.reference group) old.book.reference _ _ refl refl
 leads-reference old (Propose worker) outcome new h = proposes-reference (look_of old worker) old worker outcome new h
 leads-reference old (Commit worker) outcome new h = ap (λ (p : Outcome × State). p.1.book.reference) h ∙ committed_on-reference (look_of old worker) old worker

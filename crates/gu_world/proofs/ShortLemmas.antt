@@ -44,7 +44,7 @@ proposes-short None old worker outcome new h = subst (λ (o : Outcome). IsShort 
 proposes-short (Some look) old worker outcome new h = subst (λ (o : Outcome). IsShort (kept_of o)) (sym h.outcome_is) tt
 
 pub leads-short : (old : State) (step : Step) (outcome : Outcome) (new : State) → LeadsTo old step outcome new → length new.book.history ≤ 1000000 → IsShort (kept_of outcome)
-leads-short old (Enter command) outcome new h = subst IsKeptShort (sym h) (either (is_full old) _ _ (λ most. tt) (λ most. omega (arith, most, length-append old.book.history)))
+leads-short old (Enter command) outcome new h = subst IsKeptShort (sym h.1) (either (is_full old) _ _ (λ most. tt) (λ most. omega (arith, most, length-append old.book.history)))
 leads-short old (See worker group) outcome new h =
     subst IsKeptShort (sym h) (either (is_group old.book.reference group) _ _ (λ most. omega (arith, most, version-le old.book.history group)) (λ most. tt))
 leads-short old (Propose worker) outcome new h = λ most. proposes-short (look_of old worker) old worker outcome new h

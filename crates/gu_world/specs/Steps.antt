@@ -2,6 +2,7 @@
 use Rattle.std.specs.Prelude.{◌≡◌, ℕ, ◌+◌, ◌++◌, nat_le, nat_lt, Bool, false, IsSome, List, [], ◌∷◌, length, take, replicate, Option, Some, None, is_some, slice_index_or, slice_set, if◌then◌else◌}
 use Rattle.std.specs.List.{find}
 use Rattle.std.specs.Option.{option_map_or}
+use Rattle.gu_terms.specs.Commands.{MayBeAsked}
 use Rattle.gu_terms.specs.declared.command.Command.{Command}
 use Rattle.gu_terms.specs.declared.entry.Entry.{Entry}
 use Rattle.gu_terms.specs.declared.entry.Entry.TheVariants.{Asked as AskedEntry, Swept as SweptEntry}
@@ -130,9 +131,9 @@ abbrev pub committed_on : Option Look → State → ℕ → Outcome × State
 committed_on None state worker = (Nothing, state)
 committed_on (Some look) state worker = option_map_or (committed_for (with_look state worker None) look) look.proposal (Nothing, state)
 
--- a step leads from a state to another, with an outcome
+-- a step leads from a state to another, with an outcome; a command is one that may be asked
 abbrev pub LeadsTo : State → Step → Outcome → State → Type 0
-LeadsTo old (Enter command) outcome new = (outcome, new) ≡ entered old command
+LeadsTo old (Enter command) outcome new = MayBeAsked command × ((outcome, new) ≡ entered old command)
 LeadsTo old (See worker group) outcome new = (outcome, new) ≡ looked old worker group
 LeadsTo old (Propose worker) outcome new = ProposesOn (look_of old worker) old worker outcome new
 LeadsTo old (Commit worker) outcome new = (outcome, new) ≡ committed_on (look_of old worker) old worker

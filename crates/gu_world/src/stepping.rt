@@ -1,6 +1,7 @@
 //! Steps, one by one.
 
 ghost use Rattle.std.specs.Prelude.{◌≡◌, List, Option, IfOk, OnErr};
+ghost use Rattle.gu_terms.specs.Commands.{MayBeAsked};
 ghost use Rattle.gu_world.specs.Looks.{AreTrue, Grows, looks_in, state_in};
 ghost use Rattle.gu_world.specs.Steps.{Look, entered, looked, outcome_of};
 
@@ -15,6 +16,7 @@ use std::alloc::{AllocError, Global};
 
 /// Enters a command.
 pub fn enter(book: &mut Book, command: Command) -> Result<Outcome, AllocError>
+    ensures may { MayBeAsked command }
     ensures entered { IfOk result (λ outcome. (looks : List (Option Look))
         → (outcome, record { book = book.new; looks = looks }) ≡ entered (record { book = book.old; looks = looks }) command) }
     ensures grows { Grows book.old book.new }
@@ -31,11 +33,14 @@ pub fn enter(book: &mut Book, command: Command) -> Result<Outcome, AllocError>
 
 /// Enters a command, and tells its answer; nothing where the book is full.
 pub fn ask(book: &mut Book, command: &Command) -> Result<Option<Answered>, AllocError>
+    ensures may { MayBeAsked command.now }
     ensures asked { IfOk result (λ answered. (looks : List (Option Look))
         → (outcome_of command.now answered, record { book = book.new; looks = looks }) ≡ entered (record { book = book.old; looks = looks }) command.now) }
     ensures grows { Grows book.old book.new }
     ensures refused { OnErr result (book.new ≡ book.old) }
 {
+    // Shows the prover: what the type of a give-up's lines keeps.
+    command.rules();
     match book.reply_to(command) {
         Ok(reply) => {
             let number = book.history().len() as u64;

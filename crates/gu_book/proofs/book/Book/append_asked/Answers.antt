@@ -81,9 +81,9 @@ invariant_of-self-2 g c =
     (rw c.touched-touched.ensures (λ group. accepted-touches old.reference old.history old.totals command (g.A.Does.Deed.does deed) group c.self.invariant.entries.kept.beside.offers may.1.1))
     c.touch.ensures.touched c.touch.ensures.days in
     let kept =
-    legal-accepted old.reference old.history old.totals c.take_in.new.totals old.versions c.touch.new.versions command reply c.self.invariant.entries room may.0 refl
+    legal-accepted old.reference old.history old.totals c.take_in.new.totals old.versions c.touch.new.versions command reply c.self.invariant.entries room c.rules.ensures may.0 refl
     (c.in_default.ensures.taken old.reference command may.1.1) (c.take_in.ensures.known old.reference may.1.0) counted in
-    let whole = whole-more old.reference old.history entry c.take_in.new.totals c.touch.new.versions old.recipients.items c.self.invariant.told kept (λ id. few_sides _ (c.rules.ensures.sound.sides id)) in
+    let whole = whole-more old.reference old.history entry c.take_in.new.totals c.touch.new.versions old.recipients.items c.self.invariant.told kept (λ id. few_sides _ (c.rules-2.ensures.sound.sides id)) in
     rw (c.in_ok-push_asked.ensures.added, c.reply.ensures) whole
 
 pub returns-clause-stands : goal.returns-clause-stands
@@ -94,7 +94,7 @@ returns-clause-stands g c =
     let room = rw (sym c.self.view_is) at c.requires.room in
     let may = may-do g.A.Does.Deed.does old.reference old.history old.totals command (g.A.Asked.command c.args.asked.now) c.decide.result c.in-Ok.deed c.requires.same c.self.invariant.entries.kept room c.in-Ok.is c.decide.ensures.reply c.in-Ok.ensures.deed in
     rw c.reply-2.ensures
-    (subst (λ (k : BookState). StandsLast k.reference (length k.history + 1) entry) c.self.view_is (stands_last old.reference old.history entry c.self.invariant.entries.legal room may.0))
+    (subst (λ (k : BookState). StandsLast k.reference (length k.history + 1) entry) c.self.view_is (stands_last old.reference old.history entry c.self.invariant.entries.legal room c.rules.ensures may.0))
 
 pub returns-clause-reply : goal.returns-clause-reply
 returns-clause-reply g c =

@@ -22,7 +22,7 @@ invariant_of-self-2 c =
     let is : Denied c.args.why.now ≡ answer old.reference old.history command = rw (sym c.self.view_is) at c.requires.answered in
     let counted : AreVersions (old.history ++ entry ∷ []) old.versions =
     versions-push old.history entry old.versions old.versions Nothing c.self.invariant.entries.counted (denied-touches old.history command c.args.why.now) (λ group. refl) (omega arith) in
-    let kept = legal-denied old.reference old.history old.totals old.versions old.versions command (Denied c.args.why.now) c.self.invariant.entries room is refl counted in
+    let kept = legal-denied old.reference old.history old.totals old.versions old.versions command (Denied c.args.why.now) c.self.invariant.entries room c.requires.asked is refl counted in
     let whole = whole-more old.reference old.history entry old.totals old.versions old.recipients.items c.self.invariant.told kept (λ id. few_sides _ (c.rules.ensures.sound.sides id)) in
     rw (sym c.in_ok-push_asked.ensures.added) at whole
 
@@ -31,4 +31,4 @@ returns-clause-stands c =
     let old = c.self.inside in
     let entry = Asked c.args.command.now (Denied c.args.why.now) in
     subst (λ (k : BookState). StandsLast k.reference (length k.history + 1) entry) c.self.view_is
-    (stands_last old.reference old.history entry c.self.invariant.entries.legal (rw (sym c.self.view_is) at c.requires.room) (rw (sym c.self.view_is) at c.requires.answered))
+    (stands_last old.reference old.history entry c.self.invariant.entries.legal (rw (sym c.self.view_is) at c.requires.room) c.requires.asked (rw (sym c.self.view_is) at c.requires.answered))

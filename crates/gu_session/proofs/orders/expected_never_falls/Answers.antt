@@ -1,5 +1,5 @@
 use Rattle.gu_session.proofs.HandingOut.{never_falls}
-use Rattle.gu_session.proofs.laws.expected_never_falls.Goals as goal
+use Rattle.gu_session.proofs.orders.expected_never_falls.Goals as goal
 
 pub returns : goal.returns
 returns c = never_falls
