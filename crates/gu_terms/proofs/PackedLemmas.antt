@@ -8,7 +8,7 @@ use Rattle.std.proofs.lemmas.List.{append-nil, append_assoc, drop-append-le, len
 use Rattle.std.proofs.lemmas.List.Elements.{All-push, All-take}
 use Rattle.std.proofs.lemmas.List.Quantifiers.{all_pairs_push}
 use Rattle.std.proofs.Math.Seq.{drop-append_seam, take-append_seam}
-use Rattle.gu_terms.specs.PackedEntries.{AreKept, AreShort, AreSound, IsWithin, Texts, end_of, end_of_last, entry_of, entry_with, joined, size_of, span_of, text_at, texts_at}
+use Rattle.gu_terms.specs.PackedEntries.{AreKept, AreShort, AreSound, AreTextsOf, IsNameOf, IsWithin, Texts, end_of, end_of_last, entry_of, entry_with, joined, size_of, span_of, text_at, texts_at}
 use Rattle.gu_terms.specs.declared.kept_texts.Span.{Span}
 use Rattle.gu_terms.specs.declared.packed.Packed.{Packed}
 
@@ -66,6 +66,10 @@ size_of-new t =
       length-append t.fifth t.reply,
     )
 
+-- there is room for the texts of an entry, which are not long
+pub joined_room : (texts : List ℕ) (t : Texts) → length texts ≤ 4000000000 → AreShort t → length (joined t) + length texts < 2 ^ 32
+joined_room texts t few h = omega (arith, few, size_of-new t, h.first, h.second, h.third, h.fourth, h.fifth, h.reply)
+
 -- and so are those of an entry
 module _ (texts : List ℕ) (t : Texts) where
   texts_at-new : texts_at (texts ++ joined t) (span_of (length texts) t) ≡ t
@@ -95,7 +99,7 @@ module _ (texts : List ℕ) (t : Texts) where
 
 -- an entry more, whose texts come after the others
 module _ (texts : List ℕ) (t : Texts) (entries : List Packed) (new : Packed) (h : AreKept texts entries)
-    (short : length (joined t) + length texts < 2 ^ 32) (span : new.span ≡ span_of (length texts) t) (sound : AreSound t new) where
+    (short : length (joined t) + length texts < 2 ^ 32) (span : new.span ≡ span_of (length texts) t) (own : AreTextsOf t new.body) (name : IsNameOf t.reply new.reply) where
   abbrev pub all : List ℕ
   all = texts ++ joined t
 
@@ -115,7 +119,7 @@ module _ (texts : List ℕ) (t : Texts) (entries : List Packed) (new : Packed) (
   start-new = rw span refl
 
   IsWithin-new : IsWithin all new
-  IsWithin-new = record { within = omega (arith, end-new); sound = rw texts-new sound }
+  IsWithin-new = record { within = omega (arith, end-new); sound = rw texts-new (record { texts = own; reply = name }) }
 
   AreKept-more : AreKept all (entries ++ new ∷ [])
   AreKept-more = record {
@@ -138,10 +142,10 @@ module _ {X : Type 0} (R : X → X → Type 0) (n : ℕ) (xs : List X) (h : AllP
       (h i j d before (omega (arith, long, inside)))
 
 module _ (texts later : List ℕ) (t : Texts) (entries more : List Packed) (new : Packed) (h : AreKept texts entries)
-    (short : length (joined t) + length texts < 2 ^ 32) (span : new.span ≡ span_of (length texts) t) (sound : AreSound t new)
+    (short : length (joined t) + length texts < 2 ^ 32) (span : new.span ≡ span_of (length texts) t) (own : AreTextsOf t new.body) (name : IsNameOf t.reply new.reply)
     (longer : later ≡ texts ++ joined t) (one : more ≡ entries ++ new ∷ []) where
   pub kept_more : AreKept later more
-  kept_more = rw (longer, one) (AreKept-more texts t entries new h short span sound)
+  kept_more = rw (longer, one) (AreKept-more texts t entries new h short span own name)
 
 -- texts of which a front is kept, with those of all entries in it
 module _ (texts : List ℕ) (entries : List Packed) (h : AreKept texts entries) (end : ℕ) (inside : end ≤ length texts)
@@ -214,7 +218,3 @@ pub entry_there : (texts : List ℕ) (entries : List Packed) (place : ℕ) (kept
 entry_there texts entries place kept within is =
     slice_get-map (entry_of texts) entries place
     ∙ ap (option_map (entry_of texts)) (slice_get_read entries (length entries) place kept refl within is)
-
--- the texts of an entry together are not long
-pub joined_short : (t : Texts) → AreShort t → length (joined t) ≤ 1530
-joined_short t h = omega (arith, size_of-new t, h.first, h.second, h.third, h.fourth, h.fifth, h.reply)

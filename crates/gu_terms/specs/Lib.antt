@@ -16,4 +16,5 @@ pub mod Refusals
 pub mod Same
 pub mod Standing
 pub mod Takes
+pub mod TextStores
 pub mod WrittenNumbers

@@ -3,7 +3,7 @@
 ghost use Rattle.std.specs.Prelude.{◌≡◌, ◌+◌, ◌-◌, ◌^◌, ◌<◌, ◌∷◌, [], ◌++◌, ◌≤◌, length, map, slice_get, take, is_some, ◌↔◌, IfOk, IfSome, IsTrue, OnOk, OnErr, Some};
 ghost use Rattle.std.specs.Option.{option_map};
 ghost use Rattle.gu_terms.specs.Histories.{entry_at, swept_by};
-ghost use Rattle.gu_terms.specs.PackedEntries.{end_of_last, entry_by, entry_of, entry_with, joined, no_texts, span_of, AreKept, AreSound, AreTextsOf};
+ghost use Rattle.gu_terms.specs.PackedEntries.{end_of_last, entry_by, entry_of, joined, no_texts, reply_by, AreKept, AreShort, AreTextsOf, IsNameOf};
 
 use crate::command::Command;
 use crate::entry::Entry;
@@ -11,9 +11,11 @@ use crate::entry_ref::EntryRef;
 use crate::kept_reply::KeptReply;
 use crate::kept_sweep::KeptSweep;
 use crate::kept_texts::Given;
-use crate::packed::{Body, Packed};
+use crate::packed::{Body, KeptReport, Packed};
+use crate::packed_parts::{give_up_parts, limit_parts};
 use crate::padded::Padded;
 use crate::reply::{Done, Reply};
+use crate::text_store::TextStore;
 use std::alloc::{AllocError, Global};
 use std::marker::Model;
 
@@ -24,7 +26,7 @@ const MOST_TEXTS: usize = 4_000_000_000;
 pub struct History {
     entries: Vec<Packed>,
     /// The ids and names of all entries, one after the other.
-    texts: Vec<u8>,
+    texts: TextStore,
     alloc: Global,
 }
 
@@ -35,9 +37,9 @@ impl Model for History {
 
     ghost Value = { List Entry };
 
-    ghost view = { λ h. map (entry_of h.texts.items) h.entries.items };
+    ghost view = { λ h. map (entry_of h.texts.bytes) h.entries.items };
 
-    ghost invariant = { λ h. AreKept h.texts.items h.entries.items };
+    ghost invariant = { λ h. AreKept h.texts.bytes h.entries.items };
 }
 
 // By hand, so that who holds a history lets it go by one call.
@@ -58,22 +60,24 @@ impl Drop for History {
 #[inline(always)]
 fn add(
     entries: &mut Vec<Packed>,
-    all: &mut Vec<u8>,
+    all: &mut TextStore,
     texts: &Given<'_>,
-    entry: Packed,
+    kept: (KeptReply, Body),
 ) -> Result<(), AllocError>
-    requires kept { AreKept all.old.items entries.old.items }
-    requires room { length (joined texts.now) + length all.old.items < 2 ^ 32 }
-    requires span { entry.span ≡ span_of (length all.old.items) texts.now }
-    requires sound { AreSound texts.now entry }
-    ensures kept { AreKept all.new.items entries.new.items }
-    ensures added { OnOk result (map (entry_of all.new.items) entries.new.items
-        ≡ map (entry_of all.old.items) entries.old.items ++ entry_with texts.now entry ∷ []) }
-    ensures refused { OnErr result ((all.new.items ≡ all.old.items) × (entries.new.items ≡ entries.old.items)) }
+    requires kept { AreKept all.old.bytes entries.old.items }
+    requires room { AreShort texts.now → length (joined texts.now) + length all.old.bytes < 2 ^ 32 }
+    requires texts { AreTextsOf texts.now kept.1 }
+    requires name { IsNameOf texts.now.reply kept.0 }
+    ensures kept { AreKept all.new.bytes entries.new.items }
+    ensures added { OnOk result (map (entry_of all.new.bytes) entries.new.items
+        ≡ map (entry_of all.old.bytes) entries.old.items ++ entry_by texts.now kept.1 (reply_by texts.now.reply kept.0) ∷ []) }
+    ensures refused { OnErr result (map (entry_of all.new.bytes) entries.new.items ≡ map (entry_of all.old.bytes) entries.old.items) }
 {
+    let span = texts.span(all.len() as u32);
     entries.reserve(1)?;
     texts.append(all)?;
-    entries.push_reserved(entry);
+    let (reply, body) = kept;
+    entries.push_reserved(Packed { span, reply, body });
     Ok(())
 }
 
@@ -89,10 +93,10 @@ fn end_of_last(entries: &[Packed]) -> usize
 
 #[tactic(auto, using(crate::proofs::PackedLemmas::kept_fewer, crate::proofs::PackedLemmas::entries_fewer))]
 /// Keeps the first entries, so many of them, with their texts.
-fn truncate(entries: &mut Vec<Packed>, texts: &mut Vec<u8>, count: usize)
-    requires { AreKept texts.old.items entries.old.items }
-    ensures kept { AreKept texts.new.items entries.new.items }
-    ensures first { map (entry_of texts.new.items) entries.new.items ≡ take count (map (entry_of texts.old.items) entries.old.items) }
+fn truncate(entries: &mut Vec<Packed>, texts: &mut TextStore, count: usize)
+    requires { AreKept texts.old.bytes entries.old.items }
+    ensures kept { AreKept texts.new.bytes entries.new.items }
+    ensures first { map (entry_of texts.new.bytes) entries.new.items ≡ take count (map (entry_of texts.old.bytes) entries.old.items) }
 {
     entries.truncate(count);
     texts.truncate(end_of_last(entries));
@@ -105,7 +109,7 @@ impl History {
     {
         History {
             entries: Vec::new(alloc),
-            texts: Vec::new(alloc),
+            texts: TextStore::new(alloc),
             alloc,
         }
     }
@@ -123,7 +127,7 @@ impl History {
         requires { place < length self.now }
         ensures { IfOk result (λ entry. slice_get self.now place ≡ Some entry) }
     {
-        self.entries[place].entry(self.alloc, &self.texts)
+        self.entries[place].entry(self.alloc, self.texts.get())
     }
 
     /// The entry of a number. There is none of number 0.
@@ -153,7 +157,7 @@ impl History {
         requires { place < length self.now }
         ensures { IsTrue result ↔ (slice_get self.now place ≡ Some entry.now) }
     {
-        self.entries[place].is_entry(&self.texts, entry)
+        self.entries[place].is_entry(self.texts.get(), entry)
     }
 
     #[tactic(auto, using(crate::proofs::PackedLemmas::entry_there))]
@@ -162,7 +166,7 @@ impl History {
         requires { place < length self.now }
         ensures { slice_get self.now place ≡ Some result }
     {
-        EntryRef::new(&self.entries[place], &self.texts)
+        EntryRef::new(&self.entries[place], self.texts.get())
     }
 
     #[tactic(auto, using(crate::proofs::PackedLemmas::entry_there))]
@@ -181,13 +185,13 @@ impl History {
         ensures refused { OnErr result (self.new ≡ self.old) }
     {
         let (id, name) = (Padded::new(&[]), Padded::new(&[]));
-        let texts = Given::of(&id, &name);
-        let entry = Packed {
-            span: texts.span(self.texts.len() as u32),
-            reply: KeptReply::Opened,
-            body,
-        };
-        add(&mut self.entries, &mut self.texts, &texts, entry)
+        let kept = (KeptReply::Opened, body);
+        add(
+            &mut self.entries,
+            &mut self.texts,
+            &Given::of(&id, &name),
+            kept,
+        )
     }
 
     /// Adds a command with its reply after the others, as they are.
@@ -200,38 +204,99 @@ impl History {
         self.push_alone(Body::Whole(entry))
     }
 
-    /// Adds a command with its reply after the others, its texts apart where there is room, in place of these.
+    #[tactic(auto, using(crate::proofs::PackedLemmas::joined_room))]
+    /// Adds what is kept of an entry after the others, with its texts, where all texts are few enough.
+    #[inline(always)]
+    fn push_kept(&mut self, texts: &Given<'_>, kept: (KeptReply, Body)) -> Result<(), AllocError>
+        requires texts { AreTextsOf texts.now kept.1 }
+        requires name { IsNameOf texts.now.reply kept.0 }
+        ensures added { OnOk result (self.new ≡ self.old ++ entry_by texts.now kept.1 (reply_by texts.now.reply kept.0) ∷ []) }
+        ensures refused { OnErr result (self.new ≡ self.old) }
+    {
+        // Shows the prover that there is room, as who calls has seen.
+        if self.texts.len() > MOST_TEXTS {
+            return Err(AllocError);
+        }
+        add(&mut self.entries, &mut self.texts, texts, kept)
+    }
+
+    /// Adds a command after the others, its texts beside the name in its reply, and what is kept of that.
+    #[inline(always)]
     fn push_parts<'a>(
         &mut self,
         command: &'a Command,
-        reply: &'a Reply,
-        none: Given<'a>,
+        texts: Given<'a>,
+        kept: KeptReply,
     ) -> Result<(), AllocError>
-        ensures added { OnOk result (self.new ≡ self.old ++ Entry.Asked command.now reply.now ∷ []) }
+        requires { IsNameOf texts.reply kept }
+        ensures added { OnOk result (self.new ≡ self.old ++ Entry.Asked command.now (reply_by texts.entry.reply kept) ∷ []) }
         ensures refused { OnErr result (self.new ≡ self.old) }
     {
-        if self.texts.len() > MOST_TEXTS {
-            return self.push_whole(command, *reply);
+        match command {
+            Command::OpenDay { day } => self.push_kept(&texts, (kept, Body::OpenDay { day: *day })),
+            Command::SetLimit { group, key, lots } => {
+                let (texts, body) = limit_parts(texts, group, key, *lots);
+                self.push_kept(&texts, (kept, body))
+            }
+            Command::ReportSide {
+                firm,
+                id,
+                match_id,
+                symbol,
+                lots,
+                price,
+                day,
+                side,
+                account,
+            } => {
+                let texts = texts.with_firm(firm).with_ids(id, match_id);
+                let texts = texts.with_names(symbol, account);
+                let report = KeptReport::new(*side, *day, *lots);
+                let price = *price;
+                self.push_kept(&texts, (kept, Body::ReportSide { report, price }))
+            }
+            Command::GiveUp {
+                firm,
+                id,
+                report,
+                lines,
+            } => {
+                let texts = texts.with_firm(firm).with_ids(id, report);
+                let (texts, body) = give_up_parts(self.alloc, texts, lines)?;
+                self.push_kept(&texts, (kept, body))
+            }
+            Command::Claim { firm, offer } => {
+                let body = Body::Claim { offer: *offer };
+                self.push_kept(&texts.with_firm(firm), (kept, body))
+            }
+            Command::Refuse { firm, offer, why } => {
+                let (why, offer) = (*why, *offer);
+                self.push_kept(&texts.with_firm(firm), (kept, Body::Refuse { why, offer }))
+            }
+            Command::Reverse { firm, offer } => {
+                let body = Body::Reverse { offer: *offer };
+                self.push_kept(&texts.with_firm(firm), (kept, body))
+            }
         }
-        let Some((reply, kept)) = KeptReply::of(reply, none.reply) else {
-            return self.push_whole(command, *reply);
-        };
-        let (texts, body) = Body::of(self.alloc, command, Given { reply, ..none })?;
-        let entry = Packed {
-            span: texts.span(self.texts.len() as u32),
-            reply: kept,
-            body,
-        };
-        add(&mut self.entries, &mut self.texts, &texts, entry)
     }
 
-    /// Adds a command with its reply after the others.
+    /// Adds a command with its reply after the others, its texts apart where there is room.
     pub fn push_asked(&mut self, command: &Command, reply: Reply) -> Result<(), AllocError>
         ensures added { OnOk result (self.new ≡ self.old ++ Entry.Asked command.now reply ∷ []) }
         ensures refused { OnErr result (self.new ≡ self.old) }
     {
         let (id, name) = (Padded::new(&[]), Padded::new(&[]));
-        self.push_parts(command, &reply, Given::of(&id, &name))
+        if self.texts.len() > MOST_TEXTS {
+            return self.push_whole(command, reply);
+        }
+        let Some((reply, kept)) = KeptReply::of(&reply, &name) else {
+            return self.push_whole(command, reply);
+        };
+        let texts = Given {
+            reply,
+            ..Given::of(&id, &name)
+        };
+        self.push_parts(command, texts, kept)
     }
 
     /// Adds a sweep after the others.

@@ -1,6 +1,6 @@
 //! Ids that firms give to their own reports and give-ups.
 
-ghost use Rattle.std.specs.Prelude.{◌≡◌, ◌↔◌, ◌+◌, ◌++◌, ◌≤◌, length, vec_capacity, IsTrue, IsSome, IfSome};
+ghost use Rattle.std.specs.Prelude.{◌≡◌, ◌↔◌, IsTrue, IsSome, IfSome};
 ghost use Rattle.gu_terms.specs.Names.{IsId, is_id_byte};
 
 use crate::padded::Padded;
@@ -77,22 +77,11 @@ impl Id {
 
     /// Its bytes, where they are kept.
     #[inline(always)]
-    pub(crate) fn padded(&self) -> &Padded<LONGEST_ID>
+    pub fn padded(&self) -> &Padded<LONGEST_ID>
         ensures bytes { result.now ≡ self.now }
         ensures sound { IsId self.now }
     {
         &self.text
-    }
-
-    /// Appends its bytes to others that have room for 64 more.
-    #[inline(always)]
-    pub fn append_to(&self, bytes: &mut Vec<u8>)
-        requires { length bytes.old.items + 64 ≤ vec_capacity bytes.old }
-        ensures text { bytes.new.items ≡ bytes.old.items ++ self.now }
-        ensures room { vec_capacity bytes.old ≤ vec_capacity bytes.new }
-        ensures short { length self.now ≤ 64 }
-    {
-        self.text.append_to(bytes);
     }
 
     /// Whether these are its bytes.

@@ -4,10 +4,13 @@ ghost use Rattle.std.specs.Prelude.{◌≡◌, ◌+◌, ◌++◌, ◌≤◌, len
 ghost use Rattle.gu_terms.specs.Names.{IsId, IsName};
 ghost use Rattle.gu_terms.specs.PackedEntries.{joined, size_of, span_of, text_at, texts_at, AreShort};
 
+use crate::account::AccountId;
 use crate::firm::FirmId;
 use crate::id::{Id, LONGEST_ID};
 use crate::name::LONGEST_NAME;
 use crate::padded::Padded;
+use crate::symbol::Symbol;
+use crate::text_store::TextStore;
 use std::alloc::AllocError;
 use std::marker::Model;
 
@@ -127,14 +130,13 @@ impl Span {
 
 /// Appends a text, for which there is room, where it has bytes.
 #[inline(always)]
-fn put<const N: usize>(all: &mut Vec<u8>, text: &Padded<N>)
-    requires { length all.old.items + N ≤ vec_capacity all.old }
-    ensures text { all.new.items ≡ all.old.items ++ text.now }
-    ensures room { vec_capacity all.old ≤ vec_capacity all.new }
-    ensures short { length text.now ≤ N }
+fn put<const N: usize>(all: &mut TextStore, text: &Padded<N>)
+    requires { N ≤ all.old.spare }
+    ensures bytes { all.new.bytes ≡ all.old.bytes ++ text.now }
+    ensures spare { all.old.spare ≤ all.new.spare + N }
 {
-    if text.size() > 0 {
-        text.append_to(all);
+    if text.len() > 0 {
+        all.put(text);
     }
 }
 
@@ -182,6 +184,18 @@ impl<'a> Given<'a> {
         }
     }
 
+    /// These texts with the names of a symbol and of an account.
+    pub(crate) fn with_names(self, symbol: &'a Symbol, account: &'a AccountId) -> Self
+        ensures texts { result ≡ record self.entry { third = symbol.now.name; fourth = account.now.name } }
+        ensures sound { IsName symbol.now.name × IsName account.now.name }
+    {
+        Given {
+            third: symbol.name.padded(),
+            fourth: account.name.padded(),
+            ..self
+        }
+    }
+
     /// Where they lie, from a place on.
     pub(crate) fn span(&self, at: u32) -> Span
         ensures span { result ≡ span_of at self.now }
@@ -199,9 +213,10 @@ impl<'a> Given<'a> {
     }
 
     /// Appends them to all texts, or none.
-    pub(crate) fn append(&self, all: &mut Vec<u8>) -> Result<(), AllocError>
-        ensures appended { OnOk result (all.new.items ≡ all.old.items ++ joined self.now) }
-        ensures refused { OnErr result (all.new.items ≡ all.old.items) }
+    #[inline(always)]
+    pub(crate) fn append(&self, all: &mut TextStore) -> Result<(), AllocError>
+        ensures appended { OnOk result (all.new.bytes ≡ all.old.bytes ++ joined self.now) }
+        ensures refused { OnErr result (all.new.bytes ≡ all.old.bytes) }
     {
         all.reserve(LONGEST_TEXTS)?;
         put(all, self.first);

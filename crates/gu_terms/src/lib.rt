@@ -47,6 +47,7 @@ mod seed;
 mod side;
 mod symbol;
 mod takes;
+mod text_store;
 
 pub use account::AccountId;
 pub use agreement::AgreementId;
@@ -88,3 +89,4 @@ pub use seed::Seed;
 pub use side::Side;
 pub use symbol::Symbol;
 pub use takes::{Take, Takes};
+pub use text_store::TextStore;

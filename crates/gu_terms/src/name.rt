@@ -1,6 +1,6 @@
 //! Names of the house's own.
 
-ghost use Rattle.std.specs.Prelude.{◌≡◌, ◌↔◌, ◌+◌, ◌++◌, ◌≤◌, ◌∷◌, [], length, vec_capacity, IsTrue, IsSome, IfSome, take, drop};
+ghost use Rattle.std.specs.Prelude.{◌≡◌, ◌↔◌, ◌+◌, ◌≤◌, ◌∷◌, [], IsTrue, IsSome, IfSome, take, drop};
 ghost use Rattle.std.specs.Cmp.{partial_equiv_from_equiv};
 ghost use Rattle.std.specs.Cmp.Rules.{hashing};
 ghost use Rattle.std.specs.Int.{w32, from_le_bytes};
@@ -133,21 +133,10 @@ impl Name {
 
     /// Its bytes, where they are kept.
     #[inline(always)]
-    pub(crate) fn padded(&self) -> &Padded<LONGEST_NAME>
+    pub fn padded(&self) -> &Padded<LONGEST_NAME>
         ensures bytes { result.now ≡ self.now }
         ensures sound { IsName self.now }
     {
         &self.text
-    }
-
-    /// Appends its bytes to others that have room for 12 more.
-    #[inline(always)]
-    pub fn append_to(&self, bytes: &mut Vec<u8>)
-        requires { length bytes.old.items + 12 ≤ vec_capacity bytes.old }
-        ensures text { bytes.new.items ≡ bytes.old.items ++ self.now }
-        ensures room { vec_capacity bytes.old ≤ vec_capacity bytes.new }
-        ensures short { length self.now ≤ 12 }
-    {
-        self.text.append_to(bytes);
     }
 }

@@ -62,6 +62,13 @@ pub(crate) struct Packed {
 }
 
 impl KeptReport {
+    /// What is kept of a report of this side, this day and these lots.
+    pub(crate) fn new(side: Side, day: Option<Day>, lots: Lots) -> Self
+        ensures { result ≡ record { side = side; day = day; lots = lots } }
+    {
+        KeptReport { side, day, lots }
+    }
+
     /// The report that is kept so, with its texts.
     pub(crate) fn command(self, texts: &Texts<'_>, price: Price) -> Command
         requires ids { IsId texts.now.first × IsId texts.now.second }

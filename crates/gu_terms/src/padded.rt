@@ -1,6 +1,6 @@
 //! Short texts, kept in place.
 
-ghost use Rattle.std.specs.Prelude.{◌≡◌, ◌+◌, ◌++◌, ◌∷◌, [], ◌<◌, ◌≤◌, length, vec_capacity};
+ghost use Rattle.std.specs.Prelude.{◌≡◌, ◌+◌, ◌++◌, ◌∷◌, [], ◌<◌, ◌≤◌, length};
 ghost use Rattle.std.specs.Str.{bytes_eq};
 ghost use Rattle.std.specs.Cmp.{partial_equiv_from_equiv};
 ghost use Rattle.std.specs.Cmp.Rules.{hashing};
@@ -92,19 +92,6 @@ impl<const N: usize> Padded<N> {
         ensures { result.now ≡ self.now }
     {
         &self.bytes[..self.len as usize]
-    }
-
-    /// Appends the text to bytes that have room for `N` more: a copy of `N` bytes takes less than one of as many as the text has.
-    #[inline(always)]
-    pub fn append_to(&self, bytes: &mut Vec<u8>)
-        requires { length bytes.old.items + N ≤ vec_capacity bytes.old }
-        ensures text { bytes.new.items ≡ bytes.old.items ++ self.now }
-        ensures room { vec_capacity bytes.old ≤ vec_capacity bytes.new }
-        ensures short { length self.now ≤ N }
-    {
-        let end = bytes.len() + self.len as usize;
-        let _ = bytes.extend_from_slice(&self.bytes);
-        bytes.truncate(end);
     }
 }
 

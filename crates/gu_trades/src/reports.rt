@@ -5,6 +5,7 @@ ghost use Rattle.gu_trades.specs.PackedReports.{report_of_kept, texts_of, IsWith
 
 use crate::packed::{KeptRef, Packed};
 use crate::report_ref::ReportRef;
+use gu_terms::TextStore;
 use std::alloc::{AllocError, Global};
 use std::marker::Model;
 
@@ -19,7 +20,7 @@ const LONGEST_TEXTS: usize = 2 * 64 + 3 * 12;
 pub(crate) struct Reports {
     rows: Vec<Packed>,
     /// The ids and names of all reports, one after the other.
-    texts: Vec<u8>,
+    texts: TextStore,
 }
 
 impl Model for Reports {
@@ -29,37 +30,37 @@ impl Model for Reports {
 
     ghost Value = { List Row };
 
-    ghost view = { λ r. map (report_of_kept r.texts.items) r.rows.items };
+    ghost view = { λ r. map (report_of_kept r.texts.bytes) r.rows.items };
 
-    ghost invariant = { λ r. All (IsWithin r.texts.items) r.rows.items };
+    ghost invariant = { λ r. All (IsWithin r.texts.bytes) r.rows.items };
 }
 
 /// Appends the texts of a report, or none.
-fn append_texts(texts: &mut Vec<u8>, report: &ReportRef<'_>) -> Result<(), AllocError>
-    ensures appended { OnOk result (texts.new.items ≡ texts.old.items ++ texts_of report.now) }
-    ensures refused { OnErr result (texts.new.items ≡ texts.old.items) }
+fn append_texts(texts: &mut TextStore, report: &ReportRef<'_>) -> Result<(), AllocError>
+    ensures appended { OnOk result (texts.new.bytes ≡ texts.old.bytes ++ texts_of report.now) }
+    ensures refused { OnErr result (texts.new.bytes ≡ texts.old.bytes) }
 {
     texts.reserve(LONGEST_TEXTS)?;
     let terms = report.terms();
-    report.id().append_to(texts);
-    report.match_id().append_to(texts);
-    report.firm().name.append_to(texts);
-    terms.symbol.name.append_to(texts);
-    terms.account.name.append_to(texts);
+    texts.put(report.id().padded());
+    texts.put(report.match_id().padded());
+    texts.put(report.firm().name.padded());
+    texts.put(terms.symbol.name.padded());
+    texts.put(terms.account.name.padded());
     Ok(())
 }
 
 /// Adds what is kept of a report after the others, and its texts after theirs. The allocations come first.
 fn add(
     rows: &mut Vec<Packed>,
-    texts: &mut Vec<u8>,
+    texts: &mut TextStore,
     report: &ReportRef<'_>,
 ) -> Result<(), AllocError>
-    requires kept { All (IsWithin texts.old.items) rows.old.items }
-    ensures kept { All (IsWithin texts.new.items) rows.new.items }
-    ensures added { OnOk result (map (report_of_kept texts.new.items) rows.new.items
-        ≡ map (report_of_kept texts.old.items) rows.old.items ++ report.now ∷ []) }
-    ensures refused { OnErr result ((texts.new.items ≡ texts.old.items) × (rows.new.items ≡ rows.old.items)) }
+    requires kept { All (IsWithin texts.old.bytes) rows.old.items }
+    ensures kept { All (IsWithin texts.new.bytes) rows.new.items }
+    ensures added { OnOk result (map (report_of_kept texts.new.bytes) rows.new.items
+        ≡ map (report_of_kept texts.old.bytes) rows.old.items ++ report.now ∷ []) }
+    ensures refused { OnErr result ((texts.new.bytes ≡ texts.old.bytes) × (rows.new.items ≡ rows.old.items)) }
 {
     if texts.len() > MOST_TEXTS {
         return Err(AllocError);
@@ -78,7 +79,7 @@ impl Reports {
     {
         Reports {
             rows: Vec::new(alloc),
-            texts: Vec::new(alloc),
+            texts: TextStore::new(alloc),
         }
     }
 
@@ -87,7 +88,7 @@ impl Reports {
         requires { place < length self.now }
         ensures { slice_get self.now place ≡ Some result }
     {
-        KeptRef::new(&self.rows[place], &self.texts)
+        KeptRef::new(&self.rows[place], self.texts.get())
     }
 
     /// Puts a report after the others.

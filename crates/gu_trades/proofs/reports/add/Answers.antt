@@ -4,10 +4,10 @@ use Rattle.gu_trades.proofs.reports.add.Goals as goal
 
 pub returns-clause-kept : goal.returns-clause-kept
 returns-clause-kept c =
-    within_more c.args.texts.now.items c.append_texts.new.texts.items c.args.rows.now.items c.push_reserved.new.self.items c.len-2.result c.args.report.now
+    within_more c.args.texts.now.bytes c.append_texts.new.texts.bytes c.args.rows.now.items c.push_reserved.new.self.items c.len-2.result c.args.report.now
     c.requires.kept c.of-kept.ensures.sound (search rules) (search rules) (search rules)
 
 pub returns-clause-added : goal.returns-clause-added
 returns-clause-added c =
-    reports_more c.args.texts.now.items c.append_texts.new.texts.items c.args.rows.now.items c.push_reserved.new.self.items c.len-2.result c.args.report.now
+    reports_more c.args.texts.now.bytes c.append_texts.new.texts.bytes c.args.rows.now.items c.push_reserved.new.self.items c.len-2.result c.args.report.now
     c.requires.kept c.of-kept.ensures.sound (search rules) (search rules) (search rules)
