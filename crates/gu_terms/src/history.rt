@@ -281,22 +281,31 @@ impl History {
     }
 
     /// Adds a command with its reply after the others, its texts apart where there is room.
-    pub fn push_asked(&mut self, command: &Command, reply: Reply) -> Result<(), AllocError>
-        ensures added { OnOk result (self.new ≡ self.old ++ Entry.Asked command.now reply ∷ []) }
+    #[inline(never)]
+    fn push_named(&mut self, command: &Command, reply: &Reply) -> Result<(), AllocError>
+        ensures added { OnOk result (self.new ≡ self.old ++ Entry.Asked command.now reply.now ∷ []) }
         ensures refused { OnErr result (self.new ≡ self.old) }
     {
         let (id, name) = (Padded::new(&[]), Padded::new(&[]));
         if self.texts.len() > MOST_TEXTS {
-            return self.push_whole(command, reply);
+            return self.push_whole(command, *reply);
         }
-        let Some((reply, kept)) = KeptReply::of(&reply, &name) else {
-            return self.push_whole(command, reply);
+        let Some((reply, kept)) = KeptReply::of(reply, &name) else {
+            return self.push_whole(command, *reply);
         };
         let texts = Given {
             reply,
             ..Given::of(&id, &name)
         };
         self.push_parts(command, texts, kept)
+    }
+
+    /// Adds a command with its reply after the others.
+    pub fn push_asked(&mut self, command: &Command, reply: Reply) -> Result<(), AllocError>
+        ensures added { OnOk result (self.new ≡ self.old ++ Entry.Asked command.now reply ∷ []) }
+        ensures refused { OnErr result (self.new ≡ self.old) }
+    {
+        self.push_named(command, &reply)
     }
 
     /// Adds a sweep after the others.
