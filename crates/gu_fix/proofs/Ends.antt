@@ -1,12 +1,15 @@
 -- Where the parts of a message end, as the marks of the SOHs among sixteen bytes show it.
-use Rattle.std.proofs.Common.{◌≡◌, ◌<◌, ◌≤◌, ◌+◌, ◌-◌, ◌/◌, ◌^◌, ℕ, zero, suc, Bool, true, false, cond, eqb, List, [], ◌∷◌, length, take, drop, get_or, map, not, ap, sym, ◌∙◌, arith, inl, inr, shr-shr, w64}
+use Rattle.std.proofs.Common.{◌≡◌, ◌<◌, ◌≤◌, ◌+◌, ◌-◌, ◌/◌, ◌%◌, ◌^◌, ℕ, zero, suc, Bool, true, false, cond, eqb, List, [], ◌∷◌, length, take, drop, get_or, map, not, ap, sym, ◌∙◌, arith, inl, inr, refl, shr-shr, w64}
 use Rattle.std.specs.Int.{trailing_zeros}
 use Rattle.std.specs.List.{prefix_len}
 use Rattle.std.specs.Simd.Lanes.{mask_l}
 use Rattle.std.proofs.lemmas.Bool.{cases_lt, eq-eqb, eqb-true}
 use Rattle.std.proofs.lemmas.List.{drop-drop, drop-map, get_or-drop, get_or-take, get_or_past, length-drop, length-map, length-take, take-take, take_all}
 use Rattle.std.proofs.lemmas.Nat.Bits.{bit_at-trailing_zeros}
+use Rattle.std.proofs.Math.ListN.{get_or-map}
+use Rattle.std.proofs.Math.Nat.{zero-div}
 use Rattle.std.proofs.lemmas.Simd.{bit_mask_l, trailing_mask_l, run_in_chunk_fails, run_in_chunk_stops}
+use Rattle.gu_fix.specs.Fields.{NoSoh}
 use Rattle.gu_fix.specs.Spans.{EndsPart, soh_marks}
 
 -- the test of each byte
@@ -66,10 +69,15 @@ ends_part bytes start end low high before there = record {
   there = eqb-true (get_or bytes end 0) 1 there;
 }
 
--- the marks of the bytes from a place on show where the part ends
-pub first_marked : (bytes : List ℕ) (start marks : ℕ) → start ≤ length bytes → marks ≡ soh_marks (take 16 (drop start bytes)) → 0 < marks → marks < 2 ^ 64
-    → EndsPart bytes start (start + trailing_zeros w64 marks)
-first_marked bytes start marks within is some fits =
+-- the first of some marks of the bytes from a place on is that of the first SOH there
+record FirstMark (bytes : List ℕ) (start end : ℕ) : Type 0 where
+  high : end < length bytes
+  before : (k : ℕ) → start ≤ k → k < end → is_soh (get_or bytes k 0) ≡ false
+  there : is_soh (get_or bytes end 0) ≡ true
+
+first_mark : (bytes : List ℕ) (start marks : ℕ) → start ≤ length bytes → marks ≡ soh_marks (take 16 (drop start bytes)) → 0 < marks → marks < 2 ^ 64
+    → FirstMark bytes start (start + trailing_zeros w64 marks)
+first_mark bytes start marks within is some fits =
     let rest = drop start bytes in
     let lanes = take 16 rest in
     let n = length lanes in
@@ -80,6 +88,59 @@ first_marked bytes start marks within is some fits =
     let near : place < n = omega (arith, same, is, length-map lanes is_soh, lowest_within (map is_soh lanes) (omega (arith, is, some)) (omega (arith, is, fits))) in
     let whole : lanes ≡ take n rest = sym (take_all n lanes (omega arith)) ∙ take-take n 16 rest few in
     let counted = sym same ∙ trailing_mask_l is_soh 64 lanes (omega (arith, few)) (omega (arith, is, some)) ∙ ap (λ (t : List ℕ). prefix_len (λ b. not (is_soh b)) t) whole in
-    ends_part bytes start (start + place) (omega arith) (omega (arith, near, room))
-    (λ k low high. run_in_chunk_fails is_soh bytes start n place 0 room counted k low high)
-    (run_in_chunk_stops is_soh bytes start n place 0 room counted near)
+    record {
+      high = omega (arith, near, room);
+      before = λ k low high. run_in_chunk_fails is_soh bytes start n place 0 room counted k low high;
+      there = run_in_chunk_stops is_soh bytes start n place 0 room counted near;
+    }
+
+-- the marks of the bytes from a place on show where the part ends
+pub first_marked : (bytes : List ℕ) (start marks : ℕ) → start ≤ length bytes → marks ≡ soh_marks (take 16 (drop start bytes)) → 0 < marks → marks < 2 ^ 64
+    → EndsPart bytes start (start + trailing_zeros w64 marks)
+first_marked bytes start marks within is some fits =
+    let first = first_mark bytes start marks within is some fits in
+    ends_part bytes start (start + trailing_zeros w64 marks) (omega arith) first.high first.before first.there
+
+off : (b : Bool) → cond b 1 zero ≡ zero → b ≡ false
+off true e = absurd (omega (arith, e))
+off false e = refl
+
+-- where none of sixteen bytes is marked, none is SOH
+pub none_marked : (bytes : List ℕ) (start : ℕ) → soh_marks (take 16 (drop start bytes)) ≡ 0 → (k : ℕ) → start ≤ k → k < start + 16 → is_soh (get_or bytes k 0) ≡ false
+none_marked bytes start none k low high =
+    let lanes = take 16 (drop start bytes) in
+    let i = k - start in
+    let bit = bit_mask_l (map is_soh lanes) i in
+    let zeros : mask_l (map is_soh lanes) / 2 ^ i % 2 ≡ 0 = ap (λ (m : ℕ). m / 2 ^ i % 2) none ∙ ap (λ (m : ℕ). m % 2) (zero-div (2 ^ i)) in
+    let place = get_or-take 16 (drop start bytes) i 0 (omega (arith, low, high)) ∙ get_or-drop start bytes i 0 ∙ ap (λ (p : ℕ). get_or bytes p 0) (omega (arith, low)) in
+    ap is_soh (sym place) ∙ sym (get_or-map is_soh lanes i 0) ∙ off (get_or (map is_soh lanes) i false) (sym bit ∙ zeros)
+
+-- no byte from one place up to another is SOH
+abbrev pub NoneWithin : List ℕ → ℕ → ℕ → Type 0
+NoneWithin bytes start end = (k : ℕ) → start ≤ k → k < end → is_soh (get_or bytes k 0) ≡ false
+
+-- where none of the bytes so far is SOH, and none of the next sixteen is marked, none of these is
+pub none_further : (bytes : List ℕ) (start place : ℕ) → NoneWithin bytes start place → soh_marks (take 16 (drop place bytes)) ≡ 0 → NoneWithin bytes start (place + 16)
+none_further bytes start place before none k low high = elim (cases_lt k place) [
+  | inl lt ↦ before k low lt
+  | inr le ↦ none_marked bytes place none k le high
+]
+
+-- where none of the bytes up to the end is SOH, the part doesn't end
+pub none_left : (bytes : List ℕ) (start end : ℕ) → NoneWithin bytes start end → length bytes ≤ end → NoSoh (drop start bytes)
+none_left bytes start end none past k lt e =
+    let other = none (start + k) (omega arith) (omega (arith, lt, length-drop start bytes, past)) in
+    let same = eq-eqb (get_or bytes (start + k) 0) 1 (sym (get_or-drop start bytes k 0) ∙ e) in
+    cc
+
+-- where none of the bytes so far is SOH, the marks of the next ones show where the part ends
+pub later_marked : (bytes : List ℕ) (start place marks : ℕ) → NoneWithin bytes start place → start ≤ place → place ≤ length bytes → marks ≡ soh_marks (take 16 (drop place bytes)) → 0 < marks → marks < 2 ^ 64
+    → EndsPart bytes start (place + trailing_zeros w64 marks)
+later_marked bytes start place marks before low within is some fits =
+    let first = first_mark bytes place marks within is some fits in
+    ends_part bytes start (place + trailing_zeros w64 marks) (omega arith) first.high
+    (λ k from to. elim (cases_lt k place) [
+      | inl lt ↦ before k from lt
+      | inr le ↦ first.before k le to
+    ])
+    first.there

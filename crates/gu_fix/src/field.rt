@@ -9,6 +9,7 @@ ghost use Rattle.gu_fix.specs.TagValue.{TagValue, tag_value};
 use crate::prefix::SOH;
 use std::alloc::{AllocError, Global};
 use std::marker::Model;
+use std::mem::replace;
 
 /// A field that lies in a message or among others.
 #[derive(Clone, Copy, Debug, PartialEq, Eq)]
@@ -92,6 +93,15 @@ impl Fields {
         ensures { result ≡ false → list_any (λ f. has_soh f.value) self.now ≡ false }
     {
         self.bytes.contains(&SOH)
+    }
+
+    /// Takes the room of the list of them, and leaves none.
+    pub(crate) fn take_room(&mut self, alloc: Global) -> Vec<Span>
+        ensures { result.items ≡ [] }
+    {
+        let mut room = replace(&mut self.spans, Vec::new(alloc));
+        room.clear();
+        room
     }
 
     /// How many fields there are.

@@ -27,5 +27,5 @@ pub use laws::{
     a_message_of_sound_fields_is_whole, frames_are_those_of_the_joined_pieces, frames_exist,
     no_whole_message_begins_another, nothing_stands_and_is_open, one_list_of_frames, one_reading,
 };
-pub use splitting::{fields, into_fields};
+pub use splitting::{fields, fields_over, into_fields};
 pub use tag::{BEGIN_STRING, BODY_LENGTH, CHECK_SUM, MSG_TYPE};

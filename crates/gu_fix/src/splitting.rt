@@ -1,5 +1,5 @@
 //! A message into its fields.
-ghost use Rattle.std.specs.Prelude.{◌≡◌, ◌+◌, ◌≤◌, MatchOption, MatchResult, IfOk, is_some, if◌then◌else◌, length, take, drop, Some};
+ghost use Rattle.std.specs.Prelude.{◌≡◌, ◌+◌, ◌≤◌, [], MatchOption, MatchResult, IfOk, is_some, if◌then◌else◌, length, take, drop, Some};
 ghost use Rattle.gu_fix.specs.WholeMessage.{IsWhole};
 ghost use Rattle.gu_fix.specs.TagValue.{tag_value};
 ghost use Rattle.gu_fix.specs.Fields.{IsTag, IsField, IsFault, HasFields, HasNoTag, NoSoh, equals};
@@ -9,7 +9,6 @@ use crate::error::{FieldFault, SessionRejectReason};
 use crate::field::{Field, Fields, Span};
 use crate::frame::Frame;
 use crate::prefix::SOH;
-use memchr::memchr;
 use std::alloc::{AllocError, Global};
 use std::simd::prelude::*;
 
@@ -57,6 +56,9 @@ fn tag_in_front(part: &[u8]) -> Option<(u32, usize)>
     {
         let front = 100 * u32::from(*hundreds) + 10 * u32::from(*tens);
         return Some((front + u32::from(*ones) - THREE_ZEROS, 3));
+    }
+    if let [digit @ b'1'..=b'9', b'=', ..] = part {
+        return Some((u32::from(*digit - b'0'), 1));
     }
     let Some((number, end)) = number_in_front(part) else {
         return None;
@@ -137,30 +139,51 @@ fn next_marks(bytes: &[u8], start: usize) -> u64
     }
 }
 
-/// Where the next SOH is, from a place on. Most are near.
+/// How long the part is that begins at a place: up to the next SOH. Most are short.
+#[inline(always)]
+fn part_len(bytes: &[u8], start: usize) -> Option<usize>
+    requires { (16 ≤ length bytes.now) × (start ≤ length bytes.now) }
+    ensures { MatchOption result (NoSoh (drop start bytes.now)) (λ len. EndsPart bytes.now start (start + len)) }
+{
+    let marks = next_marks(bytes, start);
+    if marks != 0 {
+        return Some(marks.trailing_zeros() as usize);
+    }
+    let mut place = start;
+    'stretches: while bytes.len() - place > 16 {
+        place += 16;
+        let marks = next_marks(bytes, place);
+        if marks != 0 {
+            return Some(place - start + marks.trailing_zeros() as usize);
+        }
+    }
+    None
+}
+
+/// Where the next SOH is, from a place on.
 #[inline(always)]
 fn next_soh(bytes: &[u8], start: usize) -> Option<usize>
     requires { (16 ≤ length bytes.now) × (start ≤ length bytes.now) }
     ensures { MatchOption result (NoSoh (drop start bytes.now)) (EndsPart bytes.now start) }
 {
-    let marks = next_marks(bytes, start);
-    if marks != 0 {
-        return Some(start + marks.trailing_zeros() as usize);
-    }
-    match memchr(SOH, &bytes[start..]) {
+    match part_len(bytes, start) {
         Some(len) => Some(start + len),
         None => None,
     }
 }
 
-/// Where the values of a message's fields lie, and the first part that is none.
-fn spans_of(alloc: Global, bytes: &[u8]) -> Result<(Vec<Span>, Option<FieldFault>), AllocError>
-    requires { IsWhole bytes.now }
+/// Where the values of a message's fields lie, in a list that has none yet, and the first part that is none.
+fn spans_of(
+    mut spans: Vec<Span>,
+    bytes: &[u8],
+) -> Result<(Vec<Span>, Option<FieldFault>), AllocError>
+    requires whole { IsWhole bytes.now }
+    requires none { spans.items ≡ [] }
     ensures within { IfOk result (λ r. AreWithin bytes.now r.0.items) }
     ensures fields { IfOk result (λ r. HasFields bytes.now (fields_in bytes.now r.0.items) r.1) }
 {
-    // A field takes four bytes at least, so that the list never grows.
-    let mut spans = Vec::with_capacity(alloc, bytes.len() / 4)?;
+    // A field takes four bytes at least, so that the list doesn't grow any more.
+    spans.reserve(bytes.len() / 4)?;
     let mut fault = None;
     let mut start = 0;
     'parts: while let Some(end) = next_soh(bytes, start) {
@@ -180,11 +203,12 @@ fn spans_of(alloc: Global, bytes: &[u8]) -> Result<(Vec<Span>, Option<FieldFault
 }
 
 /// The fields of a message, whose values lie in its own bytes, and the first part that is none.
-fn fields_of(alloc: Global, bytes: Vec<u8>) -> Result<(Fields, Option<FieldFault>), AllocError>
-    requires { IsWhole bytes.items }
+fn fields_of(room: Vec<Span>, bytes: Vec<u8>) -> Result<(Fields, Option<FieldFault>), AllocError>
+    requires whole { IsWhole bytes.items }
+    requires none { room.items ≡ [] }
     ensures { IfOk result (λ r. HasFields bytes.items r.0 r.1) }
 {
-    let (spans, fault) = spans_of(alloc, &bytes)?;
+    let (spans, fault) = spans_of(room, &bytes)?;
     Ok((Fields::lying_in(bytes, spans), fault))
 }
 
@@ -192,12 +216,25 @@ fn fields_of(alloc: Global, bytes: Vec<u8>) -> Result<(Fields, Option<FieldFault
 pub fn fields(alloc: Global, frame: &Frame) -> Result<(Fields, Option<FieldFault>), AllocError>
     ensures { IfOk result (λ r. HasFields frame.now r.0 r.1) }
 {
-    fields_of(alloc, Vec::from_slice(alloc, frame.bytes())?)
+    fields_of(Vec::new(alloc), Vec::from_slice(alloc, frame.bytes())?)
 }
 
 /// The same of a message that isn't used any more: its bytes hold the fields.
 pub fn into_fields(alloc: Global, frame: Frame) -> Result<(Fields, Option<FieldFault>), AllocError>
     ensures { IfOk result (λ r. HasFields frame r.0 r.1) }
 {
-    fields_of(alloc, frame.into_bytes())
+    fields_of(Vec::new(alloc), frame.into_bytes())
+}
+
+/// The same, in the place of earlier fields, in the room of whose list these are listed.
+pub fn fields_over(
+    earlier: &mut Fields,
+    alloc: Global,
+    frame: Frame,
+) -> Result<Option<FieldFault>, AllocError>
+    ensures { IfOk result (λ fault. HasFields frame earlier.new fault) }
+{
+    let (fields, fault) = fields_of(earlier.take_room(alloc), frame.into_bytes())?;
+    *earlier = fields;
+    Ok(fault)
 }

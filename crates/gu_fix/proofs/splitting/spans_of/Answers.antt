@@ -12,14 +12,15 @@ use Rattle.gu_fix.proofs.splitting.spans_of.Goals as goal
 
 pub parts-init : goal.parts-init
 parts-init c =
-    let none : c.in_ok-spans.spans.items ≡ [] = c.in_ok-spans.ensures.items in
+    let grown = c.in_ok-reserve.ensures in
+    let none : c.reserve.new.self.items ≡ [] = grown.items ∙ c.requires.none in
     record {
       reads_on = subst (λ (t : List Span). ReadsOn c.args.bytes.now c.args.bytes.now (fields_in c.args.bytes.now t) None) (sym none) (nothing_read c.args.bytes.now);
       within = subst (AreWithin c.args.bytes.now) (sym none) tt;
-      ends = whole_ends c.args.bytes.now c.requires;
+      ends = whole_ends c.args.bytes.now c.requires.whole;
       short = omega arith;
-      few = omega (arith, c.in_ok-spans.ensures.len);
-      room = omega (arith, c.in_ok-spans.ensures.capacity);
+      few = omega (arith, grown.len, ap length c.requires.none);
+      room = omega (arith, grown.ok, grown.len, ap length c.requires.none);
     }
 
 pub slice_bounds-read_part-count : goal.slice_bounds-read_part-count
@@ -129,4 +130,4 @@ returns-clause-fields c =
     all_fields c.args.bytes.now (drop c.parts.start c.args.bytes.now) (fields_in c.args.bytes.now c.parts.spans.items) c.parts.fault c.parts.invariant.reads_on c.parts.invariant.ends c.in_default.ensures
 
 pub next_soh-requires : goal.next_soh-requires
-next_soh-requires c = (whole_long c.args.bytes.now c.requires, c.parts.invariant.short)
+next_soh-requires c = (whole_long c.args.bytes.now c.requires.whole, c.parts.invariant.short)
