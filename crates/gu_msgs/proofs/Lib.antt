@@ -1,5 +1,6 @@
 mod RunLemmas
 mod Numerals
+mod GroupFaults
 mod GroupLemmas
 mod ShapeLemmas
 mod SecondStandings

@@ -29,9 +29,9 @@ const ALLOC_TRANS_TYPE_ROW: usize = 11;
 
 const QUANTITY_ROW: usize = 12;
 
-const NO_EXECS_ROW: usize = 13;
+pub const NO_EXECS_ROW: usize = 13;
 
-const NO_ALLOCS_ROW: usize = 14;
+pub const NO_ALLOCS_ROW: usize = 14;
 
 /// The id of a report that an entry says.
 fn entry_exec(entry: &Run<'_>) -> Result<Id, Fault>

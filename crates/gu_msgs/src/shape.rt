@@ -9,6 +9,7 @@ ghost use Rattle.gu_msgs.specs.Standings.{AreStandings, IsStanding, IsTable};
 ghost use Rattle.gu_msgs.specs.Tables.{body_rows, outer_rows};
 ghost use Rattle.gu_msgs.specs.Values.{is_numeral};
 
+use crate::allocation_instruction::{NO_ALLOCS_ROW, NO_EXECS_ROW};
 use crate::fault::Fault;
 use crate::groups::{group_after, has_entries, next_entry};
 use crate::msg_type::MsgType;
@@ -16,7 +17,9 @@ use crate::reject_reason::SessionRejectReason;
 use crate::row::Row;
 use crate::run::Run;
 use crate::standings::{NONE_STANDS, Standings, missing, standings, value_numbered};
-use crate::tables::{HEADER_ROWS, entry_rows, outer_rows};
+use crate::tables::{entry_rows, outer_rows};
+use crate::tags::{NO_ALLOCS, NO_EXECS, NO_SIDES};
+use crate::trade_capture_report::NO_SIDES_ROW;
 use crate::whole_number::{is_numeral, number_of};
 
 /// A fault of this tag.
@@ -135,14 +138,18 @@ fn groups_fault(fields: &Run<'_>, msg_type: MsgType, numbers: &Standings) -> Opt
     requires { AreStandings (outer_rows msg_type) fields.now numbers.now }
     ensures { result ≡ groups_fault msg_type fields.now (body_rows msg_type) }
 {
-    let rows = outer_rows(msg_type);
-    for place in HEADER_ROWS..rows.len() {
-        let counter = rows[place].tag();
-        if let Some(fault) = group_fault(fields, msg_type, counter, numbers[place]) {
-            return Some(fault);
+    match msg_type {
+        MsgType::TradeCaptureReport => {
+            group_fault(fields, msg_type, NO_SIDES, numbers[NO_SIDES_ROW])
         }
+        MsgType::AllocationInstruction => {
+            match group_fault(fields, msg_type, NO_EXECS, numbers[NO_EXECS_ROW]) {
+                Some(fault) => Some(fault),
+                None => group_fault(fields, msg_type, NO_ALLOCS, numbers[NO_ALLOCS_ROW]),
+            }
+        }
+        _ => None,
     }
-    None
 }
 
 /// Finds the first fields with the outer tags of a message, or the first fault of its shape.

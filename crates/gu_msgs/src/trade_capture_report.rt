@@ -35,7 +35,7 @@ const LAST_PX_ROW: usize = 16;
 
 const TRADE_DATE_ROW: usize = 17;
 
-const NO_SIDES_ROW: usize = 18;
+pub const NO_SIDES_ROW: usize = 18;
 
 /// The side and the account that an entry says.
 fn entry_side(entry: &Run<'_>) -> Result<(Side, AccountId), Fault>

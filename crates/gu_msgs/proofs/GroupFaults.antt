@@ -1,0 +1,53 @@
+-- Which groups a message of a type has, and where their counters are.
+use Rattle.std.proofs.Common.{◌≡◌, ◌≢◌, ℕ, List, None, Option, Some, ap, refl, subst, arith, slice_index}
+use Rattle.std.specs.Option.{option_or}
+use Rattle.gu_fix.specs.TagValue.{TagValue}
+use Rattle.gu_msgs.specs.Shape.{group_fault, groups_fault}
+use Rattle.gu_msgs.specs.Standings.{AreStandings, IsStanding}
+use Rattle.gu_msgs.specs.Tables.{body_rows, entry_rows, header_rows, outer_rows}
+use Rattle.gu_msgs.specs.declared.fault.Fault.{Fault}
+use Rattle.gu_msgs.specs.declared.msg_type.MsgType.{MsgType}
+use Rattle.gu_msgs.specs.declared.msg_type.MsgType.TheVariants.{Heartbeat, TestRequest, ResendRequest, Reject, SequenceReset, Logout, Logon, TradeCaptureReport, AllocationInstruction, AllocationReportAck, RequestForPositions}
+use Rattle.gu_msgs.specs.declared.tags.TheConstants.{NO_ALLOCS, NO_EXECS, NO_SIDES}
+
+alone : (fault : Option Fault) → option_or fault None ≡ fault
+alone None = refl
+alone (Some fault) = refl
+
+-- a report has the group of its sides alone
+pub report_groups : (fields : List TagValue) → groups_fault TradeCaptureReport fields (body_rows TradeCaptureReport) ≡ group_fault TradeCaptureReport fields NO_SIDES
+unfolding body_rows entry_rows
+report_groups fields = alone (group_fault TradeCaptureReport fields NO_SIDES)
+
+pub sides_stand : (kind : MsgType) (fields : List TagValue) (numbers : List ℕ) → kind ≡ TradeCaptureReport → AreStandings (outer_rows kind) fields numbers → IsStanding fields NO_SIDES (slice_index numbers 18)
+unfolding header_rows body_rows
+sides_stand kind fields numbers is stand = subst (λ (k : MsgType). AreStandings (outer_rows k) fields numbers) is stand 18 (omega arith)
+
+-- a give-up has those of its executions and its lines
+pub give_up_groups : (fields : List TagValue) → groups_fault AllocationInstruction fields (body_rows AllocationInstruction)
+    ≡ option_or (group_fault AllocationInstruction fields NO_EXECS) (group_fault AllocationInstruction fields NO_ALLOCS)
+unfolding body_rows entry_rows
+give_up_groups fields = ap (option_or (group_fault AllocationInstruction fields NO_EXECS)) (alone (group_fault AllocationInstruction fields NO_ALLOCS))
+
+pub executions_stand : (kind : MsgType) (fields : List TagValue) (numbers : List ℕ) → kind ≡ AllocationInstruction → AreStandings (outer_rows kind) fields numbers → IsStanding fields NO_EXECS (slice_index numbers 13)
+unfolding header_rows body_rows
+executions_stand kind fields numbers is stand = subst (λ (k : MsgType). AreStandings (outer_rows k) fields numbers) is stand 13 (omega arith)
+
+pub lines_stand : (kind : MsgType) (fields : List TagValue) (numbers : List ℕ) → kind ≡ AllocationInstruction → AreStandings (outer_rows kind) fields numbers → IsStanding fields NO_ALLOCS (slice_index numbers 14)
+unfolding header_rows body_rows
+lines_stand kind fields numbers is stand = subst (λ (k : MsgType). AreStandings (outer_rows k) fields numbers) is stand 14 (omega arith)
+
+-- no other message has any
+pub no_groups : (kind : MsgType) (fields : List TagValue) → kind ≢ TradeCaptureReport → kind ≢ AllocationInstruction → groups_fault kind fields (body_rows kind) ≡ None
+unfolding body_rows entry_rows
+no_groups Heartbeat fields other another = refl
+no_groups TestRequest fields other another = refl
+no_groups ResendRequest fields other another = refl
+no_groups Reject fields other another = refl
+no_groups SequenceReset fields other another = refl
+no_groups Logout fields other another = refl
+no_groups Logon fields other another = refl
+no_groups TradeCaptureReport fields other another = absurd (other refl)
+no_groups AllocationInstruction fields other another = absurd (another refl)
+no_groups AllocationReportAck fields other another = refl
+no_groups RequestForPositions fields other another = refl
