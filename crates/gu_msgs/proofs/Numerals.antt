@@ -1,9 +1,12 @@
 -- Digits, as a fact and as a test.
-use Rattle.std.proofs.Common.{◌≡◌, ℕ, Bool, true, false, List, [], ◌∷◌, IsTrue, ◌↔◌, refl, sym, nat_lt}
+use Rattle.std.proofs.Common.{◌≡◌, ◌<◌, ◌≤◌, ◌^◌, ℕ, Bool, true, false, List, [], ◌∷◌, IsTrue, ◌↔◌, arith, length, refl, sym, take, nat_lt}
 use Rattle.std.specs.Char.{digit_value}
 use Rattle.std.specs.List.{list_all}
-use Rattle.std.specs.Str.Parse.{AllDigits}
+use Rattle.std.specs.Str.Parse.{AllDigits, digits_value}
+use Rattle.std.proofs.Math.Nat.{pow-le-pow_right}
 use Rattle.std.proofs.lemmas.Bool.{ltb-true, lt-ltb, and_parts}
+use Rattle.std.proofs.lemmas.Int.Digits.{digits_value-lt}
+use Rattle.std.proofs.lemmas.List.{length-take}
 use Rattle.gu_msgs.specs.Values.{is_numeral}
 
 -- a byte is a digit
@@ -30,3 +33,15 @@ is_digits_test text false h =
 -- a numeral's bytes are digits
 pub numeral_digits : (text : List ℕ) → IsTrue (is_numeral text) → AllDigits 10 text
 numeral_digits text h = digits_from_test text (and_parts _ _ h).1
+
+-- digits, at least one, are a numeral
+pub numeral_from_digits : (text : List ℕ) → 0 < length text → AllDigits 10 text → IsTrue (is_numeral text)
+numeral_from_digits text some all = rw (lt-ltb 0 (length text) some, test_from_digits text all) refl
+
+-- the first digits of nine at most are a small number
+pub value_short : (text : List ℕ) (count : ℕ) → AllDigits 10 (take count text) → length text ≤ 9 → digits_value 10 (take count text) < 1000000000
+value_short text count all few =
+    let bound = digits_value-lt 10 (take count text) all in
+    let fewer : length (take count text) ≤ 9 = omega (arith, few, length-take count text) in
+    let power : 10 ^ length (take count text) ≤ 10 ^ 9 = pow-le-pow_right {n = 10} (omega arith) fewer in
+    omega arith

@@ -11,7 +11,7 @@ ghost use Rattle.gu_msgs.specs.declared.row.Kind.TheVariants as kind;
 use crate::alloc_status::AllocStatus;
 use crate::reject_reason::SessionRejectReason;
 use crate::test_req_id::TestReqId;
-use crate::whole_number::{is_numeral, number_of};
+use crate::whole_number::{is_numeral, number_of, short_number};
 use gu_terms::{
     AccountId, Day, Id, Lots, NumberError, OfferNo, Price, Side, Symbol, read_lots, read_price,
 };
@@ -111,13 +111,24 @@ pub fn yes_or_no(text: &[u8]) -> Result<bool, SessionRejectReason>
 }
 
 /// The whole number of 64 bits.
-fn whole_number(text: &[u8]) -> Result<u64, SessionRejectReason>
+#[inline(never)]
+fn any_number(text: &[u8]) -> Result<u64, SessionRejectReason>
     ensures { MatchResult result (IsNumber text.now) (IsNoNumber text.now) }
 {
     if !is_numeral(text) {
         return Err(SessionRejectReason::IncorrectDataFormat);
     }
     allowed(number_of(text))
+}
+
+/// The same. Most are short.
+fn whole_number(text: &[u8]) -> Result<u64, SessionRejectReason>
+    ensures { MatchResult result (IsNumber text.now) (IsNoNumber text.now) }
+{
+    match short_number(text) {
+        Some(number) => Ok(number),
+        None => any_number(text),
+    }
 }
 
 /// The whole number from one number to another.

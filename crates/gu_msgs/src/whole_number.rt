@@ -1,7 +1,8 @@
 //! Whole numbers as messages write them.
 
-ghost use Rattle.std.specs.Prelude.{◌≡◌, ◌+◌, ◌-◌, ◌*◌, ◌^◌, ◌≤◌, ◌<◌, IsTrue, MatchOption};
+ghost use Rattle.std.specs.Prelude.{◌≡◌, ◌+◌, ◌-◌, ◌*◌, ◌^◌, ◌≤◌, ◌<◌, IfSome, IsTrue, MatchOption};
 ghost use Rattle.std.specs.Str.Parse.{AllDigits, digits_value};
+ghost use Rattle.gu_msgs.specs.Kinds.{IsNumber};
 ghost use Rattle.gu_msgs.specs.Values.{is_numeral};
 
 use gu_terms::are_digits;
@@ -35,6 +36,26 @@ pub fn number_of(text: &[u8]) -> Option<u64>
             Some(longer) => number = longer,
             None => return None,
         }
+    }
+    Some(number)
+}
+
+/// The digits of a number that is short.
+const FEW: usize = 9;
+
+/// The number that a short numeral writes, and none where the text is no such numeral.
+pub fn short_number(text: &[u8]) -> Option<u64>
+    ensures { IfSome result (IsNumber text.now) }
+{
+    if text.is_empty() || text.len() > FEW {
+        return None;
+    }
+    let mut number: u64 = 0;
+    for byte in text {
+        if !byte.is_ascii_digit() {
+            return None;
+        }
+        number = 10 * number + u64::from(*byte - b'0');
     }
     Some(number)
 }
