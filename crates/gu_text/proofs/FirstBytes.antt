@@ -1,9 +1,16 @@
 -- The first byte that passes a test, as a loop or a search of bytes tells it.
-use Rattle.std.proofs.Common.{◌≡◌, ◌<◌, ℕ, Bool, true, false, List, Option, None, Some, length, position, slice_index_or, refl, sym, ap, ◌∙◌, arith, nat_lt}
-use Rattle.std.specs.List.{position_or_len}
+use Rattle.std.proofs.Common.{◌≡◌, ◌<◌, ℕ, Bool, true, false, List, Option, None, Some, length, position, slice_index_or, refl, sym, ap, ◌∙◌, arith, nat_lt, nat_eq, cond, not, map, replicate, ◌≤◌, ◌%◌, ◌^◌, w8, w64}
+use lib.Lanes.{chunk, zip2, mask_l, top}
+use Rattle.std.specs.Int.{trailing_zeros}
+use Rattle.std.specs.List.{position_or_len, prefix_len}
+use Rattle.std.proofs.lemmas.Simd.{bitmask_splat, first_set_mask_l, length-chunk}
 use Rattle.std.proofs.lemmas.Bool.{cond-true, cond-false, le-ltb, lt-ltb}
 use Rattle.std.proofs.lemmas.List.Sums.{position_or_len_is}
 use Rattle.memchr.specs.Find.{IsFirstByte}
+
+-- the place of the lowest bit that is set, or 8
+abbrev lowest_bit : ℕ → ℕ
+lowest_bit mask = cond (nat_eq mask 0) 8 (trailing_zeros w64 mask)
 
 -- a place that passes is the first where none before it does
 pub first_place : (p : ℕ → Bool) (bytes : List ℕ) (place : ℕ) → ((k : ℕ) → k < place → p (slice_index_or bytes k 0) ≡ false) → place < length bytes → p (slice_index_or bytes place 0) ≡ true → Some place ≡ position p bytes
@@ -25,3 +32,11 @@ fails false h = refl
 pub place_found : (p : ℕ → Bool) (bytes : List ℕ) (found : Option ℕ) → IsFirstByte p bytes found → found ≡ position p bytes
 place_found p bytes None nowhere = no_place p bytes (λ k within. fails _ (nowhere k (omega arith) within))
 place_found p bytes (Some place) h = first_place p bytes place (λ k before. fails _ (h.0.before k (omega arith) before)) h.0.high h.1
+
+-- a mask of the first eight bytes that are a byte, and its lowest bit
+pub run_counted : (byte : ℕ) (bytes : List ℕ) (run : ℕ) → 8 ≤ length bytes
+    → run ≡ lowest_bit (mask_l (map (top 7) (zip2 (λ a b. cond (nat_eq a b) 255 0) (chunk 0 8 bytes) (replicate 8 byte))) % 2 ^ 64)
+    → run ≡ prefix_len (λ b. not (nat_eq b byte)) (chunk 0 8 bytes)
+run_counted byte bytes run room is =
+    let long = length-chunk 0 8 bytes room in
+    is ∙ ap lowest_bit (bitmask_splat w8 nat_eq (chunk 0 8 bytes) 8 byte long (omega arith)) ∙ first_set_mask_l (λ b. nat_eq b byte) (chunk 0 8 bytes) 8 long (omega arith)

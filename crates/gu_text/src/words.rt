@@ -1,8 +1,11 @@
 //! The words of a line.
 
-ghost use Rattle.std.specs.Prelude.{◌≡◌, ◌≢◌, ◌<◌, ◌≤◌, ◌↔◌, ◌∷◌, [], false, length, IfSome, IsTrue, MatchOption};
+ghost use Rattle.std.specs.Prelude.{◌≡◌, ◌≢◌, ◌<◌, ◌≤◌, ◌==◌, ◌↔◌, ◌∷◌, [], ℕ, true, false, if◌then◌else◌, length, slice_index_or, IfSome, IsTrue, MatchOption};
+ghost use Rattle.std.specs.Int.{trailing_zeros, w64};
 ghost use Rattle.std.specs.List.{position};
 ghost use Rattle.gu_text.specs.Words.{is_blank, is_blank_at, is_ragged, words_of};
+
+use std::simd::prelude::*;
 
 fn is_blank_at(line: &[u8], place: usize) -> bool
     ensures { result ≡ is_blank_at line.now place }
@@ -20,8 +23,9 @@ pub(crate) fn is_ragged(line: &[u8]) -> bool
     is_blank_at(line, 0) || is_blank_at(line, line.len().saturating_sub(1))
 }
 
-/// The text without the blanks at its front.
-fn without_blanks(text: &[u8]) -> &[u8]
+/// The text without the blanks at its front, of which it has some.
+#[inline(never)]
+fn after_blanks(text: &[u8]) -> &[u8]
     ensures words { words_of result.now ≡ words_of text.now }
     ensures front { is_blank_at result.now 0 ≡ false }
     ensures short { length result.now ≤ length text.now }
@@ -33,8 +37,23 @@ fn without_blanks(text: &[u8]) -> &[u8]
     rest
 }
 
-/// The place of the first blank.
-fn blank_place(text: &[u8]) -> Option<usize>
+/// The text without the blanks at its front.
+#[inline(always)]
+fn without_blanks(text: &[u8]) -> &[u8]
+    ensures words { words_of result.now ≡ words_of text.now }
+    ensures front { is_blank_at result.now 0 ≡ false }
+    ensures short { length result.now ≤ length text.now }
+{
+    if is_blank_at(text, 0) {
+        after_blanks(text)
+    } else {
+        text
+    }
+}
+
+/// The place of the first blank, byte by byte.
+#[inline(never)]
+fn any_blank_place(text: &[u8]) -> Option<usize>
     ensures { result ≡ position is_blank text.now }
 {
     for place in 0..text.len() {
@@ -45,8 +64,46 @@ fn blank_place(text: &[u8]) -> Option<usize>
     None
 }
 
+/// The place of the lowest bit that is set, or 8 where none is.
+#[inline(always)]
+fn lowest_bit(mask: u64) -> usize
+    ensures { result ≡ (if mask == 0 then 8 else trailing_zeros w64 mask) }
+{
+    if mask == 0 {
+        8
+    } else {
+        mask.trailing_zeros() as usize
+    }
+}
+
+/// How many of the first eight bytes come before the first blank, by one comparison of all eight.
+#[inline(always)]
+fn run_in_eight(text: &[u8]) -> usize
+    requires { 8 ≤ length text.now }
+    ensures before { (k : ℕ) → k < result → is_blank (slice_index_or text.now k 0) ≡ false }
+    ensures stops { result < 8 → is_blank (slice_index_or text.now result 0) ≡ true }
+{
+    let blanks = u8x8::from_slice(text).simd_eq(u8x8::splat(b' '));
+    lowest_bit(blanks.to_bitmask())
+}
+
+/// The place of the first blank. Most words have fewer than eight bytes, which are compared at once.
+#[inline(always)]
+fn blank_place(text: &[u8]) -> Option<usize>
+    ensures { result ≡ position is_blank text.now }
+{
+    if text.len() >= 8 {
+        let run = run_in_eight(text);
+        if run < 8 {
+            return Some(run);
+        }
+    }
+    any_blank_place(text)
+}
+
 #[tactic(auto, using(crate::proofs::WordLemmas::word_in_front, crate::proofs::WordLemmas::word_alone))]
 /// The first word of a text, and the text after it.
+#[inline(always)]
 pub(crate) fn first_word(text: &[u8]) -> Option<(&[u8], &[u8])>
     ensures words { MatchOption result (words_of text.now ≡ []) (λ found. words_of text.now ≡ found.0.now ∷ words_of found.1.now) }
     ensures shorter { IfSome result (λ found. length found.1.now < length text.now) }
@@ -69,6 +126,7 @@ pub(crate) fn has_words(text: &[u8]) -> bool
 }
 
 /// The first three words of a text, and the text after them.
+#[inline(always)]
 pub(crate) fn first_three_words(text: &[u8]) -> Option<(&[u8], &[u8], &[u8], &[u8])>
     ensures { MatchOption result (length (words_of text.now) < 3)
         (λ found. words_of text.now ≡ found.0.now ∷ found.1.now ∷ found.2.now ∷ words_of found.3.now) }
@@ -92,6 +150,7 @@ pub(crate) fn three_words(text: &[u8]) -> Option<(&[u8], &[u8], &[u8])>
 }
 
 /// The two words of a text that has two.
+#[inline(always)]
 pub(crate) fn two_words(text: &[u8]) -> Option<(&[u8], &[u8])>
     ensures { MatchOption result (length (words_of text.now) ≢ 2) (λ found. words_of text.now ≡ found.0.now ∷ found.1.now ∷ []) }
 {

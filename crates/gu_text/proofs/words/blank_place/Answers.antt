@@ -1,11 +1,9 @@
-use Rattle.std.proofs.Common.{ap, arith}
+use Rattle.std.proofs.Common.{arith}
 use Rattle.gu_text.specs.Words.{is_blank}
-use Rattle.gu_text.proofs.FirstBytes.{first_place, no_place}
+use Rattle.gu_text.proofs.FirstBytes.{first_place}
 use Rattle.gu_text.proofs.words.blank_place.Goals as goal
 
-pub returns-then-text-place-eq32 : goal.returns-then-text-place-eq32
-returns-then-text-place-eq32 c =
-    first_place is_blank c.args.text.now c.loop-place.place c.loop-place.invariant c.loop-place-test.true (ap is_blank c.if-text-place-eq32.true)
-
-pub returns : goal.returns
-returns c = no_place is_blank c.args.text.now (λ k within. c.loop-place.invariant k (omega (arith, within, c.loop-place-test.false)))
+pub returns-then-run-lt8 : goal.returns-then-run-lt8
+returns-then-run-lt8 c =
+    let run = c.run_in_eight-run in
+    first_place is_blank c.args.text.now run.result run.ensures.before (omega (arith, c.if-text-ge8.true, c.if-run-lt8.true)) (run.ensures.stops c.if-run-lt8.true)
