@@ -19,6 +19,11 @@ pub record Place : Type 0 where
   pub count : ℕ
   pub rest : List ℕ
 
+-- a line: the bytes that were extended by its last part, or that part where there were none
+abbrev pub whole_line : List ℕ → List ℕ → List ℕ
+whole_line [] part = part
+whole_line (first ∷ others) part = first ∷ others
+
 -- the lines that are ended in bytes are answered, and this is what is left of the bytes
 pub record AnswersEnded (old : Place) (bytes text : List ℕ) (new : Place) (left : List ℕ) : Type 0 where
   pub ended : List (List ℕ)

@@ -5,7 +5,7 @@ ghost use Rattle.std.specs.Str.Lines.{strip_carriage_return};
 ghost use Rattle.gu_world.specs.Runs.{beginning};
 ghost use Rattle.gu_text.specs.LineFeeds.{HasNoLineFeed, IsTooLong};
 ghost use Rattle.gu_text.specs.Scripts.{IsBad};
-ghost use Rattle.gu_script.specs.ScriptPieces.{AnswersEnd, AnswersPiece};
+ghost use Rattle.gu_script.specs.ScriptPieces.{AnswersEnd, AnswersPiece, whole_line};
 ghost use Rattle.gu_script.specs.ScriptSteps.{AnswersLine, AnswersLines, AnswersSaid};
 
 use crate::questions::{answer_interest, answer_limits, answer_position};
@@ -28,6 +28,24 @@ fn answer_line(world: &mut World, said: &Line, output: &mut Vec<u8>) -> Result<(
         Line::Interest(symbol) => answer_interest(world.book(), *symbol, output),
         Line::Limits(group) => answer_limits(world.book(), *group, output),
     }
+}
+
+/// Extends the bytes before a part of a line by the part, where there are some.
+fn extend_begun(rest: &mut Vec<u8>, part: &[u8]) -> Result<(), AllocError>
+    ensures whole { OnOk result (whole_line rest.new.items part.now ≡ rest.old.items ++ part.now) }
+    ensures none { HasNoLineFeed rest.old.items → HasNoLineFeed part.now → HasNoLineFeed rest.new.items }
+{
+    if rest.is_empty() {
+        return Ok(());
+    }
+    rest.extend_from_slice(part)
+}
+
+/// A line: the bytes that were extended, or the part where there were none.
+fn whole_line<'a>(rest: &'a [u8], part: &'a [u8]) -> &'a [u8]
+    ensures { result.now ≡ whole_line rest.now part.now }
+{
+    if rest.is_empty() { part } else { rest }
 }
 
 /// A script that is being read: what its lines led to so far, and what waits for more.
@@ -105,8 +123,9 @@ impl Script {
         ensures bad { (n : ℕ) → IsErrOf result (TextError.BadLine n)
             → (n ≡ self.old.count + 1) × IsBad (strip_carriage_return (self.old.rest ++ part.now)) × (output.new.items ≡ output.old.items) }
     {
-        self.rest.extend_from_slice(part)?;
-        let said = Line::read(self.alloc, without_return(&self.rest), self.count + 1)?;
+        extend_begun(&mut self.rest, part)?;
+        let line = without_return(whole_line(&self.rest, part));
+        let said = Line::read(self.alloc, line, self.count + 1)?;
         let answered = self.answer(&said, output);
         drop(said);
         answered?;
