@@ -81,6 +81,85 @@ fn add(
     Ok(())
 }
 
+#[tactic(auto, using(crate::proofs::PackedLemmas::joined_room))]
+/// Adds a command after the others, its texts beside the name in its reply, and what is kept of that.
+#[inline(always)]
+fn add_parts<'a>(
+    entries: &mut Vec<Packed>,
+    all: &mut TextStore,
+    alloc: Global,
+    command: &'a Command,
+    replied: (Given<'a>, KeptReply),
+) -> Result<(), AllocError>
+    requires kept { AreKept all.old.bytes entries.old.items }
+    requires room { length all.old.bytes ≤ 4000000000 }
+    requires name { IsNameOf replied.0.reply replied.1 }
+    ensures kept { AreKept all.new.bytes entries.new.items }
+    ensures added { OnOk result (map (entry_of all.new.bytes) entries.new.items
+        ≡ map (entry_of all.old.bytes) entries.old.items ++ Entry.Asked command.now (reply_by replied.entry.0.reply replied.entry.1) ∷ []) }
+    ensures refused { OnErr result (map (entry_of all.new.bytes) entries.new.items ≡ map (entry_of all.old.bytes) entries.old.items) }
+{
+    let (texts, kept) = replied;
+    match command {
+        Command::OpenDay { day } => {
+            add(entries, all, &texts, (kept, Body::OpenDay { day: *day }))
+        }
+        Command::SetLimit { group, key, lots } => {
+            let (texts, body) = limit_parts(texts, group, key, *lots);
+            add(entries, all, &texts, (kept, body))
+        }
+        Command::ReportSide {
+            firm,
+            id,
+            match_id,
+            symbol,
+            lots,
+            price,
+            day,
+            side,
+            account,
+        } => {
+            let texts = texts.with_firm(firm).with_ids(id, match_id);
+            let texts = texts.with_names(symbol, account);
+            let report = KeptReport::new(*side, *day, *lots);
+            let price = *price;
+            add(
+                entries,
+                all,
+                &texts,
+                (kept, Body::ReportSide { report, price }),
+            )
+        }
+        Command::GiveUp {
+            firm,
+            id,
+            report,
+            lines,
+        } => {
+            let texts = texts.with_firm(firm).with_ids(id, report);
+            let (texts, body) = give_up_parts(alloc, texts, lines)?;
+            add(entries, all, &texts, (kept, body))
+        }
+        Command::Claim { firm, offer } => {
+            let body = Body::Claim { offer: *offer };
+            add(entries, all, &texts.with_firm(firm), (kept, body))
+        }
+        Command::Refuse { firm, offer, why } => {
+            let (why, offer) = (*why, *offer);
+            add(
+                entries,
+                all,
+                &texts.with_firm(firm),
+                (kept, Body::Refuse { why, offer }),
+            )
+        }
+        Command::Reverse { firm, offer } => {
+            let body = Body::Reverse { offer: *offer };
+            add(entries, all, &texts.with_firm(firm), (kept, body))
+        }
+    }
+}
+
 /// The place after the texts of the last entry.
 fn end_of_last(entries: &[Packed]) -> usize
     ensures { result ≡ end_of_last entries.now }
@@ -204,82 +283,6 @@ impl History {
         self.push_alone(Body::Whole(entry))
     }
 
-    #[tactic(auto, using(crate::proofs::PackedLemmas::joined_room))]
-    /// Adds what is kept of an entry after the others, with its texts, where all texts are few enough.
-    #[inline(always)]
-    fn push_kept(&mut self, texts: &Given<'_>, kept: (KeptReply, Body)) -> Result<(), AllocError>
-        requires texts { AreTextsOf texts.now kept.1 }
-        requires name { IsNameOf texts.now.reply kept.0 }
-        ensures added { OnOk result (self.new ≡ self.old ++ entry_by texts.now kept.1 (reply_by texts.now.reply kept.0) ∷ []) }
-        ensures refused { OnErr result (self.new ≡ self.old) }
-    {
-        // Shows the prover that there is room, as who calls has seen.
-        if self.texts.len() > MOST_TEXTS {
-            return Err(AllocError);
-        }
-        add(&mut self.entries, &mut self.texts, texts, kept)
-    }
-
-    /// Adds a command after the others, its texts beside the name in its reply, and what is kept of that.
-    #[inline(always)]
-    fn push_parts<'a>(
-        &mut self,
-        command: &'a Command,
-        texts: Given<'a>,
-        kept: KeptReply,
-    ) -> Result<(), AllocError>
-        requires { IsNameOf texts.reply kept }
-        ensures added { OnOk result (self.new ≡ self.old ++ Entry.Asked command.now (reply_by texts.entry.reply kept) ∷ []) }
-        ensures refused { OnErr result (self.new ≡ self.old) }
-    {
-        match command {
-            Command::OpenDay { day } => self.push_kept(&texts, (kept, Body::OpenDay { day: *day })),
-            Command::SetLimit { group, key, lots } => {
-                let (texts, body) = limit_parts(texts, group, key, *lots);
-                self.push_kept(&texts, (kept, body))
-            }
-            Command::ReportSide {
-                firm,
-                id,
-                match_id,
-                symbol,
-                lots,
-                price,
-                day,
-                side,
-                account,
-            } => {
-                let texts = texts.with_firm(firm).with_ids(id, match_id);
-                let texts = texts.with_names(symbol, account);
-                let report = KeptReport::new(*side, *day, *lots);
-                let price = *price;
-                self.push_kept(&texts, (kept, Body::ReportSide { report, price }))
-            }
-            Command::GiveUp {
-                firm,
-                id,
-                report,
-                lines,
-            } => {
-                let texts = texts.with_firm(firm).with_ids(id, report);
-                let (texts, body) = give_up_parts(self.alloc, texts, lines)?;
-                self.push_kept(&texts, (kept, body))
-            }
-            Command::Claim { firm, offer } => {
-                let body = Body::Claim { offer: *offer };
-                self.push_kept(&texts.with_firm(firm), (kept, body))
-            }
-            Command::Refuse { firm, offer, why } => {
-                let (why, offer) = (*why, *offer);
-                self.push_kept(&texts.with_firm(firm), (kept, Body::Refuse { why, offer }))
-            }
-            Command::Reverse { firm, offer } => {
-                let body = Body::Reverse { offer: *offer };
-                self.push_kept(&texts.with_firm(firm), (kept, body))
-            }
-        }
-    }
-
     /// Adds a command with its reply after the others, its texts apart where there is room.
     #[inline(never)]
     fn push_named(&mut self, command: &Command, reply: &Reply) -> Result<(), AllocError>
@@ -297,7 +300,13 @@ impl History {
             reply,
             ..Given::of(&id, &name)
         };
-        self.push_parts(command, texts, kept)
+        add_parts(
+            &mut self.entries,
+            &mut self.texts,
+            self.alloc,
+            command,
+            (texts, kept),
+        )
     }
 
     /// Adds a command with its reply after the others.
