@@ -1,10 +1,9 @@
 -- A line of a script is read.
-use Rattle.std.proofs.Common.{◌≡◌, ◌≢◌, ◌∷◌, [], ◌∙◌, ◌<◌, ◌≤◌, ℕ, true, false, List, Option, None, Some, length, MatchOption, IsErrOf, Result, refl, sym, ap, subst, arith}
-use Rattle.std.specs.Option.{is_some}
+use Rattle.std.proofs.Common.{◌≡◌, ◌≢◌, ◌∷◌, [], ◌∙◌, ◌<◌, ◌≤◌, ℕ, true, false, List, Option, None, Some, length, MatchOption, IsErrOf, IsTrue, Result, Ok, refl, sym, ap, subst, arith}
 use Rattle.gu_terms.specs.declared.command.Command.TheVariants.{OpenDay, SetLimit, ReportSide, GiveUp, Claim, Refuse, Reverse}
 use Rattle.gu_world.specs.declared.step.Step.TheVariants.{Enter, See, Propose, Commit}
 use Rattle.gu_text.specs.Lines.{is_silent, longest_line}
-use Rattle.gu_text.specs.ScriptForms.{IsBegun, IsTold, Reads, ReadsWords, WriteNone, form_begun, form_of, form_word}
+use Rattle.gu_text.specs.ScriptForms.{IsBegun, ReadsWords, Tells, WriteNone, form_begun, form_of, form_word}
 use Rattle.gu_text.specs.Scripts.{IsBad, Says, Writes}
 use Rattle.gu_text.specs.Words.{is_ragged, words_of}
 use Rattle.gu_text.specs.declared.error.TextError.{TextError}
@@ -92,13 +91,11 @@ is_begun text kind f words speaks short even words_are is = record {
   words_are = words_are ∙ ap (λ (k : List ℕ). k ∷ words) is;
 }
 
--- what is read of the words of a form is what the words write
-pub begun : (words : List (List ℕ)) (f : Form) (read : Option Line) → Reads f words read → ReadsWords (form_word f ∷ words) read
-begun words f (Some said) reads = reads
-begun words f None reads = λ said h.
+-- where words write nothing of a form, they write nothing
+begun : (words : List (List ℕ)) (f : Form) → WriteNone f (form_word f ∷ words) → ReadsWords (form_word f ∷ words) None
+begun words f none = λ said h.
     let same : f ≡ form_of said = let e = sym (form_begun-word f) ∙ form_written (form_word f) words said h in cc in
-    let none : WriteNone (form_of said) (form_word f ∷ words) = subst (λ g. WriteNone g (form_word f ∷ words)) same reads in
-    none_written (form_word f ∷ words) said none h
+    none_written (form_word f ∷ words) said (subst (λ g. WriteNone g (form_word f ∷ words)) same none) h
 
 -- no words write nothing
 pub wordless : (said : Line) → ¬ Writes [] said
@@ -116,17 +113,15 @@ pub words_said : (text : List ℕ) (read : Option Line) → is_silent text ≡ f
 words_said text (Some said) speaks short even reads = record { speaks = speaks; short = short; even = even; writes = reads }
 words_said text None speaks short even reads = record { speaks = speaks; nothing = λ said says. reads said says.writes }
 
--- and so a line that begins with the word of a form says what is read of the words after it
-pub begun_said : (text : List ℕ) (f : Form) (words : List (List ℕ)) (read : Option Line) → IsBegun text f words → Reads f words read → MatchOption read (IsBad text) (Says text)
-begun_said text f words read is reads =
-    words_said text read is.speaks is.short is.even
-    (subst (λ (ws : List (List ℕ)). ReadsWords ws read) (sym is.words_are) (begun words f read reads))
+-- and so a line that begins with the word of a form says what is told of the words after it, or is bad
+pub begun_said : (text : List ℕ) (f : Form) (words : List (List ℕ)) (number : ℕ) (said : Option Line) → IsBegun text f words → Tells f words number (Ok said)
+    → MatchOption said (IsTrue (is_silent text)) (Says text)
+begun_said text f words number None is told = absurd told
+begun_said text f words number (Some said) is told =
+    words_said text (Some said) is.speaks is.short is.even (subst (λ (ws : List (List ℕ)). ReadsWords ws (Some said)) (sym is.words_are) told)
 
--- and is bad where nothing is read of them
-pub unread_bad : (text : List ℕ) (f : Form) (words : List (List ℕ)) (read : Option Line) → IsBegun text f words → Reads f words read → is_some read ≡ false → IsBad text
-unread_bad text f words None is reads none = begun_said text f words None is reads
-unread_bad text f words (Some said) is reads none = let both : true ≡ false = none in cc
-
--- a line that is told to be bad is
-pub told_bad : (text : List ℕ) (number : ℕ) (result : Result (Option Line) TextError) → IsTold text number result → (n : ℕ) → IsErrOf result (BadLine n) → (n ≡ number) × IsBad text
-told_bad text number result told n bad = subst (IsTold text number) bad told
+pub begun_bad : (text : List ℕ) (f : Form) (words : List (List ℕ)) (number : ℕ) (result : Result (Option Line) TextError) → IsBegun text f words → Tells f words number result
+    → (n : ℕ) → IsErrOf result (BadLine n) → (n ≡ number) × IsBad text
+begun_bad text f words number result is told n bad =
+    let told_of = subst (Tells f words number) bad told in
+    (told_of.0, words_said text None is.speaks is.short is.even (subst (λ (ws : List (List ℕ)). ReadsWords ws None) (sym is.words_are) (begun words f told_of.1)))

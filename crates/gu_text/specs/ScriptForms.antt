@@ -106,6 +106,12 @@ WriteNone form.Limits words = (group : Group) → ¬ Writes words (line.Limits g
 abbrev pub Reads : Form → List (List ℕ) → Option Line → Type 0
 Reads form words read = MatchOption read (WriteNone form (form_word form ∷ words)) (Writes (form_word form ∷ words))
 
+-- what is told of the words after the word of a form, in the line with this number: what they write, or that they write nothing
+abbrev pub Tells : Form → List (List ℕ) → ℕ → Result (Option Line) TextError → Type 0
+Tells form words number (Ok said) = MatchOption said ⊥ (Writes (form_word form ∷ words))
+Tells form words number (Err (BadLine n)) = (n ≡ number) × WriteNone form (form_word form ∷ words)
+Tells form words number (Err Memory) = Unit {0}
+
 -- what is read of words, if they write anything
 abbrev pub ReadsWords : List (List ℕ) → Option Line → Type 0
 ReadsWords words read = MatchOption read ((said : Line) → ¬ Writes words said) (Writes words)
@@ -115,13 +121,6 @@ abbrev pub ReadsLines : List (List ℕ) → Option (List GiveUpLine) → Type 0
 ReadsLines words read =
     MatchOption read ((lines : List GiveUpLine) → AreLines lines → ¬ WriteLines words lines)
     (λ lines. AreLines lines × WriteLines words lines)
-
--- words begin with the firm of a give-up, its ids of the give-up and of the report, and these come after
-pub record IsGiver (words : List (List ℕ)) (firm : FirmId) (id report : Id) (pairs : List (List ℕ)) : Type 0 where
-  pub words_are : words ≡ firm.name ∷ id ∷ report ∷ pairs
-  pub name : IsTrue (is_name firm.name)
-  pub own : IsId id
-  pub reported : IsId report
 
 -- words begin with an account and its lots, and these come after
 pub record WritesLine (words : List (List ℕ)) (first : GiveUpLine) (behind : List (List ℕ)) : Type 0 where
@@ -140,9 +139,3 @@ pub record IsBegun (text : List ℕ) (form : Form) (words : List (List ℕ)) : T
   pub short : length text ≤ longest_line
   pub even : is_ragged text ≡ false
   pub words_are : words_of text ≡ form_word form ∷ words
-
--- what is told of the line with this number, which isn't silent: what it says, or that it is bad, or that memory ran out
-abbrev pub IsTold : List ℕ → ℕ → Result (Option Line) TextError → Type 0
-IsTold text number (Ok said) = MatchOption said ⊥ (Says text)
-IsTold text number (Err (BadLine n)) = (n ≡ number) × IsBad text
-IsTold text number (Err Memory) = Unit {0}

@@ -1,10 +1,11 @@
 //! The forms of a script's lines.
 
-ghost use Rattle.std.specs.Prelude.{◌≡◌, ◌≢◌, ◌<◌, ◌∷◌, codes, length, IfOk, IfSome, MatchOption};
-ghost use Rattle.gu_text.specs.ScriptForms.{form_word, IsGiver, Reads, ReadsLines, WriteNone, WritesLine, WritesNoLine};
+ghost use Rattle.std.specs.Prelude.{◌≡◌, ◌≢◌, ◌<◌, length, IfOk, IfSome, MatchOption};
+ghost use Rattle.gu_text.specs.ScriptForms.{form_word, ReadsLines, Tells, WritesLine, WritesNoLine};
 ghost use Rattle.gu_text.specs.Words.{words_of};
 ghost use Rattle.gu_text.specs.declared.script_forms.Form.{Form as FormOf};
 
+use crate::error::TextError;
 use crate::script_line::Line;
 use crate::values::{
     day_of, key_said, lots_of, name_of, number_of, offer_no_of, price_of, reject_of, side_of,
@@ -14,6 +15,16 @@ use crate::words::{first_three_words, first_word, has_words, only_word, three_wo
 use gu_terms::{AccountId, Command, FirmId, Group, Id, Line as GiveUpLine, Lines, Symbol};
 use gu_world::Step;
 use std::alloc::{AllocError, Global};
+
+/// What was read, or the end of the reading where nothing was. (`ok_or` and `?` would move it twice.)
+macro_rules! told {
+    ($read:expr, $number:expr) => {
+        match $read {
+            Some(value) => value,
+            None => return Err(TextError::BadLine($number)),
+        }
+    };
+}
 
 /// The forms of a script's lines, each with a word of its own in front.
 #[derive(Clone, Copy)]
@@ -61,48 +72,48 @@ impl Form {
 
 /// The day that is opened.
 #[inline(never)]
-pub(crate) fn day_said(words: &[u8]) -> Option<Line>
-    ensures { Reads Form.Day (words_of words.now) result }
+pub(crate) fn day_said(words: &[u8], number: u64) -> Result<Option<Line>, TextError>
+    ensures { Tells Form.Day (words_of words.now) number result }
 {
-    let word = only_word(words)?;
-    let day = day_of(word)?;
-    Some(Line::Step(Step::Enter(Command::OpenDay { day })))
+    let word = told!(only_word(words), number);
+    let day = told!(day_of(word), number);
+    Ok(Some(Line::Step(Step::Enter(Command::OpenDay { day }))))
 }
 
 /// A limit: its group, its key and its lots.
 #[inline(never)]
-pub(crate) fn limit_said(words: &[u8]) -> Option<Line>
-    ensures { Reads Form.Limit (words_of words.now) result }
+pub(crate) fn limit_said(words: &[u8], number: u64) -> Result<Option<Line>, TextError>
+    ensures { Tells Form.Limit (words_of words.now) number result }
 {
-    let (group, kind, name, rest) = first_three_words(words)?;
-    let lots = only_word(rest)?;
-    let group = name_of(group)?;
-    let key = key_said(kind, name)?;
-    let lots = number_of(lots)?;
-    Some(Line::Step(Step::Enter(Command::SetLimit {
+    let (group, kind, name, rest) = told!(first_three_words(words), number);
+    let lots = told!(only_word(rest), number);
+    let group = told!(name_of(group), number);
+    let key = told!(key_said(kind, name), number);
+    let lots = told!(number_of(lots), number);
+    Ok(Some(Line::Step(Step::Enter(Command::SetLimit {
         group: Group { name: group },
         key,
         lots,
-    })))
+    }))))
 }
 
 /// A firm's side of a trade, of the open day.
 #[inline(never)]
-pub(crate) fn report_said(words: &[u8]) -> Option<Line>
-    ensures { Reads Form.Report (words_of words.now) result }
+pub(crate) fn report_said(words: &[u8], number: u64) -> Result<Option<Line>, TextError>
+    ensures { Tells Form.Report (words_of words.now) number result }
 {
-    let (firm, id, match_id, rest) = first_three_words(words)?;
-    let (side, symbol, lots, rest) = first_three_words(rest)?;
-    let (price, account) = two_words(rest)?;
-    let firm = name_of(firm)?;
-    let id = Id::new(id)?;
-    let match_id = Id::new(match_id)?;
-    let side = side_of(side)?;
-    let symbol = name_of(symbol)?;
-    let lots = lots_of(lots)?;
-    let price = price_of(price)?;
-    let account = name_of(account)?;
-    Some(Line::Step(Step::Enter(Command::ReportSide {
+    let (firm, id, match_id, rest) = told!(first_three_words(words), number);
+    let (side, symbol, lots, rest) = told!(first_three_words(rest), number);
+    let (price, account) = told!(two_words(rest), number);
+    let firm = told!(name_of(firm), number);
+    let id = told!(Id::new(id), number);
+    let match_id = told!(Id::new(match_id), number);
+    let side = told!(side_of(side), number);
+    let symbol = told!(name_of(symbol), number);
+    let lots = told!(lots_of(lots), number);
+    let price = told!(price_of(price), number);
+    let account = told!(name_of(account), number);
+    Ok(Some(Line::Step(Step::Enter(Command::ReportSide {
         firm: FirmId { name: firm },
         id,
         match_id,
@@ -112,19 +123,7 @@ pub(crate) fn report_said(words: &[u8]) -> Option<Line>
         day: None,
         side,
         account: AccountId { name: account },
-    })))
-}
-
-/// The firm of a give-up, its ids of the give-up and of the report, and the words after them.
-fn giver_said(words: &[u8]) -> Option<(FirmId, Id, Id, &[u8])>
-    ensures { MatchOption result (WriteNone Form.GiveUp (codes "GIVEUP" ∷ words_of words.now))
-        (λ giver. IsGiver (words_of words.now) giver.0 giver.1 giver.2 (words_of giver.3.now)) }
-{
-    let (firm, id, report, rest) = first_three_words(words)?;
-    let name = name_of(firm)?;
-    let id = Id::new(id)?;
-    let report = Id::new(report)?;
-    Some((FirmId { name }, id, report, rest))
+    }))))
 }
 
 /// The first two words as a line of a give-up, and the words after them.
@@ -159,17 +158,20 @@ fn lines_said(alloc: Global, words: &[u8]) -> Result<Option<Lines>, AllocError>
 
 /// A give-up: the firm, its ids of the give-up and of the report, and accounts with lots.
 #[inline(never)]
-pub(crate) fn give_up_said(alloc: Global, words: &[u8]) -> Result<Option<Line>, AllocError>
-    ensures { IfOk result (Reads Form.GiveUp (words_of words.now)) }
+pub(crate) fn give_up_said(
+    alloc: Global,
+    words: &[u8],
+    number: u64,
+) -> Result<Option<Line>, TextError>
+    ensures { Tells Form.GiveUp (words_of words.now) number result }
 {
-    let Some((firm, id, report, pairs)) = giver_said(words) else {
-        return Ok(None);
-    };
-    let Some(lines) = lines_said(alloc, pairs)? else {
-        return Ok(None);
-    };
+    let (firm, id, report, pairs) = told!(first_three_words(words), number);
+    let name = told!(name_of(firm), number);
+    let id = told!(Id::new(id), number);
+    let report = told!(Id::new(report), number);
+    let lines = told!(lines_said(alloc, pairs)?, number);
     Ok(Some(Line::Step(Step::Enter(Command::GiveUp {
-        firm,
+        firm: FirmId { name },
         id,
         report,
         lines,
@@ -178,116 +180,116 @@ pub(crate) fn give_up_said(alloc: Global, words: &[u8]) -> Result<Option<Line>, 
 
 /// A claim: the firm, and the number of the offer.
 #[inline(never)]
-pub(crate) fn claim_said(words: &[u8]) -> Option<Line>
-    ensures { Reads Form.Claim (words_of words.now) result }
+pub(crate) fn claim_said(words: &[u8], number: u64) -> Result<Option<Line>, TextError>
+    ensures { Tells Form.Claim (words_of words.now) number result }
 {
-    let (firm, offer) = two_words(words)?;
-    let name = name_of(firm)?;
-    let offer = offer_no_of(offer)?;
-    Some(Line::Step(Step::Enter(Command::Claim {
+    let (firm, offer) = told!(two_words(words), number);
+    let name = told!(name_of(firm), number);
+    let offer = told!(offer_no_of(offer), number);
+    Ok(Some(Line::Step(Step::Enter(Command::Claim {
         firm: FirmId { name },
         offer,
-    })))
+    }))))
 }
 
 /// A refusal: the firm, the number of the offer, and why.
 #[inline(never)]
-pub(crate) fn refuse_said(words: &[u8]) -> Option<Line>
-    ensures { Reads Form.Refuse (words_of words.now) result }
+pub(crate) fn refuse_said(words: &[u8], number: u64) -> Result<Option<Line>, TextError>
+    ensures { Tells Form.Refuse (words_of words.now) number result }
 {
-    let (firm, offer, why) = three_words(words)?;
-    let name = name_of(firm)?;
-    let offer = offer_no_of(offer)?;
-    let why = reject_of(why)?;
-    Some(Line::Step(Step::Enter(Command::Refuse {
+    let (firm, offer, why) = told!(three_words(words), number);
+    let name = told!(name_of(firm), number);
+    let offer = told!(offer_no_of(offer), number);
+    let why = told!(reject_of(why), number);
+    Ok(Some(Line::Step(Step::Enter(Command::Refuse {
         firm: FirmId { name },
         offer,
         why,
-    })))
+    }))))
 }
 
 /// A reversal: the firm, and the number of the offer.
 #[inline(never)]
-pub(crate) fn reverse_said(words: &[u8]) -> Option<Line>
-    ensures { Reads Form.Reverse (words_of words.now) result }
+pub(crate) fn reverse_said(words: &[u8], number: u64) -> Result<Option<Line>, TextError>
+    ensures { Tells Form.Reverse (words_of words.now) number result }
 {
-    let (firm, offer) = two_words(words)?;
-    let name = name_of(firm)?;
-    let offer = offer_no_of(offer)?;
-    Some(Line::Step(Step::Enter(Command::Reverse {
+    let (firm, offer) = told!(two_words(words), number);
+    let name = told!(name_of(firm), number);
+    let offer = told!(offer_no_of(offer), number);
+    Ok(Some(Line::Step(Step::Enter(Command::Reverse {
         firm: FirmId { name },
         offer,
-    })))
+    }))))
 }
 
 /// A look: the worker, and the group.
 #[inline(never)]
-pub(crate) fn see_said(words: &[u8]) -> Option<Line>
-    ensures { Reads Form.See (words_of words.now) result }
+pub(crate) fn see_said(words: &[u8], number: u64) -> Result<Option<Line>, TextError>
+    ensures { Tells Form.See (words_of words.now) number result }
 {
-    let (worker, group) = two_words(words)?;
-    let worker = worker_of(worker)?;
-    let name = name_of(group)?;
-    Some(Line::Step(Step::See(worker, Group { name })))
+    let (worker, group) = told!(two_words(words), number);
+    let worker = told!(worker_of(worker), number);
+    let name = told!(name_of(group), number);
+    Ok(Some(Line::Step(Step::See(worker, Group { name }))))
 }
 
 /// A proposal: the worker.
 #[inline(never)]
-pub(crate) fn propose_said(words: &[u8]) -> Option<Line>
-    ensures { Reads Form.Propose (words_of words.now) result }
+pub(crate) fn propose_said(words: &[u8], number: u64) -> Result<Option<Line>, TextError>
+    ensures { Tells Form.Propose (words_of words.now) number result }
 {
-    let word = only_word(words)?;
-    let worker = worker_of(word)?;
-    Some(Line::Step(Step::Propose(worker)))
+    let word = told!(only_word(words), number);
+    let worker = told!(worker_of(word), number);
+    Ok(Some(Line::Step(Step::Propose(worker))))
 }
 
 /// A commit: the worker.
 #[inline(never)]
-pub(crate) fn commit_said(words: &[u8]) -> Option<Line>
-    ensures { Reads Form.Commit (words_of words.now) result }
+pub(crate) fn commit_said(words: &[u8], number: u64) -> Result<Option<Line>, TextError>
+    ensures { Tells Form.Commit (words_of words.now) number result }
 {
-    let word = only_word(words)?;
-    let worker = worker_of(word)?;
-    Some(Line::Step(Step::Commit(worker)))
+    let word = told!(only_word(words), number);
+    let worker = told!(worker_of(word), number);
+    Ok(Some(Line::Step(Step::Commit(worker))))
 }
 
 /// A whole sweep: the group.
 #[inline(never)]
-pub(crate) fn sweep_said(words: &[u8]) -> Option<Line>
-    ensures { Reads Form.Sweep (words_of words.now) result }
+pub(crate) fn sweep_said(words: &[u8], number: u64) -> Result<Option<Line>, TextError>
+    ensures { Tells Form.Sweep (words_of words.now) number result }
 {
-    let word = only_word(words)?;
-    let name = name_of(word)?;
-    Some(Line::Sweep(Group { name }))
+    let word = told!(only_word(words), number);
+    let name = told!(name_of(word), number);
+    Ok(Some(Line::Sweep(Group { name })))
 }
 
 /// A question for a position: the account, and the instrument.
 #[inline(never)]
-pub(crate) fn position_said(words: &[u8]) -> Option<Line>
-    ensures { Reads Form.Position (words_of words.now) result }
+pub(crate) fn position_said(words: &[u8], number: u64) -> Result<Option<Line>, TextError>
+    ensures { Tells Form.Position (words_of words.now) number result }
 {
-    let (account, symbol) = two_words(words)?;
-    let account = name_of(account)?;
-    let symbol = name_of(symbol)?;
-    Some(Line::Position(AccountId { name: account }, Symbol { name: symbol }))
+    let (account, symbol) = told!(two_words(words), number);
+    let account = told!(name_of(account), number);
+    let symbol = told!(name_of(symbol), number);
+    Ok(Some(Line::Position(AccountId { name: account }, Symbol { name: symbol })))
 }
 
 /// A question for the open interest: the instrument.
 #[inline(never)]
-pub(crate) fn interest_said(words: &[u8]) -> Option<Line>
-    ensures { Reads Form.Interest (words_of words.now) result }
+pub(crate) fn interest_said(words: &[u8], number: u64) -> Result<Option<Line>, TextError>
+    ensures { Tells Form.Interest (words_of words.now) number result }
 {
-    let word = only_word(words)?;
-    let name = name_of(word)?;
-    Some(Line::Interest(Symbol { name }))
+    let word = told!(only_word(words), number);
+    let name = told!(name_of(word), number);
+    Ok(Some(Line::Interest(Symbol { name })))
 }
 
 /// A question for limits: the group.
 #[inline(never)]
-pub(crate) fn limits_said(words: &[u8]) -> Option<Line>
-    ensures { Reads Form.Limits (words_of words.now) result }
+pub(crate) fn limits_said(words: &[u8], number: u64) -> Result<Option<Line>, TextError>
+    ensures { Tells Form.Limits (words_of words.now) number result }
 {
-    let word = only_word(words)?;
-    let name = name_of(word)?;
-    Some(Line::Limits(Group { name }))
+    let word = told!(only_word(words), number);
+    let name = told!(name_of(word), number);
+    Ok(Some(Line::Limits(Group { name })))
 }

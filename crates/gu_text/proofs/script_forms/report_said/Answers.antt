@@ -3,19 +3,19 @@ use Rattle.gu_text.specs.Words.{words_of}
 use Rattle.gu_text.proofs.FormLemmas.{report_found, report_missed}
 use Rattle.gu_text.proofs.script_forms.report_said.Goals as goal
 
-pub returns-in_err-lots : goal.returns-in_err-lots
-returns-in_err-lots c =
-    let f = c.in_ok-firm in
-    let s = c.in_ok-side in
-    rw c.from_residual-in_err-lots.ensures
-    (report_missed (words_of c.args.words.now) (words_of f.rest.now) (words_of s.rest.now) f.firm.now f.id.now f.match_id.now s.side.now s.symbol.now s.lots.now f.ensures s.ensures c.in_err-lots.ensures)
+pub returns-in-None-lots_of : goal.returns-in-None-lots_of
+returns-in-None-lots_of c =
+    let f = c.in-Some.value in
+    let s = c.in-Some-first_three_words.value in
+    (refl, report_missed (words_of c.args.words.now) (words_of f.3.now) (words_of s.3.now) f.0.now f.1.now f.2.now s.0.now s.1.now s.2.now c.in-Some.ensures c.in-Some-first_three_words.ensures c.in-None-lots_of.ensures)
 
 pub returns : goal.returns
 returns c =
-    let f = c.in_ok-firm in
-    let s = c.in_ok-side in
-    let p = c.in_ok-price in
-    report_found (words_of c.args.words.now) (words_of f.rest.now) (words_of s.rest.now) f.firm.now f.id.now f.match_id.now s.side.now s.symbol.now s.lots.now p.price.now p.account.now
-    (record { name = c.in_ok-firm-2.firm }) c.in_ok-id.id c.in_ok-match_id.match_id c.in_ok-side-2.side (record { name = c.in_ok-symbol.symbol }) c.in_ok-lots.lots c.in_ok-price-2.price (record { name = c.in_ok-account.account })
-    f.ensures s.ensures p.ensures c.in_ok-firm-2.ensures (c.in_ok-id.ensures.sound.0 refl) c.in_ok-id.ensures.same (c.in_ok-match_id.ensures.sound.0 refl) c.in_ok-match_id.ensures.same c.in_ok-side-2.ensures
-    c.in_ok-symbol.ensures c.in_ok-lots.ensures c.in_ok-price-2.ensures c.in_ok-account.ensures
+    let f = c.in-Some.value in
+    let s = c.in-Some-first_three_words.value in
+    let p = c.in-Some-two_words.value in
+    report_found (words_of c.args.words.now) (words_of f.3.now) (words_of s.3.now) f.0.now f.1.now f.2.now s.0.now s.1.now s.2.now p.0.now p.1.now
+    (record { name = c.in-Some-name_of.value }) c.in-Some-new.value c.in-Some-new-2.value c.in-Some-side_of.value (record { name = c.in-Some-name_of-2.value }) c.in-Some-lots_of.value c.in-Some-price_of.value
+    (record { name = c.in-Some-name_of-3.value })
+    c.in-Some.ensures c.in-Some-first_three_words.ensures c.in-Some-two_words.ensures c.in-Some-name_of.ensures (c.in-Some-new.ensures.sound.0 refl) c.in-Some-new.ensures.same
+    (c.in-Some-new-2.ensures.sound.0 refl) c.in-Some-new-2.ensures.same c.in-Some-side_of.ensures c.in-Some-name_of-2.ensures c.in-Some-lots_of.ensures c.in-Some-price_of.ensures c.in-Some-name_of-3.ensures
