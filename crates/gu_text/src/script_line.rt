@@ -2,7 +2,7 @@
 
 ghost use Rattle.std.specs.Prelude.{◌≡◌, ℕ, false, IfOk, IsErrOf, IsTrue, MatchOption};
 ghost use Rattle.gu_text.specs.Lines.{is_silent};
-ghost use Rattle.gu_text.specs.ScriptForms.{IsBegun, Tells};
+ghost use Rattle.gu_text.specs.ScriptForms.{IsBegun};
 ghost use Rattle.gu_text.specs.Scripts.{IsBad, Says};
 ghost use Rattle.gu_text.specs.Words.{words_of};
 
@@ -46,33 +46,6 @@ fn begun(line: &[u8]) -> Option<(Form, &[u8])>
     Some((form, words))
 }
 
-/// What the words after the word of a form say, in the line with this number.
-fn form_said(
-    alloc: Global,
-    form: Form,
-    words: &[u8],
-    number: u64,
-) -> Result<Option<Line>, TextError>
-    ensures { Tells form (words_of words.now) number result }
-{
-    match form {
-        Form::Day => day_said(words, number),
-        Form::Limit => limit_said(words, number),
-        Form::Report => report_said(words, number),
-        Form::GiveUp => give_up_said(alloc, words, number),
-        Form::Claim => claim_said(words, number),
-        Form::Refuse => refuse_said(words, number),
-        Form::Reverse => reverse_said(words, number),
-        Form::See => see_said(words, number),
-        Form::Propose => propose_said(words, number),
-        Form::Commit => commit_said(words, number),
-        Form::Sweep => sweep_said(words, number),
-        Form::Position => position_said(words, number),
-        Form::Interest => interest_said(words, number),
-        Form::Limits => limits_said(words, number),
-    }
-}
-
 impl Line {
     /// What the line with this number says: nothing where it is silent.
     pub fn read(alloc: Global, line: &[u8], number: u64) -> Result<Option<Line>, TextError>
@@ -85,6 +58,21 @@ impl Line {
         let Some((form, words)) = begun(line) else {
             return Err(TextError::BadLine(number));
         };
-        form_said(alloc, form, words, number)
+        match form {
+            Form::Day => day_said(words, number),
+            Form::Limit => limit_said(words, number),
+            Form::Report => report_said(words, number),
+            Form::GiveUp => give_up_said(alloc, words, number),
+            Form::Claim => claim_said(words, number),
+            Form::Refuse => refuse_said(words, number),
+            Form::Reverse => reverse_said(words, number),
+            Form::See => see_said(words, number),
+            Form::Propose => propose_said(words, number),
+            Form::Commit => commit_said(words, number),
+            Form::Sweep => sweep_said(words, number),
+            Form::Position => position_said(words, number),
+            Form::Interest => interest_said(words, number),
+            Form::Limits => limits_said(words, number),
+        }
     }
 }
