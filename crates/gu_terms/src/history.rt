@@ -11,8 +11,7 @@ use crate::entry_ref::EntryRef;
 use crate::kept_reply::KeptReply;
 use crate::kept_sweep::KeptSweep;
 use crate::kept_texts::Given;
-use crate::packed::{Body, KeptReport, Packed};
-use crate::packed_parts::{give_up_parts, limit_parts};
+use crate::packed::{Body, Packed};
 use crate::padded::Padded;
 use crate::reply::{Done, Reply};
 use crate::text_store::TextStore;
@@ -79,85 +78,6 @@ fn add(
     let (reply, body) = kept;
     entries.push_reserved(Packed { span, reply, body });
     Ok(())
-}
-
-#[tactic(auto, using(crate::proofs::PackedLemmas::joined_room))]
-/// Adds a command after the others, its texts beside the name in its reply, and what is kept of that.
-#[inline(always)]
-fn add_parts<'a>(
-    entries: &mut Vec<Packed>,
-    all: &mut TextStore,
-    alloc: Global,
-    command: &'a Command,
-    replied: (Given<'a>, KeptReply),
-) -> Result<(), AllocError>
-    requires kept { AreKept all.old.bytes entries.old.items }
-    requires room { length all.old.bytes ≤ 4000000000 }
-    requires name { IsNameOf replied.0.reply replied.1 }
-    ensures kept { AreKept all.new.bytes entries.new.items }
-    ensures added { OnOk result (map (entry_of all.new.bytes) entries.new.items
-        ≡ map (entry_of all.old.bytes) entries.old.items ++ Entry.Asked command.now (reply_by replied.entry.0.reply replied.entry.1) ∷ []) }
-    ensures refused { OnErr result (map (entry_of all.new.bytes) entries.new.items ≡ map (entry_of all.old.bytes) entries.old.items) }
-{
-    let (texts, kept) = replied;
-    match command {
-        Command::OpenDay { day } => {
-            add(entries, all, &texts, (kept, Body::OpenDay { day: *day }))
-        }
-        Command::SetLimit { group, key, lots } => {
-            let (texts, body) = limit_parts(texts, group, key, *lots);
-            add(entries, all, &texts, (kept, body))
-        }
-        Command::ReportSide {
-            firm,
-            id,
-            match_id,
-            symbol,
-            lots,
-            price,
-            day,
-            side,
-            account,
-        } => {
-            let texts = texts.with_firm(firm).with_ids(id, match_id);
-            let texts = texts.with_names(symbol, account);
-            let report = KeptReport::new(*side, *day, *lots);
-            let price = *price;
-            add(
-                entries,
-                all,
-                &texts,
-                (kept, Body::ReportSide { report, price }),
-            )
-        }
-        Command::GiveUp {
-            firm,
-            id,
-            report,
-            lines,
-        } => {
-            let texts = texts.with_firm(firm).with_ids(id, report);
-            let (texts, body) = give_up_parts(alloc, texts, lines)?;
-            add(entries, all, &texts, (kept, body))
-        }
-        Command::Claim { firm, offer } => {
-            let body = Body::Claim { offer: *offer };
-            add(entries, all, &texts.with_firm(firm), (kept, body))
-        }
-        Command::Refuse { firm, offer, why } => {
-            let (why, offer) = (*why, *offer);
-            add(
-                entries,
-                all,
-                &texts.with_firm(firm),
-                (kept, Body::Refuse { why, offer }),
-            )
-        }
-        Command::Reverse { firm, offer } => {
-            let body = Body::Reverse { offer: *offer };
-            add(entries, all, &texts.with_firm(firm), (kept, body))
-        }
-    }
 }
 
 /// The place after the texts of the last entry.
@@ -284,6 +204,7 @@ impl History {
     }
 
     /// Adds a command with its reply after the others, its texts apart where there is room.
+    #[tactic(auto, using(crate::proofs::PackedLemmas::joined_room))]
     #[inline(never)]
     fn push_named(&mut self, command: &Command, reply: &Reply) -> Result<(), AllocError>
         ensures added { OnOk result (self.new ≡ self.old ++ Entry.Asked command.now reply.now ∷ []) }
@@ -300,13 +221,8 @@ impl History {
             reply,
             ..Given::of(&id, &name)
         };
-        add_parts(
-            &mut self.entries,
-            &mut self.texts,
-            self.alloc,
-            command,
-            (texts, kept),
-        )
+        let (texts, body) = Body::of(self.alloc, command, texts)?;
+        add(&mut self.entries, &mut self.texts, &texts, (kept, body))
     }
 
     /// Adds a command with its reply after the others.
