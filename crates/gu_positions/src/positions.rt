@@ -226,6 +226,7 @@ impl Positions {
     }
 
     /// The row of an account and an instrument, where one was made.
+    #[inline(always)]
     fn find(&self, account: &AccountId, symbol: &Symbol) -> Option<RowNo>
         ensures there { is_some result ≡ has_row self.now account.now symbol.now }
         ensures row { IfSome result (IsRowOf self.now account.now symbol.now) }
