@@ -6,6 +6,7 @@ ghost use Rattle.gu_offers.specs.Changes.{closed, reversed, taken};
 ghost use Rattle.gu_offers.specs.Given.{forgotten, given_for, kept_for, row_of, without_today, GivenUp as GivenOf};
 ghost use Rattle.gu_offers.specs.Kept.{IsSoundAt, IsWritten};
 ghost use Rattle.gu_offers.specs.Rows.{left_of};
+ghost use Rattle.gu_terms.specs.declared.offer.Offer.{Offer as OfferOf};
 
 use crate::counts::ReportKey;
 use crate::given::{Given, Shared};
@@ -158,19 +159,18 @@ impl KeptRows {
     }
 }
 
-/// Lots of an offer are moved. Answers what is offered, and the lots that are left of it.
-pub(crate) fn take_of(rows: &mut KeptRows, place: usize, lots: u64, day: u64) -> (Offer, u64)
+/// Lots of an offer are moved. Answers its product group, and the lots that are left of it.
+pub(crate) fn take_of(rows: &mut KeptRows, place: usize, lots: u64, day: u64) -> (Group, u64)
     requires inside { place < length rows.old }
     requires sound { IsSoundAt rows.old place day }
     requires left { (g : GivenOf) → slice_get rows.old place ≡ Some g → lots ≤ left_of (row_of day g) }
-    ensures written { IsWritten rows.old rows.new place day (taken lots) result.0 }
+    ensures written { (offer : OfferOf) × IsWritten rows.old rows.new place day (taken lots) offer × (result.0 ≡ offer.group) }
     ensures left { (g : GivenOf) → slice_get rows.old place ≡ Some g → result.1 ≡ left_of (taken lots (row_of day g)) }
 {
-    let offer = rows.offer(place);
     let given = &mut rows.list[place];
+    let group = given.group;
     given.take(lots, day);
-    let left = given.left();
-    (offer, left)
+    (group, given.left())
 }
 
 /// An offer is closed. Answers what is offered, and the lots that were left of it.

@@ -194,9 +194,9 @@ impl Offers {
             return;
         }
         let day = self.day;
-        let (offer, left) = take_of(&mut self.rows, place, lots, day);
+        let (group, left) = take_of(&mut self.rows, place, lots, day);
         if left == 0 {
-            self.groups.take_out(&offer.group, number.get());
+            self.groups.take_out(&group, number.get());
         }
     }
 

@@ -1,6 +1,7 @@
-use Rattle.std.proofs.Common.{◌∙◌, ap, arith}
+use Rattle.std.proofs.Common.{◌∙◌, ap, arith, refl}
+use Rattle.std.specs.Option.{option_map}
 use Rattle.gu_offers.specs.Changes.{taken}
-use Rattle.gu_offers.specs.Given.{given_in, row_of}
+use Rattle.gu_offers.specs.Given.{given_in, row_of, GivenUp}
 use Rattle.gu_offers.specs.Rows.{left_of}
 use Rattle.gu_offers.proofs.KeptIds.{is_written, there_in, within_changed}
 use Rattle.gu_offers.proofs.Written.{left-fits, one}
@@ -20,11 +21,16 @@ invariant_of-rows c = within_changed c.rows.inside.ids.items c.rows.inside.list.
 
 pub returns-clause-written : goal.returns-clause-written
 returns-clause-written c =
-    is_written c.rows.inside.ids.items c.rows.inside.list.items c.args.rows.now c.args.place c.index_mut-given.result.now c.rows.view_is c.requires.inside c.index_mut-given.ensures.value
-    c.take.new.self c.args.day (taken c.args.lots) c.offer-offer.result (c.take.ensures.row c.rows.inside.ids.items) (λ _. omega (arith, c.take.ensures.on)) c.offer-offer.ensures
+    let was : GivenUp = given_in c.rows.inside.ids.items c.index_mut-given.result.now in
+    let there = there_in c.rows.inside.ids.items c.rows.inside.list.items c.args.rows.now c.args.place c.index_mut-given.result.now c.rows.view_is c.requires.inside c.index_mut-given.ensures.value in (
+      was.offer,
+      is_written c.rows.inside.ids.items c.rows.inside.list.items c.args.rows.now c.args.place c.index_mut-given.result.now c.rows.view_is c.requires.inside c.index_mut-given.ensures.value
+          c.take.new.self c.args.day (taken c.args.lots) was.offer (c.take.ensures.row c.rows.inside.ids.items) (λ _. omega (arith, c.take.ensures.on)) (ap (option_map (λ (g : GivenUp). g.offer)) there),
+      refl,
+    )
 
 pub returns-clause-left : goal.returns-clause-left
 returns-clause-left c = λ g at.
-    c.left-left.ensures ∙ ap left_of (c.take.ensures.row c.rows.inside.ids.items)
+    c.left.ensures ∙ ap left_of (c.take.ensures.row c.rows.inside.ids.items)
     ∙ ap (λ x. left_of (taken c.args.lots (row_of c.args.day x)))
     (one c.args.rows.now c.args.place (given_in c.rows.inside.ids.items c.index_mut-given.result.now) g (there_in c.rows.inside.ids.items c.rows.inside.list.items c.args.rows.now c.args.place c.index_mut-given.result.now c.rows.view_is c.requires.inside c.index_mut-given.ensures.value) at)
