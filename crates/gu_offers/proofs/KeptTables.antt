@@ -1,6 +1,5 @@
 -- The tables beside the offers: lots of reports, and numbers of groups.
-use Rattle.std.proofs.Common.{◌≡◌, ◌∙◌, refl, ap, ℕ, Bool, true, false, cond, ◌&&◌, List, [], ◌++◌, Option, Some, None, is_some, unwrap_or, Result, Ok, Err, OnOk, OnErr, if◌then◌else◌}
-use Rattle.std.specs.Map.{lookup}
+use Rattle.std.proofs.Common.{◌≡◌, ◌∙◌, refl, ap, ℕ, Bool, true, false, cond, ◌&&◌, List, [], ◌++◌, Option, Some, None, is_some, unwrap_or, Result, Ok, Err, IsOk, OnOk, OnErr, if◌then◌else◌}
 use Rattle.std.specs.Option.{option_map_or}
 use Rattle.indexmap.specs.IndexMap.{IndexMap, get, Updates}
 use Rattle.gu_terms.proofs.SameNames.{same_firm-true, same_group-true, same_id-true}
@@ -9,6 +8,7 @@ use Rattle.gu_terms.specs.declared.group.Group.{Group}
 use Rattle.gu_terms.specs.declared.id.Id.{Id}
 use Rattle.gu_terms.specs.Same.{same_firm, same_group, same_id}
 use Rattle.gu_offers.specs.declared.counts.Counts.{Counts}
+use Rattle.gu_offers.specs.declared.counts.ReportKey.{ReportKey}
 use Rattle.gu_offers.specs.Counts.{lots_under, report_key, same_key}
 
 -- two tests that both pass
@@ -23,31 +23,33 @@ none None h = refl
 none (Some x) h = cc
 
 module _ (old new : Counts) (firm : FirmId) (id : Id) where
-  -- the lots of one report are changed
-  pub lots_under-changed : (f : ℕ → ℕ) (v w : ℕ) → Updates same_key old.lots new.lots (report_key firm id) (Some w) → Some v ≡ get same_key old.lots (report_key firm id) → w ≡ f v
+  -- the lots of one report are others
+  pub lots_under-written : (f : ℕ → ℕ) (w : ℕ) → ((q : ReportKey) → get same_key new.lots q ≡ cond (same_key (report_key firm id) q) (Some w) (get same_key old.lots q)) → w ≡ f (lots_under old firm id)
       → (other : FirmId) (another : Id) → lots_under new other another ≡ (if same_firm firm other && same_id id another then f (lots_under old other another) else lots_under old other another)
-  lots_under-changed f v w updated was is other another =
-      ap (λ o. unwrap_or o 0) (updated.0 (report_key other another)) ∙ by (same_firm firm other && same_id id another) refl
+  lots_under-written f w reads is other another =
+      ap (λ o. unwrap_or o 0) (reads (report_key other another)) ∙ by (same_firm firm other && same_id id another) refl
     where
       by : (b : Bool) → (same_firm firm other && same_id id another) ≡ b
           → unwrap_or (cond b (Some w) (get same_key old.lots (report_key other another))) 0 ≡ (if b then f (lots_under old other another) else lots_under old other another)
       by true e =
           let p = both (same_firm firm other) (same_id id another) e in
-          is ∙ ap f (ap (λ o. unwrap_or o 0) was ∙ (λ i. lots_under old (same_firm-true firm other p.0 i) (same_id-true id another p.1 i)))
+          is ∙ ap f (λ i. lots_under old (same_firm-true firm other p.0 i) (same_id-true id another p.1 i))
       by false e = refl
 
-  -- a report whose lots are kept, where it has some, changes none
-  pub lots_under-kept : {T E : Type 0} (r : Result T E) → OnOk r (Updates same_key old.lots new.lots (report_key firm id) (Some (lots_under old firm id))) → OnErr r (new.lots.entries ≡ old.lots.entries)
-      → (other : FirmId) (another : Id) → lots_under new other another ≡ lots_under old other another
-  lots_under-kept (Ok x) updated none other another =
-      ap (λ o. unwrap_or o 0) (updated.0 (report_key other another)) ∙ by (same_firm firm other && same_id id another) refl
-    where
-      by : (b : Bool) → (same_firm firm other && same_id id another) ≡ b → unwrap_or (cond b (Some (lots_under old firm id)) (get same_key old.lots (report_key other another))) 0 ≡ lots_under old other another
-      by true e =
-          let p = both (same_firm firm other) (same_id id another) e in
-          λ i. lots_under old (same_firm-true firm other p.0 i) (same_id-true id another p.1 i)
-      by false e = refl
-  lots_under-kept (Err e) updated same other another = ap (λ es. unwrap_or (lookup (same_key (report_key other another)) es) 0) same
+  -- the lots of one report are changed
+  pub lots_under-changed : (f : ℕ → ℕ) (v w : ℕ) → Updates same_key old.lots new.lots (report_key firm id) (Some w) → Some v ≡ get same_key old.lots (report_key firm id) → w ≡ f v
+      → (other : FirmId) (another : Id) → lots_under new other another ≡ (if same_firm firm other && same_id id another then f (lots_under old other another) else lots_under old other another)
+  lots_under-changed f v w updated was is = lots_under-written f w updated.0 (is ∙ ap f (ap (λ o. unwrap_or o 0) was))
+
+-- what is written last stays
+pub last_write : {X : Type 0} (b : Bool) (v w o : X) → cond b w (cond b v o) ≡ cond b w o
+last_write true v w o = refl
+last_write false v w o = refl
+
+-- what holds where a call succeeds holds where it does
+pub of_ok : {T E : Type 0} {P : Type 0} (r : Result T E) → OnOk r P → IsOk r → P
+of_ok (Ok x) p ok = p
+of_ok (Err e) p ok = cc
 
 module _ {V S : Type 0} (list : V → List ℕ) (old new : IndexMap Group V S) (group : Group) where
   -- a group that is new has these numbers alone

@@ -1,9 +1,10 @@
 //! The lots of reports that offers hold.
 
-ghost use Rattle.std.specs.Prelude.{◌≡◌, ◌+◌, ◌-◌, ◌<◌, ◌≤◌, ◌^◌, ◌&&◌, OnOk, OnErr, Some, true, is_some, unwrap_or, if◌then◌else◌};
-ghost use Rattle.indexmap.specs.IndexMap.{get, hasher_of, Updates};
+ghost use Rattle.std.specs.Prelude.{◌≡◌, ◌+◌, ◌-◌, ◌<◌, ◌≤◌, ◌^◌, ◌&&◌, OnOk, if◌then◌else◌};
+ghost use Rattle.indexmap.specs.IndexMap.{hasher_of, spare};
 ghost use Rattle.gu_terms.specs.declared.firm.FirmId.{FirmId as Firm};
 ghost use Rattle.gu_terms.specs.declared.id.Id.{Id as IdOf};
+ghost use Rattle.gu_offers.specs.Counts.{report_key};
 ghost use Rattle.gu_terms.specs.Same.{same_firm, same_id};
 
 use gu_terms::{FirmId, Id, Seed};
@@ -29,17 +30,18 @@ impl Drop for Counts {
     }
 }
 
-/// Sees to it that a report has its lots: those it has, or none.
-fn keep(lots: &mut IndexMap<ReportKey, u64, Seed>, key: ReportKey) -> Result<(), AllocError>
-    ensures kept { OnOk result (Updates ⟦<ReportKey as PartialEq>⟧.eq lots.old lots.new key (Some (unwrap_or (get ⟦<ReportKey as PartialEq>⟧.eq lots.old key) 0))) }
-    ensures refused { OnErr result (lots.new.entries ≡ lots.old.entries) }
+/// A report of a firm, as its lots are kept under it.
+fn key_of(firm: &FirmId, id: &Id) -> ReportKey
+    ensures { result ≡ report_key firm.now id.now }
 {
-    lots.entry(key)?.or_insert(0);
-    Ok(())
+    ReportKey {
+        firm: *firm,
+        id: *id,
+    }
 }
 
 impl Counts {
-    ghost use Rattle.gu_offers.specs.Counts.{lots_under, report_key};
+    ghost use Rattle.gu_offers.specs.Counts.{lots_under};
 
     /// No lots of any report, with a seed by which reports are found.
     pub(crate) fn seeded(alloc: Global, seed: Seed) -> Self
@@ -58,33 +60,29 @@ impl Counts {
         self.lots.get(&ReportKey { firm, id }).copied().unwrap_or(0)
     }
 
-    /// Sees to it that a report has its lots: none, where it is new.
-    pub(crate) fn know(&mut self, firm: &FirmId, id: &Id) -> Result<(), AllocError>
-        ensures known { OnOk result (is_some (get ⟦<ReportKey as PartialEq>⟧.eq self.new.lots (report_key firm.now id.now)) ≡ true) }
+    /// Makes room for one more report, and for a write after it.
+    pub(crate) fn reserve(&mut self) -> Result<(), AllocError>
+        ensures room { OnOk result (1 < spare self.new.lots) }
         ensures same { (other : Firm) (another : IdOf) → lots_under self.new other another ≡ lots_under self.old other another }
     {
-        let key = ReportKey {
-            firm: *firm,
-            id: *id,
-        };
-        keep(&mut self.lots, key)
+        self.lots.reserve(2)
     }
 
-    /// More lots of a report are held.
+    /// More lots of a report are held. There is room for it, where it is new.
     pub(crate) fn add(&mut self, firm: &FirmId, id: &Id, more: u64)
-        requires known { is_some (get ⟦<ReportKey as PartialEq>⟧.eq self.old.lots (report_key firm.now id.now)) ≡ true }
+        requires room { 1 < spare self.old.lots }
         requires fits { lots_under self.old firm.now id.now + more < 2 ^ 64 }
         ensures { (other : Firm) (another : IdOf)
             → lots_under self.new other another ≡ (if same_firm firm.now other && same_id id.now another then lots_under self.old other another + more else lots_under self.old other another) }
     {
-        let key = ReportKey {
-            firm: *firm,
-            id: *id,
-        };
-        let Some(lots) = self.lots.get_mut(&key) else {
-            unreachable!();
-        };
-        *lots += more;
+        // There is room, so that neither write fails.
+        match self.lots.insert(key_of(firm, id), more) {
+            Ok(Some(before)) => {
+                let _ = self.lots.insert(key_of(firm, id), before + more);
+            }
+            Ok(None) => {}
+            Err(_) => {}
+        }
     }
 
     /// Fewer lots of a report are held.

@@ -247,7 +247,7 @@ impl Offers {
         are_lots(lines);
         let count = self.rows.len();
         let first = OfferNo::known(count as u64 + 1);
-        self.counts.know(&firm, &report)?;
+        self.counts.reserve()?;
         let key = ReportKey { firm, id: report };
         self.rows.push(&key, &group, lines)?;
         match self.groups.append(&group, first.get(), lines.len()) {

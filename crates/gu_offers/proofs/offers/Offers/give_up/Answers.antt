@@ -14,7 +14,7 @@ add-requires-clause-fits c =
     let rows : length (rows_of c.self.inside) ≡ length c.self.inside.rows = length-map c.self.inside.rows (row_of c.self.inside.day) in
     omega (
       arith,
-      c.know.ensures.same c.args.firm c.args.report,
+      c.reserve.ensures.same c.args.firm c.args.report,
       c.self.invariant.counts c.args.firm c.args.report,
       counted-few (rows_of c.self.inside) c.args.firm c.args.report c.self.invariant.sound,
       rows,
@@ -36,8 +36,8 @@ invariant_of-self-in-Ok c =
     c.in-Ok.ensures.appended
     (λ other another. c.add.ensures other another
     ∙ (λ i. if same_firm c.args.firm other && same_id c.args.report another
-    then c.know.ensures.same other another i + (c.lots-total.ensures.lots ∙ ap lots_in_all (sym c.as_slice-lines.ensures.lines)) i
-    else c.know.ensures.same other another i))
+    then c.reserve.ensures.same other another i + (c.lots-total.ensures.lots ∙ ap lots_in_all (sym c.as_slice-lines.ensures.lines)) i
+    else c.reserve.ensures.same other another i))
 
 pub returns-in-Ok-clause-offered : goal.returns-in-Ok-clause-offered
 returns-in-Ok-clause-offered c =
@@ -49,17 +49,17 @@ returns-in-Ok-clause-offered c =
 
 pub invariant_of-self : goal.invariant_of-self
 invariant_of-self c =
-    kept-same c.self.inside (record { rows = c.self.inside.rows; groups = c.self.inside.groups; counts = c.know.new.self; day = c.self.inside.day }) c.self.invariant refl refl
-    (λ group. refl) c.know.ensures.same
+    kept-same c.self.inside (record { rows = c.self.inside.rows; groups = c.self.inside.groups; counts = c.reserve.new.self; day = c.self.inside.day }) c.self.invariant refl refl
+    (λ group. refl) c.reserve.ensures.same
 
 pub invariant_of-self-in_err-push : goal.invariant_of-self-in_err-push
 invariant_of-self-in_err-push c =
-    kept-same c.self.inside (record { rows = c.push.new.self; groups = c.self.inside.groups; counts = c.know.new.self; day = c.self.inside.day }) c.self.invariant c.in_err-push.ensures.refused refl
-    (λ group. refl) c.know.ensures.same
+    kept-same c.self.inside (record { rows = c.push.new.self; groups = c.self.inside.groups; counts = c.reserve.new.self; day = c.self.inside.day }) c.self.invariant c.in_err-push.ensures.refused refl
+    (λ group. refl) c.reserve.ensures.same
 
 pub invariant_of-self-in-Err : goal.invariant_of-self-in-Err
 invariant_of-self-in-Err c =
-    kept-same c.self.inside (record { rows = c.truncate.new.self; groups = c.append.new.self; counts = c.know.new.self; day = c.self.inside.day }) c.self.invariant
+    kept-same c.self.inside (record { rows = c.truncate.new.self; groups = c.append.new.self; counts = c.reserve.new.self; day = c.self.inside.day }) c.self.invariant
     (taken_off c.self.inside.rows (map (given_for c.args.firm c.args.report c.args.group) c.as_slice-lines.result.now) c.push.new.self c.truncate.new.self c.len-count.result
     c.truncate.ensures c.len-count.ensures c.in_ok-push.ensures.pushed) refl
-    c.in-Err.ensures.refused c.know.ensures.same
+    c.in-Err.ensures.refused c.reserve.ensures.same
