@@ -1,4 +1,4 @@
--- Machinery: texts in one run of bytes, with room behind them.
+-- Machinery: texts in one run of bytes, with room after them.
 use Rattle.std.specs.Prelude.{ℕ, ◌-◌, ◌≤◌, List, length, take}
 use Rattle.gu_terms.specs.declared.text_store.TextStore.TheInside.{Inside}
 
@@ -7,7 +7,7 @@ pub record Stored : Type 0 where
   pub bytes : List ℕ
   pub spare : ℕ
 
--- the texts come first, and the room behind them
+-- the texts come first, and the room after them
 abbrev pub stored : Inside → Stored
 stored s = record { bytes = take s.len s.bytes.items; spare = length s.bytes.items - s.len }
 

@@ -10,12 +10,12 @@ use std::marker::Model;
 /// The bytes of room that are made at a time beyond what is asked for: so few that they are filled fast.
 const MORE_ROOM: usize = 1_800;
 
-/// Texts, one after the other, with room behind them that is written before they come. To a contract it is their bytes, and for how
+/// Texts, one after the other, with room after them that is written before they come. To a contract it is their bytes, and for how
 /// many more there is room.
 #[derive(Drop)]
 pub struct TextStore {
     bytes: Vec<u8>,
-    /// The bytes that the texts have. Whatever lies behind them is room.
+    /// The bytes that the texts have. Whatever lies after them is room.
     len: usize,
 }
 
