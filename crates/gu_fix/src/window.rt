@@ -79,6 +79,18 @@ fn drop_front(items: &mut Vec<u8>, count: usize)
     items.truncate(left);
 }
 
+/// Takes items away from the front, half of them at least.
+fn drop_half(items: &mut Vec<u8>, count: usize)
+    requires within { count ≤ vec_len items.old }
+    requires half { vec_len items.old ≤ count + count }
+    ensures { items.new.items ≡ drop count items.old.items }
+{
+    let left = items.len() - count;
+    let (done, rest) = items.split_at_mut(count);
+    done[..left].copy_from_slice(rest);
+    items.truncate(left);
+}
+
 impl Window {
     /// A window with no bytes.
     pub fn new(alloc: Global) -> Self
@@ -158,7 +170,7 @@ impl Window {
         self.start += len;
         // Half of the bytes at most are moved, and their sums made anew, so that each byte that is done with pays for one.
         if self.start >= self.bytes.len() - self.start {
-            drop_front(&mut self.bytes, self.start);
+            drop_half(&mut self.bytes, self.start);
             self.start = 0;
             self.keeps_sums = false;
         }
