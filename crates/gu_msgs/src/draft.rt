@@ -137,7 +137,7 @@ impl Draft {
     pub fn push_moment(&mut self, tag: u32, moment: &Stamp) -> Result<(), AllocError>
         ensures { OnOk result ((text : List ℕ) × WritesMoment moment.now text × (self.new ≡ self.old ++ tag_value tag text ∷ [])) }
     {
-        self.push(tag, moment.text())
+        self.push(tag, &moment.text())
     }
 
     /// Appends why a command isn't in the book.

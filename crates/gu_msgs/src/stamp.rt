@@ -45,9 +45,9 @@ impl Stamp {
     }
 
     /// Its text.
-    pub(crate) fn text(&self) -> &[u8]
-        ensures { WritesMoment self.now result.now }
+    pub(crate) fn text(&self) -> [u8; 21]
+        ensures { WritesMoment self.now result }
     {
-        &self.text
+        self.text
     }
 }
