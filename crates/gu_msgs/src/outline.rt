@@ -1,7 +1,8 @@
 //! A message whose shape is sound, and the values of its rows.
 
-ghost use Rattle.std.specs.Prelude.{◌≡◌, ◌<◌, ◌+◌, ◌^◌, [], length, true, List, MatchOption, MatchResult, None, Some, Ok, Err, ⊤};
+ghost use Rattle.std.specs.Prelude.{◌≡◌, ◌<◌, ◌+◌, ◌^◌, [], length, true, List, IfOk, MatchOption, MatchResult, None, Some, Ok, Err, ⊤};
 ghost use Rattle.gu_terms.specs.Days.{WritesDay};
+ghost use Rattle.gu_terms.specs.Names.{IsId};
 ghost use Rattle.gu_terms.specs.NumberText.{MeansLots, MeansPrice};
 ghost use Rattle.gu_msgs.specs.AllocStatuses.{status_number};
 ghost use Rattle.gu_fix.specs.TagValue.{TagValue};
@@ -134,9 +135,20 @@ impl<'n, 'a> Outline<'n, 'a> {
         requires judged { AreJudged self.now place }
         ensures { ReadsTo self.now (place + 1) (Means self.now place (λ text id. text ≡ id)) result }
     {
+        Ok(Id::known(self.id_text(place)?))
+    }
+
+    /// The text of the id of a row.
+    #[inline(always)]
+    pub fn id_text(&self, place: usize) -> Result<&'a [u8], Fault>
+        requires row { IsPlain self.now place (Required (tag_at self.now place) kind.Id) }
+        requires judged { AreJudged self.now place }
+        ensures read { ReadsTo self.now (place + 1) (Means self.now place (λ text id. text ≡ id.now)) result }
+        ensures sound { IfOk result (λ text. IsId text.now) }
+    {
         let text = self.required(place);
         match kinds::id(text) {
-            Ok(id) => Ok(id),
+            Ok(_) => Ok(text),
             Err(reason) => Err(self.fault(place, reason)),
         }
     }

@@ -15,7 +15,7 @@ use crate::kinds;
 use crate::outline::Outline;
 use crate::run::Run;
 use crate::tags::{ACCOUNT, NO_SIDES, SIDE};
-use gu_terms::{AccountId, Side};
+use gu_terms::{AccountId, Id, Side};
 use std::alloc::Global;
 
 /// The places of the rows of its table.
@@ -67,18 +67,18 @@ pub fn read_trade_capture_report(
     requires judged { AreJudged outline.now 10 }
     ensures { MatchResult result (Says outline.now.fields) (IsTypedRefusal kind.TradeCaptureReport outline.now.fields) }
 {
-    let trade_report_id = outline.id(TRADE_REPORT_ID_ROW)?;
+    let trade_report_id = outline.id_text(TRADE_REPORT_ID_ROW)?;
     outline.may_number(TRADE_REPORT_TRANS_TYPE_ROW, 0, 0)?;
     outline.may_number(TRADE_REPORT_TYPE_ROW, 0, 0)?;
-    let trd_match_id = outline.id(TRD_MATCH_ID_ROW)?;
+    let trd_match_id = outline.id_text(TRD_MATCH_ID_ROW)?;
     let symbol = outline.symbol(SYMBOL_ROW)?;
     let last_qty = outline.lots(LAST_QTY_ROW)?;
     let last_px = outline.price(LAST_PX_ROW)?;
     let trade_date = outline.day(TRADE_DATE_ROW)?;
     let (side, account) = one_side(outline)?;
     let report = TradeCaptureReport {
-        trade_report_id,
-        trd_match_id,
+        trade_report_id: Id::known(trade_report_id),
+        trd_match_id: Id::known(trd_match_id),
         symbol,
         last_qty,
         last_px,

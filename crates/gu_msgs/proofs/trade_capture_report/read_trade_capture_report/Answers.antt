@@ -1,4 +1,4 @@
-use Rattle.std.proofs.Common.{◌≡◌, ◌∙◌, Option, None, Some, ap}
+use Rattle.std.proofs.Common.{◌≡◌, ◌∙◌, Option, None, Some, ap, sym}
 use Rattle.gu_terms.specs.Days.{WritesDay}
 use Rattle.gu_terms.specs.declared.day.Day.{Day}
 use Rattle.gu_msgs.specs.Messages.{GivesDay}
@@ -20,15 +20,15 @@ unfolding header_rows body_rows
 returns c =
     let m = c.args.outline.now in
     let is_kind = c.requires.shaped.is_kind in
-    let report_id = rw is_kind at c.in_ok-trade_report_id.ensures.0 in
-    let match_id = rw is_kind at c.in_ok-trd_match_id.ensures.0 in
+    let report_id = rw is_kind at c.in_ok-trade_report_id.ensures.read.0 in
+    let match_id = rw is_kind at c.in_ok-trd_match_id.ensures.read.0 in
     let symbol = rw is_kind at c.in_ok-symbol.ensures.0 in
     let side = c.in_ok-side.ensures.0 in
     rw c.in_ok-new.ensures (
       of_type TradeCaptureReport m c.requires.shaped c.in_ok-side.ensures.1 tt,
       record {
-        report_id = report_id.first ∙ ap Some report_id.such;
-        match_id = match_id.first ∙ ap Some match_id.such;
+        report_id = report_id.first ∙ ap Some (report_id.such ∙ sym c.known.ensures);
+        match_id = match_id.first ∙ ap Some (match_id.such ∙ sym c.known-2.ensures);
         symbol = symbol.first ∙ ap Some symbol.such;
         quantity = rw is_kind at c.in_ok-last_qty.ensures.0;
         price = rw is_kind at c.in_ok-last_px.ensures.0;
