@@ -97,7 +97,8 @@ impl Fields {
 
     /// Takes the room of the list of them, and leaves none.
     pub(crate) fn take_room(&mut self, alloc: Global) -> Vec<Span>
-        ensures { result.items ≡ [] }
+        ensures room { result.items ≡ [] }
+        ensures none { self.new ≡ [] }
     {
         let mut room = replace(&mut self.spans, Vec::new(alloc));
         room.clear();

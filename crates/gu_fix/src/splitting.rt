@@ -1,5 +1,5 @@
 //! A message into its fields.
-ghost use Rattle.std.specs.Prelude.{◌≡◌, ◌+◌, ◌≤◌, [], MatchOption, MatchResult, IfOk, is_some, if◌then◌else◌, length, take, drop, Some};
+ghost use Rattle.std.specs.Prelude.{◌≡◌, ◌+◌, ◌≤◌, [], MatchOption, MatchResult, IfOk, OnErr, is_some, if◌then◌else◌, length, take, drop, Some};
 ghost use Rattle.gu_fix.specs.WholeMessage.{IsWhole};
 ghost use Rattle.gu_fix.specs.TagValue.{tag_value};
 ghost use Rattle.gu_fix.specs.Fields.{IsTag, IsField, IsFault, HasFields, HasNoTag, NoSoh, equals};
@@ -226,13 +226,14 @@ pub fn into_fields(alloc: Global, frame: Frame) -> Result<(Fields, Option<FieldF
     fields_of(Vec::new(alloc), frame.into_bytes())
 }
 
-/// The same, in the place of earlier fields, in the room of whose list these are listed.
+/// The same, in the place of earlier fields, in the room of whose list these are listed. Where an allocation fails, none are left.
 pub fn fields_over(
     earlier: &mut Fields,
     alloc: Global,
     frame: Frame,
 ) -> Result<Option<FieldFault>, AllocError>
-    ensures { IfOk result (λ fault. HasFields frame earlier.new fault) }
+    ensures fields { IfOk result (λ fault. HasFields frame earlier.new fault) }
+    ensures refused { OnErr result (earlier.new ≡ []) }
 {
     let (fields, fault) = fields_of(earlier.take_room(alloc), frame.into_bytes())?;
     *earlier = fields;
