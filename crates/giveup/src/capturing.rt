@@ -16,11 +16,11 @@ ghost use Rattle.giveup.specs.Capture.{AnswersFrame, Captured, CapturedInPart, C
 use crate::position_lines::positions_text;
 use gu_book::{Book, EnterError};
 use gu_engine::{Answerer, ClockFault, Event, run};
-use gu_fix::{Frame, encode_onto, into_fields};
+use gu_fix::{Fields, Frame, encode_onto, fields_over};
 use gu_msgs::inbound::TradeCaptureReport;
 use gu_msgs::{
-    Boxed, Draft, Fault, Inbound, Outbound, ReadMessage, Rejection, Stamp, answer_to, midnight_of,
-    read_with_header, sender_in, write_over,
+    Boxed, Draft, Fault, Inbound, OutboundRef, ReadMessage, Rejection, Stamp, answer_to,
+    midnight_of, read_with_header, sender_in, write_over,
 };
 use gu_ref::Reference;
 use gu_streams::{CountedReads, StreamError, send};
@@ -49,6 +49,8 @@ fn report_in(content: Result<Inbound, Fault>) -> Option<Boxed<TradeCaptureReport
 pub struct Capturing {
     alloc: Global,
     book: Book,
+    /// Those of the last message, in whose room those of the next are listed.
+    fields: Fields,
     /// In which its messages are written, one over the other.
     draft: Draft,
     /// When its messages are sent.
@@ -84,25 +86,7 @@ impl Capturing {
         }
     }
 
-    /// The message that says to a firm what became of its report.
-    fn message_to(
-        &self,
-        firm: &FirmId,
-        report: &TradeCaptureReport,
-        rejection: Option<Rejection>,
-    ) -> Outbound
-        ensures { result ≡ message_to self.now firm.now report.now rejection }
-    {
-        Outbound {
-            firm: *firm,
-            msg_seq_num: self.next,
-            sending_time: self.sending_time.moment(),
-            orig_sending_time: None,
-            body: answer_to(report, rejection),
-        }
-    }
-
-    /// Appends that message.
+    /// Appends the message that says to a firm what became of its report.
     fn answer_report(
         &mut self,
         firm: &FirmId,
@@ -114,8 +98,15 @@ impl Capturing {
             × (output.new.items ≡ output.old.items ++ text)) }
         ensures after { OnOk result (self.new ≡ record self.old { next = number_after self.old.next }) }
     {
-        let message = self.message_to(firm, report, rejection);
-        write_over(&mut self.draft, &message.as_ref(), &self.sending_time)?;
+        let body = answer_to(report, rejection);
+        let message = OutboundRef {
+            firm: *firm,
+            msg_seq_num: self.next,
+            sending_time: self.sending_time.moment(),
+            orig_sending_time: None,
+            body: &body,
+        };
+        write_over(&mut self.draft, &message, &self.sending_time)?;
         encode_onto(output, self.draft.fields())?;
         self.next = (self.next + 1).min(LAST_NUMBER);
         Ok(())
@@ -146,11 +137,11 @@ impl Capturing {
         ensures { OnOk result ((text : List ℕ) × (output.new.items ≡ output.old.items ++ text)
             × AnswersFrame self.old frame text self.new) }
     {
-        let (fields, fault) = into_fields(self.alloc, frame)?;
+        let fault = fields_over(&mut self.fields, self.alloc, frame)?;
         if fault.is_some() {
             return Ok(());
         }
-        let ReadMessage { content, header } = read_with_header(self.alloc, &fields)?;
+        let ReadMessage { content, header } = read_with_header(self.alloc, &self.fields)?;
         let Some(report) = report_in(content) else {
             return Ok(());
         };
@@ -207,6 +198,7 @@ fn opened(
         Ok(_) => Ok(Capturing {
             alloc,
             book,
+            fields: Fields::new(alloc),
             draft: Draft::new(alloc),
             sending_time: Stamp::new(midnight_of(day)),
             next: 1,
