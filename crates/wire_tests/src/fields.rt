@@ -1,7 +1,7 @@
 //! What the fields of a message are.
 use crate::messages::{frame_in, text_of};
 use crate::rows::{Subject, check};
-use gu_fix::{FieldFault, Fields, Frame, fields, into_fields};
+use gu_fix::{FieldFault, Fields, Frame, fields, fields_over, into_fields};
 use std::alloc::{AllocError, Global};
 
 /// What holds the bytes of fields.
@@ -11,6 +11,8 @@ pub enum Holder {
     Copy,
     /// The message's own bytes.
     Message,
+    /// The same, in the place of earlier fields: those of a copy.
+    Earlier,
 }
 
 /// Fields, and the tag and the reason of the malformed one.
@@ -35,6 +37,11 @@ fn split(
     match holder {
         Holder::Copy => fields(alloc, &frame),
         Holder::Message => into_fields(alloc, frame),
+        Holder::Earlier => {
+            let (mut earlier, _) = fields(alloc, &frame)?;
+            let fault = fields_over(&mut earlier, alloc, frame)?;
+            Ok((earlier, fault))
+        }
     }
 }
 
@@ -71,7 +78,7 @@ const LONGEST: &str = "\
 /// The rows two hundred times, so that thousands of messages are split in a row.
 #[test]
 fn the_first_malformed_field_is_named_and_those_after_it_are_given(rt: HostRuntime) {
-    for holder in [Holder::Copy, Holder::Message] {
+    for holder in [Holder::Copy, Holder::Message, Holder::Earlier] {
         check(&rt, rt.alloc(), Subject::Fields(holder), LONGEST);
         for _ in 0..200 {
             check(&rt, rt.alloc(), Subject::Fields(holder), ROWS);
