@@ -12,6 +12,7 @@ pub mod PaddedLemmas
 pub mod Placed
 pub mod SameNames
 pub mod SameValues
+pub mod ShortNumbers
 pub mod Standing
 pub mod RefusalTexts
 pub mod WrittenLemmas

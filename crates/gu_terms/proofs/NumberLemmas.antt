@@ -1,5 +1,5 @@
 -- What the parts of a number text stand for.
-use Rattle.std.proofs.Common.{length-append, length-take, take, drop, min, ◌-◌, ◌≡◌, ℕ, ℤ, pos, zero, suc, Option, Some, None, IsSome, IfSome, MatchOption, ◌↔◌, ◌+◌, ◌*◌, ◌^◌, ◌<◌, ◌≤◌, neg_ℤ, cond, List, [], ◌∷◌, ◌++◌, Bool, true, false, length, refl, sym, ap, subst, ◌∙◌, arith, inl, inr}
+use Rattle.std.proofs.Common.{length-append, length-take, get_or, take, drop, min, ◌-◌, ◌≡◌, ℕ, ℤ, pos, zero, suc, Option, Some, None, IsSome, IfSome, MatchOption, ◌↔◌, ◌+◌, ◌*◌, ◌^◌, ◌<◌, ◌≤◌, neg_ℤ, cond, List, [], ◌∷◌, ◌++◌, Bool, true, false, length, refl, sym, ap, subst, ◌∙◌, arith, inl, inr}
 use Rattle.std.specs.Char.{digit_value}
 use Rattle.std.specs.Str.Parse.{AllDigits, digits_value, digits_value_after}
 use Rattle.std.proofs.lemmas.Int.Digits.{digits_value-lt}
@@ -7,14 +7,28 @@ use Rattle.std.proofs.lemmas.Bool.{cases_lt, le-leb}
 use Rattle.std.proofs.lemmas.Float.{T_from_true}
 use Rattle.std.proofs.Math.Dec.{lit≤}
 use Rattle.std.proofs.lemmas.Nat.{pow-add}
-use Rattle.std.proofs.lemmas.List.{take-append-drop, drop_all}
+use Rattle.std.proofs.lemmas.List.{take-append-drop, take_more, drop_all}
 use Rattle.std.proofs.Math.Nat.{mul_assoc, mul_comm, add-mul, mul_right_comm, mul_left_comm, pow-succ', mul-le-mul_right, pow-le-pow_right, eq_of_mul-eq-mul_left}
 use Rattle.gu_terms.specs.Numbers.{IsLots, IsPrice}
 use Rattle.gu_terms.specs.NumberText.{has_minus, whole_digits, fraction_digits, IsNumberText, with_sign, CountsParts, CountsMillionths, MeansLots, MeansPrice, IsTakenApart}
 
-after-append : (n : ℕ) (a b : List ℕ) → digits_value_after 10 n (a ++ b) ≡ digits_value_after 10 (digits_value_after 10 n a) b
+pub after-append : (n : ℕ) (a b : List ℕ) → digits_value_after 10 n (a ++ b) ≡ digits_value_after 10 (digits_value_after 10 n a) b
 after-append n [] b = refl
 after-append n (c ∷ cs) b = after-append (n * 10 + digit_value c) cs b
+
+-- one more digit
+pub after-more : (n : ℕ) (ds : List ℕ) (i : ℕ) → i < length ds → digits_value_after 10 n (take (i + 1) ds) ≡ digits_value_after 10 n (take i ds) * 10 + digit_value (get_or ds i 0)
+after-more n ds i within = ap (digits_value_after 10 n) (take_more ds i 0 within) ∙ after-append n (take i ds) (get_or ds i 0 ∷ [])
+
+-- a digit more makes a number at most ten times as large
+pub room_for_digit : (number digit count next : ℕ) → next ≡ count + 1 → number < 10 ^ count → digit < 10 → 10 * number + digit < 10 ^ next
+room_for_digit number digit count next is few small =
+    let more : next ≡ suc count = omega arith in
+    omega (arith, few, small, pow-succ' 10 count, ap (λ (k : ℕ). 10 ^ k) more)
+
+-- a higher power of ten is no less
+pub powers_of_ten : (low high : ℕ) → low ≤ high → 10 ^ low ≤ 10 ^ high
+powers_of_ten low high le = pow-le-pow_right {n = 10} (omega arith) le
 
 after-value : (n : ℕ) (ds : List ℕ) → digits_value_after 10 n ds ≡ n * 10 ^ length ds + digits_value 10 ds
 after-value n [] = omega arith
@@ -29,7 +43,8 @@ after-value n (c ∷ cs) =
 pub digits_value-append : (a b : List ℕ) → digits_value 10 (a ++ b) ≡ digits_value 10 a * 10 ^ length b + digits_value 10 b
 digits_value-append a b = after-append 0 a b ∙ after-value (digits_value 10 a) b
 
-ten_to_positive : (k : ℕ) → 0 < 10 ^ k
+-- a power of ten isn't 0
+pub ten_to_positive : (k : ℕ) → 0 < 10 ^ k
 ten_to_positive zero = omega arith
 ten_to_positive (suc k) = omega (arith, ten_to_positive k, pow-succ' 10 k)
 

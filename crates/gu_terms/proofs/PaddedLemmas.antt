@@ -1,7 +1,10 @@
--- Texts with zeros after them, compared by four bytes at a time.
-use Rattle.std.proofs.Common.{◌≡◌, ℕ, zero, suc, ◌+◌, ◌<◌, ◌≤◌, ◌++◌, List, [], ◌∷◌, length, take, drop, get_or, ap, ◌∙◌, sym, refl, arith}
-use Rattle.std.proofs.Math.Seq.{take-append_seam}
-use Rattle.std.proofs.lemmas.List.{take_all, take-append-drop, drop-drop, length-take, length-drop}
+-- Texts with zeros after them, compared by four bytes at a time and filled in byte by byte.
+use Rattle.std.proofs.Common.{◌≡◌, Bool, true, subst, ℕ, zero, suc, ◌+◌, ◌-◌, ◌<◌, ◌≤◌, ◌++◌, List, [], ◌∷◌, length, take, drop, get_or, ap, ◌∙◌, sym, refl, arith}
+use Rattle.std.specs.Prelude.{replicate}
+use Rattle.std.specs.List.{AllPass}
+use Rattle.std.proofs.lemmas.List.Elements.{All-push}
+use Rattle.std.proofs.Math.Seq.{drop-append-add, take-append_seam}
+use Rattle.std.proofs.lemmas.List.{append_assoc, take_all, take_more, take-append-drop, drop-drop, length-take, length-drop}
 use Rattle.std.proofs.lemmas.Nat.{le_bytes_4}
 use Rattle.std.specs.Int.{w32, to_le_bytes, from_le_bytes}
 use Rattle.gu_terms.specs.Padded.{padded}
@@ -59,3 +62,31 @@ twelve-same a b long_a long_b bytes_a bytes_b first second third =
 -- texts of one length are one where they are with zeros after them
 pub padded-same : (size : ℕ) (a b : List ℕ) → length a ≡ length b → padded size a ≡ padded size b → a ≡ b
 padded-same size a b long same = sym (take-append_seam a _) ∙ (λ i. take (long i) (same i)) ∙ take-append_seam b _
+
+-- ---- zeros that are overwritten
+
+-- the next byte overwrites the first zero
+pub next_put : (bytes : List ℕ) (place : ℕ) → place < length bytes
+    → take place (take place bytes ++ replicate (length bytes - place) 0) ++ (get_or bytes place 0 ∷ drop (place + 1) (take place bytes ++ replicate (length bytes - place) 0))
+    ≡ take (place + 1) bytes ++ replicate (length bytes - (place + 1)) 0
+next_put bytes place within =
+    let front = take place bytes in
+    let rest = replicate (length bytes - (place + 1)) 0 in
+    let long : length front ≡ place = length_front bytes place within in
+    let zeros : replicate (length bytes - place) 0 ≡ 0 ∷ rest = ap (λ (n : ℕ). replicate n 0) (one_more (length bytes) place within) in
+    let left : take place (front ++ replicate (length bytes - place) 0) ≡ front = ap (λ (n : ℕ). take n (front ++ replicate (length bytes - place) 0)) (sym long) ∙ take-append_seam front _ in
+    let right : drop (place + 1) (front ++ replicate (length bytes - place) 0) ≡ rest =
+    ap (λ (n : ℕ). drop (n + 1) (front ++ replicate (length bytes - place) 0)) (sym long) ∙ ap (λ (zs : List ℕ). drop (length front + 1) (front ++ zs)) zeros ∙ drop-append-add front (0 ∷ rest) 1 in
+    (λ i. left i ++ (get_or bytes place 0 ∷ right i))
+    ∙ sym (append_assoc front (get_or bytes place 0 ∷ []) rest)
+    ∙ ap (λ (xs : List ℕ). xs ++ rest) (sym (take_more bytes place 0 within))
+  where
+    length_front : (xs : List ℕ) (i : ℕ) → i < length xs → length (take i xs) ≡ i
+    length_front xs i h = omega (arith, length-take i xs)
+
+    one_more : (n i : ℕ) → i < n → n - i ≡ suc (n - (i + 1))
+    one_more n i h = omega (arith, h)
+
+-- one more byte that passes a test
+pub next_passes : (p : ℕ → Bool) (bytes : List ℕ) (place : ℕ) → place < length bytes → AllPass p (take place bytes) → p (get_or bytes place 0) ≡ true → AllPass p (take (place + 1) bytes)
+next_passes p bytes place within pass is = subst (AllPass p) (sym (take_more bytes place 0 within)) (All-push (λ b. p b ≡ true) (take place bytes) (get_or bytes place 0) pass is)

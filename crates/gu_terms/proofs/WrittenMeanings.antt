@@ -190,7 +190,7 @@ after_none ds all = ap (λ (n : ℕ). drop (n + 1) ds) (no_point ds all) ∙ dro
 -- ---- a text is taken apart
 
 -- a sign before digits and what comes after them
-abbrev signed : Bool → List ℕ → List ℕ
+abbrev pub signed : Bool → List ℕ → List ℕ
 signed true text = 45 ∷ text
 signed false text = text
 
@@ -205,7 +205,7 @@ unsigned-signed false [] rest all some = absurd (omega arith)
 unsigned-signed false (d ∷ ds) rest all some = rw (not_minus d all.0) refl
 
 -- digits, and no point
-whole_apart : (b : Bool) (ds : List ℕ) → AllDigits 10 ds → 1 ≤ length ds → IsTakenApart (signed b (ds ++ [])) b ds []
+pub whole_apart : (b : Bool) (ds : List ℕ) → AllDigits 10 ds → 1 ≤ length ds → IsTakenApart (signed b (ds ++ [])) b ds []
 whole_apart b ds all some =
     let body : unsigned_text (signed b (ds ++ [])) ≡ ds = unsigned-signed b ds [] all some ∙ append-nil ds in
     let whole : ds ≡ whole_digits (signed b (ds ++ [])) = sym (ap (λ (t : List ℕ). before_first (λ b. b == 46) t) body ∙ before_none ds all) in
@@ -222,7 +222,7 @@ whole_apart b ds all some =
     }
 
 -- digits, a point and more of them
-parts_apart : (b : Bool) (ds more : List ℕ) → AllDigits 10 ds → AllDigits 10 more → 1 ≤ length ds → IsTakenApart (signed b (ds ++ 46 ∷ more)) b ds more
+pub parts_apart : (b : Bool) (ds more : List ℕ) → AllDigits 10 ds → AllDigits 10 more → 1 ≤ length ds → IsTakenApart (signed b (ds ++ 46 ∷ more)) b ds more
 parts_apart b ds more all all_more some =
     let body : unsigned_text (signed b (ds ++ 46 ∷ more)) ≡ ds ++ 46 ∷ more = unsigned-signed b ds (46 ∷ more) all some in
     let whole : ds ≡ whole_digits (signed b (ds ++ 46 ∷ more)) = sym (ap (λ (t : List ℕ). before_first (λ b. b == 46) t) body ∙ before_point ds more all) in

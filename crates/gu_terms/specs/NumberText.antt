@@ -63,3 +63,10 @@ pub record IsTakenApart (text : List ℕ) (is_negative : Bool) (whole fraction :
   pub sign_is : is_negative ≡ has_minus text
   pub whole_is : whole ≡ whole_digits text
   pub fraction_is : fraction ≡ fraction_digits text
+
+-- a number text without a sign has these digits, read as one number, and this many of them after its point
+pub record HasDigits (text : List ℕ) (digits places : ℕ) : Type 0 where
+  pub is_number : IsNumberText text
+  pub unsigned : has_minus text ≡ false
+  pub digits_are : digits ≡ digits_value 10 (whole_digits text ++ fraction_digits text)
+  pub places_are : places ≡ length (fraction_digits text)

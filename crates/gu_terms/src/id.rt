@@ -36,25 +36,24 @@ fn is_id_byte(byte: u8) -> bool
     matches!(byte, 0x21..=0x7E)
 }
 
-/// Whether the bytes are those of an id.
-fn is_id(bytes: &[u8]) -> bool
-    ensures { IsTrue result ↔ IsId bytes.now }
-{
-    !bytes.is_empty() && bytes.len() <= LONGEST_ID && bytes.iter().all(|byte| is_id_byte(*byte))
-}
-
 impl Id {
     /// The id with these bytes.
     pub fn new(bytes: &[u8]) -> Option<Self>
         ensures sound { IsSome result ↔ IsId bytes.now }
         ensures same { IfSome result (λ id. id ≡ bytes.now) }
     {
-        if !is_id(bytes) {
+        if bytes.is_empty() || bytes.len() > LONGEST_ID {
             return None;
         }
-        Some(Id {
-            text: Padded::new(bytes),
-        })
+        let mut text = Padded::zeros(bytes.len());
+        for place in 0..bytes.len() {
+            let byte = bytes[place];
+            if !is_id_byte(byte) {
+                return None;
+            }
+            text.put(place, byte);
+        }
+        Some(Id { text })
     }
 
     /// The id with these bytes, which are known to be those of one.

@@ -6,7 +6,7 @@ ghost use Rattle.gu_terms.specs.Numbers.{IsLots};
 ghost use Rattle.gu_terms.specs.NumberText.{IsNumberText, IsTakenApart, MeansLots};
 
 use crate::bounds::MOST_LOTS;
-use crate::number_text::{NumberError, NumberText, is_zero, parts_of, value_of};
+use crate::number_text::{NumberError, NumberText, is_zero, parts_of, short_number, value_of};
 use std::marker::Model;
 
 /// A number of lots: 1 to 1,000,000 whole contracts. To a contract it is the number.
@@ -71,8 +71,35 @@ fn lots_of(parts: NumberText<'_>) -> Option<Lots>
     Lots::new(number)
 }
 
+/// The lots that a short number text without a fraction means.
+#[inline(always)]
+fn short_lots(text: &[u8]) -> Option<Lots>
+    ensures { IfSome result (MeansLots text.now) }
+{
+    let number = short_number(text)?;
+    if number.places > 0 {
+        return None;
+    }
+    Lots::new(number.digits)
+}
+
 /// The lots that a number text means.
+#[inline(always)]
 pub fn read_lots(text: &[u8]) -> Result<Lots, NumberError>
+    ensures lots { IfOk result (MeansLots text.now) }
+    ensures bad_number { IsErrOf result NumberError.BadNumber ↔ (¬ IsNumberText text.now) }
+    ensures out_of_range { IsErrOf result NumberError.OutOfRange ↔ (IsNumberText text.now × ((n : ℕ) → MeansLots text.now n → ⊥)) }
+{
+    // Most texts are short.
+    match short_lots(text) {
+        Some(lots) => Ok(lots),
+        None => read_any_lots(text),
+    }
+}
+
+/// The lots that any number text means.
+#[inline(never)]
+fn read_any_lots(text: &[u8]) -> Result<Lots, NumberError>
     ensures lots { IfOk result (MeansLots text.now) }
     ensures bad_number { IsErrOf result NumberError.BadNumber ↔ (¬ IsNumberText text.now) }
     ensures out_of_range { IsErrOf result NumberError.OutOfRange ↔ (IsNumberText text.now × ((n : ℕ) → MeansLots text.now n → ⊥)) }

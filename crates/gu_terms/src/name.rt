@@ -1,6 +1,6 @@
 //! Names of the house's own.
 
-ghost use Rattle.std.specs.Prelude.{◌≡◌, ◌↔◌, ◌+◌, ◌≤◌, ◌∷◌, [], IsTrue, IsSome, IfSome, take, drop};
+ghost use Rattle.std.specs.Prelude.{◌≡◌, ◌↔◌, ◌+◌, ◌≤◌, ◌∷◌, [], IsSome, IfSome, take, drop};
 ghost use Rattle.std.specs.Cmp.{partial_equiv_from_equiv};
 ghost use Rattle.std.specs.Cmp.Rules.{hashing};
 ghost use Rattle.std.specs.Int.{w32, from_le_bytes};
@@ -41,14 +41,11 @@ impl Model for Name {
 fn is_name_byte(byte: u8) -> bool
     ensures { result ≡ is_name_byte byte }
 {
-    matches!(byte, b'A'..=b'Z' | b'0'..=b'9' | b'-')
-}
-
-/// Whether the bytes are those of a name.
-fn is_name(bytes: &[u8]) -> bool
-    ensures { IsTrue result ↔ IsName bytes.now }
-{
-    !bytes.is_empty() && bytes.len() <= LONGEST_NAME && bytes.iter().all(|byte| is_name_byte(*byte))
+    if byte >= b'A' {
+        byte <= b'Z'
+    } else {
+        byte.is_ascii_digit() || byte == b'-'
+    }
 }
 
 /// Four bytes from a place on, as one number.
@@ -105,12 +102,18 @@ impl Name {
         ensures sound { IsSome result ↔ IsName bytes.now }
         ensures same { IfSome result (λ name. name ≡ bytes.now) }
     {
-        if !is_name(bytes) {
+        if bytes.is_empty() || bytes.len() > LONGEST_NAME {
             return None;
         }
-        Some(Name {
-            text: Padded::new(bytes),
-        })
+        let mut text = Padded::zeros(bytes.len());
+        for place in 0..bytes.len() {
+            let byte = bytes[place];
+            if !is_name_byte(byte) {
+                return None;
+            }
+            text.put(place, byte);
+        }
+        Some(Name { text })
     }
 
     /// The name with these bytes, which are known to be those of one.

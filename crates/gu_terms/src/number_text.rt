@@ -1,9 +1,9 @@
 //! Texts of numbers, taken apart.
 
-ghost use Rattle.std.specs.Prelude.{◌≡◌, ◌↔◌, ◌≤◌, ◌<◌, ◌==◌, length, IsTrue, MatchOption};
+ghost use Rattle.std.specs.Prelude.{◌≡◌, ◌↔◌, ◌≤◌, ◌<◌, ◌+◌, ◌-◌, ◌^◌, ◌==◌, length, take, IsTrue, IfSome, MatchOption};
 ghost use Rattle.std.specs.List.{before_first, after_first, position, position_or_len};
-ghost use Rattle.std.specs.Str.Parse.{AllDigits, digits_value};
-ghost use Rattle.gu_terms.specs.NumberText.{has_minus, unsigned_text, IsNumberText, IsTakenApart};
+ghost use Rattle.std.specs.Str.Parse.{AllDigits, digits_value, digits_value_after};
+ghost use Rattle.gu_terms.specs.NumberText.{unsigned_text, HasDigits, IsNumberText, IsTakenApart};
 
 use std::alloc::Global;
 use thiserror::Error;
@@ -74,6 +74,69 @@ pub(crate) fn is_zero(digits: &[u8]) -> bool
         Some(_) => true,
         None => false,
     }
+}
+
+/// The bytes that a short number text has at most.
+const SHORT: usize = 12;
+
+/// The digits of a number text that has no sign.
+#[derive(Clone, Copy)]
+pub(crate) struct ShortNumber {
+    /// The digits on both sides of the point, as one number.
+    pub(crate) digits: u64,
+    /// How many of them are after the point.
+    pub(crate) places: usize,
+}
+
+/// A number followed by the digits that a text begins with, and how many those are.
+#[inline(always)]
+fn with_digits(number: u64, text: &[u8]) -> (u64, usize)
+    requires { (length text.now ≤ 12) × (number < 10 ^ (12 - length text.now)) }
+    ensures count { result.1 ≤ length text.now }
+    ensures digits { AllDigits 10 (take result.1 text.now) }
+    ensures number { result.0 ≡ digits_value_after 10 number (take result.1 text.now) }
+    ensures few { result.0 < 10 ^ (12 - length text.now + result.1) }
+{
+    let mut longer = number;
+    for place in 0..text.len() {
+        let byte = text[place];
+        if !byte.is_ascii_digit() {
+            return (longer, place);
+        }
+        longer = 10 * longer + u64::from(byte - b'0');
+    }
+    (longer, text.len())
+}
+
+/// The digits of a number text that is short and begins with a digit, as most do; none for any other text. Each byte is read
+/// once.
+#[inline(always)]
+pub(crate) fn short_number(text: &[u8]) -> Option<ShortNumber>
+    ensures digits { IfSome result (λ number. HasDigits text.now number.digits number.places) }
+    ensures few { IfSome result (λ number. number.digits < 1000000000000) }
+{
+    if text.len() > SHORT {
+        return None;
+    }
+    let (whole, place) = with_digits(0, text);
+    if place == 0 {
+        return None;
+    }
+    if place == text.len() {
+        return Some(ShortNumber {
+            digits: whole,
+            places: 0,
+        });
+    }
+    if text[place] != b'.' {
+        return None;
+    }
+    let fraction = &text[place + 1..];
+    let (digits, places) = with_digits(whole, fraction);
+    if places < fraction.len() {
+        return None;
+    }
+    Some(ShortNumber { digits, places })
 }
 
 /// The text taken apart, if it is a number's.

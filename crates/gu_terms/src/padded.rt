@@ -1,6 +1,6 @@
 //! Short texts, kept in place.
 
-ghost use Rattle.std.specs.Prelude.{◌≡◌, ◌+◌, ◌++◌, ◌∷◌, [], ◌<◌, ◌≤◌, length};
+ghost use Rattle.std.specs.Prelude.{◌≡◌, ◌+◌, ◌++◌, ◌∷◌, [], ◌<◌, ◌≤◌, length, take, drop, replicate};
 ghost use Rattle.std.specs.Str.{bytes_eq};
 ghost use Rattle.std.specs.Cmp.{partial_equiv_from_equiv};
 ghost use Rattle.std.specs.Cmp.Rules.{hashing};
@@ -47,6 +47,28 @@ impl<const N: usize> Padded<N> {
             bytes,
             len: text.len() as u8,
         }
+    }
+
+    /// A text of this many zero bytes, to be overwritten by `put`.
+    #[inline(always)]
+    pub(crate) fn zeros(len: usize) -> Self
+        requires fits { len ≤ N }
+        requires short { len < 256 }
+        ensures { result ≡ replicate len 0 }
+    {
+        Padded {
+            bytes: [0; N],
+            len: len as u8,
+        }
+    }
+
+    /// Overwrites the byte at a place.
+    #[inline(always)]
+    pub(crate) fn put(&mut self, place: usize, byte: u8)
+        requires { place < length self.old }
+        ensures { self.new ≡ take place self.old ++ byte ∷ drop (place + 1) self.old }
+    {
+        self.bytes[place] = byte;
     }
 
     /// The text, and more after it.

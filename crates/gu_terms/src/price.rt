@@ -5,7 +5,7 @@ ghost use Rattle.std.specs.Str.Parse.{AllDigits};
 ghost use Rattle.gu_terms.specs.Numbers.{IsPrice};
 ghost use Rattle.gu_terms.specs.NumberText.{CountsMillionths, IsNumberText, IsTakenApart, MeansPrice};
 
-use crate::number_text::{NumberError, NumberText, is_zero, parts_of, value_of};
+use crate::number_text::{NumberError, NumberText, is_zero, parts_of, short_number, value_of};
 use std::marker::Model;
 
 /// The millionths that a price has at most, of either sign.
@@ -118,8 +118,35 @@ fn signed(size: u64, is_negative: bool) -> i64
     }
 }
 
+/// The price that a short number text means.
+#[inline(always)]
+fn short_price(text: &[u8]) -> Option<Price>
+    ensures { IfSome result (MeansPrice text.now) }
+{
+    let number = short_number(text)?;
+    if number.places > PLACES {
+        return None;
+    }
+    Price::new((number.digits * power_of_ten(PLACES - number.places)) as i64)
+}
+
 /// The price that a number text means.
+#[inline(always)]
 pub fn read_price(text: &[u8]) -> Result<Price, NumberError>
+    ensures price { IfOk result (MeansPrice text.now) }
+    ensures bad_number { IsErrOf result NumberError.BadNumber ↔ (¬ IsNumberText text.now) }
+    ensures out_of_range { IsErrOf result NumberError.OutOfRange ↔ (IsNumberText text.now × ((z : ℤ) → MeansPrice text.now z → ⊥)) }
+{
+    // Most texts are short.
+    match short_price(text) {
+        Some(price) => Ok(price),
+        None => read_any_price(text),
+    }
+}
+
+/// The price that any number text means.
+#[inline(never)]
+fn read_any_price(text: &[u8]) -> Result<Price, NumberError>
     ensures price { IfOk result (MeansPrice text.now) }
     ensures bad_number { IsErrOf result NumberError.BadNumber ↔ (¬ IsNumberText text.now) }
     ensures out_of_range { IsErrOf result NumberError.OutOfRange ↔ (IsNumberText text.now × ((z : ℤ) → MeansPrice text.now z → ⊥)) }
