@@ -8,6 +8,17 @@ const ROWS: &str = "\
 ABCXYZ-01789 -> true true
 - -> true true
 ABCXYZ-017890 -> false true
+A -> true true
+E12 -> true true
+E123 -> true true
+R123456 -> true true
+R1234567 -> true true
+R12345678 -> true true
+R1234567890123 -> false true
+R12345678901234 -> false true
+R123456789012345 -> false true
+R1234567890123456 -> false true
+R1234567890 2345 -> false false
 e1 -> false true
 E_1 -> false true
 !~ -> false true
