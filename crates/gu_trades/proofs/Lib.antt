@@ -2,6 +2,7 @@ pub mod KeptAt
 pub mod PackedLemmas
 pub mod LastPlaces
 pub mod OneMore
+pub mod OtherSides
 pub mod ReportPlaces
 pub mod RowCounts
 pub mod Rows

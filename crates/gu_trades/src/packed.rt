@@ -103,7 +103,7 @@ impl<'a> KeptRef<'a> {
     }
 
     /// The bytes of its match id.
-    fn match_bytes(&self) -> &[u8]
+    pub(crate) fn match_bytes(&self) -> &[u8]
         ensures bytes { result.now ≡ self.now.match_id }
         ensures sound { IsId self.now.match_id }
     {
@@ -130,11 +130,18 @@ impl<'a> KeptRef<'a> {
     pub(crate) fn is_with(&self, match_id: &Id) -> bool
         ensures { result ≡ same_id self.now.match_id match_id.now }
     {
-        self.match_bytes() == match_id.get()
+        self.has_match(match_id.get())
+    }
+
+    /// Whether these are the bytes of its match id.
+    pub(crate) fn has_match(&self, match_id: &[u8]) -> bool
+        ensures { result ≡ same_id self.now.match_id match_id.now }
+    {
+        self.match_bytes() == match_id
     }
 
     /// Its match id.
-    pub(crate) fn match_id(&self) -> Id
+    fn match_id(&self) -> Id
         ensures { result ≡ self.now.match_id }
     {
         Id::known(self.match_bytes())
