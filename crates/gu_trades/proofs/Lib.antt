@@ -6,4 +6,5 @@ pub mod OtherSides
 pub mod ReportPlaces
 pub mod RowCounts
 pub mod Rows
+pub mod ShortTextLemmas
 pub mod Walks

@@ -9,6 +9,7 @@ ghost use Rattle.gu_trades.specs.Reports.{is_by};
 ghost use Rattle.gu_trades.specs.Terms.{terms_of};
 
 use crate::report_ref::ReportRef;
+use crate::short_texts::same_text;
 use crate::terms::Terms;
 use gu_terms::{AccountId, Day, FirmId, Id, Lots, Name, Price, Report, Side, Symbol};
 use std::marker::Model;
@@ -123,7 +124,7 @@ impl<'a> KeptRef<'a> {
     pub(crate) fn is_by(&self, firm: &FirmId, id: &Id) -> bool
         ensures { result ≡ is_by firm.now id.now self.now }
     {
-        self.firm() == firm.get() && self.own_id() == id.get()
+        same_text(self.own_id(), id.get()) && self.firm() == firm.get()
     }
 
     /// Whether it has this match id.
@@ -137,7 +138,7 @@ impl<'a> KeptRef<'a> {
     pub(crate) fn has_match(&self, match_id: &[u8]) -> bool
         ensures { result ≡ same_id self.now.match_id match_id.now }
     {
-        self.match_bytes() == match_id
+        same_text(self.match_bytes(), match_id)
     }
 
     /// Its match id.
