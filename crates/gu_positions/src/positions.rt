@@ -118,7 +118,9 @@ fn know(interests: &mut IndexMap<Symbol, u64>, symbol: &Symbol) -> Result<usize,
     Ok(place)
 }
 
-/// Puts an empty row last. The allocations come first, so that one that fails leaves both tables as they were.
+/// Puts an empty row last. The allocations come first, so that one that fails leaves both tables as they were. A row is made once and
+/// found often, so this isn't compiled into what finds it.
+#[inline(never)]
 fn make(
     rows: &mut IndexMap<Place, Holding>,
     interests: &mut IndexMap<Symbol, u64>,
@@ -209,18 +211,22 @@ impl Positions {
         ensures row { IfOk result (IsRowOf self.new account.now symbol.now) }
         ensures stay { KeepsNumbers self.old self.new }
     {
-        if let Some(row) = self.find(account, symbol) {
-            return Ok(row);
-        }
         let place = Place {
             account: *account,
             symbol: *symbol,
         };
+        if let Some(number) = number_of(&self.rows, &place) {
+            return Ok(RowNo {
+                account: place.account,
+                symbol: place.symbol,
+                number,
+            });
+        }
         let number = self.rows.len();
         make(&mut self.rows, &mut self.interests, &place)?;
         Ok(RowNo {
-            account: *account,
-            symbol: *symbol,
+            account: place.account,
+            symbol: place.symbol,
             number,
         })
     }
