@@ -9,10 +9,11 @@ use Rattle.gu_terms.specs.declared.symbol.Symbol.{Symbol}
 use Rattle.gu_positions.specs.declared.holding.Holding.{Holding}
 use Rattle.gu_positions.specs.declared.positions.Place.{Place}
 use Rattle.gu_positions.specs.Kept.{place_of, row_of}
-use Rattle.gu_positions.specs.Numbers.{is_numbered}
+use Rattle.gu_positions.specs.Numbers.{IsRowOf, account_at, is_numbered, symbol_at}
+use Rattle.gu_positions.specs.declared.row_no.RowNo.{RowNo}
 use Rattle.gu_positions.specs.Rows.{Row, has_row, is_of}
 use Rattle.gu_positions.proofs.Changed.{changed, is_of-changed}
-use Rattle.gu_positions.proofs.Places.{same_key-true, same_place-own}
+use Rattle.gu_positions.proofs.Places.{same_key-true, same_place-own, same_place-true}
 
 module _ {X : Type 0} where
   -- items keep their places when others come after them
@@ -60,6 +61,23 @@ module _ (account : AccountId) (symbol : Symbol) where
   -- the number of the last row is how many are before it
   pub numbered-last : (rows : List Row) (last : Row) → is_of account symbol last ≡ true → is_numbered (rows ++ last ∷ []) account symbol (length rows) ≡ true
   numbered-last rows last own = ap (λ o. option_map_or (is_of account symbol) o false) (slice_get-last rows last) ∙ own
+
+  -- a row that has the number is whose it is
+  pub row_of-numbered : (rows : List Row) (row : RowNo) → is_numbered rows account symbol row.number ≡ true → IsRowOf rows account symbol row
+  row_of-numbered rows row made = by (slice_get rows row.number) refl
+    where
+      by : (o : Option Row) → slice_get rows row.number ≡ o → IsRowOf rows account symbol row
+      by None e = let never : false ≡ true = sym (ap (λ o. option_map_or (is_of account symbol) o false) e) ∙ made in cc
+      by (Some r) e =
+          let own : is_of account symbol r ≡ true = sym (ap (λ o. option_map_or (is_of account symbol) o false) e) ∙ made in
+          let same = same_place-true account symbol r.account r.symbol own in
+          let a : account_at rows row ≡ account = ap (λ o. option_map_or (λ (r : Row). r.account) o (record { name = [] })) e ∙ sym same.0 in
+          let s : symbol_at rows row ≡ symbol = ap (λ o. option_map_or (λ (r : Row). r.symbol) o (record { name = [] })) e ∙ sym same.1 in
+          record { made = (λ i. is_numbered rows (a i) (s i) row.number) ∙ made; account_is = a; symbol_is = s }
+
+  -- and has it
+  pub numbered-row_of : (rows : List Row) (row : RowNo) → IsRowOf rows account symbol row → is_numbered rows account symbol row.number ≡ true
+  numbered-row_of rows row it = (λ i. is_numbered rows (sym it.account_is i) (sym it.symbol_is i) row.number) ∙ it.made
 
 -- and when one of them is changed
 pub numbered-changed : (account : AccountId) (symbol : Symbol) (g : Row → Row) (keeps : (r : Row) → ((g r).account ≡ r.account) × ((g r).symbol ≡ r.symbol))

@@ -6,7 +6,7 @@ use Rattle.gu_terms.specs.declared.side.Side.TheVariants.{Buy, Sell}
 use Rattle.gu_terms.specs.declared.symbol.Symbol.{Symbol}
 use Rattle.gu_terms.specs.Same.{same_account, same_side, same_symbol}
 use Rattle.gu_positions.specs.declared.row_no.RowNo.{RowNo}
-use Rattle.gu_positions.specs.Numbers.{IsMade}
+use Rattle.gu_positions.specs.Numbers.{IsRowOf}
 use Rattle.gu_positions.specs.Rows.{Row, has_row, is_of, lots_in, lots_on, open_interest_in}
 
 -- an empty row
@@ -53,7 +53,7 @@ KeepsRows old new = (account : AccountId) (symbol : Symbol) → has_row new acco
 
 -- the rows that were made have the numbers that they had
 abbrev pub KeepsNumbers : List Row → List Row → Type 0
-KeepsNumbers old new = (row : RowNo) → IsMade old row → IsMade new row
+KeepsNumbers old new = (account : AccountId) (symbol : Symbol) (row : RowNo) → IsRowOf old account symbol row → IsRowOf new account symbol row
 
 -- no answer changes: the lots of each account, those of all, and the open interest
 pub record KeepsLots (old new : List Row) : Type 0 where

@@ -1,5 +1,5 @@
 -- The numbers of rows, in the order in which they were made.
-use Rattle.std.specs.Prelude.{◌≡◌, ℕ, Bool, true, false, List, slice_get}
+use Rattle.std.specs.Prelude.{◌≡◌, ℕ, Bool, true, false, List, [], slice_get}
 use Rattle.std.specs.Option.{option_map_or}
 use Rattle.gu_terms.specs.declared.account.AccountId.{AccountId}
 use Rattle.gu_terms.specs.declared.symbol.Symbol.{Symbol}
@@ -10,12 +10,20 @@ use Rattle.gu_positions.specs.Rows.{Row, is_of}
 abbrev pub is_numbered : List Row → AccountId → Symbol → ℕ → Bool
 is_numbered rows account symbol number = option_map_or (is_of account symbol) (slice_get rows number) false
 
+-- the account of a row, by its number
+abbrev pub account_at : List Row → RowNo → AccountId
+account_at rows row = option_map_or (λ (r : Row). r.account) (slice_get rows row.number) (record { name = [] })
+
+-- the instrument of a row, by its number
+abbrev pub symbol_at : List Row → RowNo → Symbol
+symbol_at rows row = option_map_or (λ (r : Row). r.symbol) (slice_get rows row.number) (record { name = [] })
+
 -- the row was made, and has its number
 abbrev pub IsMade : List Row → RowNo → Type 0
-IsMade rows row = is_numbered rows row.account row.symbol row.number ≡ true
+IsMade rows row = is_numbered rows (account_at rows row) (symbol_at rows row) row.number ≡ true
 
 -- the row was made, and is this account's, of this instrument
 pub record IsRowOf (rows : List Row) (account : AccountId) (symbol : Symbol) (row : RowNo) : Type 0 where
   pub made : IsMade rows row
-  pub account_is : row.account ≡ account
-  pub symbol_is : row.symbol ≡ symbol
+  pub account_is : account_at rows row ≡ account
+  pub symbol_is : symbol_at rows row ≡ symbol

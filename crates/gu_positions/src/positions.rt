@@ -11,8 +11,9 @@ ghost use Rattle.gu_terms.specs.declared.symbol.Symbol.{Symbol as Instrument};
 ghost use Rattle.gu_terms.specs.Standing.{StandsAt};
 ghost use Rattle.gu_positions.specs.Changes.{KeepsLots, KeepsNumbers, KeepsRows, lots_at, lots_at_side, same_place, with_less, with_more, with_row};
 ghost use Rattle.gu_positions.specs.Holdings.{nothing_at};
-ghost use Rattle.gu_positions.specs.Kept.{KeepsPlaces, place_of};
-ghost use Rattle.gu_positions.specs.Numbers.{IsMade, IsRowOf};
+ghost use Rattle.gu_positions.specs.Kept.{KeepsPlaces};
+ghost use Rattle.gu_positions.specs.declared.positions.Place.{Place as PlaceOf};
+ghost use Rattle.gu_positions.specs.Numbers.{IsMade, IsRowOf, account_at, symbol_at};
 ghost use Rattle.gu_positions.specs.Rows.{has_row, lots_in, lots_on, open_interest_in, same_row};
 
 use crate::holding::Holding;
@@ -68,8 +69,8 @@ fn number_of(rows: &IndexMap<Place, Holding>, place: &Place) -> Option<usize>
 
 /// What is held at a row.
 fn held_at(rows: &IndexMap<Place, Holding>, row: &RowNo) -> Holding
-    requires { StandsAt rows.now.entries (place_of row.now.account row.now.symbol) row.now.number }
-    ensures { get ⟦<Place as PartialEq>⟧.eq rows.now (place_of row.now.account row.now.symbol) ≡ Some result }
+    requires { (place : PlaceOf) × StandsAt rows.now.entries place row.now.number }
+    ensures { (place : PlaceOf) → StandsAt rows.now.entries place row.now.number → get ⟦<Place as PartialEq>⟧.eq rows.now place ≡ Some result }
 {
     // Shows the prover: the places of the map are apart.
     let _ = rows.len();
@@ -78,9 +79,11 @@ fn held_at(rows: &IndexMap<Place, Holding>, row: &RowNo) -> Holding
 
 /// Writes what is held at a row.
 fn write(rows: &mut IndexMap<Place, Holding>, row: &RowNo, holding: Holding)
-    requires { StandsAt rows.old.entries (place_of row.now.account row.now.symbol) row.now.number }
-    ensures entries { rows.new.entries ≡ set_value (⟦<Place as PartialEq>⟧.eq (place_of row.now.account row.now.symbol)) rows.old.entries holding }
-    ensures updates { Updates ⟦<Place as PartialEq>⟧.eq rows.old rows.new (place_of row.now.account row.now.symbol) (Some holding) }
+    requires { (place : PlaceOf) × StandsAt rows.old.entries place row.now.number }
+    ensures entries { (place : PlaceOf) → StandsAt rows.old.entries place row.now.number
+        → rows.new.entries ≡ set_value (⟦<Place as PartialEq>⟧.eq place) rows.old.entries holding }
+    ensures updates { (place : PlaceOf) → StandsAt rows.old.entries place row.now.number
+        → Updates ⟦<Place as PartialEq>⟧.eq rows.old rows.new place (Some holding) }
 {
     // Shows the prover: the places of the map are apart.
     let _ = rows.len();
@@ -118,7 +121,9 @@ fn know(interests: &mut IndexMap<Symbol, u64>, symbol: &Symbol) -> Result<usize,
     Ok(place)
 }
 
-/// Puts an empty row last. The allocations come first, so that one that fails leaves both tables as they were.
+/// Puts an empty row last. The allocations come first, so that one that fails leaves both tables as they were. A row is made once and
+/// found often, so this isn't compiled into what finds it.
+#[inline(never)]
 fn make(
     rows: &mut IndexMap<Place, Holding>,
     interests: &mut IndexMap<Symbol, u64>,
@@ -209,20 +214,16 @@ impl Positions {
         ensures row { IfOk result (IsRowOf self.new account.now symbol.now) }
         ensures stay { KeepsNumbers self.old self.new }
     {
-        if let Some(row) = self.find(account, symbol) {
-            return Ok(row);
-        }
         let place = Place {
             account: *account,
             symbol: *symbol,
         };
+        if let Some(number) = number_of(&self.rows, &place) {
+            return Ok(RowNo { number });
+        }
         let number = self.rows.len();
         make(&mut self.rows, &mut self.interests, &place)?;
-        Ok(RowNo {
-            account: *account,
-            symbol: *symbol,
-            number,
-        })
+        Ok(RowNo { number })
     }
 
     /// The row of an account and an instrument, where one was made.
@@ -236,11 +237,7 @@ impl Positions {
             symbol: *symbol,
         };
         let number = number_of(&self.rows, &place)?;
-        Some(RowNo {
-            account: *account,
-            symbol: *symbol,
-            number,
-        })
+        Some(RowNo { number })
     }
 
     /// Adds lots to an account's, on a side of an instrument.
@@ -261,12 +258,14 @@ impl Positions {
     /// Adds lots to those of a row, on a side.
     pub fn add_to(&mut self, row: &RowNo, side: Side, lots: u64)
         requires made { IsMade self.old row.now }
-        requires fits { lots_on self.old side row.now.symbol + lots < 2 ^ 64 }
-        ensures rows { self.new ≡ with_more self.old side row.now.account row.now.symbol lots }
+        requires fits { lots_on self.old side (symbol_at self.old row.now) + lots < 2 ^ 64 }
+        ensures rows { self.new ≡ with_more self.old side (account_at self.old row.now) (symbol_at self.old row.now) lots }
         ensures same_rows { KeepsRows self.old self.new }
         ensures lots { (on : SideOf) (other : Account) (another : Instrument)
-            → lots_in self.new on other another ≡ lots_in self.old on other another + lots_at side row.now.account row.now.symbol lots on other another }
-        ensures sums { (on : SideOf) (another : Instrument) → lots_on self.new on another ≡ lots_on self.old on another + lots_at_side side row.now.symbol lots on another }
+            → lots_in self.new on other another
+            ≡ lots_in self.old on other another + lots_at side (account_at self.old row.now) (symbol_at self.old row.now) lots on other another }
+        ensures sums { (on : SideOf) (another : Instrument)
+            → lots_on self.new on another ≡ lots_on self.old on another + lots_at_side side (symbol_at self.old row.now) lots on another }
         ensures stay { KeepsNumbers self.old self.new }
     {
         let before = held_at(&self.rows, row);
@@ -283,12 +282,14 @@ impl Positions {
     /// Takes lots from those of a row, on a side.
     fn take_from(&mut self, row: &RowNo, side: Side, lots: u64)
         requires made { IsMade self.old row.now }
-        requires there { lots ≤ lots_in self.old side row.now.account row.now.symbol }
-        ensures rows { self.new ≡ with_less self.old side row.now.account row.now.symbol lots }
+        requires there { lots ≤ lots_in self.old side (account_at self.old row.now) (symbol_at self.old row.now) }
+        ensures rows { self.new ≡ with_less self.old side (account_at self.old row.now) (symbol_at self.old row.now) lots }
         ensures same_rows { KeepsRows self.old self.new }
         ensures lots { (on : SideOf) (other : Account) (another : Instrument)
-            → lots_in self.new on other another ≡ lots_in self.old on other another - lots_at side row.now.account row.now.symbol lots on other another }
-        ensures sums { (on : SideOf) (another : Instrument) → lots_on self.new on another + lots_at_side side row.now.symbol lots on another ≡ lots_on self.old on another }
+            → lots_in self.new on other another
+            ≡ lots_in self.old on other another - lots_at side (account_at self.old row.now) (symbol_at self.old row.now) lots on other another }
+        ensures sums { (on : SideOf) (another : Instrument)
+            → lots_on self.new on another + lots_at_side side (symbol_at self.old row.now) lots on another ≡ lots_on self.old on another }
         ensures stay { KeepsNumbers self.old self.new }
     {
         let before = held_at(&self.rows, row);
@@ -323,16 +324,17 @@ impl Positions {
     pub fn shift_between(&mut self, from: &RowNo, to: &RowNo, side: Side, lots: u64)
         requires from_made { IsMade self.old from.now }
         requires to_made { IsMade self.old to.now }
-        requires one { to.now.symbol ≡ from.now.symbol }
-        requires there { lots ≤ lots_in self.old side from.now.account from.now.symbol }
-        ensures rows { self.new ≡ with_more (with_less self.old side from.now.account from.now.symbol lots) side to.now.account from.now.symbol lots }
+        requires one { symbol_at self.old to.now ≡ symbol_at self.old from.now }
+        requires there { lots ≤ lots_in self.old side (account_at self.old from.now) (symbol_at self.old from.now) }
+        ensures rows { self.new ≡ with_more (with_less self.old side (account_at self.old from.now) (symbol_at self.old from.now) lots)
+            side (account_at self.old to.now) (symbol_at self.old from.now) lots }
         ensures same_rows { KeepsRows self.old self.new }
         ensures lots { (on : SideOf) (other : Account) (another : Instrument) → lots_in self.new on other another
-            ≡ lots_in self.old on other another - lots_at side from.now.account from.now.symbol lots on other another
-            + lots_at side to.now.account from.now.symbol lots on other another }
+            ≡ lots_in self.old on other another - lots_at side (account_at self.old from.now) (symbol_at self.old from.now) lots on other another
+            + lots_at side (account_at self.old to.now) (symbol_at self.old from.now) lots on other another }
         ensures sums { (on : SideOf) (another : Instrument) → lots_on self.new on another ≡ lots_on self.old on another }
         ensures stay { KeepsNumbers self.old self.new }
-        ensures still { from.now.account ≡ to.now.account → self.new ≡ self.old }
+        ensures still { account_at self.old from.now ≡ account_at self.old to.now → self.new ≡ self.old }
     {
         // Shows the prover: what the type of the positions keeps.
         self.rules();

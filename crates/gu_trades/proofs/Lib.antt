@@ -2,7 +2,9 @@ pub mod KeptAt
 pub mod PackedLemmas
 pub mod LastPlaces
 pub mod OneMore
+pub mod OtherSides
 pub mod ReportPlaces
 pub mod RowCounts
 pub mod Rows
+pub mod ShortTextLemmas
 pub mod Walks

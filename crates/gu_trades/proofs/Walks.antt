@@ -1,6 +1,7 @@
 -- Walks back along the places of a firm's reports with an id, or of the reports with a match id.
-use Rattle.std.proofs.Common.{◌≡◌, ◌∙◌, ℕ, ◌-◌, ◌<◌, ◌≤◌, ap, map, length, List}
+use Rattle.std.proofs.Common.{◌≡◌, ◌∙◌, ℕ, ◌-◌, ◌<◌, ◌≤◌, ap, map, length, List, true}
 use Rattle.std.specs.Prelude.{slice_index}
+use Rattle.std.proofs.lemmas.Bool.{eqb-true}
 use Rattle.std.proofs.lemmas.List.{length-map}
 use Rattle.gu_terms.specs.declared.firm.FirmId.{FirmId}
 use Rattle.gu_terms.specs.declared.id.Id.{Id}
@@ -10,7 +11,7 @@ use Rattle.gu_trades.specs.declared.trades.Trades.TheInside.{Inside}
 use Rattle.gu_trades.specs.Kept.{IsKept, id_number, is_by_at, is_with_at, match_number}
 use Rattle.gu_trades.specs.Numbered.{has_number, last_before}
 use Rattle.gu_trades.specs.Reports.{is_by}
-use Rattle.gu_trades.proofs.LastPlaces.{walk-from, walk-on}
+use Rattle.gu_trades.proofs.LastPlaces.{has-own, walk-from, walk-on}
 use Rattle.gu_trades.proofs.ReportPlaces.{by-agree, with-agree}
 
 module _ (kept : Inside) (reports : List Report) (is_kept : IsKept kept) (view : kept.reports ≡ reports) (firm : FirmId) (id : Id) where
@@ -58,3 +59,9 @@ module _ (kept : Inside) (reports : List Report) (is_kept : IsKept kept) (view :
       → (last_before (is_with_at reports match_id) (here - 1) ≡ last_before (is_with_at reports match_id) next) × (next < here)
       × (0 < next → slice_index kept.by_match.numbers (next - 1) ≡ match_number kept.seed match_id)
   with-on = walk-on (λ (r : Report). same_id r.match_id match_id) match_of (match_number kept.seed match_id) (with-agree kept.seed match_id) reports kept.by_match.numbers numbers_with
+
+  -- a place with the match id has its number
+  pub with-number : (place : ℕ) → is_with_at reports match_id place ≡ true → slice_index kept.by_match.numbers place ≡ match_number kept.seed match_id
+  with-number place own =
+      eqb-true (slice_index kept.by_match.numbers place) (match_number kept.seed match_id)
+      (has-own (λ (r : Report). same_id r.match_id match_id) match_of (match_number kept.seed match_id) (with-agree kept.seed match_id) reports kept.by_match.numbers numbers_with place own)

@@ -1,7 +1,7 @@
 //! Places of a list, found by numbers that are kept of its elements.
 
 ghost use Rattle.std.specs.Int.{IsPowerOfTwo};
-ghost use Rattle.std.specs.Prelude.{◌≡◌, ◌+◌, ◌<◌, ◌≤◌, ◌++◌, ◌∷◌, ◌%◌, [], length, slice_index, OnOk, ◌-◌};
+ghost use Rattle.std.specs.Prelude.{◌≡◌, ◌+◌, ◌<◌, ◌≤◌, ◌++◌, ◌∷◌, ◌%◌, [], length, replicate, slice_index, OnOk, ◌-◌};
 ghost use Rattle.gu_trades.specs.Numbered.{has_number, last_before, number_of};
 ghost use Rattle.gu_trades.specs.HashIndex.{numbers_of, EndsRows, IsLinked};
 
@@ -77,8 +77,9 @@ fn along(links: &[Link], rows: usize, from: u32, number: u32) -> u32
     0
 }
 
-/// Links all places along these rows, whatever they were linked along before.
+/// Links all places along these rows, which are empty, whatever they were linked along before.
 fn link_all(links: &mut [Link], last: &mut [u32])
+    requires empty { last.old ≡ replicate (length last.old) 0 }
     requires few { length last.old ≤ MOST_ROWS }
     requires power { IsPowerOfTwo (length last.old) }
     requires room { length links.old < length last.old }
@@ -87,7 +88,6 @@ fn link_all(links: &mut [Link], last: &mut [u32])
     ensures linked { IsLinked links.new (length last.new) }
     ensures ends { EndsRows links.new last.new }
 {
-    last.fill(0);
     for place in 0..links.len() {
         let number = links[place].number;
         let row = row_of(number, last.len());
@@ -118,6 +118,14 @@ impl HashIndex {
         let rows = self.last.len();
         let from = self.last[row_of(number, rows)];
         along(&self.links, rows, from, number)
+    }
+
+    /// The number of a place.
+    pub(crate) fn number(&self, place: usize) -> u32
+        requires { place < length self.now.numbers }
+        ensures { result ≡ slice_index self.now.numbers place }
+    {
+        self.links[place].number
     }
 
     /// The last place before this one with the same number, counted from 1; 0 where there is none.
@@ -152,6 +160,9 @@ impl HashIndex {
             return Err(AllocError);
         }
         self.links.reserve(rows - self.links.len())?;
+        self.last.reserve(rows - self.last.len())?;
+        self.last.clear();
+        // There is room, so that this doesn't fail.
         self.last.resize(rows, 0)?;
         link_all(&mut self.links, &mut self.last);
         Ok(())

@@ -7,6 +7,7 @@ mod matching;
 mod packed;
 mod report_ref;
 mod reports;
+mod short_texts;
 mod sides;
 mod standing;
 mod terms;

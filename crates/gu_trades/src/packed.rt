@@ -9,6 +9,7 @@ ghost use Rattle.gu_trades.specs.Reports.{is_by};
 ghost use Rattle.gu_trades.specs.Terms.{terms_of};
 
 use crate::report_ref::ReportRef;
+use crate::short_texts::same_text;
 use crate::terms::Terms;
 use gu_terms::{AccountId, Day, FirmId, Id, Lots, Name, Price, Report, Side, Symbol};
 use std::marker::Model;
@@ -103,7 +104,7 @@ impl<'a> KeptRef<'a> {
     }
 
     /// The bytes of its match id.
-    fn match_bytes(&self) -> &[u8]
+    pub(crate) fn match_bytes(&self) -> &[u8]
         ensures bytes { result.now ≡ self.now.match_id }
         ensures sound { IsId self.now.match_id }
     {
@@ -123,18 +124,25 @@ impl<'a> KeptRef<'a> {
     pub(crate) fn is_by(&self, firm: &FirmId, id: &Id) -> bool
         ensures { result ≡ is_by firm.now id.now self.now }
     {
-        self.firm() == firm.get() && self.own_id() == id.get()
+        same_text(self.own_id(), id.get()) && self.firm() == firm.get()
     }
 
     /// Whether it has this match id.
     pub(crate) fn is_with(&self, match_id: &Id) -> bool
         ensures { result ≡ same_id self.now.match_id match_id.now }
     {
-        self.match_bytes() == match_id.get()
+        self.has_match(match_id.get())
+    }
+
+    /// Whether these are the bytes of its match id.
+    pub(crate) fn has_match(&self, match_id: &[u8]) -> bool
+        ensures { result ≡ same_id self.now.match_id match_id.now }
+    {
+        same_text(self.match_bytes(), match_id)
     }
 
     /// Its match id.
-    pub(crate) fn match_id(&self) -> Id
+    fn match_id(&self) -> Id
         ensures { result ≡ self.now.match_id }
     {
         Id::known(self.match_bytes())

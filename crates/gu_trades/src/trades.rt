@@ -254,8 +254,17 @@ impl Trades {
         requires { place < length self.now }
         ensures { option_map (is_of_trade self.now) (slice_get self.now place) ≡ Some result }
     {
-        let (_, first) = self.last_two(&self.reports.kept(place).match_id());
-        first != 0
+        let kept = self.reports.kept(place);
+        let match_id = kept.match_bytes();
+        let mut at = self.by_match.last(self.by_match.number(place));
+        while at > 0 {
+            let other = at as usize - 1;
+            if other != place && self.reports.kept(other).has_match(match_id) {
+                return true;
+            }
+            at = self.by_match.before(other);
+        }
+        false
     }
 
     /// What one more report with this match id does.

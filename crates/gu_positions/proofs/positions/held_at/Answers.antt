@@ -1,10 +1,9 @@
 use Rattle.std.proofs.Common.{sym}
-use Rattle.gu_positions.specs.Kept.{place_of, same_key}
+use Rattle.gu_positions.specs.Kept.{same_key}
 use Rattle.gu_positions.proofs.Places.{same_key-laws, same_key-true}
 use Rattle.gu_terms.proofs.Standing.{lookup-standing}
 use Rattle.gu_positions.proofs.positions.held_at.Goals as goal
 
 pub returns : goal.returns
-returns c =
-    lookup-standing same_key same_key-laws same_key-true c.args.rows.now.entries (place_of c.args.row.now.account c.args.row.now.symbol) c.args.row.now.number c.requires c.len.ensures.unique _
-    (sym c.index.ensures)
+returns c = λ place there.
+    lookup-standing same_key same_key-laws same_key-true c.args.rows.now.entries place c.args.row.now.number there c.len.ensures.unique _ (sym c.index.ensures)

@@ -1,8 +1,8 @@
-use Rattle.std.proofs.Common.{◌∙◌, ap, is_some, refl, sym}
+use Rattle.std.proofs.Common.{◌∙◌, ap, is_some, sym}
 use Rattle.gu_positions.specs.Numbers.{is_numbered}
 use Rattle.gu_positions.specs.Rows.{has_row}
 use Rattle.gu_positions.proofs.KeptLots.{has_row-lookup}
-use Rattle.gu_positions.proofs.RowNumbers.{numbered-kept}
+use Rattle.gu_positions.proofs.RowNumbers.{numbered-kept, row_of-numbered}
 use Rattle.gu_positions.proofs.positions.Positions.find.Goals as goal
 
 pub returns-in_err-number-clause-there : goal.returns-in_err-number-clause-there
@@ -16,10 +16,7 @@ returns-clause-there c =
     ∙ ap (λ rows. has_row rows c.args.account.now c.args.symbol.now) c.self.view_is
 
 pub returns-clause-row : goal.returns-clause-row
-returns-clause-row c = record {
-  made =
-      ap (λ rows. is_numbered rows c.args.account.now c.args.symbol.now c.in_ok-number.number) (sym c.self.view_is)
-      ∙ numbered-kept c.args.account.now c.args.symbol.now c.self.inside.rows.entries c.in_ok-number.number c.in_ok-number.ensures.at.value c.in_ok-number.ensures.at.here;
-  account_is = refl;
-  symbol_is = refl;
-}
+returns-clause-row c =
+    row_of-numbered c.args.account.now c.args.symbol.now c.args.self.now (record { number = c.in_ok-number.number })
+    (ap (λ rows. is_numbered rows c.args.account.now c.args.symbol.now c.in_ok-number.number) (sym c.self.view_is)
+    ∙ numbered-kept c.args.account.now c.args.symbol.now c.self.inside.rows.entries c.in_ok-number.number c.in_ok-number.ensures.at.value c.in_ok-number.ensures.at.here)
