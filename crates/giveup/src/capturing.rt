@@ -137,7 +137,7 @@ impl Capturing {
         ensures { OnOk result ((text : List ℕ) × (output.new.items ≡ output.old.items ++ text)
             × AnswersFrame self.old frame text self.new) }
     {
-        let fault = fields_over(&mut self.fields, self.alloc, frame)?;
+        let fault = fields_over(self.alloc, &mut self.fields, frame)?;
         if fault.is_some() {
             return Ok(());
         }

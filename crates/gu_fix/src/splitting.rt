@@ -228,8 +228,8 @@ pub fn into_fields(alloc: Global, frame: Frame) -> Result<(Fields, Option<FieldF
 
 /// The same, in the place of earlier fields, in the room of whose list these are listed. Where an allocation fails, none are left.
 pub fn fields_over(
-    earlier: &mut Fields,
     alloc: Global,
+    earlier: &mut Fields,
     frame: Frame,
 ) -> Result<Option<FieldFault>, AllocError>
     ensures fields { IfOk result (λ fault. HasFields frame earlier.new fault) }

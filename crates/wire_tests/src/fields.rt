@@ -39,7 +39,7 @@ fn split(
         Holder::Message => into_fields(alloc, frame),
         Holder::Earlier => {
             let (mut earlier, _) = fields(alloc, &frame)?;
-            let fault = fields_over(&mut earlier, alloc, frame)?;
+            let fault = fields_over(alloc, &mut earlier, frame)?;
             Ok((earlier, fault))
         }
     }
