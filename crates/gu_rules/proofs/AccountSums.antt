@@ -1,5 +1,5 @@
 -- What rows of positions have in all is what the accounts have.
-use Rattle.std.proofs.Common.{◌≡◌, ℕ, ◌&&◌, true, false, List, [], ◌∷◌, find, sum_by, is_some, refl, sym, ap, ◌∙◌, arith, if◌then◌else◌, inl, inr}
+use Rattle.std.proofs.Common.{◌≡◌, ℕ, ◌&&◌, Bool, true, false, List, [], ◌∷◌, find, sum_by, is_some, refl, sym, ap, ◌∙◌, arith, if◌then◌else◌, inl, inr}
 use Rattle.std.proofs.lemmas.Bool.{cases_Bool}
 use Rattle.std.proofs.lemmas.List.Sums.{sum_by-cons}
 use Rattle.std.proofs.lemmas.Map.Keys.{IsDistinct-head, IsDistinct-tail}
@@ -85,9 +85,31 @@ module _ (counted : Row → ℕ) where
   abbrev counted_on : List Row → Symbol → ℕ
   counted_on rows symbol = sum_by (λ r. if same_symbol r.symbol symbol then counted r else 0) rows
 
+  -- what is counted of nothing is nothing
+  of-nothing : (b : Bool) (r : Row) → counted r ≡ 0 → (if b then counted r else 0) ≡ 0
+  of-nothing true r none = none
+  of-nothing false r none = refl
+
+  of-nobody : (r : Row) (symbol : Symbol) (accounts : List Account) → counted r ≡ 0 → sum_by (λ (a : Account). counted_at a.account symbol r) accounts ≡ 0
+  of-nobody r symbol [] none = refl
+  of-nobody r symbol (a ∷ accounts) none =
+      omega (arith, sum_by-cons (λ (o : Account). counted_at o.account symbol r) a accounts, of-nothing (is_of a.account symbol r) r none, of-nobody r symbol accounts none)
+
+  -- a row counts for its account alone, and where its account is not among them, nothing is counted of it
+  abbrev pub IsOfThem : List Account → Row → Type 0
+  IsOfThem accounts r = is_some (account_in accounts r.account) ≡ false → counted r ≡ 0
+
+  one-row-counts : (r : Row) (symbol : Symbol) (accounts : List Account) → IsDistinct (λ a b. same_account a.account b.account) accounts → IsOfThem accounts r
+      → sum_by (λ (a : Account). counted_at a.account symbol r) accounts ≡ counts r symbol
+  one-row-counts r symbol accounts once own =
+      elim (cases_Bool (is_some (account_in accounts r.account))) [
+        | inl there ↦ one-account r symbol accounts once there
+        | inr miss ↦ of-nobody r symbol accounts (own miss) ∙ sym (of-nothing (same_symbol symbol r.symbol) r (own miss))
+      ]
+
   -- row by row, over the accounts
   over-rows : (accounts : List Account) (rows : List Row) (symbol : Symbol) → IsDistinct (λ a b. same_account a.account b.account) accounts
-      → AllByRecursion (λ (r : Row). is_some (account_in accounts r.account) ≡ true) rows
+      → AllByRecursion (IsOfThem accounts) rows
       → counted_on rows symbol ≡ sum_by (λ r. sum_by (λ (a : Account). counted_at a.account symbol r) accounts) rows
   over-rows accounts [] symbol once known = refl
   over-rows accounts (r ∷ rows) symbol once known =
@@ -98,13 +120,13 @@ module _ (counted : Row → ℕ) where
         sum_by-cons of_rows r rows,
         sum_by-cons (λ r. sum_by (λ (a : Account). counted_at a.account symbol r) accounts) r rows,
         turned,
-        one-account r symbol accounts once known.0,
+        one-row-counts r symbol accounts once known.0,
         over-rows accounts rows symbol once known.1,
       )
 
   -- what is counted of all rows of an instrument is what is counted of each account's
   pub over-accounts : (accounts : List Account) (rows : List Row) (symbol : Symbol) → IsDistinct (λ a b. same_account a.account b.account) accounts → IsDistinct same_row rows
-      → AllByRecursion (λ (r : Row). is_some (account_in accounts r.account) ≡ true) rows
+      → AllByRecursion (IsOfThem accounts) rows
       → counted_on rows symbol ≡ sum_by (λ (a : Account). counted_in rows a.account symbol) accounts
   over-accounts accounts rows symbol own once known =
       over-rows accounts rows symbol own known

@@ -1,24 +1,29 @@
 -- Over the accounts, as many lots are held long as short.
-use Rattle.std.proofs.Common.{◌≡◌, ℕ, ◌+◌, ◌&&◌, false, List, [], ◌∷◌, sum_by, Option, Some, if◌then◌else◌, refl, sym, ap, ◌∙◌, arith}
+use Rattle.std.proofs.Common.{◌≡◌, ℕ, ◌+◌, ◌&&◌, Bool, true, false, List, [], ◌∷◌, sum_by, Option, Some, is_some, if◌then◌else◌, refl, sym, ap, ◌∙◌, subst, arith, inl, inr}
 use Rattle.std.specs.List.{AllByRecursion, IsDistinct}
 use Rattle.std.specs.Option.{option_map_or}
+use Rattle.std.proofs.lemmas.Bool.{cases_Bool}
 use Rattle.std.proofs.lemmas.List.Sums.{sum_by-cons}
 use Rattle.gu_terms.proofs.Lists.{sum_by-add, sum_by-agree, sum_by-swap}
-use Rattle.gu_terms.specs.Same.{same_account}
+use Rattle.gu_terms.proofs.SameNames.{same_account-true}
+use Rattle.gu_terms.specs.Same.{same_account, same_side, same_symbol}
+use Rattle.gu_terms.specs.declared.account.AccountId.{AccountId}
 use Rattle.gu_terms.specs.declared.entry.Entry.{Entry}
 use Rattle.gu_terms.specs.declared.offer.Offer.{Offer}
 use Rattle.gu_terms.specs.declared.report.Report.{Report}
 use Rattle.gu_terms.specs.declared.side.Side.{Side}
 use Rattle.gu_terms.specs.declared.side.Side.TheVariants.{Buy, Sell}
 use Rattle.gu_terms.specs.declared.symbol.Symbol.{Symbol}
+use Rattle.gu_ref.specs.Reference.{account_row}
 use Rattle.gu_ref.specs.Tables.{Tables}
 use Rattle.gu_ref.specs.declared.accounts.Account.{Account}
 use Rattle.gu_offers.specs.Rows.{Row}
+use Rattle.gu_trades.specs.Matching.{is_of_trade}
 use Rattle.gu_trades.specs.Reports.{is_by}
 use Rattle.gu_rules.specs.Laws.{GivesUpTrade}
 use Rattle.gu_rules.specs.Offers.{offers_of, standing_from, standing_of}
 use Rattle.gu_rules.specs.Orderly.{AreWithin, IsCovered}
-use Rattle.gu_rules.specs.Positions.{LongIsShort, held_in, is_from, is_on, moved_into, moved_out, report_after, traded}
+use Rattle.gu_rules.specs.Positions.{LongIsShort, brought, held_in, held_of, is_from, is_on, moved_into, moved_out, report_after, traded}
 use Rattle.gu_rules.specs.Reports.{reports_of}
 use Rattle.gu_rules.proofs.ChangedSums.{moved_out-le-traded}
 use Rattle.gu_rules.proofs.GivenTrades.{IsSourced, alone-if, traded_on}
@@ -107,3 +112,43 @@ held-even reference history once sourced covered within symbol =
     held-traded reference once symbol Buy (reports_of history) (standing_of history) between covered within
     ∙ sourced.even once symbol
     ∙ sym (held-traded reference once symbol Sell (reports_of history) (standing_of history) between covered within)
+
+-- ---- accounts that aren't in the reference
+
+module _ (reference : Tables) (account : AccountId) (none : is_some (account_row reference account) ≡ false) (side : Side) (symbol : Symbol) where
+  -- one that is there is another
+  another : (name : AccountId) → is_there reference name → same_account name account ≡ false
+  another name there =
+      elim (cases_Bool (same_account name account)) [
+        | inl hit ↦ let no : true ≡ false = sym (subst (is_there reference) (same_account-true name account hit) there) ∙ none in cc
+        | inr miss ↦ miss
+      ]
+
+  -- so that no trade brought it lots
+  none-brought : (all reports : List Report) → AllByRecursion (λ (r : Report). is_there reference r.account) reports → sum_by (brought all side account symbol) reports ≡ 0
+  none-brought all [] known = refl
+  none-brought all (r ∷ reports) known =
+      let own : brought all side account symbol r ≡ 0 = rw (another r.account known.0) (by (same_side r.side side) (same_symbol r.symbol symbol) (is_of_trade all r) r.lots) in
+      omega (arith, sum_by-cons (brought all side account symbol) r reports, own, none-brought all reports known.1)
+    where
+      by : (b c d : Bool) (lots : ℕ) → (if b && false && c && d then lots else 0) ≡ 0
+      by true c d lots = refl
+      by false c d lots = refl
+
+  -- and none were moved into it
+  none-moved : (reports : List Report) (rows : List Row) → AllByRecursion (IsBetween reference reports) rows → moved_into reports rows side account symbol ≡ 0
+  none-moved reports [] between = refl
+  none-moved reports (row ∷ rows) between =
+      let into : Row → ℕ = λ row. if is_on reports side symbol row && same_account row.offer.account account then row.moved else 0 in
+      let own : into row ≡ 0 = rw (another row.offer.account between.0.into) (by (is_on reports side symbol row) row.moved) in
+      omega (arith, sum_by-cons into row rows, own, none-moved reports rows between.1)
+    where
+      by : (b : Bool) (lots : ℕ) → (if b && false then lots else 0) ≡ 0
+      by true lots = refl
+      by false lots = refl
+
+  -- it holds nothing
+  pub none-held : (history : List Entry) → IsSourced reference history → held_of history side account symbol ≡ 0
+  none-held history sourced =
+      let reports = reports_of history in
+      omega (arith, none-brought reports reports sourced.reports, none-moved reports (standing_of history) (all-between reference history sourced))

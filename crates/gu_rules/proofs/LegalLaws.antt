@@ -18,12 +18,12 @@ use Rattle.gu_terms.specs.declared.reply.Reply.TheVariants.{Accepted}
 use Rattle.gu_terms.specs.declared.side.Side.{Side}
 use Rattle.gu_terms.specs.declared.symbol.Symbol.{Symbol}
 use Rattle.gu_limits.specs.Paths.{path_of}
-use Rattle.gu_ref.specs.Reference.{agreement_between}
+use Rattle.gu_ref.specs.Reference.{account_row, agreement_between}
 use Rattle.gu_ref.specs.Rules.{IsSound}
 use Rattle.gu_ref.specs.Tables.{Tables}
 use Rattle.gu_rules.specs.Legal.{IsLegal, MayBeEntered}
 use Rattle.gu_rules.specs.Offers.{lines_by, offers_of, standing_of}
-use Rattle.gu_rules.specs.Positions.{LongIsShort, moved_out, traded}
+use Rattle.gu_rules.specs.Positions.{LongIsShort, held_of, moved_out, traded}
 use Rattle.gu_rules.specs.Reports.{reports_of}
 use Rattle.gu_rules.specs.Versions.{touches}
 use Rattle.gu_rules.specs.Views.{group_view}
@@ -31,7 +31,7 @@ use Rattle.gu_rules.proofs.AgreementPaths.{path-there}
 use Rattle.gu_rules.proofs.ChangedSums.{moved_out-le-traded}
 use Rattle.gu_rules.proofs.Elsewhere.{view-elsewhere}
 use Rattle.gu_rules.proofs.GivenTrades.{sourced}
-use Rattle.gu_rules.proofs.HeldEven.{held-even}
+use Rattle.gu_rules.proofs.HeldEven.{held-even, none-held}
 use Rattle.gu_rules.proofs.LegalOrder.{legal_ordered}
 use Rattle.gu_rules.proofs.Onward.{onward}
 
@@ -46,6 +46,11 @@ leaves_less reference history side account symbol legal =
 pub long_as_short : (reference : Tables) (history : List Entry) → IsSound reference → IsLegal reference history → LongIsShort (record { reference = reference; history = history })
 long_as_short reference history sound legal =
     let o = (legal_ordered reference history legal).order in held-even reference history sound.once.accounts (sourced reference history legal) o.covered o.within
+
+-- an account that isn't in the reference holds nothing
+pub unknown-holds-none : (reference : Tables) (history : List Entry) (side : Side) (account : AccountId) (symbol : Symbol) → IsLegal reference history → is_some (account_row reference account) ≡ false
+    → held_of history side account symbol ≡ 0
+unknown-holds-none reference history side account symbol legal none = none-held reference account none side symbol history (sourced reference history legal)
 
 -- the path of an agreement
 pub has_path : (reference : Tables) (firm : FirmId) (account : AccountId) (agreement : AgreementId) → IsSound reference → agreement_between reference firm account ≡ Some agreement
