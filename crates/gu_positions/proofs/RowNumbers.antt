@@ -1,7 +1,7 @@
 -- The numbers of rows: what is kept at one, and that rows keep theirs. So do the entries of a table keep their places.
-use Rattle.std.proofs.Common.{◌≡◌, ◌∙◌, sym, refl, ap, ℕ, zero, suc, Bool, true, false, ◌||◌, List, [], ◌∷◌, ◌++◌, map, length, Option, Some, None, slice_get}
+use Rattle.std.proofs.Common.{◌≡◌, ◌∙◌, sym, refl, ap, get_or, ℕ, zero, suc, Bool, true, false, ◌||◌, List, [], ◌∷◌, ◌++◌, map, length, Option, Some, None, slice_get}
 use Rattle.std.specs.Option.{option_map, option_map_or}
-use Rattle.std.proofs.lemmas.Option.{slice_get-map}
+use Rattle.std.proofs.lemmas.Option.{slice_get-get_or, slice_get-map, slice_get_within}
 use Rattle.indexmap.specs.IndexMap.{set_value_at}
 use Rattle.gu_terms.specs.Standing.{StandsAt}
 use Rattle.gu_terms.specs.declared.account.AccountId.{AccountId}
@@ -9,7 +9,7 @@ use Rattle.gu_terms.specs.declared.symbol.Symbol.{Symbol}
 use Rattle.gu_positions.specs.declared.holding.Holding.{Holding}
 use Rattle.gu_positions.specs.declared.positions.Place.{Place}
 use Rattle.gu_positions.specs.Kept.{place_of, row_of}
-use Rattle.gu_positions.specs.Numbers.{IsRowOf, account_at, is_numbered, symbol_at}
+use Rattle.gu_positions.specs.Numbers.{IsMade, IsRowOf, account_at, is_numbered, symbol_at}
 use Rattle.gu_positions.specs.declared.row_no.RowNo.{RowNo}
 use Rattle.gu_positions.specs.Rows.{Row, has_row, is_of}
 use Rattle.gu_positions.proofs.Changed.{changed, is_of-changed}
@@ -73,11 +73,23 @@ module _ (account : AccountId) (symbol : Symbol) where
           let same = same_place-true account symbol r.account r.symbol own in
           let a : account_at rows row ≡ account = ap (λ o. option_map_or (λ (r : Row). r.account) o (record { name = [] })) e ∙ sym same.0 in
           let s : symbol_at rows row ≡ symbol = ap (λ o. option_map_or (λ (r : Row). r.symbol) o (record { name = [] })) e ∙ sym same.1 in
-          record { made = (λ i. is_numbered rows (a i) (s i) row.number) ∙ made; account_is = a; symbol_is = s }
+          record { made = slice_get_within rows row.number r e; account_is = a; symbol_is = s }
 
-  -- and has it
+-- a row that was made has its number
+pub numbered-made : (rows : List Row) (row : RowNo) → IsMade rows row → is_numbered rows (account_at rows row) (symbol_at rows row) row.number ≡ true
+numbered-made rows row made = by (slice_get rows row.number) refl
+  where
+    by : (o : Option Row) → slice_get rows row.number ≡ o → is_numbered rows (account_at rows row) (symbol_at rows row) row.number ≡ true
+    by None e = let never : None ≡ Some (get_or rows row.number nothing) = sym e ∙ slice_get-get_or rows row.number nothing made in cc
+      where
+        nothing : Row
+        nothing = record { account = record { name = [] }; symbol = record { name = [] }; long = 0; short = 0 }
+    by (Some r) e = rw e (same_place-own r.account r.symbol)
+
+module _ (account : AccountId) (symbol : Symbol) where
+  -- so has the row of an account and an instrument
   pub numbered-row_of : (rows : List Row) (row : RowNo) → IsRowOf rows account symbol row → is_numbered rows account symbol row.number ≡ true
-  numbered-row_of rows row it = (λ i. is_numbered rows (sym it.account_is i) (sym it.symbol_is i) row.number) ∙ it.made
+  numbered-row_of rows row it = (λ i. is_numbered rows (sym it.account_is i) (sym it.symbol_is i) row.number) ∙ numbered-made rows row it.made
 
 -- and when one of them is changed
 pub numbered-changed : (account : AccountId) (symbol : Symbol) (g : Row → Row) (keeps : (r : Row) → ((g r).account ≡ r.account) × ((g r).symbol ≡ r.symbol))

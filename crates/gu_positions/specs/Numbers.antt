@@ -1,5 +1,5 @@
 -- The numbers of rows, in the order in which they were made.
-use Rattle.std.specs.Prelude.{◌≡◌, ℕ, Bool, true, false, List, [], slice_get}
+use Rattle.std.specs.Prelude.{◌≡◌, ◌<◌, ℕ, Bool, false, List, [], length, slice_get}
 use Rattle.std.specs.Option.{option_map_or}
 use Rattle.gu_terms.specs.declared.account.AccountId.{AccountId}
 use Rattle.gu_terms.specs.declared.symbol.Symbol.{Symbol}
@@ -18,9 +18,9 @@ account_at rows row = option_map_or (λ (r : Row). r.account) (slice_get rows ro
 abbrev pub symbol_at : List Row → RowNo → Symbol
 symbol_at rows row = option_map_or (λ (r : Row). r.symbol) (slice_get rows row.number) (record { name = [] })
 
--- the row was made, and has its number
+-- the row was made: there are more rows than its number
 abbrev pub IsMade : List Row → RowNo → Type 0
-IsMade rows row = is_numbered rows (account_at rows row) (symbol_at rows row) row.number ≡ true
+IsMade rows row = row.number < length rows
 
 -- the row was made, and is this account's, of this instrument
 pub record IsRowOf (rows : List Row) (account : AccountId) (symbol : Symbol) (row : RowNo) : Type 0 where

@@ -7,27 +7,27 @@ use Rattle.gu_positions.specs.Rows.{has_row, lots_in, lots_on, same_row}
 use Rattle.gu_positions.specs.declared.positions.Positions.TheInside.{Inside}
 use Rattle.gu_positions.proofs.Adding.{enough, few-less, keeps-written, row_of-less, settles}
 use Rattle.gu_positions.proofs.Changed.{has_row-changed, keeps-less, lots_in-with_less, lots_on-with_less}
-use Rattle.gu_positions.proofs.RowNumbers.{has_row-numbered, numbered-changed, numbered-row_of, row_of-numbered, stands}
+use Rattle.gu_positions.proofs.RowNumbers.{has_row-numbered, numbered-changed, numbered-made, numbered-row_of, row_of-numbered, stands}
 use Rattle.gu_positions.proofs.positions.Positions.take_from.Goals as goal
 use Rattle.gu_positions.proofs.positions.Positions.take_from.Goals.{After-settle}
 
 pub held_at-before-requires : goal.held_at-before-requires
 held_at-before-requires c =
-    ((place_of (account_at c.args.self.now c.args.row.now) (symbol_at c.args.self.now c.args.row.now)), stands (account_at c.args.self.now c.args.row.now) (symbol_at c.args.self.now c.args.row.now) c.self.inside.rows.entries c.args.row.now.number (rw c.self.view_is c.requires.made))
+    ((place_of (account_at c.args.self.now c.args.row.now) (symbol_at c.args.self.now c.args.row.now)), stands (account_at c.args.self.now c.args.row.now) (symbol_at c.args.self.now c.args.row.now) c.self.inside.rows.entries c.args.row.now.number (rw c.self.view_is (numbered-made c.args.self.now c.args.row.now c.requires.made)))
 
 pub with_less-after-requires : goal.with_less-after-requires
 with_less-after-requires c =
-    enough c.self.inside c.self.invariant c.args.side (account_at c.args.self.now c.args.row.now) (symbol_at c.args.self.now c.args.row.now) c.args.lots c.held_at-before.result (c.held_at-before.ensures (place_of (account_at c.args.self.now c.args.row.now) (symbol_at c.args.self.now c.args.row.now)) (stands (account_at c.args.self.now c.args.row.now) (symbol_at c.args.self.now c.args.row.now) c.self.inside.rows.entries c.args.row.now.number (rw c.self.view_is c.requires.made))) (rw c.self.view_is c.requires.there)
+    enough c.self.inside c.self.invariant c.args.side (account_at c.args.self.now c.args.row.now) (symbol_at c.args.self.now c.args.row.now) c.args.lots c.held_at-before.result (c.held_at-before.ensures (place_of (account_at c.args.self.now c.args.row.now) (symbol_at c.args.self.now c.args.row.now)) (stands (account_at c.args.self.now c.args.row.now) (symbol_at c.args.self.now c.args.row.now) c.self.inside.rows.entries c.args.row.now.number (rw c.self.view_is (numbered-made c.args.self.now c.args.row.now c.requires.made)))) (rw c.self.view_is c.requires.there)
 
 pub write-requires : goal.write-requires
 write-requires c =
-    ((place_of (account_at c.args.self.now c.args.row.now) (symbol_at c.args.self.now c.args.row.now)), stands (account_at c.args.self.now c.args.row.now) (symbol_at c.args.self.now c.args.row.now) c.self.inside.rows.entries c.args.row.now.number (rw c.self.view_is c.requires.made))
+    ((place_of (account_at c.args.self.now c.args.row.now) (symbol_at c.args.self.now c.args.row.now)), stands (account_at c.args.self.now c.args.row.now) (symbol_at c.args.self.now c.args.row.now) c.self.inside.rows.entries c.args.row.now.number (rw c.self.view_is (numbered-made c.args.self.now c.args.row.now c.requires.made)))
 
 pub settle-requires : goal.settle-requires
 settle-requires c =
     settles c.self.inside c.self.invariant (account_at c.args.self.now c.args.row.now) (symbol_at c.args.self.now c.args.row.now) (less_in c.args.side c.args.lots) (keeps-less c.args.side c.args.lots)
-    c.held_at-before.result c.with_less-after.result (c.held_at-before.ensures (place_of (account_at c.args.self.now c.args.row.now) (symbol_at c.args.self.now c.args.row.now)) (stands (account_at c.args.self.now c.args.row.now) (symbol_at c.args.self.now c.args.row.now) c.self.inside.rows.entries c.args.row.now.number (rw c.self.view_is c.requires.made))) (row_of-less c.args.side c.args.lots c.held_at-before.result c.with_less-after.result c.with_less-after.ensures)
-    (few-less c.self.inside c.self.invariant c.args.side (account_at c.args.self.now c.args.row.now) (symbol_at c.args.self.now c.args.row.now) c.args.lots c.args.row.now.number (rw c.self.view_is c.requires.made) (rw c.self.view_is c.requires.there))
+    c.held_at-before.result c.with_less-after.result (c.held_at-before.ensures (place_of (account_at c.args.self.now c.args.row.now) (symbol_at c.args.self.now c.args.row.now)) (stands (account_at c.args.self.now c.args.row.now) (symbol_at c.args.self.now c.args.row.now) c.self.inside.rows.entries c.args.row.now.number (rw c.self.view_is (numbered-made c.args.self.now c.args.row.now c.requires.made)))) (row_of-less c.args.side c.args.lots c.held_at-before.result c.with_less-after.result c.with_less-after.ensures)
+    (few-less c.self.inside c.self.invariant c.args.side (account_at c.args.self.now c.args.row.now) (symbol_at c.args.self.now c.args.row.now) c.args.lots c.args.row.now.number (rw c.self.view_is (numbered-made c.args.self.now c.args.row.now c.requires.made)) (rw c.self.view_is c.requires.there))
     c.excess.result c.excess-2.result c.excess.ensures c.excess-2.ensures
 
 -- both tables are kept, and the rows are those
@@ -35,10 +35,10 @@ kept : (c : After-settle) → let later : Inside = record { rows = c.write.new.r
     IsKept later × (rows_of later ≡ with_less (rows_of c.self.inside) c.args.side (account_at c.args.self.now c.args.row.now) (symbol_at c.args.self.now c.args.row.now) c.args.lots)
 kept c =
     keeps-written c.self.inside c.self.invariant (account_at c.args.self.now c.args.row.now) (symbol_at c.args.self.now c.args.row.now) (less_in c.args.side c.args.lots) (keeps-less c.args.side c.args.lots)
-    c.held_at-before.result c.with_less-after.result (c.held_at-before.ensures (place_of (account_at c.args.self.now c.args.row.now) (symbol_at c.args.self.now c.args.row.now)) (stands (account_at c.args.self.now c.args.row.now) (symbol_at c.args.self.now c.args.row.now) c.self.inside.rows.entries c.args.row.now.number (rw c.self.view_is c.requires.made))) (row_of-less c.args.side c.args.lots c.held_at-before.result c.with_less-after.result c.with_less-after.ensures)
-    (few-less c.self.inside c.self.invariant c.args.side (account_at c.args.self.now c.args.row.now) (symbol_at c.args.self.now c.args.row.now) c.args.lots c.args.row.now.number (rw c.self.view_is c.requires.made) (rw c.self.view_is c.requires.there))
+    c.held_at-before.result c.with_less-after.result (c.held_at-before.ensures (place_of (account_at c.args.self.now c.args.row.now) (symbol_at c.args.self.now c.args.row.now)) (stands (account_at c.args.self.now c.args.row.now) (symbol_at c.args.self.now c.args.row.now) c.self.inside.rows.entries c.args.row.now.number (rw c.self.view_is (numbered-made c.args.self.now c.args.row.now c.requires.made)))) (row_of-less c.args.side c.args.lots c.held_at-before.result c.with_less-after.result c.with_less-after.ensures)
+    (few-less c.self.inside c.self.invariant c.args.side (account_at c.args.self.now c.args.row.now) (symbol_at c.args.self.now c.args.row.now) c.args.lots c.args.row.now.number (rw c.self.view_is (numbered-made c.args.self.now c.args.row.now c.requires.made)) (rw c.self.view_is c.requires.there))
     c.excess.result c.excess-2.result c.excess.ensures c.excess-2.ensures
-    (record { rows = c.write.new.rows; interests = c.settle.new.interests }) (c.write.ensures.entries (place_of (account_at c.args.self.now c.args.row.now) (symbol_at c.args.self.now c.args.row.now)) (stands (account_at c.args.self.now c.args.row.now) (symbol_at c.args.self.now c.args.row.now) c.self.inside.rows.entries c.args.row.now.number (rw c.self.view_is c.requires.made))) (c.write.ensures.updates (place_of (account_at c.args.self.now c.args.row.now) (symbol_at c.args.self.now c.args.row.now)) (stands (account_at c.args.self.now c.args.row.now) (symbol_at c.args.self.now c.args.row.now) c.self.inside.rows.entries c.args.row.now.number (rw c.self.view_is c.requires.made)))
+    (record { rows = c.write.new.rows; interests = c.settle.new.interests }) (c.write.ensures.entries (place_of (account_at c.args.self.now c.args.row.now) (symbol_at c.args.self.now c.args.row.now)) (stands (account_at c.args.self.now c.args.row.now) (symbol_at c.args.self.now c.args.row.now) c.self.inside.rows.entries c.args.row.now.number (rw c.self.view_is (numbered-made c.args.self.now c.args.row.now c.requires.made)))) (c.write.ensures.updates (place_of (account_at c.args.self.now c.args.row.now) (symbol_at c.args.self.now c.args.row.now)) (stands (account_at c.args.self.now c.args.row.now) (symbol_at c.args.self.now c.args.row.now) c.self.inside.rows.entries c.args.row.now.number (rw c.self.view_is (numbered-made c.args.self.now c.args.row.now c.requires.made))))
     c.settle.ensures.updates c.settle.ensures.stay
 
 pub invariant_of-self : goal.invariant_of-self
@@ -56,13 +56,13 @@ pub returns-clause-lots : goal.returns-clause-lots
 returns-clause-lots c = λ t a s.
     ap (λ rows. lots_in rows t a s) (returns-clause-rows c)
     ∙ lots_in-with_less c.args.self.now c.args.side (account_at c.args.self.now c.args.row.now) (symbol_at c.args.self.now c.args.row.now) c.args.lots
-    (has_row-numbered (account_at c.args.self.now c.args.row.now) (symbol_at c.args.self.now c.args.row.now) c.args.self.now c.args.row.now.number c.requires.made) t a s
+    (has_row-numbered (account_at c.args.self.now c.args.row.now) (symbol_at c.args.self.now c.args.row.now) c.args.self.now c.args.row.now.number (numbered-made c.args.self.now c.args.row.now c.requires.made)) t a s
 
 pub returns-clause-sums : goal.returns-clause-sums
 returns-clause-sums c = λ t s.
     ap (λ rows. lots_on rows t s + lots_at_side c.args.side (symbol_at c.args.self.now c.args.row.now) c.args.lots t s) (returns-clause-rows c)
     ∙ lots_on-with_less c.args.self.now c.args.side (account_at c.args.self.now c.args.row.now) (symbol_at c.args.self.now c.args.row.now) c.args.lots (subst (IsDistinct same_row) c.self.view_is c.self.invariant.once)
-    (has_row-numbered (account_at c.args.self.now c.args.row.now) (symbol_at c.args.self.now c.args.row.now) c.args.self.now c.args.row.now.number c.requires.made) c.requires.there t s
+    (has_row-numbered (account_at c.args.self.now c.args.row.now) (symbol_at c.args.self.now c.args.row.now) c.args.self.now c.args.row.now.number (numbered-made c.args.self.now c.args.row.now c.requires.made)) c.requires.there t s
 
 pub returns-clause-stay : goal.returns-clause-stay
 returns-clause-stay c = λ account symbol row of.
