@@ -6,20 +6,16 @@ use Rattle.gu_terms.specs.declared.entry.Entry.{Entry}
 use Rattle.gu_terms.specs.declared.entry.Entry.TheVariants.{Asked}
 use Rattle.gu_terms.specs.declared.group.Group.{Group}
 use Rattle.gu_terms.specs.declared.reply.Reply.{Reply}
-use Rattle.gu_terms.specs.declared.side.Side.TheVariants.{Buy, Sell}
 use Rattle.gu_ref.specs.Tables.{Tables}
 use Rattle.gu_limits.specs.Limits.{GroupLimit, has_limit, limit_in, used_in}
-use Rattle.gu_positions.specs.Rows.{Row as PositionRow, has_row, lots_in, lots_on}
+use Rattle.gu_positions.specs.Rows.{Row as PositionRow, lots_in, lots_on}
 use Rattle.gu_rules.specs.Legal.{accepts}
 use Rattle.gu_rules.specs.Answer.{answer}
-use Rattle.gu_rules.specs.Orderly.{IsShown}
-use Rattle.gu_rules.specs.Offers.{standing_of}
 use Rattle.gu_rules.proofs.Growing.{legal_push}
-use Rattle.gu_rules.proofs.InOrder.{in_order, nothing-orderly}
-use Rattle.gu_rules.proofs.StillShown.{shown-accepted}
+use Rattle.gu_rules.proofs.InOrder.{nothing-orderly}
 use Rattle.gu_rules.proofs.AcceptedCommands.{is-accepted, refused}
 use Rattle.gu_book.specs.Accepted.{TakesIn}
-use Rattle.gu_book.specs.Beside.{IsAccounted, IsKept, IsKeptLegal, is_kept_give_up}
+use Rattle.gu_book.specs.Beside.{IsKept, IsKeptLegal, is_kept_give_up}
 use Rattle.gu_book.specs.Counted.{AreVersions, version_in}
 use Rattle.gu_book.specs.Effects.{SameAnswers}
 use Rattle.gu_book.specs.declared.totals.GiveUpKey.{GiveUpKey}
@@ -46,13 +42,6 @@ nothing-kept reference totals versions today trades offers give_ups limits posit
       sums = λ side symbol. omega (arith, ap (λ (rs : List PositionRow). lots_on rs side symbol) positions);
     };
   };
-  known = record {
-    reports = rw trades tt;
-    offers = rw offers tt;
-    rows = λ account symbol has. let no : has_row [] account symbol ≡ true = ap (λ (rs : List PositionRow). has_row rs account symbol) (sym positions) ∙ has in cc;
-    even = λ symbol. (λ i. lots_on (positions i) Buy symbol) ∙ sym (λ i. lots_on (positions i) Sell symbol);
-  };
-  shown = rw offers (record { few = λ group. omega arith; agreed = tt });
   counted = record { each = none; days = omega (arith, days) };
 }
 
@@ -77,19 +66,13 @@ still-kept reference history old new kept same =
 
 -- a legal history grows by it
 pub legal-accepted : (reference : Tables) (history : List Entry) (old new : Totals) (before after : Versions) (command : Command) (reply : Reply) → IsKeptLegal reference history old before
-    → length history < 1000000 → MayBeAsked command → reply ≡ answer reference history command → accepts reply ≡ true → TakesIn reference old new command → (IsAccounted reference old → IsAccounted reference new)
+    → length history < 1000000 → MayBeAsked command → reply ≡ answer reference history command → accepts reply ≡ true → TakesIn reference old new command
     → AreVersions (history ++ Asked command reply ∷ []) after → IsKeptLegal reference (history ++ Asked command reply ∷ []) new after
-legal-accepted reference history old new before after command reply kept room asked is accepted takes known counted =
+legal-accepted reference history old new before after command reply kept room asked is accepted takes counted =
     let it = is-accepted reference history command reply room is accepted in
-    let grown : IsKept reference (history ++ Asked command reply ∷ []) new =
-    subst (λ (r : Reply). IsKept reference (history ++ Asked command r ∷ []) new) (sym (is ∙ it.accepted)) (takes history kept.kept it) in
-    let rows = shown-accepted reference history command (in_order history kept.kept.orderly) it (subst (IsShown reference) kept.kept.beside.offers kept.shown) in
     record {
       legal = legal_push reference history (Asked command reply) kept.legal room asked is;
-      kept = grown;
-      known = known kept.known;
-      shown = subst (IsShown reference) (sym grown.beside.offers)
-          (subst (λ (r : Reply). IsShown reference (standing_of (history ++ Asked command r ∷ []))) (sym (is ∙ it.accepted)) rows);
+      kept = subst (λ (r : Reply). IsKept reference (history ++ Asked command r ∷ []) new) (sym (is ∙ it.accepted)) (takes history kept.kept it);
       counted = counted;
     }
 
@@ -102,18 +85,14 @@ legal-denied reference history totals before after command reply kept room asked
     record {
       legal = legal_push reference history (Asked command reply) kept.legal room asked is;
       kept = subst (λ (r : Reply). IsKept reference (history ++ Asked command r ∷ []) totals) (sym one.1) (kept-denied reference history totals command one.0 kept.kept);
-      known = kept.known;
-      shown = kept.shown;
       counted = counted;
     }
 
 -- where nothing was entered, all of it stays
 pub legal-refused : (reference : Tables) (history : List Entry) (old new : Totals) (before after : Versions) → IsKeptLegal reference history old before → SameAnswers old new
-    → (IsAccounted reference old → IsAccounted reference new) → AreVersions history after → IsKeptLegal reference history new after
-legal-refused reference history old new before after kept same known counted = record {
+    → AreVersions history after → IsKeptLegal reference history new after
+legal-refused reference history old new before after kept same counted = record {
   legal = kept.legal;
   kept = still-kept reference history old new kept.kept same;
-  known = known kept.known;
-  shown = subst (IsShown reference) (sym same.offers) kept.shown;
   counted = counted;
 }

@@ -9,13 +9,12 @@ use Rattle.gu_ref.specs.Tables.{Tables}
 use Rattle.gu_flow.specs.Proposals.{ProposedSweep}
 use Rattle.gu_view.specs.View.{GroupView}
 use Rattle.gu_view.specs.declared.view.ViewOffer.{ViewOffer}
-use Rattle.gu_rules.specs.Orderly.{IsShown}
 use Rattle.gu_rules.specs.BookState.{BookState}
 use Rattle.gu_rules.specs.Legal.{StandsLast}
 use Rattle.gu_rules.specs.Sweeps.{IsSweepOf, MaySweep}
 use Rattle.gu_rules.specs.Views.{offers_shown}
 use Rattle.gu_rules.proofs.Growing.{legal_push, stands_last}
-use Rattle.gu_book.specs.Beside.{IsAccounted, IsKeptLegal}
+use Rattle.gu_book.specs.Beside.{IsKeptLegal}
 use Rattle.gu_book.specs.Commits.{IsCurrent, sweep_of}
 use Rattle.gu_book.specs.Counted.{is_touched, version_in}
 use Rattle.gu_book.specs.Effects.{SameAnswers}
@@ -44,13 +43,11 @@ may-move book proposal old mid versions view takes kept current right same made 
 
 -- where an allocation failed, all stays
 pub legal-still : (reference : Tables) (history : List Entry) (old mid : Totals) (old_counts new_counts : Versions) → IsKeptLegal reference history old old_counts → SameAnswers old mid
-    → (IsAccounted reference old → IsAccounted reference mid) → new_counts.days ≡ old_counts.days → ((group : Group) → version_in new_counts group ≡ version_in old_counts group)
+    → new_counts.days ≡ old_counts.days → ((group : Group) → version_in new_counts group ≡ version_in old_counts group)
     → IsKeptLegal reference history mid new_counts
-legal-still reference history old mid old_counts new_counts kept same known days counts = record {
+legal-still reference history old mid old_counts new_counts kept same days counts = record {
   legal = kept.legal;
   kept = still-kept reference history old mid kept.kept same;
-  known = known kept.known;
-  shown = subst (IsShown reference) (sym same.offers) kept.shown;
   counted = versions-same history old_counts new_counts kept.counted days counts;
 }
 
@@ -64,8 +61,6 @@ legal-swept book proposal mid new counts new_counts kept current right moves day
       legal = legal_push book.reference book.history (Swept sweep) kept.legal current.room tt (may-sweep book proposal current right);
       kept = kept-whole book.reference book.history sweep new right.ascending kept.kept.orderly.few (λ side symbol. omega (arith, moves.sums side symbol, kept.kept.beside.sums side symbol))
           (moves.kept book.history sweep kept.kept);
-      known = moves.known kept.known;
-      shown = moves.shown kept.shown;
       counted = versions-push book.history (Swept sweep) counts new_counts (Only proposal.view.group) kept.counted (λ group. refl) touched days;
     }
 

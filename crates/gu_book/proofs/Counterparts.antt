@@ -1,5 +1,5 @@
 -- What a report meets, by the reports with its match id, and what it brings to positions.
-use Rattle.std.proofs.Common.{◌≡◌, ◌+◌, ◌≤◌, Bool, true, false, List, [], ◌∷◌, map, Option, None, Some, unwrap_or, refl, sym, ap, ◌∙◌, arith, subst, inl, inr}
+use Rattle.std.proofs.Common.{◌≡◌, ◌+◌, ◌≤◌, Bool, true, false, List, [], ◌∷◌, Option, None, Some, unwrap_or, refl, sym, ap, ◌∙◌, arith, subst, inl, inr}
 use Rattle.std.specs.Prelude.{if◌then◌else◌}
 use Rattle.std.proofs.lemmas.Bool.{cases_Bool}
 use Rattle.gu_terms.specs.declared.account.AccountId.{AccountId}
@@ -68,13 +68,6 @@ nobody (first ∷ []) report found is met fits =
       | inr miss ↦ let never : true ≡ false = rw miss at fits in cc
     ]
 nobody (first ∷ second ∷ more) report found is met fits = cc
-
--- the accounts of those that wait
-pub account-met : (sides : List Report) (report : Report) (found : Option Terms) (waiting : Terms) → found ≡ Some waiting → found ≡ waiting_of (counterpart_of sides (terms_of report))
-    → waiting.account ∷ [] ≡ map (λ (w : Report). w.account) sides
-account-met sides report found waiting is met =
-    let alone = waits sides report found waiting is met in
-    ap (λ (t : Terms). t.account ∷ []) (sym alone.2) ∙ ap (map (λ (w : Report). w.account)) (sym alone.1)
 
 -- both sides of a trade are held
 pub holds-both : (old made mid new : List Row) (sides : List Report) (report : Report) (found : Option Terms) (waiting : Terms) → found ≡ Some waiting → found ≡ waiting_of (counterpart_of sides (terms_of report)) → KeepsLots old made

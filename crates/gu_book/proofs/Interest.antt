@@ -1,32 +1,44 @@
--- What rows have in all is what the accounts have: the open interest, and the lots of a side.
-use Rattle.std.proofs.Common.{◌≡◌, ℕ, ◌-◌, true, List, [], ◌∷◌, Option, Some, None, find, sum_by, is_some, refl, sym, ◌∙◌}
+-- The open interest by rows is that by accounts.
+use Rattle.std.proofs.Common.{◌≡◌, ℕ, ◌-◌, ◌&&◌, false, List, [], ◌∷◌, Option, Some, None, find, is_some, refl, sym, ap, ◌∙◌, arith}
 use Rattle.std.specs.List.{AllByRecursion, IsDistinct}
 use Rattle.std.specs.Option.{option_map_or}
-use Rattle.gu_terms.proofs.SameNames.{same_account-own, same_symbol-own}
+use Rattle.std.proofs.lemmas.Map.Keys.{IsDistinct-head, IsDistinct-tail}
+use Rattle.gu_terms.proofs.SameNames.{same_account-own, same_account-turned, same_symbol-own, same_symbol-turned}
 use Rattle.gu_terms.specs.Same.{same_account}
 use Rattle.gu_terms.specs.declared.account.AccountId.{AccountId}
-use Rattle.gu_terms.specs.declared.side.Side.{Side}
+use Rattle.gu_terms.specs.declared.entry.Entry.{Entry}
 use Rattle.gu_terms.specs.declared.side.Side.TheVariants.{Buy, Sell}
 use Rattle.gu_terms.specs.declared.symbol.Symbol.{Symbol}
-use Rattle.gu_terms.proofs.Lists.{sum_by-agree}
-use Rattle.gu_ref.specs.Listed.{account_in}
+use Rattle.gu_terms.proofs.Lists.{along, along2, sum_by-agree}
+use Rattle.gu_ref.specs.Reference.{account_row}
+use Rattle.gu_ref.specs.Tables.{Tables}
 use Rattle.gu_ref.specs.declared.accounts.Account.{Account}
-use Rattle.gu_positions.specs.Rows.{Row, has_row, is_of, lots_in, lots_of, lots_on, open_interest_in, same_row}
+use Rattle.gu_positions.specs.Rows.{Row, is_of, lots_in, lots_of, open_interest_in, same_row}
 use Rattle.gu_rules.specs.BookState.{BookState}
-use Rattle.gu_rules.specs.Positions.{LongIsShort, held_of, open_interest_of}
-use Rattle.gu_rules.proofs.Spoken.{either-true}
+use Rattle.gu_rules.specs.Legal.{IsLegal}
+use Rattle.gu_rules.specs.Positions.{held_of, open_interest_of}
 use Rattle.gu_rules.proofs.AccountSums.{over-accounts}
-use Rattle.gu_book.specs.Beside.{IsAccounted, IsBeside}
+use Rattle.gu_rules.proofs.LegalLaws.{unknown-holds-none}
+use Rattle.gu_book.specs.Beside.{IsBeside}
 use Rattle.gu_book.specs.declared.totals.Totals.{Totals}
 
--- each row is of an account that is there
-all-there : (accounts : List Account) (rows : List Row) → ((account : AccountId) (symbol : Symbol) → has_row rows account symbol ≡ true → is_some (account_in accounts account) ≡ true)
-    → AllByRecursion (λ (r : Row). is_some (account_in accounts r.account) ≡ true) rows
-all-there accounts [] known = tt
-all-there accounts (r ∷ rows) known = (
-  known r.account r.symbol (rw (same_account-own r.account, same_symbol-own r.symbol) refl),
-  all-there accounts rows (λ account symbol h. known account symbol (either-true (is_of account symbol r) (has_row rows account symbol) h)),
+-- a row is the one that its account and its instrument find
+found-own : (rows : List Row) → IsDistinct same_row rows → AllByRecursion (λ (r : Row). find (is_of r.account r.symbol) rows ≡ Some r) rows
+found-own [] once = tt
+found-own (first ∷ rows) once = (
+  rw (same_account-own first.account, same_symbol-own first.symbol) refl,
+  along2 (λ (r : Row). same_row first r ≡ false) (λ (r : Row). find (is_of r.account r.symbol) rows ≡ Some r) (λ (r : Row). find (is_of r.account r.symbol) (first ∷ rows) ≡ Some r) rows
+      (λ r apart found.
+      let turned : is_of r.account r.symbol first ≡ same_row first r = λ i. same_account-turned r.account first.account i && same_symbol-turned r.symbol first.symbol i in
+      rw (turned ∙ apart) found)
+      (IsDistinct-head same_row first rows once) (found-own rows (IsDistinct-tail same_row first rows once)),
 )
+
+-- of a row whose account isn't in the reference nothing is long
+none-long : (reference : Tables) (history : List Entry) (totals : Totals) (r : Row) → IsLegal reference history → IsBeside reference history totals → find (is_of r.account r.symbol) totals.positions ≡ Some r
+    → is_some (account_row reference r.account) ≡ false → r.long ≡ 0
+none-long reference history totals r legal beside found none =
+    ap (λ (o : Option Row). option_map_or (lots_of Buy) o 0) (sym found) ∙ beside.positions Buy r.account r.symbol ∙ unknown-holds-none reference history Buy r.account r.symbol legal none
 
 -- what a row has long above what it has short
 abbrev net : Row → ℕ
@@ -42,27 +54,12 @@ net-in rows account symbol = by (find (is_of account symbol) rows)
 
 -- the open interest by rows is that by accounts
 pub interest-is : (book : BookState) (totals : Totals) (symbol : Symbol) → IsDistinct (λ a b. same_account a.account b.account) book.reference.accounts → IsDistinct same_row totals.positions
-    → IsBeside book.reference book.history totals → IsAccounted book.reference totals → open_interest_in totals.positions symbol ≡ open_interest_of book symbol
-interest-is book totals symbol accounts once beside known =
+    → IsLegal book.reference book.history → IsBeside book.reference book.history totals → open_interest_in totals.positions symbol ≡ open_interest_of book symbol
+interest-is book totals symbol accounts once legal beside =
     let rows = totals.positions in
     let all = book.reference.accounts in
-    over-accounts net all rows symbol accounts once (all-there all rows known.rows)
+    over-accounts net all rows symbol accounts once
+    (along (λ (r : Row). find (is_of r.account r.symbol) rows ≡ Some r) (λ (r : Row). is_some (account_row book.reference r.account) ≡ false → net r ≡ 0) rows
+    (λ r found none. omega (arith, none-long book.reference book.history totals r legal beside found none)) (found-own rows once))
     ∙ sum_by-agree (λ (a : Account). option_map_or net (find (is_of a.account symbol) rows) 0) (λ (a : Account). held_of book.history Buy a.account symbol - held_of book.history Sell a.account symbol) all
     (λ a. net-in rows a.account symbol ∙ (λ i. beside.positions Buy a.account symbol i - beside.positions Sell a.account symbol i))
-
--- the lots that the rows have on a side are those that the accounts hold there
-lots-are : (book : BookState) (totals : Totals) (side : Side) (symbol : Symbol) → IsDistinct (λ a b. same_account a.account b.account) book.reference.accounts → IsDistinct same_row totals.positions
-    → IsBeside book.reference book.history totals → IsAccounted book.reference totals
-    → lots_on totals.positions side symbol ≡ sum_by (λ (a : Account). held_of book.history side a.account symbol) book.reference.accounts
-lots-are book totals side symbol accounts once beside known =
-    let rows = totals.positions in
-    let all = book.reference.accounts in
-    over-accounts (lots_of side) all rows symbol accounts once (all-there all rows known.rows)
-    ∙ sum_by-agree (λ (a : Account). lots_in rows side a.account symbol) (λ (a : Account). held_of book.history side a.account symbol) all
-    (λ a. beside.positions side a.account symbol)
-
--- as many are held long as short
-pub long_is_short : (book : BookState) (totals : Totals) → IsDistinct (λ a b. same_account a.account b.account) book.reference.accounts → IsDistinct same_row totals.positions
-    → IsBeside book.reference book.history totals → IsAccounted book.reference totals → LongIsShort book
-long_is_short book totals accounts once beside known symbol =
-    sym (lots-are book totals Buy symbol accounts once beside known) ∙ known.even symbol ∙ lots-are book totals Sell symbol accounts once beside known

@@ -8,7 +8,6 @@ pub mod Counterparts
 pub mod CurrentLemmas
 pub mod CurrentViews
 pub mod DeedLemmas
-pub mod EvenRows
 pub mod Interest
 pub mod KeptDays
 pub mod KeptOffers
@@ -16,7 +15,6 @@ pub mod KeptParts
 pub mod KeptQuiet
 pub mod KeptReports
 pub mod KeptRooms
-pub mod KnownAccounts
 pub mod LimitLemmas
 pub mod Moves
 pub mod SweptMoves

@@ -1,25 +1,22 @@
 -- The takes of a sweep, moved one after another.
-use Rattle.std.proofs.Common.{◌≡◌, ℕ, ◌+◌, ◌<◌, ◌≤◌, ◌++◌, ◌||◌, Bool, true, false, List, [], ◌∷◌, length, take, get_or, slice_index_or, Option, Some, None, Ok, IfSome, is_some, refl, sym, ap, ◌∙◌, arith, append-nil, append_assoc, subst}
-use Rattle.std.specs.List.{AllByRecursion, list_any}
+use Rattle.std.proofs.Common.{◌≡◌, ℕ, ◌+◌, ◌<◌, ◌≤◌, ◌++◌, true, false, List, [], ◌∷◌, length, take, get_or, slice_index_or, Option, Some, None, IfSome, refl, sym, ap, ◌∙◌, arith, append-nil, append_assoc, subst}
+use Rattle.std.specs.List.{AllByRecursion}
 use Rattle.std.specs.Option.{option_and_then, option_map, option_map_or}
 use Rattle.std.proofs.lemmas.List.{map-append, take_more}
 use Rattle.std.proofs.lemmas.List.Sums.{sum_by-cons}
 use Rattle.gu_terms.proofs.Lists.{along, along2}
 use Rattle.gu_terms.proofs.SameNames.{same_group-own}
-use Rattle.gu_terms.specs.Same.{same_account}
 use Rattle.gu_terms.specs.declared.entry.Entry.{Entry}
 use Rattle.gu_terms.specs.declared.entry.SweepEntry.{SweepEntry}
 use Rattle.gu_terms.specs.declared.group.Group.{Group}
 use Rattle.gu_terms.specs.declared.limit_key.LimitKey.{LimitKey}
 use Rattle.gu_terms.specs.declared.offer.Offer.{Offer}
 use Rattle.gu_terms.specs.declared.report.Report.{Report}
-use Rattle.gu_terms.specs.declared.side.Side.TheVariants.{Buy, Sell}
 use Rattle.gu_terms.specs.declared.takes.Take.{Take}
-use Rattle.gu_ref.specs.Reference.{account_row}
 use Rattle.gu_ref.specs.Tables.{Tables}
 use Rattle.gu_limits.specs.Changes.{lots_under}
 use Rattle.gu_limits.specs.Limits.{room_in}
-use Rattle.gu_trades.specs.Reports.{is_by, report_by}
+use Rattle.gu_trades.specs.Reports.{report_by}
 use Rattle.gu_trades.specs.Terms.{terms_of}
 use Rattle.gu_trades.specs.declared.terms.Terms.{Terms}
 use Rattle.gu_offers.specs.Changes.{changed, taken}
@@ -28,24 +25,27 @@ use Rattle.gu_positions.specs.Changes.{KeepsRows}
 use Rattle.gu_positions.specs.Rows.{has_row, lots_in}
 use Rattle.gu_view.specs.View.{offer_of}
 use Rattle.gu_view.specs.declared.view.ViewOffer.{ViewOffer as ShownOffer}
-use Rattle.gu_rules.specs.Orderly.{IsShown}
 use Rattle.gu_rules.specs.Limits.{path_after}
 use Rattle.gu_rules.specs.Sweeps.{part, parts}
 use Rattle.gu_rules.specs.Positions.{report_after}
 use Rattle.gu_rules.proofs.Facts.{IsThere, open-there, row_at-other}
 use Rattle.gu_rules.proofs.InOrder.{in_order}
 use Rattle.gu_rules.proofs.OrderedReports.{all-push}
-use Rattle.gu_rules.proofs.KnownOnes.{all-found}
-use Rattle.gu_rules.proofs.OrderlyLemmas.{all-at}
-use Rattle.gu_rules.proofs.ShownLemmas.{shown-taken}
 use Rattle.gu_rules.proofs.Takers.{part-takes}
-use Rattle.gu_book.specs.Beside.{IsAccounted, IsKept}
-use Rattle.gu_book.specs.Effects.{HoldsMoved, KeepsMade, OnlyRowsOf, SameAnswers, SameEntries, UsesMore}
+use Rattle.gu_book.specs.Beside.{IsKept}
+use Rattle.gu_book.specs.Effects.{HoldsMoved, KeepsMade, SameAnswers, SameEntries, UsesMore}
 use Rattle.gu_book.specs.Moving.{HasRows, MayMove, MovesAll, MovesOne, ShowsPath, given_by, lots_used}
 use Rattle.gu_book.specs.declared.totals.Totals.{Totals}
 use Rattle.gu_book.specs.Deeds.{AreFound}
-use Rattle.gu_book.proofs.Accepting.{key_at, lots-taken, seen-is, some-terms, taken-there}
-use Rattle.gu_book.proofs.KnownAccounts.{known-moved, rows-known, seen-row}
+use Rattle.gu_book.proofs.Accepting.{key_at, lots-taken, seen-is, taken-there}
+
+-- an offer that is seen stands in a row
+pub seen-row : (totals : Totals) (n : ℕ) (offer : Offer) (report : Terms) → AreFound totals n offer report → (row : Row) × (row_at totals.offers n ≡ Some row) × (row.offer ≡ offer)
+seen-row totals n offer report seen = by (row_at totals.offers n) refl seen.shown
+  where
+    by : (found : Option Row) → row_at totals.offers n ≡ found → Some offer ≡ option_map (λ (r : Row). r.offer) found → (row : Row) × (row_at totals.offers n ≡ Some row) × (row.offer ≡ offer)
+    by None e h = cc
+    by (Some row) e h = let same : row.offer ≡ offer = cc in (row, e, same)
 
 -- ---- what is found
 
@@ -119,24 +119,6 @@ has_rows-made old new n offer report same is from to =
 pub has_rows-none : (totals : Totals) (n : ℕ) → given_by totals n ≡ None → HasRows totals n
 has_rows-none totals n none =
     subst (λ (g : Option (Offer × Terms)). IfSome g (λ g. (has_row totals.positions g.1.account g.1.symbol ≡ true) × (has_row totals.positions g.0.account g.1.symbol ≡ true))) (sym none) tt
-
--- their accounts are in the reference
-pub known-way : (reference : Tables) (old new : Totals) (n : ℕ) (offer : Offer) (report : Terms) → Some (offer, report) ≡ given_by old n → SameAnswers old new
-    → OnlyRowsOf old.positions new.positions (report.account ∷ offer.account ∷ []) → IsAccounted reference old → IsAccounted reference new
-known-way reference old new n offer report is same rows known =
-    let seen = given-seen old n offer report is in
-    let one = seen-row old n offer report seen in
-    let mine = subst (λ (o : Offer). is_some (account_row reference o.account) ≡ true) one.2 (all-at (λ (o : Row). is_some (account_row reference o.offer.account) ≡ true) old.offers n one.0 one.1 known.offers) in
-    let behind = some-terms (report_by old.trades offer.firm offer.report) report seen.found in
-    let theirs =
-    subst (λ (t : Terms). is_some (account_row reference t.account) ≡ true) behind.2
-    (all-found (λ (q : Report). is_some (account_row reference q.account) ≡ true) (is_by offer.firm offer.report) old.trades behind.0 known.reports behind.1) in
-    record {
-      reports = subst (AllByRecursion (λ (q : Report). is_some (account_row reference q.account) ≡ true)) (sym same.entries.trades) known.reports;
-      offers = subst (AllByRecursion (λ (o : Row). is_some (account_row reference o.offer.account) ≡ true)) (sym same.offers) known.offers;
-      rows = rows-known reference old.positions new.positions (report.account ∷ offer.account ∷ []) known.rows (theirs, (mine, tt)) rows;
-      even = λ symbol. same.positions.sums Buy symbol ∙ known.even symbol ∙ sym (same.positions.sums Sell symbol);
-    }
 
 -- no answer changes twice
 pub same-on : (one two three : Totals) → SameAnswers one two → SameAnswers two three → SameAnswers one three
@@ -222,16 +204,7 @@ moves-one reference old new shown one_take offer report is may same offers uses 
       kept = λ history sweep kept.
           let f = found-there reference history old one_take.offer kept may.still_open.0 in
           lots-taken reference history old new (part sweep one_take) one_take.offer one_take.lots offer report f.1 f.0 seen (part-takes sweep one_take) same offers uses holds kept f.2 f.3 (omega (arith, f.4, may.left.0));
-      known = known-moved {T = Unit {0}} {E = Unit {0}} reference old new (Ok tt) one_take.offer (taken one_take.lots) offer report seen (λ row. refl) same.trades offers tt (only rows)
-          (λ even symbol. holds.sums Buy symbol ∙ even symbol ∙ sym (holds.sums Sell symbol));
     }
-  where
-    only : KeepsRows old.positions new.positions → OnlyRowsOf old.positions new.positions (report.account ∷ offer.account ∷ [])
-    only rows account symbol has = either-first (has_row old.positions account symbol) (list_any (same_account account) (report.account ∷ offer.account ∷ [])) (sym (rows account symbol) ∙ has)
-      where
-        either-first : (b c : Bool) → b ≡ true → (b || c) ≡ true
-        either-first true c h = refl
-        either-first false c h = cc
 
 -- ---- one take after another
 
@@ -295,8 +268,6 @@ module _ (reference : Tables) (old new : Totals) (one_take : Take) (moves : Move
     kept = λ history sweep kept.
         subst (λ (h : List Entry). IsKept reference h new) (append_assoc history (parts sweep takes) (part sweep one_take ∷ []) ∙ ap (λ (es : List Entry). history ++ es) (sym (map-append (part sweep) takes (one_take ∷ []))))
         (moves.kept (history ++ parts sweep takes) sweep (before.kept history sweep kept));
-    known = λ known. moves.known (before.known known);
-    shown = λ shown. subst (IsShown reference) (sym moves.offers) (shown-taken reference old.offers one_take.offer one_take.lots (before.shown shown));
   }
 
 -- the first of takes that may be moved may be
@@ -320,6 +291,4 @@ pub moves-none : (reference : Tables) (totals : Totals) → MovesAll reference t
 moves-none reference totals = record {
   sums = λ side symbol. refl;
   kept = λ history sweep kept. subst (λ (h : List Entry). IsKept reference h totals) (sym (append-nil history)) kept;
-  known = λ known. known;
-  shown = λ shown. shown;
 }

@@ -76,4 +76,4 @@ whole-more reference history entry totals versions recipients are kept few =
 -- the same, with versions that are counted anew
 pub legal-counted : (reference : Tables) (history : List Entry) (totals : Totals) (before after : Versions) → IsKeptLegal reference history totals before → AreVersions history after
     → IsKeptLegal reference history totals after
-legal-counted reference history totals before after kept counted = record { legal = kept.legal; kept = kept.kept; known = kept.known; shown = kept.shown; counted = counted }
+legal-counted reference history totals before after kept counted = record { legal = kept.legal; kept = kept.kept; counted = counted }

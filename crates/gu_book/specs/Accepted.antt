@@ -4,7 +4,7 @@ use Rattle.gu_terms.specs.declared.command.Command.{Command}
 use Rattle.gu_terms.specs.declared.entry.Entry.{Entry}
 use Rattle.gu_ref.specs.Tables.{Tables}
 use Rattle.gu_rules.specs.Legal.{IsAccepted, accepted_entry}
-use Rattle.gu_book.specs.Beside.{IsAccounted, IsKept}
+use Rattle.gu_book.specs.Beside.{IsKept}
 use Rattle.gu_book.specs.Deeds.{Deed, IsDeedOf}
 use Rattle.gu_book.specs.declared.totals.Totals.{Totals}
 
@@ -28,7 +28,3 @@ TakesIn reference old new command =
 -- so it is for each command that does this
 abbrev pub TakesDeed : Totals → Totals → Deed → Type 0
 TakesDeed old new deed = (reference : Tables) (command : Command) → IsDeedOf reference old command deed → TakesIn reference old new command
-
--- and the accounts of all that is kept are still known
-abbrev pub KeepsAccounts : Totals → Totals → Deed → Type 0
-KeepsAccounts old new deed = (reference : Tables) → MayDo reference old deed → IsAccounted reference old → IsAccounted reference new

@@ -1,6 +1,6 @@
 -- Machinery: what a book keeps beside its history, so that an answer reads none of it.
 use Rattle.std.specs.Prelude.{◌≡◌, ℕ, ◌*◌, ◌≤◌, ◌&&◌, Bool, true, false, zero, suc, nat_lt, List, length, Option, Some, None, is_some}
-use Rattle.std.specs.List.{AllByRecursion, find, list_any}
+use Rattle.std.specs.List.{find, list_any}
 use Rattle.std.specs.Option.{option_and_then, option_map, option_map_or}
 use Rattle.gu_terms.specs.Same.{same_firm, same_id}
 use Rattle.gu_terms.specs.declared.account.AccountId.{AccountId}
@@ -9,15 +9,13 @@ use Rattle.gu_terms.specs.declared.firm.FirmId.{FirmId}
 use Rattle.gu_terms.specs.declared.group.Group.{Group}
 use Rattle.gu_terms.specs.declared.id.Id.{Id}
 use Rattle.gu_terms.specs.declared.limit_key.LimitKey.{LimitKey}
-use Rattle.gu_terms.specs.declared.report.Report.{Report}
 use Rattle.gu_terms.specs.declared.side.Side.{Side}
-use Rattle.gu_terms.specs.declared.side.Side.TheVariants.{Buy, Sell}
 use Rattle.gu_terms.specs.declared.symbol.Symbol.{Symbol}
 use Rattle.gu_terms.specs.declared.refusal.Refusal.TheVariants.{MatchConflict}
 use Rattle.gu_terms.specs.declared.reply.Done.TheVariants.{Reported}
 use Rattle.gu_terms.specs.declared.reply.Reply.{Reply}
 use Rattle.gu_terms.specs.declared.reply.Reply.TheVariants.{Accepted, Denied}
-use Rattle.gu_ref.specs.Reference.{account_row, instrument_row}
+use Rattle.gu_ref.specs.Reference.{instrument_row}
 use Rattle.gu_ref.specs.Tables.{Tables}
 use Rattle.gu_ref.specs.declared.instruments.Instrument.{Instrument}
 use Rattle.gu_limits.specs.Limits.{has_limit, limit_in, room_in, used_in}
@@ -28,13 +26,13 @@ use Rattle.gu_trades.specs.declared.counterpart.Counterpart.TheVariants.{Nobody,
 use Rattle.gu_trades.specs.declared.standing.Standing.{Standing}
 use Rattle.gu_trades.specs.declared.terms.Terms.{Terms}
 use Rattle.gu_offers.specs.Rows.{Row, row_at}
-use Rattle.gu_positions.specs.Rows.{has_row, lots_in, lots_on}
+use Rattle.gu_positions.specs.Rows.{lots_in, lots_on}
 use Rattle.gu_rules.specs.Answer.{State}
 use Rattle.gu_rules.specs.Legal.{IsLegal}
 use Rattle.gu_rules.specs.Limits.{limit_of, limit_set, path_after, use_of}
 use Rattle.gu_rules.specs.Notices.{Register, register_of}
 use Rattle.gu_rules.specs.Offers.{has_give_up, standing_of}
-use Rattle.gu_rules.specs.Orderly.{IsOrderly, IsShown}
+use Rattle.gu_rules.specs.Orderly.{IsOrderly}
 use Rattle.gu_rules.specs.Positions.{held_of}
 use Rattle.gu_rules.specs.Reports.{open_day, reports_of}
 use Rattle.gu_notices.specs.Recipients.{AreRecipients}
@@ -108,19 +106,10 @@ pub record IsKept (reference : Tables) (history : List Entry) (totals : Totals) 
   pub orderly : IsOrderly history
   pub beside : IsBeside reference history totals
 
--- all is accounted for: the accounts of all reports, of all offers and of all positions are in the reference, and of each instrument as many lots are held long as short
-pub record IsAccounted (reference : Tables) (totals : Totals) : Type 0 where
-  pub reports : AllByRecursion (λ (r : Report). is_some (account_row reference r.account) ≡ true) totals.trades
-  pub offers : AllByRecursion (λ (r : Row). is_some (account_row reference r.offer.account) ≡ true) totals.offers
-  pub rows : (account : AccountId) (symbol : Symbol) → has_row totals.positions account symbol ≡ true → is_some (account_row reference account) ≡ true
-  pub even : (symbol : Symbol) → lots_on totals.positions Buy symbol ≡ lots_on totals.positions Sell symbol
-
 -- a legal history, with what is kept beside it
 pub record IsKeptLegal (reference : Tables) (history : List Entry) (totals : Totals) (versions : Versions) : Type 0 where
   pub legal : IsLegal reference history
   pub kept : IsKept reference history totals
-  pub known : IsAccounted reference totals
-  pub shown : IsShown reference totals.offers
   pub counted : AreVersions history versions
 
 -- what is kept, as notices are written by it

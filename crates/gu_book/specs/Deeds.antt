@@ -1,5 +1,5 @@
 -- Machinery: what an accepted command does, with all that was found as it was decided.
-use Rattle.std.specs.Prelude.{◌≡◌, ℕ, true, List, length, Option, Some, Result, Ok, Err, is_some}
+use Rattle.std.specs.Prelude.{◌≡◌, ℕ, true, length, Option, Some, Result, Ok, Err, is_some}
 use Rattle.std.specs.List.{AllByRecursion}
 use Rattle.std.specs.Option.{option_map}
 use Rattle.gu_terms.specs.declared.alloc_reject.AllocReject.{AllocReject}
@@ -9,7 +9,6 @@ use Rattle.gu_terms.specs.declared.day.Day.{Day}
 use Rattle.gu_terms.specs.declared.firm.FirmId.{FirmId}
 use Rattle.gu_terms.specs.declared.group.Group.{Group}
 use Rattle.gu_terms.specs.declared.limit_key.LimitKey.{LimitKey}
-use Rattle.gu_terms.specs.declared.lines.Line.{Line}
 use Rattle.gu_terms.specs.declared.offer.Offer.{Offer}
 use Rattle.gu_terms.specs.declared.refusal.Refusal.{Refusal}
 use Rattle.gu_terms.specs.declared.reply.Done.{Done}
@@ -28,7 +27,7 @@ use Rattle.gu_rules.specs.Answer.{given_up}
 use Rattle.gu_rules.specs.Limits.{path_after}
 use Rattle.gu_rules.specs.Positions.{report_after}
 use Rattle.gu_book.specs.Beside.{state_in, waiting_of}
-use Rattle.gu_book.specs.declared.asked.GiveUpRef.{GiveUpRef}
+use Rattle.gu_book.specs.declared.asked.GiveUpAsked.{GiveUpAsked}
 use Rattle.gu_book.specs.declared.deed.Moved.{Moved}
 use Rattle.gu_book.specs.declared.totals.Totals.{Totals}
 use Rattle.gu_book.specs.declared.versions.Touched.{Touched}
@@ -39,7 +38,7 @@ pub data Deed : Type 0 where
   Opens : (day : Day) → Deed
   SetsLimit : (group : Group) (key : LimitKey) (lots : ℕ) → Deed
   Reports : (report : Report) (waiting : Option Terms) → Deed
-  GivesUp : (asked : GiveUpRef) (group : Group) (first : ℕ) → Deed
+  GivesUp : (asked : GiveUpAsked) (group : Group) (first : ℕ) → Deed
   Claims : (claimed : Moved) → Deed
   Refuses : (number : ℕ) (group : Group) (lots : ℕ) → Deed
   Reverses : (reversed : Moved) → Deed
@@ -97,7 +96,7 @@ pub record MakesReport (totals : Totals) (command : Command) (report : Report) (
   pub met : waiting ≡ waiting_of (counterpart_of (with_match report.match_id totals.trades) (terms_of report))
 
 -- a command gives these lines up, of a report of this group
-pub record GivesLines (reference : Tables) (totals : Totals) (command : Command) (given : GiveUpRef) (group : Group) : Type 0 where
+pub record GivesLines (reference : Tables) (totals : Totals) (command : Command) (given : GiveUpAsked) (group : Group) : Type 0 where
   pub is : command ≡ asked.GiveUp given.firm.now given.id.now given.report.now given.lines.now
   pub group_is : option_map (λ g. g.1) (given_up reference (state_in totals) given.firm.now given.report.now) ≡ Some group
 

@@ -1,14 +1,11 @@
 -- Machinery: what one entry makes of what a book keeps beside its history.
-use Rattle.std.specs.Prelude.{◌≡◌, ℕ, ◌+◌, ◌-◌, ◌≤◌, ◌||◌, true, List, [], ◌∷◌, sum_by}
-use Rattle.std.specs.List.{list_any}
-use Rattle.gu_terms.specs.Same.{same_account}
+use Rattle.std.specs.Prelude.{◌≡◌, ℕ, ◌+◌, ◌-◌, ◌≤◌, true, List, [], ◌∷◌, sum_by}
 use Rattle.gu_terms.specs.declared.account.AccountId.{AccountId}
 use Rattle.gu_terms.specs.declared.group.Group.{Group}
 use Rattle.gu_terms.specs.declared.limit_key.LimitKey.{LimitKey}
 use Rattle.gu_terms.specs.declared.offer.Offer.{Offer}
 use Rattle.gu_terms.specs.declared.report.Report.{Report}
 use Rattle.gu_terms.specs.declared.side.Side.{Side}
-use Rattle.gu_terms.specs.declared.side.Side.TheVariants.{Buy, Sell}
 use Rattle.gu_terms.specs.declared.symbol.Symbol.{Symbol}
 use Rattle.gu_ref.specs.Tables.{Tables}
 use Rattle.gu_limits.specs.Changes.{Charges, Returns, SameLimits}
@@ -28,18 +25,9 @@ abbrev pub made_a_trade : List Report → Report → List Report
 made_a_trade [] report = []
 made_a_trade (waiting ∷ more) report = waiting ∷ report ∷ []
 
--- no account has a row of an instrument that had none, but for these accounts
-abbrev pub OnlyRowsOf : List Row → List Row → List AccountId → Type 0
-OnlyRowsOf old new accounts =
-    (account : AccountId) (symbol : Symbol) → has_row new account symbol ≡ true → (has_row old account symbol || list_any (same_account account) accounts) ≡ true
-
 -- the rows that there were are there
 abbrev pub KeepsMade : List Row → List Row → Type 0
 KeepsMade old new = (account : AccountId) (symbol : Symbol) → has_row old account symbol ≡ true → has_row new account symbol ≡ true
-
--- of each instrument as many lots are held long as short
-abbrev pub IsEven : List Row → Type 0
-IsEven rows = (symbol : Symbol) → lots_on rows Buy symbol ≡ lots_on rows Sell symbol
 
 -- lots of reports are held more
 pub record HoldsMore (old new : List Row) (reports : List Report) : Type 0 where

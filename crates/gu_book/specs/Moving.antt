@@ -23,11 +23,10 @@ use Rattle.gu_positions.specs.Changes.{KeepsRows}
 use Rattle.gu_positions.specs.Rows.{has_row, lots_on}
 use Rattle.gu_view.specs.View.{offer_of}
 use Rattle.gu_view.specs.declared.view.ViewOffer.{ViewOffer as ShownOffer}
-use Rattle.gu_rules.specs.Orderly.{IsShown}
 use Rattle.gu_rules.specs.Limits.{path_after}
 use Rattle.gu_rules.specs.Positions.{report_after}
 use Rattle.gu_rules.specs.Sweeps.{part, parts}
-use Rattle.gu_book.specs.Beside.{IsAccounted, IsKept}
+use Rattle.gu_book.specs.Beside.{IsKept}
 use Rattle.gu_book.specs.Effects.{SameEntries, UsesMore}
 use Rattle.gu_book.specs.declared.totals.Totals.{Totals}
 
@@ -69,11 +68,8 @@ pub record MovesOne (reference : Tables) (old new : Totals) (take : Take) : Type
   pub rows : KeepsRows old.positions new.positions
   pub sums : (side : Side) (symbol : Symbol) → lots_on new.positions side symbol ≡ lots_on old.positions side symbol
   pub kept : (history : List Entry) (sweep : SweepEntry) → IsKept reference history old → IsKept reference (history ++ part sweep take ∷ []) new
-  pub known : IsAccounted reference old → IsAccounted reference new
 
 -- takes were moved, one after another
 pub record MovesAll (reference : Tables) (old new : Totals) (takes : List Take) : Type 0 where
   pub sums : (side : Side) (symbol : Symbol) → lots_on new.positions side symbol ≡ lots_on old.positions side symbol
   pub kept : (history : List Entry) (sweep : SweepEntry) → IsKept reference history old → IsKept reference (history ++ parts sweep takes) new
-  pub known : IsAccounted reference old → IsAccounted reference new
-  pub shown : IsShown reference old.offers → IsShown reference new.offers

@@ -23,7 +23,7 @@ ghost use Rattle.gu_book.specs.Beside.{answer_to_match, group_named_by, some_lot
 ghost use Rattle.gu_book.specs.Deeds.{HaveReports, IsDeedOf, reply_by};
 
 use crate::asked::{
-    Asked, ClaimAsked, GiveUpRef, LimitAsked, OpeningAsked, RefusalAsked, ReportAsked,
+    Asked, ClaimAsked, GiveUpAsked, LimitAsked, OpeningAsked, RefusalAsked, ReportAsked,
     ReversalAsked,
 };
 use crate::deed::{Claim, Closing, LimitChange, Moved, NewOffers, NewReport, Opening, Reversal};
@@ -205,7 +205,7 @@ fn lacks_agreement(reference: &Reference, firm: &FirmId, lines: &[Line]) -> bool
 /// Why lines of a firm's report can't be given up in its group, if they can't.
 fn refusal_of_lines(
     totals: &Totals,
-    asked: GiveUpRef<'_>,
+    asked: GiveUpAsked<'_>,
     given: &(Standing, Group),
     lacks: bool,
 ) -> Option<Refusal>
@@ -229,7 +229,7 @@ fn refusal_of_lines(
     None
 }
 
-impl<'a> Asked for GiveUpRef<'a> {
+impl<'a> Asked for GiveUpAsked<'a> {
     type Does = NewOffers<'a>;
 
     ghost command = { λ a. Command.GiveUp a.firm.now a.id.now a.report.now a.lines.now };

@@ -46,7 +46,7 @@ pub struct ReportAsked<'a> {
 
 /// A give-up.
 #[derive(Clone, Copy)]
-pub struct GiveUpRef<'a> {
+pub struct GiveUpAsked<'a> {
     pub firm: &'a FirmId,
     pub id: &'a Id,
     pub report: &'a Id,
@@ -91,7 +91,7 @@ pub trait Asked {
         ensures deed { IfOk result (λ deed. IsDeedOf reference.now totals.now (command self.now) (Self.Does.does deed)) };
 }
 
-impl<'a> GiveUpRef<'a> {
+impl<'a> GiveUpAsked<'a> {
     /// A firm gives lines of its report up, under this id.
     pub fn new(firm: &'a FirmId, id: &'a Id, report: &'a Id, lines: &'a Lines) -> Self
         ensures firm { result.firm.now ≡ firm.now }
@@ -99,7 +99,7 @@ impl<'a> GiveUpRef<'a> {
         ensures report { result.report.now ≡ report.now }
         ensures lines { result.lines.now ≡ lines.now }
     {
-        GiveUpRef {
+        GiveUpAsked {
             firm,
             id,
             report,

@@ -17,7 +17,7 @@ ghost use Rattle.gu_book.specs.Commits.{IsCurrent, Refuses, sweep_of};
 ghost use Rattle.gu_view.specs.View.{IsNested};
 
 use crate::asked::{
-    Asked, ClaimAsked, GiveUpRef, LimitAsked, OpeningAsked, RefusalAsked, ReportAsked,
+    Asked, ClaimAsked, GiveUpAsked, LimitAsked, OpeningAsked, RefusalAsked, ReportAsked,
     ReversalAsked,
 };
 use crate::current::shows_all;
@@ -199,7 +199,7 @@ impl Book {
                 id,
                 report,
                 lines,
-            } => self.append_asked(command, &GiveUpRef::new(firm, id, report, lines)),
+            } => self.append_asked(command, &GiveUpAsked::new(firm, id, report, lines)),
             Command::Claim { firm, offer } => {
                 self.append_asked(command, &ClaimAsked { firm, offer })
             }
@@ -545,9 +545,8 @@ impl Book {
         // Over the accounts, as many lots of each instrument are held long as short.
         ensures even { LongIsShort self.now }
     {
-        // Shows the prover: what the types of the reference and the positions keep.
+        // Shows the prover: what the type of the reference keeps.
         self.reference.rules();
-        self.totals.positions.rules();
         &self.history
     }
 

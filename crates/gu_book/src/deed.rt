@@ -2,11 +2,11 @@
 
 ghost use Rattle.std.specs.Prelude.{◌≡◌, OnErr, OnOk};
 ghost use Rattle.gu_ref.specs.Tables.{Tables};
-ghost use Rattle.gu_book.specs.Accepted.{KeepsAccounts, MayDo, TakesDeed};
+ghost use Rattle.gu_book.specs.Accepted.{MayDo, TakesDeed};
 ghost use Rattle.gu_book.specs.Deeds.{Claims, Deed as DeedOf, GivesUp, Opens, Refuses, Reports, Reverses, SetsLimit, done_by, touched_by};
 ghost use Rattle.gu_book.specs.Effects.{SameAnswers};
 
-use crate::asked::GiveUpRef;
+use crate::asked::GiveUpAsked;
 use crate::totals::Totals;
 use crate::versions::Touched;
 use gu_limits::PathLimits;
@@ -53,7 +53,7 @@ pub struct NewReport<'a> {
 /// Lines of a report are given up.
 #[derive(Drop)]
 pub struct NewOffers<'a> {
-    pub asked: GiveUpRef<'a>,
+    pub asked: GiveUpAsked<'a>,
     pub group: Group,
     pub first: OfferNo,
 }
@@ -96,8 +96,7 @@ pub trait Deed: Drop {
     fn take_in(&self, totals: &mut Totals) -> Result<(), AllocError>
         requires { (reference : Tables) × MayDo reference totals.old (does self.now) }
         ensures taken { OnOk result (TakesDeed totals.old totals.new (does self.now)) }
-        ensures refused { OnErr result (SameAnswers totals.old totals.new) }
-        ensures known { KeepsAccounts totals.old totals.new (does self.now) };
+        ensures refused { OnErr result (SameAnswers totals.old totals.new) };
 }
 
 impl Deed for Opening {

@@ -5,7 +5,6 @@ ghost use Rattle.std.specs.List.{AllByRecursion};
 ghost use Rattle.gu_terms.specs.Histories.{lots_swept};
 ghost use Rattle.gu_ref.specs.Tables.{Tables};
 ghost use Rattle.gu_rules.specs.Sweeps.{IsSweepOf};
-ghost use Rattle.gu_book.specs.Beside.{IsAccounted};
 ghost use Rattle.gu_book.specs.Effects.{KeepsMade, SameAnswers};
 ghost use Rattle.gu_book.specs.Commits.{sweep_of};
 ghost use Rattle.gu_book.specs.Moving.{HasRows, MayMove, MovesAll, MovesOne};
@@ -91,7 +90,6 @@ fn make_way(totals: &mut Totals, number: OfferNo) -> Result<(), AllocError>
     ensures rows { OnOk result (HasRows totals.new number) }
     ensures stay { KeepsMade totals.old.positions totals.new.positions }
     ensures same { SameAnswers totals.old totals.new }
-    ensures known { (reference : Tables) → IsAccounted reference totals.old → IsAccounted reference totals.new }
 {
     match totals.given(number) {
         Some((offer, report)) => {
@@ -106,7 +104,6 @@ fn make_way(totals: &mut Totals, number: OfferNo) -> Result<(), AllocError>
 pub fn make_ways(totals: &mut Totals, takes: &[Take]) -> Result<(), AllocError>
     ensures rows { OnOk result (AllByRecursion (λ t. HasRows totals.new t.offer) takes.now) }
     ensures same { SameAnswers totals.old totals.new }
-    ensures known { (reference : Tables) → IsAccounted reference totals.old → IsAccounted reference totals.new }
 {
     for take in takes {
         make_way(totals, take.offer)?;

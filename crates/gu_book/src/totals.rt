@@ -5,7 +5,7 @@ ghost use Rattle.indexmap.specs.IndexSet.{hasher_of};
 ghost use Rattle.gu_limits.specs.Changes.{Charges, MayCharge, MayReturn, Returns, Sets};
 ghost use Rattle.gu_offers.specs.Changes.{changed, closed, next_day, reversed, taken, with_lines};
 ghost use Rattle.gu_offers.specs.Rows.{left_in, row_at, today_in};
-ghost use Rattle.gu_positions.specs.Changes.{KeepsLots, KeepsNumbers, KeepsRows, lots_at, lots_at_side};
+ghost use Rattle.gu_positions.specs.Changes.{KeepsLots, KeepsNumbers, KeepsRows, lots_at};
 ghost use Rattle.gu_positions.specs.Numbers.{IsRowOf};
 ghost use Rattle.gu_positions.specs.Rows.{has_row, lots_in, lots_on};
 ghost use Rattle.gu_terms.specs.declared.account.AccountId.{AccountId as AccountOf};
@@ -17,10 +17,10 @@ ghost use Rattle.gu_trades.specs.Reports.{has_report, report_by, with_match};
 ghost use Rattle.gu_trades.specs.Terms.{terms_of};
 ghost use Rattle.gu_rules.specs.Reports.{Fits};
 ghost use Rattle.gu_book.specs.Beside.{is_kept_give_up, waiting_of};
-ghost use Rattle.gu_book.specs.Effects.{HoldsMore, HoldsMoved, IsEven, KeepsMade, OnlyRowsOf, SameAnswers, SameEntries, UsesNothing, made_a_trade};
+ghost use Rattle.gu_book.specs.Effects.{HoldsMore, HoldsMoved, KeepsMade, SameAnswers, SameEntries, UsesNothing, made_a_trade};
 ghost use Rattle.gu_book.specs.Moving.{given_by};
 
-use crate::asked::GiveUpRef;
+use crate::asked::GiveUpAsked;
 use crate::deed::Moved;
 use gu_limits::LimitTable;
 use gu_offers::Offers;
@@ -145,9 +145,6 @@ impl Totals {
         ensures limits { self.new.limits ≡ self.old.limits }
         ensures positions { OnOk result (HoldsMore self.old.positions self.new.positions
             (made_a_trade (with_match report.now.match_id self.old.trades) report.now)) }
-        ensures even { IsEven self.old.positions → IsEven self.new.positions }
-        ensures rows { OnlyRowsOf self.old.positions self.new.positions
-            (report.now.account ∷ map (λ w. w.account) (with_match report.now.match_id self.old.trades)) }
         ensures refused { OnErr result (SameAnswers self.old self.new) }
     {
         let Some(waiting) = waiting else {
@@ -167,7 +164,7 @@ impl Totals {
     }
 
     /// Lines of a report are given up.
-    pub fn give_up(&mut self, asked: &GiveUpRef<'_>, group: &Group) -> Result<(), AllocError>
+    pub fn give_up(&mut self, asked: &GiveUpAsked<'_>, group: &Group) -> Result<(), AllocError>
         requires new_id { is_kept_give_up self.old.give_ups.keys asked.now.firm.now asked.now.id.now ≡ false }
         requires numbers { length self.old.offers + length asked.now.lines.now ≤ 16000000 }
         ensures today { self.new.today ≡ self.old.today }
@@ -208,7 +205,6 @@ impl Totals {
         ensures one { IfOk result (λ rows. IsRowOf self.new.positions report.now.account report.now.symbol rows.0) }
         ensures two { IfOk result (λ rows. IsRowOf self.new.positions account.now report.now.symbol rows.1) }
         ensures stay { KeepsMade self.old.positions self.new.positions }
-        ensures rows { OnlyRowsOf self.old.positions self.new.positions (report.now.account ∷ account.now ∷ []) }
         ensures same { SameAnswers self.old self.new }
     {
         make_rows(
@@ -251,8 +247,6 @@ impl Totals {
             → Charges self.old.limits self.new.limits claimed.now.group keys claimed.now.lots) }
         ensures positions { OnOk result
             (HoldsMoved self.old.positions self.new.positions claimed.now.report claimed.now.report.account claimed.now.account claimed.now.lots) }
-        ensures even { IsEven self.old.positions → IsEven self.new.positions }
-        ensures rows { OnlyRowsOf self.old.positions self.new.positions (claimed.now.report.account ∷ claimed.now.account ∷ []) }
         ensures refused { OnErr result (SameAnswers self.old self.new) }
     {
         let rows = self.make_way(&claimed.account, &claimed.report)?;
@@ -275,8 +269,6 @@ impl Totals {
             → Returns self.old.limits self.new.limits returned.now.group keys returned.now.lots) }
         ensures positions { OnOk result
             (HoldsMoved self.old.positions self.new.positions returned.now.report returned.now.account returned.now.report.account returned.now.lots) }
-        ensures even { IsEven self.old.positions → IsEven self.new.positions }
-        ensures rows { OnlyRowsOf self.old.positions self.new.positions (returned.now.report.account ∷ returned.now.account ∷ []) }
         ensures refused { OnErr result (SameAnswers self.old self.new) }
     {
         let rows = self.make_way(&returned.account, &returned.report)?;
@@ -300,7 +292,6 @@ fn make_rows(
     ensures second { IfOk result (λ rows. IsRowOf positions.new two.entry.0.now two.entry.1.now rows.1) }
     ensures stay { KeepsMade positions.old positions.new }
     ensures same_lots { KeepsLots positions.old positions.new }
-    ensures rows { OnlyRowsOf positions.old positions.new (one.entry.0.now ∷ two.entry.0.now ∷ []) }
 {
     let first = positions.make_row(one.0, one.1)?;
     let second = positions.make_row(two.0, two.1)?;
@@ -337,8 +328,6 @@ fn hold(positions: &mut Positions, row: &RowNo, report: &Terms)
     ensures lots { (on : SideOf) (other : AccountOf) (another : SymbolOf) → lots_in positions.new on other another
         ≡ lots_in positions.old on other another + lots_at report.now.side report.now.account report.now.symbol report.now.lots on other another }
     ensures sums { (on : SideOf) (another : SymbolOf) → lots_on positions.new on another ≤ lots_on positions.old on another + 1000000 }
-    ensures added { (on : SideOf) (another : SymbolOf) → lots_on positions.new on another
-        ≡ lots_on positions.old on another + lots_at_side report.now.side report.now.symbol report.now.lots on another }
     ensures most { report.now.lots ≤ 1000000 }
     ensures stay { KeepsNumbers positions.old positions.new }
 {

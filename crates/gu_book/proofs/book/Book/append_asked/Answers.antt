@@ -57,10 +57,8 @@ invariant_of-self-in_err-push_asked g c =
 pub invariant_of-self-in-Err-take_in : goal.invariant_of-self-in-Err-take_in
 invariant_of-self-in-Err-take_in g c =
     let old = c.self.inside in
-    let may =
-    may-do g.A.Does.Deed.does old.reference old.history old.totals c.args.command.now (g.A.Asked.command c.args.asked.now) c.decide.result c.in-Ok.deed c.requires.same c.self.invariant.entries.kept (rw (sym c.self.view_is) at c.requires.room) c.in-Ok.is c.decide.ensures.reply c.in-Ok.ensures.deed in
     let kept =
-    legal-refused old.reference old.history old.totals c.take_in.new.totals old.versions c.know.new.versions c.self.invariant.entries c.in-Err-take_in.ensures.refused (c.take_in.ensures.known old.reference may.1.0)
+    legal-refused old.reference old.history old.totals c.take_in.new.totals old.versions c.know.new.versions c.self.invariant.entries c.in-Err-take_in.ensures.refused
     (versions-same old.history old.versions c.know.new.versions c.self.invariant.entries.counted c.know.ensures.days c.know.ensures.same) in
     let back = truncated old.history (Asked c.args.command.now c.reply.result) c.len-count.result c.push_asked.new.self c.truncate.new.self c.len-count.ensures c.in_ok-push_asked.ensures.added c.truncate.ensures in
     subst (λ (history : List Entry). IsKeptWhole old.reference history c.take_in.new.totals c.know.new.versions old.recipients.items) (sym back)
@@ -82,7 +80,7 @@ invariant_of-self-2 g c =
     c.touch.ensures.touched c.touch.ensures.days in
     let kept =
     legal-accepted old.reference old.history old.totals c.take_in.new.totals old.versions c.touch.new.versions command reply c.self.invariant.entries room c.rules.ensures may.0 refl
-    (c.in_default.ensures.taken old.reference command may.1.1) (c.take_in.ensures.known old.reference may.1.0) counted in
+    (c.in_default.ensures.taken old.reference command may.1.1) counted in
     let whole = whole-more old.reference old.history entry c.take_in.new.totals c.touch.new.versions old.recipients.items c.self.invariant.told kept (λ id. few_sides _ (c.rules-2.ensures.sound.sides id)) in
     rw (c.in_ok-push_asked.ensures.added, c.reply.ensures) whole
 

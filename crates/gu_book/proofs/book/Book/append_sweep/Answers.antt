@@ -23,7 +23,7 @@ pub invariant_of-self-in_err-make_ways : goal.invariant_of-self-in_err-make_ways
 invariant_of-self-in_err-make_ways c =
     let old = c.self.inside in
     record {
-      entries = legal-still old.reference old.history old.totals c.make_ways.new.totals old.versions c.know.new.versions c.self.invariant.entries c.make_ways.ensures.same (c.make_ways.ensures.known old.reference)
+      entries = legal-still old.reference old.history old.totals c.make_ways.new.totals old.versions c.know.new.versions c.self.invariant.entries c.make_ways.ensures.same
           c.know.ensures.days c.know.ensures.same;
       told = c.self.invariant.told;
     }
@@ -32,7 +32,7 @@ pub invariant_of-self-in_err-push_swept : goal.invariant_of-self-in_err-push_swe
 invariant_of-self-in_err-push_swept c =
     let old = c.self.inside in
     let kept =
-    legal-still old.reference old.history old.totals c.make_ways.new.totals old.versions c.know.new.versions c.self.invariant.entries c.make_ways.ensures.same (c.make_ways.ensures.known old.reference)
+    legal-still old.reference old.history old.totals c.make_ways.new.totals old.versions c.know.new.versions c.self.invariant.entries c.make_ways.ensures.same
     c.know.ensures.days c.know.ensures.same in
     subst (λ (history : List Entry). IsKeptWhole old.reference history c.make_ways.new.totals c.know.new.versions old.recipients.items) (sym c.in_err-push_swept.ensures.refused)
     (record { entries = kept; told = c.self.invariant.told })
@@ -61,7 +61,7 @@ invariant_of-self-2 c =
     let proposal = c.args.proposal.now in
     let current = subst (λ (k : BookState). IsCurrent k proposal.view) (sym c.self.view_is) c.requires.current in
     let still =
-    legal-still old.reference old.history old.totals c.make_ways.new.totals old.versions c.know.new.versions c.self.invariant.entries c.make_ways.ensures.same (c.make_ways.ensures.known old.reference) c.know.ensures.days
+    legal-still old.reference old.history old.totals c.make_ways.new.totals old.versions c.know.new.versions c.self.invariant.entries c.make_ways.ensures.same c.know.ensures.days
     c.know.ensures.same in
     let made = subst (AllByRecursion (λ (t : Take). HasRows c.make_ways.new.totals t.offer)) (c.as_slice.ensures.takes ∙ c.takes.ensures.takes) c.in_ok-make_ways.ensures.rows in
     let takes = c.as_slice-2.ensures.takes ∙ c.takes-2.ensures.takes in

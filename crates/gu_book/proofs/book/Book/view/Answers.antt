@@ -1,6 +1,8 @@
-use Rattle.std.proofs.Common.{◌+◌, ◌<◌, ◌^◌, ◌∙◌, ap, arith}
+use Rattle.std.proofs.Common.{◌+◌, ◌<◌, ◌^◌, ◌∙◌, ap, arith, subst, sym}
 use Rattle.gu_rules.specs.BookState.{BookState}
+use Rattle.gu_rules.specs.Orderly.{IsShown}
 use Rattle.gu_rules.specs.Views.{group_view}
+use Rattle.gu_rules.proofs.LegalOrder.{legal_ordered}
 use Rattle.gu_book.specs.Counted.{version_in}
 use Rattle.gu_book.proofs.BookViews.{view-is}
 use Rattle.gu_book.proofs.CountedLemmas.{versions-fit}
@@ -11,6 +13,11 @@ view_of-requires-clause-version c =
     let old = c.self.inside in
     let fits : version_in old.versions c.args.group.now + 1 < 2 ^ 64 = versions-fit old.history old.versions c.self.invariant.entries.counted c.self.invariant.entries.legal.within c.args.group.now in
     omega (arith, fits)
+
+pub view_of-requires-clause-few : goal.view_of-requires-clause-few
+view_of-requires-clause-few c =
+    let old = c.self.inside in
+    subst (IsShown old.reference) (sym c.self.invariant.entries.kept.beside.offers) (legal_ordered old.reference old.history c.self.invariant.entries.legal).shown
 
 pub returns-clause-view : goal.returns-clause-view
 returns-clause-view c =

@@ -1,10 +1,5 @@
-use Rattle.std.proofs.Common.{[], ◌∷◌, refl, subst}
-use Rattle.gu_terms.specs.declared.account.AccountId.{AccountId}
-use Rattle.gu_offers.specs.Changes.{taken}
 use Rattle.gu_rules.specs.Limits.{path_after}
-use Rattle.gu_book.specs.Effects.{OnlyRowsOf}
 use Rattle.gu_book.proofs.Accepting.{claim-fits, claim-taken, on_ok_three}
-use Rattle.gu_book.proofs.KnownAccounts.{known-moved}
 use Rattle.gu_book.proofs.deed.ClaimDeed.take_in.Goals as goal
 
 pub claim-requires-clause-room : goal.claim-requires-clause-room
@@ -23,11 +18,3 @@ returns-clause-taken c =
     let new = c.claim.new.self in
     let e = c.claim.ensures in
     on_ok_three c.claim.result (λ offers limits positions reference command is. claim-taken reference old new command c.args.self.now.claimed is e.entries offers limits positions) e.offers e.limits e.positions
-
-pub returns-clause-known : goal.returns-clause-known
-returns-clause-known c reference may =
-    let old = c.args.totals.now in
-    let moved = c.args.self.now.claimed in
-    let e = c.claim.ensures in
-    known-moved reference old c.claim.new.self c.claim.result moved.number (taken moved.lots) may.is.offer moved.report may.is.seen (λ row. refl)
-    e.entries.trades e.offers e.refused (subst (λ (account : AccountId). OnlyRowsOf old.positions c.claim.new.self.positions (moved.report.account ∷ account ∷ [])) may.is.account_is e.rows) e.even

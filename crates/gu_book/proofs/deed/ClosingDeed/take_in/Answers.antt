@@ -1,8 +1,6 @@
 use Rattle.std.proofs.Common.{refl, subst, sym}
-use Rattle.gu_offers.specs.Changes.{closed}
 use Rattle.gu_book.specs.Accepted.{TakesIn}
 use Rattle.gu_book.proofs.Accepting.{refusal-taken}
-use Rattle.gu_book.proofs.KnownAccounts.{known-refused}
 use Rattle.gu_book.proofs.deed.ClosingDeed.take_in.Goals as goal
 
 pub returns-clause-taken : goal.returns-clause-taken
@@ -11,8 +9,3 @@ returns-clause-taken c reference command is =
     let new = record old { offers = c.close.new.self } in
     subst (TakesIn reference old new) (sym is.is)
     (refusal-taken reference old new c.args.self.now.number (record { today = refl; trades = refl; give_ups = refl }) c.close.ensures refl refl is.firm is.why)
-
-pub returns-clause-known : goal.returns-clause-known
-returns-clause-known c reference may =
-    let old = c.args.totals.now in
-    known-refused reference old (record old { offers = c.close.new.self }) c.args.self.now.number closed (λ row. refl) refl c.close.ensures refl

@@ -1,7 +1,6 @@
 use Rattle.std.proofs.Common.{subst, sym}
 use Rattle.gu_book.specs.Accepted.{MayTakeIn, TakesIn}
 use Rattle.gu_book.proofs.Accepting.{on_ok_two}
-use Rattle.gu_book.proofs.KnownAccounts.{known-given_up}
 use Rattle.gu_book.proofs.TakenIn.{give_up-numbers, give_up-taken, group-given}
 use Rattle.gu_book.proofs.deed.NewOffersDeed.take_in.Goals as goal
 
@@ -24,10 +23,3 @@ returns-clause-taken c =
     subst (TakesIn reference old new) (sym is.is)
     (give_up-taken reference old new at.asked.firm.now at.asked.id.now at.asked.report.now at.asked.lines.now given.0 at.group c.as_slice.ensures.sound.most given.1 e.today e.trades e.limits e.positions give_ups offers))
     e.give_ups e.offers
-
-pub returns-clause-known : goal.returns-clause-known
-returns-clause-known c reference may =
-    let old = c.args.totals.now in
-    let at = c.args.self.now in
-    let e = c.give_up.ensures in
-    known-given_up reference old c.give_up.new.self at.asked.firm.now at.asked.id.now at.asked.report.now at.asked.lines.now at.group c.give_up.result (subst (MayTakeIn reference old) may.is.is may.may) e.trades e.positions e.offers e.refused

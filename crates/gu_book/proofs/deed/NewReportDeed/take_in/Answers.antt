@@ -1,8 +1,5 @@
-use Rattle.std.proofs.Common.{subst}
-use Rattle.gu_book.specs.Accepted.{MayTakeIn}
 use Rattle.gu_book.proofs.Accepting.{on_ok_two}
 use Rattle.gu_book.proofs.DeedLemmas.{made-fits, made-taken}
-use Rattle.gu_book.proofs.KnownAccounts.{known-reported}
 use Rattle.gu_book.proofs.deed.NewReportDeed.take_in.Goals as goal
 
 pub report-requires-clause-fits : goal.report-requires-clause-fits
@@ -17,12 +14,3 @@ returns-clause-taken c =
     let at = c.args.self.now in
     let e = c.report.ensures in
     on_ok_two c.report.result (λ trades positions reference command is. made-taken reference old new command at.report at.waiting is e.today e.give_ups e.offers e.limits trades positions) e.trades e.positions
-
-pub returns-clause-known : goal.returns-clause-known
-returns-clause-known c reference may =
-    let old = c.args.totals.now in
-    let r = c.args.self.now.report in
-    let e = c.report.ensures in
-    let is = may.is in
-    known-reported reference r.firm r.id r.match_id r.symbol r.lots r.price is.day r.side r.account r.day old c.report.new.self c.report.result is.today
-    (subst (MayTakeIn reference old) is.is may.may) e.offers e.trades e.refused e.rows e.even

@@ -1,6 +1,5 @@
 use Rattle.std.proofs.Common.{subst, sym}
 use Rattle.gu_book.specs.Accepted.{TakesIn}
-use Rattle.gu_book.proofs.KnownAccounts.{known-opened}
 use Rattle.gu_book.proofs.TakenIn.{opening-taken}
 use Rattle.gu_book.proofs.deed.OpeningDeed.take_in.Goals as goal
 
@@ -10,6 +9,3 @@ returns-clause-taken c reference command is =
     let new = c.open.new.self in
     let e = c.open.ensures in
     subst (TakesIn reference old new) (sym is) (opening-taken reference old new c.args.self.now.day e.today e.trades e.give_ups e.offers e.limits e.positions)
-
-pub returns-clause-known : goal.returns-clause-known
-returns-clause-known c reference may = known-opened reference c.args.totals.now c.open.new.self c.open.ensures.trades c.open.ensures.offers c.open.ensures.positions

@@ -1,10 +1,5 @@
-use Rattle.std.proofs.Common.{[], ◌∷◌, refl, subst}
-use Rattle.gu_terms.specs.declared.account.AccountId.{AccountId}
-use Rattle.gu_offers.specs.Changes.{reversed}
 use Rattle.gu_rules.specs.Limits.{path_after}
-use Rattle.gu_book.specs.Effects.{OnlyRowsOf}
 use Rattle.gu_book.proofs.Accepting.{reversal-fits, reversal-taken, on_ok_three}
-use Rattle.gu_book.proofs.KnownAccounts.{known-moved}
 use Rattle.gu_book.proofs.deed.ReversalDeed.take_in.Goals as goal
 
 pub reverse-requires-clause-used : goal.reverse-requires-clause-used
@@ -23,11 +18,3 @@ returns-clause-taken c =
     let new = c.reverse.new.self in
     let e = c.reverse.ensures in
     on_ok_three c.reverse.result (λ offers limits positions reference command is. reversal-taken reference old new command c.args.self.now.reversed is e.entries offers limits positions) e.offers e.limits e.positions
-
-pub returns-clause-known : goal.returns-clause-known
-returns-clause-known c reference may =
-    let old = c.args.totals.now in
-    let moved = c.args.self.now.reversed in
-    let e = c.reverse.ensures in
-    known-moved reference old c.reverse.new.self c.reverse.result moved.number reversed may.is.offer moved.report may.is.seen (λ row. refl)
-    e.entries.trades e.offers e.refused (subst (λ (account : AccountId). OnlyRowsOf old.positions c.reverse.new.self.positions (moved.report.account ∷ account ∷ [])) may.is.account_is e.rows) e.even

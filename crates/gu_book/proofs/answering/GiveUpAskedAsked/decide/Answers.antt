@@ -8,7 +8,7 @@ use Rattle.gu_rules.specs.Answer.{given_up, has_unknown_account, lacks_agreement
 use Rattle.gu_rules.proofs.Passing.{standing_in, standing_none}
 use Rattle.gu_book.specs.Beside.{is_kept_give_up, state_in}
 use Rattle.gu_book.proofs.TakenIn.{standing-given, standing-none}
-use Rattle.gu_book.proofs.answering.GiveUpRefAsked.decide.Goals as goal
+use Rattle.gu_book.proofs.answering.GiveUpAskedAsked.decide.Goals as goal
 
 pub has_unknown_account_without-requires : goal.has_unknown_account_without-requires
 has_unknown_account_without-requires c = (
