@@ -18,6 +18,7 @@ use std::alloc::{AllocError, Global};
 use std::marker::Model;
 
 /// Does what a line says, and appends its text.
+#[inline(always)]
 fn answer_line(world: &mut World, said: &Line, output: &mut Vec<u8>) -> Result<(), AllocError>
     ensures { OnOk result (AnswersLine world.old said.now output.old.items world.new output.new.items) }
 {
@@ -98,6 +99,7 @@ impl Script {
     }
 
     /// Does what the line says that the rest was, which is done with it.
+    #[inline(always)]
     fn answer(&mut self, said: &Option<Line>, output: &mut Vec<u8>) -> Result<(), AllocError>
         requires { self.old.count + 1 < 2 ^ 64 }
         ensures answered { OnOk result (AnswersSaid self.old.course said.now output.old.items self.new.course output.new.items) }
@@ -112,8 +114,13 @@ impl Script {
         }
     }
 
-    /// Answers a line that an LF ends: the rest, and what comes before the LF.
-    fn end_line(&mut self, part: &[u8], output: &mut Vec<u8>) -> Result<(), TextError>
+    /// Answers a line that an LF ends: the rest, and what comes before the LF. What it says is read over what the last line said.
+    fn end_line(
+        &mut self,
+        part: &[u8],
+        said: &mut Option<Line>,
+        output: &mut Vec<u8>,
+    ) -> Result<(), TextError>
         requires room { self.old.count + 1 < 2 ^ 64 }
         requires none { HasNoLineFeed part.now }
         ensures answered { OnOk result (AnswersLines self.old.course (strip_carriage_return (self.old.rest ++ part.now) ∷ [])
@@ -125,10 +132,8 @@ impl Script {
     {
         extend_begun(&mut self.rest, part)?;
         let line = without_return(whole_line(&self.rest, part));
-        let said = Line::read(self.alloc, line, self.count + 1)?;
-        let answered = self.answer(&said, output);
-        drop(said);
-        answered?;
+        Line::read_over(said, self.alloc, line, self.count + 1)?;
+        self.answer(said, output)?;
         Ok(())
     }
 
@@ -154,9 +159,10 @@ impl Script {
     {
         // Shows the prover: how long what waits may be.
         let _waiting = self.rest.len();
+        let mut said = None;
         let mut left = piece;
         'lines: while let Some((part, after)) = split_at_line_feed(left) {
-            self.end_line(part, output)?;
+            self.end_line(part, &mut said, output)?;
             left = after;
         }
         self.keep(left)

@@ -2,7 +2,7 @@
 
 ghost use Rattle.std.specs.Prelude.{◌≡◌, ◌++◌, None, OnOk};
 ghost use Rattle.gu_world.specs.declared.outcome.Outcome.TheVariants.{NoGroup};
-ghost use Rattle.gu_world.specs.declared.step.Step.TheVariants.{Commit, Enter};
+ghost use Rattle.gu_world.specs.declared.step.Step.TheVariants.{Commit, Enter, Propose, See};
 ghost use Rattle.gu_text.specs.Outcomes.{outcome_text};
 ghost use Rattle.gu_text.specs.declared.script_line.Line.TheVariants as line;
 ghost use Rattle.gu_script.specs.Replaying.{looked, sweeper};
@@ -75,6 +75,32 @@ fn answer_command(
     }
 }
 
+/// Has a worker look at a group, and appends what it saw. (This and `answer_proposal` are functions of their own, so that no other line
+/// clears room for their steps.)
+#[inline(never)]
+fn answer_look(
+    world: &mut World,
+    worker: Worker,
+    group: Group,
+    output: &mut Vec<u8>,
+) -> Result<(), AllocError>
+    ensures { OnOk result (AnswersStep world.old (See worker group) output.old.items world.new output.new.items) }
+{
+    answer_step(world, Step::See(worker, group), output)
+}
+
+/// Has a worker propose, and appends what came of it.
+#[inline(never)]
+fn answer_proposal(
+    world: &mut World,
+    worker: Worker,
+    output: &mut Vec<u8>,
+) -> Result<(), AllocError>
+    ensures { OnOk result (AnswersStep world.old (Propose worker) output.old.items world.new output.new.items) }
+{
+    answer_step(world, Step::Propose(worker), output)
+}
+
 /// Takes a borrowed step, and appends what came of it. A command isn't copied.
 pub fn answer_borrowed(
     world: &mut World,
@@ -85,8 +111,8 @@ pub fn answer_borrowed(
 {
     match step {
         Step::Enter(command) => answer_command(world, command, output),
-        Step::See(worker, group) => answer_step(world, Step::See(*worker, *group), output),
-        Step::Propose(worker) => answer_step(world, Step::Propose(*worker), output),
+        Step::See(worker, group) => answer_look(world, *worker, *group, output),
+        Step::Propose(worker) => answer_proposal(world, *worker, output),
         Step::Commit(worker) => answer_commit(world, *worker, output),
     }
 }

@@ -1,3 +1,4 @@
+mod DigitPairs
 mod FirstBytes
 mod FormLemmas
 mod JoinedWords

@@ -3,7 +3,7 @@ use Rattle.std.proofs.Common.{◌≡◌, ◌≢◌, ◌∷◌, [], ◌∙◌, �
 use Rattle.gu_terms.specs.declared.command.Command.TheVariants.{OpenDay, SetLimit, ReportSide, GiveUp, Claim, Refuse, Reverse}
 use Rattle.gu_world.specs.declared.step.Step.TheVariants.{Enter, See, Propose, Commit}
 use Rattle.gu_text.specs.Lines.{is_silent, longest_line}
-use Rattle.gu_text.specs.ScriptForms.{IsBegun, ReadsWords, Tells, WriteNone, form_begun, form_of, form_word}
+use Rattle.gu_text.specs.ScriptForms.{IsBegun, ReadsWords, Tells, WriteNone, form_begun, form_of, form_word, reading}
 use Rattle.gu_text.specs.Scripts.{IsBad, Says, Writes}
 use Rattle.gu_text.specs.Words.{is_ragged, words_of}
 use Rattle.gu_text.specs.declared.error.TextError.{TextError}
@@ -120,8 +120,8 @@ begun_said text f words number None is told = absurd told
 begun_said text f words number (Some said) is told =
     words_said text (Some said) is.speaks is.short is.even (subst (λ (ws : List (List ℕ)). ReadsWords ws (Some said)) (sym is.words_are) told)
 
-pub begun_bad : (text : List ℕ) (f : Form) (words : List (List ℕ)) (number : ℕ) (result : Result (Option Line) TextError) → IsBegun text f words → Tells f words number result
-    → (n : ℕ) → IsErrOf result (BadLine n) → (n ≡ number) × IsBad text
-begun_bad text f words number result is told n bad =
-    let told_of = subst (Tells f words number) bad told in
+pub begun_bad : (text : List ℕ) (f : Form) (words : List (List ℕ)) (number : ℕ) (result : Result (Unit {0}) TextError) (said : Option Line) → IsBegun text f words
+    → Tells f words number (reading result said) → (n : ℕ) → IsErrOf result (BadLine n) → (n ≡ number) × IsBad text
+begun_bad text f words number result said is told n bad =
+    let told_of = subst (λ (r : Result (Unit {0}) TextError). Tells f words number (reading r said)) bad told in
     (told_of.0, words_said text None is.speaks is.short is.even (subst (λ (ws : List (List ℕ)). ReadsWords ws None) (sym is.words_are) (begun words f told_of.1)))

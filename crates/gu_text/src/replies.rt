@@ -40,14 +40,25 @@ pub(crate) fn append_key(output: &mut Vec<u8>, key: LimitKey) -> Result<(), Allo
     Ok(())
 }
 
+/// Puts a number, which ends the line, onto room that is there. (It is wider than 64 bits where a count says so; no book has so many offers.)
+#[inline(never)]
+fn put_last_wide(output: &mut Vec<u8>, number: u128)
+    requires { vec_len output.old + 42 ≤ vec_capacity output.old }
+    ensures { output.new.items ≡ output.old.items ++ last_word (decimal number) }
+{
+    let mut digits = Buffer::new();
+    put_ended(output, digits.format(number).as_bytes(), b'\n');
+}
+
 /// Puts the number of the last of so many offers, which ends the line, onto room that is there.
 fn put_last_offer(output: &mut Vec<u8>, first: OfferNo, count: u64)
     requires { vec_len output.old + 42 ≤ vec_capacity output.old }
     ensures { output.new.items ≡ output.old.items ++ last_word (decimal (first + count - 1)) }
 {
-    let mut digits = Buffer::new();
-    let last = u128::from(first.get()) + u128::from(count) - 1;
-    put_ended(output, digits.format(last).as_bytes(), b'\n');
+    match count.checked_add(first.get() - 1) {
+        Some(last) => put_last_number(output, last),
+        None => put_last_wide(output, u128::from(first.get()) + u128::from(count) - 1),
+    }
 }
 
 /// Puts lots, which end the line, onto room that is there.

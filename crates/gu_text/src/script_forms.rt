@@ -1,7 +1,7 @@
 //! The forms of a script's lines.
 
 ghost use Rattle.std.specs.Prelude.{◌≡◌, ◌≢◌, ◌<◌, length, IfOk, IfSome, MatchOption};
-ghost use Rattle.gu_text.specs.ScriptForms.{form_word, ReadsLines, Tells, WritesLine, WritesNoLine};
+ghost use Rattle.gu_text.specs.ScriptForms.{form_word, reading, ReadsLines, Tells, WritesLine, WritesNoLine};
 ghost use Rattle.gu_text.specs.Words.{words_of};
 ghost use Rattle.gu_text.specs.declared.script_forms.Form.{Form as FormOf};
 
@@ -47,6 +47,7 @@ pub(crate) enum Form {
 
 impl Form {
     /// The form with this word in front.
+    #[inline(always)]
     pub(crate) fn begun(word: &[u8]) -> Option<Form>
         ensures { MatchOption result ((form : FormOf) → word.now ≢ form_word form) (λ form. word.now ≡ form_word form) }
     {
@@ -72,35 +73,45 @@ impl Form {
 
 /// The day that is opened.
 #[inline(never)]
-pub(crate) fn day_said(words: &[u8], number: u64) -> Result<Option<Line>, TextError>
-    ensures { Tells Form.Day (words_of words.now) number result }
+pub(crate) fn day_said(said: &mut Option<Line>, words: &[u8], number: u64) -> Result<(), TextError>
+    ensures { Tells Form.Day (words_of words.now) number (reading result said.new) }
 {
     let word = told!(only_word(words), number);
     let day = told!(day_of(word), number);
-    Ok(Some(Line::Step(Step::Enter(Command::OpenDay { day }))))
+    *said = Some(Line::Step(Step::Enter(Command::OpenDay { day })));
+    Ok(())
 }
 
 /// A limit: its group, its key and its lots.
 #[inline(never)]
-pub(crate) fn limit_said(words: &[u8], number: u64) -> Result<Option<Line>, TextError>
-    ensures { Tells Form.Limit (words_of words.now) number result }
+pub(crate) fn limit_said(
+    said: &mut Option<Line>,
+    words: &[u8],
+    number: u64,
+) -> Result<(), TextError>
+    ensures { Tells Form.Limit (words_of words.now) number (reading result said.new) }
 {
     let (group, kind, name, rest) = told!(first_three_words(words), number);
     let lots = told!(only_word(rest), number);
     let group = told!(name_of(group), number);
     let key = told!(key_said(kind, name), number);
     let lots = told!(number_of(lots), number);
-    Ok(Some(Line::Step(Step::Enter(Command::SetLimit {
+    *said = Some(Line::Step(Step::Enter(Command::SetLimit {
         group: Group { name: group },
         key,
         lots,
-    }))))
+    })));
+    Ok(())
 }
 
 /// A firm's side of a trade, of the open day.
 #[inline(never)]
-pub(crate) fn report_said(words: &[u8], number: u64) -> Result<Option<Line>, TextError>
-    ensures { Tells Form.Report (words_of words.now) number result }
+pub(crate) fn report_said(
+    said: &mut Option<Line>,
+    words: &[u8],
+    number: u64,
+) -> Result<(), TextError>
+    ensures { Tells Form.Report (words_of words.now) number (reading result said.new) }
 {
     let (firm, id, match_id, rest) = told!(first_three_words(words), number);
     let (side, symbol, lots, rest) = told!(first_three_words(rest), number);
@@ -113,7 +124,7 @@ pub(crate) fn report_said(words: &[u8], number: u64) -> Result<Option<Line>, Tex
     let lots = told!(lots_of(lots), number);
     let price = told!(price_of(price), number);
     let account = told!(name_of(account), number);
-    Ok(Some(Line::Step(Step::Enter(Command::ReportSide {
+    *said = Some(Line::Step(Step::Enter(Command::ReportSide {
         firm: FirmId { name: firm },
         id,
         match_id,
@@ -123,7 +134,8 @@ pub(crate) fn report_said(words: &[u8], number: u64) -> Result<Option<Line>, Tex
         day: None,
         side,
         account: AccountId { name: account },
-    }))))
+    })));
+    Ok(())
 }
 
 /// The first two words as a line of a give-up, and the words after them.
@@ -159,137 +171,185 @@ fn lines_said(alloc: Global, words: &[u8]) -> Result<Option<Lines>, AllocError>
 /// A give-up: the firm, its ids of the give-up and of the report, and accounts with lots.
 #[inline(never)]
 pub(crate) fn give_up_said(
+    said: &mut Option<Line>,
     alloc: Global,
     words: &[u8],
     number: u64,
-) -> Result<Option<Line>, TextError>
-    ensures { Tells Form.GiveUp (words_of words.now) number result }
+) -> Result<(), TextError>
+    ensures { Tells Form.GiveUp (words_of words.now) number (reading result said.new) }
 {
     let (firm, id, report, pairs) = told!(first_three_words(words), number);
     let name = told!(name_of(firm), number);
     let id = told!(Id::new(id), number);
     let report = told!(Id::new(report), number);
     let lines = told!(lines_said(alloc, pairs)?, number);
-    Ok(Some(Line::Step(Step::Enter(Command::GiveUp {
+    *said = Some(Line::Step(Step::Enter(Command::GiveUp {
         firm: FirmId { name },
         id,
         report,
         lines,
-    }))))
+    })));
+    Ok(())
 }
 
 /// A claim: the firm, and the number of the offer.
 #[inline(never)]
-pub(crate) fn claim_said(words: &[u8], number: u64) -> Result<Option<Line>, TextError>
-    ensures { Tells Form.Claim (words_of words.now) number result }
+pub(crate) fn claim_said(
+    said: &mut Option<Line>,
+    words: &[u8],
+    number: u64,
+) -> Result<(), TextError>
+    ensures { Tells Form.Claim (words_of words.now) number (reading result said.new) }
 {
     let (firm, offer) = told!(two_words(words), number);
     let name = told!(name_of(firm), number);
     let offer = told!(offer_no_of(offer), number);
-    Ok(Some(Line::Step(Step::Enter(Command::Claim {
+    *said = Some(Line::Step(Step::Enter(Command::Claim {
         firm: FirmId { name },
         offer,
-    }))))
+    })));
+    Ok(())
 }
 
 /// A refusal: the firm, the number of the offer, and why.
 #[inline(never)]
-pub(crate) fn refuse_said(words: &[u8], number: u64) -> Result<Option<Line>, TextError>
-    ensures { Tells Form.Refuse (words_of words.now) number result }
+pub(crate) fn refuse_said(
+    said: &mut Option<Line>,
+    words: &[u8],
+    number: u64,
+) -> Result<(), TextError>
+    ensures { Tells Form.Refuse (words_of words.now) number (reading result said.new) }
 {
     let (firm, offer, why) = told!(three_words(words), number);
     let name = told!(name_of(firm), number);
     let offer = told!(offer_no_of(offer), number);
     let why = told!(reject_of(why), number);
-    Ok(Some(Line::Step(Step::Enter(Command::Refuse {
+    *said = Some(Line::Step(Step::Enter(Command::Refuse {
         firm: FirmId { name },
         offer,
         why,
-    }))))
+    })));
+    Ok(())
 }
 
 /// A reversal: the firm, and the number of the offer.
 #[inline(never)]
-pub(crate) fn reverse_said(words: &[u8], number: u64) -> Result<Option<Line>, TextError>
-    ensures { Tells Form.Reverse (words_of words.now) number result }
+pub(crate) fn reverse_said(
+    said: &mut Option<Line>,
+    words: &[u8],
+    number: u64,
+) -> Result<(), TextError>
+    ensures { Tells Form.Reverse (words_of words.now) number (reading result said.new) }
 {
     let (firm, offer) = told!(two_words(words), number);
     let name = told!(name_of(firm), number);
     let offer = told!(offer_no_of(offer), number);
-    Ok(Some(Line::Step(Step::Enter(Command::Reverse {
+    *said = Some(Line::Step(Step::Enter(Command::Reverse {
         firm: FirmId { name },
         offer,
-    }))))
+    })));
+    Ok(())
 }
 
 /// A look: the worker, and the group.
 #[inline(never)]
-pub(crate) fn see_said(words: &[u8], number: u64) -> Result<Option<Line>, TextError>
-    ensures { Tells Form.See (words_of words.now) number result }
+pub(crate) fn see_said(said: &mut Option<Line>, words: &[u8], number: u64) -> Result<(), TextError>
+    ensures { Tells Form.See (words_of words.now) number (reading result said.new) }
 {
     let (worker, group) = told!(two_words(words), number);
     let worker = told!(worker_of(worker), number);
     let name = told!(name_of(group), number);
-    Ok(Some(Line::Step(Step::See(worker, Group { name }))))
+    *said = Some(Line::Step(Step::See(worker, Group { name })));
+    Ok(())
 }
 
 /// A proposal: the worker.
 #[inline(never)]
-pub(crate) fn propose_said(words: &[u8], number: u64) -> Result<Option<Line>, TextError>
-    ensures { Tells Form.Propose (words_of words.now) number result }
+pub(crate) fn propose_said(
+    said: &mut Option<Line>,
+    words: &[u8],
+    number: u64,
+) -> Result<(), TextError>
+    ensures { Tells Form.Propose (words_of words.now) number (reading result said.new) }
 {
     let word = told!(only_word(words), number);
     let worker = told!(worker_of(word), number);
-    Ok(Some(Line::Step(Step::Propose(worker))))
+    *said = Some(Line::Step(Step::Propose(worker)));
+    Ok(())
 }
 
 /// A commit: the worker.
 #[inline(never)]
-pub(crate) fn commit_said(words: &[u8], number: u64) -> Result<Option<Line>, TextError>
-    ensures { Tells Form.Commit (words_of words.now) number result }
+pub(crate) fn commit_said(
+    said: &mut Option<Line>,
+    words: &[u8],
+    number: u64,
+) -> Result<(), TextError>
+    ensures { Tells Form.Commit (words_of words.now) number (reading result said.new) }
 {
     let word = told!(only_word(words), number);
     let worker = told!(worker_of(word), number);
-    Ok(Some(Line::Step(Step::Commit(worker))))
+    *said = Some(Line::Step(Step::Commit(worker)));
+    Ok(())
 }
 
 /// A whole sweep: the group.
 #[inline(never)]
-pub(crate) fn sweep_said(words: &[u8], number: u64) -> Result<Option<Line>, TextError>
-    ensures { Tells Form.Sweep (words_of words.now) number result }
+pub(crate) fn sweep_said(
+    said: &mut Option<Line>,
+    words: &[u8],
+    number: u64,
+) -> Result<(), TextError>
+    ensures { Tells Form.Sweep (words_of words.now) number (reading result said.new) }
 {
     let word = told!(only_word(words), number);
     let name = told!(name_of(word), number);
-    Ok(Some(Line::Sweep(Group { name })))
+    *said = Some(Line::Sweep(Group { name }));
+    Ok(())
 }
 
 /// A question for a position: the account, and the instrument.
 #[inline(never)]
-pub(crate) fn position_said(words: &[u8], number: u64) -> Result<Option<Line>, TextError>
-    ensures { Tells Form.Position (words_of words.now) number result }
+pub(crate) fn position_said(
+    said: &mut Option<Line>,
+    words: &[u8],
+    number: u64,
+) -> Result<(), TextError>
+    ensures { Tells Form.Position (words_of words.now) number (reading result said.new) }
 {
     let (account, symbol) = told!(two_words(words), number);
     let account = told!(name_of(account), number);
     let symbol = told!(name_of(symbol), number);
-    Ok(Some(Line::Position(AccountId { name: account }, Symbol { name: symbol })))
+    *said = Some(Line::Position(AccountId { name: account }, Symbol { name: symbol }));
+    Ok(())
 }
 
 /// A question for the open interest: the instrument.
 #[inline(never)]
-pub(crate) fn interest_said(words: &[u8], number: u64) -> Result<Option<Line>, TextError>
-    ensures { Tells Form.Interest (words_of words.now) number result }
+pub(crate) fn interest_said(
+    said: &mut Option<Line>,
+    words: &[u8],
+    number: u64,
+) -> Result<(), TextError>
+    ensures { Tells Form.Interest (words_of words.now) number (reading result said.new) }
 {
     let word = told!(only_word(words), number);
     let name = told!(name_of(word), number);
-    Ok(Some(Line::Interest(Symbol { name })))
+    *said = Some(Line::Interest(Symbol { name }));
+    Ok(())
 }
 
 /// A question for limits: the group.
 #[inline(never)]
-pub(crate) fn limits_said(words: &[u8], number: u64) -> Result<Option<Line>, TextError>
-    ensures { Tells Form.Limits (words_of words.now) number result }
+pub(crate) fn limits_said(
+    said: &mut Option<Line>,
+    words: &[u8],
+    number: u64,
+) -> Result<(), TextError>
+    ensures { Tells Form.Limits (words_of words.now) number (reading result said.new) }
 {
     let word = told!(only_word(words), number);
     let name = told!(name_of(word), number);
-    Ok(Some(Line::Limits(Group { name })))
+    *said = Some(Line::Limits(Group { name }));
+    Ok(())
 }

@@ -1,6 +1,6 @@
 //! What a line of a script says.
 
-ghost use Rattle.std.specs.Prelude.{◌≡◌, ℕ, false, IfOk, IsErrOf, IsTrue, MatchOption};
+ghost use Rattle.std.specs.Prelude.{◌≡◌, ℕ, false, IfOk, IsErrOf, IsTrue, MatchOption, OnOk};
 ghost use Rattle.gu_text.specs.Lines.{is_silent};
 ghost use Rattle.gu_text.specs.ScriptForms.{IsBegun};
 ghost use Rattle.gu_text.specs.Scripts.{IsBad, Says};
@@ -34,6 +34,7 @@ pub enum Line {
 
 #[tactic(auto, using(crate::proofs::ScriptLemmas::is_begun))]
 /// The form of a line that isn't silent, and the words after the word of the form.
+#[inline(always)]
 fn begun(line: &[u8]) -> Option<(Form, &[u8])>
     requires { is_silent line.now ≡ false }
     ensures { MatchOption result (IsBad line.now) (λ begun. IsBegun line.now begun.0 (words_of begun.1.now)) }
@@ -47,32 +48,50 @@ fn begun(line: &[u8]) -> Option<(Form, &[u8])>
 }
 
 impl Line {
-    /// What the line with this number says: nothing where it is silent.
-    pub fn read(alloc: Global, line: &[u8], number: u64) -> Result<Option<Line>, TextError>
-        ensures said { IfOk result (λ said. MatchOption said (IsTrue (is_silent line.now)) (Says line.now)) }
+    /// Reads what the line with this number says, nothing where it is silent, over what was said before. A result would be moved by each
+    /// call that returns it. After an error nothing is known of what is said.
+    #[inline(always)]
+    pub fn read_over(
+        said: &mut Option<Line>,
+        alloc: Global,
+        line: &[u8],
+        number: u64,
+    ) -> Result<(), TextError>
+        ensures said { OnOk result (MatchOption said.new (IsTrue (is_silent line.now)) (Says line.now)) }
         ensures bad { (n : ℕ) → IsErrOf result (TextError.BadLine n) → (n ≡ number) × IsBad line.now }
     {
         if is_silent(line) {
-            return Ok(None);
+            *said = None;
+            return Ok(());
         }
         let Some((form, words)) = begun(line) else {
             return Err(TextError::BadLine(number));
         };
         match form {
-            Form::Day => day_said(words, number),
-            Form::Limit => limit_said(words, number),
-            Form::Report => report_said(words, number),
-            Form::GiveUp => give_up_said(alloc, words, number),
-            Form::Claim => claim_said(words, number),
-            Form::Refuse => refuse_said(words, number),
-            Form::Reverse => reverse_said(words, number),
-            Form::See => see_said(words, number),
-            Form::Propose => propose_said(words, number),
-            Form::Commit => commit_said(words, number),
-            Form::Sweep => sweep_said(words, number),
-            Form::Position => position_said(words, number),
-            Form::Interest => interest_said(words, number),
-            Form::Limits => limits_said(words, number),
+            Form::Day => day_said(said, words, number),
+            Form::Limit => limit_said(said, words, number),
+            Form::Report => report_said(said, words, number),
+            Form::GiveUp => give_up_said(said, alloc, words, number),
+            Form::Claim => claim_said(said, words, number),
+            Form::Refuse => refuse_said(said, words, number),
+            Form::Reverse => reverse_said(said, words, number),
+            Form::See => see_said(said, words, number),
+            Form::Propose => propose_said(said, words, number),
+            Form::Commit => commit_said(said, words, number),
+            Form::Sweep => sweep_said(said, words, number),
+            Form::Position => position_said(said, words, number),
+            Form::Interest => interest_said(said, words, number),
+            Form::Limits => limits_said(said, words, number),
         }
+    }
+
+    /// What the line with this number says: nothing where it is silent.
+    pub fn read(alloc: Global, line: &[u8], number: u64) -> Result<Option<Line>, TextError>
+        ensures said { IfOk result (λ said. MatchOption said (IsTrue (is_silent line.now)) (Says line.now)) }
+        ensures bad { (n : ℕ) → IsErrOf result (TextError.BadLine n) → (n ≡ number) × IsBad line.now }
+    {
+        let mut said = None;
+        Line::read_over(&mut said, alloc, line, number)?;
+        Ok(said)
     }
 }
