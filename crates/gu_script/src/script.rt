@@ -132,7 +132,7 @@ impl Script {
     {
         extend_begun(&mut self.rest, part)?;
         let line = without_return(whole_line(&self.rest, part));
-        Line::read_over(said, self.alloc, line, self.count + 1)?;
+        Line::read_over(self.alloc, said, line, self.count + 1)?;
         self.answer(said, output)?;
         Ok(())
     }

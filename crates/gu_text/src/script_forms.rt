@@ -171,8 +171,8 @@ fn lines_said(alloc: Global, words: &[u8]) -> Result<Option<Lines>, AllocError>
 /// A give-up: the firm, its ids of the give-up and of the report, and accounts with lots.
 #[inline(never)]
 pub(crate) fn give_up_said(
-    said: &mut Option<Line>,
     alloc: Global,
+    said: &mut Option<Line>,
     words: &[u8],
     number: u64,
 ) -> Result<(), TextError>

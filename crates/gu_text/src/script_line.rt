@@ -52,8 +52,8 @@ impl Line {
     /// call that returns it. After an error nothing is known of what is said.
     #[inline(always)]
     pub fn read_over(
-        said: &mut Option<Line>,
         alloc: Global,
+        said: &mut Option<Line>,
         line: &[u8],
         number: u64,
     ) -> Result<(), TextError>
@@ -71,7 +71,7 @@ impl Line {
             Form::Day => day_said(said, words, number),
             Form::Limit => limit_said(said, words, number),
             Form::Report => report_said(said, words, number),
-            Form::GiveUp => give_up_said(said, alloc, words, number),
+            Form::GiveUp => give_up_said(alloc, said, words, number),
             Form::Claim => claim_said(said, words, number),
             Form::Refuse => refuse_said(said, words, number),
             Form::Reverse => reverse_said(said, words, number),
@@ -91,7 +91,7 @@ impl Line {
         ensures bad { (n : ℕ) → IsErrOf result (TextError.BadLine n) → (n ≡ number) × IsBad line.now }
     {
         let mut said = None;
-        Line::read_over(&mut said, alloc, line, number)?;
+        Line::read_over(alloc, &mut said, line, number)?;
         Ok(said)
     }
 }
