@@ -1,4 +1,3 @@
-mod DigitPairs
 mod FirstBytes
 mod FormLemmas
 mod JoinedWords

@@ -5,7 +5,7 @@ use Rattle.std.specs.Option.{option_and_then}
 use Rattle.std.specs.Str.{bytes_eq}
 use Rattle.gu_terms.specs.AllocRejects.{reject_number}
 use Rattle.gu_terms.specs.Lines.{AreLines}
-use Rattle.gu_terms.specs.Names.{IsId, is_name}
+use Rattle.gu_terms.specs.Names.{is_name}
 use Rattle.gu_terms.specs.NumberText.{MeansLots}
 use Rattle.gu_terms.specs.declared.account.AccountId.{AccountId}
 use Rattle.gu_terms.specs.declared.alloc_reject.AllocReject.{AllocReject}
@@ -20,7 +20,7 @@ use Rattle.gu_terms.specs.declared.side.Side.{Side}
 use Rattle.gu_terms.specs.declared.symbol.Symbol.{Symbol}
 use Rattle.gu_world.specs.declared.step.Step.TheVariants.{Enter, See, Propose, Commit}
 use Rattle.gu_text.specs.Lines.{is_silent, longest_line}
-use Rattle.gu_text.specs.Scripts.{IsBad, Says, WriteLines, Writes}
+use Rattle.gu_text.specs.Scripts.{WriteLines, Writes}
 use Rattle.gu_text.specs.SheetLines.{number_of}
 use Rattle.gu_text.specs.Words.{is_ragged, words_of}
 use Rattle.gu_text.specs.declared.error.TextError.{TextError}
