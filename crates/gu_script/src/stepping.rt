@@ -76,7 +76,7 @@ fn answer_command(
 }
 
 /// Has a worker look at a group, and appends what it saw. (This and `answer_proposal` are functions of their own, so that no other line
-/// clears room for their steps.)
+/// pays for the room of their steps.)
 #[inline(never)]
 fn answer_look(
     world: &mut World,

@@ -1,13 +1,13 @@
 -- A line of a script is read.
-use Rattle.std.proofs.Common.{◌≡◌, ◌≢◌, ◌∷◌, [], ◌∙◌, ◌<◌, ◌≤◌, ℕ, true, false, List, Option, None, Some, length, MatchOption, IsErrOf, IsTrue, Result, Ok, refl, sym, ap, subst, arith}
+use Rattle.std.proofs.Common.{◌≡◌, ◌≢◌, ◌∷◌, [], ◌∙◌, ◌<◌, ◌≤◌, ℕ, true, false, List, Option, None, Some, length, MatchOption, IsErrOf, IsTrue, OnErr, Result, Ok, Err, refl, sym, ap, subst, arith}
 use Rattle.gu_terms.specs.declared.command.Command.TheVariants.{OpenDay, SetLimit, ReportSide, GiveUp, Claim, Refuse, Reverse}
 use Rattle.gu_world.specs.declared.step.Step.TheVariants.{Enter, See, Propose, Commit}
 use Rattle.gu_text.specs.Lines.{is_silent, longest_line}
-use Rattle.gu_text.specs.ScriptForms.{IsBegun, ReadsWords, Tells, WriteNone, form_begun, form_of, form_word, reading}
+use Rattle.gu_text.specs.ScriptForms.{IsBegun, ReadsOver, ReadsWords, WriteNone, form_begun, form_of, form_word}
 use Rattle.gu_text.specs.Scripts.{IsBad, Says, Writes}
 use Rattle.gu_text.specs.Words.{is_ragged, words_of}
 use Rattle.gu_text.specs.declared.error.TextError.{TextError}
-use Rattle.gu_text.specs.declared.error.TextError.TheVariants.{BadLine}
+use Rattle.gu_text.specs.declared.error.TextError.TheVariants.{BadLine, Memory}
 use Rattle.gu_text.specs.declared.script_forms.Form.{Form}
 use Rattle.gu_text.specs.declared.script_forms.Form.TheVariants as form
 use Rattle.gu_text.specs.declared.script_line.Line.{Line}
@@ -113,15 +113,21 @@ pub words_said : (text : List ℕ) (read : Option Line) → is_silent text ≡ f
 words_said text (Some said) speaks short even reads = record { speaks = speaks; short = short; even = even; writes = reads }
 words_said text None speaks short even reads = record { speaks = speaks; nothing = λ said says. reads said says.writes }
 
--- and so a line that begins with the word of a form says what is told of the words after it, or is bad
-pub begun_said : (text : List ℕ) (f : Form) (words : List (List ℕ)) (number : ℕ) (said : Option Line) → IsBegun text f words → Tells f words number (Ok said)
-    → MatchOption said (IsTrue (is_silent text)) (Says text)
-begun_said text f words number None is told = absurd told
-begun_said text f words number (Some said) is told =
-    words_said text (Some said) is.speaks is.short is.even (subst (λ (ws : List (List ℕ)). ReadsWords ws (Some said)) (sym is.words_are) told)
+-- and so a line that begins with the word of a form says what is read of the words after it, or is bad
+pub begun_said : (text : List ℕ) (f : Form) (words : List (List ℕ)) (number : ℕ) (old new : Option Line) → IsBegun text f words → ReadsOver f words number (Ok tt) old new
+    → MatchOption new (IsTrue (is_silent text)) (Says text)
+begun_said text f words number old None is read = absurd read
+begun_said text f words number old (Some said) is read =
+    words_said text (Some said) is.speaks is.short is.even (subst (λ (ws : List (List ℕ)). ReadsWords ws (Some said)) (sym is.words_are) read)
 
-pub begun_bad : (text : List ℕ) (f : Form) (words : List (List ℕ)) (number : ℕ) (result : Result (Unit {0}) TextError) (said : Option Line) → IsBegun text f words
-    → Tells f words number (reading result said) → (n : ℕ) → IsErrOf result (BadLine n) → (n ≡ number) × IsBad text
-begun_bad text f words number result said is told n bad =
-    let told_of = subst (λ (r : Result (Unit {0}) TextError). Tells f words number (reading r said)) bad told in
-    (told_of.0, words_said text None is.speaks is.short is.even (subst (λ (ws : List (List ℕ)). ReadsWords ws None) (sym is.words_are) (begun words f told_of.1)))
+pub begun_bad : (text : List ℕ) (f : Form) (words : List (List ℕ)) (number : ℕ) (result : Result (Unit {0}) TextError) (old new : Option Line) → IsBegun text f words
+    → ReadsOver f words number result old new → (n : ℕ) → IsErrOf result (BadLine n) → (n ≡ number) × IsBad text
+begun_bad text f words number result old new is read n bad =
+    let failed = subst (λ (r : Result (Unit {0}) TextError). ReadsOver f words number r old new) bad read in
+    (failed.0.0, words_said text None is.speaks is.short is.even (subst (λ (ws : List (List ℕ)). ReadsWords ws None) (sym is.words_are) (begun words f failed.0.1)))
+
+-- after an error what was said is as it was
+pub read_refused : (f : Form) (words : List (List ℕ)) (number : ℕ) (result : Result (Unit {0}) TextError) (old new : Option Line) → ReadsOver f words number result old new → OnErr result (new ≡ old)
+read_refused f words number (Ok done) old new read = tt
+read_refused f words number (Err (BadLine n)) old new read = read.1
+read_refused f words number (Err Memory) old new read = read

@@ -106,16 +106,12 @@ WriteNone form.Limits words = (group : Group) → ¬ Writes words (line.Limits g
 abbrev pub Reads : Form → List (List ℕ) → Option Line → Type 0
 Reads form words read = MatchOption read (WriteNone form (form_word form ∷ words)) (Writes (form_word form ∷ words))
 
--- what a reading that ended so gave: what is said now, unless it failed
-abbrev pub reading : Result (Unit {0}) TextError → Option Line → Result (Option Line) TextError
-reading (Ok done) said = Ok said
-reading (Err error) said = Err error
-
--- what is told of the words after the word of a form, in the line with this number: what they write, or that they write nothing
-abbrev pub Tells : Form → List (List ℕ) → ℕ → Result (Option Line) TextError → Type 0
-Tells form words number (Ok said) = MatchOption said ⊥ (Writes (form_word form ∷ words))
-Tells form words number (Err (BadLine n)) = (n ≡ number) × WriteNone form (form_word form ∷ words)
-Tells form words number (Err Memory) = Unit {0}
+-- what is read of the words after the word of a form, in the line with this number, over what was said before: what they write; or they write
+-- nothing, or an allocation failed, and what was said is as it was
+abbrev pub ReadsOver : Form → List (List ℕ) → ℕ → Result (Unit {0}) TextError → Option Line → Option Line → Type 0
+ReadsOver form words number (Ok done) old new = MatchOption new ⊥ (Writes (form_word form ∷ words))
+ReadsOver form words number (Err (BadLine n)) old new = ((n ≡ number) × WriteNone form (form_word form ∷ words)) × (new ≡ old)
+ReadsOver form words number (Err Memory) old new = new ≡ old
 
 -- what is read of words, if they write anything
 abbrev pub ReadsWords : List (List ℕ) → Option Line → Type 0

@@ -40,7 +40,8 @@ pub(crate) fn append_key(output: &mut Vec<u8>, key: LimitKey) -> Result<(), Allo
     Ok(())
 }
 
-/// Puts a number, which ends the line, onto room that is there. (It is wider than 64 bits where a count says so; no book has so many offers.)
+/// Puts a number, which ends the line, onto room that is there. (A reply may count more offers than 64 bits can number; no book has so
+/// many.)
 #[inline(never)]
 fn put_last_wide(output: &mut Vec<u8>, number: u128)
     requires { vec_len output.old + 42 ≤ vec_capacity output.old }

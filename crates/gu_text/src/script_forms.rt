@@ -1,7 +1,7 @@
 //! The forms of a script's lines.
 
 ghost use Rattle.std.specs.Prelude.{◌≡◌, ◌≢◌, ◌<◌, length, IfOk, IfSome, MatchOption};
-ghost use Rattle.gu_text.specs.ScriptForms.{form_word, reading, ReadsLines, Tells, WritesLine, WritesNoLine};
+ghost use Rattle.gu_text.specs.ScriptForms.{form_word, ReadsLines, ReadsOver, WritesLine, WritesNoLine};
 ghost use Rattle.gu_text.specs.Words.{words_of};
 ghost use Rattle.gu_text.specs.declared.script_forms.Form.{Form as FormOf};
 
@@ -74,7 +74,7 @@ impl Form {
 /// The day that is opened.
 #[inline(never)]
 pub(crate) fn day_said(said: &mut Option<Line>, words: &[u8], number: u64) -> Result<(), TextError>
-    ensures { Tells Form.Day (words_of words.now) number (reading result said.new) }
+    ensures { ReadsOver Form.Day (words_of words.now) number result said.old said.new }
 {
     let word = told!(only_word(words), number);
     let day = told!(day_of(word), number);
@@ -89,7 +89,7 @@ pub(crate) fn limit_said(
     words: &[u8],
     number: u64,
 ) -> Result<(), TextError>
-    ensures { Tells Form.Limit (words_of words.now) number (reading result said.new) }
+    ensures { ReadsOver Form.Limit (words_of words.now) number result said.old said.new }
 {
     let (group, kind, name, rest) = told!(first_three_words(words), number);
     let lots = told!(only_word(rest), number);
@@ -111,7 +111,7 @@ pub(crate) fn report_said(
     words: &[u8],
     number: u64,
 ) -> Result<(), TextError>
-    ensures { Tells Form.Report (words_of words.now) number (reading result said.new) }
+    ensures { ReadsOver Form.Report (words_of words.now) number result said.old said.new }
 {
     let (firm, id, match_id, rest) = told!(first_three_words(words), number);
     let (side, symbol, lots, rest) = told!(first_three_words(rest), number);
@@ -176,7 +176,7 @@ pub(crate) fn give_up_said(
     words: &[u8],
     number: u64,
 ) -> Result<(), TextError>
-    ensures { Tells Form.GiveUp (words_of words.now) number (reading result said.new) }
+    ensures { ReadsOver Form.GiveUp (words_of words.now) number result said.old said.new }
 {
     let (firm, id, report, pairs) = told!(first_three_words(words), number);
     let name = told!(name_of(firm), number);
@@ -199,7 +199,7 @@ pub(crate) fn claim_said(
     words: &[u8],
     number: u64,
 ) -> Result<(), TextError>
-    ensures { Tells Form.Claim (words_of words.now) number (reading result said.new) }
+    ensures { ReadsOver Form.Claim (words_of words.now) number result said.old said.new }
 {
     let (firm, offer) = told!(two_words(words), number);
     let name = told!(name_of(firm), number);
@@ -218,7 +218,7 @@ pub(crate) fn refuse_said(
     words: &[u8],
     number: u64,
 ) -> Result<(), TextError>
-    ensures { Tells Form.Refuse (words_of words.now) number (reading result said.new) }
+    ensures { ReadsOver Form.Refuse (words_of words.now) number result said.old said.new }
 {
     let (firm, offer, why) = told!(three_words(words), number);
     let name = told!(name_of(firm), number);
@@ -239,7 +239,7 @@ pub(crate) fn reverse_said(
     words: &[u8],
     number: u64,
 ) -> Result<(), TextError>
-    ensures { Tells Form.Reverse (words_of words.now) number (reading result said.new) }
+    ensures { ReadsOver Form.Reverse (words_of words.now) number result said.old said.new }
 {
     let (firm, offer) = told!(two_words(words), number);
     let name = told!(name_of(firm), number);
@@ -254,7 +254,7 @@ pub(crate) fn reverse_said(
 /// A look: the worker, and the group.
 #[inline(never)]
 pub(crate) fn see_said(said: &mut Option<Line>, words: &[u8], number: u64) -> Result<(), TextError>
-    ensures { Tells Form.See (words_of words.now) number (reading result said.new) }
+    ensures { ReadsOver Form.See (words_of words.now) number result said.old said.new }
 {
     let (worker, group) = told!(two_words(words), number);
     let worker = told!(worker_of(worker), number);
@@ -270,7 +270,7 @@ pub(crate) fn propose_said(
     words: &[u8],
     number: u64,
 ) -> Result<(), TextError>
-    ensures { Tells Form.Propose (words_of words.now) number (reading result said.new) }
+    ensures { ReadsOver Form.Propose (words_of words.now) number result said.old said.new }
 {
     let word = told!(only_word(words), number);
     let worker = told!(worker_of(word), number);
@@ -285,7 +285,7 @@ pub(crate) fn commit_said(
     words: &[u8],
     number: u64,
 ) -> Result<(), TextError>
-    ensures { Tells Form.Commit (words_of words.now) number (reading result said.new) }
+    ensures { ReadsOver Form.Commit (words_of words.now) number result said.old said.new }
 {
     let word = told!(only_word(words), number);
     let worker = told!(worker_of(word), number);
@@ -300,7 +300,7 @@ pub(crate) fn sweep_said(
     words: &[u8],
     number: u64,
 ) -> Result<(), TextError>
-    ensures { Tells Form.Sweep (words_of words.now) number (reading result said.new) }
+    ensures { ReadsOver Form.Sweep (words_of words.now) number result said.old said.new }
 {
     let word = told!(only_word(words), number);
     let name = told!(name_of(word), number);
@@ -315,7 +315,7 @@ pub(crate) fn position_said(
     words: &[u8],
     number: u64,
 ) -> Result<(), TextError>
-    ensures { Tells Form.Position (words_of words.now) number (reading result said.new) }
+    ensures { ReadsOver Form.Position (words_of words.now) number result said.old said.new }
 {
     let (account, symbol) = told!(two_words(words), number);
     let account = told!(name_of(account), number);
@@ -331,7 +331,7 @@ pub(crate) fn interest_said(
     words: &[u8],
     number: u64,
 ) -> Result<(), TextError>
-    ensures { Tells Form.Interest (words_of words.now) number (reading result said.new) }
+    ensures { ReadsOver Form.Interest (words_of words.now) number result said.old said.new }
 {
     let word = told!(only_word(words), number);
     let name = told!(name_of(word), number);
@@ -346,7 +346,7 @@ pub(crate) fn limits_said(
     words: &[u8],
     number: u64,
 ) -> Result<(), TextError>
-    ensures { Tells Form.Limits (words_of words.now) number (reading result said.new) }
+    ensures { ReadsOver Form.Limits (words_of words.now) number result said.old said.new }
 {
     let word = told!(only_word(words), number);
     let name = told!(name_of(word), number);

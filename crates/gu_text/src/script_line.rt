@@ -1,6 +1,6 @@
 //! What a line of a script says.
 
-ghost use Rattle.std.specs.Prelude.{◌≡◌, ℕ, false, IfOk, IsErrOf, IsTrue, MatchOption, OnOk};
+ghost use Rattle.std.specs.Prelude.{◌≡◌, ℕ, false, IfOk, IsErrOf, IsTrue, MatchOption, OnErr, OnOk};
 ghost use Rattle.gu_text.specs.Lines.{is_silent};
 ghost use Rattle.gu_text.specs.ScriptForms.{IsBegun};
 ghost use Rattle.gu_text.specs.Scripts.{IsBad, Says};
@@ -49,7 +49,7 @@ fn begun(line: &[u8]) -> Option<(Form, &[u8])>
 
 impl Line {
     /// Reads what the line with this number says, nothing where it is silent, over what was said before. A result would be moved by each
-    /// call that returns it. After an error nothing is known of what is said.
+    /// call that returns it. After an error it is as it was.
     #[inline(always)]
     pub fn read_over(
         alloc: Global,
@@ -59,6 +59,7 @@ impl Line {
     ) -> Result<(), TextError>
         ensures said { OnOk result (MatchOption said.new (IsTrue (is_silent line.now)) (Says line.now)) }
         ensures bad { (n : ℕ) → IsErrOf result (TextError.BadLine n) → (n ≡ number) × IsBad line.now }
+        ensures refused { OnErr result (said.new ≡ said.old) }
     {
         if is_silent(line) {
             *said = None;

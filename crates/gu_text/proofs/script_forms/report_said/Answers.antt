@@ -7,7 +7,7 @@ pub returns-in-None-lots_of : goal.returns-in-None-lots_of
 returns-in-None-lots_of c =
     let f = c.in-Some.value in
     let s = c.in-Some-first_three_words.value in
-    (refl, report_missed (words_of c.args.words.now) (words_of f.3.now) (words_of s.3.now) f.0.now f.1.now f.2.now s.0.now s.1.now s.2.now c.in-Some.ensures c.in-Some-first_three_words.ensures c.in-None-lots_of.ensures)
+    ((refl, report_missed (words_of c.args.words.now) (words_of f.3.now) (words_of s.3.now) f.0.now f.1.now f.2.now s.0.now s.1.now s.2.now c.in-Some.ensures c.in-Some-first_three_words.ensures c.in-None-lots_of.ensures), refl)
 
 pub returns : goal.returns
 returns c =
