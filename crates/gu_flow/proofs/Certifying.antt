@@ -1,13 +1,11 @@
 -- The shares of a greatest flow and the cut where its last search stops: right takes, a right cut, and no takes are greater.
-use Rattle.std.proofs.Common.{◌≡◌, ◌≢◌, ℕ, ◌+◌, ◌<◌, ◌≤◌, ◌==◌, ◌⊎◌, ◌&&◌, not, Bool, true, false, cond, List, [], ◌∷◌, suc, length, get_or, slice_get, Some, refl, sym, ◌∙◌, ap, subst, arith, inl, inr}
+use Rattle.std.proofs.Common.{◌≡◌, ◌≢◌, ℕ, ◌+◌, ◌<◌, ◌≤◌, ◌==◌, ◌⊎◌, ◌&&◌, not, Bool, true, false, cond, List, [], ◌∷◌, suc, length, get_or, refl, sym, ◌∙◌, ap, subst, arith, inl, inr}
 use Rattle.std.specs.Prelude.{IsTrue, nat_lt, sum_by}
 use Rattle.std.specs.List.{AllByRecursion, list_any}
 use Rattle.std.proofs.Math.Bool.{and-true, and-false}
 use Rattle.std.proofs.lemmas.Bool.{cases_eq, cases_order, or_cases, or_left, or_right, eq-eqb, ne_eqb, eqb-true, lt-ltb, and_from}
 use Rattle.std.proofs.lemmas.List.{get_or_default}
-use Rattle.std.proofs.lemmas.List.Elements.{All-filter, All-from_get_or, recursion_from_All}
-use Rattle.std.proofs.lemmas.List.Folds.{list_any_at}
-use Rattle.std.proofs.lemmas.Option.{slice_get_within, get_or_from_slice_get}
+use Rattle.std.proofs.lemmas.List.Elements.{All-filter, All-from_get_or}
 use Rattle.gu_terms.proofs.KeyLemmas.{key_eq-same}
 use Rattle.gu_terms.specs.Cuts.{CutLists, has_number}
 use Rattle.gu_terms.specs.LimitKeys.{key_eq, has_key}
@@ -19,36 +17,28 @@ use Rattle.gu_terms.specs.declared.takes.Take.{Take}
 use Rattle.gu_view.proofs.CutBounds.{greatest_by_cut}
 use Rattle.gu_view.specs.Check.{has_offer, IsRight}
 use Rattle.gu_view.specs.Cut.{Covers, is_covered, room_of}
-use Rattle.gu_view.specs.Takes.{IsAdmissible, IsGreatest, IsOldestFirst, lots_under, total}
-use Rattle.gu_view.specs.View.{GroupView, IsView, IsNested, place_of}
+use Rattle.gu_view.specs.Takes.{IsAdmissible, IsGreatest, IsOldestFirst, IsOldestGreatest, lots_under, total}
+use Rattle.gu_view.specs.View.{GroupView, IsView, IsNested}
 use Rattle.gu_view.specs.declared.view.ViewOffer.{ViewOffer}
 use Rattle.gu_flow.specs.CutArcs.{leads_out, cuts_key, cuts_offers, IsCutBy}
+use Rattle.gu_flow.specs.LeastCuts.{IsLeastCut}
 use Rattle.gu_flow.specs.Ends.{arc_at}
 use Rattle.gu_flow.specs.Flows.{places, sum_over, IsFlow, IsClosed}
-use Rattle.gu_flow.specs.Layouts.{node_at}
 use Rattle.gu_flow.specs.Networks.{no_room, room_at, no_offer, offer_at, way_of, IsOfferOf, AreArcs}
 use Rattle.gu_flow.specs.Proposals.{IsSound}
 use Rattle.gu_flow.specs.Shares.{above_zero, agreement_place, agreement_lots, AreAllShares}
 use Rattle.gu_flow.specs.declared.network.Arc.{Arc}
-use Rattle.gu_flow.proofs.ArcLists.{places_within, IsAgreement, kind_of, capacity-le}
+use Rattle.gu_flow.proofs.ArcLists.{IsAgreement, kind_of, capacity-le}
 use Rattle.gu_flow.proofs.CutTotals.{walk_leads_out, total_is_cut}
 use Rattle.gu_flow.proofs.Loads.{agree, Sided}
-use Rattle.gu_flow.proofs.RoomPlaces.{goes_by_key, roomed}
 use Rattle.gu_flow.proofs.ShareLemmas.{share_taken, share_fits, shares_ascend, shares_oldest_first, shares_together, shares_known}
 use Rattle.gu_flow.proofs.SomeLots.{above_zero-all, above_zero-lots}
-use Rattle.gu_flow.proofs.Sides.{IsLaid, distance, stepped_at, walks_from, way_once, first_left, later_right}
+use Rattle.gu_flow.proofs.Sides.{IsLaid, distance, first_left, later_right}
 use Rattle.gu_terms.proofs.Lists.{sum_by-add, sum_by-swap, sum_by-agree}
 use Rattle.gu_flow.proofs.SumLemmas.{sum_by-by, sum_by_place, sum_places_by, sum_one_place, cond-sum, cond-swap}
-use Rattle.gu_flow.proofs.Walks.{has_place, Walking, load}
-use Rattle.gu_flow.proofs.OfferWays.{step_at, own_in, under_own, way_stepped, way_ends, way_on, alike}
-
--- a member of a list of small numbers is small
-has_within : (n k : ℕ) (ps : List ℕ) → AllByRecursion (λ p. p < n) ps → list_any (λ p. p == k) ps ≡ true → k < n
-has_within n k [] each on = cc
-has_within n k (p ∷ ps) each on = elim (or_cases (p == k) (list_any (λ p. p == k) ps) on) [
-  | inl here ↦ omega (arith, eqb-true p k here, each.0)
-  | inr there ↦ has_within n k ps each.1 there
-]
+use Rattle.gu_flow.proofs.Walks.{Walking, load}
+use Rattle.gu_flow.proofs.ViewLoads.{all_walk, brought_is, each_offer, key_on, offer_here, walking}
+use Rattle.gu_flow.proofs.OfferWays.{step_at, own_in, under_own, way_stepped, way_on}
 
 -- a key on a path that passes a test
 any_key : (test : LimitKey → Bool) (key : LimitKey) (path : List LimitKey) → has_key path key ≡ true → test key ≡ true → list_any test path ≡ true
@@ -70,19 +60,6 @@ module _ (view : GroupView) (sound : IsView view) (nested : IsNested view) (arcs
   abbrev step : ℕ → ℕ
   step = step_at view.rooms
 
-  offer_here : (i : ℕ) (d : ViewOffer) → i < length view.offers → IsOfferOf view (get_or view.offers i d)
-  offer_here i d inside = record { place = i; within = inside; is = get_or_default view.offers i d no_offer inside }
-
-  each_offer : AllByRecursion (IsOfferOf view) view.offers
-  each_offer = recursion_from_All (IsOfferOf view) view.offers offer_here
-
-  place_in : (o : ViewOffer) → IsOfferOf view o → (k : ℕ) → has_place (way o) k ≡ true → k < length view.rooms
-  place_in o h k on = has_within (length view.rooms) k (way o) (places_within (length view.rooms) (place_of view.rooms) o.path (roomed view sound o h)) on
-
-  -- a way that goes by a place has its room's key on the path
-  key_on : (o : ViewOffer) → IsOfferOf view o → (k : ℕ) → k < length view.rooms → has_place (way o) k ≡ true → has_key o.path (room_at view.rooms k).key ≡ true
-  key_on o h k k_in on = sym (goes_by_key view sound k k_in o.path (roomed view sound o h)) ∙ on
-
   laid : (k : ℕ) → k < length arcs → IsLaid arcs step k
   laid k k_in =
       let a = are.each k k_in in
@@ -90,44 +67,20 @@ module _ (view : GroupView) (sound : IsView view) (nested : IsNested view) (arcs
       record {
         way = way a.offer;
         stepped = way_stepped view sound nested a.offer a.known;
-        on = way_on view sound nested a.offer a.known k k_room (key_on a.offer a.known k k_room a.goes_by);
+        on = way_on view sound nested a.offer a.known k k_room (key_on view sound nested arcs are a.offer a.known k k_room a.goes_by);
         from = a.from;
         to = a.to;
       }
 
-  -- each way lays out the arcs that it goes by
-  lies : (o : ViewOffer) → IsOfferOf view o → (i k : ℕ) → slice_get (way o) i ≡ Some k → (k < length arcs) × ((arc_at arcs k).from ≡ node_at (way o) i) × ((arc_at arcs k).to ≡ node_at (way o) (i + 1))
-  lies o h i k at =
-      let on : has_place (way o) k ≡ true = list_any_at (λ p. p == k) (way o) i 0 (slice_get_within (way o) i k at) (eq-eqb (get_or (way o) i 0) k (get_or_from_slice_get (way o) i k 0 at)) in
-      let k_room = place_in o h k on in
-      let k_in : k < length arcs = omega (arith, are.all) in
-      let a = are.each k k_in in
-      let same = alike view sound nested a.offer o a.known h (room_at view.rooms k).key (key_on a.offer a.known k k_room a.goes_by) (key_on o h k k_room on) in
-      let step_is : step k ≡ i = omega (arith, stepped_at step 0 (way o) (way_stepped view sound nested o h) i k at) in
-      rw (← step_is) (k_in, a.from ∙ same.0, a.to ∙ same.1)
-
-  walking : (o : ViewOffer) → IsOfferOf view o → Walking arcs way 0 1 o
-  walking o h = record {
-    walk = rw (way_ends view sound nested o h) at (walks_from arcs (node_at (way o)) (way o) (lies o h));
-    once = way_once step 0 (way o) (way_stepped view sound nested o h);
-  }
-
-  each : AllByRecursion (Walking arcs way 0 1) view.offers
-  each = recursion_from_All (Walking arcs way 0 1) view.offers (λ i d inside. walking (get_or view.offers i d) (offer_here i d inside))
-
-  -- what is brought through an arc is what is taken under its key
-  load_is : (k : ℕ) → k < length view.rooms → load arcs view.offers way lots 0 1 each k ≡ lots_under view.offers (room_at view.rooms k).key (lots_of takes)
-  unfolding load
-  load_is k k_in =
-      sum_by-by (IsOfferOf view) (λ o. cond (has_place (way o) k) (lots o) 0) (λ o. cond (has_key o.path (room_at view.rooms k).key) (lots o) 0) view.offers
-      (λ o h. ap (λ b. cond b (lots o) 0) (goes_by_key view sound k k_in o.path (roomed view sound o h))) each_offer
+  abbrev each : AllByRecursion (Walking arcs way 0 1) view.offers
+  each = all_walk view sound nested arcs are
 
   -- sums under an agreement, by the places of the offers' agreements
   under_agreement : (f : ViewOffer → ℕ) (k : ℕ) → k < length view.rooms → (agreement : AgreementId) → (room_at view.rooms k).key ≡ Agr agreement
       → sum_by (λ o. cond (has_key o.path (room_at view.rooms k).key) (f o) 0) view.offers ≡ sum_by (λ o. cond (agreement_place view.rooms o == k) (f o) 0) view.offers
   under_agreement f k k_in agreement is =
       sum_by-by (IsOfferOf view) (λ o. cond (has_key o.path (room_at view.rooms k).key) (f o) 0) (λ o. cond (agreement_place view.rooms o == k) (f o) 0) view.offers
-      (λ o h. ap (λ b. cond b (f o) 0) (under_own view sound nested o h k k_in agreement is)) each_offer
+      (λ o h. ap (λ b. cond b (f o) 0) (under_own view sound nested o h k k_in agreement is)) (each_offer view sound nested arcs are)
 
   -- an arc of the middle step is an agreement's, and so is one that can carry less than its room
   agreement_of : (k : ℕ) (k_in : k < length arcs) → (step k ≡ 1) ⊎ ((arc_at arcs k).capacity ≢ (room_at view.rooms k).lots) → IsAgreement view.offers (room_at view.rooms k).lots (arc_at arcs k).capacity (room_at view.rooms k).key
@@ -142,7 +95,7 @@ module _ (view : GroupView) (sound : IsView view) (nested : IsNested view) (arcs
       let k_room : k < length view.rooms = omega (arith, are.all) in
       let a = agreement_of k k_in (inl is) in
       let enough : get_or flow k 0 ≤ agreement_lots view.rooms view.offers k = omega (arith, is_flow.within.each k, a.capacity_is, under_agreement (λ o. o.lots) k k_room a.agreement a.is) in
-      sym (load_is k k_room ∙ under_agreement lots k k_room a.agreement a.is ∙ shares_together view sound flow takes shares k enough)
+      sym (brought_is view sound nested arcs are (lots_of takes) k k_room ∙ under_agreement lots k k_room a.agreement a.is ∙ shares_together view sound flow takes shares k enough)
 
   sided : (k : ℕ) → k < length arcs → Sided arcs (λ k. get_or flow k 0) view.offers way lots 0 1 (distance step) each is_flow.kept k
   sided k k_in = elim (cases_order (step k) 1) [
@@ -157,12 +110,15 @@ module _ (view : GroupView) (sound : IsView view) (nested : IsNested view) (arcs
   flows_are : (k : ℕ) → k < length arcs → get_or flow k 0 ≡ load arcs view.offers way lots 0 1 each k
   flows_are k k_in = agree arcs (λ k. get_or flow k 0) view.offers way lots 0 1 (distance step) each is_flow.kept sided (suc (distance step k)) k k_in (omega arith)
 
+  pub flow_is_taken : (k : ℕ) → k < length arcs → get_or flow k 0 ≡ lots_under view.offers (room_at view.rooms k).key (lots_of takes)
+  flow_is_taken k k_in = flows_are k k_in ∙ brought_is view sound nested arcs are (lots_of takes) k (omega (arith, are.all))
+
   pub admissible : IsAdmissible view (lots_of takes)
   admissible = record {
     offers = All-from_get_or (λ o. lots o ≤ o.lots) view.offers no_offer (share_fits view sound flow takes shares);
     rooms = All-from_get_or (λ r. lots_under view.offers r.key (lots_of takes) ≤ r.lots) view.rooms no_room (λ k k_in.
         let k_arc : k < length arcs = omega (arith, are.all) in
-        omega (arith, load_is k k_in, flows_are k k_arc, is_flow.within.each k, capacity-le view.offers (room_at view.rooms k).lots _ (room_at view.rooms k).key (are.each k k_arc).capacity));
+        omega (arith, brought_is view sound nested arcs are (lots_of takes) k k_in, flows_are k k_arc, is_flow.within.each k, capacity-le view.offers (room_at view.rooms k).lots _ (room_at view.rooms k).key (are.each k k_arc).capacity));
   }
 
   pub oldest_first : IsOldestFirst view (lots_of takes)
@@ -187,10 +143,10 @@ module _ (view : GroupView) (sound : IsView view) (nested : IsNested view) (arcs
   -- where an offer's way leads out, its key is cut, or the offer itself
   covered : (o : ViewOffer) → IsOfferOf view o → is_covered cut o ≡ true
   covered o h =
-      let out = walk_leads_out arcs reached (way o) 0 1 (walking o h).walk from_source not_to_sink in
+      let out = walk_leads_out arcs reached (way o) 0 1 (walking view sound nested arcs are o h).walk from_source not_to_sink in
       let k = out.place in
       let k_in : k < length view.rooms = omega (arith, out.place_in, are.all) in
-      let on = key_on o h k k_in out.on_way in
+      let on = key_on view sound nested arcs are o h k k_in out.on_way in
       elim (cases_eq (arc_at arcs k).capacity (room_at view.rooms k).lots) [
         | inl same ↦ or_right (has_number cut.offers o.number) (list_any (has_key cut.keys) o.path)
             (any_key (has_key cut.keys) (room_at view.rooms k).key o.path on (key_told k k_in ∙ and_from (leads_out reached (arc_at arcs k)) ((arc_at arcs k).capacity == (room_at view.rooms k).lots) out.out (eq-eqb (arc_at arcs k).capacity (room_at view.rooms k).lots same)))
@@ -203,7 +159,7 @@ module _ (view : GroupView) (sound : IsView view) (nested : IsNested view) (arcs
       ]
 
   pub covers : Covers view cut
-  covers i d inside = covered (get_or view.offers i d) (offer_here i d inside)
+  covers i d inside = covered (get_or view.offers i d) (offer_here view sound nested arcs are i d inside)
 
   -- what an arc that leads out can carry counts as its key's room or as its offers' lots
   part : (k : ℕ) → k < length arcs → cond (leads_out reached (arc_at arcs k)) (arc_at arcs k).capacity 0
@@ -232,7 +188,7 @@ module _ (view : GroupView) (sound : IsView view) (nested : IsNested view) (arcs
       let w = cuts_offers reached arcs view.rooms in
       let at = agreement_place view.rooms in
       sum_by-by (IsOfferOf view) (λ o. cond (has_number cut.offers o.number) o.lots 0) (λ o. sum_by (λ k. cond (at o == k) (cond (w k) o.lots 0) 0) (places (length arcs))) view.offers
-      (λ o h. ap (λ b. cond b o.lots 0) (offer_told o h) ∙ sym (sum_one_place (λ k. cond (w k) o.lots 0) (length arcs) (at o) (omega (arith, own_in view sound nested o h, are.all)))) each_offer
+      (λ o h. ap (λ b. cond b o.lots 0) (offer_told o h) ∙ sym (sum_one_place (λ k. cond (w k) o.lots 0) (length arcs) (at o) (omega (arith, own_in view sound nested o h, are.all)))) (each_offer view sound nested arcs are)
       ∙ sum_by-swap (λ (o : ViewOffer) k. cond (at o == k) (cond (w k) o.lots 0) 0) view.offers (places (length arcs))
       ∙ sum_by-agree (λ k. sum_by (λ (o : ViewOffer). cond (at o == k) (cond (w k) o.lots 0) 0) view.offers) (λ k. cond (w k) (agreement_lots view.rooms view.offers k) 0) (places (length arcs))
       (λ k. sum_by-agree (λ (o : ViewOffer). cond (at o == k) (cond (w k) o.lots 0) 0) (λ (o : ViewOffer). cond (w k) (cond (at o == k) o.lots 0) 0) view.offers (λ o. cond-swap (at o == k) (w k) o.lots)
@@ -283,11 +239,12 @@ module _ (view : GroupView) (sound : IsView view) (nested : IsNested view) (arcs
   }
 
   -- the whole: takes and cut are right, and the takes are greatest
-  pub certified : (named : List Take) → named ≡ above_zero takes → (n : ℕ) → n ≡ total view.offers (lots_of takes) → IsSound (record { view = view; takes = named; cut = cut; lots = n })
-  certified named are n is =
+  pub certified : (named : List Take) → named ≡ above_zero takes → (n : ℕ) → n ≡ total view.offers (lots_of takes) → IsOldestGreatest view (lots_of takes) → IsLeastCut view cut → IsSound (record { view = view; takes = named; cut = cut; lots = n })
+  certified named are n is oldest least =
       rw (are, is) (record {
         of_view = sound;
         right = right_above_zero;
         named = above_zero-all takes;
-        greatest = subst (IsGreatest view) (sym same) greatest;
+        oldest = subst (IsOldestGreatest view) (sym same) oldest;
+        least = least;
       })

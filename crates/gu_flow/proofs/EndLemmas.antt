@@ -27,6 +27,12 @@ other_end-tail e = elim (cases_Bool (is_tail e)) [
 pub other_end-in : (e m : ℕ) → e < 2 * m → other_end e < 2 * m
 other_end-in e m e_in = let same = other_end-arc e in omega arith
 
+pub other_end-twice : (e : ℕ) → other_end (other_end e) ≡ e
+other_end-twice e = elim (cases_Bool (is_tail e)) [
+  | inl tail ↦ rw (other_end-tail e, tail) (let even : e % 2 ≡ 0 = tail_is e tail in omega arith)
+  | inr head ↦ rw (other_end-tail e, head) (let odd : e % 2 ≡ 1 = head_is e head in omega arith)
+]
+
 turned : {X : Type 0} (b : Bool) (x y : X) → cond (not b) x y ≡ cond b y x
 turned true x y = refl
 turned false x y = refl

@@ -10,6 +10,8 @@ pub mod SumLemmas
 pub mod Walks
 pub mod Loads
 pub mod CutTotals
+pub mod Borders
+pub mod LeastSides
 pub mod Sides
 pub mod RoomPlaces
 pub mod ArcLists
@@ -18,3 +20,11 @@ pub mod SomeLots
 pub mod CutMembers
 pub mod OfferWays
 pub mod Certifying
+pub mod ViewLoads
+pub mod OldestTakes
+pub mod OldestPass
+pub mod Marks
+pub mod Looking
+pub mod RoundPushing
+pub mod Raising
+pub mod Giving

@@ -59,6 +59,22 @@ unfolding places
 sum_places_le f g zero less = omega arith
 sum_places_le f g (suc n) less = omega (arith, sum_places f n, sum_places g n, less 0, sum_places_le (λ k. f (suc k)) (λ k. g (suc k)) n (λ k. less (suc k)))
 
+pub sum_places_le_in : (f g : ℕ → ℕ) (n : ℕ) → ((k : ℕ) → k < n → f k ≤ g k) → sum_by f (places n) ≤ sum_by g (places n)
+unfolding places
+sum_places_le_in f g zero less = omega arith
+sum_places_le_in f g (suc n) less = omega (arith, sum_places f n, sum_places g n, less 0 (omega arith), sum_places_le_in (λ k. f (suc k)) (λ k. g (suc k)) n (λ k k_in. less (suc k) (omega arith)))
+
+-- where no term is larger and the sums are equal, the terms are
+pub same_terms : (f g : ℕ → ℕ) (n : ℕ) → ((k : ℕ) → k < n → f k ≤ g k) → sum_by f (places n) ≡ sum_by g (places n) → (k : ℕ) → k < n → f k ≡ g k
+unfolding places
+same_terms f g zero less same k k_in = absurd (omega arith)
+same_terms f g (suc n) less same zero k_in =
+    omega (arith, sum_places f n, sum_places g n, same, less 0 (omega arith), sum_places_le_in (λ k. f (suc k)) (λ k. g (suc k)) n (λ k k_in. less (suc k) (omega arith)))
+same_terms f g (suc n) less same (suc k) k_in =
+    let rest : sum_by (λ k. f (suc k)) (places n) ≡ sum_by (λ k. g (suc k)) (places n) =
+    omega (arith, sum_places f n, sum_places g n, same, less 0 (omega arith), sum_places_le_in (λ k. f (suc k)) (λ k. g (suc k)) n (λ k k_in. less (suc k) (omega arith))) in
+    same_terms (λ k. f (suc k)) (λ k. g (suc k)) n (λ k k_in. less (suc k) (omega arith)) rest k (omega arith)
+
 -- another term at one place
 pub sum_places_set : (f g : ℕ → ℕ) (n k : ℕ) → k < n → ((j : ℕ) → j ≢ k → g j ≡ f j) → sum_by g (places n) + f k ≡ sum_by f (places n) + g k
 unfolding places

@@ -1,10 +1,15 @@
 pub mod Ends
 pub mod Levels
 pub mod Flows
+pub mod Floors
 pub mod Preflows
 pub mod Ways
 pub mod Layouts
 pub mod CutArcs
+pub mod LeastCuts
 pub mod Networks
+pub mod OldestFlows
 pub mod Proposals
+pub mod Rounds
+pub mod Searches
 pub mod Shares

@@ -4,8 +4,9 @@ use Rattle.gu_terms.specs.Cuts.{CutLists}
 use Rattle.gu_terms.specs.Takes.{lots_of}
 use Rattle.gu_terms.specs.declared.takes.Take.{Take}
 use Rattle.gu_view.specs.Check.{IsRight}
-use Rattle.gu_view.specs.Takes.{IsGreatest}
+use Rattle.gu_view.specs.Takes.{IsOldestGreatest}
 use Rattle.gu_view.specs.View.{GroupView, IsView}
+use Rattle.gu_flow.specs.LeastCuts.{IsLeastCut}
 
 -- what a proposal shows: the view that it is for, the takes, the cut, and the lots taken in all
 pub record ProposedSweep : Type 0 where
@@ -14,10 +15,11 @@ pub record ProposedSweep : Type 0 where
   pub cut : CutLists
   pub lots : ℕ
 
--- what holds of every proposal: it is of a view, passes the check with its lots, names only offers of which it takes lots, and
--- no admissible takes are greater
+-- what holds of every proposal: it is of a view, passes the check with its lots, names only offers of which it takes lots, is oldest
+-- first over the group among the greatest takes, and its cut is the nearest to the source
 pub record IsSound (sweep : ProposedSweep) : Type 0 where
   pub of_view : IsView sweep.view
   pub right : IsRight sweep.view sweep.takes sweep.cut sweep.lots
   pub named : All (λ t. 0 < t.lots) sweep.takes
-  pub greatest : IsGreatest sweep.view (lots_of sweep.takes)
+  pub oldest : IsOldestGreatest sweep.view (lots_of sweep.takes)
+  pub least : IsLeastCut sweep.view sweep.cut

@@ -1,6 +1,7 @@
 //! Greatest claim sweeps of a view, with the cut that proves them.
 #![tactic(auto)]
 
+mod allotment;
 mod augment;
 mod cutting;
 mod heights;
@@ -8,9 +9,12 @@ mod layout;
 mod levels;
 mod maximum;
 mod network;
+mod oldest;
 mod preflow;
 mod proposal;
 mod residual;
+mod rounds;
+mod searching;
 mod sharing;
 mod waiting;
 mod ways;

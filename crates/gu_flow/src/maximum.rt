@@ -2,7 +2,7 @@
 
 ghost use Rattle.std.specs.Prelude.{◌≡◌, ◌≤◌, true, false, IfOk, OnOk, length};
 ghost use Rattle.gu_flow.specs.Flows.{IsFlow, IsClosed};
-ghost use Rattle.gu_flow.specs.Levels.{is_reached};
+ghost use Rattle.gu_flow.specs.Levels.{is_reached, IsTree};
 
 use crate::heights::surge;
 use crate::levels::{Label, search};
@@ -32,6 +32,7 @@ fn fill(
     ensures from_source { OnOk result (is_reached entries.new 0 ≡ true) }
     ensures not_to_sink { OnOk result (is_reached entries.new 1 ≡ false) }
     ensures closed { OnOk result (IsClosed net.now.arcs.items flow.new (is_reached entries.new)) }
+    ensures tree { OnOk result (IsTree net.now.arcs.items flow.new entries.new) }
 {
     let nodes = entries.len();
     let mut left = SEARCHES * nodes;
@@ -53,6 +54,7 @@ fn raise(alloc: Global, net: &Network, flow: &mut [u64]) -> Result<Vec<Label>, A
     ensures from_source { IfOk result (λ entries. is_reached entries.items 0 ≡ true) }
     ensures not_to_sink { IfOk result (λ entries. is_reached entries.items 1 ≡ false) }
     ensures closed { IfOk result (λ entries. IsClosed net.now.arcs.items flow.new (is_reached entries.items)) }
+    ensures tree { IfOk result (λ entries. IsTree net.now.arcs.items flow.new entries.items) }
 {
     let nodes = net.nodes();
     let mut entries = vec![in alloc; Label { via: 0, level: 0 }; nodes]?;
@@ -77,6 +79,7 @@ pub(crate) fn maximize(alloc: Global, net: &Network) -> Result<(Vec<u64>, Vec<La
     ensures from_source { IfOk result (λ found. is_reached found.1.items 0 ≡ true) }
     ensures not_to_sink { IfOk result (λ found. is_reached found.1.items 1 ≡ false) }
     ensures closed { IfOk result (λ found. IsClosed net.now.arcs.items found.0.items (is_reached found.1.items)) }
+    ensures tree { IfOk result (λ found. IsTree net.now.arcs.items found.0.items found.1.items) }
 {
     let mut flow = vec![in alloc; 0; net.arcs().len()]?;
     let entries = raise(alloc, net, &mut flow)?;

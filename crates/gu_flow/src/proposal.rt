@@ -9,13 +9,14 @@ use crate::cutting::cut_by;
 use crate::layout::lay_out;
 use crate::maximum::maximize;
 use crate::network::Network;
+use crate::oldest::give_oldest;
 use crate::sharing::share_out;
 use gu_terms::{Cut, Take, Takes};
 use gu_view::View;
 use std::alloc::{AllocError, Global};
 use std::marker::Model;
 
-/// The greatest takes of a view, oldest first inside each agreement, and a cut whose room is the lots taken.
+/// The greatest takes of a view that are oldest first over the group, and the cut nearest to the source, whose room is the lots taken.
 pub struct Proposal {
     view: View,
     takes: Takes,
@@ -131,14 +132,15 @@ fn sweep(alloc: Global, view: &View) -> Result<(Takes, Cut, u64), AllocError>
 {
     let arcs = lay_out(alloc, view)?;
     let net = Network::new(alloc, arcs, view.rooms().len() + 2)?;
-    let (flow, entries) = maximize(alloc, &net)?;
+    let (greatest, entries) = maximize(alloc, &net)?;
+    let flow = give_oldest(alloc, view, &net, greatest)?;
     let takes = share_out(alloc, view, flow)?;
     let cut = cut_by(alloc, view, net.arcs(), &entries)?;
     let lots = sum_of(takes.as_slice());
     Ok((takes, cut, lots))
 }
 
-/// Proposes the greatest claim sweep of a nested view. No lock is held, and nothing is waited for.
+/// Proposes the greatest claim sweep of a nested view that is oldest first over the group. No lock is held, and nothing is waited for.
 pub fn propose(alloc: Global, view: View) -> Result<Proposal, (AllocError, View)>
     requires { IsNested view }
     ensures view { IfOk result (λ proposal. proposal.view ≡ view) }

@@ -10,17 +10,18 @@ use Rattle.gu_terms.specs.declared.takes.Take.{Take}
 use Rattle.gu_ref.specs.Reference.{is_group}
 use Rattle.gu_ref.specs.Tables.{Tables}
 use Rattle.gu_view.specs.Check.{IsRight}
-use Rattle.gu_view.specs.Takes.{IsGreatest}
+use Rattle.gu_view.specs.Takes.{IsOldestGreatest}
 use Rattle.gu_view.specs.View.{GroupView}
 use Rattle.gu_rules.specs.Views.{group_view}
 
--- a sweep of a view: it takes within every offer and room, oldest first, as many lots as any that does, and its cut says so
+-- a sweep of a view: it takes within every offer and room as many lots as any that does, of all that do the one that gives the oldest
+-- offers most, and its cut says so
 pub record IsSweepOf (view : GroupView) (sweep : SweepEntry) : Type 0 where
   pub ascending : IsAscending sweep.takes
   pub keys : IsDistinct key_eq sweep.cut.keys
   pub offers : IsDistinct (λ m n. m == n) sweep.cut.offers
   pub right : IsRight view sweep.takes sweep.cut sweep.lots
-  pub greatest : IsGreatest view (lots_of sweep.takes)
+  pub oldest : IsOldestGreatest view (lots_of sweep.takes)
 
 -- a sweep that may come after these entries: of a group of the reference, as its view is then
 pub record MaySweep (reference : Tables) (before : List Entry) (sweep : SweepEntry) : Type 0 where

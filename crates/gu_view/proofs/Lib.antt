@@ -8,6 +8,7 @@ pub mod MarkLemmas
 pub mod MemberLemmas
 pub mod Mentions
 pub mod NestingLemmas
+pub mod OldestGreatest
 pub mod OnceLemmas
 pub mod PassingPlaces
 pub mod RoomLemmas

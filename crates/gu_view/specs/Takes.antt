@@ -27,3 +27,13 @@ pub record IsGreatest (view : GroupView) (lots : ℕ → ℕ) : Type 0 where
 abbrev pub IsOldestFirst : GroupView → (ℕ → ℕ) → Type 0
 IsOldestFirst view lots =
     AllPairs (λ earlier later. earlier.agreement ≡ later.agreement → 0 < lots later.number → lots earlier.number ≡ earlier.lots) view.offers
+
+-- both give each offer that is older than this one the same lots
+abbrev pub AgreeOnOlder : List ViewOffer → ViewOffer → (ℕ → ℕ) → (ℕ → ℕ) → Type 0
+AgreeOnOlder offers o others lots = All (λ older. older.number < o.number → others older.number ≡ lots older.number) offers
+
+-- greatest, and oldest first over the group: of all greatest takes that give each older offer the same, none gives an offer more
+pub record IsOldestGreatest (view : GroupView) (lots : ℕ → ℕ) : Type 0 where
+  pub greatest : IsGreatest view lots
+  pub oldest : (others : ℕ → ℕ) → IsGreatest view others
+      → All (λ o. AgreeOnOlder view.offers o others lots → others o.number ≤ lots o.number) view.offers

@@ -1,9 +1,9 @@
 //! Laws of views and cuts.
 
-ghost use Rattle.std.specs.Prelude.{ℕ, ◌≤◌};
+ghost use Rattle.std.specs.Prelude.{◌≡◌, ℕ, ◌≤◌, All};
 ghost use Rattle.gu_terms.specs.Cuts.{CutLists};
 ghost use Rattle.gu_view.specs.Cut.{Covers, room_of};
-ghost use Rattle.gu_view.specs.Takes.{IsAdmissible, total};
+ghost use Rattle.gu_view.specs.Takes.{IsAdmissible, IsOldestFirst, IsOldestGreatest, total};
 ghost use Rattle.gu_view.specs.View.{GroupView, IsView};
 
 /// No admissible lots exceed the room of a cut that covers.
@@ -13,4 +13,21 @@ pub fn cut_bounds_takes()
         → IsAdmissible view lots
         → Covers view cut
         → total view.offers lots ≤ room_of view cut }
+{}
+
+/// Two takes that are oldest first over the group among the greatest give each offer of the view the same lots.
+pub fn oldest_greatest_is_one()
+    ensures { (view : GroupView) (lots others : ℕ → ℕ)
+        → IsView view
+        → IsOldestGreatest view lots
+        → IsOldestGreatest view others
+        → All (λ o. others o.number ≡ lots o.number) view.offers }
+{}
+
+/// Takes that are oldest first over the group among the greatest are oldest first in each agreement.
+pub fn oldest_greatest_is_oldest_first()
+    ensures { (view : GroupView) (lots : ℕ → ℕ)
+        → IsView view
+        → IsOldestGreatest view lots
+        → IsOldestFirst view lots }
 {}

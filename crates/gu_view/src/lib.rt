@@ -18,5 +18,5 @@ pub use board::{Board, ViewToken};
 pub use checker::check;
 pub use error::{CutFault, Unknown, ViewError};
 pub use keyed_offers::KeyedOffers;
-pub use laws::cut_bounds_takes;
+pub use laws::{cut_bounds_takes, oldest_greatest_is_oldest_first, oldest_greatest_is_one};
 pub use view::{Room, View, ViewOffer};

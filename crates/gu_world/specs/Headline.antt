@@ -10,7 +10,7 @@ use Rattle.gu_terms.specs.declared.symbol.Symbol.{Symbol}
 use Rattle.gu_ref.specs.Tables.{Tables}
 use Rattle.gu_view.specs.Check.{has_offer, has_room}
 use Rattle.gu_view.specs.Cut.{Covers, room_of}
-use Rattle.gu_view.specs.Takes.{IsAdmissible, IsOldestFirst, total}
+use Rattle.gu_view.specs.Takes.{AgreeOnOlder, IsAdmissible, IsGreatest, IsOldestFirst, total}
 use Rattle.gu_view.specs.View.{GroupView}
 use Rattle.gu_rules.specs.Offers.{standing_of}
 use Rattle.gu_rules.specs.Positions.{long_of, moved_into, moved_out, short_of, traded}
@@ -18,14 +18,17 @@ use Rattle.gu_rules.specs.Reports.{reports_of}
 use Rattle.gu_rules.specs.Views.{group_view}
 
 -- a sweep of a view: it takes lots of the view's offers alone, no more of any offer than it has and no more under any key than its room,
--- and the oldest offers of an agreement first; no admissible takes have more lots; and its cut names keys and offers of the view alone,
--- covers each offer, and has the lots taken as its room
+-- and the oldest offers of an agreement first; no admissible takes have more lots, and of those that have as many and give each older
+-- offer the same, none gives an offer more; and its cut names keys and offers of the view alone, covers each offer, and has the lots taken
+-- as its room
 pub record IsGreatestSweep (view : GroupView) (sweep : SweepEntry) : Type 0 where
   pub known : All (λ t. IsTrue (has_offer view.offers t.offer)) sweep.takes
   pub within : IsAdmissible view (lots_of sweep.takes)
   pub oldest_first : IsOldestFirst view (lots_of sweep.takes)
   pub taken : total view.offers (lots_of sweep.takes) ≡ sweep.lots
   pub greatest : (others : ℕ → ℕ) → IsAdmissible view others → total view.offers others ≤ sweep.lots
+  pub oldest : (others : ℕ → ℕ) → IsGreatest view others
+      → All (λ o. AgreeOnOlder view.offers o others (lots_of sweep.takes) → others o.number ≤ lots_of sweep.takes o.number) view.offers
   pub keys : All (λ k. IsTrue (has_room view.rooms k)) sweep.cut.keys
   pub offers : All (λ n. IsTrue (has_offer view.offers n)) sweep.cut.offers
   pub covers : Covers view sweep.cut

@@ -23,5 +23,5 @@ returns c =
       offers = subst (λ (same : ℕ → ℕ → Bool). IsDistinct same c.args.proposal.now.cut.offers) (λ i m n. number_is m n i)
           (subst (IsDistinct number_eq) (c.offers.ensures.offers ∙ ap (λ (cut : CutLists). cut.offers) c.cut-cut.ensures.cut) c.offers.ensures.once);
       right = sound.right;
-      greatest = sound.greatest;
+      oldest = sound.oldest;
     }

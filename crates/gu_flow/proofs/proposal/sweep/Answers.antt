@@ -1,8 +1,11 @@
-use Rattle.std.proofs.Common.{arith, ap, sym, subst, ◌∙◌, sum_by}
+use Rattle.std.proofs.Common.{arith, ap, sym, subst, ◌∙◌, sum_by, length}
 use Rattle.gu_terms.specs.declared.takes.Take.{Take}
 use Rattle.gu_flow.specs.Levels.{is_reached}
 use Rattle.gu_flow.specs.Networks.{AreArcs}
-use Rattle.gu_flow.proofs.Certifying.{certified}
+use Rattle.gu_flow.proofs.Borders.{closed_stays}
+use Rattle.gu_flow.proofs.Certifying.{certified, flow_is_taken, greatest}
+use Rattle.gu_flow.proofs.LeastSides.{least_side}
+use Rattle.gu_flow.proofs.OldestTakes.{oldest_greatest}
 use Rattle.gu_flow.proofs.ShareLemmas.{shares_total, shares_fit}
 use Rattle.gu_flow.proofs.SomeLots.{above_zero-sum}
 use Rattle.gu_flow.proofs.proposal.sweep.Goals as goal
@@ -17,14 +20,31 @@ pub returns : goal.returns
 returns c =
     let view = c.args.view.now in
     let sound = c.rooms.ensures.sound in
+    let arcs = c.in_ok-net.net.arcs.items in
     let flow = c.in_ok-flow.flow.items in
     let takes = c.in_ok-takes.takes in
     let shares = c.in_ok-takes.ensures in
+    let g = c.in_ok-greatest.ensures in
     let e = c.in_ok-flow.ensures in
-    let are : AreArcs view c.in_ok-net.net.arcs.items = subst (AreArcs view) (sym c.in_ok-net.ensures.arcs) c.in_ok-arcs.ensures.arcs in
+    let are : AreArcs view arcs = subst (AreArcs view) (sym c.in_ok-net.ensures.arcs) c.in_ok-arcs.ensures.arcs in
     let cut = rw (c.arcs.ensures, c.deref.ensures.value) at c.in_ok-cut.ensures in
+    let reached = is_reached c.in_ok-greatest.entries.items in
+    let net = c.in_ok-net.net in
+    let closed = closed_stays arcs (length net.first.items) net.is_network.joins (omega (arith, net.is_network.ends)) c.in_ok-greatest.greatest.items flow reached g.flow e.flow e.value g.closed in
     let lots =
     c.sum_of-lots.ensures ∙ ap (sum_by (λ (t : Take). t.lots)) (c.as_slice.ensures.takes ∙ shares.named)
     ∙ above_zero-sum shares.shares ∙ shares_total view sound flow shares.shares shares.all in
-    certified view sound c.requires c.in_ok-net.net.arcs.items are flow e.flow (is_reached c.in_ok-flow.entries.items) e.from_source e.not_to_sink e.closed shares.shares shares.all
+    let taken = flow_is_taken view sound c.requires arcs are flow e.flow reached g.from_source g.not_to_sink closed shares.shares shares.all c.in_ok-cut.cut cut in
+    let best = greatest view sound c.requires arcs are flow e.flow reached g.from_source g.not_to_sink closed shares.shares shares.all c.in_ok-cut.cut cut in
+    certified view sound c.requires arcs are flow e.flow reached g.from_source g.not_to_sink closed shares.shares shares.all
     c.in_ok-cut.cut cut takes shares.named c.sum_of-lots.result lots
+    (oldest_greatest view sound c.requires arcs are flow shares.shares shares.all taken e.oldest best)
+    (record {
+      arcs = arcs;
+      are = are;
+      flow = c.in_ok-greatest.greatest.items;
+      is_flow = g.flow;
+      reached = reached;
+      side = least_side arcs (length net.first.items) net.is_network.joins (omega (arith, net.is_network.ends)) c.in_ok-greatest.greatest.items c.in_ok-greatest.entries.items g.flow g.tree g.from_source g.not_to_sink g.closed;
+      cuts = cut;
+    })

@@ -1,0 +1,42 @@
+use Rattle.std.proofs.Common.{◌≡◌, ◌*◌, ◌<◌, true, ◌/◌, ◌%◌, ◌∙◌, ap, sym, subst, arith, length, get_or, get_or-set_same, get_or-set_other}
+use Rattle.std.proofs.Math.ListN.{length-set}
+use Rattle.std.proofs.lemmas.Bool.{eq-eqb}
+use Rattle.std.proofs.lemmas.List.{get_or_default}
+use Rattle.gu_flow.specs.declared.searching.Mark.{Mark}
+use Rattle.gu_flow.specs.Ends.{is_tail, far}
+use Rattle.gu_flow.specs.Floors.{KeepsFloors}
+use Rattle.gu_flow.specs.Searches.{no_mark, depth_at, mark_at}
+use Rattle.gu_flow.proofs.Raising.{head_of, round_ends, round_is_flow, tail_of}
+use Rattle.gu_flow.proofs.rounds.bring_round.Goals as goal
+
+pub push-requires-clause-room : goal.push-requires-clause-room
+push-requires-clause-room c =
+    let arcs = c.args.net.now.arcs.items in
+    let place = c.args.place in
+    let marks = c.args.search.now.marks.items in
+    let node = c.near-tail.result in
+    let mark : c.index.result.now ≡ mark_at marks node = c.index.ensures ∙ get_or_default marks node c.index.result.now no_mark (omega (arith, c.requires.places.marks, c.near-tail.ensures.within)) in
+    let found = subst (λ n. 0 < depth_at marks n) (sym (c.near-tail.ensures.is ∙ tail_of arcs place)) c.requires.ends.1 in
+    let tail : is_tail (2 * place) ≡ true = eq-eqb ((2 * place) % 2) 0 (omega arith) in
+    let half : 2 * place / 2 ≡ place = omega arith in
+    rw (tail, half) (omega (arith, c.push_along.ensures.floor place c.requires.place.1 (sym c.requires.ends.0), c.requires.fits, ap (λ (m : Mark). m.lots) mark, c.requires.tree.most_lots node found))
+
+pub returns-clause-allotment : goal.returns-clause-allotment
+returns-clause-allotment c =
+    let net = c.args.net.now in
+    let arcs = net.arcs.items in
+    let a = c.args.allotment.now in
+    let place = c.args.place in
+    let e = c.push_along.ensures in
+    let p = c.push.ensures in
+    let pushed = c.push.new.self in
+    let at_head : far arcs (2 * place) ≡ c.args.search.now.from = head_of arcs place ∙ sym c.requires.ends.0 in
+    let round = round_is_flow arcs a.flow.items c.push_along.new.allotment.flow.items pushed.flow.items c.near-tail.result c.args.search.now.from c.index.result.now.lots (2 * place) c.requires.allotment.is_flow e.brought (sym c.near-tail.ensures.is) at_head p.pushes in
+    let floors : pushed.floors ≡ a.floors = p.same.0 ∙ e.same.0 in
+    let floor = c.index-2.result.now in
+    let inside : place < length pushed.floors.items = omega (arith, ap (λ f. length f.items) floors, c.requires.allotment.floors, c.requires.place.0) in
+    round_ends arcs (length net.first.items) net.is_network.joins (omega (arith, net.is_network.ends)) a _ c.requires.allotment place round.0 round.1
+    (subst (λ f. KeepsFloors f.items pushed.flow.items) floors p.keeps)
+    (get_or-set_same pushed.floors.items place floor 0 inside ∙ c.index-2.ensures ∙ get_or_default pushed.flow.items place floor 0 (omega (arith, p.pushes.within.all, c.requires.place.0)))
+    (λ k other. get_or-set_other pushed.floors.items place k floor 0 other ∙ ap (λ f. get_or f.items k 0) floors)
+    (length-set pushed.floors.items place floor ∙ ap (λ f. length f.items) floors) (p.same.1 ∙ e.same.1)

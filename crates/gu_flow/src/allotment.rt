@@ -1,0 +1,90 @@
+//! A flow in which lots are brought round.
+
+ghost use Rattle.std.specs.Prelude.{◌≡◌, ℕ, ◌+◌, ◌*◌, ◌/◌, ◌%◌, ◌<◌, ◌≤◌, IfOk, length, slice_index};
+ghost use Rattle.gu_flow.specs.Floors.{KeepsFloors, room_out};
+ghost use Rattle.gu_flow.specs.Flows.{IsWithin, Pushes};
+ghost use Rattle.gu_flow.specs.Rounds.{room_inside, IsAllotment};
+ghost use Rattle.gu_flow.specs.Searches.{depth_at, IsMarkQueue};
+
+use crate::network::{Network, other_end};
+use crate::searching::Search;
+use std::alloc::{AllocError, Global};
+
+/// A flow, for each arc the lots below which it may not fall, and for each node its region: between two regions nothing can change.
+#[derive(Drop)]
+pub struct Allotment {
+    pub(crate) flow: Vec<u64>,
+    pub(crate) floors: Vec<u64>,
+    pub(crate) regions: Vec<u32>,
+}
+
+impl Allotment {
+    /// Creates the allotment of a flow, without floors, in one region.
+    pub(crate) fn new(alloc: Global, nodes: usize, flow: Vec<u64>) -> Result<Allotment, AllocError>
+        ensures flow { IfOk result (λ a. a.flow.items ≡ flow.items) }
+        ensures floors { IfOk result (λ a. length a.floors.items ≡ length flow.items) }
+        ensures no_floors { IfOk result (λ a. (k : ℕ) → slice_index a.floors.items k ≡ 0) }
+        ensures regions { IfOk result (λ a. length a.regions.items ≡ nodes) }
+        ensures one_region { IfOk result (λ a. (n : ℕ) → slice_index a.regions.items n ≡ 0) }
+    {
+        let floors = vec![in alloc; 0; flow.len()]?;
+        let regions = vec![in alloc; 0; nodes]?;
+        Ok(Allotment {
+            flow,
+            floors,
+            regions,
+        })
+    }
+
+    /// Returns the lots that a search can bring over an end inside a region, or if it goes back, against its way.
+    pub(crate) fn room(&self, net: &Network, back: bool, end: u32) -> u64
+        requires allotment { IsAllotment net.now.arcs.items (length net.now.first.items) self.now }
+        requires end { end < 2 * length net.now.arcs.items }
+        ensures { result ≡ room_inside net.now.arcs.items self.now back end }
+    {
+        if self.regions[net.near(end) as usize] != self.regions[net.far(end) as usize] {
+            return 0;
+        }
+        let over = if back { other_end(end) } else { end };
+        let flows = self.flow[over as usize / 2];
+        if over % 2 == 0 {
+            net.capacity(over) - flows
+        } else {
+            flows - self.floors[over as usize / 2]
+        }
+    }
+
+    /// Brings lots over an end, from its node to the other.
+    pub(crate) fn push(&mut self, net: &Network, end: u32, lots: u64)
+        requires within { IsWithin net.now.arcs.items self.old.flow.items }
+        requires keeps { KeepsFloors self.old.floors.items self.old.flow.items }
+        requires end { end < 2 * length net.now.arcs.items }
+        requires room { lots ≤ room_out net.now.arcs.items self.old.floors.items self.old.flow.items end }
+        ensures pushes { Pushes net.now.arcs.items self.old.flow.items self.new.flow.items end lots }
+        ensures keeps { KeepsFloors self.new.floors.items self.new.flow.items }
+        ensures along { end % 2 ≡ 0 → slice_index self.new.flow.items (end / 2) ≡ slice_index self.old.flow.items (end / 2) + lots }
+        ensures same { (self.new.floors ≡ self.old.floors) × (self.new.regions ≡ self.old.regions) }
+    {
+        if end % 2 == 0 {
+            self.flow[end as usize / 2] += lots;
+        } else {
+            self.flow[end as usize / 2] -= lots;
+        }
+    }
+
+    /// Makes what a search has reached a region.
+    pub(crate) fn set_apart(&mut self, search: &Search, region: u32)
+        requires waits { IsMarkQueue search.now.marks.items search.now.queue.items search.now.count }
+        requires places { (length search.now.marks.items ≡ length self.old.regions.items)
+            × (length search.now.queue.items ≡ length self.old.regions.items) }
+        ensures same { (self.new.flow ≡ self.old.flow) × (self.new.floors ≡ self.old.floors) }
+        ensures size { length self.new.regions.items ≡ length self.old.regions.items }
+        ensures inside { (n : ℕ) → 0 < depth_at search.now.marks.items n → slice_index self.new.regions.items n ≡ region }
+        ensures outside { (n : ℕ) → depth_at search.now.marks.items n ≡ 0
+            → slice_index self.new.regions.items n ≡ slice_index self.old.regions.items n }
+    {
+        for place in 0..search.count {
+            self.regions[search.queue[place] as usize] = region;
+        }
+    }
+}

@@ -1,0 +1,167 @@
+//! A search from one node inside a region, which looks at one end at a time.
+
+ghost use Rattle.std.specs.Prelude.{◌≡◌, ℕ, ◌*◌, ◌<◌, ◌≤◌, IfOk, IfSome, length};
+ghost use Rattle.gu_flow.specs.Ends.{near, far};
+ghost use Rattle.gu_flow.specs.Rounds.{room_inside, IsAllotment};
+ghost use Rattle.gu_flow.specs.Searches.{depth_at, is_marked, mark_at, turns_left, HasPlaces, IsClear, IsMarkQueue, IsMarkTree, IsSearch, KeepsReached};
+
+use crate::allotment::Allotment;
+use crate::network::Network;
+use std::alloc::{AllocError, Global};
+
+/// How a search came to a node: over which end, at which level, and with how many lots at most.
+#[derive(Clone, Copy)]
+pub struct Mark {
+    /// The end at the node from which it came.
+    pub via: u32,
+    /// 1 for the node from which it began, and 0 where it hasn't come.
+    pub level: u32,
+    pub lots: u64,
+}
+
+/// What a search has reached, and where it goes on.
+#[derive(Drop)]
+pub struct Search {
+    /// The node from which it began.
+    pub(crate) from: u32,
+    /// Whether it goes back: to the nodes from which lots can be brought.
+    pub(crate) back: bool,
+    pub(crate) marks: Vec<Mark>,
+    /// The nodes that were reached, in this order.
+    pub(crate) queue: Vec<u32>,
+    pub(crate) count: usize,
+    /// How many of them are looked through.
+    pub(crate) done: usize,
+    /// One more than the end at which the next of them is looked through next, or 0.
+    ends: u32,
+}
+
+impl Search {
+    /// Creates a search that hasn't begun, with a place for each of this number of nodes.
+    pub(crate) fn new(alloc: Global, back: bool, nodes: usize) -> Result<Search, AllocError>
+        ensures back { IfOk result (λ s. s.back ≡ back) }
+        ensures places { IfOk result (λ s. HasPlaces nodes s) }
+        ensures clear { IfOk result (λ s. IsClear s) }
+    {
+        let marks = vec![in alloc; Mark {
+            via: 0,
+            level: 0,
+            lots: 0
+        }; nodes]?;
+        let queue = vec![in alloc; 0; nodes]?;
+        Ok(Search {
+            from: 0,
+            back,
+            marks,
+            queue,
+            count: 0,
+            done: 0,
+            ends: 0,
+        })
+    }
+
+    /// Begins at a node, with this number of lots at most.
+    pub(crate) fn begin(&mut self, net: &Network, from: u32, most: u64)
+        requires clear { IsClear self.old }
+        requires places { HasPlaces (length net.now.first.items) self.old }
+        requires from { from < length net.now.first.items }
+        requires some { 0 < most }
+        ensures search { (room : ℕ → ℕ) → IsSearch net.now.arcs.items room self.new }
+        ensures places { HasPlaces (length net.now.first.items) self.new }
+        ensures same { (self.new.from ≡ from) × (self.new.back ≡ self.old.back) }
+        ensures most { (mark_at self.new.marks.items from).lots ≡ most }
+    {
+        self.marks[from as usize] = Mark {
+            via: 0,
+            level: 1,
+            lots: most,
+        };
+        self.queue[0] = from;
+        self.from = from;
+        self.count = 1;
+        self.done = 0;
+        self.ends = net.ends(from);
+    }
+
+    /// Returns whether it has come to a node.
+    pub(crate) fn has(&self, node: u32) -> bool
+        requires { node < length self.now.marks.items }
+        ensures { result ≡ is_marked self.now.marks.items node }
+    {
+        self.marks[node as usize].level > 0
+    }
+
+    /// Reaches the node at the other end of an arc, if lots can be brought there. Returns it if it wasn't reached before.
+    pub(crate) fn reach(&mut self, net: &Network, allotment: &Allotment, end: u32) -> Option<u32>
+        requires allotment { IsAllotment net.now.arcs.items (length net.now.first.items) allotment.now }
+        requires places { HasPlaces (length net.now.first.items) self.old }
+        requires tree { IsMarkTree net.now.arcs.items (room_inside net.now.arcs.items allotment.now self.old.back) self.old.from self.old.marks.items }
+        requires waits { IsMarkQueue self.old.marks.items self.old.queue.items self.old.count }
+        requires end { (end < 2 * length net.now.arcs.items) × (0 < depth_at self.old.marks.items (near net.now.arcs.items end)) }
+        ensures places { HasPlaces (length net.now.first.items) self.new }
+        ensures tree { IsMarkTree net.now.arcs.items (room_inside net.now.arcs.items allotment.now self.new.back) self.new.from self.new.marks.items }
+        ensures waits { IsMarkQueue self.new.marks.items self.new.queue.items self.new.count }
+        ensures keeps { KeepsReached self.old self.new }
+        ensures position { (self.new.done ≡ self.old.done) × (self.new.ends ≡ self.old.ends) }
+        ensures reached { 0 < room_inside net.now.arcs.items allotment.now self.old.back end
+            → 0 < depth_at self.new.marks.items (far net.now.arcs.items end) }
+        ensures found { IfSome result (λ n. (n < length net.now.first.items) × (0 < depth_at self.new.marks.items n)) }
+    {
+        let other = net.far(end);
+        if self.has(other) {
+            return None;
+        }
+        let mark = self.marks[net.near(end) as usize];
+        let lots = mark.lots.min(allotment.room(net, self.back, end));
+        if lots == 0 {
+            return None;
+        }
+        self.marks[other as usize] = Mark {
+            via: end,
+            level: mark.level + 1,
+            lots,
+        };
+        self.queue[self.count] = other;
+        self.count += 1;
+        Some(other)
+    }
+
+    /// Looks at one more end. Returns the node to which it leads, if it is reached by that.
+    pub(crate) fn look(&mut self, net: &Network, allotment: &Allotment) -> Option<u32>
+        requires allotment { IsAllotment net.now.arcs.items (length net.now.first.items) allotment.now }
+        requires places { HasPlaces (length net.now.first.items) self.old }
+        requires search { IsSearch net.now.arcs.items (room_inside net.now.arcs.items allotment.now self.old.back) self.old }
+        requires on { self.old.done < self.old.count }
+        ensures places { HasPlaces (length net.now.first.items) self.new }
+        ensures search { IsSearch net.now.arcs.items (room_inside net.now.arcs.items allotment.now self.new.back) self.new }
+        ensures keeps { KeepsReached self.old self.new }
+        ensures found { IfSome result (λ n. (n < length net.now.first.items) × (0 < depth_at self.new.marks.items n)) }
+        ensures less { turns_left net.now.arcs.items self.new < turns_left net.now.arcs.items self.old }
+    {
+        if self.ends == 0 {
+            self.done += 1;
+            if self.done < self.count {
+                self.ends = net.ends(self.queue[self.done]);
+            }
+            return None;
+        }
+        let end = self.ends - 1;
+        self.ends = net.ends_before(end);
+        self.reach(net, allotment, end)
+    }
+
+    /// Forgets what was reached.
+    pub(crate) fn clear(&mut self)
+        requires waits { IsMarkQueue self.old.marks.items self.old.queue.items self.old.count }
+        requires places { length self.old.queue.items ≡ length self.old.marks.items }
+        ensures clear { IsClear self.new }
+        ensures same { (self.new.back ≡ self.old.back) × (length self.new.marks.items ≡ length self.old.marks.items)
+            × (length self.new.queue.items ≡ length self.old.queue.items) }
+    {
+        while self.count > 0 {
+            self.count -= 1;
+            let node = self.queue[self.count];
+            self.marks[node as usize].level = 0;
+        }
+    }
+}

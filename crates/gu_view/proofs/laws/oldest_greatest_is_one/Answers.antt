@@ -1,0 +1,5 @@
+use Rattle.gu_view.proofs.OldestGreatest.{oldest_greatest_is_one}
+use Rattle.gu_view.proofs.laws.oldest_greatest_is_one.Goals as goal
+
+pub returns : goal.returns
+returns c = λ view lots others sound. oldest_greatest_is_one view sound lots others
