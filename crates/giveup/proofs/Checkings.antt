@@ -20,7 +20,7 @@ use Rattle.gu_view.specs.Check.{verdict}
 use Rattle.gu_view.specs.Takes.{IsGreatest}
 use Rattle.gu_view.specs.declared.error.CutFault.{CutFault}
 use Rattle.giveup.specs.Checking.{Checked, CheckedInPart, ReadsBadLine, ReadsPart, ReadsSheet, status_after}
-use Rattle.giveup.specs.declared.status.Status.{Status}
+use Rattle.gu_words.specs.declared.status.Status.{Status}
 
 -- ---- what is read
 

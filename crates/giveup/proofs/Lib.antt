@@ -1,6 +1,1 @@
-pub mod Capturings
 pub mod Checkings
-pub mod Joining
-pub mod ServeLemmas
-pub mod ValueLemmas
-pub mod WordLemmas

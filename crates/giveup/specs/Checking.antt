@@ -12,8 +12,8 @@ use Rattle.gu_view.specs.Check.{verdict}
 use Rattle.gu_view.specs.Takes.{IsGreatest}
 use Rattle.gu_view.specs.declared.error.CutFault.{CutFault}
 use Rattle.gu_streams.specs.Streams.{Streams}
-use Rattle.giveup.specs.declared.status.Status.{Status}
-use Rattle.giveup.specs.declared.status.Status.TheVariants.{Done, Fault}
+use Rattle.gu_words.specs.declared.status.Status.{Status}
+use Rattle.gu_words.specs.declared.status.Status.TheVariants.{Done, Fault}
 
 -- all that the reader had is this sheet
 pub record ReadsSheet (sheet : Sheet) (input_old input_new : Option (List ℕ)) : Type 0 where

@@ -1,6 +1,2 @@
-pub mod Capture
 pub mod Checking
-pub mod PositionText
-pub mod ProgramWords
 pub mod RunErrors
-pub mod Statuses

@@ -9,12 +9,12 @@ ghost use Rattle.gu_view.specs.Check.{verdict};
 ghost use Rattle.gu_view.specs.Takes.{IsGreatest};
 ghost use Rattle.giveup.specs.Checking.{Checked, CheckedInPart, HasBadLine, ReadsBadLine, ReadsPart, ReadsSheet, status_after};
 
-use crate::status::Status;
 use gu_script::ScriptError;
 use gu_streams::{CountedReads, LONGEST_READ, send};
 use gu_terms::Seed;
 use gu_text::{Sheet, SheetReading, verdict_text};
 use gu_view::CutFault;
+use gu_words::Status;
 use std::alloc::Global;
 use std::io::{Read, Write};
 

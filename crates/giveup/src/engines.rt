@@ -1,13 +1,13 @@
 //! Engines that run over streams. What a run tells is how it ended, `: `, and what it wrote, where `|` is SOH, and `/` ends a line.
 
-use crate::capturing::capture;
 use crate::checking::check;
 use crate::error::RunError;
 use crate::replaying::replay;
 use crate::sample::{sample_day, sample_reference};
-use crate::status::Status;
+use gu_capture::capture;
 use gu_streams::CountedReads;
 use gu_terms::Seed;
+use gu_words::Status;
 use std::alloc::{AllocError, Global};
 use trials::{Sink, Source, Terms, joined, shown};
 

@@ -5,6 +5,17 @@ use gu_script::ScriptError;
 use gu_streams::StreamError;
 use thiserror::Error;
 
+/// Why a day's journal isn't begun.
+#[derive(Debug, Drop, Clone, Copy, PartialEq, Eq, Error)]
+pub enum JournalFault {
+    /// The file has something already.
+    #[error("NotEmpty")]
+    NotEmpty,
+    /// The path is that of a folder, a pipe or a device.
+    #[error("NotAFile")]
+    NotAFile,
+}
+
 /// Why the program ends with status 1.
 #[derive(Debug, Drop, Clone, Copy, PartialEq, Eq, Error)]
 pub enum RunError {
@@ -17,6 +28,9 @@ pub enum RunError {
     /// An engine of messages stopped, or a file couldn't be read.
     #[error("{0}")]
     Stream(StreamError),
+    /// The journal can't be begun.
+    #[error("journal: {0}")]
+    Journal(JournalFault),
 }
 
 impl From<RefFault> for RunError {

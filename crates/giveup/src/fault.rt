@@ -1,6 +1,6 @@
-//! Faults of a run: the error that is named, and what is added at a terminal.
+//! Faults of a run: the error that is named, and what is at fault.
 
-use crate::error::RunError;
+use crate::error::{JournalFault, RunError};
 use gu_ref::RefFault;
 use gu_script::ScriptError;
 use gu_streams::StreamError;
@@ -30,7 +30,7 @@ impl fmt::Display for Place<'_> {
     }
 }
 
-/// An error in the words that are added at a terminal.
+/// An error in the words of a second line.
 #[derive(Drop)]
 struct InWords(RunError);
 
@@ -61,6 +61,10 @@ impl fmt::Display for InWords {
             RunError::Script(ScriptError::Write) | RunError::Stream(StreamError::Write) => {
                 f.write_str("it couldn't be written to its end")
             }
+            RunError::Journal(JournalFault::NotEmpty) => {
+                f.write_str("it isn't empty, and a day doesn't write over what it finds")
+            }
+            RunError::Journal(JournalFault::NotAFile) => f.write_str("it isn't a file"),
             RunError::Reference(_) | RunError::Script(_) | RunError::Stream(_) => {
                 f.write_str("it couldn't be read to its end")
             }
@@ -119,10 +123,15 @@ impl<'a> Fault<'a> {
         }
     }
 
-    /// Says the error on standard error and, at a terminal, what is at fault and why. What can't be written there is lost.
+    /// Returns whether a second line says what is at fault: at a terminal, and for a journal, whose faults are new to who reads them.
+    fn has_second_line(&self, is_at_terminal: bool) -> bool {
+        is_at_terminal || matches!(self.error, RunError::Journal(_))
+    }
+
+    /// Says the error on standard error, and in a second line what is at fault and why. What can't be written there is lost.
     pub fn tell<R: Eprint>(&self, rt: &R, is_at_terminal: bool) {
         let _ = eprintln!(rt; "giveup: {}", self.error);
-        if !is_at_terminal {
+        if !self.has_second_line(is_at_terminal) {
             return;
         }
         match (self.place, self.cause) {
@@ -133,6 +142,48 @@ impl<'a> Fault<'a> {
                 let _ = eprintln!(rt; "giveup: {place}: {}", InWords(self.error));
             }
             (None, _) => {}
+        }
+    }
+}
+
+/// The faults of a run, in the order in which they are told.
+#[derive(Clone, Copy, Debug, Drop)]
+pub struct Faults<'a> {
+    first: Fault<'a>,
+    others: [Option<Fault<'a>>; 2],
+}
+
+impl<'a> From<Fault<'a>> for Faults<'a> {
+    fn from(fault: Fault<'a>) -> Self {
+        Faults {
+            first: fault,
+            others: [None, None],
+        }
+    }
+}
+
+impl<'a> Faults<'a> {
+    /// Returns those of three that are faults, if any is.
+    pub fn among(three: [Option<Fault<'a>>; 3]) -> Option<Self> {
+        match three {
+            [Some(first), second, third] => Some(Faults {
+                first,
+                others: [second, third],
+            }),
+            [None, Some(first), third] => Some(Faults {
+                first,
+                others: [third, None],
+            }),
+            [None, None, Some(first)] => Some(Faults::from(first)),
+            [None, None, None] => None,
+        }
+    }
+
+    /// Says each on standard error.
+    pub fn tell<R: Eprint>(&self, rt: &R, is_at_terminal: bool) {
+        self.first.tell(rt, is_at_terminal);
+        for fault in self.others.iter().flatten() {
+            fault.tell(rt, is_at_terminal);
         }
     }
 }

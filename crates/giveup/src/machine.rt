@@ -1,4 +1,5 @@
-//! A machine of the tests' own: words, files, standard streams, a clock at nine on 2026-01-05, and one free port or none.
+//! A machine of the tests' own: words, files, standard streams, a clock at nine on 2026-01-05, and one free port or none. It writes
+//! down what it is asked for.
 
 use std::alloc::{Allocator, Global};
 use std::env::FillError;
@@ -21,6 +22,10 @@ pub enum Setting {
     Unseeded,
     /// Its standard error takes nothing.
     Unheard,
+    /// Its standard output takes nothing.
+    Unprinted,
+    /// Its standard input has nothing for now at every other read.
+    Slow,
     /// Somebody types its input at a terminal.
     Watched,
 }
@@ -41,8 +46,9 @@ pub struct Machine<'a, R> {
     pub log: &'a Mutex<Vec<u8>>,
     pub out: Mutex<Vec<u8>>,
     pub err: Mutex<Vec<u8>>,
-    /// The paths that were opened, each with a blank after it.
-    pub opened: Mutex<Vec<u8>>,
+    /// What was asked for, each with a blank after it: the path of a file that is opened, `+` and the path of one that is opened or made
+    /// to be written, `!` and the path of one that is synced, and the address of a port.
+    pub opened: &'a Mutex<Vec<u8>>,
 }
 
 /// What no run asks of a machine.
@@ -54,6 +60,20 @@ impl<R: Wait> Machine<'_, R> {
     /// Appends bytes to what is held.
     fn append(&self, held: &Mutex<Vec<u8>>, bytes: &[u8]) -> io::Result<()> {
         Ok(held.lock(self.host).extend_from_slice(bytes)?)
+    }
+
+    /// Appends to standard output, if it takes anything.
+    fn put(&self, bytes: &[u8]) -> io::Result<()> {
+        if self.setting == Setting::Unprinted {
+            return Err(Error::from(ErrorKind::BrokenPipe));
+        }
+        self.append(&self.out, bytes)
+    }
+
+    /// Writes down what is asked for.
+    fn note<D: Display + Drop>(&self, mark: &str, asked: D) -> io::Result<()> {
+        let text = format!(in self.alloc; "{mark}{asked} ")?;
+        self.append(self.opened, text.as_bytes())
     }
 
     /// Appends a value to standard error.
@@ -78,16 +98,16 @@ impl<R> Alloc for Machine<'_, R> {
 impl<R: Wait> Print for Machine<'_, R> {
     fn print<D: Display + Drop>(&self, value: D) -> io::Result<()> {
         let text = format!(in self.alloc; "{value}")?;
-        self.append(&self.out, text.as_bytes())
+        self.put(text.as_bytes())
     }
 
     fn println<D: Display + Drop>(&self, value: D) -> io::Result<()> {
         let text = format!(in self.alloc; "{value}\n")?;
-        self.append(&self.out, text.as_bytes())
+        self.put(text.as_bytes())
     }
 
     fn write_all(&self, bytes: &[u8]) -> io::Result<()> {
-        self.append(&self.out, bytes)
+        self.put(bytes)
     }
 }
 
@@ -101,19 +121,55 @@ impl<R: Wait> Eprint for Machine<'_, R> {
     }
 }
 
+/// A standard input.
+#[derive(Drop)]
+pub struct Typed<'a> {
+    bytes: &'a [u8],
+    /// Whether it has nothing for now at every other read.
+    is_slow: bool,
+    /// Whether the next read has something.
+    is_ready: bool,
+}
+
+impl Read for Typed<'_> {
+    fn read(&mut self, buf: &mut [u8]) -> io::Result<usize> {
+        if self.is_slow {
+            self.is_ready = !self.is_ready;
+            if !self.is_ready {
+                return Err(Error::from(ErrorKind::WouldBlock));
+            }
+        }
+        self.bytes.read(buf)
+    }
+}
+
+impl BufRead for Typed<'_> {
+    fn fill_buf(&mut self) -> io::Result<&[u8]> {
+        Ok(self.bytes)
+    }
+
+    fn consume(&mut self, amount: usize) {
+        self.bytes = &self.bytes[amount.min(self.bytes.len())..];
+    }
+}
+
 impl<'a, R> Input for Machine<'a, R> {
-    type Reader = &'a [u8];
+    type Reader = Typed<'a>;
 
     fn read_line<A: Allocator + Clone>(&self, buf: &mut String<A>) -> io::Result<usize> {
         self.reader().read_line(buf)
     }
 
-    fn lines<A: Allocator>(&self, alloc: A) -> Lines<&'a [u8], A> {
+    fn lines<A: Allocator>(&self, alloc: A) -> Lines<Typed<'a>, A> {
         self.reader().lines(alloc)
     }
 
-    fn reader(&self) -> &'a [u8] {
-        self.input
+    fn reader(&self) -> Typed<'a> {
+        Typed {
+            bytes: self.input,
+            is_slow: self.setting == Setting::Slow,
+            is_ready: true,
+        }
     }
 }
 
@@ -126,7 +182,8 @@ impl<R: Wait> Net for Machine<'_, R> {
 
     type Listener = TcpListener;
 
-    fn bind(&self, _addr: SocketAddr) -> io::Result<TcpListener> {
+    fn bind(&self, addr: SocketAddr) -> io::Result<TcpListener> {
+        self.note("", addr)?;
         match self.port.lock(self.host).take() {
             Some(listener) => Ok(listener),
             None => Err(Error::from(ErrorKind::AddrInUse)),
@@ -180,12 +237,16 @@ impl<R> Env for Machine<'_, R> {
     }
 }
 
-/// A file: what it holds, and where what is written to it goes. A file without such a place takes nothing.
+/// A file that is open: what it holds, and where what is written to it goes. A file without such a place takes nothing.
 #[derive(Drop)]
 pub struct Text<'a, R> {
     host: &'a R,
+    alloc: Global,
+    path: String,
     bytes: &'a [u8],
     written: Option<&'a Mutex<Vec<u8>>>,
+    /// Where it is written down that it was synced.
+    opened: &'a Mutex<Vec<u8>>,
 }
 
 impl<R> Read for Text<'_, R> {
@@ -216,7 +277,7 @@ impl<R> Seek for Text<'_, R> {
     }
 }
 
-impl<R> OpenFile for Text<'_, R> {
+impl<R: Wait> OpenFile for Text<'_, R> {
     fn metadata(&self) -> io::Result<Metadata> {
         unsupported()
     }
@@ -226,11 +287,30 @@ impl<R> OpenFile for Text<'_, R> {
     }
 
     fn sync_all(&self) -> io::Result<()> {
-        unsupported()
+        let text = format!(in self.alloc; "!{} ", self.path)?;
+        Ok(
+            self.opened
+                .lock(self.host)
+                .extend_from_slice(text.as_bytes())?,
+        )
     }
 
     fn sync_data(&self) -> io::Result<()> {
         unsupported()
+    }
+}
+
+/// Returns the mark of how a file is opened: to be read, or to be written, and made where there is none. A journal isn't emptied or
+/// appended to.
+fn mark_of(how: &OpenOptions) -> &'static str {
+    match (
+        how.asks_write(),
+        how.asks_create(),
+        how.asks_append() || how.asks_truncate(),
+    ) {
+        (false, false, false) => "",
+        (true, true, false) => "+",
+        _ => "?",
     }
 }
 
@@ -239,14 +319,16 @@ impl<'a, R: Wait> Files for Machine<'a, R> {
 
     type Dir = Text<'a, R>;
 
-    fn open_file(&self, _how: &OpenOptions, path: &str) -> io::Result<Text<'a, R>> {
-        self.append(&self.opened, path.as_bytes())?;
-        self.append(&self.opened, b" ")?;
+    fn open_file(&self, how: &OpenOptions, path: &str) -> io::Result<Text<'a, R>> {
+        self.note(mark_of(how), path)?;
         match self.files.iter().find(|file| file.0 == path) {
             Some(file) => Ok(Text {
                 host: self.host,
+                alloc: self.alloc,
+                path: String::from_str(self.alloc, path)?,
                 bytes: file.1,
                 written: if path == "log" { Some(self.log) } else { None },
+                opened: self.opened,
             }),
             None => Err(Error::from(ErrorKind::NotFound)),
         }
@@ -256,8 +338,12 @@ impl<'a, R: Wait> Files for Machine<'a, R> {
         unsupported()
     }
 
-    fn metadata(&self, _path: &str) -> io::Result<Metadata> {
-        unsupported()
+    fn metadata(&self, path: &str) -> io::Result<Metadata> {
+        match self.files.iter().find(|file| file.0 == path) {
+            Some((".", _)) => Ok(Metadata::of_dir()),
+            Some((_, bytes)) => Ok(Metadata::of_file(bytes.len() as u64)),
+            None => Err(Error::from(ErrorKind::NotFound)),
+        }
     }
 
     fn symlink_metadata(&self, _path: &str) -> io::Result<Metadata> {

@@ -1,10 +1,11 @@
 //! The program of the give-up clearing house.
 #![tactic(auto)]
 
-mod capturing;
 #[cfg(test)]
 mod check_tests;
 mod checking;
+mod day;
+mod digesting;
 #[cfg(test)]
 mod engines;
 mod error;
@@ -13,11 +14,12 @@ mod error_tests;
 mod fault;
 mod files;
 mod fixing;
+mod heading;
+mod journal_file;
 #[cfg(test)]
 mod largest_tests;
 #[cfg(test)]
 mod machine;
-mod position_lines;
 mod progress;
 #[cfg(test)]
 mod progress_tests;
@@ -30,13 +32,12 @@ mod running_tests;
 mod sample;
 #[cfg(test)]
 mod sample_tests;
+mod seeding;
 mod serving;
-mod status;
 #[cfg(test)]
 mod stream_tests;
 #[cfg(test)]
 mod word_tests;
-mod words;
 
 use crate::running::status_of;
 use std::io::IsTerminal;

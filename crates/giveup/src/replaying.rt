@@ -1,22 +1,20 @@
 //! The engine of scripts.
 
-ghost use Rattle.std.specs.Prelude.{◌≡◌, ℕ, List, IfOk, OnOk, IsErrOf};
-ghost use Rattle.gu_streams.specs.Reads.{bytes_left, HasStopped};
+ghost use Rattle.std.specs.Prelude.{ℕ, OnOk, IsErrOf};
+ghost use Rattle.gu_streams.specs.Reads.{HasStopped};
 ghost use Rattle.gu_world.specs.Runs.{Course, beginning};
-ghost use Rattle.gu_script.specs.ScriptRuns.{HasBadLine, Played, Replayed, ReplayedInPart, ReplayedSoFar, StopsAtBadLine};
+ghost use Rattle.gu_script.specs.ScriptRuns.{Replayed, ReplayedInPart, ReplayedSoFar, StopsAtBadLine};
 ghost use Rattle.gu_streams.specs.Streams.{streams_of};
 
 use gu_ref::Reference;
 use gu_script::{ScriptError, play};
 use gu_streams::CountedReads;
 use gu_terms::Seed;
-use gu_world::World;
 use std::alloc::Global;
-use std::io;
 use std::io::{Read, Write};
 
-/// Plays a script from a book without entries, whose tables of ids have a seed, and writes the text of its lines. The whole lines of a read are answered before the
-/// next read.
+/// Plays a script from a book without entries, whose tables of ids have this seed, and writes the text of its lines. The whole lines of
+/// a read are answered before the next read.
 pub fn replay<R: Read, W: Write>(
     alloc: Global,
     reference: Reference,
@@ -46,23 +44,4 @@ pub fn replay<R: Read, W: Write>(
         }
         Err(error) => Err(error),
     }
-}
-
-/// Plays a script from a book without entries, and gives the world that its lines led to: its book, and the outcome of each step, with
-/// the receipts. Nothing is written.
-pub fn played<R: Read>(
-    alloc: Global,
-    reference: Reference,
-    seed: Seed,
-    reads: &mut CountedReads<R>,
-) -> Result<World, ScriptError>
-    ensures done { IfOk result (λ world. Played (beginning reference) world
-        (bytes_left R.remaining reads.old) (bytes_left R.remaining reads.new)) }
-
-    // A line is bad whatever may follow what was read.
-    ensures bad_line { (n : ℕ) → IsErrOf result (ScriptError.BadLine n) → (text : List ℕ)
-        × HasBadLine (beginning reference) text n (bytes_left R.remaining reads.old) (bytes_left R.remaining reads.new) }
-    ensures stopped { IsErrOf result ScriptError.Read → HasStopped reads.new }
-{
-    play(alloc, reference, seed, reads, &mut io::sink())
 }

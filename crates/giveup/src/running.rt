@@ -1,24 +1,23 @@
 //! Runs of the program: what joins its words, files and streams with its engines.
 
-use crate::capturing::capture;
 use crate::checking::check;
+use crate::day::run_serve;
 use crate::error::RunError;
-use crate::fault::{Fault, Place};
-use crate::files::{journal_at, reference_at, world_after};
+use crate::fault::{Fault, Faults, Place};
+use crate::files::{reference_at, world_after};
 use crate::fixing::fix;
 use crate::progress::Told;
 use crate::replaying::replay;
 use crate::sample::{sample_day, sample_reference};
-use crate::serving::{Serving, serve};
-use crate::status::Status;
-use crate::words::{Task, answer, firm_named, given, read};
-use gu_book::Book;
+use crate::seeding::seed_from;
+use clap::Error;
+use gu_capture::capture;
 use gu_engine::{Connection, SystemClock};
 use gu_houses::OverBook;
 use gu_script::ScriptError;
-use gu_server::DayEnd;
-use gu_streams::{CountedReads, StreamError, send};
-use gu_terms::{FirmId, Seed};
+use gu_streams::{CountedReads, StreamError};
+use gu_terms::FirmId;
+use gu_words::{Status, Task, answer, firm_named, given, read};
 use std::alloc::Global;
 use std::io;
 use std::io::Write;
@@ -31,15 +30,6 @@ use std::thread::Threads;
 /// What is said where trade capture begins and its input is typed.
 const WAITING: &str =
     "giveup: trade capture waits for FIX messages on standard input; giveup --help shows the other commands";
-
-/// A seed from the system, for tables of ids and names that others choose. Where there is none, nothing is read.
-fn seed_from<R: RandomSource>(rt: &R) -> Result<Seed, StreamError> {
-    let mut bytes = [0; 8];
-    match rt.fill_bytes(&mut bytes) {
-        Ok(()) => Ok(Seed::new(u64::from_le_bytes(bytes))),
-        Err(_) => Err(StreamError::Read),
-    }
-}
 
 /// Trade capture on the sample, from standard input to standard output.
 fn run_capture<R: Input + Print + RandomSource + Alloc<A = Global>>(
@@ -103,7 +93,8 @@ fn run_fix<'a, R: Input + Print + Files + Clock + RandomSource + Alloc<A = Globa
 ) -> Result<Status, Fault<'a>> {
     let alloc = rt.alloc();
     let seed = seed_from(rt)?;
-    let world = world_after(rt, reference_at(rt, path)?, script, seed)?;
+    let (world, refused) = world_after(rt, reference_at(rt, path)?, script, seed)?;
+    drop(refused);
     let house = OverBook::new(world.into_book());
     let firms = Vec::from_slice(alloc, &[firm]).map_err(StreamError::from)?;
     let mut connection = Connection::new(alloc, firms, house, SystemClock::new(rt));
@@ -113,61 +104,18 @@ fn run_fix<'a, R: Input + Print + Files + Clock + RandomSource + Alloc<A = Globa
     Ok(Status::Done)
 }
 
-/// Prints the lines of a day's end, and gives the status that the audit makes.
-fn print_end<R: Print>(rt: &R, end: DayEnd) -> Result<Status, StreamError> {
-    let (text, is_well) = end?;
-    send(&mut io::writer(rt), text.as_bytes())?;
-    Ok(if is_well { Status::Done } else { Status::Fault })
-}
-
-/// Writes the journal of a day, where a file for it is named.
-fn keep_journal<'a, R: Files + Alloc<A = Global>>(
-    rt: &R,
-    path: Option<&'a str>,
-    book: &Book,
-) -> Result<(), Fault<'a>> {
-    match path {
-        Some(path) => journal_at(rt, path, book.history()),
-        None => Ok(()),
-    }
-}
-
-/// A server of firms on a port of this machine, on the reference of a file, after a script, where one is named. At its end the lines of
-/// the day are printed, also where not every connection could be accepted, and then its journal is written, where a file is named for it,
-/// also where memory didn't suffice for the lines, or they couldn't be printed.
-fn run_serve<
-    'a,
-    R: Print
-        + Files
-        + Clock
-        + RandomSource
-        + Net<Listener = TcpListener, Stream = TcpStream>
-        + Threads
-        + Wait
-        + Sync
-        + Alloc<A = Global>,
-    T: Write + Send + Drop,
->(rt: &R, serving: &Serving<'a>, terminal: Option<T>) -> Result<Status, Fault<'a>> {
-    let seed = seed_from(rt)?;
-    let reference = reference_at(rt, serving.reference)?;
-    let world = world_after(rt, reference, serving.script, seed)?;
-    let closed = serve(rt, world, serving, terminal)?;
-    let (end, book, fault) = closed.end(rt.alloc());
-    let printed = print_end(rt, end);
-    let journaled = keep_journal(rt, serving.journal, &book);
-    drop(book);
-    let status = printed?;
-    journaled?;
-    match fault {
-        Some(fault) => Err(Fault::from(fault)),
-        None => Ok(status),
-    }
-}
-
 /// Says what trade capture waits for.
 fn say_what_is_waited_for<R: Eprint>(rt: &R) {
     // Where this can't be written, it is lost.
     let _ = eprintln!(rt; "{WAITING}");
+}
+
+/// Answers words that ask for no task, and returns the status.
+fn answered<'a, R: Print + Eprint>(rt: &R, error: &Error) -> Result<Status, Faults<'a>> {
+    match answer(rt, error) {
+        Ok(status) => Ok(status),
+        Err(error) => Err(Faults::from(Fault::from(error))),
+    }
 }
 
 /// Does what these words ask for. At a terminal at which the input is typed, trade capture says what it waits for.
@@ -185,16 +133,16 @@ fn perform<
         + Sync
         + Alloc<A = Global>,
     T: Write + Send + Drop,
->(rt: &R, words: &'a [String], terminal: Option<T>, is_typed: bool) -> Result<Status, Fault<'a>> {
+>(rt: &R, words: &'a [String], terminal: Option<T>, is_typed: bool) -> Result<Status, Faults<'a>> {
     match read(rt.alloc(), words) {
         Ok(Task::Capture) => {
             if is_typed && terminal.is_some() {
                 say_what_is_waited_for(rt);
             }
-            run_capture(rt)
+            Ok(run_capture(rt)?)
         }
-        Ok(Task::Check) => run_check(rt),
-        Ok(Task::Replay { reference }) => run_replay(rt, reference, terminal),
+        Ok(Task::Check) => Ok(run_check(rt)?),
+        Ok(Task::Replay { reference }) => Ok(run_replay(rt, reference, terminal)?),
         Ok(Task::Serve(serving)) => run_serve(rt, &serving, terminal),
         Ok(
             Task::Fix {
@@ -203,23 +151,23 @@ fn perform<
                 script,
             },
         ) => match firm_named(rt.alloc(), firm) {
-            Ok(firm) => run_fix(rt, firm, reference, script),
-            Err(error) => Ok(answer(rt, &error)?),
+            Ok(firm) => Ok(run_fix(rt, firm, reference, script)?),
+            Err(error) => answered(rt, &error),
         },
-        Err(error) => Ok(answer(rt, &error)?),
+        Err(error) => answered(rt, &error),
     }
 }
 
 /// The status of a run that ended so; why it failed is said on standard error.
 fn status_after<R: Eprint>(
     rt: &R,
-    ended: Result<Status, Fault<'_>>,
+    ended: Result<Status, Faults<'_>>,
     is_at_terminal: bool,
 ) -> Status {
     match ended {
         Ok(status) => status,
-        Err(fault) => {
-            fault.tell(rt, is_at_terminal);
+        Err(faults) => {
+            faults.tell(rt, is_at_terminal);
             Status::Fault
         }
     }
@@ -249,10 +197,7 @@ pub fn status_of<
             status_after(rt, ended, is_at_terminal)
         }
         Err(refused) => {
-            let answered = match answer(rt, &refused) {
-                Ok(status) => Ok(status),
-                Err(error) => Err(Fault::from(error)),
-            };
+            let answered = answered(rt, &refused);
             status_after(rt, answered, is_at_terminal)
         }
     }

@@ -1,13 +1,14 @@
-//! Runs of the program on a machine of the tests' own. A row is the words, ` < ` and standard input; and, after ` -> `, the status, the
-//! paths that were opened, `; `, standard output, `; ` and standard error; and `; ` and what was written to the file `log`, if anything was.
-//! `/` ends a line, and `|` is SOH. The file `house` is the sample, `bad` has an eighteenth row that is none, `day` opens a day, and the
-//! second line of `two` is bad. Nothing can be written to these.
+//! Runs of the program on a machine of the tests' own. A row is the words, ` < ` and standard input; and, after ` -> `, the status, what
+//! was asked for (`opened` of the machine), `; `, standard output, `; ` and standard error; and `; ` and what was written to the file
+//! `log`, if anything was. `/` ends a line, and `|` is SOH. The file `house` is the sample, `bad` has an eighteenth row that is none, `day`
+//! opens a day, the second line of `two` is bad, three lines of `amiss` do nothing, and after `traded` E1 may give up ten lots. Nothing can
+//! be written to these, nor to `stuck`, which is empty. `.` is a folder. The digest of the sample is what sha256sum prints.
 
 use crate::machine::{Machine, Setting};
 use crate::rows::check_told;
 use crate::running::status_of;
 use crate::sample::ROWS;
-use crate::status::Status;
+use gu_words::Status;
 use std::alloc::{AllocError, Global};
 use std::io::{Read, Write};
 use std::net::{Net, Shutdown, TcpListener, TcpStream};
@@ -17,6 +18,25 @@ use std::thread::Threads;
 use std::time::Duration;
 use std::{io, thread};
 use trials::{columns, shown, wire};
+
+/// A script three of whose lines do nothing: one names an unknown key, one has too many lots, and one an unknown group.
+const AMISS: &[u8] = b"DAY 20260105
+LIMIT G1 EXEC E9 5
+# a line that says nothing
+LIMIT G1 ACCT A1 2000000000
+SWEEP G9
+LIMIT G1 ACCT A1 10
+";
+
+/// A day on which E1 has bought ten lots of E2, and may give them up to A1.
+const TRADED: &[u8] = b"DAY 20260105
+LIMIT G1 EXEC E1 100
+LIMIT G1 AGR P1 100
+LIMIT G1 ACCT A1 100
+LIMIT G1 CARRY C1 100
+REPORT E1 R1 M1 B XF6 10 101.5 H1
+REPORT E2 S1 M1 S XF6 10 101.5 H2
+";
 
 /// Each task, and each fault of one.
 const RUNS: &str = "\
@@ -37,10 +57,16 @@ giveup fix E1 lost --script gone < x -> 1 lost ; ; giveup: reference: ReadFault/
 giveup fix e1 lost < x -> 2 ; ; error: invalid value for '<FIRM>': a firm is 1 to 12 of A-Z, 0-9 and -//Usage: giveup fix [OPTIONS] <FIRM> <REF>//For more information, try '--help'./
 giveup check --help < x -> 0 ; Checks the sweep sheet on standard input: prints OK and its lots, or its first fault//Usage: giveup check//Options:/  -h, --help  Print help//Example: giveup check < three-agreements.sheet/;
 giveup claim < x -> 2 ; ; error: unrecognized subcommand 'claim'//Usage: giveup [COMMAND]//For more information, try '--help'./
-giveup serve house 9878 < x -> 1 house ; ; giveup: read fault/
-giveup serve house 9878 --script day < x -> 1 house day ; ; giveup: read fault/
+giveup --version < x -> 0 ; giveup 0.1.0, proved with rattle-kit-13b (logic dac8208d650f15bf)/;
+giveup serve house 9878 < x -> 1 house 127.0.0.1:9878 ; ; giveup: read fault/
+giveup serve house 41 --script day < x -> 1 house day 127.0.0.1:41 ; ; giveup: read fault/
 giveup serve house 9878 --script two < x -> 1 house two ; ; giveup: bad line 2/
 giveup serve lost 9878 --script two < x -> 1 lost ; ; giveup: reference: ReadFault/
+giveup serve house 9878 --script amiss < x -> 1 house amiss 127.0.0.1:9878 ; ; giveup: line 2: 16 UnknownKey/giveup: line 4: 17 TooHigh/giveup: line 5: UNKNOWN GROUP/giveup: refused lines: 3/giveup: read fault/
+giveup serve house 9878 --journal day < x -> 1 house ; ; giveup: journal: NotEmpty/giveup: day: it isn't empty, and a day doesn't write over what it finds/
+giveup serve house 9878 --journal . < x -> 1 house ; ; giveup: journal: NotAFile/giveup: .: it isn't a file/
+giveup serve house 9878 --journal gone < x -> 1 house +gone ; ; giveup: write fault/
+giveup serve house 9878 --script two --journal log < x -> 1 house two ; ; giveup: bad line 2/
 giveup serve house 0 < x -> 2 ; ; error: invalid value '0' for '<PORT>': 0 is not in 1..=65535//For more information, try '--help'./
 ";
 
@@ -69,33 +95,50 @@ giveup replay gone < DAY 20260105/ -> 1 gone ; ; giveup: reference: ReadFault/gi
 giveup replay bad < DAY 20260105/ -> 1 bad ; ; giveup: reference: BadRow 18/giveup: bad: record 18 isn't a row that may be there/
 giveup fix E1 house --script gone < x -> 1 house gone ; ; giveup: read fault/giveup: gone: entity not found/
 giveup fix E1 house --script two < x -> 1 house two ; ; giveup: bad line 2/giveup: two: line 2 is missing, or isn't a line that may be there/
-giveup serve house 9878 < x -> 1 house ; ; giveup: read fault/giveup: port 9878: address in use/
+giveup serve house 9878 < x -> 1 house 127.0.0.1:9878 ; ; giveup: read fault/giveup: port 9878: address in use/
+giveup serve house 9878 --journal day < x -> 1 house ; ; giveup: journal: NotEmpty/giveup: day: it isn't empty, and a day doesn't write over what it finds/
+giveup serve house 9878 --journal gone < x -> 1 house +gone ; ; giveup: write fault/giveup: gone: entity not found/
 giveup fix e1 lost < x -> 2 ; ; error: invalid value for '<FIRM>': a firm is 1 to 12 of A-Z, 0-9 and -//Usage: giveup fix [OPTIONS] <FIRM> <REF>//For more information, try '--help'./
+";
+
+/// A session whose firm sends nothing for a while before each read.
+const SLOW: &str = "\
+giveup fix E1 house < 8=FIXT.1.1|9=66|35=A|49=E1|56=GIVEUP|34=1|52=20260105-09:00:00|98=0|108=30|1137=9|10=004| -> 0 house ; 8=FIXT.1.1|9=70|35=A|49=GIVEUP|56=E1|34=1|52=20260105-09:00:00.000|98=0|108=30|1137=9|10=189|;
 ";
 
 /// Days on the machine's port, to which one firm has connected: it sends this input, and waits for the end of its connection. Where a
 /// second connection is to be accepted, that fails.
 const SERVED: &str = "\
-giveup serve house 9878 --script day --connections 1 < 8=FIXT.1.1|9=66|35=A|49=E1|56=GIVEUP|34=1|52=20260105-09:00:00|98=0|108=30|1137=9|10=004|8=FIXT.1.1|9=112|35=AE|49=E1|56=GIVEUP|34=2|52=20260105-09:00:00|571=R1|880=M1|55=XF6|32=10|31=101.5|75=20260105|552=1|54=1|1=H1|10=236| -> 0 house day ; ENTRIES 2/SWEPT 0/AUDIT OK/;
-giveup serve house 9878 --script day --connections 1 --journal log < 8=FIXT.1.1|9=66|35=A|49=E1|56=GIVEUP|34=1|52=20260105-09:00:00|98=0|108=30|1137=9|10=004|8=FIXT.1.1|9=112|35=AE|49=E1|56=GIVEUP|34=2|52=20260105-09:00:00|571=R1|880=M1|55=XF6|32=10|31=101.5|75=20260105|552=1|54=1|1=H1|10=236| -> 0 house day log ; ENTRIES 2/SWEPT 0/AUDIT OK/; ; DAY 20260105/REPORT E1 R1 M1 B XF6 10 101.5 H1/
-giveup serve house 9878 --script day --connections 1 --journal day < 8=FIXT.1.1|9=66|35=A|49=E1|56=GIVEUP|34=1|52=20260105-09:00:00|98=0|108=30|1137=9|10=004|8=FIXT.1.1|9=112|35=AE|49=E1|56=GIVEUP|34=2|52=20260105-09:00:00|571=R1|880=M1|55=XF6|32=10|31=101.5|75=20260105|552=1|54=1|1=H1|10=236| -> 1 house day day ; ENTRIES 2/SWEPT 0/AUDIT OK/; giveup: write fault/
-giveup serve house 9878 --script day --connections 1 --journal gone < 8=FIXT.1.1|9=66|35=A|49=E1|56=GIVEUP|34=1|52=20260105-09:00:00|98=0|108=30|1137=9|10=004|8=FIXT.1.1|9=112|35=AE|49=E1|56=GIVEUP|34=2|52=20260105-09:00:00|571=R1|880=M1|55=XF6|32=10|31=101.5|75=20260105|552=1|54=1|1=H1|10=236| -> 1 house day gone ; ENTRIES 2/SWEPT 0/AUDIT OK/; giveup: write fault/
-giveup serve house 9878 --script day --connections 2 < 8=FIXT.1.1|9=66|35=A|49=E1|56=GIVEUP|34=1|52=20260105-09:00:00|98=0|108=30|1137=9|10=004|8=FIXT.1.1|9=112|35=AE|49=E1|56=GIVEUP|34=2|52=20260105-09:00:00|571=R1|880=M1|55=XF6|32=10|31=101.5|75=20260105|552=1|54=1|1=H1|10=236| -> 1 house day ; ENTRIES 2/SWEPT 0/AUDIT OK/; giveup: read fault/
-giveup serve house 9878 --script day --connections 2 --journal log < 8=FIXT.1.1|9=66|35=A|49=E1|56=GIVEUP|34=1|52=20260105-09:00:00|98=0|108=30|1137=9|10=004|8=FIXT.1.1|9=112|35=AE|49=E1|56=GIVEUP|34=2|52=20260105-09:00:00|571=R1|880=M1|55=XF6|32=10|31=101.5|75=20260105|552=1|54=1|1=H1|10=236| -> 1 house day log ; ENTRIES 2/SWEPT 0/AUDIT OK/; giveup: read fault/; DAY 20260105/REPORT E1 R1 M1 B XF6 10 101.5 H1/
+giveup serve house 9878 --script day --connections 1 < 8=FIXT.1.1|9=66|35=A|49=E1|56=GIVEUP|34=1|52=20260105-09:00:00|98=0|108=30|1137=9|10=004|8=FIXT.1.1|9=112|35=AE|49=E1|56=GIVEUP|34=2|52=20260105-09:00:00|571=R1|880=M1|55=XF6|32=10|31=101.5|75=20260105|552=1|54=1|1=H1|10=236| -> 0 house day 127.0.0.1:9878 ; ENTRIES 2/SWEPT 0/AUDIT OK/;
+giveup serve house 9878 --script day --connections 1 --journal log < 8=FIXT.1.1|9=66|35=A|49=E1|56=GIVEUP|34=1|52=20260105-09:00:00|98=0|108=30|1137=9|10=004|8=FIXT.1.1|9=112|35=AE|49=E1|56=GIVEUP|34=2|52=20260105-09:00:00|571=R1|880=M1|55=XF6|32=10|31=101.5|75=20260105|552=1|54=1|1=H1|10=236| -> 0 house day +log 127.0.0.1:9878 !log . !. ; ENTRIES 2/SWEPT 0/AUDIT OK/; ; # giveup 0.1.0, proved with rattle-kit-13b (logic dac8208d650f15bf)/# reference: SHA-256 8167b5abead291b098903bd30fe0583fc384d2e678c4feae8d5f0182aa6165f4/# opened: 2026-01-05T09:00:00Z/DAY 20260105/REPORT E1 R1 M1 B XF6 10 101.5 H1/
+giveup serve house 9878 --script day --connections 1 --journal stuck < 8=FIXT.1.1|9=66|35=A|49=E1|56=GIVEUP|34=1|52=20260105-09:00:00|98=0|108=30|1137=9|10=004|8=FIXT.1.1|9=112|35=AE|49=E1|56=GIVEUP|34=2|52=20260105-09:00:00|571=R1|880=M1|55=XF6|32=10|31=101.5|75=20260105|552=1|54=1|1=H1|10=236| -> 1 house day +stuck 127.0.0.1:9878 ; ENTRIES 2/SWEPT 0/AUDIT OK/; giveup: write fault/
+giveup serve house 9878 --script day --connections 2 < 8=FIXT.1.1|9=66|35=A|49=E1|56=GIVEUP|34=1|52=20260105-09:00:00|98=0|108=30|1137=9|10=004|8=FIXT.1.1|9=112|35=AE|49=E1|56=GIVEUP|34=2|52=20260105-09:00:00|571=R1|880=M1|55=XF6|32=10|31=101.5|75=20260105|552=1|54=1|1=H1|10=236| -> 1 house day 127.0.0.1:9878 ; ENTRIES 2/SWEPT 0/AUDIT OK/; giveup: no connection is accepted until one has ended: Resource temporarily unavailable (os error 11)/giveup: read fault/
+giveup serve house 9878 --script day --connections 2 --journal log < 8=FIXT.1.1|9=66|35=A|49=E1|56=GIVEUP|34=1|52=20260105-09:00:00|98=0|108=30|1137=9|10=004|8=FIXT.1.1|9=112|35=AE|49=E1|56=GIVEUP|34=2|52=20260105-09:00:00|571=R1|880=M1|55=XF6|32=10|31=101.5|75=20260105|552=1|54=1|1=H1|10=236| -> 1 house day +log 127.0.0.1:9878 !log . !. ; ENTRIES 2/SWEPT 0/AUDIT OK/; giveup: no connection is accepted until one has ended: Resource temporarily unavailable (os error 11)/giveup: read fault/; # giveup 0.1.0, proved with rattle-kit-13b (logic dac8208d650f15bf)/# reference: SHA-256 8167b5abead291b098903bd30fe0583fc384d2e678c4feae8d5f0182aa6165f4/# opened: 2026-01-05T09:00:00Z/DAY 20260105/REPORT E1 R1 M1 B XF6 10 101.5 H1/
+giveup serve house 9878 --script day --connections 2 --journal stuck < 8=FIXT.1.1|9=66|35=A|49=E1|56=GIVEUP|34=1|52=20260105-09:00:00|98=0|108=30|1137=9|10=004|8=FIXT.1.1|9=112|35=AE|49=E1|56=GIVEUP|34=2|52=20260105-09:00:00|571=R1|880=M1|55=XF6|32=10|31=101.5|75=20260105|552=1|54=1|1=H1|10=236| -> 1 house day +stuck 127.0.0.1:9878 ; ENTRIES 2/SWEPT 0/AUDIT OK/; giveup: no connection is accepted until one has ended: Resource temporarily unavailable (os error 11)/giveup: write fault/giveup: read fault/
+giveup serve house 9878 --script traded --connections 1 --every 0 < 8=FIXT.1.1|9=66|35=A|49=E1|56=GIVEUP|34=1|52=20260105-09:00:00|98=0|108=30|1137=9|10=004|8=FIXT.1.1|9=93|35=J|49=E1|56=GIVEUP|34=2|52=20260105-09:00:00|70=L1|71=0|53=10|124=1|17=R1|78=1|79=A1|80=10|10=229| -> 0 house traded 127.0.0.1:9878 ; ENTRIES 8/SWEPT 0/AUDIT OK/;
+giveup serve house 9878 --script traded --connections 1 --every 1 < 8=FIXT.1.1|9=66|35=A|49=E1|56=GIVEUP|34=1|52=20260105-09:00:00|98=0|108=30|1137=9|10=004|8=FIXT.1.1|9=93|35=J|49=E1|56=GIVEUP|34=2|52=20260105-09:00:00|70=L1|71=0|53=10|124=1|17=R1|78=1|79=A1|80=10|10=229| -> 0 house traded 127.0.0.1:9878 ; ENTRIES 9/SWEPT 10/AUDIT OK/;
 ";
 
-/// Days at a terminal whose journal can't be made, and can't be written.
+/// A day whose lines can't be printed: its journal is written all the same, and both faults are said.
+const UNPRINTED: &str = "\
+giveup serve house 9878 --script day --connections 1 --journal log < 8=FIXT.1.1|9=66|35=A|49=E1|56=GIVEUP|34=1|52=20260105-09:00:00|98=0|108=30|1137=9|10=004|8=FIXT.1.1|9=112|35=AE|49=E1|56=GIVEUP|34=2|52=20260105-09:00:00|571=R1|880=M1|55=XF6|32=10|31=101.5|75=20260105|552=1|54=1|1=H1|10=236| -> 1 house day +log 127.0.0.1:9878 !log . !. ; ; giveup: write fault/; # giveup 0.1.0, proved with rattle-kit-13b (logic dac8208d650f15bf)/# reference: SHA-256 8167b5abead291b098903bd30fe0583fc384d2e678c4feae8d5f0182aa6165f4/# opened: 2026-01-05T09:00:00Z/DAY 20260105/REPORT E1 R1 M1 B XF6 10 101.5 H1/
+giveup serve house 9878 --script day --connections 1 --journal stuck < 8=FIXT.1.1|9=66|35=A|49=E1|56=GIVEUP|34=1|52=20260105-09:00:00|98=0|108=30|1137=9|10=004|8=FIXT.1.1|9=112|35=AE|49=E1|56=GIVEUP|34=2|52=20260105-09:00:00|571=R1|880=M1|55=XF6|32=10|31=101.5|75=20260105|552=1|54=1|1=H1|10=236| -> 1 house day +stuck 127.0.0.1:9878 ; ; giveup: write fault/giveup: write fault/
+";
+
+/// A day at a terminal whose journal can't be written.
 const UNWRITTEN: &str = "\
-giveup serve house 9878 --connections 1 --journal gone < x -> 1 house gone ; ENTRIES 0/SWEPT 0/AUDIT OK/; giveup: write fault/giveup: gone: entity not found/
-giveup serve house 9878 --script day --connections 1 --journal day < x -> 1 house day day ; ENTRIES 1/SWEPT 0/AUDIT OK/; giveup: write fault/giveup: day: it couldn't be written to its end/
+giveup serve house 9878 --script day --connections 1 --journal stuck < x -> 1 house day +stuck 127.0.0.1:9878 ; ENTRIES 1/SWEPT 0/AUDIT OK/; giveup: write fault/giveup: stuck: it couldn't be written to its end/
 ";
 
-/// What a run on a machine did.
-fn run<R: Threads + Wait + Sync>(machine: Machine<'_, R>) -> Result<String, AllocError> {
+/// Returns what a run on a machine did. A terminal's notes are appended to `notes`.
+fn run<R: Threads + Wait + Sync>(
+    machine: Machine<'_, R>,
+    notes: &mut Vec<u8>,
+) -> Result<String, AllocError> {
     let alloc = machine.alloc;
     let host = machine.host;
     let is_watched = machine.setting == Setting::Watched;
-    let terminal = Some(Vec::<u8>::new(alloc)).filter(|_| is_watched);
+    let terminal = Some(notes).filter(|_| is_watched);
     let number = match status_of(&machine, terminal, is_watched) {
         Status::Done => 0,
         Status::Fault => 1,
@@ -110,21 +153,23 @@ fn run<R: Threads + Wait + Sync>(machine: Machine<'_, R>) -> Result<String, Allo
     format!(in alloc; "{number} {opened}; {out}; {err}{end}{log}")
 }
 
-/// What a run with these words and this input does on a machine with this port.
-fn told<R: Threads + Wait + Sync>(
+/// Returns what a run with these words and this input does on a machine with this port. A terminal's notes are appended to `notes`.
+fn told<R: Threads + Wait + Sync + Alloc<A = Global>>(
     host: &R,
-    alloc: Global,
     row: &str,
     setting: Setting,
     port: Option<TcpListener>,
+    notes: &mut Vec<u8>,
 ) -> Result<String, AllocError> {
+    let alloc = host.alloc();
     let (words, input) = row.split_once(" < ").unwrap_or((row, ""));
     let words = Vec::from_iter(alloc, words.split(' '))?;
     let input = wire(alloc, input)?;
     let mut bad = Vec::from_slice(alloc, ROWS)?;
     bad.extend_from_slice(b"FIRM\n")?;
     let log = Mutex::new(Vec::new(alloc));
-    run(Machine {
+    let opened = Mutex::new(Vec::new(alloc));
+    let machine = Machine {
         host,
         alloc,
         words: &words,
@@ -133,7 +178,11 @@ fn told<R: Threads + Wait + Sync>(
             ("bad", &bad),
             ("day", b"DAY 20260105\n"),
             ("two", b"DAY 20260105\nDAY\n"),
+            ("amiss", AMISS),
+            ("traded", TRADED),
             ("log", b""),
+            ("stuck", b""),
+            (".", b""),
         ],
         input: input.as_bytes(),
         setting,
@@ -141,15 +190,21 @@ fn told<R: Threads + Wait + Sync>(
         log: &log,
         out: Mutex::new(Vec::new(alloc)),
         err: Mutex::new(Vec::new(alloc)),
-        opened: Mutex::new(Vec::new(alloc)),
-    })
+        opened: &opened,
+    };
+    run(machine, notes)
 }
 
 /// Asserts that the run of each row does what the row says.
-fn check<R: Abort + Threads + Wait + Sync>(rt: &R, alloc: Global, setting: Setting, table: &str) {
+fn check<R: Abort + Threads + Wait + Sync + Alloc<A = Global>>(
+    rt: &R,
+    setting: Setting,
+    table: &str,
+) {
+    let alloc = rt.alloc();
     for row in table.lines() {
         let (run, expected) = columns(row);
-        let told = told(rt, alloc, run, setting, None).expect(rt, "memory");
+        let told = told(rt, run, setting, None, &mut Vec::new(alloc)).expect(rt, "memory");
         check_told(rt, row, String::from_str(alloc, told.trim_end()), expected);
     }
 }
@@ -174,17 +229,15 @@ fn send_all(alloc: Global, mut stream: TcpStream, bytes: &[u8]) -> io::Result<us
 }
 
 /// What a run does on whose port a firm sends the input.
-fn served<R: Net<Listener = TcpListener, Stream = TcpStream> + Threads + Wait + Sync>(
-    rt: &R,
-    alloc: Global,
-    run: &str,
-    setting: Setting,
-) -> io::Result<String> {
+fn served<
+    R: Net<Listener = TcpListener, Stream = TcpStream> + Threads + Wait + Sync + Alloc<A = Global>,
+>(rt: &R, run: &str, setting: Setting) -> io::Result<String> {
+    let alloc = rt.alloc();
     let input = wire(alloc, run.split_once(" < ").map_or("", |words| words.1))?;
     let (listener, stream) = connected(rt)?;
     let (told, read) = thread::join(
         rt,
-        || told(rt, alloc, run, setting, Some(listener)),
+        || told(rt, run, setting, Some(listener), &mut Vec::new(alloc)),
         || send_all(alloc, stream, input.as_bytes()),
     );
     read?;
@@ -193,44 +246,73 @@ fn served<R: Net<Listener = TcpListener, Stream = TcpStream> + Threads + Wait + 
 
 #[test]
 fn each_task_has_its_status_its_output_and_its_fault_on_standard_error(rt: HostRuntime) {
-    check(&rt, rt.alloc(), Setting::Usual, RUNS);
+    check(&rt, Setting::Usual, RUNS);
 }
 
 #[test]
 fn at_a_terminal_it_is_said_what_is_waited_for_and_what_is_at_fault(rt: HostRuntime) {
-    check(&rt, rt.alloc(), Setting::Watched, WATCHED);
+    check(&rt, Setting::Watched, WATCHED);
 }
 
 #[test]
 fn a_fault_that_nobody_hears_has_its_status(rt: HostRuntime) {
-    check(&rt, rt.alloc(), Setting::Unheard, UNHEARD);
+    check(&rt, Setting::Unheard, UNHEARD);
 }
 
 #[test]
 fn without_random_bytes_nothing_is_opened(rt: HostRuntime) {
-    check(&rt, rt.alloc(), Setting::Unseeded, UNSEEDED);
+    check(&rt, Setting::Unseeded, UNSEEDED);
+}
+
+#[test]
+fn a_firm_that_sends_nothing_for_a_while_is_waited_for(rt: HostRuntime) {
+    check(&rt, Setting::Slow, SLOW);
+}
+
+#[test]
+fn a_long_script_is_noted_at_a_terminal(rt: HostRuntime) {
+    let alloc = rt.alloc();
+    let lines = "#/".repeat(alloc, 100_352).expect(&rt, "memory");
+    let row = format!(in alloc; "giveup replay house < {lines}").expect(&rt, "memory");
+    let mut notes = Vec::new(alloc);
+    let told = told(&rt, &row, Setting::Watched, None, &mut notes);
+    check_told(&rt, "100,352 lines", told, "0 house ; ; ");
+    check_told(
+        &rt,
+        "their notes",
+        shown(alloc, &notes),
+        "giveup: 100352 lines done/",
+    );
 }
 
 /// Asserts that the day of each row is served as the row says.
-fn check_served<R: Abort + Net<Listener = TcpListener, Stream = TcpStream> + Threads + Wait + Sync>(
-    rt: &R,
-    alloc: Global,
-    setting: Setting,
-    table: &str,
-) {
+fn check_served<
+    R: Abort
+        + Net<Listener = TcpListener, Stream = TcpStream>
+        + Threads
+        + Wait
+        + Sync
+        + Alloc<A = Global>,
+>(rt: &R, setting: Setting, table: &str) {
+    let alloc = rt.alloc();
     for row in table.lines() {
         let (run, expected) = columns(row);
-        let told = served(rt, alloc, run, setting).ok().expect(rt, "a day");
+        let told = served(rt, run, setting).ok().expect(rt, "a day");
         check_told(rt, row, String::from_str(alloc, told.trim_end()), expected);
     }
 }
 
 #[test]
 fn a_day_is_served_on_a_port_and_ends_with_its_lines(rt: HostRuntime) {
-    check_served(&rt, rt.alloc(), Setting::Usual, SERVED);
+    check_served(&rt, Setting::Usual, SERVED);
+}
+
+#[test]
+fn a_day_whose_lines_cant_be_printed_has_its_journal(rt: HostRuntime) {
+    check_served(&rt, Setting::Unprinted, UNPRINTED);
 }
 
 #[test]
 fn a_journal_that_cant_be_written_is_named_at_a_terminal(rt: HostRuntime) {
-    check_served(&rt, rt.alloc(), Setting::Watched, UNWRITTEN);
+    check_served(&rt, Setting::Watched, UNWRITTEN);
 }

@@ -3,9 +3,8 @@
 use crate::engines::end_text;
 use crate::error::RunError;
 use crate::rows::check_told;
-use crate::serving::Serving;
-use crate::words::{Task, answer, firm_named, read};
 use clap::Error;
+use gu_words::{Serving, Task, answer, firm_named, read};
 use std::alloc::{AllocError, Global};
 use std::cell::Cell;
 use std::fmt::Display;
@@ -289,11 +288,11 @@ const MANY_CONNECTIONS: &str =
 
 /// What help says.
 const HELP_TEXT: &str =
-    "The desk of a clearing house. Without a command: trade capture on the sample, from standard input\n\nUsage: giveup [COMMAND]\n\nCommands:\n  check   Checks the sweep sheet on standard input: prints OK and its lots, or its first fault\n  fix     Serves one session of a firm over standard input and output\n  replay  Answers the script on standard input, line by line\n  serve   Serves firms on a port of this machine, with sweepers beside them: prints ENTRIES, SWEPT and AUDIT at the end\n  help    Print this message or the help of the given subcommand(s)\n\nOptions:\n  -h, --help  Print help\n\nExamples:\n  giveup check < three-agreements.sheet\n  giveup fix E1 house.csv < session.fix\n  giveup replay house.csv < day.script\n  giveup serve house.csv 9878\n\n`giveup COMMAND --help` shows the words of a command.\n";
+    "The desk of a clearing house. Without a command: trade capture on the sample, from standard input\n\nUsage: giveup [COMMAND]\n\nCommands:\n  check   Checks the sweep sheet on standard input: prints OK and its lots, or its first fault\n  fix     Serves one session of a firm over standard input and output\n  replay  Answers the script on standard input, line by line\n  serve   Serves firms on a port of this machine, with sweepers beside them: prints ENTRIES, SWEPT and AUDIT at the end\n  help    Print this message or the help of the given subcommand(s)\n\nOptions:\n  -h, --help     Print help\n  -V, --version  Print version\n\nExamples:\n  giveup check < three-agreements.sheet\n  giveup fix E1 house.csv < session.fix\n  giveup replay house.csv < day.script\n  giveup serve house.csv 9878\n\n`giveup COMMAND --help` shows the words of a command.\n";
 
 /// What help says of a server.
 const SERVE_TEXT: &str =
-    "Serves firms on a port of this machine, with sweepers beside them: prints ENTRIES, SWEPT and AUDIT at the end\n\nUsage: giveup serve [OPTIONS] <REF> <PORT>\n\nArguments:\n  <REF>   The path of the reference\n  <PORT>  The port on which it listens, 1 to 65535\n\nOptions:\n      --script <FILE>    The path of a script that is run first, without output\n      --connections <N>  How many connections it accepts, 1 to 32 [default: 8]\n      --every <K>        Each connection sends every K-th of its accepted give-ups to the sweepers, 0 to 1000; 0 sends none [default: 16]\n      --journal <FILE>   The path of a file to which the day is written at its end, as a script that makes the same entries\n  -h, --help             Print help\n\nExample: giveup serve house.csv 9878 --script open.script --journal day.script\n";
+    "Serves firms on a port of this machine, with sweepers beside them: prints ENTRIES, SWEPT and AUDIT at the end\n\nUsage: giveup serve [OPTIONS] <REF> <PORT>\n\nArguments:\n  <REF>   The path of the reference\n  <PORT>  The port on which it listens, 1 to 65535\n\nOptions:\n      --script <FILE>    The path of a script that is run first, without output\n      --connections <N>  How many connections it accepts, 1 to 32 [default: 8]\n      --every <K>        Each connection sends every K-th of its accepted give-ups to the sweepers, 0 to 1000; 0 sends none [default: 16]\n      --journal <FILE>   The path of a new or empty file to which the day is written at its end, as a script that makes the same entries\n  -h, --help             Print help\n\nExample: giveup serve house.csv 9878 --script open.script --journal day.script\n";
 
 /// What help says of a session.
 const FIX_TEXT: &str =
@@ -338,7 +337,8 @@ fn a_refusal_says_why_and_how_to_call_and_help_names_each_task(rt: HostRuntime) 
 
 /// How many bytes of the texts above are shown on standard output and on standard error.
 const SHOWN: &str = "\
-giveup --help -> done 798 0
+giveup --help -> done 832 0
+giveup --version -> done 66 0
 giveup claim -> refused 0 101
 ";
 

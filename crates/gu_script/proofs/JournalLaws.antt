@@ -8,10 +8,10 @@ use Rattle.gu_terms.specs.declared.day.Day.{Day}
 use Rattle.gu_terms.specs.declared.entry.Entry.{Entry}
 use Rattle.gu_terms.specs.declared.entry.Entry.TheVariants.{Asked, Swept}
 use Rattle.gu_text.specs.ReadBack.{AreWords, joined}
-use Rattle.gu_text.specs.WrittenCommands.{IsWritableCommand}
+use Rattle.gu_text.specs.WrittenCommands.{IsSilentLineOf, IsWritableCommand, sweep_remarks}
 use Rattle.gu_text.specs.declared.script_line.Line.{Line}
 use Rattle.gu_text.proofs.ReadBackLemmas.{lines_of_rows}
-use Rattle.gu_text.proofs.WrittenCommandLemmas.{command_says, remark_is_silent, sweep_says}
+use Rattle.gu_text.proofs.WrittenCommandLemmas.{command_says, remark_is_silent, sweep_says, swept_is_silent}
 use Rattle.gu_script.specs.Journals.{IsWritableEntry, command_said, days_apart, entry_rows, entry_said, journal_text, open_after, rows_after, rows_apart, said_after}
 use Rattle.gu_script.specs.Replaying.{SayAll}
 
@@ -19,6 +19,16 @@ use Rattle.gu_script.specs.Replaying.{SayAll}
 record SayFirst (rows : List (List (List ℕ))) (said : Line) : Type 0 where
   are : AllByRecursion AreWords rows
   say : (texts : List (List ℕ)) (others : List Line) → SayAll texts others → SayAll (map joined rows ++ texts) (said ∷ others)
+
+-- rows that say nothing are lines, and what later rows say is all that is said
+silent_are_lines : (rows : List (List (List ℕ))) → AllByRecursion IsSilentLineOf rows → AllByRecursion AreWords rows
+silent_are_lines [] all = tt
+silent_are_lines (row ∷ rows) all = (all.0.are, silent_are_lines rows all.1)
+
+silent_say : (rows : List (List (List ℕ))) → AllByRecursion IsSilentLineOf rows → (texts : List (List ℕ)) (others : List Line) → SayAll texts others → SayAll (map joined rows ++ texts) others
+silent_say [] all texts others say = say
+silent_say (row ∷ rows) all texts [] say = (all.0.silent, silent_say rows all.1 texts [] say)
+silent_say (row ∷ rows) all texts (said ∷ others) say = inl (all.0.silent, silent_say rows all.1 texts (said ∷ others) say)
 
 -- of a command and its days apart
 apart_says : (command : Command) (days : Option (Day × Day)) → IsWritableCommand command → SayFirst (rows_apart command days) (command_said command days)
@@ -33,8 +43,10 @@ apart_says command (Some days) is =
 entry_says : (today : Option Day) (entry : Entry) → IsWritableEntry entry → SayFirst (entry_rows today entry) (entry_said today entry)
 entry_says today (Asked command reply) is = apart_says command (days_apart today command) is
 entry_says today (Swept sweep) is =
-    let row = sweep_says sweep.group is in
-    record { are = (row.are, tt); say = λ texts others all. inr (row.says, all) }
+    let row = sweep_says sweep.group is.group in
+    let remarks = sweep_remarks sweep in
+    let silent = swept_is_silent sweep is in
+    record { are = (row.are, silent_are_lines remarks silent); say = λ texts others all. inr (row.says, silent_say remarks silent texts others all) }
 
 both_are_lines : (xs ys : List (List (List ℕ))) → AllByRecursion AreWords xs → AllByRecursion AreWords ys → AllByRecursion AreWords (xs ++ ys)
 both_are_lines [] ys p q = q

@@ -1,8 +1,7 @@
 -- A day as a script: each entry of a history as the line that makes it.
-use Rattle.std.specs.Prelude.{ℕ, List, [], ◌∷◌, ◌++◌, Option, Some, None, IsTrue, if◌then◌else◌}
+use Rattle.std.specs.Prelude.{ℕ, List, [], ◌∷◌, ◌++◌, Option, Some, None, if◌then◌else◌}
 use Rattle.std.specs.List.{flat_map}
 use Rattle.std.specs.Option.{option_or}
-use Rattle.gu_terms.specs.Names.{is_name}
 use Rattle.gu_terms.specs.Same.{same_day}
 use Rattle.gu_terms.specs.declared.command.Command.{Command}
 use Rattle.gu_terms.specs.declared.command.Command.TheVariants.{OpenDay, ReportSide}
@@ -12,7 +11,7 @@ use Rattle.gu_terms.specs.declared.entry.Entry.TheVariants.{Asked, Swept}
 use Rattle.gu_rules.specs.Reports.{opened_day}
 use Rattle.gu_world.specs.declared.step.Step.TheVariants.{Enter}
 use Rattle.gu_text.specs.Texts.{line_of}
-use Rattle.gu_text.specs.WrittenCommands.{IsWritableCommand, command_words, remark_words, sweep_words, undated}
+use Rattle.gu_text.specs.WrittenCommands.{IsWritableCommand, IsWritableSweep, command_words, remark_words, sweep_rows, undated}
 use Rattle.gu_text.specs.declared.script_line.Line.{Line}
 use Rattle.gu_text.specs.declared.script_line.Line.TheVariants as line
 
@@ -28,10 +27,10 @@ abbrev pub rows_apart : Command → Option (Day × Day) → List (List (List ℕ
 rows_apart command None = command_words command ∷ []
 rows_apart command (Some days) = remark_words command days.0 ∷ command_words (OpenDay days.1) ∷ []
 
--- the lines of an entry, as words, where this day is open before it
+-- the lines of an entry, as words, where this day is open before it: after a sweep its takes and its cut follow as comments
 abbrev pub entry_rows : Option Day → Entry → List (List (List ℕ))
 entry_rows today (Asked command reply) = rows_apart command (days_apart today command)
-entry_rows today (Swept sweep) = sweep_words sweep.group ∷ []
+entry_rows today (Swept sweep) = sweep_rows sweep
 
 -- the day that is open after an entry
 abbrev pub open_after : Option Day → Entry → Option Day
@@ -61,7 +60,7 @@ abbrev pub said_after : Option Day → List Entry → List Line
 said_after today [] = []
 said_after today (entry ∷ later) = entry_said today entry ∷ said_after (open_after today entry) later
 
--- what the types of entries keep, and a script asks for besides: the values of a command can be written, and a group's name is a name
+-- what the types of entries keep, and a script asks for besides: the values of a command can be written, and so can those of a sweep
 abbrev pub IsWritableEntry : Entry → Type 0
 IsWritableEntry (Asked command reply) = IsWritableCommand command
-IsWritableEntry (Swept sweep) = IsTrue (is_name sweep.group.name)
+IsWritableEntry (Swept sweep) = IsWritableSweep sweep

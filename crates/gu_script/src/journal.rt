@@ -65,7 +65,7 @@ fn append_entry(output: &mut Vec<u8>, today: Option<Day>, entry: &Entry) -> Resu
 {
     match entry {
         Entry::Asked { command, .. } => append_asked(output, command, days_apart(today, command)),
-        Entry::Swept(sweep) => append_sweep(output, sweep.group),
+        Entry::Swept(sweep) => append_sweep(output, sweep),
     }
 }
 

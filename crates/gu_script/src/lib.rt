@@ -4,8 +4,10 @@
 mod error;
 mod journal;
 mod laws;
+mod line_watcher;
 mod playing;
 mod questions;
+mod refused_lines;
 mod script;
 mod stepping;
 
@@ -14,4 +16,5 @@ pub use journal::write_journal;
 pub use laws::{
     a_committed_sweep_prints_a_right_sheet, a_journal_says_its_entries, a_script_is_a_run,
 };
-pub use playing::play;
+pub use playing::{play, play_opening};
+pub use refused_lines::{LineRefusal, RefusedLine, RefusedLines};

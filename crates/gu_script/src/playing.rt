@@ -1,13 +1,15 @@
 //! Scripts that are read, done and answered.
 
-ghost use Rattle.std.specs.Prelude.{◌+◌, ◌^◌, ◌<◌, ℕ, IfOk, IsErrOf};
-ghost use Rattle.gu_streams.specs.Reads.{HasStopped};
+ghost use Rattle.std.specs.Prelude.{◌≡◌, ◌+◌, ◌^◌, ◌<◌, [], List, ℕ, IfOk, IsErrOf};
+ghost use Rattle.gu_streams.specs.Reads.{HasStopped, bytes_left};
 ghost use Rattle.gu_world.specs.Runs.{beginning};
 ghost use Rattle.gu_script.specs.ScriptPieces.{Ended, Gives};
-ghost use Rattle.gu_script.specs.ScriptRuns.{Replayed, ReplayedInPart, ReplayedSoFar, StopsAtBadLine};
+ghost use Rattle.gu_script.specs.ScriptRuns.{HasBadLine, Played, Replayed, ReplayedInPart, ReplayedSoFar, StopsAtBadLine};
 ghost use Rattle.gu_streams.specs.Streams.{streams_of};
 
 use crate::error::ScriptError;
+use crate::line_watcher::{LineWatcher, Unwatched};
+use crate::refused_lines::RefusedLines;
 use crate::script::Script;
 use gu_ref::Reference;
 use gu_streams::{CountedReads, LONGEST_READ, send};
@@ -15,6 +17,7 @@ use gu_terms::Seed;
 use gu_text::TextError;
 use gu_world::World;
 use std::alloc::Global;
+use std::io;
 use std::io::{Read, Write};
 
 /// Writes what was answered, and then names a bad line. Where an allocation failed, nothing is written.
@@ -39,20 +42,65 @@ fn give<W: Write>(
 }
 
 /// Answers what came after the last LF, where nothing more comes.
-fn answer_end<W: Write>(
+fn answer_end<W: Write, L: LineWatcher>(
     script: &mut Script,
     output: &mut Vec<u8>,
     writer: &mut W,
+    watcher: &mut L,
 ) -> Result<(), ScriptError>
     requires { script.old.count + 1 < 2 ^ 64 }
     ensures { Ended result script.old script.new.course (W.contents writer.old) (W.contents writer.new) }
 {
     output.clear();
-    let answered = script.end(output);
+    let answered = script.end(output, watcher);
     give(answered, output, writer)
 }
 
-/// Plays a script from a book without entries, writes the text of its lines, and gives the world that they led to: its book, and the
+/// Plays the lines of a script that nothing was read of, writes their text, and returns the world that they led to. The whole lines of a
+/// read are answered before the next read.
+fn play_from<R: Read, W: Write, L: LineWatcher>(
+    alloc: Global,
+    script: Script,
+    reads: &mut CountedReads<R>,
+    writer: &mut W,
+    watcher: &mut L,
+) -> Result<World, ScriptError>
+    requires unread { (script.count ≡ 0) × (script.rest ≡ []) }
+    ensures done { IfOk result (λ world. Replayed script.course world
+        (streams_of R.remaining W.contents reads.old reads.new writer.old writer.new)) }
+
+    // A bad line ends the run, and exactly the text of the lines before it is written. It is bad whatever may follow what was read.
+    ensures bad_line { (n : ℕ) → IsErrOf result (ScriptError.BadLine n)
+        → StopsAtBadLine script.course n (streams_of R.remaining W.contents reads.old reads.new writer.old writer.new) }
+
+    // Where the reader failed, or no read was left, the lines that were ended are answered, and exactly that was written.
+    ensures answered { IsErrOf result ScriptError.Read
+        → ReplayedSoFar script.course (streams_of R.remaining W.contents reads.old reads.new writer.old writer.new) }
+    ensures stopped { IsErrOf result ScriptError.Read → HasStopped reads.new }
+
+    // In any case, and so after each error: what was written is a prefix of the text of the first lines.
+    ensures part { ReplayedInPart script.course (streams_of R.remaining W.contents reads.old reads.new writer.old writer.new) }
+{
+    let mut script = script;
+    let mut output = Vec::new(alloc);
+    let mut buffer = [0; LONGEST_READ];
+    'reading: while !reads.is_spent() {
+        let count = match reads.read(&mut buffer) {
+            Ok(0) => {
+                answer_end(&mut script, &mut output, writer, watcher)?;
+                return Ok(script.into_world());
+            }
+            Ok(count) => count,
+            Err(_) => return Err(ScriptError::Read),
+        };
+        output.clear();
+        let answered = script.take(&buffer[..count], &mut output, watcher);
+        give(answered, &output, writer)?;
+    }
+    Err(ScriptError::Read)
+}
+
+/// Plays a script from a book without entries, writes the text of its lines, and returns the world that they led to: its book, and the
 /// outcome of each step. The whole lines of a read are answered before the next read.
 pub fn play<R: Read, W: Write>(
     alloc: Global,
@@ -76,21 +124,33 @@ pub fn play<R: Read, W: Write>(
     // In any case, and so after each error: what was written is a prefix of the text of the first lines.
     ensures part { ReplayedInPart (beginning reference) (streams_of R.remaining W.contents reads.old reads.new writer.old writer.new) }
 {
-    let mut script = Script::new(alloc, reference, seed);
-    let mut output = Vec::new(alloc);
-    let mut buffer = [0; LONGEST_READ];
-    'reading: while !reads.is_spent() {
-        let count = match reads.read(&mut buffer) {
-            Ok(0) => {
-                answer_end(&mut script, &mut output, writer)?;
-                return Ok(script.into_world());
-            }
-            Ok(count) => count,
-            Err(_) => return Err(ScriptError::Read),
-        };
-        output.clear();
-        let answered = script.take(&buffer[..count], &mut output);
-        give(answered, &output, writer)?;
+    let script = Script::new(alloc, reference, seed);
+    play_from(alloc, script, reads, writer, &mut Unwatched)
+}
+
+/// Plays a script from a book without entries, and returns the world that it led to, with the lines that did nothing of what they say.
+/// Nothing is written.
+pub fn play_opening<R: Read>(
+    alloc: Global,
+    reference: Reference,
+    seed: Seed,
+    reads: &mut CountedReads<R>,
+) -> Result<(World, RefusedLines), ScriptError>
+    ensures done { IfOk result (λ r. Played (beginning reference) r.0
+        (bytes_left R.remaining reads.old) (bytes_left R.remaining reads.new)) }
+
+    // A line is bad whatever may follow what was read.
+    ensures bad_line { (n : ℕ) → IsErrOf result (ScriptError.BadLine n) → (text : List ℕ)
+        × HasBadLine (beginning reference) text n (bytes_left R.remaining reads.old) (bytes_left R.remaining reads.new) }
+    ensures stopped { IsErrOf result ScriptError.Read → HasStopped reads.new }
+{
+    let script = Script::new(alloc, reference, seed);
+    let mut refused = RefusedLines::new(alloc);
+    match play_from(alloc, script, reads, &mut io::sink(), &mut refused) {
+        Ok(world) => Ok((world, refused)),
+        Err(error) => {
+            drop(refused);
+            Err(error)
+        }
     }
-    Err(ScriptError::Read)
 }

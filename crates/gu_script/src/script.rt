@@ -8,6 +8,7 @@ ghost use Rattle.gu_text.specs.Scripts.{IsBad};
 ghost use Rattle.gu_script.specs.ScriptPieces.{AnswersEnd, AnswersPiece, whole_line};
 ghost use Rattle.gu_script.specs.ScriptSteps.{AnswersLine, AnswersLines, AnswersSaid};
 
+use crate::line_watcher::LineWatcher;
 use crate::questions::{answer_interest, answer_limits, answer_position};
 use crate::stepping::{answer_borrowed, answer_sweep};
 use gu_ref::Reference;
@@ -98,9 +99,14 @@ impl Script {
         }
     }
 
-    /// Does what the line says that the rest was, which is done with it.
+    /// Does what a line says, which ends the rest, and shows the world to who watches.
     #[inline(always)]
-    fn answer(&mut self, said: &Option<Line>, output: &mut Vec<u8>) -> Result<(), AllocError>
+    fn answer<L: LineWatcher>(
+        &mut self,
+        said: &Option<Line>,
+        output: &mut Vec<u8>,
+        watcher: &mut L,
+    ) -> Result<(), AllocError>
         requires { self.old.count + 1 < 2 ^ 64 }
         ensures answered { OnOk result (AnswersSaid self.old.course said.now output.old.items self.new.course output.new.items) }
         ensures counted { self.new.count ≡ self.old.count + 1 }
@@ -108,18 +114,19 @@ impl Script {
     {
         self.count += 1;
         self.rest.clear();
-        match said {
-            Some(said) => answer_line(&mut self.world, said, output),
-            None => Ok(()),
+        if let Some(said) = said {
+            answer_line(&mut self.world, said, output)?;
         }
+        watcher.see(self.count, &self.world)
     }
 
     /// Answers a line that an LF ends: the rest, and what comes before the LF. What it says is read over what the last line said.
-    fn end_line(
+    fn end_line<L: LineWatcher>(
         &mut self,
         part: &[u8],
         said: &mut Option<Line>,
         output: &mut Vec<u8>,
+        watcher: &mut L,
     ) -> Result<(), TextError>
         requires room { self.old.count + 1 < 2 ^ 64 }
         requires none { HasNoLineFeed part.now }
@@ -133,7 +140,7 @@ impl Script {
         extend_begun(&mut self.rest, part)?;
         let line = without_return(whole_line(&self.rest, part));
         Line::read_over(self.alloc, said, line, self.count + 1)?;
-        self.answer(said, output)?;
+        self.answer(said, output, watcher)?;
         Ok(())
     }
 
@@ -152,7 +159,12 @@ impl Script {
     }
 
     /// Answers the lines that a piece ends, and keeps what comes after the last LF.
-    pub fn take(&mut self, piece: &[u8], output: &mut Vec<u8>) -> Result<(), TextError>
+    pub fn take<L: LineWatcher>(
+        &mut self,
+        piece: &[u8],
+        output: &mut Vec<u8>,
+        watcher: &mut L,
+    ) -> Result<(), TextError>
         requires { self.old.count + length piece.now + 1 < 2 ^ 64 }
         ensures answered { AnswersPiece result self.old piece.now output.old.items self.new output.new.items }
         ensures counted { OnOk result (self.new.count ≤ self.old.count + length piece.now) }
@@ -162,14 +174,18 @@ impl Script {
         let mut said = None;
         let mut left = piece;
         'lines: while let Some((part, after)) = split_at_line_feed(left) {
-            self.end_line(part, &mut said, output)?;
+            self.end_line(part, &mut said, output, watcher)?;
             left = after;
         }
         self.keep(left)
     }
 
     /// Answers what came after the last LF, where nothing more comes.
-    pub fn end(&mut self, output: &mut Vec<u8>) -> Result<(), TextError>
+    pub fn end<L: LineWatcher>(
+        &mut self,
+        output: &mut Vec<u8>,
+        watcher: &mut L,
+    ) -> Result<(), TextError>
         requires { self.old.count + 1 < 2 ^ 64 }
         ensures answered { AnswersEnd result self.old output.old.items self.new.course output.new.items }
     {
@@ -177,7 +193,7 @@ impl Script {
             return Ok(());
         }
         let said = Line::read(self.alloc, &self.rest, self.count + 1)?;
-        let answered = self.answer(&said, output);
+        let answered = self.answer(&said, output, watcher);
         drop(said);
         answered?;
         Ok(())

@@ -11,10 +11,13 @@ use Rattle.gu_terms.specs.declared.reply.Reply.{Reply}
 use Rattle.gu_msgs.specs.declared.asking.Request.{Request}
 use Rattle.gu_msgs.specs.declared.asking.Request.TheVariants.{Enter, Ask}
 use Rattle.gu_session.specs.declared.input.Failure.{Failure}
+use Rattle.gu_session.specs.declared.input.Failure.TheVariants as failure
 use Rattle.gu_session.specs.declared.input.Outcome.{Outcome}
 use Rattle.gu_session.specs.declared.input.Outcome.TheVariants.{Replied, Positions, Failed}
 use Rattle.gu_ref.specs.Tables.{Tables}
 use Rattle.gu_book.specs.declared.asking.Answer.TheVariants as answered
+use Rattle.gu_book.specs.declared.error.EnterError.{EnterError}
+use Rattle.gu_book.specs.declared.error.EnterError.TheVariants as refusal
 use Rattle.gu_engine.specs.Houses.{HouseRules}
 use Rattle.gu_desk.specs.Holds.{IsAnswered, IsEntered, IsTold}
 use Rattle.gu_desk.specs.Totals.{Shares, with_entry}
@@ -27,6 +30,11 @@ pub record IsEnteredAt (reference : Tables) (opening : ℕ) (old : Shares) (comm
   pub entered : IsEntered reference (opening + old.entries) (record { number = number; entry = Asked command reply })
   pub outcome_is : outcome ≡ Replied reply
   pub new_is : new ≡ with_entry old
+
+-- how a command fails that the desk doesn't enter
+abbrev pub failure_of : EnterError → Failure
+failure_of refusal.Full = failure.Full
+failure_of refusal.Memory = failure.Memory
 
 -- a command isn't entered
 pub record IsLeftOutAt (old : Shares) (outcome : Outcome) (new : Shares) : Type 0 where

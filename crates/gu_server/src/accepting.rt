@@ -1,120 +1,261 @@
-//! Accepting connections, each for a thread of its own.
+//! Accepting connections, each for a thread that serves one after another.
 
+use crate::cause::Cause;
 use crate::crew::Crew;
 use crate::floor::Floor;
 use crate::seat_receipts::SeatReceipts;
-use crate::talking::{Call, talk};
+use crate::talking::talk;
+use crate::telling::tell_pause;
 use crossbeam_channel::{Receiver, Sender};
 use gu_desk::{EntryLedger, LotLedger, SweepOrder};
 use gu_streams::StreamError;
+use std::alloc::{AllocError, Global};
 use std::net::{TcpListener, TcpStream};
 use std::rt::Clock;
-use std::sync::Wait;
+use std::sync::{Wait, WaitMethods};
 use std::thread::{Scope, Threads};
 
-/// The ends of the channels by which threads are reached: where calls go, where they come from, and where orders to sweepers go.
+/// The ends of the channels that a thread has which serves connections: where its seat and the connections come from, where it says that
+/// one has ended, and where orders to sweepers go.
+struct TalkerEnds<E: EntryLedger, S: LotLedger> {
+    seats: Receiver<SeatReceipts<E, S>>,
+    calls: Receiver<TcpStream>,
+    ended: Sender<()>,
+    orders: Sender<SweepOrder>,
+}
+
+// By hand, so that each exit of a caller drops it by one call.
+impl<E: EntryLedger, S: LotLedger> Drop for TalkerEnds<E, S> {
+    fn drop(self) {
+        let TalkerEnds {
+            seats,
+            calls,
+            ended,
+            orders,
+        } = self;
+        drop(seats);
+        drop(calls);
+        drop(ended);
+        drop(orders);
+    }
+}
+
+impl<E: EntryLedger, S: LotLedger> TalkerEnds<E, S> {
+    /// Creates the same ends for one more thread.
+    fn copy(&self) -> Result<Self, AllocError> {
+        Ok(TalkerEnds {
+            seats: self.seats.clone()?,
+            calls: self.calls.clone()?,
+            ended: self.ended.clone()?,
+            orders: self.orders.clone()?,
+        })
+    }
+}
+
+/// The other ends of these channels: where seats and connections go, and where it is said that a connection has ended.
 pub struct Ends<E: EntryLedger, S: LotLedger> {
-    pub to: Sender<Call<E, S>>,
-    pub from: Receiver<Call<E, S>>,
-    pub orders: Sender<SweepOrder>,
+    seats: Sender<SeatReceipts<E, S>>,
+    calls: Sender<TcpStream>,
+    ended: Receiver<()>,
+    talkers: TalkerEnds<E, S>,
 }
 
 // By hand, so that each exit of a caller drops it by one call.
 impl<E: EntryLedger, S: LotLedger> Drop for Ends<E, S> {
     fn drop(self) {
-        let Ends { to, from, orders } = self;
-        drop(to);
-        drop(from);
-        drop(orders);
+        let Ends {
+            seats,
+            calls,
+            ended,
+            talkers,
+        } = self;
+        drop(seats);
+        drop(calls);
+        drop(ended);
+        drop(talkers);
     }
 }
 
-/// Waits for a call, and serves it.
-fn answer_call<'a, E: EntryLedger, S: LotLedger, R: Wait + Clock>(
+impl<E: EntryLedger, S: LotLedger> Ends<E, S> {
+    /// Creates the channels of threads that serve this many connections in all.
+    pub fn new(
+        alloc: Global,
+        connections: usize,
+        orders: Sender<SweepOrder>,
+    ) -> Result<Self, AllocError> {
+        let (seats, seats_from) = crossbeam_channel::bounded(alloc, 1)?;
+        let (calls, calls_from) = crossbeam_channel::bounded(alloc, 1)?;
+        let (ended_to, ended) = crossbeam_channel::bounded(alloc, connections)?;
+        let talkers = TalkerEnds {
+            seats: seats_from,
+            calls: calls_from,
+            ended: ended_to,
+            orders,
+        };
+        Ok(Ends {
+            seats,
+            calls,
+            ended,
+            talkers,
+        })
+    }
+}
+
+/// Where connections come in: the listener, and the channels of the threads that serve them.
+pub struct Entrance<E: EntryLedger, S: LotLedger> {
+    listener: TcpListener,
+    ends: Ends<E, S>,
+    /// How many threads serve connections.
+    threads: usize,
+    /// How many connections are under way.
+    busy: usize,
+}
+
+// By hand, so that each exit of a caller drops it by one call.
+impl<E: EntryLedger, S: LotLedger> Drop for Entrance<E, S> {
+    fn drop(self) {
+        let Entrance {
+            listener,
+            ends,
+            threads: _,
+            busy: _,
+        } = self;
+        drop(listener);
+        drop(ends);
+    }
+}
+
+impl<E: EntryLedger, S: LotLedger> Entrance<E, S> {
+    /// Creates an entrance through which nobody has come, and which no thread serves.
+    pub fn new(listener: TcpListener, ends: Ends<E, S>) -> Self {
+        Entrance {
+            listener,
+            ends,
+            threads: 0,
+            busy: 0,
+        }
+    }
+
+    /// Counts out the connections that have ended.
+    fn note_ended<R: Wait>(&mut self, rt: &R) {
+        for _ended in self.ends.ended.try_iter(rt) {
+            self.busy = self.busy.saturating_sub(1);
+        }
+    }
+
+    /// Says why no connection is accepted, and waits until one that is under way has ended. Returns whether any was.
+    fn pause<R: Wait + Eprint>(&mut self, rt: &R, cause: &Cause) -> bool {
+        if self.busy == 0 {
+            return false;
+        }
+        tell_pause(rt, cause);
+        let _ = self.ends.ended.recv(rt);
+        self.busy = self.busy.saturating_sub(1);
+        true
+    }
+
+    /// Starts one more thread that serves connections, and gives it a seat.
+    fn start_talker<'s, X, R: Threads + Wait + Clock + Sync>(
+        &mut self,
+        scope: &Scope<'s, X>,
+        floor: &'s Floor<'s, E, S, R>,
+        crew: &mut Crew<E, S>,
+    ) -> Result<(), Cause>
+    where
+        E: Send + Sync + 's,
+        S: Send + Sync + 's,
+    {
+        crew.reserve()?;
+        let ends = self.ends.talkers.copy()?;
+        match scope.spawn(move || answer_calls(floor, ends)) {
+            Ok(talker) => crew.add(talker),
+            Err(_) => return Err(Cause::NoThread),
+        }
+        crew.give_seat(floor.rt, &self.ends.seats)?;
+        self.threads = self.threads.saturating_add(1);
+        Ok(())
+    }
+
+    /// Accepts a connection, for a thread that serves none, and gives it to that thread.
+    fn accept<'s, X, R: Threads + Wait + Clock + Sync>(
+        &mut self,
+        scope: &Scope<'s, X>,
+        floor: &'s Floor<'s, E, S, R>,
+        crew: &mut Crew<E, S>,
+    ) -> Result<(), Cause>
+    where
+        E: Send + Sync + 's,
+        S: Send + Sync + 's,
+    {
+        if self.threads <= self.busy {
+            self.start_talker(scope, floor, crew)?;
+        }
+        let stream = match self.listener.accept() {
+            Ok((stream, _)) => stream,
+            Err(error) => return Err(Cause::Accept(error)),
+        };
+        if let Err(refused) = self.ends.calls.send(floor.rt, stream) {
+            drop(refused);
+            return Err(Cause::Memory);
+        }
+        self.busy = self.busy.saturating_add(1);
+        Ok(())
+    }
+}
+
+/// Waits for a seat, and serves from it one connection after another, until no more come.
+fn answer_calls<'a, E: EntryLedger, S: LotLedger, R: Wait + Clock>(
     floor: &Floor<'a, E, S, R>,
-    calls: Receiver<Call<E, S>>,
-    orders: Sender<SweepOrder>,
+    ends: TalkerEnds<E, S>,
 ) -> Option<SeatReceipts<E, S>> {
-    match calls.recv(floor.rt) {
-        Ok(call) => {
-            drop(calls);
-            Some(talk(floor, call, orders))
-        }
-        Err(_) => {
-            drop(calls);
-            drop(orders);
-            None
-        }
+    let mut seat = ends.seats.recv(floor.rt).ok()?;
+    for stream in ends.calls.iter(floor.rt) {
+        seat = talk(floor, stream, seat, &ends.orders);
+        let _ = ends.ended.send(floor.rt, ());
     }
+    Some(seat)
 }
 
-/// Starts a thread for one more call.
-fn start_talker<
+/// Accepts a connection. Where that fails it is tried again each time that one has ended, as long as any is under way.
+fn accept_one<
     's,
     X,
     E: EntryLedger + Send + Sync + 's,
     S: LotLedger + Send + Sync + 's,
-    R: Threads + Wait + Clock + Sync,
+    R: Threads + Wait + Clock + Eprint + Sync,
 >(
     scope: &Scope<'s, X>,
     floor: &'s Floor<'s, E, S, R>,
-    ends: &Ends<E, S>,
+    entrance: &mut Entrance<E, S>,
     crew: &mut Crew<E, S>,
 ) -> Result<(), StreamError> {
-    crew.reserve()?;
-    let calls = ends.from.clone()?;
-    let orders = ends.orders.clone()?;
-    match scope.spawn(move || answer_call(floor, calls, orders)) {
-        Ok(talker) => {
-            crew.add(talker);
-            Ok(())
-        }
-        Err(_) => Err(StreamError::Memory),
-    }
-}
-
-/// Gives a connection, with a seat, to a thread that waits for one. Where it can't be given, the seat is put back.
-fn send_call<E: EntryLedger, S: LotLedger, R: Wait>(
-    floor: &Floor<'_, E, S, R>,
-    ends: &Ends<E, S>,
-    crew: &mut Crew<E, S>,
-    stream: TcpStream,
-) -> Result<(), StreamError> {
-    let Some(seat) = crew.take_seat() else {
-        return Ok(());
-    };
-    match ends.to.send(floor.rt, Call::new(stream, seat)) {
-        Ok(()) => Ok(()),
-        Err(refused) => {
-            let (stream, seat) = refused.into_inner().into_parts();
-            drop(stream);
-            crew.put_back(seat);
-            Err(StreamError::Memory)
+    for _ in floor.rt.forever() {
+        entrance.note_ended(floor.rt);
+        let Err(cause) = entrance.accept(scope, floor, crew) else {
+            return Ok(());
+        };
+        if !entrance.pause(floor.rt, &cause) {
+            return Err(StreamError::from(cause));
         }
     }
+    unreachable!()
 }
 
-/// Accepts a connection for each seat that no thread has: a thread is started first, so that the seat is given away only once a
-/// connection was accepted for it.
+/// Accepts a connection for each seat that no thread has.
 pub fn accept_all<
     's,
     X,
     E: EntryLedger + Send + Sync + 's,
     S: LotLedger + Send + Sync + 's,
-    R: Threads + Wait + Clock + Sync,
+    R: Threads + Wait + Clock + Eprint + Sync,
 >(
     scope: &Scope<'s, X>,
     floor: &'s Floor<'s, E, S, R>,
-    listener: &TcpListener,
-    ends: &Ends<E, S>,
+    entrance: &mut Entrance<E, S>,
     crew: &mut Crew<E, S>,
 ) -> Result<(), StreamError> {
-    for _call in 0..crew.idle() {
-        start_talker(scope, floor, ends, crew)?;
-        let Ok((stream, _)) = listener.accept() else {
-            return Err(StreamError::Read);
-        };
-        send_call(floor, ends, crew, stream)?;
+    for _connection in 0..crew.idle() {
+        accept_one(scope, floor, entrance, crew)?;
     }
     Ok(())
 }

@@ -3,7 +3,7 @@
 ghost use Rattle.std.specs.Prelude.{◌≡◌, ◌⊎◌, ◌+◌, ◌<◌, ℕ, false, IfOk, IfSome, OnErr};
 ghost use Rattle.gu_desk.specs.Holds.{IsEntered, IsTold};
 ghost use Rattle.gu_desk.specs.Totals.{with_entry};
-ghost use Rattle.gu_server.specs.SeatHouse.{IsEnteredAt, IsLeftOutAt};
+ghost use Rattle.gu_server.specs.SeatHouse.{IsEnteredAt, IsLeftOutAt, failure_of};
 
 use crate::next::Next;
 use crate::orders::Orders;
@@ -19,28 +19,38 @@ use std::alloc::AllocError;
 use std::marker::Model;
 use std::sync::Wait;
 
+/// Returns how a command fails that the desk doesn't enter: as full only where the desk says that the book is.
+fn failure_of(error: EnterError) -> Failure
+    ensures { result ≡ failure_of error }
+{
+    match error {
+        EnterError::Full => Failure::Full,
+        EnterError::Memory => Failure::Memory,
+    }
+}
+
 /// A seat at a desk as a house. To a contract it is the shares of the seat.
 ///
 /// The notices that a connection asks for after a command are had with it, in the one hold of the lock.
-pub struct AtDesk<'a, E: EntryLedger, S: LotLedger, R: Wait> {
+pub struct AtDesk<'a, 'o, E: EntryLedger, S: LotLedger, R: Wait> {
     rt: &'a R,
     desk: &'a Desk<E, S>,
     tally: &'a Tally,
     seat: SeatReceipts<E, S>,
-    orders: Orders,
+    orders: Orders<'o>,
     /// The notices that will be asked for next, once some were.
     next: Option<Next>,
     /// Their stretch, where it was had with the command before.
     ahead: Option<Stretch>,
 }
 
-impl<'a, E: EntryLedger, S: LotLedger, R: Wait> Drop for AtDesk<'a, E, S, R> {
+impl<'a, 'o, E: EntryLedger, S: LotLedger, R: Wait> Drop for AtDesk<'a, 'o, E, S, R> {
     fn drop(self) {
         drop(self.into_seat());
     }
 }
 
-impl<'a, E: EntryLedger, S: LotLedger, R: Wait> Model for AtDesk<'a, E, S, R> {
+impl<'a, 'o, E: EntryLedger, S: LotLedger, R: Wait> Model for AtDesk<'a, 'o, E, S, R> {
     ghost use Rattle.std.specs.Prelude.{◌+◌, IfSome};
     ghost use Rattle.gu_desk.specs.Holds.{IsTold};
     ghost use Rattle.gu_desk.specs.Totals.{Shares};
@@ -52,14 +62,14 @@ impl<'a, E: EntryLedger, S: LotLedger, R: Wait> Model for AtDesk<'a, E, S, R> {
     ghost invariant = { λ a. IfSome a.ahead (λ stretch. IfSome a.next (λ next. IsTold E.reference (E.opening + a.seat.entries) next.firm next.from stretch)) };
 }
 
-impl<'a, E: EntryLedger, S: LotLedger, R: Wait> AtDesk<'a, E, S, R> {
+impl<'a, 'o, E: EntryLedger, S: LotLedger, R: Wait> AtDesk<'a, 'o, E, S, R> {
     /// A seat at a desk, whose give-ups count for these orders.
     pub fn new(
         rt: &'a R,
         desk: &'a Desk<E, S>,
         tally: &'a Tally,
         seat: SeatReceipts<E, S>,
-        orders: Orders,
+        orders: Orders<'o>,
     ) -> Self
         ensures { result ≡ seat }
     {
@@ -129,8 +139,7 @@ impl<'a, E: EntryLedger, S: LotLedger, R: Wait> AtDesk<'a, E, S, R> {
                 self.order();
                 Outcome::Replied(reply)
             }
-            Err(EnterError::Full) => Outcome::Failed(Failure::Full),
-            Err(EnterError::Memory) => Outcome::Failed(Failure::Memory),
+            Err(error) => Outcome::Failed(failure_of(error)),
         }
     }
 
@@ -159,7 +168,7 @@ impl<'a, E: EntryLedger, S: LotLedger, R: Wait> AtDesk<'a, E, S, R> {
     }
 }
 
-impl<'a, E: EntryLedger, S: LotLedger, R: Wait> House for AtDesk<'a, E, S, R> {
+impl<'a, 'o, E: EntryLedger, S: LotLedger, R: Wait> House for AtDesk<'a, 'o, E, S, R> {
     ghost use Rattle.gu_server.specs.SeatHouse.{rules_of_seat};
 
     ghost rules = { rules_of_seat E.reference E.opening };

@@ -3,8 +3,10 @@
 ghost use Rattle.std.specs.Prelude.{◌≡◌, ◌↔◌, ◌+◌, ◌<◌, ◌≤◌, [], ◌∷◌, ◌++◌, vec_capacity, vec_len, IfSome, IfNone, IsSome, OnOk};
 
 use crate::seat_receipts::SeatReceipts;
+use crossbeam_channel::Sender;
 use gu_desk::{EntryLedger, LotLedger};
 use std::alloc::{AllocError, Global};
+use std::sync::Wait;
 use std::thread::{JoinHandle, Threads};
 
 /// A thread that hands back its seat, or nothing where it was given none.
@@ -84,6 +86,26 @@ impl<E: EntryLedger, S: LotLedger> Crew<E, S> {
         ensures threads { self.new.threads.items ≡ self.old.threads.items }
     {
         self.seats.push_reserved(seat);
+    }
+
+    /// Gives a seat that no thread has, if there is one, to a thread that waits for it. Where it can't be given, it is put back.
+    pub fn give_seat<R: Wait>(
+        &mut self,
+        rt: &R,
+        to: &Sender<SeatReceipts<E, S>>,
+    ) -> Result<(), AllocError>
+        ensures { self.new.threads.items ≡ self.old.threads.items }
+    {
+        let Some(seat) = self.take_seat() else {
+            return Ok(());
+        };
+        match to.send(rt, seat) {
+            Ok(()) => Ok(()),
+            Err(refused) => {
+                self.put_back(refused.into_inner());
+                Err(AllocError)
+            }
+        }
     }
 
     /// Waits for the threads. All seats are back then.

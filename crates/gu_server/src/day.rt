@@ -7,6 +7,7 @@ ghost use Rattle.gu_server.specs.Receipts.{AddsReceipts};
 
 use crate::closing::{Closed, Ending, close};
 use crate::floor::Floor;
+use crate::orders::OpenOrders;
 use crate::seat_receipts::SeatReceipts;
 use crate::serving::shift_at;
 use crate::sweeping::SWEEPERS;
@@ -33,6 +34,8 @@ pub struct Opening {
     pub connections: usize,
     /// The order of every K-th accepted give-up of a connection, K being this, is sent to the sweepers; with 0, none is.
     pub every: u64,
+    /// How many milliseconds a write to a connection waits for room, after which the connection ends. `WRITE_WAIT_MS` is the desk's.
+    pub write_wait_ms: u64,
     /// The blanks of the ledgers of entries and of swept lots.
     pub entries: Blank,
     pub swept: Blank,
@@ -80,11 +83,12 @@ fn with_receipts<E: EntryLedger, S: LotLedger>(
 }
 
 /// Opens a desk over a book, serves the connections that come to a listener, and closes the desk after the last one. The listener is
-/// closed once the last connection was accepted. What is done is printed at a terminal, where there is one.
+/// closed once the last connection was accepted. Where none can be accepted, standard error says so at once, and it is tried again each time that one
+/// has ended. What is done is printed at a terminal, where there is one.
 pub fn serve_day<
     E: EntryLedger + Send + Sync,
     S: LotLedger + Send + Sync,
-    R: Threads + Wait + Clock + Sync,
+    R: Threads + Wait + Clock + Eprint + Sync,
     T: Write + Send + Drop,
 >(
     rt: &R,
@@ -113,9 +117,11 @@ pub fn serve_day<
         receipts,
         connections,
         every,
+        write_wait_ms,
         entries,
         swept,
     } = opening;
+    let open_orders = OpenOrders::new(alloc, book.reference().groups())?;
     let firms = Vec::from_slice(alloc, book.reference().firms())?;
     let tally = Tally::new();
     let (desk, seats) = opened::<E, S>(alloc, book, connections + SWEEPERS, entries, swept)?;
@@ -126,8 +132,10 @@ pub fn serve_day<
         alloc,
         desk: &desk,
         firms: firms.as_slice(),
+        open_orders: &open_orders,
         tally: &tally,
         every,
+        write_wait_ms,
     };
     let shift = shift_at(&floor, listener, seats, terminal);
     drop(floor);

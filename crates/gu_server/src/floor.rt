@@ -1,19 +1,27 @@
 //! What the threads of a server share.
 
+ghost use Rattle.std.specs.Prelude.{◌≡◌};
+
+use crate::orders::OpenOrders;
 use crate::tally::Tally;
 use gu_desk::{Desk, EntryLedger, LotLedger};
 use gu_terms::FirmId;
 use std::alloc::Global;
 
-/// What the threads of a server share: the desk, the firms that may log on, and the counts.
+/// What the threads of a server share: the desk, the firms of its reference, each of which may log on, the orders of sweeps that wait, and
+/// the counts.
 pub struct Floor<'a, E: EntryLedger, S: LotLedger, R> {
     pub rt: &'a R,
     pub alloc: Global,
     pub desk: &'a Desk<E, S>,
     pub firms: &'a [FirmId],
+    pub open_orders: &'a OpenOrders,
     pub tally: &'a Tally,
     /// The order of every K-th accepted give-up of a connection, K being this, is sent to the sweepers; with 0, none is.
     pub every: u64,
+    /// How many milliseconds a write to a connection waits for room.
+    pub write_wait_ms: u64,
+    ghost all_firms: { firms.now ≡ E.reference.firms },
 }
 
 impl<'a, E: EntryLedger, S: LotLedger, R> Drop for Floor<'a, E, S, R> {
@@ -23,8 +31,10 @@ impl<'a, E: EntryLedger, S: LotLedger, R> Drop for Floor<'a, E, S, R> {
             alloc: _,
             desk: _,
             firms: _,
+            open_orders: _,
             tally: _,
             every: _,
+            write_wait_ms: _,
         } = self;
     }
 }

@@ -5,96 +5,23 @@ ghost use Rattle.std.specs.Io.{ReadsAtMost};
 ghost use Rattle.gu_server.specs.ReadAhead.{GivesFirst};
 
 use crate::ahead::Ahead;
+use crate::held::{Held, aborted, send_and_fill};
 use crate::timed::write_past_signals;
-use gu_streams::{StreamError, send};
+use gu_streams::StreamError;
 use std::alloc::{AllocError, Global};
 use std::cell::Cell;
 use std::io;
 use std::io::{ErrorKind, Read, Write};
 use std::net::TcpStream;
 
-/// How many bytes are held at most.
-const MOST_HELD: usize = 65_536;
-
-/// A connection's stream, of which more is read at once than is asked for, where more has come. While that is so, what is written is
-/// held, up to 65,536 bytes, and then goes out in one write: at the latest before a read that may wait.
-///
-/// What is held when the line is dropped isn't sent, unless `send_held` was called before.
-pub struct Line<'a> {
-    alloc: Global,
+/// A connection's socket. Its writes wait for room, and are made again if a signal cuts one short; its reads wait if they were set to.
+#[derive(Drop)]
+struct Socket<'a> {
     stream: &'a TcpStream,
-    ahead: Cell<Ahead>,
-    held: Cell<Vec<u8>>,
-    /// Whether anything is held.
-    is_holding: Cell<bool>,
-    /// Whether more was read than was asked for, or may have come.
-    may_have_more: Cell<bool>,
-    /// Whether reads and writes of the stream wait. While nothing is held, they do.
     is_waiting: Cell<bool>,
 }
 
-impl Drop for Line<'_> {
-    fn drop(self) {
-        let Line {
-            alloc: _,
-            stream: _,
-            ahead,
-            held,
-            is_holding: _,
-            may_have_more: _,
-            is_waiting: _,
-        } = self;
-        drop(ahead);
-        drop(held);
-    }
-}
-
-/// A stream whose writes are made again where a signal cut one short.
-#[derive(Drop)]
-struct Steady<'a> {
-    stream: &'a TcpStream,
-}
-
-impl Write for Steady<'_> {
-    fn write(&mut self, buf: &[u8]) -> io::Result<usize> {
-        write_past_signals(&mut self.stream, buf)
-    }
-
-    fn flush(&mut self) -> io::Result<()> {
-        self.stream.flush()
-    }
-}
-
-/// What a reader or a writer returns where what was held can't be sent: no kind that means that there is nothing for now.
-fn aborted() -> io::Error {
-    io::Error::from(ErrorKind::ConnectionAborted)
-}
-
-impl<'a> Line<'a> {
-    /// A line on which nothing has come yet.
-    pub fn new(alloc: Global, stream: &'a TcpStream) -> Result<Self, AllocError> {
-        let ahead = Ahead::new(alloc)?;
-        Ok(Line {
-            alloc,
-            stream,
-            ahead: Cell::new(ahead),
-            held: Cell::new(Vec::new(alloc)),
-            is_holding: Cell::new(false),
-            may_have_more: Cell::new(false),
-            is_waiting: Cell::new(true),
-        })
-    }
-
-    /// Holds a text after what is held, if there is room for it.
-    fn hold(&self, text: &[u8]) -> bool {
-        let mut held = self.held.replace(Vec::new(self.alloc));
-        let fits = text.len() <= MOST_HELD.saturating_sub(held.len());
-        let holds = fits && held.extend_from_slice(text).is_ok();
-        self.held.set(held);
-        self.is_holding.set(self.is_holding.get() || holds);
-        holds
-    }
-
+impl Socket<'_> {
     /// Lets reads and writes of the stream wait from now on, or not.
     fn set_waiting(&self, is_waiting: bool) -> io::Result<()> {
         if self.is_waiting.get() != is_waiting {
@@ -103,23 +30,76 @@ impl<'a> Line<'a> {
         }
         Ok(())
     }
+}
+
+impl Read for &Socket<'_> {
+    fn read(&mut self, buf: &mut [u8]) -> io::Result<usize> {
+        let mut stream = self.stream;
+        stream.read(buf)
+    }
+}
+
+impl Write for &Socket<'_> {
+    fn write(&mut self, buf: &[u8]) -> io::Result<usize> {
+        self.set_waiting(true)?;
+        let mut stream = self.stream;
+        write_past_signals(&mut stream, buf)
+    }
+
+    fn flush(&mut self) -> io::Result<()> {
+        Ok(())
+    }
+}
+
+/// A connection's stream, of which more is read at once than is asked for, where more has come. While that is so, what is written is
+/// held, up to 65,536 bytes, and then goes out in one write: at the latest before a read that may wait.
+///
+/// What is held when the line is dropped isn't sent, unless `send_held` was called before.
+pub struct Line<'a> {
+    alloc: Global,
+    socket: Socket<'a>,
+    ahead: Cell<Ahead>,
+    held: Cell<Held>,
+    /// Whether more was read than was asked for, or may have come.
+    may_have_more: Cell<bool>,
+}
+
+impl Drop for Line<'_> {
+    fn drop(self) {
+        let Line {
+            alloc: _,
+            socket,
+            ahead,
+            held,
+            may_have_more: _,
+        } = self;
+        drop(socket);
+        drop(ahead);
+        drop(held);
+    }
+}
+
+impl<'a> Line<'a> {
+    /// A line on which nothing has come yet.
+    pub fn new(alloc: Global, stream: &'a TcpStream) -> Result<Self, AllocError> {
+        let ahead = Ahead::new(alloc)?;
+        Ok(Line {
+            alloc,
+            socket: Socket {
+                stream,
+                is_waiting: Cell::new(true),
+            },
+            ahead: Cell::new(ahead),
+            held: Cell::new(Held::none(alloc)),
+            may_have_more: Cell::new(false),
+        })
+    }
 
     /// Sends what is held.
     pub fn send_held(&self) -> Result<(), StreamError> {
-        if !self.is_holding.get() {
-            return Ok(());
-        }
-        if self.set_waiting(true).is_err() {
-            return Err(StreamError::Write);
-        }
-        let mut held = self.held.replace(Vec::new(self.alloc));
-        let mut writer = Steady {
-            stream: self.stream,
-        };
-        let sent = send(&mut writer, &held);
-        held.clear();
+        let mut held = self.held.replace(Held::none(self.alloc));
+        let sent = held.send(&mut &self.socket);
         self.held.set(held);
-        self.is_holding.set(false);
         sent
     }
 
@@ -128,28 +108,24 @@ impl<'a> Line<'a> {
         requires { ahead.old.left ≡ [] }
         ensures { OnErr result (ahead.new.left ≡ []) }
     {
-        self.set_waiting(false)?;
-        let mut stream = self.stream;
-        ahead.fill(&mut stream)
+        self.socket.set_waiting(false)?;
+        ahead.fill(&mut &self.socket)
     }
 
     /// Reads ahead what has come, without waiting where something is held that can be sent meanwhile. What a socket gives is in no clause,
     /// so neither is what is ahead then.
-    fn fill(&self, ahead: &mut Ahead) -> io::Result<()>
+    fn fill(&self, ahead: &mut Ahead, held: &mut Held) -> io::Result<()>
         requires { ahead.old.left ≡ [] }
         ensures { OnErr result (ahead.new.left ≡ []) }
     {
-        if self.is_holding.get() && self.may_have_more.get() {
+        if self.may_have_more.get() && !held.is_empty() {
             match self.fill_at_once(ahead) {
                 Err(error) if error.kind() == ErrorKind::WouldBlock => {}
                 filled => return filled,
             }
         }
-        if self.send_held().is_err() {
-            return Err(aborted());
-        }
-        let mut stream = self.stream;
-        ahead.fill(&mut stream)
+        self.socket.set_waiting(true)?;
+        send_and_fill(held, &mut &self.socket, ahead, &mut &self.socket)
     }
 
     /// Reads ahead once none are left.
@@ -160,7 +136,9 @@ impl<'a> Line<'a> {
         if !ahead.is_empty() {
             return Ok(());
         }
-        let filled = self.fill(ahead);
+        let mut held = self.held.replace(Held::none(self.alloc));
+        let filled = self.fill(ahead, &mut held);
+        self.held.set(held);
         self.may_have_more.set(false);
         filled
     }
@@ -192,18 +170,13 @@ impl Read for &Line<'_> {
 
 impl Write for &Line<'_> {
     fn write(&mut self, buf: &[u8]) -> io::Result<usize> {
-        let more = self.may_have_more.get();
-        if (more || self.is_holding.get()) && self.hold(buf) {
-            if !more && self.send_held().is_err() {
-                return Err(aborted());
-            }
-            return Ok(buf.len());
+        let mut held = self.held.replace(Held::none(self.alloc));
+        let written = held.write(&mut &self.socket, buf, self.may_have_more.get());
+        self.held.set(held);
+        match written {
+            Ok(()) => Ok(buf.len()),
+            Err(_) => Err(aborted()),
         }
-        if self.send_held().is_err() {
-            return Err(aborted());
-        }
-        let mut stream = self.stream;
-        stream.write(buf)
     }
 
     fn flush(&mut self) -> io::Result<()> {

@@ -3,7 +3,7 @@
 ghost use Rattle.std.specs.Prelude.{◌≡◌};
 ghost use denote.Param.Send.{IsSend, IsSync};
 
-use crate::accepting::{Ends, accept_all};
+use crate::accepting::{Ends, Entrance, accept_all};
 use crate::crew::Crew;
 use crate::floor::Floor;
 use crate::seat_receipts::SeatReceipts;
@@ -86,14 +86,14 @@ fn start_teller<
     Some(Teller { until, thread })
 }
 
-/// Starts the sweepers, and accepts the connections. When it returns, the port is closed, and its ends of the channels are gone: so
-/// threads that had no call end, and the sweepers end with the last connection.
+/// Starts the sweepers, and accepts the connections. When it returns, the port is closed, and its ends of the channels are gone: so each
+/// thread ends with the connection that it serves, and the sweepers end with the last one.
 fn serve_calls<
     's,
     X,
     E: EntryLedger + Send + Sync + 's,
     S: LotLedger + Send + Sync + 's,
-    R: Threads + Wait + Clock + Sync,
+    R: Threads + Wait + Clock + Eprint + Sync,
 >(
     scope: &Scope<'s, X>,
     floor: &'s Floor<'s, E, S, R>,
@@ -102,9 +102,9 @@ fn serve_calls<
 ) -> Result<(), StreamError> {
     let (orders, ordered) = crossbeam_channel::unbounded(floor.alloc)?;
     start_sweepers(scope, floor, ordered, crew)?;
-    let (to, from) = crossbeam_channel::bounded(floor.alloc, 1)?;
-    let ends = Ends { to, from, orders };
-    accept_all(scope, floor, &listener, &ends, crew)
+    let ends = Ends::new(floor.alloc, crew.idle(), orders)?;
+    let mut entrance = Entrance::new(listener, ends);
+    accept_all(scope, floor, &mut entrance, crew)
 }
 
 /// Serves from these seats, one for each connection and each sweeper. Each seat comes back.
@@ -113,7 +113,7 @@ fn run_all<
     X,
     E: EntryLedger + Send + Sync + 's,
     S: LotLedger + Send + Sync + 's,
-    R: Threads + Wait + Clock + Sync,
+    R: Threads + Wait + Clock + Eprint + Sync,
     T: Write + Send + Drop + 's,
 >(
     scope: &Scope<'s, X>,
@@ -136,7 +136,7 @@ fn run_all<
 pub fn shift_at<
     E: EntryLedger + Send + Sync,
     S: LotLedger + Send + Sync,
-    R: Threads + Wait + Clock + Sync,
+    R: Threads + Wait + Clock + Eprint + Sync,
     T: Write + Send + Drop,
 >(
     floor: &Floor<'_, E, S, R>,

@@ -29,12 +29,14 @@ impl<E: EntryLedger, S: LotLedger> Drop for SweeperEnds<E, S> {
     }
 }
 
-/// Sweeps a group. A sweep that is refused is not made up for: an order that comes later may sweep what was left.
+/// Sweeps the group of an order. It doesn't wait from now on, so a give-up that is entered after the look has an order of its own. A sweep
+/// that is refused is not made up for: an order that comes later may sweep what was left.
 fn sweep<E: EntryLedger, S: LotLedger, R: Wait>(
     floor: &Floor<'_, E, S, R>,
     seat: &mut SeatReceipts<E, S>,
     order: &SweepOrder,
 ) {
+    floor.open_orders.close(&order.group());
     if let Ok(lots) = seat.sweep(floor.rt, floor.desk, order.group()) {
         floor.tally.add_sweep(lots);
     }
@@ -88,24 +90,6 @@ fn start_sweeper<
     }
 }
 
-/// Gives a seat to a sweeper that waits for one. Where it can't be given, it is put back.
-fn seat_sweeper<E: EntryLedger, S: LotLedger, R: Wait>(
-    floor: &Floor<'_, E, S, R>,
-    ends: &SweeperEnds<E, S>,
-    crew: &mut Crew<E, S>,
-) -> Result<(), StreamError> {
-    let Some(seat) = crew.take_seat() else {
-        return Ok(());
-    };
-    match ends.to.send(floor.rt, seat) {
-        Ok(()) => Ok(()),
-        Err(refused) => {
-            crew.put_back(refused.into_inner());
-            Err(StreamError::Memory)
-        }
-    }
-}
-
 /// Starts the sweepers. A seat is given away only once there is a thread for it.
 pub fn start_sweepers<
     's,
@@ -123,7 +107,7 @@ pub fn start_sweepers<
     let ends = SweeperEnds { to, from, orders };
     for _sweeper in 0..SWEEPERS {
         start_sweeper(scope, floor, &ends, crew)?;
-        seat_sweeper(floor, &ends, crew)?;
+        crew.give_seat(floor.rt, &ends.to)?;
     }
     Ok(())
 }

@@ -1,17 +1,20 @@
 //! The thread of a connection.
 
 ghost use Rattle.std.specs.Prelude.{◌≡◌};
+ghost use Rattle.gu_engine.specs.Exchange.{IsNew};
 
 use crate::at_desk::AtDesk;
 use crate::floor::Floor;
 use crate::line::Line;
 use crate::orders::Orders;
+use crate::quiet::{QuietTurn, TurnClock, Watched};
 use crate::seat_receipts::SeatReceipts;
 use crate::timed::{LogonTimer, Timed};
 use crossbeam_channel::Sender;
 use gu_desk::{EntryLedger, LotLedger, SweepOrder};
 use gu_engine::{Connection, SystemClock, converse};
 use gu_streams::{CountedReads, StreamError};
+use gu_terms::FirmId;
 use std::io;
 use std::io::{ErrorKind, Read};
 use std::net::{Shutdown, TcpStream};
@@ -22,8 +25,8 @@ use std::time::{Duration, Instant};
 /// How many milliseconds a read waits for bytes. So a firm that sends nothing is sent its notices within this time.
 const READ_WAIT_MS: u64 = 100;
 
-/// How many seconds a write waits for room.
-const WRITE_WAIT_S: u64 = 10;
+/// How many milliseconds a write of the desk waits for room.
+pub const WRITE_WAIT_MS: u64 = 10_000;
 
 /// How many seconds a connection is read on at most after its end, until the firm closes it too.
 const LAST_WAIT_S: u64 = 1;
@@ -31,46 +34,15 @@ const LAST_WAIT_S: u64 = 1;
 /// How many reads there are at most then.
 const LAST_READS: u32 = 1_000_000;
 
-/// A connection that was accepted, and the seat from which it is served.
-pub struct Call<E: EntryLedger, S: LotLedger> {
-    stream: TcpStream,
-    seat: SeatReceipts<E, S>,
-}
-
-// By hand, so that each exit of a caller drops it by one call.
-impl<E: EntryLedger, S: LotLedger> Drop for Call<E, S> {
-    fn drop(self) {
-        let Call { stream, seat } = self;
-        drop(stream);
-        drop(seat);
-    }
-}
-
-impl<E: EntryLedger, S: LotLedger> Call<E, S> {
-    /// A connection, and the seat from which it is served.
-    pub fn new(stream: TcpStream, seat: SeatReceipts<E, S>) -> Self
-        ensures stream { result.stream ≡ stream }
-        ensures seat { result.seat ≡ seat }
-    {
-        Call { stream, seat }
-    }
-
-    /// The connection, and its seat.
-    pub fn into_parts(self) -> (TcpStream, SeatReceipts<E, S>)
-        ensures stream { result.0 ≡ self.stream }
-        ensures seat { result.1 ≡ self.seat }
-    {
-        let Call { stream, seat } = self;
-        (stream, seat)
-    }
-}
-
 /// Sets how a stream waits, and starts the timer of its Logon.
-fn start<'a, R: Clock>(rt: &'a R, stream: &TcpStream) -> io::Result<LogonTimer<'a, R>> {
+fn start<'a, E: EntryLedger, S: LotLedger, R: Clock>(
+    floor: &Floor<'a, E, S, R>,
+    stream: &TcpStream,
+) -> io::Result<LogonTimer<'a, R>> {
     stream.set_read_timeout(Some(Duration::from_millis(READ_WAIT_MS)))?;
-    stream.set_write_timeout(Some(Duration::from_secs(WRITE_WAIT_S)))?;
+    stream.set_write_timeout(Some(Duration::from_millis(floor.write_wait_ms)))?;
     stream.set_nodelay(true)?;
-    LogonTimer::new(rt)
+    LogonTimer::new(floor.rt)
 }
 
 /// Whether a second has passed since then. A clock that fails gives no more time.
@@ -79,6 +51,11 @@ fn is_over<R: Clock>(rt: &R, since: Instant) -> bool {
         Ok(elapsed) => elapsed >= Duration::from_secs(LAST_WAIT_S),
         Err(_) => true,
     }
+}
+
+/// Whether an error of a read means that bytes may still come.
+fn is_pause(error: &io::Error) -> bool {
+    matches!(error.kind(), ErrorKind::WouldBlock | ErrorKind::Interrupted)
 }
 
 /// Closes the writing side, and reads on for a second at most until the firm closes its own. Bytes that were never read would take
@@ -94,20 +71,33 @@ fn hang_up<R: Clock>(rt: &R, mut stream: &TcpStream) {
     for _read in 0..LAST_READS {
         match stream.read(&mut buffer) {
             Ok(0) => return,
-            Err(error) if error.kind() != ErrorKind::WouldBlock => return,
+            Err(error) if !is_pause(&error) => return,
             _ if is_over(rt, since) => return,
             _ => {}
         }
     }
 }
 
+/// Creates the connection of a stream, in which each firm of the desk's reference may log on, and no other.
+fn connect<H, C, E: EntryLedger, S: LotLedger, R>(
+    floor: &Floor<'_, E, S, R>,
+    firms: Vec<FirmId>,
+    house: H,
+    clock: C,
+) -> Connection<H, C>
+    requires { firms.items ≡ E.reference.firms }
+    ensures { IsNew result E.reference.firms house clock }
+{
+    Connection::new(floor.alloc, firms, house, clock)
+}
+
 /// The exchange of a connection's session with its seat, over the stream. The seat comes back.
-fn exchange<'a, E: EntryLedger, S: LotLedger, R: Wait + Clock>(
+fn exchange<'a, 'o, E: EntryLedger, S: LotLedger, R: Wait + Clock>(
     floor: &Floor<'a, E, S, R>,
-    house: AtDesk<'a, E, S, R>,
+    house: AtDesk<'a, 'o, E, S, R>,
     stream: &TcpStream,
-) -> (AtDesk<'a, E, S, R>, Result<(), StreamError>) {
-    let Ok(timer) = start(floor.rt, stream) else {
+) -> (AtDesk<'a, 'o, E, S, R>, Result<(), StreamError>) {
+    let Ok(timer) = start(floor, stream) else {
         return (house, Err(StreamError::Read));
     };
     let Ok(firms) = Vec::from_slice(floor.alloc, floor.firms) else {
@@ -116,9 +106,11 @@ fn exchange<'a, E: EntryLedger, S: LotLedger, R: Wait + Clock>(
     let Ok(line) = Line::new(floor.alloc, stream) else {
         return (house, Err(StreamError::Memory));
     };
-    let clock = SystemClock::new(floor.rt);
-    let mut connection = Connection::new(floor.alloc, firms, house, clock);
-    let mut reads = CountedReads::patient(Timed::new(&line, &timer));
+    let quiet = QuietTurn::new();
+    let clock = TurnClock::new(SystemClock::new(floor.rt), &quiet);
+    let mut connection = connect(floor, firms, house, clock);
+    let reader = Watched::new(&line, SystemClock::new(floor.rt), &quiet);
+    let mut reads = CountedReads::patient(Timed::new(reader, &timer));
     let mut writer = Timed::new(&line, &timer);
     let talked = converse(floor.alloc, &mut connection, &mut reads, &mut writer);
     let sent = line.send_held();
@@ -126,15 +118,15 @@ fn exchange<'a, E: EntryLedger, S: LotLedger, R: Wait + Clock>(
     (connection.into_house(), talked.and(sent))
 }
 
-/// Serves a connection until it ends. A fault ends this connection alone.
-pub fn talk<'a, E: EntryLedger, S: LotLedger, R: Wait + Clock>(
-    floor: &Floor<'a, E, S, R>,
-    call: Call<E, S>,
-    orders: Sender<SweepOrder>,
+/// Serves a connection until it ends, from a seat, which comes back. A fault ends this connection alone.
+pub fn talk<E: EntryLedger, S: LotLedger, R: Wait + Clock>(
+    floor: &Floor<'_, E, S, R>,
+    stream: TcpStream,
+    seat: SeatReceipts<E, S>,
+    orders: &Sender<SweepOrder>,
 ) -> SeatReceipts<E, S> {
-    let (stream, seat) = call.into_parts();
     floor.tally.begin();
-    let orders = Orders::new(orders, floor.every);
+    let orders = Orders::new(orders, floor.open_orders, floor.every);
     let house = AtDesk::new(floor.rt, floor.desk, floor.tally, seat, orders);
     let (house, result) = exchange(floor, house, &stream);
     drop(stream);

@@ -1,5 +1,6 @@
-//! The progress of a server, at a terminal.
+//! What a server says while it runs: its progress, at a terminal, and why it accepts no connection for now.
 
+use crate::cause::Cause;
 use crate::tally::{Counts, Tally};
 use crossbeam_channel::{Receiver, RecvTimeoutError};
 use std::io;
@@ -49,4 +50,9 @@ pub fn tell_all<R: Wait + Clock, T: Write>(
         }
     }
     let _ = writeln!(terminal);
+}
+
+/// Says on standard error why no connection is accepted for now. If it can't be written, it is lost.
+pub fn tell_pause<R: Eprint>(rt: &R, cause: &Cause) {
+    let _ = eprintln!(rt; "giveup: no connection is accepted until one has ended: {cause}");
 }

@@ -13,7 +13,7 @@ use std::time::{Duration, Instant};
 /// How many seconds a firm may take from the accept of its connection to its Logon.
 const LOGON_WAIT_S: u64 = 30;
 
-/// How often a write that a signal cut short is made again at most.
+/// How often a read or a write that a signal cut short is made again at most.
 const MOST_INTERRUPTS: u32 = 1_000;
 
 /// The time that a firm has to log on. It is over once something is sent, since a session sends nothing before the Logon.
@@ -46,8 +46,7 @@ impl<'a, R: Clock> LogonTimer<'a, R> {
     }
 }
 
-/// A stream under a timer: once the firm is late, reads fail. A read that a signal cut short has nothing for now, and a write that one cut
-/// short is made again.
+/// A stream under a timer: once the firm is late, reads fail. A read or a write that a signal cut short is made again.
 #[derive(Drop)]
 pub struct Timed<'a, T, R> {
     stream: T,
@@ -77,6 +76,20 @@ pub fn write_past_signals<T: Write>(stream: &mut T, buf: &[u8]) -> io::Result<us
     Err(io::Error::from(ErrorKind::Interrupted))
 }
 
+/// Reads from a stream, again where a signal cut a read short before anything came. After many signals it has nothing for now.
+fn read_past_signals<T: Read>(stream: &mut T, buf: &mut [u8]) -> io::Result<usize>
+    ensures bound { ReadsAtMost result buf.new }
+    ensures bytes { ReadConsumes (T.remaining stream.old) (T.remaining stream.new) result buf.new }
+{
+    for _signal in 0..MOST_INTERRUPTS {
+        match stream.read(buf) {
+            Err(error) if error.kind() == ErrorKind::Interrupted => {}
+            read => return read,
+        }
+    }
+    Err(io::Error::from(ErrorKind::WouldBlock))
+}
+
 impl<T: Read, R: Clock> Read for Timed<'_, T, R> {
     ghost remaining = { λ timed. T.remaining timed.stream };
 
@@ -87,12 +100,7 @@ impl<T: Read, R: Clock> Read for Timed<'_, T, R> {
         if self.timer.is_late() {
             return Err(io::Error::from(ErrorKind::ConnectionAborted));
         }
-        match self.stream.read(buf) {
-            Err(error) if error.kind() == ErrorKind::Interrupted => {
-                Err(io::Error::from(ErrorKind::WouldBlock))
-            }
-            read => read,
-        }
+        read_past_signals(&mut self.stream, buf)
     }
 }
 

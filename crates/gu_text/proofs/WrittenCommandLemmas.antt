@@ -1,5 +1,5 @@
 -- Commands and sweeps that are written are read back.
-use Rattle.std.proofs.Common.{◌≡◌, ◌==◌, ◌+◌, ◌*◌, ◌^◌, ◌/◌, ◌%◌, ◌<◌, ◌≤◌, ◌++◌, ◌∷◌, [], ◌∙◌, ℕ, ℤ, pos, Bool, true, false, cond, List, Option, None, Some, IsSome, IsTrue, nat_le, length, drop, take, suc, get_or, refl, sym, ap, subst, length-append, append_assoc, arith}
+use Rattle.std.proofs.Common.{◌≡◌, ◌==◌, ◌+◌, ◌*◌, ◌^◌, ◌/◌, ◌%◌, ◌<◌, ◌≤◌, ◌++◌, ◌∷◌, [], ◌∙◌, ℕ, ℤ, pos, Bool, true, false, cond, List, Option, None, Some, IsSome, IsTrue, nat_le, length, drop, map, take, suc, get_or, refl, sym, ap, subst, length-append, append_assoc, arith}
 use Rattle.std.specs.Prelude.{codes, int_lt, not, unsigned_abs}
 use Rattle.std.specs.Char.{digit_value}
 use Rattle.std.specs.Fmt.{decimal}
@@ -7,6 +7,7 @@ use Rattle.std.specs.List.{AllByRecursion, after_first, before_first, flat_map, 
 use Rattle.std.specs.Option.{option_to_list}
 use Rattle.std.specs.Str.Parse.{AllDigits}
 use Rattle.std.proofs.lemmas.Fmt.{length-decimal-le}
+use Rattle.std.proofs.lemmas.Grind.{flat_map-append}
 use Rattle.std.proofs.lemmas.Int.{ints}
 use Rattle.std.proofs.lemmas.Bool.{and_parts, le-leb}
 use Rattle.std.proofs.lemmas.Bool.Decides.{nat_tests}
@@ -18,16 +19,19 @@ use Rattle.gu_terms.specs.Days.{IsDay}
 use Rattle.gu_terms.specs.LimitKeys.{name_of_key}
 use Rattle.gu_terms.specs.Names.{IsId, is_id_byte, is_name}
 use Rattle.gu_terms.specs.NumberText.{fraction_digits, whole_digits}
-use Rattle.gu_terms.specs.Numbers.{IsLots, IsPrice}
+use Rattle.gu_terms.specs.Numbers.{IsLots, IsOfferNo, IsPrice}
 use Rattle.gu_terms.specs.WrittenNumbers.{date_text, fraction_text, price_text, six_digits, trimmed_digits}
 use Rattle.gu_terms.specs.declared.alloc_reject.AllocReject.{AllocReject}
 use Rattle.gu_terms.specs.declared.alloc_reject.AllocReject.TheVariants.{BlockLevel, AccountLevel, Intermediary}
 use Rattle.gu_terms.specs.declared.command.Command.{Command}
 use Rattle.gu_terms.specs.declared.command.Command.TheVariants.{OpenDay, SetLimit, ReportSide, GiveUp, Claim, Refuse, Reverse}
 use Rattle.gu_terms.specs.declared.day.Day.{Day}
+use Rattle.gu_terms.specs.declared.entry.SweepEntry.{SweepEntry}
 use Rattle.gu_terms.specs.declared.group.Group.{Group}
+use Rattle.gu_terms.specs.declared.limit_key.LimitKey.{LimitKey}
 use Rattle.gu_terms.specs.declared.lines.Line.{Line as GiveUpLine}
 use Rattle.gu_terms.specs.declared.side.Side.{Side}
+use Rattle.gu_terms.specs.declared.takes.Take.{Take}
 use Rattle.gu_terms.specs.declared.side.Side.TheVariants.{Buy, Sell}
 use Rattle.gu_terms.proofs.WrittenLemmas.{length-trimmed, length-units}
 use Rattle.gu_terms.proofs.WrittenMeanings.{date_text_writes, decimal_means_lots, price_text_means}
@@ -36,8 +40,9 @@ use Rattle.gu_text.specs.Lines.{is_silent, longest_line}
 use Rattle.gu_text.specs.ReadBack.{AreWords, IsWord, is_word_byte, joined}
 use Rattle.gu_text.specs.Scripts.{WriteLines, Writes, side_word}
 use Rattle.gu_text.specs.SheetLines.{number_of}
+use Rattle.gu_text.specs.SheetText.{cut_key_words, cut_offer_words, take_words}
 use Rattle.gu_text.specs.Texts.{last_word, line_of, word}
-use Rattle.gu_text.specs.WrittenCommands.{IsScriptLineOf, IsSilentLineOf, IsWritableCommand, command_words, pair_words, remark_words, sweep_words, undated}
+use Rattle.gu_text.specs.WrittenCommands.{IsScriptLineOf, IsSilentLineOf, IsWritableCommand, IsWritableSweep, command_words, cut_key_remark, cut_key_remark_text, cut_offer_remark, cut_offer_remark_text, pair_words, remark_words, sweep_remarks, sweep_rows, sweep_words, take_remark, take_remark_text, undated}
 use Rattle.gu_text.specs.declared.script_line.Line.{Line}
 use Rattle.gu_text.specs.declared.script_line.Line.TheVariants as line
 use Rattle.gu_text.proofs.ReadBackLemmas.{line_of-joined, read_back}
@@ -363,6 +368,57 @@ remark_is_silent report day is =
       silent = comment_is_silent words short;
     }
 
+-- a comment of few bytes says nothing
+short_remark : (words : List (List ℕ)) → AllByRecursion IsWord words → size_of words ≤ 1000 → IsSilentLineOf (codes "#" ∷ words)
+short_remark words each few =
+    let mark : IsWord (codes "#") = (literal (codes "#") refl refl).0 in
+    record {
+      are = record { some = omega arith; each = All-from_recursion IsWord (codes "#" ∷ words) (mark, each) };
+      silent = comment_is_silent words (omega (arith, length-joined-size (codes "#" ∷ words), few));
+    }
+
+take_is_silent : (t : Take) → IsOfferNo t.offer × (t.lots < 10 ^ 12) → IsSilentLineOf (take_remark t)
+take_is_silent t is =
+    let name = literal (codes "TAKE") refl refl in
+    let offer = number_word t.offer (offer_small t.offer is.0) in
+    let lots = number_word t.lots is.1 in
+    short_remark (take_words t.offer t.lots) (name.0, (offer.0, (lots.0, tt))) (omega (arith, offer.1, lots.1))
+
+cut_key_is_silent : (key : LimitKey) → IsTrue (is_name (name_of_key key)) → IsSilentLineOf (cut_key_remark key)
+cut_key_is_silent key named =
+    let word = literal (codes "CUT") refl refl in
+    let kind = kind_word key in
+    let name = name_word (name_of_key key) named in
+    short_remark (cut_key_words key) (word.0, (kind.0, (name.0, tt))) (omega (arith, kind.1, name.1))
+
+cut_offer_is_silent : (n : ℕ) → IsOfferNo n → IsSilentLineOf (cut_offer_remark n)
+cut_offer_is_silent n is =
+    let word = literal (codes "CUT") refl refl in
+    let kind = literal (codes "OFFER") refl refl in
+    let offer = number_word n (offer_small n is) in
+    short_remark (cut_offer_words n) (word.0, (kind.0, (offer.0, tt))) (omega (arith, offer.1))
+
+-- each remark of a list
+each_is_silent : {X : Type 0} (Is : X → Type 0) (remark : X → List (List ℕ)) → ((x : X) → Is x → IsSilentLineOf (remark x))
+    → (xs : List X) → AllByRecursion Is xs → AllByRecursion IsSilentLineOf (map remark xs)
+each_is_silent Is remark silent [] all = tt
+each_is_silent Is remark silent (x ∷ xs) all = (silent x all.0, each_is_silent Is remark silent xs all.1)
+
+both_are_silent : (xs ys : List (List (List ℕ))) → AllByRecursion IsSilentLineOf xs → AllByRecursion IsSilentLineOf ys → AllByRecursion IsSilentLineOf (xs ++ ys)
+both_are_silent [] ys p q = q
+both_are_silent (x ∷ xs) ys p q = (p.0, both_are_silent xs ys p.1 q)
+
+-- what a sweep took, and its cut, say nothing
+pub swept_is_silent : (sweep : SweepEntry) → IsWritableSweep sweep → AllByRecursion IsSilentLineOf (sweep_remarks sweep)
+swept_is_silent sweep is =
+    let takes = map take_remark sweep.takes in
+    let keys = map cut_key_remark sweep.cut.keys in
+    both_are_silent (takes ++ keys) (map cut_offer_remark sweep.cut.offers)
+    (both_are_silent takes keys
+    (each_is_silent (λ (t : Take). IsOfferNo t.offer × (t.lots < 10 ^ 12)) take_remark take_is_silent sweep.takes is.takes)
+    (each_is_silent (λ (k : LimitKey). IsTrue (is_name (name_of_key k))) cut_key_remark cut_key_is_silent sweep.cut.keys is.keys))
+    (each_is_silent IsOfferNo cut_offer_remark cut_offer_is_silent sweep.cut.offers is.offers)
+
 -- words with a blank after each, and a last one, are a line
 pub words-last : (words : List (List ℕ)) (last : List ℕ) → flat_map word words ++ last_word last ≡ line_of (words ++ last ∷ [])
 words-last [] last = refl
@@ -371,6 +427,36 @@ words-last (first ∷ next ∷ others) last =
     append_assoc (word first) (flat_map word (next ∷ others)) (last_word last) ∙ ap (λ (t : List ℕ). word first ++ t) (words-last (next ∷ others) last)
 
 -- ---- what is appended
+
+-- the lines of comments
+lines_of_each : {X : Type 0} (remark : X → List (List ℕ)) (xs : List X) → flat_map (λ x. line_of (remark x)) xs ≡ flat_map line_of (map remark xs)
+lines_of_each remark [] = refl
+lines_of_each remark (x ∷ xs) = ap (λ (t : List ℕ). line_of (remark x) ++ t) (lines_of_each remark xs)
+
+-- four texts after another one
+four_after : (old line a b c : List ℕ) → (((old ++ line) ++ a) ++ b) ++ c ≡ old ++ (line ++ ((a ++ b) ++ c))
+four_after old line a b c = simp append_assoc
+
+-- a sweep's line, its takes and its cut, one after another
+pub sweep_appended : (old first : List ℕ) (sweep : SweepEntry) → first ≡ old ++ line_of (sweep_words sweep.group)
+    → ((first ++ flat_map take_remark_text sweep.takes) ++ flat_map cut_key_remark_text sweep.cut.keys)
+    ++ flat_map cut_offer_remark_text sweep.cut.offers ≡ old ++ flat_map line_of (sweep_rows sweep)
+sweep_appended old first sweep is =
+    let line = line_of (sweep_words sweep.group) in
+    let takes = map take_remark sweep.takes in
+    let keys = map cut_key_remark sweep.cut.keys in
+    let offers = map cut_offer_remark sweep.cut.offers in
+    let took = flat_map take_remark_text sweep.takes in
+    let held = flat_map cut_key_remark_text sweep.cut.keys in
+    let closed = flat_map cut_offer_remark_text sweep.cut.offers in
+    let parts : flat_map line_of ((takes ++ keys) ++ offers) ≡ (flat_map line_of takes ++ flat_map line_of keys) ++ flat_map line_of offers =
+    flat_map-append line_of (takes ++ keys) offers ∙ ap (λ (t : List ℕ). t ++ flat_map line_of offers) (flat_map-append line_of takes keys) in
+    ap (λ (t : List ℕ). ((t ++ took) ++ held) ++ closed) is
+    ∙ four_after old line took held closed
+    ∙ ap (λ (t : List ℕ). old ++ (line ++ ((t ++ held) ++ closed))) (lines_of_each take_remark sweep.takes)
+    ∙ ap (λ (t : List ℕ). old ++ (line ++ ((flat_map line_of takes ++ t) ++ closed))) (lines_of_each cut_key_remark sweep.cut.keys)
+    ∙ ap (λ (t : List ℕ). old ++ (line ++ ((flat_map line_of takes ++ flat_map line_of keys) ++ t))) (lines_of_each cut_offer_remark sweep.cut.offers)
+    ∙ ap (λ (t : List ℕ). old ++ (line ++ t)) (sym parts)
 
 pair_text-more : (front : List GiveUpLine) (l : GiveUpLine) → flat_map word (pair_words (front ++ l ∷ [])) ≡ flat_map word (pair_words front) ++ (word l.account.name ++ word (decimal l.lots))
 pair_text-more [] l = ap (λ (t : List ℕ). word l.account.name ++ t) (append-nil (word (decimal l.lots)))

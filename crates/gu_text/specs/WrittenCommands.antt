@@ -1,5 +1,5 @@
 -- Commands and sweeps that are written as lines of a script.
-use Rattle.std.specs.Prelude.{ℕ, ◌<◌, ◌^◌, List, [], ◌∷◌, ◌++◌, codes, None, IsTrue}
+use Rattle.std.specs.Prelude.{ℕ, ◌<◌, ◌^◌, List, [], ◌∷◌, ◌++◌, codes, map, None, IsTrue}
 use Rattle.std.specs.Fmt.{decimal}
 use Rattle.std.specs.List.{AllByRecursion}
 use Rattle.gu_terms.specs.AllocRejects.{reject_number}
@@ -11,11 +11,15 @@ use Rattle.gu_terms.specs.WrittenNumbers.{date_text, price_text}
 use Rattle.gu_terms.specs.declared.command.Command.{Command}
 use Rattle.gu_terms.specs.declared.command.Command.TheVariants.{OpenDay, SetLimit, ReportSide, GiveUp, Claim, Refuse, Reverse}
 use Rattle.gu_terms.specs.declared.day.Day.{Day}
+use Rattle.gu_terms.specs.declared.entry.SweepEntry.{SweepEntry}
 use Rattle.gu_terms.specs.declared.group.Group.{Group}
+use Rattle.gu_terms.specs.declared.limit_key.LimitKey.{LimitKey}
 use Rattle.gu_terms.specs.declared.lines.Line.{Line as GiveUpLine}
+use Rattle.gu_terms.specs.declared.takes.Take.{Take}
 use Rattle.gu_text.specs.Lines.{is_silent}
 use Rattle.gu_text.specs.ReadBack.{AreWords, joined}
 use Rattle.gu_text.specs.Scripts.{Says, side_word}
+use Rattle.gu_text.specs.SheetText.{cut_key_words, cut_offer_words, take_words}
 use Rattle.gu_text.specs.Texts.{line_of}
 use Rattle.gu_text.specs.declared.script_line.Line.{Line}
 
@@ -39,16 +43,41 @@ command_words (Reverse firm offer) = codes "REVERSE" ∷ firm.name ∷ decimal o
 abbrev pub sweep_words : Group → List (List ℕ)
 sweep_words group = codes "SWEEP" ∷ group.name ∷ []
 
+-- the words of comments: the lots that a sweep takes of an offer, a key of its cut, and an offer of its cut
+abbrev pub take_remark : Take → List (List ℕ)
+take_remark take = codes "#" ∷ take_words take.offer take.lots
+
+abbrev pub cut_key_remark : LimitKey → List (List ℕ)
+cut_key_remark key = codes "#" ∷ cut_key_words key
+
+abbrev pub cut_offer_remark : ℕ → List (List ℕ)
+cut_offer_remark offer = codes "#" ∷ cut_offer_words offer
+
+-- what a sweep takes, and its cut, as comments, each as words
+abbrev pub sweep_remarks : SweepEntry → List (List (List ℕ))
+sweep_remarks sweep = map take_remark sweep.takes ++ map cut_key_remark sweep.cut.keys ++ map cut_offer_remark sweep.cut.offers
+
+-- the lines of a committed sweep, as words
+abbrev pub sweep_rows : SweepEntry → List (List (List ℕ))
+sweep_rows sweep = sweep_words sweep.group ∷ sweep_remarks sweep
+
 -- the words of a comment: a report, and the day that it names
 abbrev pub remark_words : Command → Day → List (List ℕ)
 remark_words report day = codes "#" ∷ command_words report ++ date_text day.year day.month day.day ∷ []
 
--- the line of a command, of a whole sweep, and of a comment
+-- the lines of such comments
+abbrev pub take_remark_text : Take → List ℕ
+take_remark_text take = line_of (take_remark take)
+
+abbrev pub cut_key_remark_text : LimitKey → List ℕ
+cut_key_remark_text key = line_of (cut_key_remark key)
+
+abbrev pub cut_offer_remark_text : ℕ → List ℕ
+cut_offer_remark_text offer = line_of (cut_offer_remark offer)
+
+-- the line of a command, and of a comment
 abbrev pub command_text : Command → List ℕ
 command_text command = line_of (command_words command)
-
-abbrev pub sweep_text : Group → List ℕ
-sweep_text group = line_of (sweep_words group)
 
 abbrev pub remark_text : Command → Day → List ℕ
 remark_text report day = line_of (remark_words report day)
@@ -71,6 +100,14 @@ IsWritableCommand (GiveUp firm id report lines) =
 IsWritableCommand (Claim firm offer) = IsTrue (is_name firm.name) × IsOfferNo offer
 IsWritableCommand (Refuse firm offer why) = IsTrue (is_name firm.name) × IsOfferNo offer
 IsWritableCommand (Reverse firm offer) = IsTrue (is_name firm.name) × IsOfferNo offer
+
+-- what the types of sweeps keep: names are names, and numbers of offers are in their range; and what a script asks for besides: lots have
+-- twelve digits at most
+pub record IsWritableSweep (sweep : SweepEntry) : Type 0 where
+  pub group : IsTrue (is_name sweep.group.name)
+  pub takes : AllByRecursion (λ (t : Take). IsOfferNo t.offer × (t.lots < 10 ^ 12)) sweep.takes
+  pub keys : AllByRecursion (λ (k : LimitKey). IsTrue (is_name (name_of_key k))) sweep.cut.keys
+  pub offers : AllByRecursion IsOfferNo sweep.cut.offers
 
 -- a line of these words is one, and says nothing in a script
 pub record IsSilentLineOf (words : List (List ℕ)) : Type 0 where

@@ -7,11 +7,12 @@ ghost use Rattle.gu_terms.specs.LimitKeys.{kind_of, name_of_key};
 ghost use Rattle.gu_terms.specs.WrittenNumbers.{price_text};
 ghost use Rattle.gu_text.specs.Scripts.{side_word};
 ghost use Rattle.gu_text.specs.Texts.{line_of, word};
-ghost use Rattle.gu_text.specs.WrittenCommands.{command_text, command_words, pair_words, remark_text, sweep_text};
+ghost use Rattle.gu_text.specs.WrittenCommands.{command_text, command_words, cut_key_remark_text, cut_offer_remark_text, pair_words, remark_text, sweep_rows, sweep_words, take_remark_text};
 
-use crate::texts::{append_last_word, append_number, append_word};
+use crate::texts::{append_last_number, append_last_word, append_number, append_word};
 use gu_terms::{
-    Command, Day, FirmId, Group, Id, LimitKey, Line, Lots, OfferNo, Price, Side, Symbol,
+    Command, Day, FirmId, Group, Id, LimitKey, Line, Lots, OfferNo, Price, Side, SweepEntry,
+    Symbol, Take,
 };
 use std::alloc::AllocError;
 
@@ -164,10 +165,81 @@ pub fn append_remark(output: &mut Vec<u8>, report: &Command, day: Day) -> Result
     Ok(())
 }
 
+/// Appends a comment with the lots that a sweep takes of an offer.
+fn append_take(output: &mut Vec<u8>, take: &Take) -> Result<(), AllocError>
+    ensures { OnOk result (output.new.items ≡ output.old.items ++ take_remark_text take.now) }
+{
+    append_word(output, b"#")?;
+    append_word(output, b"TAKE")?;
+    append_number(output, take.offer.get())?;
+    append_last_number(output, take.lots)
+}
+
+/// Appends a comment with a key of a cut.
+fn append_cut_key(output: &mut Vec<u8>, key: &LimitKey) -> Result<(), AllocError>
+    ensures { OnOk result (output.new.items ≡ output.old.items ++ cut_key_remark_text key.now) }
+{
+    append_word(output, b"#")?;
+    append_word(output, b"CUT")?;
+    append_word(output, key.kind().as_bytes())?;
+    append_last_word(output, key.name())
+}
+
+/// Appends a comment with an offer of a cut.
+fn append_cut_offer(output: &mut Vec<u8>, offer: &OfferNo) -> Result<(), AllocError>
+    ensures { OnOk result (output.new.items ≡ output.old.items ++ cut_offer_remark_text offer.now) }
+{
+    append_word(output, b"#")?;
+    append_word(output, b"CUT")?;
+    append_word(output, b"OFFER")?;
+    append_last_number(output, offer.get())
+}
+
+/// Appends the lots that a sweep takes, a comment for each offer.
+fn append_takes(output: &mut Vec<u8>, takes: &[Take]) -> Result<(), AllocError>
+    ensures { OnOk result (output.new.items ≡ output.old.items ++ flat_map take_remark_text takes.now) }
+{
+    for take in takes {
+        append_take(output, take)?;
+    }
+    Ok(())
+}
+
+/// Appends the keys of a cut, a comment for each.
+fn append_cut_keys(output: &mut Vec<u8>, keys: &[LimitKey]) -> Result<(), AllocError>
+    ensures { OnOk result (output.new.items ≡ output.old.items ++ flat_map cut_key_remark_text keys.now) }
+{
+    for key in keys {
+        append_cut_key(output, key)?;
+    }
+    Ok(())
+}
+
+/// Appends the offers of a cut, a comment for each.
+fn append_cut_offers(output: &mut Vec<u8>, offers: &[OfferNo]) -> Result<(), AllocError>
+    ensures { OnOk result (output.new.items ≡ output.old.items ++ flat_map cut_offer_remark_text offers.now) }
+{
+    for offer in offers {
+        append_cut_offer(output, offer)?;
+    }
+    Ok(())
+}
+
 /// Appends the line of a script that sweeps a group.
-pub fn append_sweep(output: &mut Vec<u8>, group: Group) -> Result<(), AllocError>
-    ensures { OnOk result (output.new.items ≡ output.old.items ++ sweep_text group) }
+fn append_sweep_line(output: &mut Vec<u8>, group: Group) -> Result<(), AllocError>
+    ensures { OnOk result (output.new.items ≡ output.old.items ++ line_of (sweep_words group)) }
 {
     append_word(output, b"SWEEP")?;
     append_last_word(output, group.get())
+}
+
+/// Appends the lines of a committed sweep: the line of a script that sweeps its group, and as comments its takes and its cut.
+pub fn append_sweep(output: &mut Vec<u8>, sweep: &SweepEntry) -> Result<(), AllocError>
+    ensures { OnOk result (output.new.items ≡ output.old.items ++ flat_map line_of (sweep_rows sweep.now)) }
+{
+    append_sweep_line(output, sweep.group)?;
+    append_takes(output, sweep.takes.as_slice())?;
+    append_cut_keys(output, sweep.cut.keys())?;
+    append_cut_offers(output, sweep.cut.offers())?;
+    Ok(())
 }

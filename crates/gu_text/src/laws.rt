@@ -1,6 +1,7 @@
 //! Laws of scripts, and of what is written.
 
 ghost use Rattle.std.specs.Prelude.{◌≡◌, ◌<◌, ◌^◌, ℕ, List, All, IsTrue};
+ghost use Rattle.std.specs.List.{AllByRecursion};
 ghost use Rattle.gu_text.specs.ReadBack.{AreWords, HasLines, IsReadAsWritten, IsReadBack, IsWritable};
 ghost use Rattle.gu_terms.specs.Cuts.{CutLists, has_number};
 ghost use Rattle.gu_terms.specs.LimitKeys.{has_key};
@@ -8,13 +9,14 @@ ghost use Rattle.gu_terms.specs.Names.{is_name};
 ghost use Rattle.gu_terms.specs.Takes.{lots_of};
 ghost use Rattle.gu_terms.specs.declared.command.Command.{Command as CommandOf};
 ghost use Rattle.gu_terms.specs.declared.day.Day.{Day as DayOf};
+ghost use Rattle.gu_terms.specs.declared.entry.SweepEntry.{SweepEntry as SweepOf};
 ghost use Rattle.gu_terms.specs.declared.group.Group.{Group as GroupOf};
 ghost use Rattle.gu_terms.specs.declared.limit_key.LimitKey.{LimitKey as KeyOf};
 ghost use Rattle.gu_terms.specs.declared.takes.Take.{Take};
 ghost use Rattle.gu_text.specs.Scripts.{Says};
 ghost use Rattle.gu_text.specs.SheetText.{sheet_text};
 ghost use Rattle.gu_text.specs.Sheets.{IsSheet, Refuses};
-ghost use Rattle.gu_text.specs.WrittenCommands.{IsScriptLineOf, IsSilentLineOf, IsWritableCommand, command_words, remark_words, sweep_words, undated};
+ghost use Rattle.gu_text.specs.WrittenCommands.{IsScriptLineOf, IsSilentLineOf, IsWritableCommand, IsWritableSweep, command_words, remark_words, sweep_remarks, sweep_words, undated};
 ghost use Rattle.gu_text.specs.WrittenSheets.{IsNamed, cut_of, sheet_of, takes_of};
 ghost use Rattle.gu_text.specs.declared.error.TextError.{TextError as ErrorOf};
 ghost use Rattle.gu_text.specs.declared.error.TextError.TheVariants.{Memory};
@@ -74,11 +76,12 @@ pub fn a_written_sheet_is_read_back()
         → IsWritable view takes }
 {}
 
-/// A command that is written is read back as it is, a report as one of the open day, and so is a sweep. A remark says nothing.
+/// A command that is written is read back as it is, a report as one of the open day, and so is a sweep. Remarks say nothing.
 pub fn a_written_command_is_read_back()
     ensures command { (command : CommandOf) → IsWritableCommand command
         → IsScriptLineOf (command_words command) (line.Step (Enter (undated command))) }
     ensures remark { (report : CommandOf) (day : DayOf) → IsWritableCommand report
         → IsSilentLineOf (remark_words report day) }
     ensures sweep { (group : GroupOf) → IsTrue (is_name group.name) → IsScriptLineOf (sweep_words group) (line.Sweep group) }
+    ensures swept { (sweep : SweepOf) → IsWritableSweep sweep → AllByRecursion IsSilentLineOf (sweep_remarks sweep) }
 {}

@@ -7,7 +7,7 @@ use Rattle.gu_script.proofs.ReplaySteps.{said_answered}
 use Rattle.gu_script.proofs.script.Script.end.Goals as goal
 
 pub returns-in_err-said : goal.returns-in_err-said
-returns-in_err-said c =
+returns-in_err-said g c =
     let rest : c.self.inside.rest.items ≡ c.args.self.now.rest = ap (λ (p : Place). p.rest) c.self.view_is in
     let read : c.deref.result.now ≡ c.args.self.now.rest = c.deref.ensures.value ∙ rest in
     let none = subst (λ (b : List ℕ). HasNoLineFeed b) rest c.self.invariant in
@@ -21,7 +21,7 @@ returns-in_err-said c =
     }
 
 pub returns : goal.returns
-returns c =
+returns g c =
     let rest : c.self.inside.rest.items ≡ c.args.self.now.rest = ap (λ (p : Place). p.rest) c.self.view_is in
     let read : c.deref.result.now ≡ c.args.self.now.rest = c.deref.ensures.value ∙ rest in
     let none = subst (λ (b : List ℕ). HasNoLineFeed b) rest c.self.invariant in

@@ -7,11 +7,11 @@ use Rattle.gu_script.proofs.ReplaySteps.{said_answered}
 use Rattle.gu_script.proofs.script.Script.end_line.Goals as goal
 
 pub invariant_of-self-2 : goal.invariant_of-self-2
-invariant_of-self-2 c =
+invariant_of-self-2 g c =
     c.in_ok-extend_begun.ensures.none c.self.invariant c.requires.none
 
 pub returns-clause-answered : goal.returns-clause-answered
-returns-clause-answered c =
+returns-clause-answered g c =
     let line : c.without_return-line.result.now ≡ strip_carriage_return (c.args.self.now.rest ++ c.args.part.now) =
     c.without_return-line.ensures ∙ ap strip_carriage_return (c.whole_line.ensures ∙ ap (λ (r : List ℕ). whole_line r c.args.part.now) c.deref.ensures.value ∙ c.in_ok-extend_begun.ensures.whole ∙ ap (λ (p : Place). p.rest ++ c.args.part.now) c.self.view_is) in
     subst (λ (t : List ℕ). AnswersLines c.args.self.now.course (t ∷ []) c.args.output.now.items c.answer.new.self.course c.answer.new.output.items) line

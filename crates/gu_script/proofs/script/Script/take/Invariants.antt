@@ -3,7 +3,7 @@ use Rattle.gu_script.proofs.ReplayPieces.{Taking}
 use Rattle.gu_script.proofs.script.Script.take.Given as goal
 
 abbrev pub invariant-lines : goal.invariant-lines
-invariant-lines l = Taking l.initial.self l.piece l.self l.left l.initial.output.items l.output.items
+invariant-lines g l = Taking l.initial.self l.piece l.self l.left l.initial.output.items l.output.items
 
 abbrev pub decreases-lines : goal.decreases-lines
-decreases-lines l = length l.left
+decreases-lines g l = length l.left

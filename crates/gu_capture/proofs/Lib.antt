@@ -1,0 +1,2 @@
+pub mod Capturings
+pub mod Joining

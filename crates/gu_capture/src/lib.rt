@@ -1,0 +1,7 @@
+//! Trade capture without a session: reports in, acknowledgements and positions out.
+#![tactic(auto)]
+
+mod capturing;
+mod position_lines;
+
+pub use capturing::capture;

@@ -1,0 +1,3 @@
+pub mod ServeLemmas
+pub mod ValueLemmas
+pub mod WordLemmas

@@ -1,0 +1,130 @@
+-- The words that ask for a task.
+use Rattle.std.proofs.Common.{◌≡◌, ◌<◌, ◌^◌, ◌&&◌, not, unwrap_or, subst, ℕ, Bool, List, [], ◌∷◌, codes, true, false, Option, Some, None, Result, Ok, Err, refl, sym, ap, ◌∙◌}
+use Rattle.std.specs.Option.{option_map}
+use Rattle.std.specs.Prelude.{IfOk}
+use Rattle.clap.specs.Words.{AddsArg, AddsSubcommand, App, IsUnsignedIn, Row, Rule, Shape, Text, app_of, first_of, is_simple_and_free, rule_of, shape_of, takes, with_rule, with_subcommand}
+use Rattle.clap.specs.declared.builder.arg.Arg.{Arg}
+use Rattle.clap.specs.declared.builder.command.Command.{Command}
+use Rattle.clap.specs.Words.{first_value, rows_of}
+use Rattle.clap.specs.declared.parser.matches.Found.{Found}
+use Rattle.clap.proofs.OnLiterals.{clap_on_literals}
+use Rattle.clap.proofs.WalkLemmas.{first_value-rows}
+use Rattle.std.proofs.Math.Nat.{lt_of_le_of_lt}
+use Rattle.std.specs.Str.Parse.{IsNumeral, digits_value, without_leading_plus}
+use Rattle.gu_words.specs.ProgramWords.{Captures, Checks, Fixes, HasNumbers, IsWithin, Replays, Serves, Wanted, bare_program, check_shape, fix_shape, number_of, program, replay_shape, serve_shape, served_by, wanted_by, wanted_in, wanted_of_command, word_in}
+
+-- the program is one whose words clap tells in full
+pub simple-program : is_simple_and_free program ≡ true
+unfolding clap_on_literals
+simple-program = refl
+
+-- the program's name alone is taken
+pub takes-name : (name : List ℕ) → takes program (name ∷ []) ≡ true
+unfolding clap_on_literals
+takes-name name = refl
+
+-- the name and `check` are taken
+pub takes-check : (name : List ℕ) → takes program (name ∷ codes "check" ∷ []) ≡ true
+unfolding clap_on_literals
+takes-check name = refl
+
+-- the name alone asks for trade capture
+pub wanted_by-name : (name : List ℕ) → wanted_by (name ∷ []) ≡ Captures
+unfolding clap_on_literals
+wanted_by-name name = refl
+
+-- and with `check` for the check
+pub wanted_by-check : (name : List ℕ) → wanted_by (name ∷ codes "check" ∷ []) ≡ Checks
+unfolding clap_on_literals
+wanted_by-check name = refl
+
+-- the third of some tests that all fail
+third_fails : (a b c others : Bool) → (a && (not b && (not c && others))) ≡ true → c ≡ false
+third_fails true false false others all = refl
+third_fails true false true others all = cc
+third_fails true true c others all = cc
+third_fails false b c others all = cc
+
+-- a word is added to a command
+pub word_added : (old new : Command) (word : Arg) (app : App) (rule : Rule) → AddsArg old word new → word.global ≡ false → rule_of word ≡ rule → app_of old ≡ app → app_of new ≡ with_rule app rule
+word_added old new word app rule adds local is bare = adds.shape local ∙ ap (λ (a : App). with_rule a (rule_of word)) bare ∙ ap (with_rule app) is
+
+-- a command with one word more is the last of its making
+pub last_word_added : {E : Type 0} (result : Result Command E) (old : Command) (word : Arg) (app : App) (rule : Rule) → app_of old ≡ app → word.global ≡ false → rule_of word ≡ rule
+    → IfOk result (λ command. AddsArg old word command) → IfOk result (λ command. shape_of command ≡ (with_rule app rule).top)
+last_word_added (Ok command) old word app rule bare local is adds = ap (λ (a : App). a.top) (word_added old command word app rule adds local is bare)
+last_word_added (Err error) old word app rule bare local is adds = tt
+
+-- a command is added to the program
+command_added : (old sub new : Command) (app : App) (shape : Shape) → AddsSubcommand old sub new → shape.is_plain ≡ true → shape_of sub ≡ shape → app_of old ≡ app → app_of new ≡ with_subcommand app shape
+command_added old sub new app shape adds plain is bare =
+    adds.shape (third_fails _ _ _ _ (ap (λ (s : Shape). s.is_plain) is ∙ plain))
+    ∙ ap (λ (a : App). with_subcommand a (shape_of sub)) bare
+    ∙ ap (with_subcommand app) is
+
+-- a command that is added last
+pub last_command_added : {E : Type 0} (result : Result Command E) (old sub : Command) (shape : Shape) → shape.is_plain ≡ true → shape_of sub ≡ shape
+    → IfOk result (λ command. AddsSubcommand old sub command) → IfOk result (λ command. app_of command ≡ with_subcommand (app_of old) shape)
+last_command_added (Ok command) old sub shape plain is adds = command_added old sub command (app_of old) shape adds plain is refl
+last_command_added (Err error) old sub shape plain is adds = tt
+
+-- the program with its commands
+pub four_commands : {E : Type 0} (result : Result Command E) (bare one two three check : Command) → app_of bare ≡ bare_program
+    → AddsSubcommand bare check one → shape_of check ≡ check_shape → app_of two ≡ with_subcommand (app_of one) fix_shape → app_of three ≡ with_subcommand (app_of two) replay_shape
+    → IfOk result (λ command. app_of command ≡ with_subcommand (app_of three) serve_shape) → IfOk result (λ command. app_of command ≡ program)
+four_commands (Ok command) bare one two three check is checks is_check fixes replays serves =
+    let checking = command_added bare check one bare_program check_shape checks refl is_check is in
+    let fixing = fixes ∙ ap (λ (a : App). with_subcommand a fix_shape) checking in
+    let replaying = replays ∙ ap (λ (a : App). with_subcommand a replay_shape) fixing in
+    serves ∙ ap (λ (a : App). with_subcommand a serve_shape) replaying
+four_commands (Err error) bare one two three check is checks is_check fixes replays serves = tt
+
+-- the command `fix`, with these rows, asks for a session
+pub fixes : (sub : Option (Text × List Row)) (rows : List Row) (firm reference : Text) (script : Option Text) → option_map (λ (p : Text × List Row). p.0) sub ≡ Some (codes "fix") → option_map (λ (p : Text × List Row). p.1) sub ≡ Some rows
+    → firm ≡ word_in rows (codes "FIRM") → reference ≡ word_in rows (codes "REF") → script ≡ first_of (codes "script") rows → Fixes firm reference script ≡ wanted_in sub
+fixes None rows firm reference script name row is_firm is_reference is_script = cc
+fixes (Some (name, found)) rows firm reference script is_name is_rows is_firm is_reference is_script =
+    let named : name ≡ codes "fix" = cc in
+    let same : found ≡ rows = cc in
+    (λ i. Fixes (is_firm i) (is_reference i) (is_script i))
+    ∙ ap (λ (rs : List Row). Fixes (word_in rs (codes "FIRM")) (word_in rs (codes "REF")) (first_of (codes "script") rs)) (sym same)
+    ∙ ap (λ (n : Text). wanted_of_command n found) (sym named)
+
+-- the command `replay`, for a script
+pub replays : (sub : Option (Text × List Row)) (rows : List Row) (reference : Text) → option_map (λ (p : Text × List Row). p.0) sub ≡ Some (codes "replay") → option_map (λ (p : Text × List Row). p.1) sub ≡ Some rows
+    → reference ≡ word_in rows (codes "REF") → Replays reference ≡ wanted_in sub
+replays None rows reference name row is_reference = cc
+replays (Some (name, found)) rows reference is_name is_rows is_reference =
+    let named : name ≡ codes "replay" = cc in
+    let same : found ≡ rows = cc in
+    ap Replays is_reference
+    ∙ ap (λ (rs : List Row). Replays (word_in rs (codes "REF"))) (sym same)
+    ∙ ap (λ (n : Text). wanted_of_command n found) (sym named)
+
+-- the word of a name is that of the rows
+pub word_read : (found : Found) (name word : Text) → word ≡ unwrap_or (first_value found name) [] → word ≡ word_in (rows_of found) name
+word_read found name word is = is ∙ ap (λ (v : Option Text). unwrap_or v []) (first_value-rows found name)
+
+-- a word within bounds of two bytes is read
+pub never_unread : (least most other : ℕ) (word : Text) → most < 2 ^ 16 → (IsNumeral 10 (without_leading_plus word) × (digits_value 10 (without_leading_plus word) < 2 ^ 16) → ⊥) → IsUnsignedIn least most word → other ≡ number_of word
+never_unread least most other word fits none within = absurd (none (within.0, lt_of_le_of_lt within.3 fits))
+
+-- the number of a name, by its word
+pub numbered : (rows : List Row) (result least most : ℕ) (name word : Text) → (IsUnsignedIn least most word → result ≡ number_of word) → word ≡ word_in rows name → IsUnsignedIn least most (word_in rows name) → result ≡ number_of (word_in rows name)
+numbered rows result least most name word means is within = means (subst (IsUnsignedIn least most) (sym is) within) ∙ ap number_of is
+
+-- what `serve` asks for, word by word
+pub asks_to_serve : (rows : List Row) (reference : Text) (port : ℕ) (script : Option Text) (connections every : ℕ) (journal : Option Text)
+    → reference ≡ word_in rows (codes "REF") → port ≡ number_of (word_in rows (codes "PORT")) → script ≡ first_of (codes "script") rows
+    → connections ≡ number_of (word_in rows (codes "N")) → every ≡ number_of (word_in rows (codes "K"))
+    → journal ≡ first_of (codes "journal") rows → Serves reference port script connections every journal ≡ served_by rows
+asks_to_serve rows reference port script connections every journal a b c d e f = λ i. Serves (a i) (b i) (c i) (d i) (e i) (f i)
+
+-- the command `serve`, for a server
+pub serves : (sub : Option (Text × List Row)) (rows : List Row) (wanted : Wanted) → option_map (λ (p : Text × List Row). p.0) sub ≡ Some (codes "serve") → option_map (λ (p : Text × List Row). p.1) sub ≡ Some rows
+    → (HasNumbers rows → wanted ≡ served_by rows) → IsWithin sub → wanted ≡ wanted_in sub
+serves None rows wanted name row asked within = cc
+serves (Some (name, found)) rows wanted is_name is_rows asked within =
+    let named : name ≡ codes "serve" = cc in
+    let same : found ≡ rows = cc in
+    asked (within rows (λ i. Some (named i, same i))) ∙ ap served_by (sym same) ∙ ap (λ (n : Text). wanted_of_command n found) (sym named)

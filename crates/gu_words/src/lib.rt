@@ -1,0 +1,12 @@
+//! The words that the program is called with, and the statuses with which it ends.
+#![tactic(auto)]
+
+mod serving;
+mod status;
+mod version;
+mod words;
+
+pub use serving::Serving;
+pub use status::Status;
+pub use version::VERSION;
+pub use words::{Task, answer, firm_named, given, read};
