@@ -3,6 +3,7 @@
 use crate::plays::told;
 use crate::rows::check_told;
 use std::alloc::{AllocError, Global};
+use std::fmt;
 use std::fmt::Write;
 use trials::{columns, meant};
 
@@ -81,4 +82,125 @@ fn a_script_fills_a_book(rt: HostRuntime) {
         .expect(&rt, "memory");
     let told = told(rt.alloc(), "", &script, 4_096).expect(&rt, "memory");
     assert!(rt; told == expected);
+}
+
+/// How many accounts the house has beside the sample's four, and how many agreements beside the sample's four.
+const ROWS_MORE: u32 = 9_995;
+
+/// A script that is written line by line, and what answers it.
+#[derive(Drop)]
+struct Transcript {
+    script: String,
+    answers: String,
+    entries: u32,
+}
+
+impl Transcript {
+    /// Appends a line that makes an entry, and its answer.
+    fn say<L: fmt::Display + Drop, A: fmt::Display + Drop>(
+        &mut self,
+        line: L,
+        answer: A,
+    ) -> Result<(), AllocError> {
+        self.entries = self.entries.saturating_add(1);
+        write!(self.script, "{line}/")?;
+        write!(self.answers, "{} {answer}/", self.entries)
+    }
+}
+
+/// The rows of a house of 9,999 accounts, 9,999 agreements and fourteen groups.
+fn many_rows(alloc: Global) -> Result<String, AllocError> {
+    let mut rows = String::new(alloc);
+    for group in 3..=14_u32 {
+        write!(rows, "GROUP,G{group}\nINSTRUMENT,I{group},G{group}\n")?;
+    }
+    for place in 0..ROWS_MORE {
+        write!(
+            rows,
+            "ACCOUNT,B{place},C1\nAGREEMENT,Q{place},E1,B{place}\n"
+        )?;
+    }
+    Ok(rows)
+}
+
+/// 33,000 limits, in four groups.
+fn say_limits(transcript: &mut Transcript) -> Result<(), AllocError> {
+    for place in 0..8_250_u32 {
+        for (group, kind, name) in [
+            (3, "AGR", "Q"),
+            (4, "ACCT", "B"),
+            (5, "AGR", "Q"),
+            (6, "ACCT", "B"),
+        ] {
+            transcript.say(
+                format_args!("LIMIT G{group} {kind} {name}{place} {place}"),
+                "OK",
+            )?;
+        }
+    }
+    Ok(())
+}
+
+/// A trade of a group whose ids have 64 bytes, given up in this many give-ups of sixteen lots to as many accounts.
+fn say_give_ups(
+    transcript: &mut Transcript,
+    group: u32,
+    count: u32,
+    first: u32,
+) -> Result<(), AllocError> {
+    transcript.say(
+        format_args!("REPORT E1 {group:064} M{group:063} B I{group} 5000 101.5 H1"),
+        "OK OPEN",
+    )?;
+    transcript.say(
+        format_args!("REPORT E2 {group:064} M{group:063} S I{group} 5000 101.5 H2"),
+        "OK MATCHED",
+    )?;
+    for place in 0..count {
+        let first = first.saturating_add(place.saturating_mul(16));
+        write!(
+            transcript.script,
+            "GIVEUP E1 {group:032}{place:032} {group:064}"
+        )?;
+        for account in 0..15_u32 {
+            write!(transcript.script, " B{account} 1")?;
+        }
+        transcript.say(
+            format_args!(" B{} 1", place.saturating_add(15)),
+            format_args!("OK OFFERS {first} {}", first.saturating_add(15)),
+        )?;
+    }
+    Ok(())
+}
+
+/// A day of 33,000 limits and of 48,016 open offers in twelve groups, by ids of 64 bytes.
+fn many_lines(alloc: Global) -> Result<Transcript, AllocError> {
+    let mut transcript = Transcript {
+        script: String::new(alloc),
+        answers: String::from_str(alloc, "done: ")?,
+        entries: 0,
+    };
+    transcript.say("DAY 20260105", "OK")?;
+    say_limits(&mut transcript)?;
+    for group in 3..14_u32 {
+        let first = group
+            .saturating_sub(3)
+            .saturating_mul(4_000)
+            .saturating_add(1);
+        say_give_ups(&mut transcript, group, 250, first)?;
+    }
+    say_give_ups(&mut transcript, 14, 251, 44_001)?;
+    Ok(transcript)
+}
+
+#[test]
+fn a_house_of_many_rows_has_many_limits_and_offers(rt: HostRuntime) {
+    let rows = many_rows(rt.alloc()).expect(&rt, "memory");
+    let Transcript {
+        script,
+        answers,
+        ..
+    } = many_lines(rt.alloc()).expect(&rt, "memory");
+    let told = told(rt.alloc(), &rows, &script, 4_096).expect(&rt, "memory");
+    assert!(rt; told == answers);
 }

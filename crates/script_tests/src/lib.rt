@@ -10,6 +10,8 @@ mod largest;
 #[cfg(test)]
 mod memory;
 #[cfg(test)]
+mod openings;
+#[cfg(test)]
 mod plays;
 #[cfg(test)]
 mod rows;

@@ -34,10 +34,14 @@ fn a_failed_allocation_ends_a_script_after_a_prefix_of_the_text(rt: HostRuntime)
     }
 }
 
-/// Whether the journal of the short script's day has its lines, or ends after a prefix of them. (What is written grows too, so that it may
+/// The comments of its sweep in its journal: what it takes, and its cut.
+const SHORT_REMARKS: &str = "# TAKE 1 7\n# CUT OFFER 1\n";
+
+/// Whether the journal of the short script's day has its lines and the comments of its sweep, or ends after a prefix of them. (What is written grows too, so that it may
 /// end as a writer does that fails.)
 fn is_written_or_stops(alloc: Global) -> Result<bool, ScriptError> {
-    let lines = SHORT.replace(alloc, "/", "\n")?;
+    let mut lines = SHORT.replace(alloc, "/", "\n")?;
+    lines.push_str(SHORT_REMARKS)?;
     let world = world_after(alloc, SHORT)?;
     let mut written = Vec::new(alloc);
     Ok(

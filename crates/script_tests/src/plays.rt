@@ -46,7 +46,7 @@ impl Read for Pieces<'_> {
 }
 
 /// The sample, with further rows.
-fn reference_with(alloc: Global, rows: &str) -> Result<Reference, ScriptError> {
+pub fn reference_with(alloc: Global, rows: &str) -> Result<Reference, ScriptError> {
     let mut file = String::from_str(alloc, SAMPLE)?;
     file.push_str(rows)?;
     match Reference::read(alloc, &mut CountedReads::new(file.as_bytes())) {

@@ -1,9 +1,11 @@
-//! A machine of the tests' own, on which it is always nine on 2026-01-05.
+//! A machine of the tests' own, on which it is always nine on 2026-01-05, and whose standard error a test may read.
 
+use std::fmt::Display;
 use std::io;
+use std::io::Write;
 use std::rt::Clock;
-use std::sync::Wait;
 use std::sync::atomic::{AtomicU64, Ordering};
+use std::sync::{Mutex, Wait};
 use std::thread::Threads;
 use std::time::Duration;
 
@@ -13,15 +15,17 @@ pub struct Machine<'a, R> {
     rt: &'a R,
     seconds: AtomicU64,
     leap: u64,
+    said: &'a Mutex<Vec<u8>>,
 }
 
 impl<'a, R> Machine<'a, R> {
-    /// A machine that starts.
-    pub fn new(rt: &'a R, leap: u64) -> Self {
+    /// A machine that starts. What is printed on its standard error goes there.
+    pub fn new(rt: &'a R, leap: u64, said: &'a Mutex<Vec<u8>>) -> Self {
         Machine {
             rt,
             seconds: AtomicU64::new(0),
             leap,
+            said,
         }
     }
 }
@@ -38,5 +42,17 @@ impl<R> Clock for Machine<'_, R> {
 
     fn since_1970(&self) -> io::Result<Duration> {
         Ok(Duration::from_millis(1_767_603_600_000))
+    }
+}
+
+impl<R: Wait> Eprint for Machine<'_, R> {
+    fn eprint<D: Display + Drop>(&self, value: D) -> io::Result<()> {
+        let mut said = self.said.lock(self.rt);
+        write!(said, "{value}")
+    }
+
+    fn eprintln<D: Display + Drop>(&self, value: D) -> io::Result<()> {
+        let mut said = self.said.lock(self.rt);
+        writeln!(said, "{value}")
     }
 }

@@ -141,14 +141,54 @@ pub fn most(view: &View) -> u64 {
     most
 }
 
+/// Whether a code takes more than another of the first offer of which they take different lots.
+fn gives_older_more(code: u64, other: u64) -> bool {
+    for place in 0..5 {
+        let (lots, others) = (digit(code, place), digit(other, place));
+        if lots != others {
+            return others < lots;
+        }
+    }
+    false
+}
+
+/// Of the admissible codes with the most lots, the one that gives older offers more.
+fn oldest(view: &View) -> u64 {
+    let most = most(view);
+    let mut oldest = 0u64;
+    for code in 0..3_125 {
+        let is_most = lots(code, view.offers()) == Some(most);
+        if is_most && fits(code, view) && gives_older_more(code, oldest) {
+            oldest = code;
+        }
+    }
+    oldest
+}
+
+/// The takes of a view with up to five offers that are greatest and oldest first over the group.
+pub fn oldest_takes(alloc: Global, view: &View) -> Result<String, AllocError> {
+    let code = oldest(view);
+    let mut text = String::new(alloc);
+    for (place, offer) in view.offers().iter().enumerate() {
+        let lots = digit(code, place);
+        let number = offer.number.get();
+        text.push_str(&format!(in alloc; "TAKE {number} {lots}|")?)?;
+    }
+    Ok(text)
+}
+
 #[test]
-fn finds_no_admissible_lots_that_are_more(rt: HostRuntime) {
+fn finds_no_admissible_lots_that_are_more_nor_older(rt: HostRuntime) {
     let sought = Subject::Sheets(Question::Most);
     let swept = Subject::Sheets(Question::Sweep(Telling::Lots));
+    let oldest = Subject::Sheets(Question::Oldest);
+    let given = Subject::Sheets(Question::Sweep(Telling::Given));
     let mut seed = 20_260_105;
     for turn in 0..60 {
         let sheet = sheet_drawn(rt.alloc(), &mut seed, turn).expect(&rt, "memory");
         let most = told(rt.alloc(), sought, &sheet).expect(&rt, "memory");
         check_row(&rt, rt.alloc(), swept, &sheet, &most);
+        let takes = told(rt.alloc(), oldest, &sheet).expect(&rt, "memory");
+        check_row(&rt, rt.alloc(), given, &sheet, &takes);
     }
 }

@@ -1,7 +1,7 @@
 //! Sheets: what is read, and what checks, sweeps and the writing of a sheet make of it.
 use crate::fixture::sheet_text_of;
 use crate::rows::{Subject, check, shown};
-use crate::search::most;
+use crate::search::{most, oldest_takes};
 use crate::sweep::{Telling, sweep_text};
 use crate::texts::entered_text;
 use gu_text::{Sheet, TextError, sheet_text, verdict_text};
@@ -26,6 +26,8 @@ pub enum Question {
     Sweep(Telling),
     /// The most lots that any admissible takes of its view have.
     Most,
+    /// The takes of its view that are greatest and oldest first over the group.
+    Oldest,
     /// How its sweep is told, without its sheet and with it.
     Entered,
 }
@@ -87,6 +89,7 @@ fn answer(alloc: Global, question: Question, sheet: &Sheet) -> Result<String, Al
         Question::IsShared => shared_text(alloc, sheet),
         Question::Sweep(telling) => sweep_text(alloc, telling, &sheet.view),
         Question::Most => format!(in alloc; "{}", most(&sheet.view)),
+        Question::Oldest => oldest_takes(alloc, &sheet.view),
         Question::Entered => entered_text(alloc, sheet),
     }
 }

@@ -12,8 +12,8 @@ pub enum Telling {
     Lots,
     /// The line that a check answers, the takes and the cut.
     Takes,
-    /// That line and the cut.
-    Cut,
+    /// The takes alone.
+    Given,
 }
 
 /// The lots of a proposal, the line that a check of it answers, and its sheet from a word on.
@@ -26,6 +26,15 @@ fn from_word(alloc: Global, proposal: &Proposal, word: &str) -> Result<String, A
     format!(in alloc; "{} {verdict}{word}{rest}", proposal.lots())
 }
 
+/// The takes of a proposal.
+fn takes_text(alloc: Global, proposal: &Proposal) -> Result<String, AllocError> {
+    let sheet = sheet_text(alloc, proposal.view(), proposal.takes(), proposal.cut());
+    let sheet = shown(alloc, sheet)?;
+    let (_, rest) = sheet.split_once("TAKE").unwrap_or(("", ""));
+    let (takes, _) = rest.split_once("CUT").unwrap_or(("", ""));
+    format!(in alloc; "TAKE{takes}")
+}
+
 /// What is told of a proposal.
 fn proposal_text(
     alloc: Global,
@@ -35,7 +44,7 @@ fn proposal_text(
     match telling {
         Telling::Lots => format!(in alloc; "{}", proposal.lots()),
         Telling::Takes => from_word(alloc, proposal, "TAKE"),
-        Telling::Cut => from_word(alloc, proposal, "CUT"),
+        Telling::Given => takes_text(alloc, proposal),
     }
 }
 
@@ -88,16 +97,27 @@ mixed: -> 11 OK 11|TAKE 1 3|TAKE 2 8|CUT GUAR E2|CUT CARRY C2|END|
 empty: -> 0 OK 0|TAKE
 ";
 
-/// Views in which other takes are as great, and the same without the takes.
-const CUTS: &str = "\
-narrow: -> 13 OK 13|CUT CARRY C1|END|
-both: -> 10 OK 10|CUT GUAR E2|END|
+/// Views in which other takes are as great. The second has 13 lots for three offers of ten; in the last, lots that are added
+/// offer by offer would be sent round past older offers, and 2, 1, 3 and 3 be taken.
+const OLDEST: &str = "\
+narrow: -> 13 OK 13|TAKE 1 10|TAKE 2 3|CUT CARRY C1|END|
+SHEET G1 0|OFFER 1 10 P1 E1 A1 C1|OFFER 2 10 P2 E1 A2 C1|OFFER 3 10 P3 E1 A3 C1|ROOM EXEC E1 100|ROOM AGR P1 100|\
+    ROOM ACCT A1 100|ROOM CARRY C1 13|ROOM AGR P2 100|ROOM ACCT A2 100|ROOM AGR P3 100|ROOM ACCT A3 100|END| -> \
+    13 OK 13|TAKE 1 10|TAKE 2 3|TAKE 3 0|CUT CARRY C1|END|
+both: -> 10 OK 10|TAKE 1 8|TAKE 2 2|CUT GUAR E2|END|
+SHEET G1 0|OFFER 1 4 P1 E1 A1 C1|OFFER 2 1 P2 E2 A1 C1|OFFER 3 4 P3 E1 A2 C1|OFFER 4 4 P4 E2 A2 C1|ROOM EXEC E1 5|\
+    ROOM AGR P1 4|ROOM ACCT A1 3|ROOM CARRY C1 11|ROOM EXEC E2 4|ROOM AGR P2 1|ROOM AGR P3 6|ROOM ACCT A2 8|\
+    ROOM AGR P4 6|END| -> 9 OK 9|TAKE 1 3|TAKE 2 0|TAKE 3 2|TAKE 4 4|CUT EXEC E1|CUT EXEC E2|END|
 ";
 
 #[test]
 fn takes_what_greedy_misses_and_shows_why_no_more(rt: HostRuntime) {
     let takes = Subject::Sheets(Question::Sweep(Telling::Takes));
-    let cut = Subject::Sheets(Question::Sweep(Telling::Cut));
     check(&rt, rt.alloc(), takes, TAKES);
-    check(&rt, rt.alloc(), cut, CUTS);
+}
+
+#[test]
+fn gives_older_offers_more_where_other_takes_are_as_great(rt: HostRuntime) {
+    let takes = Subject::Sheets(Question::Sweep(Telling::Takes));
+    check(&rt, rt.alloc(), takes, OLDEST);
 }

@@ -1,0 +1,195 @@
+//! What firms do on a day of a server.
+
+use crate::clients::{Client, Ending, Visit};
+use crate::visits::{
+    GIVES_UP, GIVES_UP_LINES, IS_OFFERED, LOGON, LOGON_OF_A_TRADE, OFFER, SAYS_NOTHING,
+};
+use gu_server::WRITE_WAIT_MS;
+use std::alloc::Global;
+use std::net::{Net, TcpListener, TcpStream};
+use std::process::Abort;
+use std::rt::Clock;
+use std::sync::{Mutex, Wait};
+use std::time::Duration;
+use std::{io, thread};
+
+/// Goes through a connection. Nothing comes after what its lines say, where they say nothing.
+fn go_through(rt: &impl Abort, client: Client, visit: &Visit) -> io::Result<()> {
+    let (came, want, more) = client.visit(visit)?;
+    assert_eq!(rt; came, want);
+    assert!(rt; more == 0 || !want.is_empty());
+    Ok(())
+}
+
+/// A connection from its begin to its end.
+fn connect<R: Net<Listener = TcpListener, Stream = TcpStream> + Abort>(
+    rt: &R,
+    alloc: Global,
+    port: u16,
+    visit: &Visit,
+) -> io::Result<()> {
+    go_through(rt, Client::open(rt, alloc, port)?, visit)
+}
+
+/// The connections, one after the other. One that fails doesn't keep the server waiting for the others.
+fn visit_all<R: Net<Listener = TcpListener, Stream = TcpStream> + Abort>(
+    rt: &R,
+    alloc: Global,
+    port: u16,
+    visits: &[Visit],
+) -> io::Result<()> {
+    let mut result = Ok(());
+    for one in visits {
+        let visited = connect(rt, alloc, port, one);
+        if result.is_ok() {
+            result = visited;
+        }
+    }
+    result
+}
+
+/// The carrying firm logs on and sends nothing more; then the executing firm gives up its lots, and the offer comes.
+fn wait_for_the_offer<R: Net<Listener = TcpListener, Stream = TcpStream> + Abort>(
+    rt: &R,
+    alloc: Global,
+    port: u16,
+) -> io::Result<()> {
+    let mut carrying = Client::open(rt, alloc, port)?;
+    let (came, want) = carrying.talk("C1", LOGON)?;
+    assert_eq!(rt; came, want);
+    let mut executing = Client::open(rt, alloc, port)?;
+    let (came, want) = executing.talk("E1", GIVES_UP_LINES)?;
+    assert_eq!(rt; came, want);
+    let (came, want) = carrying.talk("C1", OFFER)?;
+    assert_eq!(rt; came, want);
+    let _ = executing.end("E1", GIVES_UP.ending)?;
+    let _ = carrying.end("C1", IS_OFFERED.ending)?;
+    Ok(())
+}
+
+/// A firm logs on, and sends 100 TestRequests of 1,000 letters in one burst. Their answers, which are more than a connection holds, come in
+/// order.
+fn send_much<R: Net<Listener = TcpListener, Stream = TcpStream> + Abort>(
+    rt: &R,
+    alloc: Global,
+    port: u16,
+) -> io::Result<()> {
+    let mut lines = String::new(alloc);
+    for number in 2..102 {
+        let line = format!(in alloc; "in 1 {number} 112=T{number}(x*1000)|\n")?;
+        lines.push_str(&line)?;
+    }
+    for number in 2..102 {
+        let line = format!(in alloc; "out 0 {number} 112=T{number}(x*1000)|\n")?;
+        lines.push_str(&line)?;
+    }
+    let mut client = Client::open(rt, alloc, port)?;
+    let (came, want) = client.talk("C1", LOGON)?;
+    assert_eq!(rt; came, want);
+    let (came, want) = client.talk("C1", &lines)?;
+    assert!(rt; came == want);
+    let _ = client.end("C1", Ending::LogsOut(102))?;
+    Ok(())
+}
+
+/// A firm logs on, and asks for what it was sent again and again, without reading, until its connection is ended.
+fn ask_and_read_nothing<R: Net<Listener = TcpListener, Stream = TcpStream> + Abort>(
+    rt: &R,
+    alloc: Global,
+    port: u16,
+) -> io::Result<()> {
+    let mut lines = String::new(alloc);
+    for _request in 0..1_000 {
+        lines.push_str("in 2 9000 7=1|16=0|\n")?;
+    }
+    let mut client = Client::open(rt, alloc, port)?;
+    let (came, want) = client.talk("E1", LOGON_OF_A_TRADE)?;
+    assert_eq!(rt; came, want);
+    let mut has_ended = false;
+    for _burst in 0..1_000 {
+        has_ended = has_ended || client.talk("E1", &lines).is_err();
+    }
+    assert!(rt; has_ended);
+    Ok(())
+}
+
+/// One firm is there first. Once it was said that nobody else can be accepted, another connects, and then the first logs out.
+fn come_later<R: Net<Listener = TcpListener, Stream = TcpStream> + Abort + Wait + Clock>(
+    rt: &R,
+    alloc: Global,
+    port: u16,
+    first: Client,
+    said: &Mutex<Vec<u8>>,
+) -> io::Result<()> {
+    let mut first = first;
+    let (came, want) = first.talk("C1", LOGON)?;
+    assert_eq!(rt; came, want);
+    for _look in 0..2_000 {
+        if !said.lock(rt).is_empty() {
+            break;
+        }
+        thread::sleep(rt, Duration::from_millis(5));
+    }
+    let second = Client::open(rt, alloc, port)?;
+    let _ = first.end("C1", Ending::LogsOut(2))?;
+    go_through(rt, second, &GIVES_UP)
+}
+
+/// What firms do on a day.
+#[derive(Clone, Copy)]
+pub enum Doing {
+    /// They connect one after the other.
+    Visits(&'static [Visit]),
+    /// One waits for what the other offers.
+    Waits,
+    /// One sends much at once.
+    SendsMuch,
+    /// One says nothing, and the time leaps by ten seconds at each look.
+    LogsOnTooLate,
+    /// One asks much and reads nothing; a write waits for it for 0.2 seconds.
+    DoesNotRead,
+    /// One comes once it was said that nobody is accepted before one that was there first has gone.
+    ComesLater,
+}
+
+impl Doing {
+    /// By how many seconds the time since the machine's start grows at each look.
+    pub fn leap(self) -> u64 {
+        match self {
+            Doing::LogsOnTooLate | Doing::DoesNotRead => 10,
+            _ => 0,
+        }
+    }
+
+    /// How many milliseconds a write waits.
+    pub fn write_wait_ms(self) -> u64 {
+        match self {
+            Doing::DoesNotRead => 200,
+            _ => WRITE_WAIT_MS,
+        }
+    }
+}
+
+/// Does what firms do on a day. One that was there first gives up its lots, where no more is said of it.
+pub fn do_all<R: Net<Listener = TcpListener, Stream = TcpStream> + Abort + Wait + Clock>(
+    rt: &R,
+    alloc: Global,
+    port: u16,
+    first: Option<Client>,
+    doing: Doing,
+    said: &Mutex<Vec<u8>>,
+) -> io::Result<()> {
+    match first {
+        Some(first) => match doing {
+            Doing::ComesLater => come_later(rt, alloc, port, first, said),
+            _ => go_through(rt, first, &GIVES_UP),
+        },
+        None => match doing {
+            Doing::Visits(visits) => visit_all(rt, alloc, port, visits),
+            Doing::SendsMuch => send_much(rt, alloc, port),
+            Doing::LogsOnTooLate => connect(rt, alloc, port, &SAYS_NOTHING),
+            Doing::DoesNotRead => ask_and_read_nothing(rt, alloc, port),
+            Doing::Waits | Doing::ComesLater => wait_for_the_offer(rt, alloc, port),
+        },
+    }
+}
