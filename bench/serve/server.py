@@ -26,11 +26,11 @@ def is_listening(port):
 class Server:
     """`giveup serve` on a port of its own, until it ends by itself."""
 
-    def __init__(self, program, reference, script, connections, every=0, journal=None):
+    def __init__(self, program, reference, script, connections, every=0, journal=None, limits=None):
         self.port = free_port()
         words = [program, 'serve', reference, str(self.port), '--script', script, '--connections', str(connections), '--every', str(every)]
         words += ['--journal', journal] if journal else []
-        self.child = subprocess.Popen(words, stdin=subprocess.DEVNULL, stdout=subprocess.PIPE, stderr=subprocess.PIPE)
+        self.child = subprocess.Popen(words, stdin=subprocess.DEVNULL, stdout=subprocess.PIPE, stderr=subprocess.PIPE, preexec_fn=limits)
         self.out, self.err, self.peak_kb = b'', b'', 0
         self.threads = [threading.Thread(target=part, daemon=True) for part in (self.read_out, self.read_err, self.watch)]
         for thread in self.threads:
@@ -46,7 +46,8 @@ class Server:
         self.out = self.child.stdout.read()
 
     def read_err(self):
-        self.err = self.child.stderr.read()
+        while piece := os.read(self.child.stderr.fileno(), 65536):
+            self.err += piece
 
     def value_of(self, name):
         """A number that /proc has of the process, in kB, or 0 where it is gone."""
@@ -86,9 +87,10 @@ class Server:
 
 
 def written(text):
-    """A file with this text, which is removed at the end."""
+    """A file with this text, which anybody may read and which is removed at the end."""
     file = tempfile.NamedTemporaryFile('w', prefix='serve-', delete=False)
     atexit.register(os.unlink, file.name)
     with file:
         file.write(text)
+    os.chmod(file.name, 0o644)
     return file.name
