@@ -8,6 +8,7 @@ pub mod ChangedSums
 pub mod Charges
 pub mod Covered
 pub mod Elsewhere
+pub mod EqualViews
 pub mod Even
 pub mod Facts
 pub mod GivenTrades

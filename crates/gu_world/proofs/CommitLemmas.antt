@@ -1,5 +1,5 @@
 -- What a book's answer to a commit says of the look that it is for.
-use Rattle.std.proofs.Common.{◌≡◌, ◌≢◌, ℕ, ◌+◌, ◌<◌, true, false, List, [], ◌∷◌, ◌++◌, length, take, Option, is_some, sym, ap, ◌∙◌, arith, inl, inr}
+use Rattle.std.proofs.Common.{◌≡◌, ◌≢◌, ℕ, ◌+◌, ◌<◌, true, false, List, [], ◌∷◌, ◌++◌, drop, length, take, take-append-drop, Option, is_some, sym, ap, ◌∙◌, arith, inl, inr}
 use Rattle.std.specs.Prelude.{nat_le}
 use Rattle.std.proofs.lemmas.Bool.{cases_Bool}
 use Rattle.std.proofs.lemmas.Bool.Decides.{nat_tests}
@@ -13,12 +13,13 @@ use Rattle.gu_rules.specs.BookState.{BookState}
 use Rattle.gu_rules.specs.Legal.{IsLegal}
 use Rattle.gu_rules.specs.Versions.{version_of}
 use Rattle.gu_rules.specs.Views.{group_view}
+use Rattle.gu_rules.proofs.EqualViews.{equal_views}
 use Rattle.gu_book.specs.Commits.{IsCurrent, IsForeign, IsStale, sweep_of}
 use Rattle.gu_world.specs.Looks.{IsTrueLook, look_by}
 use Rattle.gu_world.specs.Steps.{Look, committed_for, first_touch_above}
 use Rattle.gu_world.specs.declared.held.Work.TheVariants.{Ready}
 use Rattle.gu_world.specs.declared.outcome.Outcome.TheVariants.{Stale, Swept}
-use Rattle.gu_world.proofs.Touches.{equal_views, versions_and_touches}
+use Rattle.gu_world.proofs.Touches.{versions_and_touches}
 
 -- a book below a million entries isn't full
 roomy : (n : ℕ) → n < 1000000 → nat_le 1000000 n ≡ false
@@ -65,7 +66,7 @@ module _ (book new : BookState) (seen : ℕ) (looks : List (Option Look)) (propo
 
   -- while its version is that of now, its view is
   pub still_true : IsLegal book.reference book.history → proposal.view.version ≡ version_of book.history proposal.view.group → proposal.view ≡ group_view book.reference book.history proposal.view.group
-  still_true legal same = one.view ∙ equal_views book.history seen proposal.view.group book.reference legal one.seen (version_seen ∙ same)
+  still_true legal same = one.view ∙ equal_views book.reference (take seen book.history) book.history proposal.view.group (drop seen book.history, take-append-drop seen book.history) legal (version_seen ∙ same)
 
   -- no look is foreign
   pub never_foreign : IsLegal book.reference book.history → IsForeign book proposal.view → ⊥

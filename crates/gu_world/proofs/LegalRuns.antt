@@ -1,5 +1,5 @@
 -- Every run leads to a legal history.
-use Rattle.std.proofs.Common.{◌≡◌, ◌⊎◌, ℕ, zero, suc, ◌≤◌, Bool, true, false, List, [], ◌∷◌, ◌++◌, length, take, Option, Some, None, refl, sym, ap, subst, arith, inl, inr, if◌then◌else◌, length-append}
+use Rattle.std.proofs.Common.{◌≡◌, ◌⊎◌, ℕ, zero, suc, ◌≤◌, Bool, true, false, List, [], ◌∷◌, ◌++◌, drop, length, take, take-append-drop, Option, Some, None, refl, sym, ap, subst, arith, inl, inr, if◌then◌else◌, length-append}
 use Rattle.std.specs.Prelude.{slice_index_or, slice_set}
 use Rattle.std.specs.Option.{option_map_or}
 use Rattle.std.proofs.lemmas.Bool.{leb-false}
@@ -16,6 +16,7 @@ use Rattle.gu_rules.specs.Legal.{IsLegal, MayBeEntered, MayFollow}
 use Rattle.gu_rules.specs.Sweeps.{IsSweepOf, MaySweep}
 use Rattle.gu_rules.specs.Versions.{version_of}
 use Rattle.gu_rules.specs.Views.{group_view}
+use Rattle.gu_rules.proofs.EqualViews.{equal_views}
 use Rattle.gu_rules.proofs.Growing.{legal_push}
 use Rattle.gu_world.specs.Runs.{Course, IsRun, IsRunOf}
 use Rattle.gu_world.specs.Steps.{LeadsTo, Look, ProposesOn, State, committed_for, committed_on, is_full, is_overtaken, look_of, start, with_entry, with_look, with_proposal}
@@ -25,7 +26,7 @@ use Rattle.gu_world.specs.declared.step.Step.{Step}
 use Rattle.gu_world.specs.declared.step.Step.TheVariants.{Enter, See, Propose, Commit}
 use Rattle.gu_world.proofs.HeadlineLemmas.{run-reference}
 use Rattle.gu_world.proofs.SlotLemmas.{index-nothing}
-use Rattle.gu_world.proofs.Touches.{equal_views, versions_and_touches}
+use Rattle.gu_world.proofs.Touches.{versions_and_touches}
 
 -- a look is at entries that are there, and its sweep might be committed after them
 record IsSeen (reference : Tables) (history : List Entry) (look : Look) : Type 0 where
@@ -86,7 +87,7 @@ module _ (state : State) (good : IsGood state) where
   still look sweep one is quiet =
       let own = one.may sweep is in
       let versions : version_of (take look.seen state.book.history) look.group ≡ version_of state.book.history look.group = (versions_and_touches state.book.history look.seen look.group one.seen).1 quiet in
-      let views = equal_views state.book.history look.seen look.group state.book.reference good.legal one.seen versions in
+      let views = equal_views state.book.reference (take look.seen state.book.history) state.book.history look.group (drop look.seen state.book.history, take-append-drop look.seen state.book.history) good.legal versions in
       let mine : group_view state.book.reference (take look.seen state.book.history) sweep.group ≡ group_view state.book.reference state.book.history sweep.group =
       subst (λ (g : Group). group_view state.book.reference (take look.seen state.book.history) g ≡ group_view state.book.reference state.book.history g) (sym own.0) views in
       record { known = own.1.known; sweeps = subst (λ (v : GroupView). IsSweepOf v sweep) mine own.1.sweeps }

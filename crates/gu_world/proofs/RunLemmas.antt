@@ -1,5 +1,5 @@
 -- Runs, one step on.
-use Rattle.std.proofs.Common.{◌≤◌, arith, ◌≡◌, ℕ, suc, Bool, true, false, List, [], ◌∷◌, ◌++◌, length, map, Option, Some, None, refl, sym, ap, ◌∙◌, subst, if◌then◌else◌}
+use Rattle.std.proofs.Common.{◌≤◌, arith, ◌≡◌, ℕ, suc, Bool, true, false, List, [], ◌∷◌, ◌++◌, drop, length, map, take, take-append-drop, Option, Some, None, refl, sym, ap, ◌∙◌, subst, if◌then◌else◌}
 use Rattle.std.specs.Prelude.{IsSome, slice_index_or, take}
 use Rattle.std.specs.Option.{option_map, option_map_or}
 use Rattle.gu_terms.specs.declared.entry.SweepEntry.{SweepEntry}
@@ -9,6 +9,7 @@ use Rattle.gu_view.specs.View.{GroupView}
 use Rattle.gu_rules.specs.BookState.{BookState}
 use Rattle.gu_rules.specs.Legal.{IsLegal}
 use Rattle.gu_rules.specs.Views.{group_view}
+use Rattle.gu_rules.proofs.EqualViews.{equal_views}
 use Rattle.gu_world.specs.Looks.{AreTrue, IsKeptCourse, look_by, look_in, state_in, view_in, view_proposed, view_ready}
 use Rattle.gu_world.specs.Outcomes.{AreNumbered, kept_of, outcome_in}
 use Rattle.gu_world.specs.Runs.{Course, GoesOn, IsRun, IsRunOf, beginning}
@@ -24,7 +25,7 @@ use Rattle.gu_world.specs.declared.outcomes.KeptOutcome.{KeptOutcome}
 use Rattle.gu_world.proofs.OutcomeLemmas.{numbered-one_more, outcomes-one_more}
 use Rattle.gu_world.proofs.Holding.{look_by-group, look_by-seen}
 use Rattle.gu_world.proofs.SlotLemmas.{look_of-held}
-use Rattle.gu_world.proofs.Touches.{equal_views, versions_and_touches}
+use Rattle.gu_world.proofs.Touches.{versions_and_touches}
 
 -- a run of some steps and a run of more are a run of all
 pub IsRun-append : (old mid new : State) (steps more : List Step) (outcomes others : List Outcome) → IsRun old steps outcomes mid → IsRun mid more others new → IsRun old (steps ++ more) (outcomes ++ others) new
@@ -147,7 +148,7 @@ kept-current book slots worker held view legal trues at is look looks still =
     let seen : look.seen ≡ held.seen = ap (λ (l : Look). l.seen) same ∙ look_by-seen held.seen held.work in
     let group : look.group ≡ (view_in held.work).group = ap (λ (l : Look). l.group) same ∙ look_by-group held.seen held.work in
     let within : look.seen ≤ length book.history = omega (arith, seen, one.seen) in
-    let views = equal_views book.history look.seen look.group book.reference legal within ((versions_and_touches book.history look.seen look.group within).1 still) in
+    let views = equal_views book.reference (take look.seen book.history) book.history look.group (drop look.seen book.history, take-append-drop look.seen book.history) legal ((versions_and_touches book.history look.seen look.group within).1 still) in
     ap Some (is ∙ one.view ∙ (λ i. group_view book.reference (take (sym seen i) book.history) (sym group i)) ∙ views)
 
 pub no-current : (book : BookState) (slots : List (Option Held)) (worker : ℕ) → slice_index_or slots worker None ≡ None → (look : Look) → look_of (state_in book slots) worker ≡ Some look → is_overtaken (state_in book slots) look ≡ false

@@ -1,18 +1,12 @@
--- Versions that are equal, and entries that touch nothing.
+-- Versions that are equal, and entries that touch nothing between them.
 use Rattle.std.proofs.Common.{◌≡◌, ◌↔◌, ℕ, ◌+◌, ◌<◌, ◌≤◌, Bool, true, false, nat_lt, List, [], ◌∷◌, ◌++◌, length, take, drop, Option, Some, None, is_some, cond, if◌then◌else◌, refl, sym, ap, subst, ◌∙◌, arith, length-append, append_assoc, append-nil, take-append-drop}
-use Rattle.std.proofs.Math.Seq.{take-append_seam}
-use Rattle.std.specs.Prelude.{slice_get}
 use Rattle.std.specs.List.{find}
 use Rattle.std.specs.Option.{option_to_list}
 use Rattle.std.proofs.lemmas.Bool.Decides.{nat_tests}
 use Rattle.std.proofs.lemmas.List.{length-take}
 use Rattle.gu_terms.specs.declared.entry.Entry.{Entry}
 use Rattle.gu_terms.specs.declared.group.Group.{Group}
-use Rattle.gu_ref.specs.Tables.{Tables}
-use Rattle.gu_rules.specs.Legal.{IsLegal, MayFollow}
 use Rattle.gu_rules.specs.Versions.{touches, touching, touching_after, version_of}
-use Rattle.gu_rules.specs.Views.{group_view}
-use Rattle.gu_rules.proofs.Elsewhere.{view-elsewhere}
 use Rattle.gu_rules.proofs.VersionLemmas.{touching_after-append}
 use Rattle.gu_world.specs.Steps.{first_touch_above}
 
@@ -72,31 +66,3 @@ module _ (history : List Entry) (n : ℕ) (group : Group) where
   versions_and_touches within =
       let parts = sizes (touching (take n history) group) (touching_after (take n history) group (drop n history)) (touching history group) touching_at in
       (λ h. touched_above within ∙ parts.0 h, λ h. parts.1 (sym (touched_above within) ∙ h))
-
-  -- ---- views
-
-  nothing_after : (b : Bool) (k : ℕ) (ns : List ℕ) → nat_lt 0 (length (in_front b k ns)) ≡ false → (b ≡ false) × (nat_lt 0 (length ns) ≡ false)
-  nothing_after true k ns h = absurd (grind (arith, nat_tests))
-  nothing_after false k ns h = (refl, h)
-
-  seam : (before rest : List Entry) (entry : Entry) → slice_get (before ++ entry ∷ rest) (length before) ≡ Some entry
-  seam [] rest entry = refl
-  seam (first ∷ before) rest entry = seam before rest entry
-
-  -- entries of which each may follow and none touches the group leave its view
-  view-behind : (reference : Tables) (all : List Entry) → ((k : ℕ) (entry : Entry) → slice_get all k ≡ Some entry → MayFollow reference (take k all) entry) → (before later : List Entry) → all ≡ before ++ later
-      → nat_lt 0 (length (touching_after before group later)) ≡ false → group_view reference all group ≡ group_view reference before group
-  view-behind reference all each before [] is none = ap (λ (h : List Entry). group_view reference h group) (is ∙ append-nil before)
-  view-behind reference all each before (entry ∷ rest) is none =
-      let parts = nothing_after (touches before group entry) (length before + 1) (touching_after (before ++ entry ∷ []) group rest) none in
-      let at : slice_get all (length before) ≡ Some entry = ap (λ (h : List Entry). slice_get h (length before)) is ∙ seam before rest entry in
-      let front : take (length before) all ≡ before = ap (take (length before)) is ∙ take-append_seam before (entry ∷ rest) in
-      let may : MayFollow reference before entry = subst (λ (h : List Entry). MayFollow reference h entry) front (each (length before) entry at) in
-      view-behind reference all each (before ++ entry ∷ []) rest (is ∙ sym (append_assoc before (entry ∷ []) rest)) parts.1
-      ∙ view-elsewhere reference before entry group may parts.0
-
-  -- so equal versions in one legal history mean equal views
-  pub equal_views : (reference : Tables) → IsLegal reference history → n ≤ length history → version_of (take n history) group ≡ version_of history group → group_view reference (take n history) group ≡ group_view reference history group
-  equal_views reference legal within same =
-      let parts = sizes (touching (take n history) group) (touching_after (take n history) group (drop n history)) (touching history group) touching_at in
-      sym (view-behind reference history legal.each (take n history) (drop n history) (sym (take-append-drop n history)) (parts.0 same))

@@ -1,5 +1,6 @@
-use Rattle.gu_world.proofs.Touches.{equal_views}
+use Rattle.std.proofs.Common.{drop, take, take-append-drop}
+use Rattle.gu_rules.proofs.EqualViews.{equal_views}
 use Rattle.gu_world.proofs.laws.equal_versions_are_equal_views.Goals as goal
 
 pub returns : goal.returns
-returns c reference history first group legal within same = equal_views history first group reference legal within same
+returns c reference history first group legal within same = equal_views reference (take first history) history group (drop first history, take-append-drop first history) legal same

@@ -1,0 +1,21 @@
+-- Equal versions are equal views.
+use Rattle.std.proofs.Common.{◌≡◌, List, length, take, sym, ap, ◌∙◌}
+use Rattle.std.proofs.Math.Seq.{take-append_seam}
+use mathlib.Core.List.{IsPrefix}
+use Rattle.gu_terms.specs.declared.entry.Entry.{Entry}
+use Rattle.gu_terms.specs.declared.group.Group.{Group}
+use Rattle.gu_ref.specs.Tables.{Tables}
+use Rattle.gu_rules.specs.Legal.{IsLegal}
+use Rattle.gu_rules.specs.Versions.{version_of}
+use Rattle.gu_rules.specs.Views.{group_view}
+use Rattle.gu_rules.proofs.LegalLaws.{view-stays}
+use Rattle.gu_rules.proofs.VersionLemmas.{equal_versions}
+
+-- where a group has one version after a beginning of a legal history and after the whole, it has one view
+pub equal_views : (reference : Tables) (front history : List Entry) (group : Group) → IsPrefix front history → IsLegal reference history
+    → version_of front group ≡ version_of history group → group_view reference front group ≡ group_view reference history group
+equal_views reference front history group begins legal same =
+    let first : take (length front) history ≡ front = ap (take (length front)) (sym begins.1) ∙ take-append_seam front begins.0 in
+    let versions : version_of (take (length front) history) group ≡ version_of history group = ap (λ (h : List Entry). version_of h group) first ∙ same in
+    let quiet = (equal_versions history (length front) group).0 versions in
+    sym (view-stays reference history (length front) group legal quiet ∙ ap (λ (h : List Entry). group_view reference h group) first)
