@@ -1,17 +1,17 @@
-//! Commits of proposals for views that somebody made, and of copies that are lent: the book is as it
-//! was where one is refused, and the proposal comes back.
+//! Commits of proposals for views that somebody made, and of copies: the book is as it was where one is
+//! refused, and the proposal comes back. And sweeps of views that were just seen.
 
 use crate::beginnings::beginning;
 use crate::transcript::{Patience, follow, picture, world_of};
 use gu_book::{Book, kept_sweep, swept_receipt};
 use gu_flow::{Proposal, propose};
+use gu_terms::Group;
 use gu_text::Sheet;
 use std::alloc::Global;
 use std::process::Abort;
 
-/// Views for which a proposal is made, each as a sheet after what comes of a copy of the proposal
-/// that is lent and what comes of the proposal itself, in a book in which G1 has version 6 and offer
-/// 1 of seven lots.
+/// Views for which a proposal is made, each as a sheet after what comes of a copy of the proposal and
+/// what comes of the proposal itself, in a book in which G1 has version 6 and offer 1 of seven lots.
 const VIEWS: &str = "\
 == Foreign, Foreign
 SHEET G1 6
@@ -66,49 +66,56 @@ fn commit_told(rt: &impl Abort, alloc: Global, book: &mut Book, proposal: Propos
     told.expect(rt, "memory")
 }
 
-/// What comes of a proposal that is lent with its sweep as it is kept: the number of its entry, which
-/// is that of its receipt, or why it is refused.
-fn lent_told(rt: &impl Abort, alloc: Global, book: &mut Book, proposal: Proposal) -> String {
-    let before = picture(rt, alloc, book);
-    let swept = book.lots_swept().saturating_add(proposal.lots());
-    let kept = kept_sweep(alloc, &proposal).ok().expect(rt, "memory");
-    let told = match book.enter_sweep(&proposal, kept) {
-        Ok(number) => {
-            let receipt = swept_receipt(number, proposal);
-            let is_entry = book.history().is_entry(number, &receipt.entry);
-            assert_eq!(rt; is_entry, Some(true));
-            assert_eq!(rt; book.lots_swept(), swept);
-            format!(in alloc; "entry {}", receipt.number).ok()
-        }
-        Err(why) => {
-            assert!(rt; picture(rt, alloc, book) == before);
-            format!(in alloc; "{why}").ok()
-        }
-    };
-    told.expect(rt, "memory")
-}
-
-/// Commits a copy of a proposal for the view of a sheet, which is lent, and then the proposal.
+/// Commits a copy of a proposal for the view of a sheet, and then the proposal.
 fn commit_twice(rt: &impl Abort, alloc: Global, book: &mut Book, want: &str, sheet: &str) {
     let proposal = proposal_for(alloc, sheet).expect(rt, "a proposal");
     let copy = proposal.copy().ok().expect(rt, "a copy");
-    let first = lent_told(rt, alloc, book, copy);
+    let first = commit_told(rt, alloc, book, copy);
     let second = commit_told(rt, alloc, book, proposal);
     let told = format!(in alloc; "{first}, {second}").ok();
     let told = told.expect(rt, "memory");
     assert_eq!(rt; told.as_str(), want, "{sheet}");
 }
 
+/// Sweeps a group by a borrowed proposal for its view, with the sweep as the history keeps it. Returns
+/// the number of the entry, which is that of its receipt, and the lots.
+fn sweep_seen(rt: &impl Abort, alloc: Global, book: &mut Book, group: &Group) -> (u64, u64) {
+    let view = book.view(group).ok().expect(rt, "a view");
+    let proposal = propose(alloc, view).ok().expect(rt, "a proposal");
+    let kept = kept_sweep(alloc, &proposal).ok().expect(rt, "memory");
+    let lots = proposal.lots();
+    let number = book.enter_seen(&proposal, kept).ok().expect(rt, "an entry");
+    let receipt = swept_receipt(number, proposal);
+    let is_entry = book.history().is_entry(number, &receipt.entry);
+    assert_eq!(rt; is_entry, Some(true));
+    (receipt.number, lots)
+}
+
+/// A book in which G1 has version 6 and offer 1 of seven lots.
+fn book_with_an_offer(rt: &impl Abort, alloc: Global) -> Book {
+    let mut world = world_of(rt, alloc, "", "", Patience::Never);
+    let lines = beginning("an offer");
+    follow(rt, alloc, &mut world, "an offer", lines, Patience::Never);
+    world.into_book()
+}
+
 #[test]
 fn a_view_is_foreign_stale_or_the_books(rt: HostRuntime) {
     let alloc = rt.alloc();
-    let mut world = world_of(&rt, alloc, "", "", Patience::Never);
-    let lines = beginning("an offer");
-    follow(&rt, alloc, &mut world, "an offer", lines, Patience::Never);
-    let mut book = world.into_book();
+    let mut book = book_with_an_offer(&rt, alloc);
     for view in VIEWS.split("== ") {
         if let Some((want, sheet)) = view.split_once("\n") {
             commit_twice(&rt, alloc, &mut book, want, sheet);
         }
     }
+}
+
+#[test]
+fn a_view_that_was_just_seen_is_swept(rt: HostRuntime) {
+    let alloc = rt.alloc();
+    let mut book = book_with_an_offer(&rt, alloc);
+    let group = Group::new(b"G1").expect(&rt, "a group");
+    assert_eq!(rt; sweep_seen(&rt, alloc, &mut book, &group), (9, 7));
+    assert_eq!(rt; sweep_seen(&rt, alloc, &mut book, &group), (10, 0));
+    assert_eq!(rt; book.lots_swept(), 7);
 }

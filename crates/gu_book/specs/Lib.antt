@@ -7,4 +7,5 @@ pub mod Deeds
 pub mod Effects
 pub mod Moving
 pub mod Questions
+pub mod Refusals
 pub mod Shown

@@ -14,6 +14,7 @@ ghost use Rattle.gu_rules.specs.Reports.{open_day};
 ghost use Rattle.gu_rules.specs.Versions.{version_of};
 ghost use Rattle.gu_rules.specs.Views.{group_view};
 ghost use Rattle.gu_book.specs.Commits.{IsCurrent, Refuses, sweep_of};
+ghost use Rattle.gu_book.specs.Refusals.{commit_error_of};
 ghost use Rattle.gu_view.specs.View.{IsNested};
 
 use crate::asked::{
@@ -22,7 +23,7 @@ use crate::asked::{
 };
 use crate::current::shows_all;
 use crate::deed::Deed;
-use crate::error::{AskError, CommitError, EnterError};
+use crate::error::{AskError, CommitError, EnterError, SeenError};
 use crate::limits::rows_in_order;
 use crate::positions::{is_of_firm, rows_of_account};
 use crate::sweeping::{
@@ -358,18 +359,18 @@ impl Book {
     }
 
     /// Why no sweep of a view may be entered, where the book is full or the view is stale.
-    fn outdated(&self, view: &View) -> Option<CommitError>
+    fn outdated(&self, view: &View) -> Option<SeenError>
         ensures { MatchOption result
             ((length self.now.history < 1000000) × (view.now.version ≡ version_of self.now.history view.now.group))
-            (λ why. Refuses self.now view.now why) }
+            (λ why. Refuses self.now view.now (commit_error_of why)) }
     {
         if MOST_ENTRIES <= self.history.len() {
-            return Some(CommitError::Full);
+            return Some(SeenError::Full);
         }
         let seen = view.version();
         let now = self.versions.of(&view.group());
         if seen != now {
-            return Some(CommitError::Stale { seen, now });
+            return Some(SeenError::Stale { seen, now });
         }
         None
     }
@@ -379,7 +380,7 @@ impl Book {
         ensures { MatchOption result (IsCurrent self.now view.now) (λ why. Refuses self.now view.now why) }
     {
         if let Some(why) = self.outdated(view) {
-            return Some(why);
+            return Some(CommitError::from(why));
         }
         if !self.reference.group(view.group()) {
             return Some(CommitError::Foreign);
@@ -417,27 +418,28 @@ impl Book {
         Ok(())
     }
 
-    /// Commits a borrowed proposal, with its sweep as the history keeps it: the sweep is entered, and its
-    /// takes are claimed, where the group is still as the proposal's view shows it. Returns the number of
-    /// the entry. No sweep is copied, and nothing of the proposal is dropped.
-    pub fn enter_sweep(&mut self, proposal: &Proposal, kept: KeptSweep) -> Result<u64, CommitError>
-        requires { kept ≡ sweep_of proposal.now }
+    /// Enters the sweep of a borrowed proposal, as the history keeps it, and claims its takes, if the group is still as the proposal's
+    /// view shows it. Returns the number of the entry. The view is known to be its group's as long as their versions are equal, as that
+    /// of a look is, so it isn't compared with the book. No sweep is copied, and nothing of the proposal is dropped.
+    pub fn enter_seen(&mut self, proposal: &Proposal, kept: KeptSweep) -> Result<u64, SeenError>
+        requires kept { kept ≡ sweep_of proposal.now }
+        requires known { is_group self.old.reference proposal.now.view.group ≡ true }
+        requires honest { proposal.now.view.version ≡ version_of self.old.history proposal.now.view.group
+            → proposal.now.view ≡ group_view self.old.reference self.old.history proposal.now.view.group }
         ensures entered { OnOk result (self.new.history ≡ self.old.history ++ Entry.Swept (sweep_of proposal.now) ∷ []) }
         ensures number { IfOk result (λ number. number ≡ length self.old.history + 1) }
         ensures stands { IfOk result (λ number. StandsLast self.old.reference number (Entry.Swept (sweep_of proposal.now))) }
         ensures current { OnOk result (IsCurrent self.old proposal.now.view) }
 
         // What each refusal says. The book is as it was.
-        ensures why { IfErr result (Refuses self.old proposal.now.view) }
+        ensures why { IfErr result (λ why. Refuses self.old proposal.now.view (commit_error_of why)) }
         ensures reference { self.new.reference ≡ self.old.reference }
         ensures refused { OnErr result (self.new.history ≡ self.old.history) }
     {
-        if let Some(why) = self.refusal(proposal.view()) {
+        if let Some(why) = self.outdated(proposal.view()) {
             return Err(why);
         }
-        if let Err(AllocError) = self.append_sweep(proposal, kept) {
-            return Err(CommitError::Memory);
-        }
+        self.append_sweep(proposal, kept)?;
         Ok(self.history.len() as u64)
     }
 
@@ -514,7 +516,7 @@ impl Book {
         ensures refused { OnErr result (self.new.history ≡ self.old.history) }
     {
         if let Some(why) = self.outdated(proposal.view()) {
-            return Err((why, proposal));
+            return Err((CommitError::from(why), proposal));
         }
         self.enter_current(proposal)
     }

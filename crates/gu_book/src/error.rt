@@ -47,6 +47,30 @@ impl From<AllocError> for AskError {
     }
 }
 
+/// Why the sweep of a view that was seen was not entered. The book is as it was.
+#[derive(Debug, Drop, Clone, Copy, PartialEq, Eq, Error)]
+pub enum SeenError {
+    /// An allocation failed.
+    #[error("Memory")]
+    Memory,
+    /// The book has 1,000,000 entries.
+    #[error("Full")]
+    Full,
+    /// Entries have touched the group since it was seen: its version then, and its version now.
+    #[error("Stale {seen} {now}")]
+    Stale { seen: u64, now: u64 },
+}
+
+impl From<AllocError> for SeenError {
+    ghost use Rattle.gu_book.specs.declared.error.SeenError.{SeenError};
+
+    ghost from_gives = { λ _ error. error ≡ SeenError.Memory };
+
+    fn from(_: AllocError) -> Self {
+        SeenError::Memory
+    }
+}
+
 /// Why a sweep was not committed. The book is as it was.
 #[derive(Debug, Drop, Clone, Copy, PartialEq, Eq, Error)]
 pub enum CommitError {
@@ -62,4 +86,18 @@ pub enum CommitError {
     /// The versions are equal, and yet the view isn't the book's.
     #[error("Foreign")]
     Foreign,
+}
+
+impl From<SeenError> for CommitError {
+    ghost use Rattle.gu_book.specs.Refusals.{commit_error_of};
+
+    ghost from_gives = { λ refusal error. error ≡ commit_error_of refusal };
+
+    fn from(refusal: SeenError) -> Self {
+        match refusal {
+            SeenError::Memory => CommitError::Memory,
+            SeenError::Full => CommitError::Full,
+            SeenError::Stale { seen, now } => CommitError::Stale { seen, now },
+        }
+    }
 }

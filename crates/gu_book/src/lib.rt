@@ -20,7 +20,7 @@ mod views;
 
 pub use asking::Answer;
 pub use book::Book;
-pub use error::{AskError, CommitError, EnterError};
+pub use error::{AskError, CommitError, EnterError, SeenError};
 pub use gu_notices::LONGEST_STRETCH;
 pub use gu_rules::{
     a_group_has_few_open_offers, an_entry_elsewhere_leaves_the_view, an_entry_makes_few_offers,

@@ -15,7 +15,7 @@ use gu_terms::{Entry, History, KeptSweep, OfferNo, Receipt, SweepEntry, Take};
 use gu_view::{View, ViewOffer};
 use std::alloc::{AllocError, Global};
 
-/// The sweep that a proposal asks for, as a history keeps it: made before `Book::enter_sweep`, which
+/// The sweep that a proposal asks for, as a history keeps it: made before `Book::enter_seen`, which
 /// then copies none of it.
 pub fn kept_sweep(alloc: Global, proposal: &Proposal) -> Result<KeptSweep, AllocError>
     ensures { IfOk result (λ kept. kept ≡ sweep_of proposal.now) }
