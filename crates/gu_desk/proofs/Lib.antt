@@ -1,2 +1,4 @@
+pub mod AnnalsMoves
 pub mod AuditLemmas
+pub mod Fronts
 pub mod ReceiptLists

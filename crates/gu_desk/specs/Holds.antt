@@ -1,49 +1,50 @@
--- Holds: what is known of the book behind the lock in one hold. It is some book of the desk's reference, with a legal history.
-use Rattle.std.specs.Prelude.{◌≡◌, ℕ, ◌<◌, ◌≤◌, length}
+-- Holds: what a seat learns of the desk's one history in a hold of the lock. What it has seen is a beginning of that history, and
+-- only grows.
+use Rattle.std.specs.Prelude.{◌≡◌, ℕ, ◌+◌, ◌++◌, [], ◌∷◌, List, Option, Some, length}
+use mathlib.Core.List.{IsPrefix}
+use Rattle.gu_terms.specs.Histories.{swept_by}
 use Rattle.gu_terms.specs.declared.command.Command.{Command}
 use Rattle.gu_terms.specs.declared.entry.Entry.{Entry}
 use Rattle.gu_terms.specs.declared.entry.Entry.TheVariants.{Asked}
 use Rattle.gu_terms.specs.declared.firm.FirmId.{FirmId}
-use Rattle.gu_terms.specs.declared.group.Group.{Group}
 use Rattle.gu_terms.specs.declared.notice.Stretch.{Stretch}
-use Rattle.gu_terms.specs.declared.query.Query.{Query}
-use Rattle.gu_terms.specs.declared.query.Query.TheVariants as query
 use Rattle.gu_terms.specs.declared.receipt.Receipt.{Receipt}
 use Rattle.gu_terms.specs.declared.reply.Reply.{Reply}
 use Rattle.gu_ref.specs.Tables.{Tables}
-use Rattle.gu_view.specs.View.{GroupView}
 use Rattle.gu_rules.specs.BookState.{BookState}
-use Rattle.gu_rules.specs.Legal.{IsLegal, StandsLast}
+use Rattle.gu_rules.specs.Legal.{IsLegal}
 use Rattle.gu_rules.specs.Notices.{IsStretch}
-use Rattle.gu_book.specs.Questions.{IsAnswer}
-use Rattle.gu_book.specs.declared.asking.Answer.{Answer}
-use Rattle.gu_book.specs.declared.asking.Answer.TheVariants as answer
+use Rattle.gu_desk.specs.Seats.{SeatState}
 
 -- the entry asks this command
 abbrev pub Asks : Command → Entry → Type 0
 Asks command entry = (reply : Reply) × (entry ≡ Asked command reply)
 
--- the receipt is of the last entry of some legal history, which has as many entries as the receipt's number says: more than this many
-pub record IsEntered (reference : Tables) (earlier : ℕ) (receipt : Receipt) : Type 0 where
-  pub last : StandsLast reference receipt.number receipt.entry
-  pub later : earlier < receipt.number
+-- the book as a seat has seen it: of the desk's reference, with the beginning of the desk's one history that the seat has seen
+abbrev pub book_seen : Tables → SeatState → BookState
+book_seen reference seat = record { reference = reference; history = seat.front }
 
--- the answer is that of some book of this reference, whose legal history has at least this many entries
-pub record IsAnswered (reference : Tables) (least : ℕ) (query : Query) (answer : Answer) : Type 0 where
-  pub book : BookState
-  pub of_reference : book.reference ≡ reference
-  pub legal : IsLegal reference book.history
-  pub enough : least ≤ length book.history
-  pub answer_is : IsAnswer book query answer
+-- a seat sees more of the desk's one history, or as much as before, and enters nothing
+pub record Sees (reference : Tables) (old new : SeatState) : Type 0 where
+  pub begins : IsPrefix old.front new.front
+  pub legal : IsLegal reference new.front
+  pub entries_is : new.entries ≡ old.entries
+  pub swept_is : new.swept ≡ old.swept
 
--- the view is what such a book answers to a query for the view of its group
-abbrev pub IsSeen : Tables → ℕ → Group → GroupView → Type 0
-IsSeen reference least group view = IsAnswered reference least (query.Look group) (answer.Look view)
+-- one entry is made from a seat: the last one of the history as the seat sees it then, after all that the seat had seen before.
+-- The receipt has its number
+pub record Enters (reference : Tables) (old : SeatState) (receipt : Receipt) (new : SeatState) : Type 0 where
+  pub before : List Entry
+  pub begins : IsPrefix old.front before
+  pub front_is : new.front ≡ before ++ receipt.entry ∷ []
+  pub legal : IsLegal reference new.front
+  pub number_is : receipt.number ≡ length new.front
+  pub entries_is : new.entries ≡ old.entries + 1
+  pub swept_is : new.swept ≡ old.swept + swept_by receipt.entry
 
--- the stretch is what some book of this reference, whose legal history has at least this many entries, tells the firm from a number on
-pub record IsTold (reference : Tables) (least : ℕ) (firm : FirmId) (from : ℕ) (stretch : Stretch) : Type 0 where
-  pub book : BookState
-  pub of_reference : book.reference ≡ reference
-  pub legal : IsLegal reference book.history
-  pub enough : least ≤ length book.history
+-- the stretch was asked for, and is that of the firm's notices from that number on, by this book
+pub record IsStretchAsked (book : BookState) (asked : Option (FirmId × ℕ)) (stretch : Stretch) : Type 0 where
+  pub firm : FirmId
+  pub from : ℕ
+  pub asked_is : asked ≡ Some (firm, from)
   pub stretch_is : IsStretch book firm from stretch

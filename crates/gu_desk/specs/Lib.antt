@@ -1,3 +1,4 @@
+pub mod Annals
 pub mod Audits
 pub mod Holds
 pub mod KeptReceipts
@@ -5,5 +6,5 @@ pub mod Marks
 pub mod PackedReceipts
 pub mod Refusals
 pub mod Seating
+pub mod Seats
 pub mod Sweeps
-pub mod Totals

@@ -1,24 +1,26 @@
 //! The desk.
 
-ghost use Rattle.std.specs.Prelude.{◌≡◌, ◌↔◌, ◌+◌, ◌<◌, ◌≤◌, false, All, length, sum_by, vec_len, IfErr, IfOk, IfSome, IsErr, IsErrOf, OnErr};
-ghost use Rattle.gu_terms.specs.Histories.{lots_swept, swept_by};
+ghost use Rattle.std.specs.Prelude.{◌≡◌, ◌↔◌, ◌+◌, ◌<◌, ◌≤◌, false, true, All, length, sum_by, vec_len, IfErr, IfOk, IsErr, IsErrOf, OnErr, OnOk};
+ghost use mathlib.Core.List.{IsPrefix};
+ghost use Rattle.gu_terms.specs.Histories.{lots_swept};
 ghost use Rattle.gu_ref.specs.Reference.{is_group};
 ghost use Rattle.gu_view.specs.Boards.{Shows};
-ghost use Rattle.gu_book.specs.Commits.{sweep_of};
-ghost use Rattle.gu_book.specs.Questions.{IsUnknown};
-ghost use Rattle.gu_desk.specs.Holds.{Asks, IsAnswered, IsEntered, IsSeen, IsTold};
+ghost use Rattle.gu_view.specs.View.{IsNested};
+ghost use Rattle.gu_rules.specs.Views.{group_view};
+ghost use Rattle.gu_book.specs.Questions.{IsAnswer, IsUnknown};
+ghost use Rattle.gu_desk.specs.Holds.{Asks, Enters, Sees, book_seen};
 ghost use Rattle.gu_desk.specs.Refusals.{refusal_of_second_hold};
+ghost use Rattle.gu_desk.specs.Seats.{IsNew};
 ghost use Rattle.gu_desk.specs.Sweeps.{DiffersIfStale, Sweeps};
-ghost use Rattle.gu_desk.specs.Totals.{with_entry, with_sweep, IsEmpty};
 
-use crate::counted_book::CountedBook;
+use crate::annals::{BlankAnnals, Front};
 use crate::error::{CloseFault, SweepError};
 use crate::gate::Gate;
 use crate::ledger::{EntryLedger, LotLedger};
+use crate::locked_book::{Entered, LockedBook};
 use crate::seat::Seat;
-use gu_book::{Answer, AskError, Book, CommitError, EnterError, kept_sweep, swept_receipt};
-use gu_flow::Proposal;
-use gu_terms::{Command, Entry, FirmId, Group, KeptSweep, Query, Receipt, Reply, Stretch};
+use gu_book::{Answer, AskError, Book, EnterError, SeenError, kept_sweep, swept_receipt};
+use gu_terms::{Command, Entry, Group, Query, Receipt};
 use gu_view::{Board, View, ViewToken};
 use std::alloc::{AllocError, Global};
 use std::hint::spin_loop;
@@ -34,7 +36,7 @@ const TRIES: usize = 200;
 /// To a contract it is how many seats it has, and the board. The board keeps each view as long as the desk lives: one for each
 /// `look`, and one for each try of a sweep whose group is known.
 pub struct Desk<E: EntryLedger, S: LotLedger> {
-    locked: Mutex<CountedBook<E, S>>,
+    locked: Mutex<LockedBook<E, S>>,
     board: Board,
     seats: usize,
     alloc: Global,
@@ -66,22 +68,24 @@ impl<E: EntryLedger, S: LotLedger> Model for Desk<E, S> {
 }
 
 impl<E: EntryLedger, S: LotLedger> Desk<E, S> {
-    /// A desk over a book, with its seats. The blanks are those of the two ledgers that the desk's type names, each of one part more
-    /// than there are seats. Each entry is read once, to note whom it informs.
+    /// Opens a desk over a book, with its seats. The history and the blanks are those that the desk's type names, each blank of
+    /// one part more than there are seats. Each entry is read once, to note whom it informs.
     pub fn new(
         alloc: Global,
         book: Book,
+        annals: BlankAnnals,
         seats: usize,
         entries: Blank,
         swept: Blank,
     ) -> Result<(Desk<E, S>, Vec<Seat<E, S>>), (AllocError, Book)>
         requires seats { (1 ≤ seats) × (seats ≤ 64) }
         requires reference { book.reference ≡ E.reference }
-        requires opening { (length book.history ≡ E.opening) × (lots_swept book.history ≡ S.opening) }
+        requires opening { (book.history ≡ E.opening) × (lots_swept book.history ≡ S.opening) }
+        requires history { (annals.name ≡ E.history) × (annals.entries ≡ E.opening) }
         requires entries { (entries.name ≡ E.name) × (entries.parts ≡ E.parts) × (entries.parts ≡ seats + 1) }
         requires swept { (swept.name ≡ S.name) × (swept.parts ≡ S.parts) × (swept.parts ≡ seats + 1) }
         ensures seats { IfOk result (λ r. (r.0.seats ≡ seats) × (vec_len r.1 ≡ seats)) }
-        ensures empty { IfOk result (λ r. All IsEmpty r.1.items) }
+        ensures new { IfOk result (λ r. All (IsNew E.opening) r.1.items) }
         ensures handed_back { IfErr result (λ e. e.1 ≡ book) }
     {
         let Ok(board) = Board::new(alloc) else {
@@ -90,15 +94,20 @@ impl<E: EntryLedger, S: LotLedger> Desk<E, S> {
         let Ok(mut places) = Vec::with_capacity(alloc, seats) else {
             return Err((AllocError, book));
         };
+        let mut annals = annals.opened::<E>();
         let (entries, mut own) = entries.open::<E>();
         let (swept, mut own_swept) = swept.open::<S>();
         for _seat in 0..seats {
-            let seat = Seat::new(own.split_off(1, 0), own_swept.split_off(1, 0));
+            let seat = Seat::new(
+                own.split_off(1, 0),
+                own_swept.split_off(1, 0),
+                annals.front(),
+            );
             places.push_reserved(seat);
         }
-        let counted = CountedBook::opened(book, entries, swept, own, own_swept);
+        let book = LockedBook::opened(book, annals, entries, swept, own, own_swept);
         let desk = Desk {
-            locked: Mutex::new(counted),
+            locked: Mutex::new(book),
             board,
             seats,
             alloc,
@@ -106,8 +115,9 @@ impl<E: EntryLedger, S: LotLedger> Desk<E, S> {
         Ok((desk, places))
     }
 
-    /// The lock, held until what is returned is dropped. It may wait.
-    fn hold<R: Wait>(&self, rt: &R) -> MutexGuard<'_, CountedBook<E, S>> {
+    /// Takes the lock, which is held until what is returned is dropped. It may wait for the lock. Whoever holds it must not wait
+    /// for another thread meanwhile, nor take it again.
+    pub fn hold<R: Wait>(&self, rt: &R) -> MutexGuard<'_, LockedBook<E, S>> {
         for _ in 0..TRIES {
             if let Some(held) = self.locked.try_lock() {
                 return held;
@@ -115,41 +125,6 @@ impl<E: EntryLedger, S: LotLedger> Desk<E, S> {
             spin_loop();
         }
         self.locked.lock(rt)
-    }
-
-    /// Enters a command from a seat, and returns its number and the reply. It may wait for the lock, which it holds once.
-    pub fn enter<R: Wait>(
-        &self,
-        rt: &R,
-        seat: &mut Seat<E, S>,
-        command: &Command,
-    ) -> Result<(u64, Reply), EnterError>
-        ensures entered { IfOk result (λ e. IsEntered E.reference (E.opening + seat.old.entries)
-            (record { number = e.0; entry = Entry.Asked command.now e.1 })) }
-        ensures counted { IfOk result (λ e. seat.new ≡ with_entry seat.old) }
-        ensures refused { OnErr result (seat.new ≡ seat.old) }
-    {
-        self.hold(rt).submit(seat, command)
-    }
-
-    /// Enters a command from a seat, and returns its number, the reply, and a stretch of what a firm is told of the entries from a number
-    /// on, this entry among them. The stretch may always be missing, as it is where an allocation fails for it. It may wait for the lock,
-    /// which it holds once, while it looks at 1,024 entries at most, and notes whom those inform that came since any seat's last stretch.
-    pub fn enter_and_tell<R: Wait>(
-        &self,
-        rt: &R,
-        seat: &mut Seat<E, S>,
-        command: &Command,
-        firm: &FirmId,
-        from: u64,
-    ) -> Result<(u64, Reply, Option<Stretch>), EnterError>
-        ensures entered { IfOk result (λ e. IsEntered E.reference (E.opening + seat.old.entries)
-            (record { number = e.0; entry = Entry.Asked command.now e.1 })) }
-        ensures told { IfOk result (λ e. IfSome e.2 (IsTold E.reference (E.opening + seat.new.entries) firm.now from)) }
-        ensures counted { IfOk result (λ e. seat.new ≡ with_entry seat.old) }
-        ensures refused { OnErr result (seat.new ≡ seat.old) }
-    {
-        self.hold(rt).submit_and_tell(seat, command, firm, from)
     }
 
     /// Enters a command from a seat. It may wait for the lock, which it holds once; the receipt is made after the hold.
@@ -160,11 +135,15 @@ impl<E: EntryLedger, S: LotLedger> Desk<E, S> {
         command: Command,
     ) -> Result<Receipt, EnterError>
         ensures asks { IfOk result (λ r. Asks command r.entry) }
-        ensures entered { IfOk result (IsEntered E.reference (E.opening + seat.old.entries)) }
-        ensures counted { IfOk result (λ r. seat.new ≡ with_entry seat.old) }
+        ensures entered { IfOk result (λ r. Enters E.reference seat.old r seat.new) }
+        ensures later { IfOk result (λ r. length E.opening + seat.old.entries < r.number) }
         ensures refused { OnErr result (seat.new ≡ seat.old) }
     {
-        let (number, reply) = self.enter(rt, seat, &command)?;
+        let Entered {
+            number,
+            reply,
+            stretch: _,
+        } = self.hold(rt).enter(seat, &command, None)?;
         Ok(Receipt {
             number,
             entry: Entry::Asked { command, reply },
@@ -178,39 +157,40 @@ impl<E: EntryLedger, S: LotLedger> Desk<E, S> {
         seat: &mut Seat<E, S>,
         query: Query,
     ) -> Result<Answer, AskError>
-        ensures answered { IfOk result (IsAnswered E.reference (E.opening + seat.old.entries) query) }
+        ensures sees { OnOk result (Sees E.reference seat.old seat.new) }
+        ensures answer { IfOk result (IsAnswer (book_seen E.reference seat.new) query) }
         ensures unknown { IsErrOf result AskError.UnknownGroup ↔ IsUnknown E.reference query }
-        ensures seat { seat.new ≡ seat.old }
+        ensures refused { OnErr result (seat.new ≡ seat.old) }
     {
         self.hold(rt).ask(seat, query)
     }
 
-    /// A stretch of what a firm is told of the entries from a number on. It may wait for the lock, which it holds once, while it
-    /// looks at 1,024 entries at most, and notes whom those inform that came since any seat's last stretch.
-    pub fn stretch<R: Wait>(
+    /// Returns the view of a group, and the front that the seat had before, in one hold of the lock, for which it may wait.
+    fn view<R: Wait>(
         &self,
         rt: &R,
         seat: &mut Seat<E, S>,
-        firm: FirmId,
-        from: u64,
-    ) -> Result<Stretch, AllocError>
-        ensures told { IfOk result (IsTold E.reference (E.opening + seat.old.entries) firm from) }
-        ensures seat { seat.new ≡ seat.old }
-    {
-        self.hold(rt).stretch(seat, firm, from)
-    }
-
-    /// The view of a group, in one hold of the lock, for which it may wait.
-    fn view<R: Wait>(&self, rt: &R, seat: &mut Seat<E, S>, group: &Group) -> Result<View, AskError>
-        ensures seen { IfOk result (IsSeen E.reference (E.opening + seat.old.entries) group.now) }
+        group: &Group,
+    ) -> Result<(View, Front<E>), AskError>
+        ensures sees { OnOk result (Sees E.reference seat.old seat.new) }
+        ensures view { IfOk result (λ r. r.0 ≡ group_view E.reference seat.new.front group.now) }
+        ensures nested { IfOk result (λ r. IsNested r.0) }
+        ensures known { OnOk result (is_group E.reference group.now ≡ true) }
+        ensures before { IfOk result (λ r. r.1 ≡ seat.old.front) }
+        ensures enough { length E.opening + seat.old.entries ≤ length seat.old.front }
         ensures unknown { IsErrOf result AskError.UnknownGroup ↔ (is_group E.reference group.now ≡ false) }
-        ensures seat { seat.new ≡ seat.old }
+        ensures refused { OnErr result (seat.new ≡ seat.old) }
     {
-        self.hold(rt).view(seat, group)
+        // Shows the prover: what each seat keeps.
+        seat.rules();
+        let mut held = self.hold(rt);
+        let before = held.front(seat);
+        let view = held.view(seat, group)?;
+        Ok((view, before))
     }
 
-    /// Looks at a group: its view is taken in one hold of the lock, and published on the desk's board after it. It may wait for the lock
-    /// and to publish.
+    /// Looks at a group: its view is taken in one hold of the lock, and published on the desk's board after it. It may wait for
+    /// the lock and to publish.
     pub fn look<R: Wait>(
         &self,
         rt: &R,
@@ -218,14 +198,20 @@ impl<E: EntryLedger, S: LotLedger> Desk<E, S> {
         group: Group,
     ) -> Result<ViewToken, AskError>
         ensures here { IfOk result (λ token. Shows self.now.board token) }
-        ensures seen { IfOk result (λ token. IsSeen E.reference (E.opening + seat.old.entries) group token.value) }
+        ensures sees { OnOk result (Sees E.reference seat.old seat.new) }
+        ensures view { IfOk result (λ token. token.value ≡ group_view E.reference seat.new.front group) }
+        ensures nested { IfOk result (λ token. IsNested token.value) }
+        ensures known { OnOk result (is_group E.reference group ≡ true) }
         ensures unknown { IsErrOf result AskError.UnknownGroup ↔ (is_group E.reference group ≡ false) }
-        ensures seat { seat.new ≡ seat.old }
+        ensures refused { OnErr result (seat.new ≡ seat.old) }
     {
-        let view = self.view(rt, seat, &group)?;
+        let (view, before) = self.view(rt, seat, &group)?;
         match self.board.publish(rt, view) {
             Ok(token) => Ok(token),
-            Err(_) => Err(AskError::Memory),
+            Err(_) => {
+                seat.go_back(before);
+                Err(AskError::Memory)
+            }
         }
     }
 
@@ -237,27 +223,39 @@ impl<E: EntryLedger, S: LotLedger> Desk<E, S> {
         self.board.read(token)
     }
 
-    /// Commits a proposal in one hold of the lock, for which it may wait.
-    fn commit<R: Wait>(
+    /// Sweeps the group of a view as the seat sees it: the view is published, the gate proposes from a copy of it, and the
+    /// proposal is committed in one hold of the lock. It may wait for the lock, and to publish.
+    fn sweep_view<R: Wait, G: Gate>(
         &self,
         rt: &R,
         seat: &mut Seat<E, S>,
-        proposal: &Proposal,
-        kept: KeptSweep,
-    ) -> Result<u64, CommitError>
-        requires { kept ≡ sweep_of proposal.now }
-        ensures entered { IfOk result (λ number. IsEntered E.reference (E.opening + seat.old.entries)
-            (record { number = number; entry = Entry.Swept (sweep_of proposal.now) })) }
-        ensures counted { IfOk result (λ number. seat.new ≡ with_sweep seat.old proposal.now.lots) }
-        ensures stale { IfErr result (λ e. DiffersIfStale (refusal_of_second_hold e)) }
+        view: View,
+        gate: &G,
+    ) -> Result<Receipt, SeenError>
+        requires known { is_group E.reference view.group ≡ true }
+        requires seen { view ≡ group_view E.reference seat.old.front view.group }
+        requires nested { IsNested view }
+        ensures sweeps { IfOk result (λ r. Sweeps view.group r.entry) }
+        ensures entered { IfOk result (λ r. Enters E.reference seat.old r seat.new) }
+        ensures later { IfOk result (λ r. length E.opening + seat.old.entries < r.number) }
+        ensures stale { IfErr result (λ why. DiffersIfStale (refusal_of_second_hold why)) }
         ensures refused { OnErr result (seat.new ≡ seat.old) }
     {
-        self.hold(rt).commit(seat, proposal, kept)
+        let Ok(token) = self.board.publish(rt, view) else {
+            return Err(SeenError::Memory);
+        };
+        let view = self.board.read(&token).copy()?;
+        let Ok(proposal) = gate.propose(self.alloc, view) else {
+            return Err(SeenError::Memory);
+        };
+        let kept = kept_sweep(self.alloc, &proposal)?;
+        let number = self.hold(rt).commit(seat, &proposal, kept)?;
+        Ok(swept_receipt(number, proposal))
     }
 
-    /// Sweeps a group: its view is taken in one hold of the lock and published, the gate proposes from a copy of it while no lock is
-    /// held, and the proposal is committed in a second hold. It may wait for the lock, before each hold, and to publish. A view that was
-    /// published stays on the board, though the sweep is refused.
+    /// Sweeps a group: its view is taken in one hold of the lock and published, the gate proposes from a copy of it while no lock
+    /// is held, and the proposal is committed in a second hold. It may wait for the lock, before each hold, and to publish. A
+    /// view that was published stays on the board, though the sweep is refused.
     pub fn sweep_once<R: Wait, G: Gate>(
         &self,
         rt: &R,
@@ -266,20 +264,20 @@ impl<E: EntryLedger, S: LotLedger> Desk<E, S> {
         gate: &G,
     ) -> Result<Receipt, SweepError>
         ensures sweeps { IfOk result (λ r. Sweeps group r.entry) }
-        ensures entered { IfOk result (IsEntered E.reference (E.opening + seat.old.entries)) }
-        ensures counted { IfOk result (λ r. seat.new ≡ with_sweep seat.old (swept_by r.entry)) }
+        ensures entered { IfOk result (λ r. Enters E.reference seat.old r seat.new) }
+        ensures later { IfOk result (λ r. length E.opening + seat.old.entries < r.number) }
         ensures unknown { IsErrOf result SweepError.UnknownGroup ↔ (is_group E.reference group ≡ false) }
         ensures stale { IfErr result DiffersIfStale }
         ensures refused { OnErr result (seat.new ≡ seat.old) }
     {
-        let token = self.look(rt, seat, group)?;
-        let view = self.board.read(&token).copy()?;
-        let Ok(proposal) = gate.propose(self.alloc, view) else {
-            return Err(SweepError::Memory);
-        };
-        let kept = kept_sweep(self.alloc, &proposal)?;
-        let number = self.commit(rt, seat, &proposal, kept)?;
-        Ok(swept_receipt(number, proposal))
+        let (view, earlier) = self.view(rt, seat, &group)?;
+        match self.sweep_view(rt, seat, view, gate) {
+            Ok(receipt) => Ok(receipt),
+            Err(why) => {
+                seat.go_back(earlier);
+                Err(SweepError::from(why))
+            }
+        }
     }
 
     /// Sweeps a group, and again while the answer is Stale, at most `tries` times in all. It may wait as `sweep_once` does.
@@ -293,8 +291,8 @@ impl<E: EntryLedger, S: LotLedger> Desk<E, S> {
     ) -> Result<Receipt, SweepError>
         requires { (1 ≤ tries) × (tries ≤ 1000) }
         ensures sweeps { IfOk result (λ r. Sweeps group r.entry) }
-        ensures entered { IfOk result (IsEntered E.reference (E.opening + seat.old.entries)) }
-        ensures counted { IfOk result (λ r. seat.new ≡ with_sweep seat.old (swept_by r.entry)) }
+        ensures entered { IfOk result (λ r. Enters E.reference seat.old r seat.new) }
+        ensures later { IfOk result (λ r. length E.opening + seat.old.entries < r.number) }
         ensures unknown { IsErrOf result SweepError.UnknownGroup ↔ (is_group E.reference group ≡ false) }
         ensures stale { IfErr result DiffersIfStale }
         ensures refused { OnErr result (seat.new ≡ seat.old) }
@@ -309,14 +307,18 @@ impl<E: EntryLedger, S: LotLedger> Desk<E, S> {
         self.sweep_once(rt, seat, *group, gate)
     }
 
-    /// The book, once all seats are back.
+    /// Closes the desk and returns its book, once all seats are back.
     pub fn close(
         self,
         seats: Vec<Seat<E, S>>,
     ) -> Result<Book, (CloseFault, Desk<E, S>, Vec<Seat<E, S>>)>
-        ensures entries { IfOk result (λ book. length book.history ≡ E.opening + sum_by (λ s. s.entries) seats.items) }
+        ensures entries { IfOk result (λ book. length book.history ≡ length E.opening + sum_by (λ s. s.entries) seats.items) }
         ensures swept { IfOk result (λ book. lots_swept book.history ≡ S.opening + sum_by (λ s. s.swept) seats.items) }
         ensures reference { IfOk result (λ book. book.reference ≡ E.reference) }
+
+        // The book's history is the one that the desk began with and that each seat has seen beginnings of.
+        ensures opening { IfOk result (λ book. IsPrefix E.opening book.history) }
+        ensures seen { IfOk result (λ book. All (λ s. IsPrefix s.front book.history) seats.items) }
         ensures missing { IsErr result ↔ (vec_len seats < self.seats) }
         ensures handed_back { IfErr result (λ e. (e.1 ≡ self) × (e.2.items ≡ seats.items)) }
     {

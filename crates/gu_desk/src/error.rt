@@ -2,7 +2,7 @@
 
 ghost use Rattle.std.specs.Prelude.{◌≡◌};
 
-use gu_book::{AskError, CommitError};
+use gu_book::{AskError, SeenError};
 use std::alloc::AllocError;
 use thiserror::Error;
 
@@ -21,9 +21,6 @@ pub enum SweepError {
     /// Entries touched the group after it was seen: its version then, and its version at the commit.
     #[error("Stale {seen} {now}")]
     Stale { seen: u64, now: u64 },
-    /// The versions are equal, and yet the view isn't the book's.
-    #[error("Foreign")]
-    Foreign,
 }
 
 impl From<AllocError> for SweepError {
@@ -49,17 +46,16 @@ impl From<AskError> for SweepError {
     }
 }
 
-impl From<CommitError> for SweepError {
+impl From<SeenError> for SweepError {
     ghost use Rattle.gu_desk.specs.Refusals.{refusal_of_second_hold};
 
     ghost from_gives = { λ refusal error. error ≡ refusal_of_second_hold refusal };
 
-    fn from(refusal: CommitError) -> Self {
+    fn from(refusal: SeenError) -> Self {
         match refusal {
-            CommitError::Memory => SweepError::Memory,
-            CommitError::Full => SweepError::Full,
-            CommitError::Stale { seen, now } => SweepError::Stale { seen, now },
-            CommitError::Foreign => SweepError::Foreign,
+            SeenError::Memory => SweepError::Memory,
+            SeenError::Full => SweepError::Full,
+            SeenError::Stale { seen, now } => SweepError::Stale { seen, now },
         }
     }
 }

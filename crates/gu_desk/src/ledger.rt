@@ -1,25 +1,34 @@
-//! What a desk's type names: the ledgers of what its seats enter and sweep.
+//! What a desk's type names: its one history, and the ledgers of what its seats enter and sweep.
 
 use std::marker::Brand;
 use std::sync::ledger::Ledger;
 
-/// The ledger of the entries that are made from a desk's seats. It names the desk's reference too, and how many entries the book
-/// has when the desk is opened.
+/// The ledger of the entries that are made from a desk's seats. It names the desk's reference too, its one history, and the
+/// entries that this history has when the desk is opened.
 pub trait EntryLedger: Ledger {
-    ghost use Rattle.std.specs.Prelude.{ℕ};
+    ghost use Rattle.std.specs.Prelude.{List};
+    ghost use Rattle.atomic_table.specs.Seated.{TableId};
+    ghost use Rattle.gu_terms.specs.declared.entry.Entry.{Entry};
     ghost use Rattle.gu_ref.specs.Tables.{Tables};
 
     ghost reference: { Tables };
 
-    ghost opening: { ℕ };
+    ghost opening: { List Entry };
+
+    // The name of the desk's one history.
+    ghost history: { TableId };
 }
 
 impl EntryLedger for Brand {
+    ghost use Rattle.std.specs.Prelude.{[]};
+    ghost use Rattle.gu_desk.specs.Annals.{no_history};
     ghost use Rattle.gu_desk.specs.Seating.{no_tables};
 
     ghost reference = { no_tables };
 
-    ghost opening = { 0 };
+    ghost opening = { [] };
+
+    ghost history = { no_history };
 }
 
 /// The ledger of the lots that are swept from a desk's seats. It names how many lots the book has swept when the desk is opened.

@@ -1,23 +1,27 @@
 //! The desk: one book behind a lock, the seats that enter into it, and the sweeps that propose without the lock.
 #![tactic(auto)]
 
+mod annals;
 mod auditing;
-mod counted_book;
+mod copying;
 mod desk;
 mod error;
 mod gate;
 mod kept_receipts;
 mod ledger;
+mod locked_book;
 mod packed_receipts;
 mod seat;
 mod sweep_order;
 
+pub use annals::{BlankAnnals, Front};
 pub use auditing::{audit, audit_kept};
 pub use desk::Desk;
 pub use error::{AuditFault, CloseFault, SweepError};
 pub use gate::{Direct, Gate};
-pub use gu_book::{Answer, AskError};
+pub use gu_book::{Answer, AskError, SeenError};
 pub use kept_receipts::KeptReceipts;
 pub use ledger::{EntryLedger, LotLedger};
+pub use locked_book::{Entered, LockedBook};
 pub use seat::Seat;
 pub use sweep_order::SweepOrder;

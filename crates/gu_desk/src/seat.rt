@@ -1,38 +1,89 @@
 //! Seats.
 
-ghost use Rattle.std.specs.Prelude.{◌≡◌};
-ghost use Rattle.gu_desk.specs.Totals.{IsEmpty};
+ghost use Rattle.std.specs.Prelude.{◌≡◌, ◌+◌, ◌≤◌, All, length, sum_by, vec_len};
+ghost use mathlib.Core.List.{IsPrefix};
+ghost use Rattle.gu_desk.specs.Seats.{IsNew};
 
+use crate::annals::{Annals, Front};
 use crate::ledger::{EntryLedger, LotLedger};
 use std::marker::Model;
 use std::sync::ledger::Share;
 
-/// A place at a desk, for one thread at a time. To a contract it is its shares: how many entries were made from it, and how many
-/// lots were swept. It has no bytes.
+/// A place at a desk, for one thread at a time. To a contract it is how many entries were made from it, how many lots were swept
+/// from it, and its front: the beginning of the desk's one history that it has seen. It has no bytes.
 #[derive(Drop)]
 pub struct Seat<E: EntryLedger, S: LotLedger> {
     pub(crate) entries: Share<E>,
     pub(crate) swept: Share<S>,
+    pub(crate) front: Front<E>,
 }
 
 impl<E: EntryLedger, S: LotLedger> Model for Seat<E, S> {
-    ghost use Rattle.std.specs.Prelude.{◌≡◌};
-    ghost use Rattle.gu_desk.specs.Totals.{Shares};
+    ghost use Rattle.std.specs.Prelude.{◌≡◌, ◌+◌, ◌≤◌, length};
+    ghost use Rattle.gu_desk.specs.Seats.{SeatState};
 
-    ghost Value = { Shares };
+    ghost Value = { SeatState };
 
-    ghost view = { λ s. record { entries = s.entries.amount; swept = s.swept.amount } };
+    ghost view = { λ s. record { entries = s.entries.amount; swept = s.swept.amount; front = s.front } };
 
-    ghost invariant = { λ s. (s.entries.parts ≡ 1) × (s.swept.parts ≡ 1) };
+    ghost invariant = { λ s. (s.entries.parts ≡ 1) × (s.swept.parts ≡ 1) × (length E.opening + s.entries.amount ≤ length s.front) };
 }
 
 impl<E: EntryLedger, S: LotLedger> Seat<E, S> {
-    /// A seat from which nothing was entered yet.
-    pub(crate) fn new(entries: Share<E>, swept: Share<S>) -> Self
+    /// Creates a seat from which nothing was entered yet, and which has seen what the desk begins with.
+    pub(crate) fn new(entries: Share<E>, swept: Share<S>, front: Front<E>) -> Self
         requires entries { (entries.parts ≡ 1) × (entries.amount ≡ 0) }
         requires swept { (swept.parts ≡ 1) × (swept.amount ≡ 0) }
-        ensures { IsEmpty result }
+        requires front { front ≡ E.opening }
+        ensures { IsNew E.opening result }
     {
-        Seat { entries, swept }
+        Seat {
+            entries,
+            swept,
+            front,
+        }
+    }
+
+    /// Does nothing. It shows what each seat keeps: it has seen as many entries as the desk began with and were made from it, at
+    /// least.
+    pub fn rules(&self)
+        ensures { length E.opening + self.now.entries ≤ length self.now.front }
+    {
+        let _ = &self.front;
+    }
+
+    /// Goes back to an earlier front, as if it had seen no more.
+    pub(crate) fn go_back(&mut self, front: Front<E>)
+        requires { length E.opening + self.old.entries ≤ length front }
+        ensures { self.new ≡ record { entries = self.old.entries; swept = self.old.swept; front = front } }
+    {
+        self.front = front;
+    }
+}
+
+/// Adds the shares of seats to two shares, and shows that what each seat has seen is a beginning of the history.
+pub(crate) fn gather<E: EntryLedger, S: LotLedger>(
+    annals: &mut Annals<E>,
+    own: &mut Share<E>,
+    own_swept: &mut Share<S>,
+    seats: Vec<Seat<E, S>>,
+)
+    requires { (own.old.parts ≤ E.parts) × (own_swept.old.parts ≤ S.parts) }
+    ensures parts { (own.new.parts ≡ own.old.parts + vec_len seats) × (own.new.parts ≤ E.parts) }
+    ensures amount { own.new.amount ≡ own.old.amount + sum_by (λ s. s.entries) seats.items }
+    ensures swept_parts { (own_swept.new.parts ≡ own_swept.old.parts + vec_len seats) × (own_swept.new.parts ≤ S.parts) }
+    ensures swept_amount { own_swept.new.amount ≡ own_swept.old.amount + sum_by (λ s. s.swept) seats.items }
+    ensures seen { All (λ s. IsPrefix s.front annals.old) seats.items }
+    ensures same { annals.new ≡ annals.old }
+{
+    for seat in seats {
+        let Seat {
+            entries,
+            swept,
+            mut front,
+        } = seat;
+        own.merge(entries);
+        own_swept.merge(swept);
+        annals.compare(&mut front);
     }
 }

@@ -1,14 +1,15 @@
 use Rattle.std.proofs.Common.{rules}
 use Rattle.std.proofs.lemmas.List.Elements.{All-push}
-use Rattle.gu_desk.specs.Totals.{IsEmpty}
+use Rattle.gu_desk.specs.Seats.{IsNew}
 use Rattle.gu_desk.proofs.desk.Desk.new.Goals as goal
 
 pub loop-seat-preserved : goal.loop-seat-preserved
 loop-seat-preserved g c =
     let i = c.loop-seat.invariant in
     record {
+      annals = search rules;
       own = search rules;
       own_swept = search rules;
       places = search rules;
-      empty = rw c.push_reserved.ensures.items (All-push IsEmpty c.loop-seat.places.items c.new-seat.result i.empty c.new-seat.ensures);
+      new = rw c.push_reserved.ensures.items (All-push (IsNew g.E.EntryLedger.opening) c.loop-seat.places.items c.new-seat.result i.new c.new-seat.ensures);
     }

@@ -1,0 +1,7 @@
+use Rattle.std.specs.Prelude.{[], ◌∷◌}
+use Rattle.gu_terms.specs.declared.entry.Entry.TheVariants.{Swept}
+use Rattle.gu_book.specs.Commits.{sweep_of}
+use Rattle.gu_desk.proofs.annals.Annals.swept.Given as goal
+
+abbrev pub ghosts-add_sweep : goal.ghosts-add_sweep
+ghosts-add_sweep g a = record { entries = Swept (sweep_of a.proposal.now) ∷ [] }

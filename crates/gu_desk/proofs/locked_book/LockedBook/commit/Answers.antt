@@ -1,0 +1,65 @@
+use Rattle.std.proofs.Common.{◌≡◌, ◌∙◌, ◌+◌, ◌++◌, ◌∷◌, [], List, ap, arith, length, length-append, subst, sym}
+use Rattle.std.specs.Prelude.{sum_by}
+use Rattle.std.proofs.lemmas.List.Sums.{sum_by-append}
+use mathlib.Core.List.{IsPrefix}
+use Rattle.gu_terms.specs.Histories.{lots_swept, swept_by}
+use Rattle.gu_terms.specs.declared.entry.Entry.{Entry}
+use Rattle.gu_terms.specs.declared.entry.Entry.TheVariants.{Swept}
+use Rattle.gu_rules.specs.Views.{group_view}
+use Rattle.gu_book.specs.Commits.{sweep_of}
+use Rattle.gu_desk.specs.Seats.{SeatState}
+use Rattle.gu_desk.proofs.Fronts.{honest}
+use Rattle.gu_desk.proofs.locked_book.LockedBook.commit.Goals as goal
+
+pub enter_seen-requires-clause-honest : goal.enter_seen-requires-clause-honest
+enter_seen-requires-clause-honest g c =
+    let i = c.self.invariant in
+    let me = c.self.inside in
+    let view = c.args.proposal.now.view in
+    let front : c.args.seat.now.front ≡ c.seat.inside.front = sym (ap (λ (s : SeatState). s.front) c.seat.view_is) in
+    let begins = subst (IsPrefix c.seat.inside.front) i.1 c.compare.ensures.begins in
+    let seen : view ≡ group_view me.book.reference c.seat.inside.front view.group = c.requires.seen ∙ (λ k. group_view (sym i.0 k) (front k) view.group) in
+    honest me.book.reference c.seat.inside.front me.book.history view begins c.history.ensures.legal seen
+
+-- the keeper knows the new history
+told : (g : _) (c : goal.After-history-2 g) → c.swept.new.self ≡ c.enter_seen.new.self.history
+told g c =
+    let entry = Swept (sweep_of c.args.proposal.now) in
+    c.swept.ensures.added
+    ∙ ap (λ (h : List Entry). h ++ entry ∷ []) (c.compare.ensures.same ∙ c.self.invariant.1)
+    ∙ sym c.in_ok-number.ensures.entered
+
+pub invariant_of-self-2 : goal.invariant_of-self-2
+invariant_of-self-2 g c =
+    let i = c.self.invariant in
+    let old = c.self.inside.book.history in
+    let new = c.enter_seen.new.self.history in
+    let entry = Swept (sweep_of c.args.proposal.now) in
+    let entered = c.in_ok-number.ensures.entered in
+    let size : length new ≡ length old + 1 = ap {A = List Entry} length entered ∙ length-append old (entry ∷ []) in
+    let lots : lots_swept new ≡ lots_swept old + (0 + c.args.proposal.now.lots) = ap {A = List Entry} (sum_by swept_by) entered ∙ sum_by-append swept_by old (entry ∷ []) in (
+      c.enter_seen.ensures.reference ∙ i.0,
+      told g c,
+      i.2,
+      omega (arith, size, i.3, c.add.ensures.total, c.audit.ensures.total),
+      omega (arith, lots, i.4, c.add-2.ensures.total, c.lots.ensures.lots),
+      i.5,
+      i.6,
+      i.7,
+      i.8,
+    )
+
+pub invariant_of-seat-2 : goal.invariant_of-seat-2
+invariant_of-seat-2 g c =
+    let i = c.self.invariant in
+    let old = c.self.inside.book.history in
+    let entry = Swept (sweep_of c.args.proposal.now) in
+    let size : length c.swept.new.front ≡ length old + 1 =
+    ap {A = List Entry} length (c.swept.ensures.front ∙ told g c ∙ c.in_ok-number.ensures.entered) ∙ length-append old (entry ∷ []) in (
+      c.add.ensures.parts ∙ c.audit.ensures.parts ∙ c.seat.invariant.0,
+      c.add-2.ensures.parts ∙ c.seat.invariant.1,
+      omega (arith, size, i.3, c.add.ensures.amount, c.audit.ensures.amount, c.audit.ensures.bound),
+    )
+
+pub returns-clause-front : goal.returns-clause-front
+returns-clause-front g c = c.swept.ensures.front ∙ told g c

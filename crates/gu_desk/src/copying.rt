@@ -1,0 +1,27 @@
+//! Copies of a history's entries.
+
+ghost use Rattle.std.specs.Prelude.{◌≡◌, ◌-◌, ◌≤◌, ◌++◌, drop, length, take, OnOk};
+
+use gu_terms::{Entry, History};
+use std::alloc::AllocError;
+
+/// Adds copies of the entries from a place on, counted from 0, up to an end, after those of a list. The place moves on past each
+/// entry that was copied, also where an allocation fails.
+pub(crate) fn copy_entries(
+    history: &History,
+    place: &mut usize,
+    end: usize,
+    entries: &mut Vec<Entry>,
+) -> Result<(), AllocError>
+    requires { (place.old ≤ end) × (end ≤ length history.now) }
+    ensures copied { entries.new.items ≡ entries.old.items ++ take (place.new - place.old) (drop place.old history.now) }
+    ensures within { (place.old ≤ place.new) × (place.new ≤ end) }
+    ensures all { OnOk result (place.new ≡ end) }
+{
+    for at in *place..end {
+        entries.reserve(1)?;
+        entries.push_reserved(history.at(at)?);
+        *place += 1;
+    }
+    Ok(())
+}

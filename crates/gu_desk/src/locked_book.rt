@@ -1,0 +1,356 @@
+//! What a desk's lock guards: the book, the keeper of its history, and the ledgers of what its seats entered and swept.
+
+ghost use Rattle.std.specs.Prelude.{◌≡◌, ◌↔◌, ◌+◌, ◌<◌, ◌≤◌, ◌++◌, ◌∷◌, [], List, length, sum_by, take, vec_len, false, true, All, IfErr, IfOk, IfSome, IsErrOf, OnErr, OnOk};
+ghost use mathlib.Core.List.{IsPrefix};
+ghost use Rattle.gu_terms.specs.Histories.{lots_swept};
+ghost use Rattle.gu_terms.specs.declared.entry.Entry.{Entry as EntryOf};
+ghost use Rattle.gu_ref.specs.Reference.{is_group};
+ghost use Rattle.gu_view.specs.View.{IsNested};
+ghost use Rattle.gu_rules.specs.Notices.{IsStretch};
+ghost use Rattle.gu_rules.specs.Views.{group_view};
+ghost use Rattle.gu_book.specs.Commits.{Refuses, sweep_of};
+ghost use Rattle.gu_book.specs.Questions.{IsAnswer, IsUnknown};
+ghost use Rattle.gu_book.specs.Refusals.{commit_error_of};
+ghost use Rattle.gu_desk.specs.Holds.{Enters, IsStretchAsked, Sees, book_seen};
+
+use crate::annals::{Annals, Front};
+use crate::copying::copy_entries;
+use crate::ledger::{EntryLedger, LotLedger};
+use crate::seat::{Seat, gather};
+use gu_book::{Answer, AskError, Book, EnterError, SeenError};
+use gu_flow::Proposal;
+use gu_terms::{Command, Entry, FirmId, Group, KeptSweep, Query, Reply, Stretch};
+use gu_view::View;
+use std::alloc::AllocError;
+use std::marker::Model;
+use std::sync::ledger::{Book as LedgerBook, Share};
+
+/// The number of an entry and its reply, with a stretch of notices, if one was asked for.
+#[derive(Drop)]
+pub struct Entered {
+    pub number: u64,
+    pub reply: Reply,
+    pub stretch: Option<Stretch>,
+}
+
+/// What a desk's lock guards, for the holder of the lock. To a contract it is the desk's one history so far.
+///
+/// Its ledgers have as totals the entries and the swept lots that came after the desk was opened. One part of each ledger stays
+/// here, so that the seats never have all of them before the desk is closed.
+pub struct LockedBook<E: EntryLedger, S: LotLedger> {
+    book: Book,
+    annals: Annals<E>,
+    /// What the desk began with.
+    opening: Front<E>,
+    entries: LedgerBook<E>,
+    swept: LedgerBook<S>,
+    own: Share<E>,
+    own_swept: Share<S>,
+}
+
+// By hand, so that each exit of a caller drops it by one call.
+impl<E: EntryLedger, S: LotLedger> Drop for LockedBook<E, S> {
+    fn drop(self) {
+        let LockedBook {
+            book,
+            annals,
+            opening,
+            entries,
+            swept,
+            own,
+            own_swept,
+        } = self;
+        drop(book);
+        drop(annals);
+        drop(opening);
+        drop(entries);
+        drop(swept);
+        drop(own);
+        drop(own_swept);
+    }
+}
+
+impl<E: EntryLedger, S: LotLedger> Model for LockedBook<E, S> {
+    ghost use Rattle.std.specs.Prelude.{◌≡◌, ◌+◌, List, length};
+    ghost use Rattle.gu_terms.specs.Histories.{lots_swept};
+    ghost use Rattle.gu_terms.specs.declared.entry.Entry.{Entry};
+
+    ghost Value = { List Entry };
+
+    ghost view = { λ b. b.book.history };
+
+    // The book is of the desk's reference; its history is the one that the keeper knows; it has as many entries, and as many
+    // swept lots, as the desk began with and the ledgers count.
+    ghost invariant = { λ b. (b.book.reference ≡ E.reference) × (b.annals ≡ b.book.history) × (b.opening ≡ E.opening)
+        × (length b.book.history ≡ length E.opening + b.entries.total)
+        × (lots_swept b.book.history ≡ S.opening + b.swept.total)
+        × (b.own.parts ≡ 1) × (b.own.amount ≡ 0) × (b.own_swept.parts ≡ 1) × (b.own_swept.amount ≡ 0) };
+}
+
+impl<E: EntryLedger, S: LotLedger> LockedBook<E, S> {
+    /// Creates what the lock of a desk guards over a book, beside ledgers in which nothing was counted yet.
+    pub(crate) fn opened(
+        mut book: Book,
+        mut annals: Annals<E>,
+        entries: LedgerBook<E>,
+        swept: LedgerBook<S>,
+        own: Share<E>,
+        own_swept: Share<S>,
+    ) -> Self
+        requires told { annals ≡ book.history }
+        requires reference { book.reference ≡ E.reference }
+        requires opening { (book.history ≡ E.opening) × (lots_swept book.history ≡ S.opening) }
+        requires entries { (entries.total ≡ 0) × (own.amount ≡ 0) × (own.parts ≡ 1) }
+        requires swept { (swept.total ≡ 0) × (own_swept.amount ≡ 0) × (own_swept.parts ≡ 1) }
+    {
+        // The opening's entries are noted before there is a lock to hold.
+        let _ = book.note_recipients();
+        let opening = annals.front();
+        LockedBook {
+            book,
+            annals,
+            opening,
+            entries,
+            swept,
+            own,
+            own_swept,
+        }
+    }
+
+    /// Shows a seat the whole history.
+    fn show(&mut self, seat: &mut Seat<E, S>)
+        ensures sees { Sees E.reference seat.old seat.new }
+        ensures front { seat.new.front ≡ self.old }
+        ensures same { self.new ≡ self.old }
+    {
+        self.entries.audit(&mut seat.entries);
+        // Shows the prover: the history is legal.
+        let _ = self.book.history();
+        self.annals.complete(&mut seat.front);
+    }
+
+    /// Enters a command from a seat, which then has seen the whole history. Returns the number of the entry and the reply.
+    fn append(
+        &mut self,
+        seat: &mut Seat<E, S>,
+        command: &Command,
+    ) -> Result<(u64, Reply), EnterError>
+        ensures entered { IfOk result (λ e. Enters E.reference seat.old
+            (record { number = e.0; entry = Entry.Asked command.now e.1 }) seat.new) }
+        ensures later { IfOk result (λ e. length E.opening + seat.old.entries < e.0) }
+        ensures history { IfOk result (λ e. self.new ≡ self.old ++ Entry.Asked command.now e.1 ∷ []) }
+        ensures front { OnOk result (seat.new.front ≡ self.new) }
+        ensures full { IsErrOf result EnterError.Full ↔ (1000000 ≤ length self.old) }
+        ensures refused { OnErr result ((seat.new ≡ seat.old) × (self.new ≡ self.old)) }
+    {
+        self.entries.audit(&mut seat.entries);
+        let reply = self.book.reply_to(command)?;
+        self.annals.asked(&mut seat.front, command, &reply);
+        self.entries.add(&mut seat.entries, 1);
+        let number = self.book.history().len() as u64;
+        Ok((number, reply))
+    }
+
+    /// Returns a stretch of what a firm is told of the entries from a number on.
+    fn tell(&mut self, firm: FirmId, from: u64) -> Result<Stretch, AllocError>
+        ensures told { IfOk result (IsStretch (record { reference = E.reference; history = self.old }) firm from) }
+        ensures same { self.new ≡ self.old }
+    {
+        // Whom the entries since the last stretch inform. Where this fails, more of them are looked into.
+        let _ = self.book.note_recipients();
+        self.book.stretch(firm, from)
+    }
+
+    /// Returns the stretch that was asked for, if any was, and none where an allocation fails for it.
+    fn tell_asked(&mut self, asked: Option<(FirmId, u64)>) -> Option<Stretch>
+        ensures told { IfSome result (IsStretchAsked (record { reference = E.reference; history = self.old }) asked) }
+        ensures same { self.new ≡ self.old }
+    {
+        let (firm, from) = asked?;
+        self.tell(firm, from).ok()
+    }
+
+    /// Enters a command from a seat. If a firm and a number are given, a stretch of what that firm is told of the entries from
+    /// that number on comes with the reply, this entry among them. The stretch may be missing, as it is if an allocation fails
+    /// for it. It looks at 1,024 entries at most, and notes whom those inform that came since any seat's last stretch.
+    pub fn enter(
+        &mut self,
+        seat: &mut Seat<E, S>,
+        command: &Command,
+        tell: Option<(FirmId, u64)>,
+    ) -> Result<Entered, EnterError>
+        ensures entered { IfOk result (λ e. Enters E.reference seat.old
+            (record { number = e.number; entry = Entry.Asked command.now e.reply }) seat.new) }
+        ensures later { IfOk result (λ e. length E.opening + seat.old.entries < e.number) }
+        ensures told { IfOk result (λ e. IfSome e.stretch (IsStretchAsked (book_seen E.reference seat.new) tell)) }
+        ensures history { IfOk result (λ e. self.new ≡ self.old ++ Entry.Asked command.now e.reply ∷ []) }
+        ensures front { OnOk result (seat.new.front ≡ self.new) }
+
+        // Nothing is entered in a full book, or where an allocation fails.
+        ensures full { IsErrOf result EnterError.Full ↔ (1000000 ≤ length self.old) }
+        ensures refused { OnErr result ((seat.new ≡ seat.old) × (self.new ≡ self.old)) }
+    {
+        let (number, reply) = self.append(seat, command)?;
+        let stretch = self.tell_asked(tell);
+        Ok(Entered {
+            number,
+            reply,
+            stretch,
+        })
+    }
+
+    /// Answers a query.
+    pub fn ask(&mut self, seat: &mut Seat<E, S>, query: Query) -> Result<Answer, AskError>
+        ensures sees { OnOk result (Sees E.reference seat.old seat.new) }
+        ensures answer { IfOk result (IsAnswer (book_seen E.reference seat.new) query) }
+        ensures front { OnOk result (seat.new.front ≡ self.old) }
+        ensures same { self.new ≡ self.old }
+        ensures unknown { IsErrOf result AskError.UnknownGroup ↔ IsUnknown E.reference query }
+        ensures refused { OnErr result (seat.new ≡ seat.old) }
+    {
+        let answer = self.book.answer(query)?;
+        self.show(seat);
+        Ok(answer)
+    }
+
+    /// Returns a stretch of what a firm is told of the entries from a number on. It looks at 1,024 entries at most, and notes
+    /// whom those inform that came since any seat's last stretch.
+    pub fn stretch(
+        &mut self,
+        seat: &mut Seat<E, S>,
+        firm: FirmId,
+        from: u64,
+    ) -> Result<Stretch, AllocError>
+        ensures sees { OnOk result (Sees E.reference seat.old seat.new) }
+        ensures told { IfOk result (IsStretch (book_seen E.reference seat.new) firm from) }
+        ensures front { OnOk result (seat.new.front ≡ self.old) }
+        ensures same { self.new ≡ self.old }
+        ensures refused { OnErr result (seat.new ≡ seat.old) }
+    {
+        let stretch = self.tell(firm, from)?;
+        self.show(seat);
+        Ok(stretch)
+    }
+
+    /// Returns the view of a group.
+    pub fn view(&mut self, seat: &mut Seat<E, S>, group: &Group) -> Result<View, AskError>
+        ensures sees { OnOk result (Sees E.reference seat.old seat.new) }
+        ensures view { IfOk result (λ view. view ≡ group_view E.reference seat.new.front group.now) }
+        ensures nested { IfOk result (λ view. IsNested view) }
+        ensures known { OnOk result (is_group E.reference group.now ≡ true) }
+        ensures front { OnOk result (seat.new.front ≡ self.old) }
+        ensures same { self.new ≡ self.old }
+        ensures unknown { IsErrOf result AskError.UnknownGroup ↔ (is_group E.reference group.now ≡ false) }
+        ensures refused { OnErr result (seat.new ≡ seat.old) }
+    {
+        let view = self.book.view(group)?;
+        self.show(seat);
+        Ok(view)
+    }
+
+    /// Commits a proposal for a view as the seat sees it, and returns the number of the entry. What the history keeps of the
+    /// sweep was made before. The view isn't compared with the book: it is stale exactly if its version isn't its group's now.
+    pub fn commit(
+        &mut self,
+        seat: &mut Seat<E, S>,
+        proposal: &Proposal,
+        kept: KeptSweep,
+    ) -> Result<u64, SeenError>
+        requires kept { kept ≡ sweep_of proposal.now }
+        requires known { is_group E.reference proposal.now.view.group ≡ true }
+        requires seen { proposal.now.view ≡ group_view E.reference seat.old.front proposal.now.view.group }
+        ensures entered { IfOk result (λ number. Enters E.reference seat.old
+            (record { number = number; entry = Entry.Swept (sweep_of proposal.now) }) seat.new) }
+        ensures later { IfOk result (λ number. length E.opening + seat.old.entries < number) }
+        ensures history { OnOk result (self.new ≡ self.old ++ Entry.Swept (sweep_of proposal.now) ∷ []) }
+        ensures front { OnOk result (seat.new.front ≡ self.new) }
+
+        // What each refusal says.
+        ensures why { IfErr result (λ why.
+            Refuses (record { reference = E.reference; history = self.old }) proposal.now.view (commit_error_of why)) }
+        ensures refused { OnErr result ((seat.new ≡ seat.old) × (self.new ≡ self.old)) }
+    {
+        self.entries.audit(&mut seat.entries);
+        self.annals.compare(&mut seat.front);
+        // Shows the prover: the history is legal.
+        let _ = self.book.history();
+        let number = self.book.enter_seen(proposal, kept)?;
+        self.annals.swept(&mut seat.front, proposal);
+        self.entries.add(&mut seat.entries, 1);
+        self.swept.add(&mut seat.swept, proposal.lots());
+        // Shows the prover: the history is legal.
+        let _ = self.book.history();
+        Ok(number)
+    }
+
+    /// Returns a copy of a seat's front.
+    pub fn front(&mut self, seat: &mut Seat<E, S>) -> Front<E>
+        ensures front { result ≡ seat.old.front }
+        ensures seat { seat.new ≡ seat.old }
+        ensures same { self.new ≡ self.old }
+    {
+        self.annals.copy(&mut seat.front)
+    }
+
+    /// Shows a seat the whole history, and so all that a front has.
+    pub fn catch_up(&mut self, seat: &mut Seat<E, S>, front: &mut Front<E>)
+        ensures sees { Sees E.reference seat.old seat.new }
+        ensures begins { IsPrefix front.old seat.new.front }
+        ensures whole { seat.new.front ≡ self.old }
+        ensures front { front.new ≡ front.old }
+        ensures same { self.new ≡ self.old }
+    {
+        self.annals.compare(front);
+        self.show(seat);
+    }
+
+    /// Appends copies of the entries after a front to a list, at most `most`, and lengthens the front by those that were copied,
+    /// also if an allocation fails. `place` is the number of entries that the front has.
+    pub fn entries_from(
+        &mut self,
+        front: &mut Front<E>,
+        place: usize,
+        most: usize,
+        entries: &mut Vec<Entry>,
+    ) -> Result<(), AllocError>
+        requires { place ≡ length front.old }
+        ensures grown { (more : List EntryOf) × (front.new ≡ front.old ++ more) × (entries.new.items ≡ entries.old.items ++ more) }
+        ensures all { OnOk result (front.new ≡ take (place + most) self.new) }
+        ensures whole { OnOk result (length front.new < place + most → front.new ≡ self.new) }
+        ensures within { length front.new ≤ 1000000 }
+        ensures same { self.new ≡ self.old }
+    {
+        self.annals.compare(front);
+        let history = self.book.history();
+        let end = place + most.min(history.len() - place);
+        let mut next = place;
+        let copied = copy_entries(history, &mut next, end, entries);
+        *front = self.annals.cut(next);
+        copied
+    }
+
+    /// Returns the book, once all seats are back.
+    pub(crate) fn close(self, seats: Vec<Seat<E, S>>) -> Book
+        requires { (0 < E.parts) × (E.parts ≡ S.parts) × (E.parts ≤ vec_len seats + 1) }
+        ensures entries { length result.history ≡ length E.opening + sum_by (λ s. s.entries) seats.items }
+        ensures swept { lots_swept result.history ≡ S.opening + sum_by (λ s. s.swept) seats.items }
+        ensures reference { result.reference ≡ E.reference }
+        ensures opening { IsPrefix E.opening result.history }
+        ensures seen { All (λ s. IsPrefix s.front result.history) seats.items }
+    {
+        let LockedBook {
+            book,
+            mut annals,
+            mut opening,
+            mut entries,
+            mut swept,
+            mut own,
+            mut own_swept,
+        } = self;
+        gather(&mut annals, &mut own, &mut own_swept, seats);
+        entries.audit(&mut own);
+        swept.audit(&mut own_swept);
+        annals.compare(&mut opening);
+        book
+    }
+}
