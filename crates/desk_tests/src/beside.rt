@@ -1,12 +1,12 @@
 //! Lines that are answered while a sweep is proposed.
 
-ghost use Rattle.std.specs.Prelude.{◌≡◌, length};
+ghost use Rattle.std.specs.Prelude.{◌≡◌};
 ghost use Rattle.gu_terms.specs.Histories.{lots_swept};
 
-use crate::opening::opened;
+use crate::opening::{annals_of, opened};
 use crate::sample::{A_TRADE, book_of, command_of, group_of};
 use gu_book::Book;
-use gu_desk::{Desk, EntryLedger, Gate, LotLedger, Seat, SweepError};
+use gu_desk::{BlankAnnals, Desk, EntryLedger, Gate, LotLedger, Seat, SweepError};
 use gu_flow::{Proposal, propose};
 use gu_terms::{Entry, Group};
 use gu_view::View;
@@ -232,13 +232,14 @@ fn try_row<
     E: EntryLedger + Send + Sync,
     S: LotLedger + Send + Sync,
     R: Threads + Wait + Abort + Sync,
->(rt: &R, alloc: Global, book: Book, entries: Blank, swept: Blank, row: Row)
+>(rt: &R, alloc: Global, book: Book, annals: BlankAnnals, entries: Blank, swept: Blank, row: Row)
     requires reference { book.reference ≡ E.reference }
-    requires opening { (length book.history ≡ E.opening) × (lots_swept book.history ≡ S.opening) }
+    requires opening { (book.history ≡ E.opening) × (lots_swept book.history ≡ S.opening) }
+    requires history { (annals.name ≡ E.history) × (annals.entries ≡ E.opening) }
     requires entries { (entries.name ≡ E.name) × (entries.parts ≡ E.parts) × (entries.parts ≡ 3) }
     requires swept { (swept.name ≡ S.name) × (swept.parts ≡ S.parts) × (swept.parts ≡ 3) }
 {
-    let (desk, mut seats) = opened::<E, S, R>(rt, alloc, book, 2, entries, swept);
+    let (desk, mut seats) = opened::<E, S, R>(rt, alloc, book, annals, 2, entries, swept);
     let mut seat = seats.pop().expect(rt, "a seat");
     let other = seats.pop().expect(rt, "another seat");
     submit_all(rt, alloc, &desk, &mut seat);
@@ -254,6 +255,15 @@ fn lines_are_answered_while_a_sweep_is_proposed(rt: HostRuntime) {
     let alloc = rt.alloc();
     for row in ROWS {
         let book = book_of(alloc).expect(&rt, "a book");
-        try_row::<Brand, Brand, HostRuntime>(&rt, alloc, book, Blank::new(3), Blank::new(3), row);
+        let annals = annals_of(&rt, alloc, &book);
+        try_row::<Brand, Brand, HostRuntime>(
+            &rt,
+            alloc,
+            book,
+            annals,
+            Blank::new(3),
+            Blank::new(3),
+            row,
+        );
     }
 }

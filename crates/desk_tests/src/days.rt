@@ -1,13 +1,13 @@
-//! Days at a desk: four firms and two sweepers in threads of their own, and the audit of their receipts.
+//! Days at a desk: four firms, two sweepers and two that ask, in threads of their own, and the audit of their receipts.
 
-ghost use Rattle.std.specs.Prelude.{◌≡◌, length};
+ghost use Rattle.std.specs.Prelude.{◌≡◌};
 ghost use Rattle.gu_terms.specs.Histories.{lots_swept};
 
-use crate::opening::opened;
+use crate::opening::{annals_of, opened};
 use crate::sample::{book_of, command_of, group_of};
 use crate::threads::{Shift, Work, shifts_of};
 use gu_book::Book;
-use gu_desk::{AuditFault, Desk, EntryLedger, LotLedger, Seat, audit};
+use gu_desk::{AuditFault, BlankAnnals, Desk, EntryLedger, LotLedger, Seat, audit};
 use gu_terms::{Done, Entry, Receipt, Reply};
 use std::alloc::{AllocError, Global};
 use std::marker::Brand;
@@ -43,15 +43,17 @@ const FIRMS: [&str; 4] = [
     "CLAIM C2 #",
 ];
 
-/// The work of six threads.
+/// The work of eight threads.
 fn works(alloc: Global) -> Result<Vec<Work>, AllocError> {
     let (to, from) = crossbeam_channel::unbounded(alloc)?;
-    let mut works = Vec::with_capacity(alloc, 6)?;
+    let mut works = Vec::with_capacity(alloc, 8)?;
     for line in FIRMS {
         works.push(Work::Enters(line, to.clone()?))?;
     }
     works.push(Work::Sweeps(from.clone()?))?;
     works.push(Work::Sweeps(from))?;
+    works.push(Work::Asks)?;
+    works.push(Work::Asks)?;
     Ok(works)
 }
 
@@ -186,23 +188,24 @@ fn gather_all<E: EntryLedger, S: LotLedger, R: Abort>(
     receipts
 }
 
-/// Runs a day at a desk of seven seats: a morning, then six threads at the same time, then one more sweep.
+/// Runs a day at a desk of nine seats: a morning, then eight threads at the same time, then one more sweep.
 fn whole_day<
     E: EntryLedger + Send + Sync,
     S: LotLedger + Send + Sync,
     R: Threads + Wait + Abort + Sync,
->(rt: &R, alloc: Global, book: Book, entries: Blank, swept: Blank)
+>(rt: &R, alloc: Global, book: Book, annals: BlankAnnals, entries: Blank, swept: Blank)
     requires reference { book.reference ≡ E.reference }
-    requires opening { (length book.history ≡ E.opening) × (lots_swept book.history ≡ S.opening) }
-    requires entries { (entries.name ≡ E.name) × (entries.parts ≡ E.parts) × (entries.parts ≡ 8) }
-    requires swept { (swept.name ≡ S.name) × (swept.parts ≡ S.parts) × (swept.parts ≡ 8) }
+    requires opening { (book.history ≡ E.opening) × (lots_swept book.history ≡ S.opening) }
+    requires history { (annals.name ≡ E.history) × (annals.entries ≡ E.opening) }
+    requires entries { (entries.name ≡ E.name) × (entries.parts ≡ E.parts) × (entries.parts ≡ 10) }
+    requires swept { (swept.name ≡ S.name) × (swept.parts ≡ S.parts) × (swept.parts ≡ 10) }
 {
-    let (desk, mut seats) = opened::<E, S, R>(rt, alloc, book, 7, entries, swept);
+    let (desk, mut seats) = opened::<E, S, R>(rt, alloc, book, annals, 9, entries, swept);
     let mut morning = morning_of(rt, alloc, &desk, &mut seats);
     let works = works(alloc).ok().expect(rt, "memory");
     let run = shifts_of(rt, alloc, &desk, &mut seats, works);
     let shifts = run.ok().expect(rt, "memory");
-    assert_eq!(rt; shifts.len(), 6);
+    assert_eq!(rt; shifts.len(), 8);
     morning.sweep(rt, &desk, group_of("G1").expect(rt, "a group"), 1);
     let receipts = gather_all(rt, alloc, &mut seats, morning, shifts);
     let book = desk.close(seats).ok().expect(rt, "all seats");
@@ -214,5 +217,13 @@ fn whole_day<
 fn the_receipts_of_a_day_are_its_entries(rt: HostRuntime) {
     let alloc = rt.alloc();
     let book = book_of(alloc).expect(&rt, "a book");
-    whole_day::<Brand, Brand, HostRuntime>(&rt, alloc, book, Blank::new(8), Blank::new(8));
+    let annals = annals_of(&rt, alloc, &book);
+    whole_day::<Brand, Brand, HostRuntime>(
+        &rt,
+        alloc,
+        book,
+        annals,
+        Blank::new(10),
+        Blank::new(10),
+    );
 }

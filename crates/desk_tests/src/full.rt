@@ -1,13 +1,13 @@
 //! Desks over books that have room for one entry.
 
-ghost use Rattle.std.specs.Prelude.{◌≡◌, length};
+ghost use Rattle.std.specs.Prelude.{◌≡◌};
 ghost use Rattle.gu_terms.specs.Histories.{lots_swept};
 
-use crate::opening::opened;
+use crate::opening::{annals_of, opened};
 use crate::sample::{book_of, command_of};
 use crate::transcript::follow;
 use gu_book::Book;
-use gu_desk::{AuditFault, EntryLedger, LotLedger, audit};
+use gu_desk::{AuditFault, BlankAnnals, EntryLedger, LotLedger, audit};
 use std::alloc::Global;
 use std::marker::Brand;
 use std::process::Abort;
@@ -73,16 +73,18 @@ fn fill_book<E: EntryLedger, S: LotLedger, R: Wait + Abort>(
     rt: &R,
     alloc: Global,
     book: Book,
+    annals: BlankAnnals,
     entries: Blank,
     swept: Blank,
     last: Last,
 )
     requires reference { book.reference ≡ E.reference }
-    requires opening { (length book.history ≡ E.opening) × (lots_swept book.history ≡ S.opening) }
+    requires opening { (book.history ≡ E.opening) × (lots_swept book.history ≡ S.opening) }
+    requires history { (annals.name ≡ E.history) × (annals.entries ≡ E.opening) }
     requires entries { (entries.name ≡ E.name) × (entries.parts ≡ E.parts) × (entries.parts ≡ 2) }
     requires swept { (swept.name ≡ S.name) × (swept.parts ≡ S.parts) × (swept.parts ≡ 2) }
 {
-    let (desk, mut seats) = opened::<E, S, R>(rt, alloc, book, 1, entries, swept);
+    let (desk, mut seats) = opened::<E, S, R>(rt, alloc, book, annals, 1, entries, swept);
     let mut seat = seats.pop().expect(rt, "a seat");
     follow(rt, alloc, &desk, &mut seat, last.lines());
     assert!(rt; seats.push(seat).is_ok());
@@ -96,10 +98,12 @@ fn a_desk_over_a_full_book_enters_nothing(rt: HostRuntime) {
     let alloc = rt.alloc();
     for last in [Last::Command, Last::Sweep] {
         let book = almost_full(&rt, alloc);
+        let annals = annals_of(&rt, alloc, &book);
         fill_book::<Brand, Brand, HostRuntime>(
             &rt,
             alloc,
             book,
+            annals,
             Blank::new(2),
             Blank::new(2),
             last,

@@ -1,13 +1,13 @@
 //! A desk of 64 seats over a book with 4,096 open offers, looked at and swept thousands of times.
 
-ghost use Rattle.std.specs.Prelude.{◌≡◌, length};
+ghost use Rattle.std.specs.Prelude.{◌≡◌};
 ghost use Rattle.gu_terms.specs.Histories.{lots_swept};
 
-use crate::opening::opened;
+use crate::opening::{annals_of, opened};
 use crate::sample::{A_TRADE, book_of, command_of, group_of};
 use crate::transcript::follow;
 use gu_book::Book;
-use gu_desk::{Desk, Direct, EntryLedger, LotLedger, Seat};
+use gu_desk::{BlankAnnals, Desk, Direct, EntryLedger, LotLedger, Seat};
 use gu_terms::FirmId;
 use std::alloc::{AllocError, Global};
 use std::marker::Brand;
@@ -76,7 +76,7 @@ fn look_and_sweep<E: EntryLedger, S: LotLedger, R: Wait + Abort>(
     for _ in 0..1_500 {
         assert!(rt; desk.look(rt, seat, *group).is_ok());
         assert!(rt; desk.sweep_once(rt, seat, *group, &Direct).is_ok());
-        assert!(rt; desk.stretch(rt, seat, *firm, 1).is_ok());
+        assert!(rt; desk.hold(rt).stretch(seat, *firm, 1).is_ok());
     }
 }
 
@@ -85,15 +85,17 @@ fn sweep_all<E: EntryLedger, S: LotLedger, R: Wait + Abort>(
     rt: &R,
     alloc: Global,
     book: Book,
+    annals: BlankAnnals,
     entries: Blank,
     swept: Blank,
 )
     requires reference { book.reference ≡ E.reference }
-    requires opening { (length book.history ≡ E.opening) × (lots_swept book.history ≡ S.opening) }
+    requires opening { (book.history ≡ E.opening) × (lots_swept book.history ≡ S.opening) }
+    requires history { (annals.name ≡ E.history) × (annals.entries ≡ E.opening) }
     requires entries { (entries.name ≡ E.name) × (entries.parts ≡ E.parts) × (entries.parts ≡ 65) }
     requires swept { (swept.name ≡ S.name) × (swept.parts ≡ S.parts) × (swept.parts ≡ 65) }
 {
-    let (desk, mut seats) = opened::<E, S, R>(rt, alloc, book, 64, entries, swept);
+    let (desk, mut seats) = opened::<E, S, R>(rt, alloc, book, annals, 64, entries, swept);
     let mut seat = seats.pop().expect(rt, "a seat");
     follow(rt, alloc, &desk, &mut seat, SWEPT);
     look_and_sweep(rt, &desk, &mut seat);
@@ -106,5 +108,13 @@ fn sweep_all<E: EntryLedger, S: LotLedger, R: Wait + Abort>(
 fn a_desk_of_64_seats_sweeps_4096_offers(rt: HostRuntime) {
     let alloc = rt.alloc();
     let book = book_with_offers(&rt, alloc);
-    sweep_all::<Brand, Brand, HostRuntime>(&rt, alloc, book, Blank::new(65), Blank::new(65));
+    let annals = annals_of(&rt, alloc, &book);
+    sweep_all::<Brand, Brand, HostRuntime>(
+        &rt,
+        alloc,
+        book,
+        annals,
+        Blank::new(65),
+        Blank::new(65),
+    );
 }

@@ -18,6 +18,10 @@ mod memory;
 #[cfg(test)]
 mod opening;
 #[cfg(test)]
+mod reader;
+#[cfg(test)]
+mod reading;
+#[cfg(test)]
 mod sample;
 #[cfg(test)]
 mod threads;

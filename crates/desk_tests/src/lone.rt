@@ -1,13 +1,13 @@
 //! One seat after another: what a lone sweep takes, what is known after it, and how a desk is closed.
 
-ghost use Rattle.std.specs.Prelude.{◌≡◌, length};
+ghost use Rattle.std.specs.Prelude.{◌≡◌};
 ghost use Rattle.gu_terms.specs.Histories.{lots_swept};
 
-use crate::opening::opened;
+use crate::opening::{annals_of, opened};
 use crate::sample::{book_of, command_of, group_of};
 use crate::transcript::{follow, stretch_text, view_text};
 use gu_book::Book;
-use gu_desk::{CloseFault, Desk, EntryLedger, LotLedger, Seat, SweepOrder};
+use gu_desk::{BlankAnnals, CloseFault, Desk, Entered, EntryLedger, LotLedger, Seat, SweepOrder};
 use gu_terms::{FirmId, Group};
 use std::alloc::{AllocError, Global};
 use std::marker::Brand;
@@ -96,8 +96,12 @@ fn offer_told<E: EntryLedger, S: LotLedger, R: Wait + Abort>(
 ) {
     let command = command_of(alloc, "GIVEUP E1 L3 R1 A1 7").expect(rt, "a command");
     let firm = FirmId::new(b"C1").expect(rt, "a firm");
-    let told = desk.enter_and_tell(rt, seat, &command, &firm, 16);
-    let (number, _, stretch) = told.ok().expect(rt, "memory");
+    let told = desk.hold(rt).enter(seat, &command, Some((firm, 16)));
+    let Entered {
+        number,
+        stretch,
+        ..
+    } = told.ok().expect(rt, "memory");
     let stretch = stretch.expect(rt, "a stretch");
     let text = stretch_text(alloc, &stretch).ok().expect(rt, "memory");
     assert_eq!(rt; (number, text.as_str()), (16, "NOTICES 1 NEXT 17 LAST"));
@@ -123,15 +127,17 @@ fn lone<E: EntryLedger, S: LotLedger, R: Wait + Abort>(
     rt: &R,
     alloc: Global,
     book: Book,
+    annals: BlankAnnals,
     entries: Blank,
     swept: Blank,
 )
     requires reference { book.reference ≡ E.reference }
-    requires opening { (length book.history ≡ E.opening) × (lots_swept book.history ≡ S.opening) }
+    requires opening { (book.history ≡ E.opening) × (lots_swept book.history ≡ S.opening) }
+    requires history { (annals.name ≡ E.history) × (annals.entries ≡ E.opening) }
     requires entries { (entries.name ≡ E.name) × (entries.parts ≡ E.parts) × (entries.parts ≡ 3) }
     requires swept { (swept.name ≡ S.name) × (swept.parts ≡ S.parts) × (swept.parts ≡ 3) }
 {
-    let (desk, mut seats) = opened::<E, S, R>(rt, alloc, book, 2, entries, swept);
+    let (desk, mut seats) = opened::<E, S, R>(rt, alloc, book, annals, 2, entries, swept);
     let mut seat = seats.pop().expect(rt, "a seat");
     let mut other = seats.pop().expect(rt, "another seat");
     follow(rt, alloc, &desk, &mut seat, OFFERED);
@@ -147,7 +153,8 @@ fn lone<E: EntryLedger, S: LotLedger, R: Wait + Abort>(
 fn a_lone_sweep_takes_what_is_there(rt: HostRuntime) {
     let alloc = rt.alloc();
     let book = book_of(alloc).expect(&rt, "a book");
-    lone::<Brand, Brand, HostRuntime>(&rt, alloc, book, Blank::new(3), Blank::new(3));
+    let annals = annals_of(&rt, alloc, &book);
+    lone::<Brand, Brand, HostRuntime>(&rt, alloc, book, annals, Blank::new(3), Blank::new(3));
 }
 
 /// The group that is to be swept after a line, if any.

@@ -2,14 +2,17 @@
 //! where all of them fail from one on (tools/each-growth): a call that is refused memory says so, leaves the desk as it was, hands back
 //! what it was given, and does at the second try what it would have done, where there is memory then.
 
-ghost use Rattle.std.specs.Prelude.{◌≡◌, length};
+ghost use Rattle.std.specs.Prelude.{◌≡◌, IfSome};
 ghost use Rattle.gu_terms.specs.Histories.{lots_swept};
 
+use crate::reader::Reader;
 use crate::sample::{book_of, command_of, group_of};
 use crate::transcript::{answer_to, receipt_text, view_text};
 use gu_book::{AskError, Book, EnterError};
-use gu_desk::{AuditFault, Desk, Direct, EntryLedger, LotLedger, Seat, SweepError, audit};
-use gu_terms::{Command, Receipt};
+use gu_desk::{
+    AuditFault, BlankAnnals, Desk, Direct, Entered, EntryLedger, LotLedger, Seat, SweepError, audit,
+};
+use gu_terms::{Command, Entry, Receipt};
 use gu_view::{Board, View};
 use std::alloc::{AllocError, Global};
 use std::marker::Brand;
@@ -198,6 +201,67 @@ fn follow<E: EntryLedger, S: LotLedger, R: Wait + Abort>(
     keep(rt, alloc, receipts, receipt, "10 SWEPT 7")
 }
 
+/// The receipt of a command that is entered in a hold, at the second try where memory is refused to the first, and a reader that goes on
+/// after it.
+fn reader_after<E: EntryLedger, S: LotLedger, R: Wait>(
+    rt: &R,
+    alloc: Global,
+    desk: &Desk<E, S>,
+    seat: &mut Seat<E, S>,
+    line: &str,
+) -> Option<(Receipt, Reader<E>)> {
+    let command = command_again(alloc, line)?;
+    let mut held = desk.hold(rt);
+    let entered = match held.enter(seat, &command, None) {
+        Ok(entered) => entered,
+        Err(_) => held.enter(seat, &command, None).ok()?,
+    };
+    let Entered { number, reply, .. } = entered;
+    let reader = Reader::new(alloc, &mut *held, seat, number);
+    let entry = Entry::Asked { command, reply };
+    Some((Receipt { number, entry }, reader))
+}
+
+/// Reads what there is, at the second try where memory is refused to the first, which leaves what was read.
+fn read_again<E: EntryLedger, S: LotLedger, R: Wait>(
+    rt: &R,
+    desk: &Desk<E, S>,
+    reader: &mut Reader<E>,
+) -> Option<()> {
+    let mut held = desk.hold(rt);
+    match reader.read(&mut *held, 100) {
+        Ok(()) => Some(()),
+        Err(AllocError) => reader.read(&mut *held, 100).ok(),
+    }
+}
+
+/// Lines that are read, and what answers them.
+const READ: &str = "\
+CLAIM C1 1 = 12 NO 14 OfferClosed
+GIVEUP E1 L2 R1 A1 1 A1 2 A1 3 = 13 NO 11 TooManyLots
+REPORT E1 R3 M3 B XF6 7 101.5 H1 = 14 OK OPEN
+";
+
+/// Enters a line, and reads those that are entered after it. Keeps the receipts, for which there is room.
+fn follow_and_read<E: EntryLedger, S: LotLedger, R: Wait + Abort>(
+    rt: &R,
+    alloc: Global,
+    desk: &Desk<E, S>,
+    seat: &mut Seat<E, S>,
+    receipts: &mut Vec<Receipt>,
+) -> Option<Reader<E>> {
+    let (receipt, mut reader) = reader_after(rt, alloc, desk, seat, "CLAIM C1 1")?;
+    keep(rt, alloc, receipts, receipt, "11 NO 14 OfferClosed")?;
+    for line in READ.lines() {
+        let (said, want) = line.split_once(" = ").unwrap_or((line, ""));
+        let receipt = entered(rt, alloc, desk, seat, said)?;
+        keep(rt, alloc, receipts, receipt, want)?;
+    }
+    read_again(rt, desk, &mut reader)?;
+    assert_eq!(rt; reader.len(), 3, "entries that were read");
+    Some(reader)
+}
+
 /// Audits receipts, at the second try where memory is refused to the first.
 fn check_audit(rt: &impl Abort, alloc: Global, book: &Book, receipts: &[Receipt]) {
     let told = match audit(alloc, book, receipts) {
@@ -231,14 +295,18 @@ fn use_desk<E: EntryLedger, S: LotLedger, R: Wait + Abort>(
         assert!(rt; !has_memory(alloc), "no memory for receipts");
         return;
     };
-    let done = follow(rt, alloc, &desk, &mut seat, &mut receipts);
+    let read = match follow(rt, alloc, &desk, &mut seat, &mut receipts) {
+        Some(()) => follow_and_read(rt, alloc, &desk, &mut seat, &mut receipts),
+        None => None,
+    };
     assert!(rt;
-        done.is_some() || !has_memory(alloc),
+        read.is_some() || !has_memory(alloc),
         "no memory for a line"
     );
     assert!(rt; seats.push(seat).is_ok());
     let book = desk.close(seats).ok().expect(rt, "all seats");
-    if done.is_some() {
+    if let Some(reader) = read {
+        reader.compare(rt, &book);
         check_audit(rt, alloc, &book, &receipts);
     }
 }
@@ -248,16 +316,18 @@ fn open_and_use<E: EntryLedger, S: LotLedger, R: Wait + Abort>(
     rt: &R,
     alloc: Global,
     book: Book,
+    annals: BlankAnnals,
     entries: Blank,
     swept: Blank,
 ) -> Option<Book>
     requires reference { book.reference ≡ E.reference }
-    requires opening { (length book.history ≡ E.opening) × (lots_swept book.history ≡ S.opening) }
+    requires opening { (book.history ≡ E.opening) × (lots_swept book.history ≡ S.opening) }
+    requires history { (annals.name ≡ E.history) × (annals.entries ≡ E.opening) }
     requires entries { (entries.name ≡ E.name) × (entries.parts ≡ E.parts) × (entries.parts ≡ 2) }
     requires swept { (swept.name ≡ S.name) × (swept.parts ≡ S.parts) × (swept.parts ≡ 2) }
 {
     let made: Result<(Desk<E, S>, Vec<Seat<E, S>>), (AllocError, Book)> = Desk::new(
-        alloc, book, 1, entries, swept,
+        alloc, book, annals, 1, entries, swept,
     );
     match made {
         Ok((desk, seats)) => {
@@ -281,6 +351,16 @@ fn book_again(rt: &impl Abort, alloc: Global) -> Option<Book> {
     book
 }
 
+/// The history of a book, at the second try where memory is refused to the first.
+fn annals_again(alloc: Global, book: &Book) -> Option<BlankAnnals>
+    ensures { IfSome result (λ annals. annals.entries ≡ book.now.history) }
+{
+    match BlankAnnals::of(alloc, book) {
+        Ok(annals) => Some(annals),
+        Err(_) => BlankAnnals::of(alloc, book).ok(),
+    }
+}
+
 #[test]
 fn refused_to_a_desk_leaves_each_call_to_be_made_again(rt: HostRuntime) {
     let alloc = rt.alloc();
@@ -288,10 +368,14 @@ fn refused_to_a_desk_leaves_each_call_to_be_made_again(rt: HostRuntime) {
         return;
     };
     for _ in 0..2 {
+        let Some(annals) = annals_again(alloc, &book) else {
+            break;
+        };
         let given = open_and_use::<Brand, Brand, HostRuntime>(
             &rt,
             alloc,
             book,
+            annals,
             Blank::new(2),
             Blank::new(2),
         );

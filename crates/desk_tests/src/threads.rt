@@ -4,8 +4,8 @@ ghost use denote.Param.Send.{IsSend, IsSync};
 
 use crate::sample::command_of;
 use crossbeam_channel::{Receiver, Sender};
-use gu_desk::{Desk, Direct, EntryLedger, LotLedger, Seat, SweepError, SweepOrder};
-use gu_terms::{Group, Receipt};
+use gu_desk::{Answer, Desk, Direct, EntryLedger, LotLedger, Seat, SweepError, SweepOrder};
+use gu_terms::{FirmId, Group, Query, Receipt};
 use std::alloc::{AllocError, Global};
 use std::sync::Wait;
 use std::thread;
@@ -15,10 +15,11 @@ use std::thread::{JoinHandle, Scope, Threads};
 pub const TURNS: u64 = 47;
 
 /// What a thread does: it enters a line in each turn, with the turn's number in the place of `#`, and sends an order for each accepted
-/// give-up; or it sweeps once for each order that it gets.
+/// give-up; or it sweeps once for each order that it gets; or it asks in each turn how far the entries go.
 pub enum Work {
     Enters(&'static str, Sender<SweepOrder>),
     Sweeps(Receiver<SweepOrder>),
+    Asks,
 }
 
 // By hand, so that each exit of a caller drops a work by one call.
@@ -27,14 +28,17 @@ impl Drop for Work {
         match self {
             Work::Enters(_, to) => drop(to),
             Work::Sweeps(from) => drop(from),
+            Work::Asks => {}
         }
     }
 }
 
-/// A thread's seat, its receipts, and whether all that it did was answered as it should be.
+/// A thread's seat, its receipts, the number after the last entry that it heard of, and whether all that it did was answered as it should
+/// be.
 pub struct Shift<E: EntryLedger, S: LotLedger> {
     seat: Seat<E, S>,
     receipts: Vec<Receipt>,
+    next: u64,
     is_well: bool,
 }
 
@@ -44,6 +48,7 @@ impl<E: EntryLedger, S: LotLedger> Drop for Shift<E, S> {
         let Shift {
             seat,
             receipts,
+            next: _,
             is_well: _,
         } = self;
         drop(seat);
@@ -57,6 +62,7 @@ impl<E: EntryLedger, S: LotLedger> Shift<E, S> {
         Shift {
             seat,
             receipts: Vec::new(alloc),
+            next: 0,
             is_well: true,
         }
     }
@@ -66,6 +72,7 @@ impl<E: EntryLedger, S: LotLedger> Shift<E, S> {
         let Shift {
             seat,
             receipts,
+            next: _,
             is_well,
         } = self;
         (seat, receipts, is_well)
@@ -120,12 +127,39 @@ impl<E: EntryLedger, S: LotLedger> Shift<E, S> {
         }
     }
 
+    /// Asks for the number after the last entry. It isn't well if that is less than what was answered before.
+    fn ask<R: Wait>(&mut self, rt: &R, desk: &Desk<E, S>) {
+        let Some(firm) = FirmId::new(b"C1") else {
+            self.is_well = false;
+            return;
+        };
+        let from = u64::MAX;
+        match desk.ask(rt, &mut self.seat, Query::Notices { firm, from }) {
+            Ok(Answer::Notices(notices)) if self.next <= notices.next => self.next = notices.next,
+            _ => self.is_well = false,
+        }
+    }
+
     /// Sweeps a group, up to so many times while it is stale. No other refusal is well.
     pub fn sweep<R: Wait>(&mut self, rt: &R, desk: &Desk<E, S>, group: Group, tries: u32) {
         match desk.sweep_until(rt, &mut self.seat, group, tries.clamp(1, 1000), &Direct) {
             Ok(receipt) => self.keep(receipt),
             Err(SweepError::Stale { .. }) => {}
             Err(_) => self.is_well = false,
+        }
+    }
+
+    /// Sweeps once for each order.
+    fn sweep_each<R: Wait>(&mut self, rt: &R, desk: &Desk<E, S>, from: &Receiver<SweepOrder>) {
+        for order in from.iter(rt) {
+            self.sweep(rt, desk, order.group(), 3);
+        }
+    }
+
+    /// Asks again and again.
+    fn ask_often<R: Wait>(&mut self, rt: &R, desk: &Desk<E, S>) {
+        for _ in 0..1_000 {
+            self.ask(rt, desk);
         }
     }
 }
@@ -145,11 +179,8 @@ fn worked<E: EntryLedger, S: LotLedger, R: Wait>(
                 shift.enter(rt, alloc, desk, line, turn.saturating_add(1), to);
             }
         }
-        Work::Sweeps(from) => {
-            for order in from.iter(rt) {
-                shift.sweep(rt, desk, order.group(), 3);
-            }
-        }
+        Work::Sweeps(from) => shift.sweep_each(rt, desk, from),
+        Work::Asks => shift.ask_often(rt, desk),
     }
     shift
 }

@@ -100,7 +100,7 @@ fn answer_to_stretch<E: EntryLedger, S: LotLedger, R: Wait>(
     firm: FirmId,
     from: u64,
 ) -> Result<String, AllocError> {
-    let stretch = desk.stretch(rt, seat, firm, from)?;
+    let stretch = desk.hold(rt).stretch(seat, firm, from)?;
     stretch_text(alloc, &stretch)
 }
 
