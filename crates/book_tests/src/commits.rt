@@ -1,12 +1,18 @@
 //! Commits of proposals for views that somebody made, and of copies: the book is as it was where one is
 //! refused, and the proposal comes back. And sweeps of views that were just seen.
 
+ghost use Rattle.std.specs.Prelude.{◌≡◌, true};
+ghost use Rattle.gu_ref.specs.Reference.{is_group};
+ghost use Rattle.gu_view.specs.View.{IsNested};
+ghost use Rattle.gu_rules.specs.Views.{group_view};
+
 use crate::beginnings::beginning;
 use crate::transcript::{Patience, follow, picture, world_of};
 use gu_book::{Book, kept_sweep, swept_receipt};
 use gu_flow::{Proposal, propose};
 use gu_terms::Group;
 use gu_text::Sheet;
+use gu_view::View;
 use std::alloc::Global;
 use std::process::Abort;
 
@@ -77,18 +83,35 @@ fn commit_twice(rt: &impl Abort, alloc: Global, book: &mut Book, want: &str, she
     assert_eq!(rt; told.as_str(), want, "{sheet}");
 }
 
-/// Sweeps a group by a borrowed proposal for its view, with the sweep as the history keeps it. Returns
-/// the number of the entry, which is that of its receipt, and the lots.
-fn sweep_seen(rt: &impl Abort, alloc: Global, book: &mut Book, group: &Group) -> (u64, u64) {
-    let view = book.view(group).ok().expect(rt, "a view");
-    let proposal = propose(alloc, view).ok().expect(rt, "a proposal");
-    let kept = kept_sweep(alloc, &proposal).ok().expect(rt, "memory");
+/// Sweeps the group of a view, as the book is now, by a borrowed proposal with the sweep as the history
+/// keeps it. Returns the number of the entry, which is that of its receipt, and the lots.
+fn sweep_view(rt: &impl Abort, alloc: Global, book: &mut Book, view: View) -> (u64, u64)
+    requires nested { IsNested view }
+    requires known { is_group book.old.reference view.group ≡ true }
+    requires current { view ≡ group_view book.old.reference book.old.history view.group }
+{
+    let Ok(proposal) = propose(alloc, view) else {
+        panic!(rt; "no proposal");
+    };
+    let Ok(kept) = kept_sweep(alloc, &proposal) else {
+        panic!(rt; "no memory");
+    };
     let lots = proposal.lots();
-    let number = book.enter_seen(&proposal, kept).ok().expect(rt, "an entry");
+    let Ok(number) = book.enter_seen(&proposal, kept) else {
+        panic!(rt; "no entry");
+    };
     let receipt = swept_receipt(number, proposal);
     let is_entry = book.history().is_entry(number, &receipt.entry);
     assert_eq!(rt; is_entry, Some(true));
     (receipt.number, lots)
+}
+
+/// Sweeps a group by its view.
+fn sweep_seen(rt: &impl Abort, alloc: Global, book: &mut Book, group: &Group) -> (u64, u64) {
+    let Ok(view) = book.view(group) else {
+        panic!(rt; "no view");
+    };
+    sweep_view(rt, alloc, book, view)
 }
 
 /// A book in which G1 has version 6 and offer 1 of seven lots.
