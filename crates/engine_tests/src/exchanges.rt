@@ -2,12 +2,12 @@
 
 use crate::books::book_after;
 use crate::rows::check_told;
-use gu_engine::{Connection, House, run};
+use gu_engine::{Answered, Ask, Connection, House, run};
 use gu_houses::OverBook;
 use gu_msgs::Request;
 use gu_session::{Failure, Outcome};
 use gu_streams::{CountedReads, StreamError};
-use gu_terms::{FirmId, Stretch};
+use gu_terms::{Command, FirmId, Moment, Stretch};
 use gu_text::{Line, TextError};
 use gu_world::Step;
 use std::alloc::{AllocError, Global};
@@ -23,10 +23,23 @@ pub struct Desk<'a> {
     pub besides: &'a str,
 }
 
-/// Enters the command of a line, if it has one.
-fn enter(alloc: Global, house: &mut OverBook, line: &str) -> Result<(), TextError> {
+/// Asks that a command be entered for a firm.
+fn ask_for(firm: FirmId, command: Command) -> Option<Ask> {
+    Some(Ask {
+        firm,
+        number: 1,
+        now: Moment::new(0)?,
+        request: Request::Enter(command),
+    })
+}
+
+/// Enters the command of a line for a firm, if it has one.
+fn enter(alloc: Global, house: &mut OverBook, firm: FirmId, line: &str) -> Result<(), TextError> {
     match Line::read(alloc, line.as_bytes(), 1)? {
-        Some(Line::Step(Step::Enter(command))) => drop(house.answer(Request::Enter(command))),
+        Some(Line::Step(Step::Enter(command))) => match ask_for(firm, command) {
+            Some(ask) => drop(house.answer(ask, 1)),
+            None => {}
+        },
         other => drop(other),
     }
     Ok(())
@@ -41,28 +54,41 @@ fn failure_named(name: &str) -> Option<Failure> {
     }
 }
 
+impl Desk<'_> {
+    /// Enters the command that is entered besides, once.
+    fn enter_besides(&mut self, firm: FirmId) {
+        if failure_named(self.besides).is_none() {
+            let _ = enter(self.alloc, self.house, firm, self.besides);
+            self.besides = "";
+        }
+    }
+}
+
 impl House for Desk<'_> {
     ghost use Rattle.gu_engine.specs.Houses.{HouseRules};
 
     ghost rules = { record { answers = λ old request outcome new. Unit {0}; tells = λ old firm from stretch new. Unit {0} } };
 
-    fn answer(&mut self, request: Request) -> Result<Outcome, AllocError> {
-        match failure_named(self.besides) {
-            Some(failure) => {
-                self.besides = "";
-                drop(request);
-                Ok(Outcome::Failed(failure))
-            }
-            None => self.house.answer(request),
+    fn answer(&mut self, ask: Ask, from: u64) -> Result<Answered, AllocError> {
+        let firm = ask.firm;
+        if let Some(failure) = failure_named(self.besides) {
+            self.besides = "";
+            drop(ask);
+            return Ok(Answered {
+                outcome: Outcome::Failed(failure),
+                stretch: None,
+            });
         }
+        let answered = self.house.answer(ask, from)?;
+        if answered.stretch.is_some() {
+            self.enter_besides(firm);
+        }
+        Ok(answered)
     }
 
     fn notices(&mut self, firm: &FirmId, from: u64) -> Result<Stretch, AllocError> {
         let stretch = self.house.notices(firm, from);
-        if failure_named(self.besides).is_none() {
-            let _ = enter(self.alloc, self.house, self.besides);
-            self.besides = "";
-        }
+        self.enter_besides(*firm);
         stretch
     }
 }

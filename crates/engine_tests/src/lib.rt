@@ -8,6 +8,8 @@ mod clocks;
 #[cfg(test)]
 mod conversations;
 #[cfg(test)]
+mod cuts;
+#[cfg(test)]
 mod exchanges;
 #[cfg(test)]
 mod faults;

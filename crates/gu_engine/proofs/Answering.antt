@@ -1,13 +1,17 @@
 -- What a turn brings, answered event by event.
-use Rattle.std.proofs.Common.{◌≡◌, ℕ, true, false, List, [], ◌∷◌, ◌++◌, Option, inl, inr, refl, sym, ap, subst, ◌∙◌, append_assoc}
+use Rattle.std.proofs.Common.{◌≡◌, ◌<◌, ◌≤◌, ◌⊎◌, ℕ, true, false, List, [], ◌∷◌, ◌++◌, length, Option, None, Some, inl, inr, refl, sym, ap, subst, ◌∙◌, append_assoc, arith}
 use Rattle.std.proofs.lemmas.List.{append-nil}
 use Rattle.gu_streams.specs.Written.{WrotePart}
 use Rattle.gu_streams.proofs.Writing.{wrote_none}
-use Rattle.gu_engine.specs.Running.{Answers, AnswersAll, AnswersEach, AnswersSome, Engine, brought_in, is_more}
-use Rattle.gu_engine.specs.Sends.{Gives, GivesPart, IsReady}
+use Rattle.gu_engine.specs.Backlogs.{AnswersPartOfIt, AnswersWhatIsLeft, TakesEvent, TakesLast}
+use Rattle.gu_engine.specs.Running.{Answers, AnswersSome, Engine, brought_in, is_more}
+use Rattle.gu_engine.specs.Sends.{Gives, GivesAnswers, GivesPart, IsReady}
+use Rattle.gu_engine.specs.Turns.{IsLeft}
+use Rattle.gu_engine.specs.declared.backlog.Backlog.{Backlog}
+use Rattle.gu_engine.specs.declared.backlog.Left.{Left}
 use Rattle.gu_engine.specs.declared.event.Event.{Event}
 use Rattle.gu_engine.specs.declared.event.Event.TheVariants.{Frame, Silence, More, Over}
-use Rattle.gu_engine.proofs.Holding.{wrote_after}
+use Rattle.gu_engine.proofs.Holding.{gives_then, wrote_after}
 use Rattle.gu_engine.proofs.InTurn.{each_one, each_then}
 
 -- what some events bring, and then others
@@ -47,80 +51,8 @@ module _ {S : Type 0} (engine : Engine S) (now : ℕ) where
     refl,
   )
 
-  -- nothing is answered where nothing is left to be done
-  none_done : (mid new : S) (events : List Event) (text : List ℕ) → engine.is_done mid ≡ true → AnswersEach (Answers engine now) mid events text new → (text ≡ []) × (new ≡ mid) × (events ≡ [])
-  none_done mid new [] text done each = (each.0, each.1, refl)
-  none_done mid new (event ∷ events) text done (first, rest, next, step, parts, later) = absurd (let e : true ≡ false = sym done ∙ step.goes_on in cc)
-
-  -- all of what was brought first, and then some of the others
-  pub some_then : (old mid new : S) (first others : List Event) (text more : List ℕ) → AnswersAll engine now old first text mid → AnswersSome engine now mid others more new → AnswersSome engine now old (first ++ others) (text ++ more) new
-  some_then old mid new first others text more all then =
-      elim all.all [
-        | inl (none, ready) ↦ record {
-          events = all.some.events ++ then.events;
-          others = then.others;
-          split =
-              ap (λ (es : List Event). es ++ others) (all.some.split ∙ ap (λ (es : List Event). brought_in all.some.events ++ es) none ∙ append-nil (brought_in all.some.events))
-              ∙ ap (λ (es : List Event). brought_in all.some.events ++ es) then.split
-              ∙ sym (append_assoc (brought_in all.some.events) (brought_in then.events) then.others)
-              ∙ ap (λ (es : List Event). es ++ then.others) (sym (brought-append all.some.events then.events));
-          answered = each_then (Answers engine now) old mid new all.some.events then.events text more all.some.answered then.answered;
-        }
-        | inr done ↦
-            let nothing = none_done mid new then.events more done then.answered in
-            record {
-              events = all.some.events;
-              others = all.some.others ++ others;
-              split = ap (λ (es : List Event). es ++ others) all.some.split ∙ append_assoc (brought_in all.some.events) all.some.others others;
-              answered =
-                  subst (λ (s : S). AnswersEach (Answers engine now) old all.some.events (text ++ more) s) (sym nothing.1)
-                  (subst (λ (t : List ℕ). AnswersEach (Answers engine now) old all.some.events t mid) (sym (append-nil text) ∙ ap (λ (t : List ℕ). text ++ t) (sym nothing.0)) all.some.answered);
-            }
-      ]
-
-  -- and all of them
-  pub all_then : (old mid new : S) (first others : List Event) (text more : List ℕ) → AnswersAll engine now old first text mid → AnswersAll engine now mid others more new → AnswersAll engine now old (first ++ others) (text ++ more) new
-  all_then old mid new first others text more all then =
-      elim then.all [
-        | inr done ↦ record { some = some_then old mid new first others text more all then.some; all = inr done }
-        | inl (none, ready) ↦
-            elim all.all [
-              | inl (nothing, before) ↦ record {
-                some = record {
-                  events = all.some.events ++ then.some.events;
-                  others = [];
-                  split =
-                      ap (λ (es : List Event). es ++ others) (all.some.split ∙ ap (λ (es : List Event). brought_in all.some.events ++ es) nothing ∙ append-nil (brought_in all.some.events))
-                      ∙ ap (λ (es : List Event). brought_in all.some.events ++ es) (then.some.split ∙ ap (λ (es : List Event). brought_in then.some.events ++ es) none)
-                      ∙ sym (append_assoc (brought_in all.some.events) (brought_in then.some.events) [])
-                      ∙ ap (λ (es : List Event). es ++ []) (sym (brought-append all.some.events then.some.events));
-                  answered = each_then (Answers engine now) old mid new all.some.events then.some.events text more all.some.answered then.some.answered;
-                };
-                all = inl (refl, ready);
-              }
-              | inr done ↦
-                  let same = none_done mid new then.some.events more done then.some.answered in
-                  record { some = some_then old mid new first others text more all then.some; all = inr (ap engine.is_done same.1 ∙ done) }
-            ]
-      ]
-
-  -- nothing was brought, and nothing is due
-  pub all_none : (old : S) → IsReady engine old → AnswersAll engine now old [] [] old
-  all_none old ready = record {
-    some = record { events = []; others = []; split = refl; answered = (refl, refl) };
-    all = elim ready [ inl ready ↦ inl (refl, ready) | inr done ↦ inr done ];
-  }
-
-  -- nothing is left to be done
-  pub all_done : (old : S) (brought : List Event) → engine.is_done old ≡ true → AnswersAll engine now old brought [] old
-  all_done old brought done = record { some = some_none old brought; all = inr done }
-
-  -- where nothing is left to be done it stays so
-  pub done_stays : (mid new : S) (brought : List Event) (text : List ℕ) → engine.is_done mid ≡ true → AnswersAll engine now mid brought text new → engine.is_done new ≡ true
-  done_stays mid new brought text done all = ap engine.is_done (none_done mid new all.some.events text done all.some.answered).1 ∙ done
-
   -- of nothing that was brought, nothing is left
-  none_other : (old new : S) (text : List ℕ) (some : AnswersSome engine now old [] text new) → (brought_in some.events ≡ []) × (some.others ≡ [])
+  pub none_other : (old new : S) (text : List ℕ) (some : AnswersSome engine now old [] text new) → (brought_in some.events ≡ []) × (some.others ≡ [])
   none_other old new text some = both_none (brought_in some.events) some.others some.split
 
   -- some of what was brought is answered, and the last of it is being followed by what is due
@@ -145,20 +77,6 @@ module _ {S : Type 0} (engine : Engine S) (now : ℕ) where
   pub due_more : (old mid new : S) (text more : List ℕ) → AnswersSome engine now old [] text mid → Answers engine now mid More more new → AnswersSome engine now old [] (text ++ more) new
   due_more old mid new text more first step = (some_due old mid new [] text more first (none_other old mid text first).1 (some_one mid new More more step)).0
 
-  -- all that is due
-  pub due_all : (old new : S) (text : List ℕ) → AnswersSome engine now old [] text new → IsReady engine new → AnswersAll engine now old [] text new
-  due_all old new text some ready = record { some = some; all = elim ready [ inl idle ↦ inl ((none_other old new text some).1, idle) | inr done ↦ inr done ] }
-
-  -- an event is answered, and then what is due
-  pub event_all : (old mid new : S) (event : Event) (text more : List ℕ) → is_more event ≡ false → Answers engine now old event text mid → AnswersAll engine now mid [] more new → AnswersAll engine now old (event ∷ []) (text ++ more) new
-  event_all old mid new event text more is step all =
-      let both = some_due old mid new (event ∷ []) text more (event_some old mid event text is step).0 (event_some old mid event text is step).1 all.some in
-      record { some = both.0; all = elim all.all [ inl ready ↦ inl (both.1, ready.1) | inr done ↦ inr done ] }
-
-  -- after all of it the engine is ready for more
-  pub ready_after : (old new : S) (brought : List Event) (text : List ℕ) → AnswersAll engine now old brought text new → IsReady engine new
-  ready_after old new brought text all = elim all.all [ inl some ↦ inl some.1 | inr done ↦ inr done ]
-
   -- nothing was written
   pub part_none : (old : S) (brought : List Event) (held : List ℕ) (o : Option (List ℕ)) → GivesPart engine now old brought held o o
   part_none old brought held o = record { text = []; new = old; answered = some_none old brought; wrote = wrote_none (held ++ []) o }
@@ -168,16 +86,6 @@ module _ {S : Type 0} (engine : Engine S) (now : ℕ) where
   part_one old new event text held mid o p step is part =
       record { text = text; new = new; answered = some_one old new event text step; wrote = subst (λ (t : List ℕ). WrotePart t o p) is part }
 
-  -- what was brought first is answered, and a prefix of the answers to the others was written
-  pub part_then : (old mid : S) (first others : List Event) (text held kept : List ℕ) (o p q : Option (List ℕ)) → AnswersAll engine now old first text mid → Gives text held kept o p
-      → GivesPart engine now mid others kept p q → GivesPart engine now old (first ++ others) held o q
-  part_then old mid first others text held kept o p q all gives part = record {
-    text = text ++ part.text;
-    new = part.new;
-    answered = some_then old mid part.new first others text part.text all part.answered;
-    wrote = wrote_after text part.text held kept o p q gives part.wrote;
-  }
-
   -- some of what was brought is some of more
   pub some_more : (old new : S) (brought more : List Event) (text : List ℕ) → AnswersSome engine now old brought text new → AnswersSome engine now old (brought ++ more) text new
   some_more old new brought more text some = record {
@@ -186,10 +94,6 @@ module _ {S : Type 0} (engine : Engine S) (now : ℕ) where
     split = ap (λ (es : List Event). es ++ more) some.split ∙ append_assoc (brought_in some.events) some.others more;
     answered = some.answered;
   }
-
-  -- where nothing is left to be done all of more is answered
-  pub all_more : (old new : S) (brought more : List Event) (text : List ℕ) → AnswersAll engine now old brought text new → engine.is_done new ≡ true → AnswersAll engine now old (brought ++ more) text new
-  all_more old new brought more text all done = record { some = some_more old new brought more text all.some; all = inr done }
 
   -- and so of what was written
   pub part_more : (old : S) (brought more : List Event) (held : List ℕ) (o p : Option (List ℕ)) → GivesPart engine now old brought held o p → GivesPart engine now old (brought ++ more) held o p
@@ -216,13 +120,147 @@ module _ {S : Type 0} (engine : Engine S) (now : ℕ) where
     wrote = wrote_after text part.text held kept o p q gives part.wrote;
   }
 
-  -- all was answered, and a prefix of what is held was written
-  pub part_all : (old new : S) (brought : List Event) (text held kept : List ℕ) (o p q : Option (List ℕ)) → AnswersAll engine now old brought text new → Gives text held kept o p → WrotePart kept p q → GivesPart engine now old brought held o q
-  part_all old new brought text held kept o p q all gives part = record {
+  -- what is due was given, or so much is held that some of it is left
+  pub due_gives : (old new : S) (text held kept : List ℕ) (o p : Option (List ℕ)) → AnswersSome engine now old [] text new → Gives text held kept o p → IsReady engine new ⊎ (65536 < length kept)
+      → GivesAnswers engine now old [] new held kept o p
+  due_gives old new text held kept o p some gives ends = record { text = text; some = some; none = (none_other old new text some).1; gave = gives; ends = ends }
+
+  -- an event is answered, and what is due then was given
+  pub event_gives : (old mid new : S) (event : Event) (text held kept next : List ℕ) (o p q : Option (List ℕ)) → is_more event ≡ false → Answers engine now old event text mid → Gives text held kept o p
+      → GivesAnswers engine now mid [] new kept next p q → GivesAnswers engine now old (event ∷ []) new held next o q
+  event_gives old mid new event text held kept next o p q is step gives due =
+      let one = event_some old mid event text is step in
+      let both = some_due old mid new (event ∷ []) text due.text one.0 one.1 due.some in
+      record { text = text ++ due.text; some = both.0; none = both.1; gave = gives_then text due.text held kept next o p q gives due.gave; ends = due.ends }
+
+  -- what is due from before comes first
+  pub some_begin : (old mid : S) (brought : List Event) (text : List ℕ) → AnswersSome engine now old [] text mid → (some : AnswersSome engine now old brought text mid) × (some.others ≡ brought)
+  some_begin old mid brought text due =
+      (record { events = due.events; others = brought; split = ap (λ (es : List Event). es ++ brought) (sym (none_other old mid text due).0); answered = due.answered }, refl)
+
+  -- and then some of what wasn't answered yet
+  some_next : (old mid new : S) (brought next others : List Event) (text more : List ℕ) (first : AnswersSome engine now old brought text mid) → first.others ≡ next ++ others
+      → (then : AnswersSome engine now mid next more new) → (some : AnswersSome engine now old brought (text ++ more) new) × (some.others ≡ then.others ++ others)
+  some_next old mid new brought next others text more first left then = (
+    record {
+      events = first.events ++ then.events;
+      others = then.others ++ others;
+      split =
+          first.split
+          ∙ ap (λ (es : List Event). brought_in first.events ++ es)
+          (left ∙ ap (λ (es : List Event). es ++ others) then.split ∙ append_assoc (brought_in then.events) then.others others)
+          ∙ sym (append_assoc (brought_in first.events) (brought_in then.events) (then.others ++ others))
+          ∙ ap (λ (es : List Event). es ++ (then.others ++ others)) (sym (brought-append first.events then.events));
+      answered = each_then (Answers engine now) old mid new first.events then.events text more first.answered then.answered;
+    },
+    refl,
+  )
+
+  -- all of what comes next
+  pub some_and_next : (old mid new : S) (brought next others : List Event) (text more : List ℕ) (first : AnswersSome engine now old brought text mid) → first.others ≡ next ++ others
+      → (then : AnswersSome engine now mid next more new) → then.others ≡ [] → (some : AnswersSome engine now old brought (text ++ more) new) × (some.others ≡ others)
+  some_and_next old mid new brought next others text more first left then none =
+      let both = some_next old mid new brought next others text more first left then in
+      (both.0, both.1 ∙ ap (λ (es : List Event). es ++ others) none)
+
+  -- or a prefix of the answers to what comes next was written
+  pub part_next : (old mid : S) (brought next others : List Event) (text held kept : List ℕ) (o p q : Option (List ℕ)) (first : AnswersSome engine now old brought text mid)
+      → first.others ≡ next ++ others → Gives text held kept o p → GivesPart engine now mid next kept p q → GivesPart engine now old brought held o q
+  part_next old mid brought next others text held kept o p q first left gives part = record {
+    text = text ++ part.text;
+    new = part.new;
+    answered = (some_next old mid part.new brought next others text part.text first left part.answered).0;
+    wrote = wrote_after text part.text held kept o p q gives part.wrote;
+  }
+
+  -- some of what was brought is answered, and a prefix of what is held was written
+  pub part_some : (old mid : S) (brought : List Event) (text held kept : List ℕ) (o p q : Option (List ℕ)) → AnswersSome engine now old brought text mid → Gives text held kept o p → WrotePart kept p q
+      → GivesPart engine now old brought held o q
+  part_some old mid brought text held kept o p q some gives part = record {
     text = text;
-    new = new;
-    answered = all.some;
+    new = mid;
+    answered = some;
     wrote =
         subst (λ (t : List ℕ). WrotePart (held ++ t) o q) (append-nil text)
         (wrote_after text [] held kept o p q gives (subst (λ (t : List ℕ). WrotePart t p q) (sym (append-nil kept)) part));
   }
+
+-- whatever was left, the first of it is answered so far, its answers were given, and the others are left
+abbrev pub SoFar : {S O : Type 0} → Engine S → ℕ → S → S → Backlog O → Backlog O → Option (List ℕ) → Option (List ℕ) → Type 0
+SoFar engine now old new before after o p = (kept : List ℕ) (brought : List Event) → IsLeft before.left before.intake kept (Some brought)
+    → (text : List ℕ) × (some : AnswersSome engine now old brought text new) × IsLeft after.left after.intake kept (Some some.others)
+    × Gives text before.held.bytes.items after.held.bytes.items o p
+
+-- nothing is due, where so little is held and something is left to be done
+pub idle_now : {S : Type 0} (engine : Engine S) (state : S) (held : List ℕ) → IsReady engine state ⊎ (65536 < length held) → engine.is_done state ≡ false → length held ≤ 65536 → engine.is_due state ≡ false
+idle_now engine state held (inl (inl idle)) goes_on few = idle
+idle_now engine state held (inl (inr done)) goes_on few = absurd (let e : true ≡ false = sym done ∙ goes_on in cc)
+idle_now engine state held (inr full) goes_on few = absurd (omega arith)
+
+module _ {S O : Type 0} (engine : Engine S) (now : ℕ) (old : S) (before : Backlog O) (o : Option (List ℕ)) where
+  -- at first only what is due was given
+  pub so_far_begins : (mid : S) (after : Backlog O) (p : Option (List ℕ)) → GivesAnswers engine now old [] mid before.held.bytes.items after.held.bytes.items o p → after.left ≡ before.left
+      → after.intake ≡ before.intake → SoFar engine now old mid before after o p
+  so_far_begins mid after p due same_left same_intake kept brought is =
+      let first = some_begin engine now old mid brought due.text due.some in (
+        due.text,
+        first.0,
+        subst (λ (l : Left). IsLeft l after.intake kept (Some first.0.others)) (sym same_left)
+            (subst (λ (bytes : List ℕ). IsLeft before.left bytes kept (Some first.0.others)) (sym same_intake) (subst (λ (es : List Event). IsLeft before.left before.intake kept (Some es)) (sym first.1) is)),
+        due.gave,
+      )
+
+  -- one event more
+  pub so_far_more : (mid new : S) (run taken after : Backlog O) (event : Event) (p q : Option (List ℕ)) → SoFar engine now old mid before run o p → TakesEvent run event taken
+      → GivesAnswers engine now mid (event ∷ []) new run.held.bytes.items after.held.bytes.items p q → after.left ≡ taken.left → after.intake ≡ taken.intake → SoFar engine now old new before after o q
+  so_far_more mid new run taken after event p q so_far takes step same_left same_intake kept brought is =
+      let (text, some, lies, gives) = so_far kept brought is in
+      let (others, split, lies_on) = takes kept some.others lies in
+      let both = some_and_next engine now old mid new brought (event ∷ []) others text step.text some split step.some step.none in (
+        text ++ step.text,
+        both.0,
+        subst (λ (l : Left). IsLeft l after.intake kept (Some both.0.others)) (sym same_left)
+            (subst (λ (bytes : List ℕ). IsLeft taken.left bytes kept (Some both.0.others)) (sym same_intake) (subst (λ (es : List Event). IsLeft taken.left taken.intake kept (Some es)) (sym both.1) lies_on)),
+        gives_then text step.text before.held.bytes.items run.held.bytes.items after.held.bytes.items o p q gives step.gave,
+      )
+
+  -- an event can't be taken, and nothing more was written
+  pub so_far_fails : (mid : S) (run : Backlog O) (p : Option (List ℕ)) → SoFar engine now old mid before run o p → AnswersPartOfIt engine now old before o p
+  so_far_fails mid run p so_far kept brought is =
+      let (text, some, lies, gives) = so_far kept brought is in
+      part_some engine now old mid brought text before.held.bytes.items run.held.bytes.items o p p some gives (wrote_none run.held.bytes.items p)
+
+  -- a prefix of the answers to one event more was written
+  pub so_far_part : (mid : S) (run taken : Backlog O) (event : Event) (p q : Option (List ℕ)) → SoFar engine now old mid before run o p → TakesEvent run event taken
+      → GivesPart engine now mid (event ∷ []) run.held.bytes.items p q → AnswersPartOfIt engine now old before o q
+  so_far_part mid run taken event p q so_far takes part kept brought is =
+      let (text, some, lies, gives) = so_far kept brought is in
+      let (others, split, lies_on) = takes kept some.others lies in
+      part_next engine now old mid brought (event ∷ []) others text before.held.bytes.items run.held.bytes.items o p q some split gives part
+
+  -- no event is left, and nothing is due
+  pub so_far_ends : (mid : S) (run after : Backlog O) (p : Option (List ℕ)) → SoFar engine now old mid before run o p → TakesLast run after → engine.is_due mid ≡ false
+      → after.held.bytes.items ≡ run.held.bytes.items → AnswersWhatIsLeft engine now old before mid after o p
+  so_far_ends mid run after p so_far takes idle same kept brought is =
+      let (text, some, lies, gives) = so_far kept brought is in
+      let (none, lies_on) = takes kept some.others lies in
+      record {
+        text = text;
+        some = some;
+        gave = subst (λ (held : List ℕ). Gives text before.held.bytes.items held o p) (sym same) gives;
+        left = None;
+        left_is = lies_on;
+        leaves = (none, idle);
+        cut = inl refl;
+      }
+
+  -- the others are left, since so much is held or nothing is left to be done
+  pub so_far_cut : (mid : S) (run : Backlog O) (p : Option (List ℕ)) → SoFar engine now old mid before run o p → (engine.is_done mid ≡ true) ⊎ (65536 < length run.held.bytes.items)
+      → AnswersWhatIsLeft engine now old before mid run o p
+  so_far_cut mid run p so_far cut kept brought is =
+      let (text, some, lies, gives) = so_far kept brought is in
+      record { text = text; some = some; gave = gives; left = Some some.others; left_is = lies; leaves = refl; cut = inr cut }
+
+  -- a prefix of what is due from before was written
+  pub so_far_none : (p : Option (List ℕ)) → GivesPart engine now old [] before.held.bytes.items o p → AnswersPartOfIt engine now old before o p
+  so_far_none p part kept brought is = part_more engine now old [] brought before.held.bytes.items o p part

@@ -1,44 +1,67 @@
 -- The frames that bytes bring, as they are taken one after another.
-use Rattle.std.proofs.Common.{◌≡◌, ℕ, List, [], ◌∷◌, ◌++◌, map, refl, sym, subst}
-use Rattle.std.proofs.lemmas.List.{append-nil, map-append}
-use Rattle.gu_fix.specs.Stream.{AreFrames, IsFirstFrame, IsOpen, LeadsOn}
-use Rattle.gu_fix.proofs.NextFrames.{leads_on_first, leads_on_more, takes_exist}
-use Rattle.gu_fix.proofs.StreamLaws.{given_from}
-use Rattle.gu_engine.specs.Sends.{BringsFrames}
-use Rattle.gu_engine.specs.declared.event.Event.{Event}
-use Rattle.gu_engine.specs.declared.event.Event.TheVariants.{Frame}
+use Rattle.std.proofs.Common.{◌≡◌, ℕ, List, [], ◌∷◌, ◌++◌, sym, subst, append_assoc}
+use Rattle.gu_fix.specs.Stream.{AreFrames, IsFirstFrame, LeadsOn, TakesPiece}
+use Rattle.gu_fix.proofs.NextFrames.{leads_on_first, takes_exist}
+use Rattle.gu_fix.proofs.StreamLaws.{frames_exist, leads_on_start, none_at_start, one_list}
 
--- frames as events
-abbrev pub events : List (List ℕ) → List Event
-events frames = map Frame frames
+-- a list that begins with an element, without it
+same_rest : (x y : List ℕ) (xs ys : List (List ℕ)) → x ∷ xs ≡ y ∷ ys → (x ≡ y) × (xs ≡ ys)
+same_rest x y xs ys same = (cc, cc)
 
--- one frame more is taken
-pub one_taken : (bytes left rest : List ℕ) (taken : List (List ℕ)) (frame : List ℕ) → LeadsOn bytes taken left → IsFirstFrame left frame rest → LeadsOn bytes (taken ++ frame ∷ []) rest
-one_taken bytes left rest taken frame leads first = leads_on_more bytes left rest taken (frame ∷ []) leads (leads_on_first left frame rest first)
+-- no bytes bring no frames
+pub takes_nothing : TakesPiece [] [] [] []
+takes_nothing = record { given_are = none_at_start; leads_on = leads_on_start [] }
 
--- there is none yet, and what is kept leads on
-pub all_brought : (bytes left kept : List ℕ) (taken : List (List ℕ)) → LeadsOn bytes taken left → LeadsOn left [] kept → IsOpen kept → (brings : BringsFrames bytes (events taken)) × (brings.kept ≡ kept)
-all_brought bytes left kept taken leads further is =
-    let all : LeadsOn bytes taken kept = subst (λ (fs : List (List ℕ)). LeadsOn bytes fs kept) (append-nil taken) (leads_on_more bytes left kept taken [] leads further) in
-    (record { frames = taken; kept = kept; takes = record { given_are = given_from bytes taken kept all is; leads_on = all }; brought_is = refl }, refl)
-
--- those that weren't taken are brought too
-pub others_brought : (bytes left : List ℕ) (taken : List (List ℕ)) → LeadsOn bytes taken left → (others : List Event) × BringsFrames bytes (events taken ++ others)
-others_brought bytes left taken leads =
-    let later = takes_exist left in
-    let given : AreFrames (bytes ++ []) (taken ++ later.0) = leads [] later.0 (subst (λ (t : List ℕ). AreFrames t later.0) (sym (append-nil left)) later.2.given_are) in (
-      events later.0,
+-- of bytes that bring frames, the first is taken
+pub takes_first : (bytes rest kept frame : List ℕ) (frames : List (List ℕ)) → TakesPiece [] bytes frames kept → IsFirstFrame bytes frame rest
+    → (later : List (List ℕ)) × (frames ≡ frame ∷ later) × TakesPiece [] rest later kept
+takes_first bytes rest kept frame frames takes first =
+    let others = frames_exist rest in
+    let same : frames ≡ frame ∷ others.0 = one_list frames (frame ∷ others.0) bytes takes.given_are (rest, first, others.1) in (
+      others.0,
+      same,
       record {
-        frames = taken ++ later.0;
-        kept = later.1;
-        takes = record {
-          given_are = subst (λ (t : List ℕ). AreFrames t (taken ++ later.0)) (append-nil bytes) given;
-          leads_on = leads_on_more bytes left later.1 taken later.0 leads later.2.leads_on;
-        };
-        brought_is = sym (map-append Frame taken later.0);
+        given_are = others.1;
+        leads_on = λ more later are.
+            (let then = frames_exist (rest ++ more) in
+            let all : frame ∷ then.0 ≡ frame ∷ (others.0 ++ later) =
+            one_list (frame ∷ then.0) (frame ∷ (others.0 ++ later)) (bytes ++ more) (leads_on_first bytes frame rest first more then.0 then.1)
+            (subst (λ (fs : List (List ℕ)). AreFrames (bytes ++ more) (fs ++ later)) same (takes.leads_on more later are)) in
+            subst (AreFrames (rest ++ more)) (same_rest frame frame then.0 (others.0 ++ later) all).1 then.1);
       },
     )
 
--- bytes of which nothing was taken yet
-pub bytes_bring : (bytes : List ℕ) → (brought : List Event) × BringsFrames bytes brought
-bytes_bring bytes = let all = takes_exist bytes in (events all.0, record { frames = all.0; kept = all.1; takes = all.2; brought_is = refl })
+-- bytes that bring no frame, and those that lead on from them
+pub takes_none : (bytes rest kept : List ℕ) (frames : List (List ℕ)) → TakesPiece [] bytes frames kept → AreFrames bytes [] → AreFrames rest [] → LeadsOn bytes [] rest
+    → (frames ≡ []) × TakesPiece [] rest [] kept
+takes_none bytes rest kept frames takes none are leads =
+    let nothing : frames ≡ [] = one_list frames [] bytes takes.given_are none in (
+      nothing,
+      record {
+        given_are = are;
+        leads_on = λ more later h.
+            (let then = frames_exist (rest ++ more) in
+            let all : then.0 ≡ later =
+            one_list then.0 later (bytes ++ more) (leads more then.0 then.1) (subst (λ (fs : List (List ℕ)). AreFrames (bytes ++ more) (fs ++ later)) nothing (takes.leads_on more later h)) in
+            subst (AreFrames (rest ++ more)) all then.1);
+      },
+    )
+
+-- a piece after bytes that bring no frame is a piece after what is kept of them
+pub takes_after : (bytes kept piece next : List ℕ) (frames : List (List ℕ)) → TakesPiece [] bytes [] kept → TakesPiece [] (bytes ++ piece) frames next → TakesPiece kept piece frames next
+takes_after bytes kept piece next frames before takes =
+    let given = frames_exist (kept ++ piece) in
+    let same : given.0 ≡ frames = one_list given.0 frames (bytes ++ piece) (before.leads_on piece given.0 given.1) takes.given_are in
+    record {
+      given_are = subst (AreFrames (kept ++ piece)) same given.1;
+      leads_on = λ more later h.
+          (let then = frames_exist ((kept ++ piece) ++ more) in
+          let long : AreFrames (bytes ++ (piece ++ more)) then.0 = before.leads_on (piece ++ more) then.0 (subst (λ (t : List ℕ). AreFrames t then.0) (append_assoc kept piece more) then.1) in
+          let all : then.0 ≡ frames ++ later =
+          one_list then.0 (frames ++ later) ((bytes ++ piece) ++ more) (subst (λ (t : List ℕ). AreFrames t then.0) (sym (append_assoc bytes piece more)) long) (takes.leads_on more later h) in
+          subst (AreFrames ((kept ++ piece) ++ more)) all then.1);
+    }
+
+-- a piece after bytes brings some frames
+pub brings_some : (bytes : List ℕ) → (frames : List (List ℕ)) × (kept : List ℕ) × TakesPiece [] bytes frames kept
+brings_some bytes = takes_exist bytes

@@ -1,23 +1,15 @@
 -- Texts of which a part is held: given one after another, and written in the end or in part.
-use Rattle.std.proofs.Common.{◌≡◌, ℕ, List, [], ◌++◌, Option, refl, sym, ap, subst, ◌∙◌, append_assoc}
+use Rattle.std.proofs.Common.{◌≡◌, ◌≤◌, ℕ, List, [], ◌++◌, length, Option, sym, ap, subst, ◌∙◌, append_assoc, arith}
 use Rattle.std.specs.Io.KnownBytes.{Appends}
 use Rattle.std.proofs.KnownBytes.{Appends-trans, Appends-nil}
-use Rattle.std.proofs.lemmas.List.{append-nil}
-use Rattle.gu_streams.specs.Written.{WrotePart}
+use Rattle.std.proofs.lemmas.List.{append-nil, length-append}
+use Rattle.gu_streams.specs.Written.{LetsGo, WrotePart}
 use Rattle.gu_streams.proofs.Writing.{wrote_then}
 use Rattle.gu_engine.specs.Sends.{Gives}
 
 -- nothing was given or written
 pub gives_nothing : (held : List ℕ) (o : Option (List ℕ)) → Gives [] held held o o
 gives_nothing held o = record { sent = []; appended = Appends-nil o; parts = append-nil held }
-
--- all that was held was written
-pub gives_all : (held : List ℕ) (o p : Option (List ℕ)) → Appends o p held → Gives [] held [] o p
-gives_all held o p sent = record { sent = held; appended = sent; parts = refl }
-
--- a text is held, and then what is held is written or not
-pub gives_held : (text held mid new : List ℕ) (o p : Option (List ℕ)) → mid ≡ held ++ text → Gives [] mid new o p → Gives text held new o p
-gives_held text held mid new o p is gives = record { sent = gives.sent; appended = gives.appended; parts = sym is ∙ sym (append-nil mid) ∙ gives.parts }
 
 -- one text after another
 pub gives_then : (text more held mid new : List ℕ) (o p q : Option (List ℕ)) → Gives text held mid o p → Gives more mid new p q → Gives (text ++ more) held new o q
@@ -32,13 +24,17 @@ gives_then text more held mid new o p q first second = record {
       ∙ sym (append_assoc first.sent second.sent new);
 }
 
+-- a text is given, and then what is held goes out
+pub gives_and_goes : (text held mid new : List ℕ) (o p q : Option (List ℕ)) → Gives text held mid o p → Gives [] mid new p q → Gives text held new o q
+gives_and_goes text held mid new o p q first second = subst (λ (t : List ℕ). Gives t held new o q) (append-nil text) (gives_then text [] held mid new o p q first second)
+
+-- no more is held where nothing is given
+pub fewer_held : (held kept : List ℕ) (o p : Option (List ℕ)) → Gives [] held kept o p → length held ≤ 65536 → length kept ≤ 65536
+fewer_held held kept o p gives few = omega (arith, few, ap length gives.parts, length-append held [], length-append gives.sent kept)
+
 -- a text, and then a prefix of what is held and of one more
 pub wrote_after : (text more held mid : List ℕ) (o p q : Option (List ℕ)) → Gives text held mid o p → WrotePart (mid ++ more) p q → WrotePart (held ++ (text ++ more)) o q
 wrote_after text more held mid o p q first part =
     let parts : first.sent ++ (mid ++ more) ≡ held ++ (text ++ more) =
     sym (append_assoc first.sent mid more) ∙ ap (λ (t : List ℕ). t ++ more) (sym first.parts) ∙ append_assoc held text more in
     subst (λ (t : List ℕ). WrotePart t o q) parts (wrote_then first.sent (mid ++ more) o p q first.appended part)
-
--- a text was given, and then all that is held was written
-pub wrote_held : (text old held : List ℕ) (o p q : Option (List ℕ)) → Gives text old held o p → Appends p q held → Appends o q (old ++ text)
-wrote_held text old held o p q gives sent = subst (Appends o q) (sym gives.parts) (Appends-trans o p q gives.sent held gives.appended sent)

@@ -3,5 +3,7 @@ pub mod Exchanging
 pub mod Frames
 pub mod Holding
 pub mod InTurn
+pub mod Leaving
 pub mod Servings
+pub mod Shares
 pub mod TurnParts

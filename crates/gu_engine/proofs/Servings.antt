@@ -1,59 +1,35 @@
--- The turns of an engine.
-use Rattle.std.proofs.Common.{◌≡◌, ◌⊎◌, ◌<◌, ◌≤◌, ◌+◌, ℕ, Bool, true, false, List, [], ◌∷◌, ◌++◌, length, take, Option, None, Some, inl, inr, refl, sym, ap, subst, ◌∙◌, arith}
+-- The turns of an engine that are never cut, one after another.
+use Rattle.std.proofs.Common.{◌≡◌, ◌⊎◌, ◌<◌, ◌+◌, ℕ, true, false, List, [], ◌∷◌, ◌++◌, length, Option, None, Some, inl, inr, refl, sym, ap, subst, ◌∙◌, arith}
 use Rattle.std.specs.List.{concat}
-use Rattle.std.specs.Io.KnownBytes.{Consumes, Appends, Keeps, IsAtEnd}
-use Rattle.std.proofs.KnownBytes.{Appends-trans, Appends-nil, Consumes-trans, Consumes-nil, Consumes-kept}
-use Rattle.std.proofs.lemmas.List.{append-nil, length-take, map-append}
+use Rattle.std.specs.Option.{option_to_list}
+use Rattle.std.specs.Io.KnownBytes.{Consumes, Appends, Keeps}
+use Rattle.std.proofs.KnownBytes.{Consumes-trans, Consumes-nil, Consumes-kept}
+use Rattle.std.proofs.lemmas.List.{append-nil, map-append}
 use Rattle.std.proofs.lemmas.List.Folds.{concat-append}
-use Rattle.gu_fix.specs.Stream.{AreFrames, LeadsOn}
-use Rattle.gu_streams.specs.Reads.{Stopped, Took, Waited, bytes_left, waits_left}
-use Rattle.gu_streams.specs.Streams.{streams_of}
+use Rattle.gu_streams.specs.Reads.{HasStopped, Stopped, Took, bytes_left, reads_left, waits_left}
+use Rattle.gu_streams.specs.Streams.{Streams, streams_of}
+use Rattle.gu_streams.specs.Written.{WrotePart}
 use Rattle.gu_streams.specs.declared.counted_reads.CountedReads.{CountedReads}
-use Rattle.gu_streams.proofs.Writing.{wrote_all, wrote_then}
-use Rattle.gu_engine.specs.Running.{AnswersAll, AnswersPiece, AnswersPieces, Between, Brings, Engine, HasRead, HaveBytes, Piece, Served, ServedInPart, ServedSoFar, turns_of, wait_of, waits_in}
-use Rattle.gu_engine.specs.Sends.{BringsFrames, GivesPart}
+use Rattle.gu_streams.proofs.Writing.{wrote_all}
+use Rattle.gu_engine.specs.Running.{AnswersPart, AnswersPiece, AnswersPieces, Engine, FailsToBegin, HasRead, HaveBytes, Piece, Served, ServedInPart, ServedSoFar, turns_of, wait_of, waits_in}
+use Rattle.gu_engine.specs.Sends.{Gives}
+use Rattle.gu_engine.specs.Turned.{Ends, IsTurned, Rests, Stops, Turns, TurnsInPart, Work, is_last}
+use Rattle.gu_engine.specs.Turns.{AnswersTurn, AnswersTurnPart, IsEmpty, IsLeft, IsPause, Leaves, Pause, Reads, ReadsNoMore, between_of}
+use Rattle.gu_engine.specs.declared.backlog.Backlog.{Backlog}
+use Rattle.gu_engine.specs.declared.backlog.Left.{Left}
+use Rattle.gu_engine.specs.declared.backlog.Left.TheVariants as left
 use Rattle.gu_engine.specs.declared.event.Event.{Event}
-use Rattle.gu_engine.specs.declared.event.Event.TheVariants.{Over}
+use Rattle.gu_engine.specs.declared.turned.Turned.{Turned}
+use Rattle.gu_engine.specs.declared.turned.Turned.TheVariants as turned
+use Rattle.gu_engine.proofs.Frames.{takes_nothing}
+use Rattle.gu_engine.proofs.Holding.{gives_and_goes, gives_nothing, gives_then, wrote_after}
 use Rattle.gu_engine.proofs.InTurn.{each_more}
-
--- a state, and the bytes that make no frame yet
-abbrev pub at : {S : Type 0} → S → List ℕ → Between S
-at state kept = record { state = state; kept = kept }
 
 -- where known bytes stay, none were read
 consumed_kept : (i j : Option (List ℕ)) → Keeps i j → Consumes i j []
 consumed_kept None j keeps = tt
 consumed_kept (Some xs) None keeps = keeps
 consumed_kept (Some xs) (Some ys) keeps = sym keeps
-
--- a read of some bytes gave some
-pub taken_some : (count : ℕ) (buffer : List ℕ) → 0 < count → count ≤ length buffer → 0 < length (take count buffer)
-taken_some count buffer some within = simp length-take (omega arith)
-
--- and no more than were asked for
-pub taken_most : (count : ℕ) (buffer : List ℕ) → count ≤ 4096 → length (take count buffer) ≤ 4096
-taken_most count buffer most = simp length-take (omega arith)
-
--- a turn with bytes is no wait
-no_wait : (bytes : List ℕ) → 0 < length bytes → wait_of bytes ≡ 0
-no_wait [] some = absurd (omega arith)
-no_wait (byte ∷ bytes) some = refl
-
--- what a turn with bytes brings
-pub brings_frames : (kept bytes all : List ℕ) (brought : List Event) (brings : BringsFrames all brought) → all ≡ kept ++ bytes → 0 < length bytes → Brings kept bytes (brought ++ Over ∷ []) brings.kept
-brings_frames kept [] all brought brings is some = absurd (omega arith)
-brings_frames kept (byte ∷ bytes) all brought brings is some = (
-  brings.frames,
-  record {
-    given_are = subst (λ (t : List ℕ). AreFrames t brings.frames) is brings.takes.given_are;
-    leads_on = subst (λ (t : List ℕ). LeadsOn t brings.frames brings.kept) is brings.takes.leads_on;
-  },
-  ap (λ (es : List Event). es ++ Over ∷ []) brings.brought_is,
-)
-
--- all that is kept is left, where something is left to be done
-pub still_kept : (kept left : List ℕ) (done : Bool) → done ≡ false → (kept ≡ left) ⊎ (done ≡ true) → kept ≡ left
-still_kept kept left done more is = elim is [ inl same ↦ same | inr all ↦ absurd (let e : true ≡ false = sym all ∙ more in cc) ]
 
 -- the bytes and the waits of one turn more
 concat_more : (turns : List (List ℕ)) (bytes : List ℕ) → concat turns ++ bytes ≡ concat (turns ++ bytes ∷ [])
@@ -63,190 +39,310 @@ waits_more : (turns : List (List ℕ)) (bytes : List ℕ) → waits_in turns + w
 waits_more [] bytes = omega arith
 waits_more (turn ∷ turns) bytes = omega (arith, waits_more turns bytes)
 
+-- all that was given was written, where nothing is held
+pub sent_all : (text held : List ℕ) (o p : Option (List ℕ)) → Gives text [] held o p → held ≡ [] → Appends o p text
+sent_all text held o p gives none = subst (Appends o p) (sym (gives.parts ∙ ap (λ (t : List ℕ). gives.sent ++ t) none ∙ append-nil gives.sent)) gives.appended
+
+-- a turn that leaves nothing, or after which nothing is left to be done, answers the piece that it reads
+module _ {S : Type 0} (engine : Engine S) where
+  left_as : (state : S) (others : List Event) (left : Option (List Event)) → Leaves engine state others left → (left ≡ None) ⊎ (engine.is_done state ≡ true)
+      → ((others ≡ []) × (engine.is_due state ≡ false)) ⊎ (engine.is_done state ≡ true)
+  left_as state others left leaves (inl none) = inl (subst (Leaves engine state others) none leaves)
+  left_as state others left leaves (inr done) = inr done
+
+  piece_read : (old new : Pause S) (read : Option (List ℕ)) (moment : ℕ) (text : List ℕ) → AnswersTurn engine old (record { read = read; moment = moment }) text new → old.left ≡ None
+      → (new.left ≡ None) ⊎ (engine.is_done new.state ≡ true)
+      → (bytes : List ℕ) × (read ≡ Some bytes) × AnswersPiece engine (between_of old) (record { bytes = bytes; moment = moment }) text (between_of new)
+  piece_read old new None moment text answers none ends = absurd (let e : Some answers.brought ≡ None = sym answers.has.0 ∙ none in cc)
+  piece_read old new (Some bytes) moment text answers none ends = (
+    bytes,
+    refl,
+    record {
+      goes_on = answers.goes_on;
+      most = answers.has.1;
+      begun = answers.begun;
+      begins = answers.begins;
+      brought = answers.brought;
+      brings = answers.has.2;
+      answered = record { some = answers.answered; all = left_as new.state answers.answered.others new.left answers.leaves ends };
+    },
+  )
+
+  -- the law, of turns that read and leave nothing
+  pub uncut_turn : (old new : Pause S) (bytes : List ℕ) (moment : ℕ) (text : List ℕ) → AnswersTurn engine old (record { read = Some bytes; moment = moment }) text new → new.left ≡ None
+      → AnswersPiece engine (between_of old) (record { bytes = bytes; moment = moment }) text (between_of new)
+  uncut_turn old new bytes moment text answers none = record {
+    goes_on = answers.goes_on;
+    most = answers.has.1;
+    begun = answers.begun;
+    begins = answers.begins;
+    brought = answers.brought;
+    brings = answers.has.2;
+    answered = record { some = answers.answered; all = left_as new.state answers.answered.others new.left answers.leaves (inl none) };
+  }
+
+  -- the first of what a turn reads is answered
+  part_read : (old : Pause S) (read : Option (List ℕ)) (text : List ℕ) → AnswersTurnPart engine old read text → old.left ≡ None → AnswersPart engine (between_of old) read text
+  part_read old None text part none = absurd (let e : Some part.brought ≡ None = sym part.has.0 ∙ none in cc)
+  part_read old (Some bytes) text part none = record {
+    bytes = bytes;
+    further_is = refl;
+    now = part.now;
+    begun = part.begun;
+    begins = part.begins;
+    brought = part.brought;
+    kept = part.kept;
+    brings = part.has.2;
+    new = part.new;
+    answered = part.answered;
+  }
+
+-- before the first turn
+abbrev pub first_pause : {S : Type 0} → S → Pause S
+first_pause state = record { state = state; kept = []; left = None }
+
+pub is_first : {S O : Type 0} (state : S) (backlog : Backlog O) → IsEmpty backlog → IsPause state backlog (first_pause state)
+is_first state backlog empty = record {
+  state_is = refl;
+  left_is =
+      subst (λ (l : Left). IsLeft l backlog.intake [] None) (sym empty.none_left)
+      (subst (λ (bytes : List ℕ). IsLeft left.Nothing bytes [] None) (sym empty.no_bytes) (refl, takes_nothing));
+}
+
 -- what is read and written, over a reader and a writer
 module _ {S R W : Type 0} (remaining : R → Option (List ℕ)) (contents : W → Option (List ℕ)) (engine : Engine S) where
   -- a turn gave these bytes
-  pub record Gave (old new : CountedReads R) (bytes : List ℕ) : Type 0 where
-    pub consumed : Consumes (bytes_left remaining old) (bytes_left remaining new) bytes
-    pub waits : wait_of bytes + waits_left new ≡ waits_left old
+  record Gave (old new : CountedReads R) (bytes : List ℕ) : Type 0 where
+    consumed : Consumes (bytes_left remaining old) (bytes_left remaining new) bytes
+    waits : wait_of bytes + waits_left new ≡ waits_left old
+    fewer : reads_left new + waits_left new < reads_left old + waits_left old
 
-  pub took : (old new : CountedReads R) (buffer : List ℕ) (count : ℕ) → Took remaining old new buffer count → 0 < count → Gave old new (take count buffer)
-  took old new buffer count turn some =
-      record { consumed = turn.consumed; waits = omega (arith, turn.waits, no_wait (take count buffer) (taken_some count buffer some turn.within)) }
+  gave_bytes : (old new : CountedReads R) (bytes : List ℕ) → Reads remaining old new (Some bytes) → Gave old new bytes
+  gave_bytes old new [] waited =
+      record { consumed = consumed_kept (bytes_left remaining old) (bytes_left remaining new) waited.kept; waits = omega (arith, waited.waits); fewer = omega (arith, waited.waits, waited.counted) }
+  gave_bytes old new (byte ∷ bytes) (buffer, count, took, is) = record {
+    consumed = subst (Consumes (bytes_left remaining old) (bytes_left remaining new)) (sym is) took.consumed;
+    waits = omega (arith, took.waits);
+    fewer = omega (arith, took.waits, took.counted);
+  }
 
-  pub waited : (old new : CountedReads R) → Waited remaining old new → Gave old new []
-  waited old new turn = record { consumed = consumed_kept (bytes_left remaining old) (bytes_left remaining new) turn.kept; waits = omega (arith, turn.waits) }
-
-  -- So far what was read is answered, and the answers were written.
-  pub record Serving (old new : S) (kept : List ℕ) (reads_old reads_new : CountedReads R) (writer_old writer_new : W) : Type 0 where
+  -- So far what was read is answered, and the answers were written, but for those that are held.
+  pub record Serving (old : S) (pause : Pause S) (held : List ℕ) (reads_old reads_new : CountedReads R) (writer_old writer_new : W) : Type 0 where
     pub pieces : List Piece
     pub text : List ℕ
     pub read : HasRead (streams_of remaining contents reads_old reads_new writer_old writer_new) (turns_of pieces)
-    pub answered : AnswersPieces engine old pieces text (at new kept)
-    pub appended : Appends (contents writer_old) (contents writer_new) text
+    pub answered : AnswersPieces engine old pieces text (between_of pause)
+    pub gave : Gives text [] held (contents writer_old) (contents writer_new)
 
-  pub serving_none : (old : S) (kept : List ℕ) (r : CountedReads R) (w : W) → kept ≡ [] → Serving old old kept r r w w
-  serving_none old kept r w none = record {
+  pub serving_none : (old : S) (held : List ℕ) (r : CountedReads R) (w : W) → held ≡ [] → Serving old (first_pause old) held r r w w
+  serving_none old held r w none = record {
     pieces = [];
     text = [];
     read = record { consumed = Consumes-nil (bytes_left remaining r); waited = omega arith };
-    answered = (refl, ap (at old) none);
-    appended = Appends-nil (contents w);
+    answered = (refl, refl);
+    gave = subst (λ (t : List ℕ). Gives [] [] t (contents w) (contents w)) (sym none) (gives_nothing [] (contents w));
   }
-
-  -- what is known of a turn: something was left to be done, and it brought these events
-  pub record IsTurn (state begun : S) (kept bytes : List ℕ) (now : ℕ) (brought : List Event) (next : List ℕ) : Type 0 where
-    pub goes_on : engine.is_done state ≡ false
-    pub most : length bytes ≤ 4096
-    pub begins : engine.begins state now begun
-    pub brings : Brings kept bytes brought next
 
   -- one turn more was read
-  read_more : (r s t : CountedReads R) (w x y : W) (turns : List (List ℕ)) (bytes : List ℕ) → HasRead (streams_of remaining contents r s w x) turns → Gave s t bytes
+  read_more : (r s t : CountedReads R) (w x y : W) (turns : List (List ℕ)) (bytes : List ℕ) → HasRead (streams_of remaining contents r s w x) turns → Reads remaining s t (Some bytes)
       → HasRead (streams_of remaining contents r t w y) (turns ++ bytes ∷ [])
-  read_more r s t w x y turns bytes read gave = record {
-    consumed =
-        subst (Consumes (bytes_left remaining r) (bytes_left remaining t)) (concat_more turns bytes)
-        (Consumes-trans (bytes_left remaining r) (bytes_left remaining s) (bytes_left remaining t) (concat turns) bytes read.consumed gave.consumed);
-    waited = omega (arith, read.waited, gave.waits, waits_more turns bytes);
-  }
-
-  -- one turn more is answered
-  pub serving_more : (old mid begun new : S) (kept bytes next : List ℕ) (r s t : CountedReads R) (w x y : W) (now : ℕ) (brought : List Event) (more : List ℕ) → Serving old mid kept r s w x → Gave s t bytes
-      → IsTurn mid begun kept bytes now brought next → AnswersAll engine now begun brought more new → Appends (contents x) (contents y) more → Serving old new next r t w y
-  serving_more old mid begun new kept bytes next r s t w x y now brought more run gave is each sent =
-      let piece : Piece = record { bytes = bytes; moment = now } in
-      let one : AnswersPiece engine (at mid kept) piece more (at new next) =
-      record { goes_on = is.goes_on; most = is.most; begun = begun; begins = is.begins; brought = brought; brings = is.brings; answered = each } in
+  read_more r s t w x y turns bytes read reads =
+      let gave = gave_bytes s t bytes reads in
       record {
-        pieces = run.pieces ++ piece ∷ [];
-        text = run.text ++ more;
-        read =
-            subst (HasRead (streams_of remaining contents r t w y)) (sym (map-append (λ (p : Piece). p.bytes) run.pieces (piece ∷ [])))
-            (read_more r s t w x y (turns_of run.pieces) bytes run.read gave);
-        answered = each_more (AnswersPiece engine) (at old []) (at mid kept) (at new next) run.pieces piece run.text more run.answered one;
-        appended = Appends-trans (contents w) (contents x) (contents y) run.text more run.appended sent;
+        consumed =
+            subst (Consumes (bytes_left remaining r) (bytes_left remaining t)) (concat_more turns bytes)
+            (Consumes-trans (bytes_left remaining r) (bytes_left remaining s) (bytes_left remaining t) (concat turns) bytes read.consumed gave.consumed);
+        waited = omega (arith, read.waited, gave.waits, waits_more turns bytes);
       }
 
-  -- nothing more is read
-  pub serving_kept : (old new : S) (kept : List ℕ) (r s t : CountedReads R) (w x : W) → Serving old new kept r s w x → Stopped remaining s t → Serving old new kept r t w x
-  serving_kept old new kept r s t w x run stopped = record {
-    pieces = run.pieces;
-    text = run.text;
-    read = record {
-      consumed = Consumes-kept (bytes_left remaining r) (bytes_left remaining s) (bytes_left remaining t) (concat (turns_of run.pieces)) run.read.consumed stopped.kept;
-      waited = omega (arith, run.read.waited, stopped.waits);
-    };
-    answered = run.answered;
-    appended = run.appended;
+  -- and it may have read nothing
+  read_further : (r s t : CountedReads R) (w x y : W) (turns : List (List ℕ)) (further : Option (List ℕ)) → HasRead (streams_of remaining contents r s w x) turns → Reads remaining s t further
+      → HasRead (streams_of remaining contents r t w y) (turns ++ option_to_list further)
+  read_further r s t w x y turns None read same =
+      subst (HasRead (streams_of remaining contents r t w y)) (sym (append-nil turns)) (subst (λ (q : CountedReads R). HasRead (streams_of remaining contents r q w y) turns) (sym same) (record { consumed = read.consumed; waited = read.waited }))
+  read_further r s t w x y turns (Some bytes) read reads = read_more r s t w x y turns bytes read reads
+
+  -- reading stopped
+  read_stopped : (r s t : CountedReads R) (w x y : W) (turns : List (List ℕ)) → HasRead (streams_of remaining contents r s w x) turns → Stopped remaining s t → HasRead (streams_of remaining contents r t w y) turns
+  read_stopped r s t w x y turns read stopped = record {
+    consumed = Consumes-kept (bytes_left remaining r) (bytes_left remaining s) (bytes_left remaining t) (concat turns) read.consumed stopped.kept;
+    waited = omega (arith, read.waited, stopped.waits);
   }
 
   -- the end was read
-  pub serving_end : (old new : S) (kept buffer : List ℕ) (count : ℕ) (r s t : CountedReads R) (w x : W) → Serving old new kept r s w x → Took remaining s t buffer count → count ≡ 0 → Serving old new kept r t w x
-  serving_end old new kept buffer count r s t w x run turn none =
-      let nothing : Consumes (bytes_left remaining s) (bytes_left remaining t) [] = subst (λ (n : ℕ). Consumes (bytes_left remaining s) (bytes_left remaining t) (take n buffer)) none turn.consumed in
-      record {
-        pieces = run.pieces;
-        text = run.text;
-        read = record {
-          consumed =
-              subst (Consumes (bytes_left remaining r) (bytes_left remaining t)) (append-nil (concat (turns_of run.pieces)))
-              (Consumes-trans (bytes_left remaining r) (bytes_left remaining s) (bytes_left remaining t) (concat (turns_of run.pieces)) [] run.read.consumed nothing);
-          waited = omega (arith, run.read.waited, turn.waits);
-        };
-        answered = run.answered;
-        appended = run.appended;
-      }
-
-  -- nothing is left to be done
-  pub served_done : (old new : S) (kept : List ℕ) (r s : CountedReads R) (w x : W) → Serving old new kept r s w x → engine.is_done new ≡ true → Served engine old new (streams_of remaining contents r s w x)
-  served_done old new kept r s w x run done =
-      record { pieces = run.pieces; text = run.text; last = at new kept; read = run.read; answered = run.answered; new_is = refl; ends = inr done; appended = run.appended }
-
-  -- the reader is at its end
-  pub served_all : (old new : S) (kept : List ℕ) (r s : CountedReads R) (w x : W) → Serving old new kept r s w x → IsAtEnd (bytes_left remaining s) → Served engine old new (streams_of remaining contents r s w x)
-  served_all old new kept r s w x run end =
-      record { pieces = run.pieces; text = run.text; last = at new kept; read = run.read; answered = run.answered; new_is = refl; ends = inl end; appended = run.appended }
-
-  -- all that was read is answered
-  pub so_far_now : (old new : S) (kept : List ℕ) (r s : CountedReads R) (w x : W) → Serving old new kept r s w x → ServedSoFar engine old new (streams_of remaining contents r s w x)
-  so_far_now old new kept r s w x run = record {
-    pieces = run.pieces;
-    text = run.text;
-    last = at new kept;
-    further = None;
-    read = subst (HasRead (streams_of remaining contents r s w x)) (sym (append-nil (turns_of run.pieces))) run.read;
-    answered = run.answered;
-    stopped = inl (refl, refl);
-    appended = run.appended;
+  read_end : (r s t : CountedReads R) (w x y : W) (turns : List (List ℕ)) (buffer : List ℕ) → HasRead (streams_of remaining contents r s w x) turns → Took remaining s t buffer 0
+      → HasRead (streams_of remaining contents r t w y) turns
+  read_end r s t w x y turns buffer read took = record {
+    consumed =
+        subst (Consumes (bytes_left remaining r) (bytes_left remaining t)) (append-nil (concat turns))
+        (Consumes-trans (bytes_left remaining r) (bytes_left remaining s) (bytes_left remaining t) (concat turns) [] read.consumed took.consumed);
+    waited = omega (arith, read.waited, took.waits);
   }
 
-  -- a turn can't begin
-  pub so_far_stopped : (old mid new : S) (kept bytes : List ℕ) (r s t : CountedReads R) (w x : W) → Serving old mid kept r s w x → Gave s t bytes → engine.stops mid new → ServedSoFar engine old new (streams_of remaining contents r t w x)
-  so_far_stopped old mid new kept bytes r s t w x run gave stops = record {
-    pieces = run.pieces;
-    text = run.text;
-    last = at mid kept;
-    further = Some bytes;
-    read = read_more r s t w x x (turns_of run.pieces) bytes run.read gave;
-    answered = run.answered;
-    stopped = inr stops;
-    appended = run.appended;
-  }
+  read_no_more : (r s t : CountedReads R) (w x y : W) (turns : List (List ℕ)) → HasRead (streams_of remaining contents r s w x) turns → ReadsNoMore remaining s t → HasRead (streams_of remaining contents r t w y) turns
+  read_no_more r s t w x y turns read (inl stopped) = read_stopped r s t w x y turns read stopped
+  read_no_more r s t w x y turns read (inr (buffer, took)) = read_end r s t w x y turns buffer read took
 
-  -- what was read last isn't answered
-  pub part_unanswered : (old mid : S) (kept bytes : List ℕ) (r s t : CountedReads R) (w x : W) → Serving old mid kept r s w x → Gave s t bytes → ServedInPart engine old (streams_of remaining contents r t w x)
-  part_unanswered old mid kept bytes r s t w x run gave = record {
-    pieces = run.pieces;
-    text = run.text;
-    last = at mid kept;
-    further = Some bytes;
-    more = [];
-    read = read_more r s t w x x (turns_of run.pieces) bytes run.read gave;
-    answered = run.answered;
-    part = inl refl;
-    wrote = wrote_all (run.text ++ []) (contents w) (contents x) (subst (Appends (contents w) (contents x)) (sym (append-nil run.text)) run.appended);
-  }
+  module _ {O : Type 0} (old : S) (pause : Pause S) (r s t : CountedReads R) (w x y : W) (before after : Backlog O) (run : Serving old pause before.held.bytes.items r s w x) (none_left : pause.left ≡ None) where
+    -- the work of one turn more
+    abbrev pub work_here : Work R O
+    work_here = record { reads_old = s; reads_new = t; kept_old = before; kept_new = after; output_old = contents x; output_new = contents y }
 
-  -- all that was read is answered
-  pub part_now : (old new : S) (kept : List ℕ) (r s : CountedReads R) (w x : W) → Serving old new kept r s w x → ServedInPart engine old (streams_of remaining contents r s w x)
-  part_now old new kept r s w x run = record {
-    pieces = run.pieces;
-    text = run.text;
-    last = at new kept;
-    further = None;
-    more = [];
-    read = subst (HasRead (streams_of remaining contents r s w x)) (sym (append-nil (turns_of run.pieces))) run.read;
-    answered = run.answered;
-    part = inl refl;
-    wrote = wrote_all (run.text ++ []) (contents w) (contents x) (subst (Appends (contents w) (contents x)) (sym (append-nil run.text)) run.appended);
-  }
+    -- one turn more is answered
+    serving_more : (state : S) (turns : Turns engine remaining pause state work_here) → (turns.new.left ≡ None) ⊎ (engine.is_done turns.new.state ≡ true)
+        → Serving old turns.new after.held.bytes.items r t w y × (reads_left t + waits_left t < reads_left s + waits_left s)
+    serving_more state turns ends =
+        let (bytes, is, piece) = piece_read engine pause turns.new turns.call.read turns.call.moment turns.text turns.answered none_left ends in
+        let reads = subst (Reads remaining s t) is turns.read in
+        let one : Piece = record { bytes = bytes; moment = turns.call.moment } in (
+          record {
+            pieces = run.pieces ++ one ∷ [];
+            text = run.text ++ turns.text;
+            read =
+                subst (HasRead (streams_of remaining contents r t w y)) (sym (map-append (λ (p : Piece). p.bytes) run.pieces (one ∷ [])))
+                (read_more r s t w x y (turns_of run.pieces) bytes run.read reads);
+            answered = each_more (AnswersPiece engine) (record { state = old; kept = [] }) (between_of pause) (between_of turns.new) run.pieces one run.text turns.text run.answered piece;
+            gave =
+                gives_then run.text turns.text [] turns.held after.held.bytes.items (contents w) turns.output (contents y)
+                (gives_and_goes run.text [] before.held.bytes.items turns.held (contents w) (contents x) turns.output run.gave turns.went) turns.gave;
+          },
+          (gave_bytes s t bytes reads).fewer,
+        )
 
-  -- a prefix of the answers to a turn was written
-  pub part_of_turn : (old mid begun : S) (kept bytes next : List ℕ) (r s t : CountedReads R) (w x y : W) (now : ℕ) (brought : List Event) → Serving old mid kept r s w x → Gave s t bytes
-      → IsTurn mid begun kept bytes now brought next → GivesPart engine now begun brought [] (contents x) (contents y) → ServedInPart engine old (streams_of remaining contents r t w y)
-  part_of_turn old mid begun kept bytes next r s t w x y now brought run gave is part = record {
-    pieces = run.pieces;
-    text = run.text;
-    last = at mid kept;
-    further = Some bytes;
-    more = part.text;
-    read = read_more r s t w x y (turns_of run.pieces) bytes run.read gave;
-    answered = run.answered;
-    part = inr (record {
-      bytes = bytes;
-      further_is = refl;
-      now = now;
-      begun = begun;
-      begins = is.begins;
-      brought = brought;
-      kept = next;
-      brings = is.brings;
-      new = part.new;
-      answered = part.answered;
-    });
-    wrote = wrote_then run.text part.text (contents w) (contents x) (contents y) run.appended part.wrote;
-  }
+    -- and others follow it
+    pub serving_on : (state : S) (became : Turned) → is_last became ≡ false → (became ≡ turned.Full → ⊥) → IsTurned engine remaining pause state work_here became
+        → (next : Pause S) × IsPause state after next × (next.left ≡ None) × Serving old next after.held.bytes.items r t w y × (reads_left t + waits_left t < reads_left s + waits_left s)
+    serving_on state turned.Again more full (turns, none, goes_on) = let served = serving_more state turns (inl none) in (turns.new, turns.new_is, none, served.0, served.1)
+    serving_on state turned.Waits more full (turns, none, goes_on, silent) = let served = serving_more state turns (inl none) in (turns.new, turns.new_is, none, served.0, served.1)
+    serving_on state turned.Full more full is = absurd (full refl)
+    serving_on state turned.Done more full is = absurd (let e : true ≡ false = more in cc)
+    serving_on state turned.End more full is = absurd (let e : true ≡ false = more in cc)
+    serving_on state turned.Stopped more full is = absurd (let e : true ≡ false = more in cc)
+
+    -- nothing is given, whatever was read
+    gave_on : Gives [] before.held.bytes.items after.held.bytes.items (contents x) (contents y) → Gives run.text [] after.held.bytes.items (contents w) (contents y)
+    gave_on gave = gives_and_goes run.text [] before.held.bytes.items after.held.bytes.items (contents w) (contents x) (contents y) run.gave gave
+
+    -- the reader is at its end
+    served_end : (state : S) → Ends engine remaining pause state work_here → after.held.bytes.items ≡ [] → Served engine old state (streams_of remaining contents r t w y)
+    served_end state ends none = record {
+      pieces = run.pieces;
+      text = run.text;
+      last = between_of pause;
+      read = read_end r s t w x y (turns_of run.pieces) ends.buffer run.read ends.took;
+      answered = run.answered;
+      new_is = sym ends.same.state_is;
+      ends = inl ends.at_end;
+      appended = sent_all run.text after.held.bytes.items (contents w) (contents y) (gave_on ends.gave) none;
+    }
+
+    -- nothing was left to be done
+    served_rests : (state : S) → Rests engine remaining pause state work_here → engine.is_done state ≡ true → after.held.bytes.items ≡ [] → Served engine old state (streams_of remaining contents r t w y)
+    served_rests state rests done none = record {
+      pieces = run.pieces;
+      text = run.text;
+      last = between_of pause;
+      read = subst (λ (q : CountedReads R). HasRead (streams_of remaining contents r q w y) (turns_of run.pieces)) (sym rests.unread) (record { consumed = run.read.consumed; waited = run.read.waited });
+      answered = run.answered;
+      new_is = sym rests.same.state_is;
+      ends = inr done;
+      appended = sent_all run.text after.held.bytes.items (contents w) (contents y) (gave_on rests.gave) none;
+    }
+
+    -- nothing is left to be done after this turn
+    served_turn : (state : S) → Turns engine remaining pause state work_here → engine.is_done state ≡ true → after.held.bytes.items ≡ [] → Served engine old state (streams_of remaining contents r t w y)
+    served_turn state turns done none =
+        let served = (serving_more state turns (inr (ap engine.is_done turns.new_is.state_is ∙ done))).0 in
+        record {
+          pieces = served.pieces;
+          text = served.text;
+          last = between_of turns.new;
+          read = served.read;
+          answered = served.answered;
+          new_is = sym turns.new_is.state_is;
+          ends = inr done;
+          appended = sent_all served.text after.held.bytes.items (contents w) (contents y) served.gave none;
+        }
+
+    -- nothing is left to be done, or the reader is at its end
+    pub served_last : (state : S) (became : Turned) → (became ≡ turned.Done) ⊎ (became ≡ turned.End) → IsTurned engine remaining pause state work_here became → after.held.bytes.items ≡ []
+        → Served engine old state (streams_of remaining contents r t w y)
+    served_last state became (inl is_done) is none =
+        let (done, either) = subst (IsTurned engine remaining pause state work_here) is_done is in
+        elim either [ inl rests ↦ served_rests state rests done none | inr turns ↦ served_turn state turns done none ]
+    served_last state became (inr is_end) is none = served_end state (subst (IsTurned engine remaining pause state work_here) is_end is) none
+
+    -- reading stopped
+    pub so_far_stopped : (state : S) → Stops engine remaining pause state work_here → after.held.bytes.items ≡ [] → ServedSoFar engine old state (streams_of remaining contents r t w y)
+    so_far_stopped state stops none =
+        elim stops.stopped [
+          | inl (same, stopped) ↦ record {
+            pieces = run.pieces;
+            text = run.text;
+            last = between_of pause;
+            further = None;
+            read = subst (HasRead (streams_of remaining contents r t w y)) (sym (append-nil (turns_of run.pieces))) (read_stopped r s t w x y (turns_of run.pieces) run.read stopped);
+            answered = run.answered;
+            stopped = inl (refl, sym same.state_is);
+            appended = sent_all run.text after.held.bytes.items (contents w) (contents y) (gave_on stops.gave) none;
+          }
+          | inr (read, reads, fails) ↦ record {
+            pieces = run.pieces;
+            text = run.text;
+            last = between_of pause;
+            further = read;
+            read = read_further r s t w x y (turns_of run.pieces) read run.read reads;
+            answered = run.answered;
+            stopped = inr fails;
+            appended = sent_all run.text after.held.bytes.items (contents w) (contents y) (gave_on stops.gave) none;
+          }
+        ]
+
+    -- a fault
+    pub part_of_turn : (state : S) → TurnsInPart engine remaining pause state work_here → ServedInPart engine old (streams_of remaining contents r t w y)
+    part_of_turn state part = record {
+      pieces = run.pieces;
+      text = run.text;
+      last = between_of pause;
+      further = part.read;
+      more = part.text;
+      read = elim part.reads [
+        | inl reads ↦ read_further r s t w x y (turns_of run.pieces) part.read run.read reads
+        | inr (nothing, none, no_more) ↦
+            subst (λ (further : Option (List ℕ)). HasRead (streams_of remaining contents r t w y) (turns_of run.pieces ++ option_to_list further)) (sym none)
+            (subst (HasRead (streams_of remaining contents r t w y)) (sym (append-nil (turns_of run.pieces))) (read_no_more r s t w x y (turns_of run.pieces) run.read no_more))
+      ];
+      answered = run.answered;
+      part = elim part.part [ inl nothing ↦ inl nothing | inr some ↦ inr (part_read engine pause part.read part.text some none_left) ];
+      wrote = wrote_after run.text part.text [] before.held.bytes.items (contents w) (contents x) (contents y) run.gave part.wrote;
+    }
+
+-- what is served is served in part
+pub part_of_served : {S : Type 0} (engine : Engine S) (old new : S) (streams : Streams) → Served engine old new streams → ServedInPart engine old streams
+part_of_served engine old new streams served = record {
+  pieces = served.pieces;
+  text = served.text;
+  last = served.last;
+  further = None;
+  more = [];
+  read = subst (HasRead streams) (sym (append-nil (turns_of served.pieces))) served.read;
+  answered = served.answered;
+  part = inl refl;
+  wrote = wrote_all (served.text ++ []) streams.output_old streams.output_new (subst (Appends streams.output_old streams.output_new) (sym (append-nil served.text)) served.appended);
+}
+
+pub part_of_so_far : {S : Type 0} (engine : Engine S) (old new : S) (streams : Streams) → ServedSoFar engine old new streams → ServedInPart engine old streams
+part_of_so_far engine old new streams served = record {
+  pieces = served.pieces;
+  text = served.text;
+  last = served.last;
+  further = served.further;
+  more = [];
+  read = served.read;
+  answered = served.answered;
+  part = inl refl;
+  wrote = wrote_all (served.text ++ []) streams.output_old streams.output_new (subst (Appends streams.output_old streams.output_new) (sym (append-nil served.text)) served.appended);
+}
 
 -- a turn that is no wait gave bytes
 some_bytes : (bytes : List ℕ) → wait_of bytes ≡ 0 → 0 < length bytes
@@ -257,3 +353,8 @@ some_bytes (byte ∷ bytes) none = omega arith
 pub are_reads : (pieces : List Piece) → waits_in (turns_of pieces) ≡ 0 → HaveBytes pieces
 are_reads [] none = tt
 are_reads (piece ∷ pieces) none = (some_bytes piece.bytes (omega (arith, none)), are_reads pieces (omega (arith, none)))
+
+-- nothing is held after the last turn
+pub none_is_held : {P : Type 0} (held : List ℕ) (became : Turned) → (held ≡ []) ⊎ (P × (is_last became ≡ false)) → is_last became ≡ true → held ≡ []
+none_is_held held became (inl none) last = none
+none_is_held held became (inr (ahead, more)) last = absurd (let e : true ≡ false = sym last ∙ more in cc)

@@ -6,25 +6,33 @@ use Rattle.std.specs.Option.{option_map, option_to_list}
 use Rattle.gu_terms.specs.declared.firm.FirmId.{FirmId}
 use Rattle.gu_terms.specs.declared.notice.Notice.{Notice as NoticeOf}
 use Rattle.gu_terms.specs.declared.notice.Stretch.{Stretch}
-use Rattle.gu_session.specs.Outputs.{bytes_in, handed_in, is_close}
+use Rattle.gu_session.specs.Outputs.{bytes_in, handed_in, is_close, IsAskedBy}
 use Rattle.gu_session.specs.States.{SessionState, new_session}
 use Rattle.gu_session.specs.Steps.{StepsWith}
 use Rattle.gu_session.specs.declared.input.Input.{Input}
 use Rattle.gu_session.specs.declared.input.Input.TheVariants.{Frame, Notice, Answer, Tick, End}
-use Rattle.gu_session.specs.declared.input.Outcome.{Outcome}
 use Rattle.gu_session.specs.declared.logged_on.LoggedOn.{LoggedOn}
 use Rattle.gu_session.specs.declared.output.Asked.{Asked}
 use Rattle.gu_session.specs.declared.output.Output.{Output}
 use Rattle.gu_streams.specs.Streams.{Streams}
-use Rattle.gu_engine.specs.Houses.{HouseRules}
+use Rattle.gu_engine.specs.Houses.{AnswersAsk, HouseRules}
 use Rattle.gu_engine.specs.Running.{AnswersEach, Engine, Served, ServedInPart, ServedSoFar}
 use Rattle.gu_engine.specs.declared.connection.Connection.{Connection}
 use Rattle.gu_engine.specs.declared.event.Event.{Event}
 use Rattle.gu_engine.specs.declared.event.Event.TheVariants as event
+use Rattle.gu_engine.specs.declared.house.Answered.{Answered}
+use Rattle.gu_engine.specs.declared.house.Ask.{Ask}
 
 -- the firm that is logged on
 abbrev pub firm_of : SessionState → Option FirmId
 firm_of session = option_map (λ (at : LoggedOn). at.firm) session.at
+
+-- a firm asks this of the house: by a message of this number, which came at this moment
+pub record IsAskOf (asked : Asked) (now : ℕ) (ask : Ask) : Type 0 where
+  pub firm : IsAskedBy ask.firm asked.what
+  pub number_is : ask.number ≡ asked.reference
+  pub now_is : ask.now ≡ now
+  pub request_is : ask.request ≡ asked.what
 
 module _ {H C : Type 0} where
   -- a connection before its first turn: one of these firms may log on, and its notices begin with the first entry
@@ -45,32 +53,7 @@ module _ {H C : Type 0} where
     pub text_is : text ≡ flat_map bytes_in outputs
     pub new_is : new ≡ record old { session = session; is_over = old.is_over || list_any is_close outputs }
 
-  -- what is asked of the house is answered at once, and the session takes the answer
-  pub record AnswersAsked (rules : HouseRules H) (now : ℕ) (old : Connection H C) (asked : Asked) (text : List ℕ) (new : Connection H C) : Type 0 where
-    pub outcome : Outcome
-    pub house : H
-    pub answered : rules.answers old.house asked.what outcome house
-    pub further : Option Asked
-    pub taken : TakesInput (record old { house = house }) (Answer asked.reference outcome) now further text new
-
-  -- where nothing is asked, nothing is sent
-  abbrev pub AnswersAny : HouseRules H → ℕ → Connection H C → Option Asked → List ℕ → Connection H C → Type 0
-  AnswersAny rules now old None text new = (text ≡ []) × (new ≡ old)
-  AnswersAny rules now old (Some asked) text new = AnswersAsked rules now old asked text new
-
-  -- A frame: what the session sends, and the answer to what it asks. Then notices for the firm may be due.
-  pub record AnswersFrame (rules : HouseRules H) (now : ℕ) (old : Connection H C) (frame text : List ℕ) (new : Connection H C) : Type 0 where
-    pub asked : Option Asked
-    pub heard : Connection H C
-    pub answered : Connection H C
-    pub sent : List ℕ
-    pub answer : List ℕ
-    pub hears : TakesInput old (Frame frame) now asked sent heard
-    pub answers : AnswersAny rules now heard asked answer answered
-    pub parts : text ≡ sent ++ answer
-    pub new_is : new ≡ record answered { is_behind = true }
-
-  -- the reader has nothing for now: notices of what others did may be due
+  -- notices of what was entered may be due, and nothing is sent for now
   pub record Waits (old : Connection H C) (text : List ℕ) (new : Connection H C) : Type 0 where
     pub text_is : text ≡ []
     pub new_is : new ≡ record old { is_behind = true }
@@ -80,15 +63,54 @@ module _ {H C : Type 0} where
     pub asked : Option Asked
     pub taken : TakesInput old (Notice notice) now asked text new
 
-  -- the firm that is logged on is sent a stretch of the notices that it hasn't had, and more are due until it has had the last
+  -- a stretch of the notices that the firm hasn't had is sent, and more are due until it has had the last
+  abbrev pub SendsStretch : ℕ → Connection H C → Stretch → List ℕ → Connection H C → Type 0
+  SendsStretch now old stretch text new =
+      AnswersEach (SendsNotice now) (record old { next = stretch.notices.next; is_behind = not stretch.is_last }) stretch.notices.list.items text new
+
+  -- so are the notices that the house added to its answer; where it added none, they may be due
+  abbrev pub SendsAny : ℕ → Connection H C → Option Stretch → List ℕ → Connection H C → Type 0
+  SendsAny now old None text new = Waits old text new
+  SendsAny now old (Some stretch) text new = SendsStretch now old stretch text new
+
+  -- what is asked of the house is answered at once, the session takes the answer, and the notices that the house adds follow it
+  pub record AnswersAsked (rules : HouseRules H) (now : ℕ) (old : Connection H C) (asked : Asked) (text : List ℕ) (new : Connection H C) : Type 0 where
+    pub ask : Ask
+    pub is_ask : IsAskOf asked now ask
+    pub answered : Answered
+    pub house : H
+    pub answers : AnswersAsk rules old.house ask old.next answered house
+    pub further : Option Asked
+    pub heard : Connection H C
+    pub answer : List ℕ
+    pub told : List ℕ
+    pub taken : TakesInput (record old { house = house }) (Answer asked.reference answered.outcome) now further answer heard
+    pub sends : SendsAny now heard answered.stretch told new
+    pub parts : text ≡ answer ++ told
+
+  -- where nothing is asked, notices may be due all the same
+  abbrev pub AnswersAny : HouseRules H → ℕ → Connection H C → Option Asked → List ℕ → Connection H C → Type 0
+  AnswersAny rules now old None text new = Waits old text new
+  AnswersAny rules now old (Some asked) text new = AnswersAsked rules now old asked text new
+
+  -- a frame: what the session sends, and the answer to what it asks, with notices for the firm, or notices may be due then
+  pub record AnswersFrame (rules : HouseRules H) (now : ℕ) (old : Connection H C) (frame text : List ℕ) (new : Connection H C) : Type 0 where
+    pub asked : Option Asked
+    pub heard : Connection H C
+    pub sent : List ℕ
+    pub answer : List ℕ
+    pub hears : TakesInput old (Frame frame) now asked sent heard
+    pub answers : AnswersAny rules now heard asked answer new
+    pub parts : text ≡ sent ++ answer
+
+  -- the firm that is logged on is sent a stretch of the notices that it hasn't had
   pub record TellsStretch (rules : HouseRules H) (now : ℕ) (old : Connection H C) (text : List ℕ) (new : Connection H C) : Type 0 where
     pub firm : FirmId
     pub logged_on : firm_of old.session ≡ Some firm
     pub stretch : Stretch
     pub house : H
     pub told : rules.tells old.house firm old.next stretch house
-    pub sent : AnswersEach (SendsNotice now) (record old { house = house; next = stretch.notices.next; is_behind = not stretch.is_last })
-        stretch.notices.list.items text new
+    pub sent : SendsStretch now (record old { house = house }) stretch text new
 
   -- notices are due to a firm that is logged on and hasn't had the last, unless the connection is over
   abbrev pub is_due : Connection H C → Bool

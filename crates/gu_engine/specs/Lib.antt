@@ -1,4 +1,7 @@
+pub mod Backlogs
 pub mod Exchange
 pub mod Houses
 pub mod Running
 pub mod Sends
+pub mod Turned
+pub mod Turns

@@ -1,13 +1,11 @@
 -- What is held of the answers to a turn before it is sent: the loop's own.
-use Rattle.std.specs.Prelude.{◌≡◌, ◌⊎◌, true, false, ℕ, List, [], ◌++◌, map, Option}
+use Rattle.std.specs.Prelude.{◌≡◌, ◌<◌, ◌⊎◌, true, false, ℕ, List, [], ◌++◌, length, Option}
 use Rattle.std.specs.Io.KnownBytes.{Appends}
-use Rattle.gu_fix.specs.Stream.{TakesPiece}
 use Rattle.gu_streams.specs.Written.{WrotePart}
 use Rattle.gu_streams.specs.declared.error.StreamError.{StreamError}
 use Rattle.gu_streams.specs.declared.error.StreamError.TheVariants.{Memory, Write}
 use Rattle.gu_engine.specs.Running.{AnswersSome, Engine}
 use Rattle.gu_engine.specs.declared.event.Event.{Event}
-use Rattle.gu_engine.specs.declared.event.Event.TheVariants.{Frame}
 
 -- a text was given: the first of what was held before, and then of it, was written, and the rest is held
 pub record Gives (text held_old held_new : List ℕ) (output_old output_new : Option (List ℕ)) : Type 0 where
@@ -26,17 +24,13 @@ pub record GivesPart {S : Type 0} (engine : Engine S) (now : ℕ) (old : S) (bro
 abbrev pub IsReady : {S : Type 0} → Engine S → S → Type 0
 IsReady engine state = (engine.is_due state ≡ false) ⊎ (engine.is_done state ≡ true)
 
--- what bytes bring: their frames, as events; and what is kept after them
-pub record BringsFrames (bytes : List ℕ) (brought : List Event) : Type 0 where
-  pub frames : List (List ℕ)
-  pub kept : List ℕ
-  pub takes : TakesPiece [] bytes frames kept
-  pub brought_is : brought ≡ map Frame frames
-
--- and of the bytes only those are left that are kept, unless nothing is left to be done
-pub record LeavesKept {S : Type 0} (engine : Engine S) (bytes : List ℕ) (brought : List Event) (new : S) (left : List ℕ) : Type 0 where
-  pub brings : BringsFrames bytes brought
-  pub left_is : (brings.kept ≡ left) ⊎ (engine.is_done new ≡ true)
+-- all of this is answered, with what is due then; or so much is held that some of what is due is left
+pub record GivesAnswers {S : Type 0} (engine : Engine S) (now : ℕ) (old : S) (brought : List Event) (new : S) (held_old held_new : List ℕ) (output_old output_new : Option (List ℕ)) : Type 0 where
+  pub text : List ℕ
+  pub some : AnswersSome engine now old brought text new
+  pub none : some.others ≡ []
+  pub gave : Gives text held_old held_new output_old output_new
+  pub ends : IsReady engine new ⊎ (65536 < length held_new)
 
 -- a fault of memory or of the writer
 abbrev pub IsAnswerFault : StreamError → Type 0

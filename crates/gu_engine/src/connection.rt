@@ -1,20 +1,22 @@
 //! One connection of a firm: its session, the house that answers it, and a clock.
 
-ghost use Rattle.std.specs.Prelude.{◌≡◌, ◌<◌, ◌^◌, ◌++◌, ◌||◌, List, ℕ, true, IfOk, OnOk};
-ghost use Rattle.gu_engine.specs.Exchange.{AnswersAny, AnswersAsked, AnswersFrame, EndsSession, IsNew, SendsNotice, TakesInput, TellsStretch, Ticks, is_due};
+ghost use Rattle.std.specs.Prelude.{◌≡◌, ◌<◌, ◌^◌, ◌++◌, ◌||◌, [], not, List, Option, ℕ, true, IfOk, OnOk};
+ghost use Rattle.gu_engine.specs.Exchange.{AnswersAny, AnswersAsked, AnswersFrame, EndsSession, IsNew, SendsAny, SendsNotice, SendsStretch, TakesInput, TellsStretch, Ticks, Waits, is_due};
 ghost use Rattle.gu_engine.specs.Running.{AnswersEach};
-ghost use Rattle.gu_session.specs.declared.input.Input.TheVariants.{Frame as FrameOf};
+ghost use Rattle.gu_session.specs.declared.input.Input.TheVariants.{Answer as AnswerOf, Frame as FrameOf};
+ghost use Rattle.gu_session.specs.declared.output.Asked.{Asked as AskedOf};
 
 use crate::answerer::Answerer;
 use crate::clock::{Clock, ClockFault};
 use crate::event::Event;
-use crate::house::House;
+use crate::house::{Answered, Ask, House};
 use gu_fix::Frame;
-use gu_session::{Asked, Session, Taken};
+use gu_session::{AskRef, Asked, Outcome, Session, Taken};
 use gu_terms::{FirmId, Moment, Notice, Stretch};
 use std::alloc::{AllocError, Global};
 
 /// One connection of a firm.
+#[derive(Drop)]
 pub struct Connection<H, C> {
     alloc: Global,
     house: H,
@@ -26,23 +28,6 @@ pub struct Connection<H, C> {
     clock: C,
     /// Whether the session gave the close.
     is_over: bool,
-}
-
-impl<H: Drop, C: Drop> Drop for Connection<H, C> {
-    fn drop(self) {
-        let Connection {
-            alloc: _,
-            house,
-            session,
-            next: _,
-            is_behind: _,
-            clock,
-            is_over: _,
-        } = self;
-        drop(house);
-        drop(session);
-        drop(clock);
-    }
 }
 
 impl<H, C> Connection<H, C> {
@@ -98,6 +83,13 @@ impl<H, C> Connection<H, C> {
         handed
     }
 
+    /// Notes that notices may be due.
+    fn wait(&mut self)
+        ensures { Waits self.old [] self.new }
+    {
+        self.is_behind = true;
+    }
+
     /// Gives the session a frame, appends the bytes that it sends, and returns what it asks of the house.
     fn hear(
         &mut self,
@@ -144,6 +136,56 @@ impl<H, C> Connection<H, C> {
         Ok(())
     }
 
+    /// Sends a stretch of notices. More are due unless it is the last.
+    fn send_stretch(
+        &mut self,
+        stretch: Stretch,
+        now: Moment,
+        output: &mut Vec<u8>,
+    ) -> Result<(), AllocError>
+        ensures sent { OnOk result ((text : List ℕ) × (output.new.items ≡ output.old.items ++ text)
+            × SendsStretch now self.old stretch text self.new) }
+        ensures place { OnOk result (self.new.next ≡ stretch.notices.next) }
+        ensures more { OnOk result (self.new.is_behind ≡ not stretch.is_last) }
+    {
+        let Stretch { notices, is_last } = stretch;
+        self.next = notices.next;
+        self.is_behind = !is_last;
+        self.send_all(notices.list, now, output)
+    }
+
+    /// Sends the notices that the house added to its answer. If it added none, they may be due.
+    fn send_any(
+        &mut self,
+        stretch: Option<Stretch>,
+        now: Moment,
+        output: &mut Vec<u8>,
+    ) -> Result<(), AllocError>
+        ensures { OnOk result ((text : List ℕ) × (output.new.items ≡ output.old.items ++ text)
+            × SendsAny now self.old stretch text self.new) }
+    {
+        match stretch {
+            Some(stretch) => self.send_stretch(stretch, now, output),
+            None => Ok(self.wait()),
+        }
+    }
+
+    /// Gives the session the answer to what it asked.
+    fn reply(
+        &mut self,
+        reference: AskRef,
+        outcome: &Outcome,
+        now: Moment,
+        output: &mut Vec<u8>,
+    ) -> Result<(), AllocError>
+        ensures { OnOk result ((text : List ℕ) × (output.new.items ≡ output.old.items ++ text)
+            × (further : Option AskedOf) × TakesInput self.old (AnswerOf reference outcome.now) now further text self.new) }
+    {
+        let taken = self.session.answer_onto(reference, outcome, now, output)?;
+        drop(self.note(taken));
+        Ok(())
+    }
+
     /// Gives the session a tick.
     fn tick(&mut self, now: Moment, output: &mut Vec<u8>) -> Result<(), AllocError>
         ensures { OnOk result ((text : List ℕ) × (output.new.items ≡ output.old.items ++ text)
@@ -164,7 +206,7 @@ impl<H, C> Connection<H, C> {
 }
 
 impl<H: House, C> Connection<H, C> {
-    /// Has the house answer what was asked, and gives the session the answer.
+    /// Has the house answer what was asked, gives the session the answer, and then sends the notices that the house added.
     fn answer_asked(
         &mut self,
         asked: Asked,
@@ -175,14 +217,18 @@ impl<H: House, C> Connection<H, C> {
             × AnswersAsked H.rules now self.old asked text self.new) }
     {
         let Asked { what, reference } = asked;
-        let outcome = self.house.answer(what.into_inner())?;
-        let session = &mut self.session;
-        let taken = session.answer_onto(reference, &outcome, now, output)?;
-        drop(self.note(taken));
-        Ok(())
+        let ask = Ask {
+            firm: what.firm(),
+            number: reference.get(),
+            now,
+            request: what.into_inner(),
+        };
+        let Answered { outcome, stretch } = self.house.answer(ask, self.next)?;
+        self.reply(reference, &outcome, now, output)?;
+        self.send_any(stretch, now, output)
     }
 
-    /// Answers what was asked, if anything was.
+    /// Answers what was asked, if anything was. If not, notices may be due all the same.
     fn answer_any(
         &mut self,
         asked: Option<Asked>,
@@ -194,7 +240,7 @@ impl<H: House, C> Connection<H, C> {
     {
         match asked {
             Some(asked) => self.answer_asked(asked, now, output),
-            None => Ok(()),
+            None => Ok(self.wait()),
         }
     }
 
@@ -209,9 +255,7 @@ impl<H: House, C> Connection<H, C> {
             × AnswersFrame H.rules now self.old frame text self.new) }
     {
         let asked = self.hear(frame, now, output)?;
-        self.answer_any(asked, now, output)?;
-        self.is_behind = true;
-        Ok(())
+        self.answer_any(asked, now, output)
     }
 
     /// Sends the firm that is logged on a stretch of the notices that it hasn't had.
@@ -225,10 +269,8 @@ impl<H: House, C> Connection<H, C> {
         let Some(firm) = self.session.firm() else {
             return Ok(());
         };
-        let Stretch { notices, is_last } = self.house.notices(&firm, self.next)?;
-        self.next = notices.next;
-        self.is_behind = !is_last;
-        self.send_all(notices.list, now, output)
+        let stretch = self.house.notices(&firm, self.next)?;
+        self.send_stretch(stretch, now, output)
     }
 }
 
@@ -260,10 +302,7 @@ impl<H: House, C: Clock> Answerer for Connection<H, C> {
     ) -> Result<(), AllocError> {
         match event {
             Event::Frame(frame) => self.answer_frame(frame, now, output),
-            Event::Silence => {
-                self.is_behind = true;
-                Ok(())
-            }
+            Event::Silence => Ok(self.wait()),
             Event::More => self.tell_stretch(now, output),
             Event::Over => self.tick(now, output),
         }

@@ -1,6 +1,7 @@
 //! What holds of every engine.
 
 ghost use Rattle.gu_engine.specs.Running.{AreReads, TurnsGoOn};
+ghost use Rattle.gu_engine.specs.Turns.{CutTurnsGoOn, UncutTurnsArePieces};
 
 use crate::answerer::Answerer;
 
@@ -12,4 +13,15 @@ pub fn reads_alone()
 /// Turns, and then more turns, are answered as all of them one after another. So an exchange that goes on is one exchange.
 pub fn turns_go_on<A: Answerer>()
     ensures { TurnsGoOn A.engine }
+{}
+
+/// A turn that reads and leaves nothing answers its piece at its moment.
+pub fn uncut_turns_are_pieces<A: Answerer>()
+    ensures { UncutTurnsArePieces A.engine }
+{}
+
+/// A turn that is cut and those that go on with what it left answer the events that its piece brings: each once, in order, and at the
+/// moment of the turn that answers it.
+pub fn cut_turns_go_on<A: Answerer>()
+    ensures { CutTurnsGoOn A.engine }
 {}

@@ -2,19 +2,24 @@
 #![tactic(auto)]
 
 mod answerer;
+mod backlog;
 mod clock;
 mod connection;
 mod conversing;
 mod event;
+mod held;
 mod house;
 mod laws;
 mod running;
+mod turned;
 
 pub use answerer::Answerer;
+pub use backlog::Backlog;
 pub use clock::{Clock, ClockFault, SystemClock};
 pub use connection::Connection;
 pub use conversing::converse;
 pub use event::Event;
-pub use house::House;
-pub use laws::{reads_alone, turns_go_on};
-pub use running::run;
+pub use house::{Answered, Ask, House};
+pub use laws::{cut_turns_go_on, reads_alone, turns_go_on, uncut_turns_are_pieces};
+pub use running::{run, turn};
+pub use turned::Turned;

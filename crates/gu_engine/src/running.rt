@@ -1,201 +1,208 @@
-//! The loop of every engine of messages: reader, intake, what answers, and writer.
+//! The loop of every engine of messages: reader, backlog, what answers, and writer.
 
-ghost use Rattle.std.specs.Prelude.{◌≡◌, ◌⊎◌, ◌≤◌, ◌++◌, ◌∷◌, ◌<◌, [], List, ℕ, true, false, length, IfErr, IsErrOf, OnErr, OnOk};
-ghost use Rattle.std.specs.Io.KnownBytes.{Appends};
-ghost use Rattle.gu_streams.specs.Reads.{HasStopped};
+ghost use Rattle.std.specs.Prelude.{◌≡◌, ◌≢◌, ◌⊎◌, ◌≤◌, ◌∷◌, ◌<◌, [], List, ℕ, true, false, length, IfErr, IfOk, IsErrOf, OnErr, OnOk};
+ghost use Rattle.gu_streams.specs.Reads.{HasStopped, IsAhead};
 ghost use Rattle.gu_streams.specs.Streams.{streams_of};
 ghost use Rattle.gu_streams.specs.Written.{WrotePart};
-ghost use Rattle.gu_engine.specs.Running.{Answers, AnswersAll, FailsToBegin, Served, ServedInPart, ServedSoFar, brought_in, is_more};
-ghost use Rattle.gu_engine.specs.Sends.{BringsFrames, Gives, GivesPart, IsAnswerFault, IsReady, LeavesKept};
-ghost use Rattle.gu_engine.specs.declared.event.Event.TheVariants.{Over, Silence};
+ghost use Rattle.gu_engine.specs.Backlogs.{AnswersPartOfIt, AnswersWhatIsLeft};
+ghost use Rattle.gu_engine.specs.Running.{Answers, FailsToBegin, Served, ServedInPart, ServedSoFar, brought_in, is_more};
+ghost use Rattle.gu_engine.specs.Sends.{Gives, GivesAnswers, GivesPart, IsAnswerFault};
+ghost use Rattle.gu_engine.specs.Turned.{TurnsTo, TurnsToPart, is_last, work_of};
+ghost use Rattle.gu_engine.specs.Turns.{IsEmpty};
 
 use crate::answerer::Answerer;
+use crate::backlog::Backlog;
 use crate::event::Event;
-use gu_fix::Intake;
-use gu_streams::{CountedReads, LONGEST_READ, StreamError, Turn, send};
+use crate::held::Held;
+use crate::turned::Turned;
+use gu_streams::{Blocking, CountedReads, LONGEST_READ, Outlet, StreamError};
 use gu_terms::Moment;
 use std::alloc::Global;
 use std::io::{Read, Write};
 
-/// How many bytes are held at most after an answer: with more, all of them are sent.
-const MOST_HELD: usize = 65_536;
-
-/// Sends what is held, where it is much.
-fn send_if_much<W: Write>(writer: &mut W, output: &mut Vec<u8>) -> Result<(), StreamError>
-    ensures given { OnOk result (Gives [] output.old.items output.new.items (W.contents writer.old) (W.contents writer.new)) }
-    ensures few { OnOk result (length output.new.items ≤ 65536) }
-    ensures part { OnErr result (WrotePart output.old.items (W.contents writer.old) (W.contents writer.new)) }
-    ensures fault { IfErr result (λ error. error ≡ StreamError.Write) }
-{
-    if output.len() > MOST_HELD {
-        send(writer, output)?;
-        output.clear();
-    }
-    Ok(())
-}
-
-/// Answers an event, where something is left to be done.
-fn answer_one<W: Write, A: Answerer>(
+/// Answers an event, where something is left to be done and at most 65,536 bytes are held.
+fn answer_one<W: Write, O: Outlet, A: Answerer>(
     writer: &mut W,
     answerer: &mut A,
     event: Event,
     now: Moment,
-    output: &mut Vec<u8>,
+    held: &mut Held<O>,
 ) -> Result<(), StreamError>
     requires goes_on { A.engine.is_done answerer.old ≡ false }
     requires due_first { A.engine.is_due answerer.old ≡ is_more event }
+    requires room { length held.old.bytes.items ≤ 65536 }
     ensures answered { OnOk result ((text : List ℕ) × Answers A.engine now answerer.old event text answerer.new
-        × Gives text output.old.items output.new.items (W.contents writer.old) (W.contents writer.new)) }
-    ensures few { OnOk result (length output.new.items ≤ 65536) }
+        × Gives text held.old.bytes.items held.new.bytes.items (W.contents writer.old) (W.contents writer.new)) }
+    ensures few { OnOk result (O.takes_all ≡ true → length held.new.bytes.items ≤ 65536) }
     ensures fewer { OnOk result (is_more event ≡ true → A.parts_left answerer.new < A.parts_left answerer.old) }
-    ensures part { OnErr result (GivesPart A.engine now answerer.old (brought_in (event ∷ [])) output.old.items (W.contents writer.old) (W.contents writer.new)) }
+    ensures part { OnErr result (GivesPart A.engine now answerer.old (brought_in (event ∷ [])) held.old.bytes.items (W.contents writer.old) (W.contents writer.new)) }
     ensures faults { IfErr result IsAnswerFault }
 {
-    answerer.answer(event, now, output)?;
-    send_if_much(writer, output)
+    answerer.answer(event, now, &mut held.bytes)?;
+    held.send_if_much(writer)
 }
 
-/// Gives what is due, part by part.
-fn give_due<W: Write, A: Answerer>(
+/// Gives what is due, part by part, until nothing is or more than 65,536 bytes are held.
+fn give_due<W: Write, O: Outlet, A: Answerer>(
     writer: &mut W,
     answerer: &mut A,
     now: Moment,
-    output: &mut Vec<u8>,
+    held: &mut Held<O>,
 ) -> Result<(), StreamError>
-    ensures answered { OnOk result ((text : List ℕ) × AnswersAll A.engine now answerer.old [] text answerer.new
-        × Gives text output.old.items output.new.items (W.contents writer.old) (W.contents writer.new)) }
-    ensures part { OnErr result (GivesPart A.engine now answerer.old [] output.old.items (W.contents writer.old) (W.contents writer.new)) }
+    ensures answered { OnOk result (GivesAnswers A.engine now answerer.old [] answerer.new held.old.bytes.items held.new.bytes.items (W.contents writer.old) (W.contents writer.new)) }
+    ensures few { OnOk result (O.takes_all ≡ true → length held.old.bytes.items ≤ 65536 → length held.new.bytes.items ≤ 65536) }
+    ensures part { OnErr result (GivesPart A.engine now answerer.old [] held.old.bytes.items (W.contents writer.old) (W.contents writer.new)) }
     ensures faults { IfErr result IsAnswerFault }
 {
-    'parts: while !answerer.is_done() && answerer.is_due() {
-        answer_one(writer, answerer, Event::More, now, output)?;
+    'parts: while !held.is_full() && !answerer.is_done() && answerer.is_due() {
+        answer_one(writer, answerer, Event::More, now, held)?;
     }
     Ok(())
 }
 
-/// Answers an event that a turn brought, and gives what is due then, unless nothing is left to be done.
-fn answer_event<W: Write, A: Answerer>(
+/// Answers an event that a turn brought, and gives what is due then.
+fn answer_event<W: Write, O: Outlet, A: Answerer>(
     writer: &mut W,
     answerer: &mut A,
     event: Event,
     now: Moment,
-    output: &mut Vec<u8>,
+    held: &mut Held<O>,
 ) -> Result<(), StreamError>
+    requires goes_on { A.engine.is_done answerer.old ≡ false }
+    requires idle { A.engine.is_due answerer.old ≡ false }
     requires brought { is_more event ≡ false }
-    requires ready { IsReady A.engine answerer.old }
-    ensures answered { OnOk result ((text : List ℕ) × AnswersAll A.engine now answerer.old (event ∷ []) text answerer.new
-        × Gives text output.old.items output.new.items (W.contents writer.old) (W.contents writer.new)) }
-    ensures part { OnErr result (GivesPart A.engine now answerer.old (event ∷ []) output.old.items (W.contents writer.old) (W.contents writer.new)) }
+    requires room { length held.old.bytes.items ≤ 65536 }
+    ensures answered { OnOk result (GivesAnswers A.engine now answerer.old (event ∷ []) answerer.new held.old.bytes.items held.new.bytes.items (W.contents writer.old) (W.contents writer.new)) }
+    ensures few { OnOk result (O.takes_all ≡ true → length held.new.bytes.items ≤ 65536) }
+    ensures part { OnErr result (GivesPart A.engine now answerer.old (event ∷ []) held.old.bytes.items (W.contents writer.old) (W.contents writer.new)) }
     ensures faults { IfErr result IsAnswerFault }
 {
-    if answerer.is_done() {
-        return Ok(());
-    }
-    answer_one(writer, answerer, event, now, output)?;
-    give_due(writer, answerer, now, output)
+    answer_one(writer, answerer, event, now, held)?;
+    give_due(writer, answerer, now, held)
 }
 
-/// Takes frames one after another, and answers each before the next is taken, until there is none or nothing is left to be done.
-fn answer_frames<W: Write, A: Answerer>(
+/// Answers what is left to be answered, one event after another, until none is left, more than 65,536 bytes are held or nothing is left
+/// to be done. What is due comes first.
+fn answer_left<W: Write, O: Outlet, A: Answerer>(
     writer: &mut W,
     answerer: &mut A,
-    intake: &mut Intake,
+    backlog: &mut Backlog<O>,
     now: Moment,
-    output: &mut Vec<u8>,
 ) -> Result<(), StreamError>
-    requires { IsReady A.engine answerer.old }
-    ensures answered { OnOk result ((brought : List Event) × LeavesKept A.engine intake.old brought answerer.new intake.new
-        × (text : List ℕ) × AnswersAll A.engine now answerer.old brought text answerer.new
-        × Gives text output.old.items output.new.items (W.contents writer.old) (W.contents writer.new)) }
-    ensures part { OnErr result ((brought : List Event) × BringsFrames intake.old brought
-        × GivesPart A.engine now answerer.old brought output.old.items (W.contents writer.old) (W.contents writer.new)) }
+    ensures answered { OnOk result (AnswersWhatIsLeft A.engine now answerer.old backlog.old answerer.new backlog.new (W.contents writer.old) (W.contents writer.new)) }
+    ensures few { OnOk result (O.takes_all ≡ true → length backlog.old.held.bytes.items ≤ 65536 → length backlog.new.held.bytes.items ≤ 65536) }
+    ensures part { OnErr result (AnswersPartOfIt A.engine now answerer.old backlog.old (W.contents writer.old) (W.contents writer.new)) }
     ensures faults { IfErr result IsAnswerFault }
 {
-    'frames: while !answerer.is_done() {
-        let Ok(next) = intake.next_frame() else {
-            return Err(StreamError::Memory);
-        };
-        let Some(frame) = next else {
+    give_due(writer, answerer, now, &mut backlog.held)?;
+    'events: while !backlog.held.is_full() && !answerer.is_done() {
+        let Some(event) = backlog.next_event()? else {
             return Ok(());
         };
-        answer_event(writer, answerer, Event::Frame(frame), now, output)?;
+        answer_event(writer, answerer, event, now, &mut backlog.held)?;
     }
     Ok(())
 }
 
-/// Gives what is due from before a turn.
-fn begin_answers<W: Write, A: Answerer>(
+/// Lets go of what is held, unless the next turn brings bytes that were read before. If more than 65,536 bytes are held or nothing is left
+/// to be done, it does so all the same.
+fn send_unless_ahead<R: Read, W: Write, O: Outlet, A: Answerer>(
+    reads: &CountedReads<R>,
     writer: &mut W,
-    answerer: &mut A,
-    now: Moment,
-    output: &mut Vec<u8>,
+    answerer: &A,
+    held: &mut Held<O>,
 ) -> Result<(), StreamError>
-    ensures answered { OnOk result ((text : List ℕ) × AnswersAll A.engine now answerer.old [] text answerer.new
-        × Gives text [] output.new.items (W.contents writer.old) (W.contents writer.new)) }
-    ensures part { OnErr result (GivesPart A.engine now answerer.old [] [] (W.contents writer.old) (W.contents writer.new)) }
-    ensures faults { IfErr result IsAnswerFault }
+    ensures given { OnOk result (Gives [] held.old.bytes.items held.new.bytes.items (W.contents writer.old) (W.contents writer.new)) }
+    ensures sent { OnOk result (O.takes_all ≡ true → (held.new.bytes.items ≡ []) ⊎ (IsAhead reads.now × (A.engine.is_done answerer.now ≡ false) × (length held.new.bytes.items ≤ 65536))) }
+    ensures part { OnErr result (WrotePart held.old.bytes.items (W.contents writer.old) (W.contents writer.new)) }
+    ensures fault { IfErr result (λ error. error ≡ StreamError.Write) }
 {
-    output.clear();
-    give_due(writer, answerer, now, output)
+    if held.is_full() || answerer.is_done() || !reads.is_ahead() {
+        held.let_go(writer)?;
+    }
+    Ok(())
 }
 
-/// Answers that a turn is over, and sends what is held.
-fn end_answers<W: Write, A: Answerer>(
+/// Makes one turn: goes on with what the last turn left or else reads once, and answers. It is cut once more than 65,536 bytes are held:
+/// then the rest is left for a later turn. With so many from before that can't go out, nothing is read or answered.
+///
+/// What is held goes out before the reader is asked, and at the end of the turn unless the next turn brings bytes that were read before.
+pub fn turn<R: Read, W: Write, O: Outlet, A: Answerer>(
+    reads: &mut CountedReads<R>,
     writer: &mut W,
     answerer: &mut A,
-    now: Moment,
-    output: &mut Vec<u8>,
-) -> Result<(), StreamError>
-    requires { IsReady A.engine answerer.old }
-    ensures answered { OnOk result ((text : List ℕ) × AnswersAll A.engine now answerer.old (Over ∷ []) text answerer.new
-        × Appends (W.contents writer.old) (W.contents writer.new) (output.old.items ++ text)) }
-    ensures part { OnErr result (GivesPart A.engine now answerer.old (Over ∷ []) output.old.items (W.contents writer.old) (W.contents writer.new)) }
+    backlog: &mut Backlog<O>,
+    buffer: &mut [u8],
+) -> Result<Turned, StreamError>
+    requires { 0 < length buffer.old }
+    ensures turned { IfOk result (TurnsTo A.engine R.remaining answerer.old answerer.new
+        (work_of W.contents reads.old reads.new writer.old writer.new backlog.old backlog.new)) }
+
+    // By an outlet that always takes all, nothing is held where the next turn asks the reader, and no turn is cut.
+    ensures sent { IfOk result (λ turned. O.takes_all ≡ true → (backlog.new.held.bytes.items ≡ []) ⊎ (IsAhead reads.new × (is_last turned ≡ false))) }
+    ensures uncut { IfOk result (λ turned. O.takes_all ≡ true → turned ≢ Turned.Full) }
+
+    // After a fault a prefix of what was held and of the answers went out.
+    ensures part { OnErr result (TurnsToPart A.engine R.remaining answerer.old answerer.new
+        (work_of W.contents reads.old reads.new writer.old writer.new backlog.old backlog.new)) }
     ensures faults { IfErr result IsAnswerFault }
 {
-    answer_event(writer, answerer, Event::Over, now, output)?;
-    send(writer, output)
+    send_unless_ahead(reads, writer, answerer, &mut backlog.held)?;
+    if backlog.held.is_full() {
+        return Ok(Turned::Full);
+    }
+    if answerer.is_done() {
+        return Ok(Turned::Done);
+    }
+    let turned = backlog.take_in(reads, buffer)?;
+    if turned.is_last() {
+        backlog.held.let_go(writer)?;
+        return Ok(turned);
+    }
+    let Ok(now) = answerer.begin_turn() else {
+        backlog.held.let_go(writer)?;
+        return Ok(Turned::Stopped);
+    };
+    answer_left(writer, answerer, backlog, now)?;
+    let is_cut = backlog.held.is_full();
+    if is_cut {
+        return Ok(Turned::Full);
+    }
+    send_unless_ahead(reads, writer, answerer, &mut backlog.held)?;
+    if answerer.is_done() {
+        return Ok(Turned::Done);
+    }
+    Ok(turned)
 }
 
-/// Answers a turn that gave bytes, and sends the answers.
-fn answer_bytes<W: Write, A: Answerer>(
+/// Makes turns until the input is at its end, reading stops or nothing is left to be done, by an outlet that always takes all.
+fn make_turns<R: Read, W: Write, O: Outlet, A: Answerer>(
+    reads: &mut CountedReads<R>,
     writer: &mut W,
     answerer: &mut A,
-    intake: &mut Intake,
-    now: Moment,
-    output: &mut Vec<u8>,
+    backlog: &mut Backlog<O>,
 ) -> Result<(), StreamError>
-    ensures answered { OnOk result ((brought : List Event) × LeavesKept A.engine intake.old brought answerer.new intake.new
-        × (text : List ℕ) × AnswersAll A.engine now answerer.old (brought ++ Over ∷ []) text answerer.new
-        × Appends (W.contents writer.old) (W.contents writer.new) text) }
-    ensures part { OnErr result ((brought : List Event) × BringsFrames intake.old brought
-        × GivesPart A.engine now answerer.old (brought ++ Over ∷ []) [] (W.contents writer.old) (W.contents writer.new)) }
-    ensures faults { IfErr result IsAnswerFault }
+    requires takes_all { O.takes_all ≡ true }
+    requires empty { IsEmpty backlog.old }
+    ensures done { OnOk result (Served A.engine answerer.old answerer.new (streams_of R.remaining W.contents reads.old reads.new writer.old writer.new)) }
+    ensures answered { IsErrOf result StreamError.Read
+        → ServedSoFar A.engine answerer.old answerer.new (streams_of R.remaining W.contents reads.old reads.new writer.old writer.new) }
+    ensures stopped { IsErrOf result StreamError.Read → HasStopped reads.new ⊎ FailsToBegin A.engine answerer.new }
+    ensures part { ServedInPart A.engine answerer.old (streams_of R.remaining W.contents reads.old reads.new writer.old writer.new) }
 {
-    begin_answers(writer, answerer, now, output)?;
-    answer_frames(writer, answerer, intake, now, output)?;
-    end_answers(writer, answerer, now, output)
-}
-
-/// Answers a turn that gave nothing, and sends the answers.
-fn answer_silence<W: Write, A: Answerer>(
-    writer: &mut W,
-    answerer: &mut A,
-    now: Moment,
-    output: &mut Vec<u8>,
-) -> Result<(), StreamError>
-    ensures answered { OnOk result ((text : List ℕ) × AnswersAll A.engine now answerer.old (Silence ∷ Over ∷ []) text answerer.new
-        × Appends (W.contents writer.old) (W.contents writer.new) text) }
-    ensures part { OnErr result (GivesPart A.engine now answerer.old (Silence ∷ Over ∷ []) [] (W.contents writer.old) (W.contents writer.new)) }
-    ensures faults { IfErr result IsAnswerFault }
-{
-    begin_answers(writer, answerer, now, output)?;
-    answer_event(writer, answerer, Event::Silence, now, output)?;
-    end_answers(writer, answerer, now, output)
+    let mut buffer = [0; LONGEST_READ];
+    'turns: loop {
+        match turn(reads, writer, answerer, backlog, &mut buffer)? {
+            Turned::Again | Turned::Waits | Turned::Full => {}
+            Turned::Done | Turned::End => return Ok(()),
+            Turned::Stopped => return Err(StreamError::Read),
+        }
+    }
 }
 
 /// Answers what the reader gives, turn by turn, until it is at its end or nothing is left to be done.
 ///
-/// The answers to a turn are sent before the next turn, and also once there are more than 65,536 bytes of them.
+/// The answers to a turn are sent before the next read of the reader, and also once there are more than 65,536 bytes of them.
 pub fn run<R: Read, W: Write, A: Answerer>(
     alloc: Global,
     reads: &mut CountedReads<R>,
@@ -212,29 +219,6 @@ pub fn run<R: Read, W: Write, A: Answerer>(
     // In any case, and so after each error: what was written is a prefix of the answers to what was read.
     ensures part { ServedInPart A.engine answerer.old (streams_of R.remaining W.contents reads.old reads.new writer.old writer.new) }
 {
-    let mut intake = Intake::new(alloc);
-    let mut output = Vec::new(alloc);
-    let mut buffer = [0; LONGEST_READ];
-    'turns: while !answerer.is_done() {
-        match reads.turn(&mut buffer) {
-            Turn::Stopped => return Err(StreamError::Read),
-            Turn::Bytes(0) => return Ok(()),
-            Turn::Bytes(count) => {
-                let Ok(now) = answerer.begin_turn() else {
-                    return Err(StreamError::Read);
-                };
-                let Ok(()) = intake.push(&buffer[..count]) else {
-                    return Err(StreamError::Memory);
-                };
-                answer_bytes(writer, answerer, &mut intake, now, &mut output)?;
-            }
-            Turn::Nothing => {
-                let Ok(now) = answerer.begin_turn() else {
-                    return Err(StreamError::Read);
-                };
-                answer_silence(writer, answerer, now, &mut output)?;
-            }
-        }
-    }
-    Ok(())
+    let mut backlog = Backlog::new(alloc, Blocking);
+    make_turns(reads, writer, answerer, &mut backlog)
 }

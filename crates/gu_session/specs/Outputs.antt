@@ -2,6 +2,10 @@
 use Rattle.std.specs.Prelude.{◌≡◌, ◌++◌, ℕ, Bool, true, false, List, [], Option, None, Some}
 use Rattle.std.specs.List.{filter_map, flat_map, list_any}
 use Rattle.std.specs.Option.{option_to_list}
+use Rattle.gu_terms.specs.declared.firm.FirmId.{FirmId}
+use Rattle.gu_msgs.specs.Asking.{request_of}
+use Rattle.gu_msgs.specs.declared.asking.Asking.{Asking}
+use Rattle.gu_msgs.specs.declared.asking.Request.{Request}
 use Rattle.gu_session.specs.States.{SessionState}
 use Rattle.gu_session.specs.Steps.{StepsWith}
 use Rattle.gu_session.specs.declared.input.Input.{Input}
@@ -21,6 +25,10 @@ abbrev pub handed_in : Output → Option Asked
 handed_in (Send bytes) = None
 handed_in (Hand asked) = Some asked
 handed_in Close = None
+
+-- the firm asks this
+abbrev pub IsAskedBy : FirmId → Request → Type 0
+IsAskedBy firm request = (asking : Asking) × (request ≡ request_of firm asking)
 
 -- the close
 abbrev pub is_close : Output → Bool

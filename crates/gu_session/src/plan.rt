@@ -2,6 +2,7 @@
 
 ghost use Rattle.std.specs.Prelude.{◌≡◌, ◌+◌, ◌<◌, ◌≤◌, ◌∷◌, [], length, slice_get, Some, IfOk};
 ghost use Rattle.gu_msgs.specs.Written.{outbound_of};
+ghost use Rattle.gu_session.specs.Outputs.{IsAskedBy};
 ghost use Rattle.gu_session.specs.Plans.{answers, hands, leaves, quiet, repeats, says};
 ghost use Rattle.gu_session.specs.Sending.{asked_of, numbered};
 
@@ -58,6 +59,13 @@ impl Model for BoxedRequest {
 }
 
 impl BoxedRequest {
+    /// Returns the firm that asks.
+    pub fn firm(&self) -> FirmId
+        ensures { IsAskedBy result self.now }
+    {
+        self.firm
+    }
+
     /// The request, taken out.
     pub fn into_inner(self) -> Request
         ensures { result ≡ self }

@@ -1,17 +1,39 @@
 -- Counted reads: what a reader has left, of bytes and of reads, and whether one of its reads failed.
-use Rattle.std.specs.Prelude.{◌≡◌, ◌<◌, ◌≤◌, ◌⊎◌, ℕ, ◌+◌, ◌-◌, ◌==◌, ◌||◌, Bool, true, not, List, Option, length, take}
+use Rattle.std.specs.Prelude.{◌≡◌, ◌≢◌, ◌<◌, ◌≤◌, ◌⊎◌, ℕ, ◌+◌, ◌-◌, ◌==◌, ◌||◌, Bool, true, not, List, [], Option, length, take}
+use Rattle.std.specs.Io.Buffered.{reader_buffer, reader_inner, reader_remaining}
 use Rattle.std.specs.Io.KnownBytes.{Consumes, IsAtEnd, Keeps}
 use Rattle.gu_streams.specs.declared.counted_reads.CountedReads.{CountedReads}
+use Rattle.gu_streams.specs.declared.source.Source.{Source}
+use Rattle.gu_streams.specs.declared.source.Source.TheVariants.{Direct, Ahead}
 use Rattle.gu_streams.specs.declared.turn.Turn.{Turn}
 use Rattle.gu_streams.specs.declared.turn.Turn.TheVariants as turn
 
+-- the reader under a source
+abbrev pub reader_in : {R : Type 0} → Source R → R
+reader_in (Direct reader) = reader
+reader_in (Ahead reader) = reader_inner reader
+
+-- the bytes that a source has left: those that were read ahead, and then those of its reader, where they are known
+abbrev pub left_in : {R : Type 0} → (R → Option (List ℕ)) → Source R → Option (List ℕ)
+left_in remaining (Direct reader) = remaining reader
+left_in remaining (Ahead reader) = reader_remaining remaining reader
+
+-- some bytes were read ahead
+abbrev pub HasAhead : {R : Type 0} → Source R → Type 0
+HasAhead (Direct reader) = ⊥
+HasAhead (Ahead reader) = reader_buffer reader ≢ []
+
+-- where the reads come from
+abbrev pub source_of : {R : Type 0} → CountedReads R → Source R
+source_of reads = reads.source
+
 -- the reader whose reads are counted
 abbrev pub reader_under : {R : Type 0} → CountedReads R → R
-reader_under reads = reads.reader
+reader_under reads = reader_in reads.source
 
--- the bytes that it has left: those of the reader underneath, where they are known
+-- the bytes that it has left, where they are known
 abbrev pub bytes_left : {R : Type 0} → (R → Option (List ℕ)) → CountedReads R → Option (List ℕ)
-bytes_left remaining reads = remaining (reader_under reads)
+bytes_left remaining reads = left_in remaining reads.source
 
 -- how many reads are left
 abbrev pub reads_left : {R : Type 0} → CountedReads R → ℕ
@@ -20,6 +42,10 @@ reads_left reads = reads.left
 -- no read is left
 abbrev pub is_spent : {R : Type 0} → CountedReads R → Bool
 is_spent reads = reads_left reads == 0
+
+-- the next turn brings bytes that were read ahead
+abbrev pub IsAhead : {R : Type 0} → CountedReads R → Type 0
+IsAhead reads = (0 < reads_left reads) × HasAhead reads.source
 
 -- the reader answered an error in one of its reads
 abbrev pub has_failed : {R : Type 0} → CountedReads R → Bool

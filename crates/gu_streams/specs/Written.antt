@@ -12,3 +12,9 @@ pub record WrotePart (text : List ℕ) (output_old output_new : Option (List ℕ
   pub written : List ℕ
   pub appended : Appends output_old output_new written
   pub prefix : IsPrefixOf written text
+
+-- the first of what was held was written, and the rest is held
+pub record LetsGo (held_old held_new : List ℕ) (output_old output_new : Option (List ℕ)) : Type 0 where
+  pub sent : List ℕ
+  pub appended : Appends output_old output_new sent
+  pub parts : held_old ≡ sent ++ held_new

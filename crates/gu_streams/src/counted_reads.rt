@@ -1,26 +1,32 @@
 //! A reader whose reads are bounded in length and in number, and which remembers whether one failed.
 
-ghost use Rattle.std.specs.Prelude.{◌≡◌, ◌-◌, ◌≤◌, ◌||◌, ◌&&◌, true, false, not, min, IfOk, IsErr};
+ghost use Rattle.std.specs.Prelude.{◌≡◌, ◌↔◌, ◌-◌, ◌≤◌, ◌||◌, ◌&&◌, true, false, not, min, IfOk, IsErr, IsTrue};
 ghost use Rattle.std.specs.Result.{is_err};
 ghost use Rattle.std.specs.Io.{ReadsAtMost};
 ghost use Rattle.std.specs.Io.KnownBytes.{ReadConsumes};
 
+use crate::source::Source;
 use crate::turn::Turn;
+use std::alloc::{AllocError, Global};
 use std::io;
-use std::io::{ErrorKind, Read};
+use std::io::{BufReader, ErrorKind, Read};
 
 /// How many bytes are asked for at once at most.
 pub const LONGEST_READ: usize = 4_096;
+
+/// How many bytes are read at once at most where more is read than is asked for.
+const MOST_AHEAD: usize = 16_384;
 
 /// How many reads there are at most.
 pub const MOST_READS: u32 = 1_000_000;
 
 /// A reader, how many reads of it are left, how often it may have nothing for now, and whether one of its reads failed.
 ///
-/// Pass it by reference where it is to be asked afterwards: `&mut CountedReads<R>` is a reader too.
+/// Pass it by reference where it is to be asked afterwards: `&mut CountedReads<R>` is a reader too. It takes its reader by value, and gives
+/// it back by `into_reader`.
 #[derive(Drop)]
 pub struct CountedReads<R> {
-    reader: R,
+    source: Source<R>,
     left: u32,
     waits: u64,
     failed: bool,
@@ -40,17 +46,17 @@ fn is_wait(error: &io::Error) -> bool {
 }
 
 impl<R> CountedReads<R> {
-    ghost use Rattle.gu_streams.specs.Reads.{reader_under, has_failed, is_spent, reads_left, waits_left};
+    ghost use Rattle.gu_streams.specs.Reads.{has_failed, is_spent, reads_left, source_of, waits_left};
 
     /// A reader of which all reads are left. Each error of it is a failure.
     pub fn new(reader: R) -> Self
-        ensures reader { reader_under result ≡ reader }
+        ensures source { source_of result ≡ Source.Direct reader }
         ensures left { reads_left result ≡ 1000000 }
         ensures waits { waits_left result ≡ 0 }
         ensures fresh { has_failed result ≡ false }
     {
         CountedReads {
-            reader,
+            source: Source::Direct(reader),
             left: MOST_READS,
             waits: 0,
             failed: false,
@@ -60,13 +66,13 @@ impl<R> CountedReads<R> {
     /// A reader of which all reads are left, and which may have nothing for now: an error of the kind `WouldBlock` or `TimedOut`
     /// is no failure where it is asked by `turn`.
     pub fn patient(reader: R) -> Self
-        ensures reader { reader_under result ≡ reader }
+        ensures source { source_of result ≡ Source.Direct reader }
         ensures left { reads_left result ≡ 1000000 }
         ensures waits { waits_left result ≡ 18446744073709551615 }
         ensures fresh { has_failed result ≡ false }
     {
         CountedReads {
-            reader,
+            source: Source::Direct(reader),
             left: MOST_READS,
             waits: u64::MAX,
             failed: false,
@@ -89,7 +95,49 @@ impl<R> CountedReads<R> {
 }
 
 impl<R: Read> CountedReads<R> {
-    ghost use Rattle.gu_streams.specs.Reads.{IsTurn};
+    /// Returns a patient reader of which up to 16,384 bytes are read at once, where they have come. Its reads are those that are asked for:
+    /// of at most 4,096 bytes each.
+    pub fn reading_ahead(alloc: Global, reader: R) -> Result<Self, AllocError>
+    where
+        R: Drop,
+        ensures left { IfOk result (λ reads. bytes_left R.remaining reads ≡ R.remaining reader) }
+        ensures reads { IfOk result (λ reads. reads_left reads ≡ 1000000) }
+        ensures waits { IfOk result (λ reads. waits_left reads ≡ 18446744073709551615) }
+        ensures fresh { IfOk result (λ reads. has_failed reads ≡ false) }
+        ensures none { IfOk result (λ reads. IsAhead reads → ⊥) }
+    {
+        match BufReader::with_capacity(alloc, MOST_AHEAD, reader) {
+            Ok(reader) => Ok(CountedReads {
+                source: Source::Ahead(reader),
+                left: MOST_READS,
+                waits: u64::MAX,
+                failed: false,
+            }),
+            Err(_) => Err(AllocError),
+        }
+    }
+
+    /// Returns the reader. What was read ahead is lost.
+    pub fn into_reader(self) -> R
+        ensures { result ≡ reader_under self }
+    {
+        let CountedReads {
+            source,
+            left: _,
+            waits: _,
+            failed: _,
+        } = self;
+        source.into_reader()
+    }
+
+    /// Returns whether the next turn brings bytes that were read before, so that it doesn't ask the reader.
+    pub fn is_ahead(&self) -> bool
+        ensures { IsTrue result ↔ IsAhead self.now }
+    {
+        self.left > 0 && self.source.is_ahead()
+    }
+
+    ghost use Rattle.gu_streams.specs.Reads.{IsAhead, IsTurn, bytes_left, has_failed, reader_under, reads_left, waits_left};
 
     /// Asks the reader once. Where it has nothing for now, no read is counted and none failed, as long as it may.
     pub fn turn(&mut self, buf: &mut [u8]) -> Turn
@@ -99,7 +147,7 @@ impl<R: Read> CountedReads<R> {
             return Turn::Stopped;
         }
         let most = asked(buf.len());
-        match self.reader.read(&mut buf[..most]) {
+        match self.source.read(&mut buf[..most]) {
             Ok(count) => {
                 self.left -= 1;
                 Turn::Bytes(count)
@@ -137,7 +185,7 @@ impl<R: Read> Read for CountedReads<R> {
         }
         self.left -= 1;
         let most = asked(buf.len());
-        let read = self.reader.read(&mut buf[..most]);
+        let read = self.source.read(&mut buf[..most]);
         if read.is_err() {
             self.failed = true;
         }

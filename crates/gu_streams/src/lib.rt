@@ -3,10 +3,13 @@
 
 mod counted_reads;
 mod error;
+mod outlet;
 mod sending;
+mod source;
 mod turn;
 
 pub use counted_reads::{CountedReads, LONGEST_READ, MOST_READS};
 pub use error::StreamError;
-pub use sending::send;
+pub use outlet::{Blocking, NonBlocking, Outlet};
+pub use sending::{send, send_some};
 pub use turn::Turn;

@@ -1,4 +1,4 @@
-use Rattle.std.proofs.Common.{[], ℕ, List}
+use Rattle.std.proofs.Common.{◌≡◌, ◌≤◌, [], ℕ, List, length, true}
 use Rattle.gu_engine.specs.Running.{AnswersSome}
 use Rattle.gu_engine.specs.Sends.{Gives}
 use Rattle.gu_engine.proofs.running.give_due.Given as goal
@@ -8,7 +8,8 @@ abbrev pub invariant-parts : goal.invariant-parts
 invariant-parts g l = record {
   text : List ℕ;
   some : AnswersSome g.A.Answerer.engine l.now l.initial.answerer [] text l.answerer;
-  gives : Gives text l.initial.output.items l.output.items (g.W.Write.contents l.initial.writer) (g.W.Write.contents l.writer);
+  gives : Gives text l.initial.held.bytes.items l.held.bytes.items (g.W.Write.contents l.initial.writer) (g.W.Write.contents l.writer);
+  few : g.O.Outlet.takes_all ≡ true → length l.initial.held.bytes.items ≤ 65536 → length l.held.bytes.items ≤ 65536;
 }
 
 abbrev pub decreases-parts : goal.decreases-parts

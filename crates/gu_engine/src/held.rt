@@ -1,0 +1,63 @@
+//! Answers that are held.
+
+ghost use Rattle.std.specs.Prelude.{◌≡◌, ◌≤◌, ◌<◌, ◌↔◌, [], true, length, IfErr, IsTrue, OnErr, OnOk};
+ghost use Rattle.gu_streams.specs.Written.{WrotePart};
+ghost use Rattle.gu_engine.specs.Sends.{Gives};
+
+use gu_streams::{Outlet, StreamError};
+use std::alloc::Global;
+use std::io::Write;
+
+/// How many bytes may be held where one more event is answered: with more, a turn is cut.
+const MOST_HELD: usize = 65_536;
+
+/// Answers that are held, and how they go out.
+#[derive(Drop)]
+pub struct Held<O> {
+    pub(crate) bytes: Vec<u8>,
+    outlet: O,
+}
+
+impl<O> Held<O> {
+    /// Holds nothing yet.
+    pub(crate) fn new(alloc: Global, outlet: O) -> Self
+        ensures { result.bytes.items ≡ [] }
+    {
+        Held {
+            bytes: Vec::new(alloc),
+            outlet,
+        }
+    }
+
+    /// Returns whether more than 65,536 bytes are held.
+    pub(crate) fn is_full(&self) -> bool
+        ensures { IsTrue result ↔ 65536 < length self.now.bytes.items }
+    {
+        self.bytes.len() > MOST_HELD
+    }
+}
+
+impl<O: Outlet> Held<O> {
+    /// Lets go of a first part of what is held.
+    pub(crate) fn let_go<W: Write>(&mut self, writer: &mut W) -> Result<(), StreamError>
+        ensures given { OnOk result (Gives [] self.old.bytes.items self.new.bytes.items (W.contents writer.old) (W.contents writer.new)) }
+        ensures all { OnOk result (O.takes_all ≡ true → self.new.bytes.items ≡ []) }
+        ensures part { OnErr result (WrotePart self.old.bytes.items (W.contents writer.old) (W.contents writer.new)) }
+        ensures fault { IfErr result (λ error. error ≡ StreamError.Write) }
+    {
+        self.outlet.let_go(writer, &mut self.bytes)
+    }
+
+    /// Lets go of a first part of it, where it is much.
+    pub(crate) fn send_if_much<W: Write>(&mut self, writer: &mut W) -> Result<(), StreamError>
+        ensures given { OnOk result (Gives [] self.old.bytes.items self.new.bytes.items (W.contents writer.old) (W.contents writer.new)) }
+        ensures few { OnOk result (O.takes_all ≡ true → length self.new.bytes.items ≤ 65536) }
+        ensures part { OnErr result (WrotePart self.old.bytes.items (W.contents writer.old) (W.contents writer.new)) }
+        ensures fault { IfErr result (λ error. error ≡ StreamError.Write) }
+    {
+        if self.bytes.len() > MOST_HELD {
+            self.let_go(writer)?;
+        }
+        Ok(())
+    }
+}
