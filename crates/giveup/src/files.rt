@@ -24,9 +24,9 @@ pub fn digested_reference_at<'a, R: Files + Alloc<A = Global>>(
             return Err(Fault::refused(place, cause, RunError::from(RefFault::ReadFault)));
         }
     };
-    let mut digesting = Digesting::new(file);
-    let read = Reference::read(rt.alloc(), &mut CountedReads::new(&mut digesting));
-    let digest = digesting.digest();
+    let mut reads = CountedReads::new(Digesting::new(file));
+    let read = Reference::read(rt.alloc(), &mut reads);
+    let digest = reads.into_reader().digest();
     match read {
         Ok(reference) => Ok((reference, digest)),
         Err(fault) => Err(Fault::at(place, RunError::from(fault))),

@@ -1,41 +1,36 @@
 //! The server: a day at a desk on a port of this machine.
 
-ghost use Rattle.std.specs.Prelude.{◌≡◌};
+ghost use Rattle.std.specs.Prelude.{◌≡◌, IfOk};
 
 use crate::error::RunError;
 use crate::fault::{Fault, Place};
 use gu_book::Book;
-use gu_server::{Closed, Opening, WRITE_WAIT_MS, serve_day};
+use gu_server::{Closed, Opening, serve_day};
 use gu_streams::StreamError;
 use gu_terms::Receipt;
 use gu_words::Serving;
 use gu_world::World;
-use std::alloc::Global;
+use std::alloc::{AllocError, Global};
 use std::io::Write;
 use std::marker::Brand;
 use std::net::{Net, TcpListener, TcpStream};
 use std::rt::Clock;
 use std::sync::Wait;
-use std::sync::ledger::Blank;
 use std::thread::Threads;
 
 /// Returns what a server begins a day with: a book, the receipts of its entries, and what its words say.
-fn opening_of(book: Book, receipts: Vec<Receipt>, serving: &Serving<'_>) -> Opening
-    ensures book { result.book ≡ book }
-    ensures receipts { result.receipts ≡ receipts }
-    ensures connections { result.connections ≡ serving.now.connections }
-    ensures every { result.every ≡ serving.now.every }
+fn opening_of(
+    alloc: Global,
+    book: Book,
+    receipts: Vec<Receipt>,
+    serving: &Serving<'_>,
+) -> Result<Opening, AllocError>
+    ensures book { IfOk result (λ opening. (opening.book ≡ book) × (opening.receipts ≡ receipts)) }
+    ensures served { IfOk result (λ opening. (opening.connections ≡ serving.now.connections) × (opening.every ≡ serving.now.every)) }
 {
-    let parts = u64::from(serving.connections) + 3;
-    Opening {
-        book,
-        receipts,
-        connections: usize::from(serving.connections),
-        every: u64::from(serving.every),
-        write_wait_ms: WRITE_WAIT_MS,
-        entries: Blank::new(parts),
-        swept: Blank::new(parts),
-    }
+    let mut opening = Opening::new(alloc, book, receipts, usize::from(serving.connections))?;
+    opening.every = u64::from(serving.every);
+    Ok(opening)
 }
 
 /// Listens on a port of this machine, and serves connections from the world that a script led to. The receipts of the script are audited
@@ -65,6 +60,8 @@ pub fn serve<
         }
     };
     let receipts = world.outcomes().receipts(alloc).map_err(StreamError::from)?;
-    let opening = opening_of(world.into_book(), receipts, serving);
+    let opening = opening_of(alloc, world.into_book(), receipts, serving).map_err(
+        StreamError::from,
+    )?;
     Ok(serve_day::<Brand, Brand, R, T>(rt, alloc, opening, listener, terminal)?)
 }

@@ -1,0 +1,3 @@
+pub mod ReceiptLemmas
+pub mod SeatLemmas
+pub mod TellingLemmas

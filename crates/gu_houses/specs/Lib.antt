@@ -1,1 +1,3 @@
 pub mod BookHouse
+pub mod Receipts
+pub mod SeatHouse

@@ -1,6 +1,14 @@
-//! Houses that connections of firms talk to: a book of its own.
+//! Houses that connections of firms talk to: a book of its own, or a seat at the desk.
 #![tactic(auto)]
 
+mod at_desk;
+mod orders;
 mod over_book;
+mod seat_receipts;
+mod tally;
 
+pub use at_desk::AtDesk;
+pub use orders::{OpenOrders, Orders};
 pub use over_book::OverBook;
+pub use seat_receipts::SeatReceipts;
+pub use tally::{Counts, Tally};

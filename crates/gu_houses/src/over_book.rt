@@ -1,26 +1,20 @@
 //! A book as a house.
 
-ghost use Rattle.std.specs.Prelude.{◌≡◌, ◌⊎◌};
-ghost use Rattle.gu_houses.specs.BookHouse.{IsEntered, IsLeftOut};
+ghost use Rattle.std.specs.Prelude.{◌≡◌, ◌⊎◌, IfOk};
+ghost use Rattle.gu_houses.specs.BookHouse.{IsEntered, IsLeftOut, IsTold};
 
 use gu_book::{Answer, AskError, Book, EnterError};
-use gu_engine::House;
+use gu_engine::{Answered, Ask, House};
 use gu_msgs::Request;
 use gu_session::{Failure, Outcome};
-use gu_terms::{Command, FirmId, Stretch};
+use gu_terms::{Command, FirmId, Query, Stretch};
 use std::alloc::AllocError;
 use std::marker::Model;
 
 /// A book as a house: whatever is asked of it is answered at once. To a contract it is the book.
+#[derive(Drop)]
 pub struct OverBook {
     book: Book,
-}
-
-impl Drop for OverBook {
-    fn drop(self) {
-        let OverBook { book } = self;
-        drop(book);
-    }
 }
 
 impl Model for OverBook {
@@ -32,21 +26,21 @@ impl Model for OverBook {
 }
 
 impl OverBook {
-    /// The house of a book.
+    /// Creates the house of a book.
     pub fn new(book: Book) -> Self
         ensures { result ≡ book }
     {
         OverBook { book }
     }
 
-    /// Its book.
+    /// Returns its book.
     pub fn book(&self) -> &Book
         ensures { result.now ≡ self.now }
     {
         &self.book
     }
 
-    /// Its book, which outlives it.
+    /// Returns its book, which outlives it.
     pub fn into_book(self) -> Book
         ensures { result ≡ self }
     {
@@ -66,19 +60,35 @@ impl OverBook {
     }
 }
 
+impl OverBook {
+    /// Answers a question.
+    fn tell(&self, query: Query) -> Result<Outcome, AllocError>
+        ensures { IfOk result (IsTold self.now query) }
+    {
+        match self.book.answer(query) {
+            Ok(Answer::Positions(rows)) => Ok(Outcome::Positions(rows)),
+            Err(AskError::Memory) => Err(AllocError),
+            Ok(_) | Err(AskError::UnknownGroup) => Ok(Outcome::Positions(None)),
+        }
+    }
+}
+
 impl House for OverBook {
     ghost use Rattle.gu_houses.specs.BookHouse.{rules_of_book};
 
     ghost rules = { rules_of_book };
 
-    fn answer(&mut self, request: Request) -> Result<Outcome, AllocError> {
+    fn answer(&mut self, ask: Ask, from: u64) -> Result<Answered, AllocError> {
+        let Ask { firm, request, .. } = ask;
         match request {
-            Request::Enter(command) => Ok(self.enter(&command)),
-            Request::Ask(query) => match self.book.answer(query) {
-                Ok(Answer::Positions(rows)) => Ok(Outcome::Positions(rows)),
-                Err(AskError::Memory) => Err(AllocError),
-                Ok(_) | Err(AskError::UnknownGroup) => Ok(Outcome::Positions(None)),
-            },
+            Request::Enter(command) => Ok(Answered {
+                outcome: self.enter(&command),
+                stretch: self.book.stretch(firm, from).ok(),
+            }),
+            Request::Ask(query) => Ok(Answered {
+                outcome: self.tell(query)?,
+                stretch: None,
+            }),
         }
     }
 

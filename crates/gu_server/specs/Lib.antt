@@ -1,4 +1,2 @@
 pub mod DayEnds
-pub mod ReadAhead
 pub mod Receipts
-pub mod SeatHouse

@@ -3,11 +3,11 @@
 use crate::cause::Cause;
 use crate::crew::Crew;
 use crate::floor::Floor;
-use crate::seat_receipts::SeatReceipts;
 use crate::talking::talk;
 use crate::telling::tell_pause;
 use crossbeam_channel::{Receiver, Sender};
 use gu_desk::{EntryLedger, LotLedger, SweepOrder};
+use gu_houses::SeatReceipts;
 use gu_streams::StreamError;
 use std::alloc::{AllocError, Global};
 use std::net::{TcpListener, TcpStream};
@@ -17,27 +17,12 @@ use std::thread::{Scope, Threads};
 
 /// The ends of the channels that a thread has which serves connections: where its seat and the connections come from, where it says that
 /// one has ended, and where orders to sweepers go.
+#[derive(Drop)]
 struct TalkerEnds<E: EntryLedger, S: LotLedger> {
     seats: Receiver<SeatReceipts<E, S>>,
     calls: Receiver<TcpStream>,
     ended: Sender<()>,
     orders: Sender<SweepOrder>,
-}
-
-// By hand, so that each exit of a caller drops it by one call.
-impl<E: EntryLedger, S: LotLedger> Drop for TalkerEnds<E, S> {
-    fn drop(self) {
-        let TalkerEnds {
-            seats,
-            calls,
-            ended,
-            orders,
-        } = self;
-        drop(seats);
-        drop(calls);
-        drop(ended);
-        drop(orders);
-    }
 }
 
 impl<E: EntryLedger, S: LotLedger> TalkerEnds<E, S> {
@@ -53,27 +38,12 @@ impl<E: EntryLedger, S: LotLedger> TalkerEnds<E, S> {
 }
 
 /// The other ends of these channels: where seats and connections go, and where it is said that a connection has ended.
+#[derive(Drop)]
 pub struct Ends<E: EntryLedger, S: LotLedger> {
     seats: Sender<SeatReceipts<E, S>>,
     calls: Sender<TcpStream>,
     ended: Receiver<()>,
     talkers: TalkerEnds<E, S>,
-}
-
-// By hand, so that each exit of a caller drops it by one call.
-impl<E: EntryLedger, S: LotLedger> Drop for Ends<E, S> {
-    fn drop(self) {
-        let Ends {
-            seats,
-            calls,
-            ended,
-            talkers,
-        } = self;
-        drop(seats);
-        drop(calls);
-        drop(ended);
-        drop(talkers);
-    }
 }
 
 impl<E: EntryLedger, S: LotLedger> Ends<E, S> {
@@ -102,6 +72,7 @@ impl<E: EntryLedger, S: LotLedger> Ends<E, S> {
 }
 
 /// Where connections come in: the listener, and the channels of the threads that serve them.
+#[derive(Drop)]
 pub struct Entrance<E: EntryLedger, S: LotLedger> {
     listener: TcpListener,
     ends: Ends<E, S>,
@@ -109,20 +80,6 @@ pub struct Entrance<E: EntryLedger, S: LotLedger> {
     threads: usize,
     /// How many connections are under way.
     busy: usize,
-}
-
-// By hand, so that each exit of a caller drops it by one call.
-impl<E: EntryLedger, S: LotLedger> Drop for Entrance<E, S> {
-    fn drop(self) {
-        let Entrance {
-            listener,
-            ends,
-            threads: _,
-            busy: _,
-        } = self;
-        drop(listener);
-        drop(ends);
-    }
 }
 
 impl<E: EntryLedger, S: LotLedger> Entrance<E, S> {

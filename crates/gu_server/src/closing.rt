@@ -1,6 +1,6 @@
 //! The end of a day: the seats come back, the desk is closed, and there are as many receipts as entries.
 
-ghost use Rattle.std.specs.Prelude.{◌≡◌, ◌++◌, ◌≤◌, [], length, sum_by, IfOk, List, OnOk, Option, codes, decimal, is_none, string_bytes};
+ghost use Rattle.std.specs.Prelude.{◌≡◌, ◌++◌, ◌≤◌, [], length, IfOk, List, OnOk, Option, codes, decimal, is_none, string_bytes};
 ghost use Rattle.gu_terms.specs.Histories.{lots_swept};
 ghost use Rattle.gu_terms.specs.declared.receipt.Receipt.{Receipt};
 ghost use Rattle.gu_desk.specs.declared.error.AuditFault.{AuditFault as FaultOf};
@@ -8,32 +8,20 @@ ghost use Rattle.gu_server.specs.DayEnds.{Finds, audit_text, day_text};
 ghost use Rattle.gu_server.specs.Receipts.{AddsReceipts, EndsWith};
 
 use crate::day_receipts::DayReceipts;
-use crate::seat_receipts::SeatReceipts;
 use crate::serving::Shift;
 use gu_book::Book;
 use gu_desk::{AuditFault, Desk, EntryLedger, LotLedger, Seat};
+use gu_houses::SeatReceipts;
 use gu_streams::StreamError;
 use gu_terms::Receipt;
 use std::alloc::{AllocError, Global};
 
 /// The book of a day that has ended, with its receipts, and why not every connection was accepted, where that is so.
+#[derive(Drop)]
 pub struct Closed {
     pub book: Book,
     pub receipts: DayReceipts,
     pub fault: Option<StreamError>,
-}
-
-// By hand, so that each exit of a caller drops it by one call.
-impl Drop for Closed {
-    fn drop(self) {
-        let Closed {
-            book,
-            receipts,
-            fault: _,
-        } = self;
-        drop(book);
-        drop(receipts);
-    }
 }
 
 /// The three lines of a day's end, and whether the audit found nothing wrong.
@@ -112,19 +100,11 @@ impl Closed {
 
 /// Room for what the threads of a day hand back, made before they begin: where there is room enough, the end of the day allocates
 /// nothing until the audit, so it isn't lost where memory has run out.
+#[derive(Drop)]
 pub struct Ending<E: EntryLedger, S: LotLedger> {
     seats: Vec<Seat<E, S>>,
     receipts: DayReceipts,
     ghost none_yet: { seats.items ≡ [] },
-}
-
-// By hand, so that each exit of a caller drops it by one call.
-impl<E: EntryLedger, S: LotLedger> Drop for Ending<E, S> {
-    fn drop(self) {
-        let Ending { seats, receipts } = self;
-        drop(seats);
-        drop(receipts);
-    }
 }
 
 impl<E: EntryLedger, S: LotLedger> Ending<E, S> {
@@ -154,8 +134,8 @@ fn gather<E: EntryLedger, S: LotLedger>(
     receipts: &mut DayReceipts,
     one: SeatReceipts<E, S>,
 ) -> Result<(), AllocError>
-    ensures { (before : List Receipt) → EndsWith E.reference E.opening (sum_by (λ s. s.entries) seats.old.items) before receipts.old
-        → OnOk result (EndsWith E.reference E.opening (sum_by (λ s. s.entries) seats.new.items) before receipts.new) }
+    ensures { (before : List Receipt) → EndsWith (length E.opening) seats.old.items before receipts.old
+        → OnOk result (EndsWith (length E.opening) seats.new.items before receipts.new) }
 {
     let (seat, more) = one.into_parts();
     receipts.add(more)?;
@@ -170,7 +150,7 @@ fn apart<E: EntryLedger, S: LotLedger>(
     receipts: &mut DayReceipts,
 ) -> Result<Vec<Seat<E, S>>, AllocError>
     requires { seats.items ≡ [] }
-    ensures { IfOk result (λ seats. EndsWith E.reference E.opening (sum_by (λ s. s.entries) seats.items) receipts.old receipts.new) }
+    ensures { IfOk result (λ seats. EndsWith (length E.opening) seats.items receipts.old receipts.new) }
 {
     for one in keeping {
         gather(&mut seats, receipts, one)?;
@@ -185,11 +165,9 @@ pub fn close<E: EntryLedger, S: LotLedger>(
     ending: Ending<E, S>,
 ) -> Result<Closed, StreamError>
     ensures reference { IfOk result (λ closed. closed.book.reference ≡ E.reference) }
-    ensures entries { IfOk result (λ closed. E.opening ≤ length closed.book.history) }
     ensures lots { IfOk result (λ closed. S.opening ≤ lots_swept closed.book.history) }
-    ensures receipts { IfOk result (λ closed. AddsReceipts E.reference E.opening ending.receipts
-        closed.book.history closed.receipts) }
-    ensures count { length ending.receipts ≡ E.opening → IfOk result (λ closed. length closed.receipts ≡ length closed.book.history) }
+    ensures receipts { IfOk result (λ closed. AddsReceipts E.opening ending.receipts closed.book.history closed.receipts) }
+    ensures count { length ending.receipts ≡ length E.opening → IfOk result (λ closed. length closed.receipts ≡ length closed.book.history) }
     ensures fault { IfOk result (λ closed. closed.fault ≡ shift.fault) }
 {
     let (keeping, fault) = shift.into_parts();

@@ -2,9 +2,9 @@
 
 ghost use Rattle.std.specs.Prelude.{◌≡◌, ◌↔◌, ◌+◌, ◌<◌, ◌≤◌, [], ◌∷◌, ◌++◌, vec_capacity, vec_len, IfSome, IfNone, IsSome, OnOk};
 
-use crate::seat_receipts::SeatReceipts;
 use crossbeam_channel::Sender;
 use gu_desk::{EntryLedger, LotLedger};
+use gu_houses::SeatReceipts;
 use std::alloc::{AllocError, Global};
 use std::sync::Wait;
 use std::thread::{JoinHandle, Threads};
@@ -13,19 +13,11 @@ use std::thread::{JoinHandle, Threads};
 pub type Seated<E, S> = JoinHandle<Option<SeatReceipts<E, S>>>;
 
 /// The seats that no thread has, and the threads. There is room for the seats of all threads beside those that none has.
+#[derive(Drop)]
 pub struct Crew<E: EntryLedger, S: LotLedger> {
     seats: Vec<SeatReceipts<E, S>>,
     threads: Vec<Seated<E, S>>,
     ghost room: { vec_len seats + vec_len threads ≤ vec_capacity seats },
-}
-
-// By hand, so that each exit of a caller drops it by one call.
-impl<E: EntryLedger, S: LotLedger> Drop for Crew<E, S> {
-    fn drop(self) {
-        let Crew { seats, threads } = self;
-        drop(seats);
-        drop(threads);
-    }
 }
 
 impl<E: EntryLedger, S: LotLedger> Crew<E, S> {

@@ -2,18 +2,17 @@
 
 ghost use Rattle.std.specs.Prelude.{◌≡◌, ◌+◌, ◌≤◌, All, length, IfOk};
 ghost use Rattle.gu_terms.specs.Histories.{lots_swept};
-ghost use Rattle.gu_desk.specs.Totals.{IsEmpty};
+ghost use Rattle.gu_desk.specs.Seats.{IsNew};
 ghost use Rattle.gu_server.specs.Receipts.{AddsReceipts};
 
 use crate::closing::{Closed, Ending, close};
 use crate::floor::Floor;
-use crate::orders::OpenOrders;
-use crate::seat_receipts::SeatReceipts;
 use crate::serving::shift_at;
 use crate::sweeping::SWEEPERS;
-use crate::tally::Tally;
+use crate::talking::WRITE_WAIT_MS;
 use gu_book::Book;
-use gu_desk::{Desk, EntryLedger, LotLedger, Seat};
+use gu_desk::{BlankAnnals, Desk, EntryLedger, LotLedger, Seat};
+use gu_houses::{OpenOrders, SeatReceipts, Tally};
 use gu_streams::StreamError;
 use gu_terms::{FirmId, Receipt};
 use std::alloc::{AllocError, Global};
@@ -28,6 +27,8 @@ use std::thread::Threads;
 #[derive(Drop)]
 pub struct Opening {
     pub book: Book,
+    /// The book's history, as it will go on.
+    pub annals: BlankAnnals,
     /// The receipts of the entries that the book has.
     pub receipts: Vec<Receipt>,
     /// How many connections are accepted.
@@ -39,27 +40,57 @@ pub struct Opening {
     /// The blanks of the ledgers of entries and of swept lots.
     pub entries: Blank,
     pub swept: Blank,
+    ghost told: { annals.entries ≡ book.history },
     ghost some: { 1 ≤ connections },
     ghost few: { connections ≤ 32 },
     ghost parts: { (entries.parts ≡ connections + 3) × (swept.parts ≡ connections + 3) },
+}
+
+impl Opening {
+    /// Returns what a day begins with that has no orders of sweeps, until `every` says otherwise.
+    pub fn new(
+        alloc: Global,
+        book: Book,
+        receipts: Vec<Receipt>,
+        connections: usize,
+    ) -> Result<Self, AllocError>
+        requires { (1 ≤ connections) × (connections ≤ 32) }
+        ensures book { IfOk result (λ opening. (opening.book ≡ book) × (opening.receipts ≡ receipts)) }
+        ensures served { IfOk result (λ opening. (opening.connections ≡ connections) × (opening.every ≡ 0) × (opening.write_wait_ms ≡ 10000)) }
+    {
+        let annals = BlankAnnals::of(alloc, &book)?;
+        let parts = connections as u64 + 3;
+        Ok(Opening {
+            book,
+            annals,
+            receipts,
+            connections,
+            every: 0,
+            write_wait_ms: WRITE_WAIT_MS,
+            entries: Blank::new(parts),
+            swept: Blank::new(parts),
+        })
+    }
 }
 
 /// A desk over a book, with its seats.
 fn opened<E: EntryLedger, S: LotLedger>(
     alloc: Global,
     book: Book,
+    annals: BlankAnnals,
     seats: usize,
     entries: Blank,
     swept: Blank,
 ) -> Result<(Desk<E, S>, Vec<Seat<E, S>>), AllocError>
     requires seats { (1 ≤ seats) × (seats ≤ 64) }
     requires reference { book.reference ≡ E.reference }
-    requires opening { (length book.history ≡ E.opening) × (lots_swept book.history ≡ S.opening) }
+    requires opening { (book.history ≡ E.opening) × (lots_swept book.history ≡ S.opening) }
+    requires history { (annals.name ≡ E.history) × (annals.entries ≡ book.history) }
     requires entries { (entries.name ≡ E.name) × (entries.parts ≡ E.parts) × (entries.parts ≡ seats + 1) }
     requires swept { (swept.name ≡ S.name) × (swept.parts ≡ S.parts) × (swept.parts ≡ seats + 1) }
-    ensures { IfOk result (λ r. All IsEmpty r.1.items) }
+    ensures { IfOk result (λ r. All (IsNew E.opening) r.1.items) }
 {
-    match Desk::new(alloc, book, seats, entries, swept) {
+    match Desk::new(alloc, book, annals, seats, entries, swept) {
         Ok(made) => Ok(made),
         Err((refused, book)) => {
             drop(book);
@@ -73,7 +104,7 @@ fn with_receipts<E: EntryLedger, S: LotLedger>(
     alloc: Global,
     seats: Vec<Seat<E, S>>,
 ) -> Result<Vec<SeatReceipts<E, S>>, AllocError>
-    requires { All IsEmpty seats.items }
+    requires { All (IsNew E.opening) seats.items }
 {
     let mut keeping = Vec::with_capacity(alloc, seats.len())?;
     for seat in seats {
@@ -98,22 +129,19 @@ pub fn serve_day<
     terminal: Option<T>,
 ) -> Result<Closed, StreamError>
     requires reference { opening.book.reference ≡ E.reference }
-    requires history { (length opening.book.history ≡ E.opening) × (lots_swept opening.book.history ≡ S.opening) }
-    requires entries { (opening.entries.name ≡ E.name) × (opening.entries.parts ≡ E.parts) }
-    requires swept { (opening.swept.name ≡ S.name) × (opening.swept.parts ≡ S.parts) }
+    requires history { (opening.annals.name ≡ E.history) × (opening.book.history ≡ E.opening) × (lots_swept opening.book.history ≡ S.opening) }
+    requires blanks { (opening.entries.name ≡ E.name) × (opening.swept.name ≡ S.name) × (opening.entries.parts ≡ E.parts) × (opening.swept.parts ≡ S.parts) }
     ensures reference { IfOk result (λ closed. closed.book.reference ≡ E.reference) }
 
-    // What the book had at the opening it still has.
-    ensures entries { IfOk result (λ closed. E.opening ≤ length closed.book.history) }
     ensures lots { IfOk result (λ closed. S.opening ≤ lots_swept closed.book.history) }
 
-    // There are as many receipts as entries were made since; and as many as the book has entries, if there were at the opening.
-    ensures receipts { IfOk result (λ closed. AddsReceipts E.reference E.opening opening.receipts.items
-        closed.book.history closed.receipts) }
-    ensures count { length opening.receipts.items ≡ E.opening → IfOk result (λ closed. length closed.receipts ≡ length closed.book.history) }
+    // The opening's history goes on. There are as many receipts as entries since, each of one of these; in all as many as entries, if so then.
+    ensures receipts { IfOk result (λ closed. AddsReceipts E.opening opening.receipts.items closed.book.history closed.receipts) }
+    ensures count { length opening.receipts.items ≡ length E.opening → IfOk result (λ closed. length closed.receipts ≡ length closed.book.history) }
 {
     let Opening {
         book,
+        annals,
         receipts,
         connections,
         every,
@@ -124,7 +152,14 @@ pub fn serve_day<
     let open_orders = OpenOrders::new(alloc, book.reference().groups())?;
     let firms = Vec::from_slice(alloc, book.reference().firms())?;
     let tally = Tally::new();
-    let (desk, seats) = opened::<E, S>(alloc, book, connections + SWEEPERS, entries, swept)?;
+    let (desk, seats) = opened::<E, S>(
+        alloc,
+        book,
+        annals,
+        connections + SWEEPERS,
+        entries,
+        swept,
+    )?;
     let seats = with_receipts(alloc, seats)?;
     let ending = Ending::new(alloc, seats.len(), receipts)?;
     let floor = Floor {

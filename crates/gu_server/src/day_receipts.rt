@@ -13,16 +13,9 @@ use std::marker::Model;
 /// Receipts in parts, one for each thread that kept some. To a contract it is the list of all of them.
 ///
 /// A part is added as it is: no receipt is moved, and where there is room for the part nothing is allocated.
+#[derive(Drop)]
 pub struct DayReceipts {
     parts: Vec<KeptReceipts>,
-}
-
-// By hand, so that each exit of a caller drops it by one call.
-impl Drop for DayReceipts {
-    fn drop(self) {
-        let DayReceipts { parts } = self;
-        drop(parts);
-    }
 }
 
 impl Model for DayReceipts {

@@ -2,14 +2,14 @@
 
 ghost use Rattle.std.specs.Prelude.{◌≡◌};
 
-use crate::orders::OpenOrders;
-use crate::tally::Tally;
 use gu_desk::{Desk, EntryLedger, LotLedger};
+use gu_houses::{OpenOrders, Tally};
 use gu_terms::FirmId;
 use std::alloc::Global;
 
 /// What the threads of a server share: the desk, the firms of its reference, each of which may log on, the orders of sweeps that wait, and
 /// the counts.
+#[derive(Drop)]
 pub struct Floor<'a, E: EntryLedger, S: LotLedger, R> {
     pub rt: &'a R,
     pub alloc: Global,
@@ -22,19 +22,4 @@ pub struct Floor<'a, E: EntryLedger, S: LotLedger, R> {
     /// How many milliseconds a write to a connection waits for room.
     pub write_wait_ms: u64,
     ghost all_firms: { firms.now ≡ E.reference.firms },
-}
-
-impl<'a, E: EntryLedger, S: LotLedger, R> Drop for Floor<'a, E, S, R> {
-    fn drop(self) {
-        let Floor {
-            rt: _,
-            alloc: _,
-            desk: _,
-            firms: _,
-            open_orders: _,
-            tally: _,
-            every: _,
-            write_wait_ms: _,
-        } = self;
-    }
 }

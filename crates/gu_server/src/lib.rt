@@ -2,31 +2,22 @@
 #![tactic(auto)]
 
 mod accepting;
-mod ahead;
-mod at_desk;
 mod cause;
 mod closing;
 mod crew;
 mod day;
 mod day_receipts;
 mod floor;
-mod held;
-mod line;
-mod next;
-mod orders;
 mod quiet;
-mod seat_receipts;
 mod serving;
 mod sweeping;
 mod talking;
-mod tally;
 mod telling;
 mod timed;
 
 pub use closing::{Closed, DayEnd};
 pub use day::{Opening, serve_day};
 pub use day_receipts::DayReceipts;
-pub use orders::{OpenOrders, Orders};
 pub use quiet::{QuietTurn, TurnClock, Watched};
 pub use talking::WRITE_WAIT_MS;
 pub use timed::{LogonTimer, Timed};

@@ -6,11 +6,11 @@ ghost use denote.Param.Send.{IsSend, IsSync};
 use crate::accepting::{Ends, Entrance, accept_all};
 use crate::crew::Crew;
 use crate::floor::Floor;
-use crate::seat_receipts::SeatReceipts;
 use crate::sweeping::start_sweepers;
 use crate::telling::tell_all;
 use crossbeam_channel::Sender;
 use gu_desk::{EntryLedger, LotLedger};
+use gu_houses::SeatReceipts;
 use gu_streams::StreamError;
 use std::io::Write;
 use std::net::TcpListener;
@@ -20,17 +20,10 @@ use std::thread;
 use std::thread::{JoinHandle, Scope, Threads};
 
 /// The seats after a shift, and why not every connection was accepted, where that is so.
+#[derive(Drop)]
 pub struct Shift<E: EntryLedger, S: LotLedger> {
     seats: Vec<SeatReceipts<E, S>>,
     fault: Option<StreamError>,
-}
-
-// By hand, so that each exit of a caller drops it by one call.
-impl<E: EntryLedger, S: LotLedger> Drop for Shift<E, S> {
-    fn drop(self) {
-        let Shift { seats, fault: _ } = self;
-        drop(seats);
-    }
 }
 
 impl<E: EntryLedger, S: LotLedger> Shift<E, S> {
@@ -45,17 +38,10 @@ impl<E: EntryLedger, S: LotLedger> Shift<E, S> {
 }
 
 /// The thread that prints the counts at a terminal, until its channel's end here is gone.
+#[derive(Drop)]
 struct Teller {
     until: Sender<()>,
     thread: JoinHandle<()>,
-}
-
-impl Drop for Teller {
-    fn drop(self) {
-        let Teller { until, thread } = self;
-        drop(until);
-        drop(thread);
-    }
 }
 
 impl Teller {

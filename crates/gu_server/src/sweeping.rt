@@ -2,9 +2,9 @@
 
 use crate::crew::Crew;
 use crate::floor::Floor;
-use crate::seat_receipts::SeatReceipts;
 use crossbeam_channel::{Receiver, Sender};
-use gu_desk::{EntryLedger, LotLedger, SweepOrder};
+use gu_desk::{Direct, EntryLedger, LotLedger, SweepOrder};
+use gu_houses::SeatReceipts;
 use gu_streams::StreamError;
 use std::sync::Wait;
 use std::thread::{Scope, Threads};
@@ -13,20 +13,11 @@ use std::thread::{Scope, Threads};
 pub const SWEEPERS: usize = 2;
 
 /// The ends of the channels by which sweepers are reached: where their seats go, where these come from, and where orders come from.
+#[derive(Drop)]
 pub struct SweeperEnds<E: EntryLedger, S: LotLedger> {
     pub to: Sender<SeatReceipts<E, S>>,
     pub from: Receiver<SeatReceipts<E, S>>,
     pub orders: Receiver<SweepOrder>,
-}
-
-// By hand, so that each exit of a caller drops it by one call.
-impl<E: EntryLedger, S: LotLedger> Drop for SweeperEnds<E, S> {
-    fn drop(self) {
-        let SweeperEnds { to, from, orders } = self;
-        drop(to);
-        drop(from);
-        drop(orders);
-    }
 }
 
 /// Sweeps the group of an order. It doesn't wait from now on, so a give-up that is entered after the look has an order of its own. A sweep
@@ -37,7 +28,7 @@ fn sweep<E: EntryLedger, S: LotLedger, R: Wait>(
     order: &SweepOrder,
 ) {
     floor.open_orders.close(&order.group());
-    if let Ok(lots) = seat.sweep(floor.rt, floor.desk, order.group()) {
+    if let Ok(lots) = seat.sweep(floor.rt, floor.desk, order.group(), &Direct) {
         floor.tally.add_sweep(lots);
     }
 }

@@ -3,16 +3,13 @@
 ghost use Rattle.std.specs.Prelude.{◌≡◌};
 ghost use Rattle.gu_engine.specs.Exchange.{IsNew};
 
-use crate::at_desk::AtDesk;
 use crate::floor::Floor;
-use crate::line::Line;
-use crate::orders::Orders;
 use crate::quiet::{QuietTurn, TurnClock, Watched};
-use crate::seat_receipts::SeatReceipts;
 use crate::timed::{LogonTimer, Timed};
 use crossbeam_channel::Sender;
 use gu_desk::{EntryLedger, LotLedger, SweepOrder};
 use gu_engine::{Connection, SystemClock, converse};
+use gu_houses::{AtDesk, Orders, SeatReceipts};
 use gu_streams::{CountedReads, StreamError};
 use gu_terms::FirmId;
 use std::io;
@@ -103,19 +100,17 @@ fn exchange<'a, 'o, E: EntryLedger, S: LotLedger, R: Wait + Clock>(
     let Ok(firms) = Vec::from_slice(floor.alloc, floor.firms) else {
         return (house, Err(StreamError::Memory));
     };
-    let Ok(line) = Line::new(floor.alloc, stream) else {
+    let quiet = QuietTurn::new();
+    let reader = Watched::new(stream, SystemClock::new(floor.rt), &quiet);
+    let Ok(mut reads) = CountedReads::reading_ahead(floor.alloc, Timed::new(reader, &timer)) else {
         return (house, Err(StreamError::Memory));
     };
-    let quiet = QuietTurn::new();
     let clock = TurnClock::new(SystemClock::new(floor.rt), &quiet);
     let mut connection = connect(floor, firms, house, clock);
-    let reader = Watched::new(&line, SystemClock::new(floor.rt), &quiet);
-    let mut reads = CountedReads::patient(Timed::new(reader, &timer));
-    let mut writer = Timed::new(&line, &timer);
+    let mut writer = Timed::new(stream, &timer);
     let talked = converse(floor.alloc, &mut connection, &mut reads, &mut writer);
-    let sent = line.send_held();
     hang_up(floor.rt, stream);
-    (connection.into_house(), talked.and(sent))
+    (connection.into_house(), talked)
 }
 
 /// Serves a connection until it ends, from a seat, which comes back. A fault ends this connection alone.

@@ -1,8 +1,8 @@
 //! What a server says while it runs: its progress, at a terminal, and why it accepts no connection for now.
 
 use crate::cause::Cause;
-use crate::tally::{Counts, Tally};
 use crossbeam_channel::{Receiver, RecvTimeoutError};
+use gu_houses::{Counts, Tally};
 use std::io;
 use std::io::Write;
 use std::rt::Clock;

@@ -63,7 +63,7 @@ impl<'a, T, R> Timed<'a, T, R> {
 }
 
 /// Writes to a stream, again where a signal cut a write short before anything was taken.
-pub fn write_past_signals<T: Write>(stream: &mut T, buf: &[u8]) -> io::Result<usize>
+fn write_past_signals<T: Write>(stream: &mut T, buf: &[u8]) -> io::Result<usize>
     ensures appended { WriteAppends (T.contents stream.old) (T.contents stream.new) result buf.now }
     ensures bound { WritesAtMost result buf.now }
 {

@@ -1,6 +1,6 @@
 //! Days of a server, from the first connection to the audit.
 
-ghost use Rattle.std.specs.Prelude.{◌≡◌, length};
+ghost use Rattle.std.specs.Prelude.{◌≡◌};
 ghost use Rattle.gu_terms.specs.Histories.{lots_swept};
 ghost use denote.Param.Send.{IsSend, IsSync};
 
@@ -21,7 +21,6 @@ use std::marker::Brand;
 use std::net::{Net, TcpListener, TcpStream};
 use std::process::Abort;
 use std::rt::Clock;
-use std::sync::ledger::Blank;
 use std::sync::{Mutex, Wait};
 use std::test::Fail;
 use std::thread;
@@ -196,7 +195,8 @@ fn day<
     said: &Mutex<Vec<u8>>,
 ) -> Result<Closed, StreamError>
     requires reference { opening.book.reference ≡ E.reference }
-    requires history { (length opening.book.history ≡ E.opening) × (lots_swept opening.book.history ≡ S.opening) }
+    requires history { (opening.book.history ≡ E.opening) × (lots_swept opening.book.history ≡ S.opening) }
+    requires annals { opening.annals.name ≡ E.history }
     requires entries { (opening.entries.name ≡ E.name) × (opening.entries.parts ≡ E.parts) }
     requires swept { (opening.swept.name ≡ S.name) × (opening.swept.parts ≡ S.parts) }
 {
@@ -205,7 +205,7 @@ fn day<
     let (closed, visited) = thread::join(
         rt,
         || -> Result<Closed, StreamError>
-            requires { (opening.book.reference ≡ E.reference) × (length opening.book.history ≡ E.opening)
+            requires { (opening.book.reference ≡ E.reference) × (opening.book.history ≡ E.opening) × (opening.annals.name ≡ E.history)
                 × (lots_swept opening.book.history ≡ S.opening) × (opening.entries.name ≡ E.name) × (opening.entries.parts ≡ E.parts)
                 × (opening.swept.name ≡ S.name) × (opening.swept.parts ≡ S.parts)
                 × IsSync R.row × IsSend E.row × IsSync E.row × IsSend S.row × IsSync S.row }
@@ -221,16 +221,11 @@ fn opening_of(rt: &impl Abort, alloc: Global, row: &Row) -> Opening {
     let (book, receipts) = book_after(alloc, row.begin).ok().expect(rt, "a book");
     let connections = row.connections;
     assert!(rt; 1 <= connections && connections <= 32);
-    let parts = connections as u64 + 3;
-    Opening {
-        book,
-        receipts,
-        connections,
-        every: row.every,
-        write_wait_ms: row.doing.write_wait_ms(),
-        entries: Blank::new(parts),
-        swept: Blank::new(parts),
-    }
+    let opened = Opening::new(alloc, book, receipts, connections);
+    let mut opening = opened.ok().expect(rt, "an opening");
+    opening.every = row.every;
+    opening.write_wait_ms = row.doing.write_wait_ms();
+    opening
 }
 
 /// What the day of a row comes to, over a listener to which a first firm may have connected.

@@ -1,7 +1,7 @@
 //! Orders of sweeps that wait.
 
 use crate::opening::{A_TRADE_IN_EACH_GROUP, book_after};
-use gu_server::{OpenOrders, Orders};
+use gu_houses::{OpenOrders, Orders};
 use gu_terms::Group;
 use std::test::Fail;
 

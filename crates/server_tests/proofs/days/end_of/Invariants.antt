@@ -1,4 +1,3 @@
-use Rattle.std.proofs.Common.{length}
 use Rattle.gu_terms.specs.Histories.{lots_swept}
 use Rattle.server_tests.proofs.days.end_of.Given as goal
 
@@ -6,7 +5,7 @@ abbrev pub ghosts-day-E-Ledger : goal.ghosts-day-E-Ledger
 ghosts-day-E-Ledger g a = record { name = a.opening.entries.name; parts = a.opening.entries.parts }
 
 abbrev pub ghosts-day-E-EntryLedger : goal.ghosts-day-E-EntryLedger
-ghosts-day-E-EntryLedger g a = record { reference = a.opening.book.reference; opening = length a.opening.book.history }
+ghosts-day-E-EntryLedger g a = record { reference = a.opening.book.reference; opening = a.opening.book.history; history = a.opening.annals.name }
 
 abbrev pub ghosts-day-S-Ledger : goal.ghosts-day-S-Ledger
 ghosts-day-S-Ledger g a = record { name = a.opening.swept.name; parts = a.opening.swept.parts }

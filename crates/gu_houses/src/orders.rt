@@ -53,24 +53,13 @@ impl OpenOrders {
 }
 
 /// Where the order of every K-th accepted give-up of a connection goes. With 0 there are no orders.
+#[derive(Drop)]
 pub struct Orders<'a> {
     to: &'a Sender<SweepOrder>,
     open: &'a OpenOrders,
     every: u64,
     /// The accepted give-ups since the last one that was due.
     since: u64,
-}
-
-// By hand, so that each exit of a caller drops it by one call.
-impl Drop for Orders<'_> {
-    fn drop(self) {
-        let Orders {
-            to: _,
-            open: _,
-            every: _,
-            since: _,
-        } = self;
-    }
 }
 
 impl<'a> Orders<'a> {

@@ -1,0 +1,153 @@
+//! A seat at a desk as a house.
+
+ghost use Rattle.std.specs.Prelude.{◌≡◌, IfOk, IfSome};
+ghost use Rattle.gu_houses.specs.SeatHouse.{SeatAnswers, SeatTells, failure_of};
+
+use crate::orders::Orders;
+use crate::seat_receipts::SeatReceipts;
+use crate::tally::Tally;
+use gu_book::{Answer, AskError, EnterError};
+use gu_desk::{Desk, EntryLedger, LotLedger};
+use gu_engine::{Answered, Ask, House};
+use gu_msgs::Request;
+use gu_session::{Failure, Outcome};
+use gu_terms::{Command, FirmId, Query, Stretch};
+use std::alloc::AllocError;
+use std::marker::Model;
+use std::sync::Wait;
+
+/// Returns how a command fails that the desk doesn't enter: as full only where the desk says that the book is.
+fn failure_of(error: EnterError) -> Failure
+    ensures { result ≡ failure_of error }
+{
+    match error {
+        EnterError::Full => Failure::Full,
+        EnterError::Memory => Failure::Memory,
+    }
+}
+
+/// A seat at a desk as a house. To a contract it is the seat.
+///
+/// The notices that follow a command are had with it, in one hold of the lock.
+pub struct AtDesk<'a, 'o, E: EntryLedger, S: LotLedger, R: Wait> {
+    rt: &'a R,
+    desk: &'a Desk<E, S>,
+    tally: &'a Tally,
+    seat: SeatReceipts<E, S>,
+    orders: Orders<'o>,
+}
+
+impl<'a, 'o, E: EntryLedger, S: LotLedger, R: Wait> Drop for AtDesk<'a, 'o, E, S, R> {
+    fn drop(self) {
+        drop(self.into_seat());
+    }
+}
+
+impl<'a, 'o, E: EntryLedger, S: LotLedger, R: Wait> Model for AtDesk<'a, 'o, E, S, R> {
+    ghost use Rattle.gu_desk.specs.Seats.{SeatState};
+
+    ghost Value = { SeatState };
+
+    ghost view = { λ a. a.seat };
+}
+
+impl<'a, 'o, E: EntryLedger, S: LotLedger, R: Wait> AtDesk<'a, 'o, E, S, R> {
+    /// Creates the house of a seat at a desk, whose give-ups count for these orders.
+    pub fn new(
+        rt: &'a R,
+        desk: &'a Desk<E, S>,
+        tally: &'a Tally,
+        seat: SeatReceipts<E, S>,
+        orders: Orders<'o>,
+    ) -> Self
+        ensures { result ≡ seat }
+    {
+        AtDesk {
+            rt,
+            desk,
+            tally,
+            seat,
+            orders,
+        }
+    }
+
+    /// Returns the seat, with its receipts.
+    pub fn into_seat(self) -> SeatReceipts<E, S>
+        ensures { result ≡ self.entry }
+    {
+        let AtDesk {
+            rt: _,
+            desk: _,
+            tally: _,
+            seat,
+            orders,
+        } = self;
+        drop(orders);
+        seat
+    }
+
+    /// Sends the order of what was entered last, if it is due.
+    fn order(&mut self)
+        ensures { self.new ≡ self.old }
+    {
+        if let Some(receipt) = self.seat.last() {
+            self.orders.note(self.rt, receipt);
+        }
+    }
+
+    /// Enters a command of a firm, and says what became of it, with a stretch of what the firm is told from a number on.
+    fn enter(&mut self, command: Command, tell: (FirmId, u64)) -> Answered
+        ensures outcome { SeatAnswers E.reference self.old (Request.Enter command) result.outcome self.new }
+        ensures told { IfSome result.stretch (λ stretch. SeatTells E.reference self.new tell.0 tell.1 stretch self.new) }
+    {
+        match self.seat.enter(self.rt, self.desk, command, tell) {
+            Ok(entered) => {
+                self.tally.add_entry();
+                self.order();
+                Answered {
+                    outcome: Outcome::Replied(entered.reply),
+                    stretch: entered.stretch,
+                }
+            }
+            Err(error) => Answered {
+                outcome: Outcome::Failed(failure_of(error)),
+                stretch: None,
+            },
+        }
+    }
+
+    /// Answers a question for positions. A session asks nothing else.
+    fn tell(&mut self, query: Query) -> Result<Outcome, AllocError>
+        ensures { IfOk result (λ outcome. SeatAnswers E.reference self.old (Request.Ask query) outcome self.new) }
+    {
+        let Query::Positions { .. } = query else {
+            return Ok(Outcome::Positions(None));
+        };
+        match self.seat.ask(self.rt, self.desk, query) {
+            Ok(Answer::Positions(rows)) => Ok(Outcome::Positions(rows)),
+            Err(AskError::Memory) => Err(AllocError),
+            Ok(_) | Err(AskError::UnknownGroup) => Ok(Outcome::Positions(None)),
+        }
+    }
+}
+
+impl<'a, 'o, E: EntryLedger, S: LotLedger, R: Wait> House for AtDesk<'a, 'o, E, S, R> {
+    ghost use Rattle.gu_houses.specs.SeatHouse.{rules_of_seat};
+
+    ghost rules = { rules_of_seat E.reference };
+
+    fn answer(&mut self, ask: Ask, from: u64) -> Result<Answered, AllocError> {
+        let Ask { firm, request, .. } = ask;
+        match request {
+            Request::Enter(command) => Ok(self.enter(command, (firm, from))),
+            Request::Ask(query) => Ok(Answered {
+                outcome: self.tell(query)?,
+                stretch: None,
+            }),
+        }
+    }
+
+    fn notices(&mut self, firm: &FirmId, from: u64) -> Result<Stretch, AllocError> {
+        self.seat.stretch(self.rt, self.desk, *firm, from)
+    }
+}

@@ -1,7 +1,0 @@
-use Rattle.gu_server.proofs.ReceiptLemmas.{one_more}
-use Rattle.gu_server.proofs.seat_receipts.SeatReceipts.enter.Goals as goal
-
-pub invariant_of-self-2 : goal.invariant_of-self-2
-invariant_of-self-2 g c =
-    rw (c.in_ok-number.ensures.counted, c.push_reserved.ensures, c.reserve.ensures.same, c.receipt_of.ensures)
-    (one_more _ _ _ _ _ c.self.invariant c.in_ok-number.ensures.entered)

@@ -1,5 +1,0 @@
-use Rattle.gu_server.proofs.ReceiptLemmas.{last_entered}
-use Rattle.gu_server.proofs.seat_receipts.SeatReceipts.last.Goals as goal
-
-pub returns : goal.returns
-returns g c = rw (← c.self.view_is) (last_entered _ _ _ _ _ c.last.ensures.last c.self.invariant)
