@@ -1,0 +1,9 @@
+mod Moments
+mod Steps
+mod Texts
+mod Batches
+mod Settled
+mod Scans
+mod Blanking
+mod Appends
+mod Recorded
