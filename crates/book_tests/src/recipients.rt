@@ -159,3 +159,39 @@ fn an_entry_may_tell_the_firms_that_it_tells_and_no_others(rt: HostRuntime) {
     let want = firms_of_rows(alloc).ok().expect(&rt, "memory");
     assert!(rt; told == want, "{}", str::from_utf8(&told).unwrap_or("?"));
 }
+
+/// The firms of the sample that the book says each of its entries informs, a line for each entry.
+fn informed(alloc: Global, book: &Book) -> Result<Vec<u8>, AllocError> {
+    let mut text = Vec::new(alloc);
+    for place in 0..book.history().len() {
+        let firms = book.informs((place as u64).saturating_add(1));
+        append_names(&mut text, book.reference(), firms)?;
+        text.push(b'\n')?;
+    }
+    Ok(text)
+}
+
+#[test]
+fn a_book_says_whom_an_entry_informs_noted_or_not(rt: HostRuntime) {
+    let alloc = rt.alloc();
+    let mut world = world_of(&rt, alloc, "", "", Patience::Never);
+    for row in ROWS.lines() {
+        let (line, _) = columns(row);
+        follow(&rt, alloc, &mut world, "informs", line, Patience::Never);
+    }
+    let want = firms_of_rows(alloc).ok().expect(&rt, "memory");
+    let mut book = world.into_book();
+    let looked_up = informed(alloc, &book).ok().expect(&rt, "memory");
+    assert!(rt;
+        looked_up == want,
+        "{}",
+        str::from_utf8(&looked_up).unwrap_or("?")
+    );
+    assert!(rt; book.note_recipients().is_ok());
+    let noted = informed(alloc, &book).ok().expect(&rt, "memory");
+    assert!(rt; noted == want, "{}", str::from_utf8(&noted).unwrap_or("?"));
+    // No entry has these numbers.
+    for number in [0, 19, u64::MAX] {
+        assert!(rt; book.informs(number) == FirmFilter::NONE);
+    }
+}

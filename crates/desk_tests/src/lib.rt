@@ -18,6 +18,8 @@ mod memory;
 #[cfg(test)]
 mod opening;
 #[cfg(test)]
+mod questions;
+#[cfg(test)]
 mod reader;
 #[cfg(test)]
 mod reading;

@@ -6,6 +6,8 @@ mod books;
 #[cfg(test)]
 mod clocks;
 #[cfg(test)]
+mod closings;
+#[cfg(test)]
 mod conversations;
 #[cfg(test)]
 mod cuts;
@@ -23,5 +25,7 @@ mod rows;
 mod silence;
 #[cfg(test)]
 mod turns;
+#[cfg(test)]
+mod visits;
 #[cfg(test)]
 mod writes;

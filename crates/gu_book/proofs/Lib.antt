@@ -8,6 +8,7 @@ pub mod Counterparts
 pub mod CurrentLemmas
 pub mod CurrentViews
 pub mod DeedLemmas
+pub mod InformingLemmas
 pub mod Interest
 pub mod KeptDays
 pub mod KeptOffers

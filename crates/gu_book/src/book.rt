@@ -14,6 +14,7 @@ ghost use Rattle.gu_rules.specs.Reports.{open_day};
 ghost use Rattle.gu_rules.specs.Versions.{version_of};
 ghost use Rattle.gu_rules.specs.Views.{group_view};
 ghost use Rattle.gu_book.specs.Commits.{IsCurrent, Refuses, sweep_of};
+ghost use Rattle.gu_book.specs.Informing.{HoldsInformed};
 ghost use Rattle.gu_book.specs.Refusals.{commit_error_of};
 ghost use Rattle.gu_view.specs.View.{IsNested};
 
@@ -35,7 +36,7 @@ use crate::touching::{know, touch};
 use crate::versions::{Touched, Versions};
 use crate::views::view_of;
 use gu_flow::Proposal;
-use gu_notices::{FirmFilter, Log, note_recipients, notices_of, stretch_of};
+use gu_notices::{FirmFilter, Log, note_recipients, notices_of, recipients_of, stretch_of};
 use gu_ref::Reference;
 use gu_terms::{
     AccountId, Command, Day, Entry, FirmId, Group, History, KeptSweep, LimitRow, MOST_ENTRIES,
@@ -337,6 +338,36 @@ impl Book {
             recipients: &self.recipients,
         };
         stretch_of(self.alloc, &register, &log, &firm, from)
+    }
+
+    /// Returns a set of firms that may hold each firm that the entry at a place informs, of which no set is noted.
+    fn recipients_at(&self, place: usize) -> FirmFilter
+        requires { place < length self.now.history }
+        ensures { HoldsInformed self.now (place + 1) result }
+    {
+        // Shows the prover: no match id has more than two reports.
+        self.totals.trades.rules();
+        let register = register_of(&self.reference, &self.totals);
+        recipients_of(&register, &self.history.show(place))
+    }
+
+    /// Returns a set of firms that may hold each firm that the entry of a number has a notice for, and no firm if no entry has the number.
+    /// It needs no memory. A set that was noted is read, and any other is worked out from this entry alone.
+    pub fn informs(&self, number: u64) -> FirmFilter
+        ensures { HoldsInformed self.now number result }
+    {
+        if number == 0 || number > self.history.len() as u64 {
+            return FirmFilter::NONE;
+        }
+        let place = number as usize - 1;
+        match self.recipients.get(place) {
+            Some(firms) => {
+                // Shows the prover: no match id has more than two reports.
+                self.totals.trades.rules();
+                *firms
+            }
+            None => self.recipients_at(place),
+        }
     }
 
     /// The view of a group as the book is now: its open offers, and the room of each key that they come under.

@@ -21,7 +21,7 @@ mod views;
 pub use asking::Answer;
 pub use book::Book;
 pub use error::{AskError, CommitError, EnterError, SeenError};
-pub use gu_notices::LONGEST_STRETCH;
+pub use gu_notices::{FirmFilter, FirmPlace, LONGEST_STRETCH};
 pub use gu_rules::{
     a_group_has_few_open_offers, an_entry_elsewhere_leaves_the_view, an_entry_makes_few_offers,
     as_many_lots_are_held_long_as_short, each_offer_gives_up_a_trade_by_an_agreement,

@@ -7,11 +7,13 @@ ghost use Rattle.gu_ref.specs.Reference.{is_group};
 ghost use Rattle.gu_view.specs.Boards.{Shows};
 ghost use Rattle.gu_view.specs.View.{IsNested};
 ghost use Rattle.gu_rules.specs.Views.{group_view};
+ghost use Rattle.gu_book.specs.Commits.{sweep_of};
+ghost use Rattle.gu_book.specs.Informing.{HoldsInformed};
 ghost use Rattle.gu_book.specs.Questions.{IsAnswer, IsUnknown};
 ghost use Rattle.gu_desk.specs.Holds.{Asks, Enters, Sees, book_seen};
 ghost use Rattle.gu_desk.specs.Refusals.{refusal_of_second_hold};
 ghost use Rattle.gu_desk.specs.Seats.{IsNew};
-ghost use Rattle.gu_desk.specs.Sweeps.{DiffersIfStale, Sweeps};
+ghost use Rattle.gu_desk.specs.Sweeps.{DiffersIfStale, IsViewBefore, Sweeps};
 
 use crate::annals::{BlankAnnals, Front};
 use crate::error::{CloseFault, SweepError};
@@ -19,7 +21,10 @@ use crate::gate::Gate;
 use crate::ledger::{EntryLedger, LotLedger};
 use crate::locked_book::{Entered, LockedBook};
 use crate::seat::Seat;
-use gu_book::{Answer, AskError, Book, EnterError, SeenError, kept_sweep, swept_receipt};
+use gu_book::{
+    Answer, AskError, Book, EnterError, FirmFilter, SeenError, kept_sweep, swept_receipt,
+};
+use gu_flow::Proposal;
 use gu_terms::{Command, Entry, Group, Query, Receipt};
 use gu_view::{Board, View, ViewToken};
 use std::alloc::{AllocError, Global};
@@ -31,6 +36,27 @@ use std::sync::{Mutex, MutexGuard, Wait};
 /// How often the lock is tried before a thread sleeps for it. The hold of a command is mostly over within these tries, and waking
 /// a thread takes longer than such a hold.
 const TRIES: usize = 200;
+
+/// A sweep that was committed: its receipt, firms that hold each one that it informs, and its group's view just before it.
+#[derive(Drop)]
+pub struct Committed {
+    pub receipt: Receipt,
+    pub informs: FirmFilter,
+    pub view: ViewToken,
+}
+
+/// Returns the receipt of a sweep that was committed.
+fn receipt_of(committed: Committed) -> Receipt
+    ensures { result ≡ committed.receipt }
+{
+    let Committed {
+        receipt,
+        informs: _,
+        view,
+    } = committed;
+    drop(view);
+    receipt
+}
 
 /// A book behind a lock, for threads that each have a seat, and beside the lock a board of the views that were looked at.
 /// To a contract it is how many seats it has, and the board. The board keeps each view as long as the desk lives: one for each
@@ -142,6 +168,7 @@ impl<E: EntryLedger, S: LotLedger> Desk<E, S> {
         let Entered {
             number,
             reply,
+            informs: _,
             stretch: _,
         } = self.hold(rt).enter(seat, &command, None)?;
         Ok(Receipt {
@@ -223,21 +250,49 @@ impl<E: EntryLedger, S: LotLedger> Desk<E, S> {
         self.board.read(token)
     }
 
+    /// Commits a proposal in one hold of the lock, for which it may wait. Returns the number of the entry, and firms that hold each one
+    /// that it informs.
+    fn commit<R: Wait>(
+        &self,
+        rt: &R,
+        seat: &mut Seat<E, S>,
+        proposal: &Proposal,
+    ) -> Result<(u64, FirmFilter), SeenError>
+        requires known { is_group E.reference proposal.now.view.group ≡ true }
+        requires seen { proposal.now.view ≡ group_view E.reference seat.old.front proposal.now.view.group }
+        ensures entered { IfOk result (λ r. Enters E.reference seat.old
+            (record { number = r.0; entry = Entry.Swept (sweep_of proposal.now) }) seat.new) }
+        ensures later { IfOk result (λ r. length E.opening + seat.old.entries < r.0) }
+        ensures informs { IfOk result (λ r. HoldsInformed (book_seen E.reference seat.new) r.0 r.1) }
+        ensures before { OnOk result (IsViewBefore E.reference seat.new.front proposal.now.view) }
+        ensures stale { IfErr result (λ why. DiffersIfStale (refusal_of_second_hold why)) }
+        ensures refused { OnErr result (seat.new ≡ seat.old) }
+    {
+        let kept = kept_sweep(self.alloc, proposal)?;
+        let mut held = self.hold(rt);
+        let number = held.commit(seat, proposal, kept)?;
+        Ok((number, held.informs(number)))
+    }
+
     /// Sweeps the group of a view as the seat sees it: the view is published, the gate proposes from a copy of it, and the
-    /// proposal is committed in one hold of the lock. It may wait for the lock, and to publish.
+    /// proposal is committed. It may wait for the lock, and to publish.
     fn sweep_view<R: Wait, G: Gate>(
         &self,
         rt: &R,
         seat: &mut Seat<E, S>,
         view: View,
         gate: &G,
-    ) -> Result<Receipt, SeenError>
+    ) -> Result<Committed, SeenError>
         requires known { is_group E.reference view.group ≡ true }
         requires seen { view ≡ group_view E.reference seat.old.front view.group }
         requires nested { IsNested view }
-        ensures sweeps { IfOk result (λ r. Sweeps view.group r.entry) }
-        ensures entered { IfOk result (λ r. Enters E.reference seat.old r seat.new) }
-        ensures later { IfOk result (λ r. length E.opening + seat.old.entries < r.number) }
+        ensures sweeps { IfOk result (λ c. Sweeps view.group c.receipt.entry) }
+        ensures entered { IfOk result (λ c. Enters E.reference seat.old c.receipt seat.new) }
+        ensures later { IfOk result (λ c. length E.opening + seat.old.entries < c.receipt.number) }
+        ensures informs { IfOk result (λ c. HoldsInformed (book_seen E.reference seat.new) c.receipt.number c.informs) }
+        ensures here { IfOk result (λ c. Shows self.now.board c.view) }
+        ensures view { IfOk result (λ c. c.view.value ≡ view) }
+        ensures before { IfOk result (λ c. IsViewBefore E.reference seat.new.front c.view.value) }
         ensures stale { IfErr result (λ why. DiffersIfStale (refusal_of_second_hold why)) }
         ensures refused { OnErr result (seat.new ≡ seat.old) }
     {
@@ -248,9 +303,41 @@ impl<E: EntryLedger, S: LotLedger> Desk<E, S> {
         let Ok(proposal) = gate.propose(self.alloc, view) else {
             return Err(SeenError::Memory);
         };
-        let kept = kept_sweep(self.alloc, &proposal)?;
-        let number = self.hold(rt).commit(seat, &proposal, kept)?;
-        Ok(swept_receipt(number, proposal))
+        let (number, informs) = self.commit(rt, seat, &proposal)?;
+        Ok(Committed {
+            receipt: swept_receipt(number, proposal),
+            informs,
+            view: token,
+        })
+    }
+
+    /// Sweeps a group once, as `sweep_once` does, and returns what was committed.
+    fn try_sweep<R: Wait, G: Gate>(
+        &self,
+        rt: &R,
+        seat: &mut Seat<E, S>,
+        group: &Group,
+        gate: &G,
+    ) -> Result<Committed, SweepError>
+        ensures sweeps { IfOk result (λ c. Sweeps group.now c.receipt.entry) }
+        ensures entered { IfOk result (λ c. Enters E.reference seat.old c.receipt seat.new) }
+        ensures later { IfOk result (λ c. length E.opening + seat.old.entries < c.receipt.number) }
+        ensures informs { IfOk result (λ c. HoldsInformed (book_seen E.reference seat.new) c.receipt.number c.informs) }
+        ensures here { IfOk result (λ c. Shows self.now.board c.view) }
+        ensures before { IfOk result (λ c. IsViewBefore E.reference seat.new.front c.view.value) }
+        ensures group { IfOk result (λ c. c.view.value.group ≡ group.now) }
+        ensures unknown { IsErrOf result SweepError.UnknownGroup ↔ (is_group E.reference group.now ≡ false) }
+        ensures stale { IfErr result DiffersIfStale }
+        ensures refused { OnErr result (seat.new ≡ seat.old) }
+    {
+        let (view, earlier) = self.view(rt, seat, group)?;
+        match self.sweep_view(rt, seat, view, gate) {
+            Ok(committed) => Ok(committed),
+            Err(why) => {
+                seat.go_back(earlier);
+                Err(SweepError::from(why))
+            }
+        }
     }
 
     /// Sweeps a group: its view is taken in one hold of the lock and published, the gate proposes from a copy of it while no lock
@@ -270,14 +357,40 @@ impl<E: EntryLedger, S: LotLedger> Desk<E, S> {
         ensures stale { IfErr result DiffersIfStale }
         ensures refused { OnErr result (seat.new ≡ seat.old) }
     {
-        let (view, earlier) = self.view(rt, seat, &group)?;
-        match self.sweep_view(rt, seat, view, gate) {
-            Ok(receipt) => Ok(receipt),
-            Err(why) => {
-                seat.go_back(earlier);
-                Err(SweepError::from(why))
+        Ok(receipt_of(self.try_sweep(rt, seat, &group, gate)?))
+    }
+
+    /// Sweeps a group, and again while the answer is Stale, at most `tries` times in all, and returns what was committed. It may
+    /// wait as `sweep_once` does.
+    pub fn sweep<R: Wait, G: Gate>(
+        &self,
+        rt: &R,
+        seat: &mut Seat<E, S>,
+        group: &Group,
+        tries: u32,
+        gate: &G,
+    ) -> Result<Committed, SweepError>
+        requires { (1 ≤ tries) × (tries ≤ 1000) }
+        ensures sweeps { IfOk result (λ c. Sweeps group.now c.receipt.entry) }
+        ensures entered { IfOk result (λ c. Enters E.reference seat.old c.receipt seat.new) }
+        ensures later { IfOk result (λ c. length E.opening + seat.old.entries < c.receipt.number) }
+        ensures informs { IfOk result (λ c. HoldsInformed (book_seen E.reference seat.new) c.receipt.number c.informs) }
+
+        // The view is on this desk's board, and is that of the group by the history before the sweep.
+        ensures here { IfOk result (λ c. Shows self.now.board c.view) }
+        ensures before { IfOk result (λ c. IsViewBefore E.reference seat.new.front c.view.value) }
+        ensures group { IfOk result (λ c. c.view.value.group ≡ group.now) }
+        ensures unknown { IsErrOf result SweepError.UnknownGroup ↔ (is_group E.reference group.now ≡ false) }
+        ensures stale { IfErr result DiffersIfStale }
+        ensures refused { OnErr result (seat.new ≡ seat.old) }
+    {
+        for _again in 1..tries {
+            match self.try_sweep(rt, seat, group, gate) {
+                Err(SweepError::Stale { .. }) => {}
+                answer => return answer,
             }
         }
+        self.try_sweep(rt, seat, group, gate)
     }
 
     /// Sweeps a group, and again while the answer is Stale, at most `tries` times in all. It may wait as `sweep_once` does.
@@ -297,14 +410,7 @@ impl<E: EntryLedger, S: LotLedger> Desk<E, S> {
         ensures stale { IfErr result DiffersIfStale }
         ensures refused { OnErr result (seat.new ≡ seat.old) }
     {
-        let group = &group;
-        for _again in 1..tries {
-            match self.sweep_once(rt, seat, *group, gate) {
-                Err(SweepError::Stale { .. }) => {}
-                answer => return answer,
-            }
-        }
-        self.sweep_once(rt, seat, *group, gate)
+        Ok(receipt_of(self.sweep(rt, seat, &group, tries, gate)?))
     }
 
     /// Closes the desk and returns its book, once all seats are back.

@@ -9,6 +9,7 @@ ghost use Rattle.gu_view.specs.View.{IsNested};
 ghost use Rattle.gu_rules.specs.Notices.{IsStretch};
 ghost use Rattle.gu_rules.specs.Views.{group_view};
 ghost use Rattle.gu_book.specs.Commits.{Refuses, sweep_of};
+ghost use Rattle.gu_book.specs.Informing.{HoldsInformed};
 ghost use Rattle.gu_book.specs.Questions.{IsAnswer, IsUnknown};
 ghost use Rattle.gu_book.specs.Refusals.{commit_error_of};
 ghost use Rattle.gu_desk.specs.Holds.{Enters, IsStretchAsked, Sees, book_seen};
@@ -16,8 +17,9 @@ ghost use Rattle.gu_desk.specs.Holds.{Enters, IsStretchAsked, Sees, book_seen};
 use crate::annals::{Annals, Front};
 use crate::copying::copy_entries;
 use crate::ledger::{EntryLedger, LotLedger};
+use crate::question::Question;
 use crate::seat::{Seat, gather};
-use gu_book::{Answer, AskError, Book, EnterError, SeenError};
+use gu_book::{Answer, AskError, Book, EnterError, FirmFilter, SeenError};
 use gu_flow::Proposal;
 use gu_terms::{Command, Entry, FirmId, Group, KeptSweep, Query, Reply, Stretch};
 use gu_view::View;
@@ -25,11 +27,12 @@ use std::alloc::AllocError;
 use std::marker::Model;
 use std::sync::ledger::{Book as LedgerBook, Share};
 
-/// The number of an entry and its reply, with a stretch of notices, if one was asked for.
+/// The number of an entry and its reply, firms that hold each one that it informs, and a stretch of notices, if one was asked for.
 #[derive(Drop)]
 pub struct Entered {
     pub number: u64,
     pub reply: Reply,
+    pub informs: FirmFilter,
     pub stretch: Option<Stretch>,
 }
 
@@ -183,6 +186,7 @@ impl<E: EntryLedger, S: LotLedger> LockedBook<E, S> {
             (record { number = e.number; entry = Entry.Asked command.now e.reply }) seat.new) }
         ensures later { IfOk result (λ e. length E.opening + seat.old.entries < e.number) }
         ensures told { IfOk result (λ e. IfSome e.stretch (IsStretchAsked (book_seen E.reference seat.new) tell)) }
+        ensures informs { IfOk result (λ e. HoldsInformed (book_seen E.reference seat.new) e.number e.informs) }
         ensures history { IfOk result (λ e. self.new ≡ self.old ++ Entry.Asked command.now e.reply ∷ []) }
         ensures front { OnOk result (seat.new.front ≡ self.new) }
 
@@ -192,11 +196,37 @@ impl<E: EntryLedger, S: LotLedger> LockedBook<E, S> {
     {
         let (number, reply) = self.append(seat, command)?;
         let stretch = self.tell_asked(tell);
+        let informs = self.informs(number);
         Ok(Entered {
             number,
             reply,
+            informs,
             stretch,
         })
+    }
+
+    /// Returns a set of firms that may hold each firm that the entry of a number has a notice for. It takes no memory.
+    pub fn informs(&self, number: u64) -> FirmFilter
+        ensures { HoldsInformed (record { reference = E.reference; history = self.now }) number result }
+    {
+        self.book.informs(number)
+    }
+
+    /// Puts a question to the book, as the seat sees it then.
+    pub fn put<Q: Question>(
+        &mut self,
+        seat: &mut Seat<E, S>,
+        question: &mut Q,
+    ) -> Result<(), AllocError>
+        ensures sees { OnOk result (Sees E.reference seat.old seat.new) }
+        ensures tells { OnOk result (Q.tells question.old (book_seen E.reference seat.new) question.new) }
+        ensures front { OnOk result (seat.new.front ≡ self.old) }
+        ensures same { self.new ≡ self.old }
+        ensures refused { OnErr result (seat.new ≡ seat.old) }
+    {
+        question.ask(&self.book)?;
+        self.show(seat);
+        Ok(())
     }
 
     /// Answers a query.
@@ -262,6 +292,7 @@ impl<E: EntryLedger, S: LotLedger> LockedBook<E, S> {
         ensures entered { IfOk result (λ number. Enters E.reference seat.old
             (record { number = number; entry = Entry.Swept (sweep_of proposal.now) }) seat.new) }
         ensures later { IfOk result (λ number. length E.opening + seat.old.entries < number) }
+        ensures current { OnOk result (proposal.now.view ≡ group_view E.reference self.old proposal.now.view.group) }
         ensures history { OnOk result (self.new ≡ self.old ++ Entry.Swept (sweep_of proposal.now) ∷ []) }
         ensures front { OnOk result (seat.new.front ≡ self.new) }
 

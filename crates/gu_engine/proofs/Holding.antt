@@ -1,9 +1,8 @@
 -- Texts of which a part is held: given one after another, and written in the end or in part.
 use Rattle.std.proofs.Common.{◌≡◌, ◌≤◌, ℕ, List, [], ◌++◌, length, Option, sym, ap, subst, ◌∙◌, append_assoc, arith}
-use Rattle.std.specs.Io.KnownBytes.{Appends}
 use Rattle.std.proofs.KnownBytes.{Appends-trans, Appends-nil}
 use Rattle.std.proofs.lemmas.List.{append-nil, length-append}
-use Rattle.gu_streams.specs.Written.{LetsGo, WrotePart}
+use Rattle.gu_streams.specs.Written.{WrotePart}
 use Rattle.gu_streams.proofs.Writing.{wrote_then}
 use Rattle.gu_engine.specs.Sends.{Gives}
 

@@ -3,7 +3,9 @@ pub mod Exchanging
 pub mod Frames
 pub mod Holding
 pub mod InTurn
+pub mod Intakes
 pub mod Leaving
+pub mod Lending
 pub mod Servings
 pub mod Shares
 pub mod TurnParts

@@ -6,12 +6,11 @@ use Rattle.std.specs.Io.KnownBytes.{Consumes, Appends, Keeps}
 use Rattle.std.proofs.KnownBytes.{Consumes-trans, Consumes-nil, Consumes-kept}
 use Rattle.std.proofs.lemmas.List.{append-nil, map-append}
 use Rattle.std.proofs.lemmas.List.Folds.{concat-append}
-use Rattle.gu_streams.specs.Reads.{HasStopped, Stopped, Took, bytes_left, reads_left, waits_left}
+use Rattle.gu_streams.specs.Reads.{Stopped, Took, bytes_left, reads_left, waits_left}
 use Rattle.gu_streams.specs.Streams.{Streams, streams_of}
-use Rattle.gu_streams.specs.Written.{WrotePart}
 use Rattle.gu_streams.specs.declared.counted_reads.CountedReads.{CountedReads}
 use Rattle.gu_streams.proofs.Writing.{wrote_all}
-use Rattle.gu_engine.specs.Running.{AnswersPart, AnswersPiece, AnswersPieces, Engine, FailsToBegin, HasRead, HaveBytes, Piece, Served, ServedInPart, ServedSoFar, turns_of, wait_of, waits_in}
+use Rattle.gu_engine.specs.Running.{AnswersPart, AnswersPiece, AnswersPieces, Engine, HasRead, HaveBytes, Piece, Served, ServedInPart, ServedSoFar, turns_of, wait_of, waits_in}
 use Rattle.gu_engine.specs.Sends.{Gives}
 use Rattle.gu_engine.specs.Turned.{Ends, IsTurned, Rests, Stops, Turns, TurnsInPart, Work, is_last}
 use Rattle.gu_engine.specs.Turns.{AnswersTurn, AnswersTurnPart, IsEmpty, IsLeft, IsPause, Leaves, Pause, Reads, ReadsNoMore, between_of}

@@ -10,7 +10,7 @@ use Rattle.gu_session.specs.Outputs.{bytes_in, handed_in, is_close, IsAskedBy}
 use Rattle.gu_session.specs.States.{SessionState, new_session}
 use Rattle.gu_session.specs.Steps.{StepsWith}
 use Rattle.gu_session.specs.declared.input.Input.{Input}
-use Rattle.gu_session.specs.declared.input.Input.TheVariants.{Frame, Notice, Answer, Tick, End}
+use Rattle.gu_session.specs.declared.input.Input.TheVariants.{Frame, Notice, Answer, Tick, End, Close}
 use Rattle.gu_session.specs.declared.logged_on.LoggedOn.{LoggedOn}
 use Rattle.gu_session.specs.declared.output.Asked.{Asked}
 use Rattle.gu_session.specs.declared.output.Output.{Output}
@@ -18,6 +18,7 @@ use Rattle.gu_streams.specs.Streams.{Streams}
 use Rattle.gu_engine.specs.Houses.{AnswersAsk, HouseRules}
 use Rattle.gu_engine.specs.Running.{AnswersEach, Engine, Served, ServedInPart, ServedSoFar}
 use Rattle.gu_engine.specs.declared.connection.Connection.{Connection}
+use Rattle.gu_engine.specs.declared.conversation.Conversation.{Conversation}
 use Rattle.gu_engine.specs.declared.event.Event.{Event}
 use Rattle.gu_engine.specs.declared.event.Event.TheVariants as event
 use Rattle.gu_engine.specs.declared.house.Answered.{Answered}
@@ -34,7 +35,31 @@ pub record IsAskOf (asked : Asked) (now : ℕ) (ask : Ask) : Type 0 where
   pub now_is : ask.now ≡ now
   pub request_is : ask.request ≡ asked.what
 
+-- a conversation before its first turn: one of these firms may log on, and its notices begin with the first entry
+abbrev pub new_conversation : List FirmId → Conversation
+new_conversation firms = record { session = new_session firms; next = 1; is_behind = false; is_over = false }
+
 module _ {H C : Type 0} where
+  -- a connection that goes on with a conversation, over this house and this clock
+  abbrev pub resumed : Conversation → H → C → Connection H C
+  resumed conversation house clock = record {
+    house = house;
+    session = conversation.session;
+    next = conversation.next;
+    is_behind = conversation.is_behind;
+    clock = clock;
+    is_over = conversation.is_over;
+  }
+
+  -- a connection without its house and its clock
+  abbrev pub conversation_of : Connection H C → Conversation
+  conversation_of connection = record {
+    session = connection.session;
+    next = connection.next;
+    is_behind = connection.is_behind;
+    is_over = connection.is_over;
+  }
+
   -- a connection before its first turn: one of these firms may log on, and its notices begin with the first entry
   pub record IsNew (connection : Connection H C) (firms : List FirmId) (house : H) (clock : C) : Type 0 where
     pub session : connection.session ≡ new_session firms
@@ -120,6 +145,11 @@ module _ {H C : Type 0} where
   pub record Ticks (now : ℕ) (old : Connection H C) (text : List ℕ) (new : Connection H C) : Type 0 where
     pub asked : Option Asked
     pub taken : TakesInput old Tick now asked text new
+
+  -- the session is told that the house closes
+  pub record ClosesSession (now : ℕ) (old : Connection H C) (text : List ℕ) (new : Connection H C) : Type 0 where
+    pub asked : Option Asked
+    pub taken : TakesInput old Close now asked text new
 
   -- the session is told that nothing more comes, and sends nothing
   pub record EndsSession (old new : Connection H C) : Type 0 where

@@ -1,5 +1,6 @@
 -- A house: how it answers what is asked of it, and which notices it has for a firm.
 use Rattle.std.specs.Prelude.{◌≡◌, ℕ, Option, None, Some}
+use Rattle.std.specs.Borrow.{MutBor}
 use Rattle.gu_terms.specs.declared.command.Command.{Command}
 use Rattle.gu_terms.specs.declared.firm.FirmId.{FirmId}
 use Rattle.gu_terms.specs.declared.notice.Stretch.{Stretch}
@@ -29,3 +30,10 @@ pub record AnswersAsk {H : Type 0} (rules : HouseRules H) (old : H) (ask : Ask) 
 -- a request to enter a command
 abbrev pub IsCommand : Request → Type 0
 IsCommand request = (command : Command) × (request ≡ Enter command)
+
+-- the rules of a house that is lent: those of the house itself
+abbrev pub lent : {H : Type 0} → HouseRules H → HouseRules (MutBor H)
+lent rules = record {
+  answers = λ old request outcome new. rules.answers old.now request outcome new.now;
+  tells = λ old firm from stretch new. rules.tells old.now firm from stretch new.now;
+}

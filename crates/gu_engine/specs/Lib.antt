@@ -1,4 +1,5 @@
 pub mod Backlogs
+pub mod Closings
 pub mod Exchange
 pub mod Houses
 pub mod Running

@@ -1,17 +1,20 @@
 //! What an engine keeps between two turns, besides what answers.
 
-ghost use Rattle.std.specs.Prelude.{◌≡◌, ◌↔◌, ◌<◌, [], List, ℕ, false, length, IfErr, IfNone, IfOk, IfSome, IsTrue, OnErr, OnOk};
+ghost use Rattle.std.specs.Prelude.{◌≡◌, ◌↔◌, ◌<◌, [], List, ℕ, false, length, IfErr, IfNone, IfOk, IfSome, IsTrue, OnErr, OnOk, true};
 ghost use Rattle.gu_engine.specs.Backlogs.{TakesEvent, TakesIn, TakesLast, steps_left};
+ghost use Rattle.gu_engine.specs.Closings.{HoldsTheSame, IsIdle, KeepsInput};
 ghost use Rattle.gu_engine.specs.Running.{is_more};
+ghost use Rattle.gu_engine.specs.Sends.{Gives};
 ghost use Rattle.gu_engine.specs.Turns.{IsEmpty, Reads};
+ghost use Rattle.gu_streams.specs.Written.{WrotePart};
 
+use crate::counted_intake::CountedIntake;
 use crate::event::Event;
 use crate::held::Held;
 use crate::turned::Turned;
-use gu_fix::Intake;
-use gu_streams::{CountedReads, StreamError, Turn};
+use gu_streams::{CountedReads, Outlet, StreamError, Turn};
 use std::alloc::{AllocError, Global};
-use std::io::Read;
+use std::io::{Read, Write};
 
 /// What a turn left to be answered.
 #[derive(Clone, Copy)]
@@ -30,7 +33,7 @@ pub enum Left {
 /// to be answered, and answers that are still held.
 #[derive(Drop)]
 pub struct Backlog<O> {
-    intake: Intake,
+    intake: CountedIntake,
     left: Left,
     pub(crate) held: Held<O>,
 }
@@ -41,7 +44,7 @@ impl<O> Backlog<O> {
         ensures { IsEmpty result }
     {
         Backlog {
-            intake: Intake::new(alloc),
+            intake: CountedIntake::new(alloc),
             left: Left::Nothing,
             held: Held::new(alloc, outlet),
         }
@@ -54,11 +57,27 @@ impl<O> Backlog<O> {
         self.held.bytes.is_empty()
     }
 
-    /// Returns whether a turn left anything to be answered.
-    fn has_left(&self) -> bool
-        ensures { result ≡ false ↔ (self.now.left ≡ Left.Nothing) }
+    /// Returns how many bytes of answers are held.
+    pub fn held(&self) -> usize
+        ensures { result ≡ length self.now.held.bytes.items }
     {
-        !matches!(self.left, Left::Nothing)
+        self.held.bytes.len()
+    }
+
+    /// Returns whether no turn left anything to be answered.
+    pub fn is_idle(&self) -> bool
+        ensures { IsTrue result ↔ IsIdle self.now }
+    {
+        matches!(self.left, Left::Nothing)
+    }
+
+    /// Gives back the room of what is empty. It stays the same backlog.
+    pub fn release(&mut self)
+        ensures same { HoldsTheSame self.old self.new }
+        ensures outlet { self.new.held.outlet ≡ self.old.held.outlet }
+    {
+        self.intake.release();
+        self.held.release();
     }
 
     /// Takes the first frame; or finds that the turn is over, as there is none yet.
@@ -115,7 +134,7 @@ impl<O> Backlog<O> {
         ensures fault { IfErr result (λ error. error ≡ StreamError.Memory) }
         ensures held { self.new.held ≡ self.old.held }
     {
-        if self.has_left() {
+        if !self.is_idle() {
             return Ok(Turned::Again);
         }
         match reads.turn(buffer) {
@@ -133,5 +152,28 @@ impl<O> Backlog<O> {
                 Ok(Turned::Waits)
             }
         }
+    }
+}
+
+impl<O: Drop> Backlog<O> {
+    /// Sends answers by another outlet from now on.
+    pub fn set_outlet(&mut self, outlet: O)
+        ensures same { HoldsTheSame self.old self.new }
+        ensures outlet { self.new.held.outlet ≡ outlet }
+    {
+        self.held.set_outlet(outlet);
+    }
+}
+
+impl<O: Outlet> Backlog<O> {
+    /// Lets go of a first part of the answers that are held.
+    pub fn send<W: Write>(&mut self, writer: &mut W) -> Result<(), StreamError>
+        ensures given { OnOk result (Gives [] self.old.held.bytes.items self.new.held.bytes.items (W.contents writer.old) (W.contents writer.new)) }
+        ensures all { OnOk result (O.takes_all ≡ true → self.new.held.bytes.items ≡ []) }
+        ensures part { OnErr result (WrotePart self.old.held.bytes.items (W.contents writer.old) (W.contents writer.new)) }
+        ensures fault { IfErr result (λ error. error ≡ StreamError.Write) }
+        ensures input { KeepsInput self.old self.new }
+    {
+        self.held.let_go(writer)
     }
 }

@@ -1,13 +1,14 @@
 //! One connection of a firm: its session, the house that answers it, and a clock.
 
-ghost use Rattle.std.specs.Prelude.{◌≡◌, ◌<◌, ◌^◌, ◌++◌, ◌||◌, [], not, List, Option, ℕ, true, IfOk, OnOk};
-ghost use Rattle.gu_engine.specs.Exchange.{AnswersAny, AnswersAsked, AnswersFrame, EndsSession, IsNew, SendsAny, SendsNotice, SendsStretch, TakesInput, TellsStretch, Ticks, Waits, is_due};
+ghost use Rattle.std.specs.Prelude.{◌≡◌, ◌<◌, ◌^◌, ◌++◌, ◌||◌, [], not, List, Option, ℕ, true, IfOk, OnErr, OnOk};
+ghost use Rattle.gu_engine.specs.Exchange.{AnswersAny, AnswersAsked, AnswersFrame, ClosesSession, EndsSession, IsNew, SendsAny, SendsNotice, SendsStretch, TakesInput, TellsStretch, Ticks, Waits, conversation_of, is_due, resumed};
 ghost use Rattle.gu_engine.specs.Running.{AnswersEach};
 ghost use Rattle.gu_session.specs.declared.input.Input.TheVariants.{Answer as AnswerOf, Frame as FrameOf};
 ghost use Rattle.gu_session.specs.declared.output.Asked.{Asked as AskedOf};
 
 use crate::answerer::Answerer;
 use crate::clock::{Clock, ClockFault};
+use crate::conversation::Conversation;
 use crate::event::Event;
 use crate::house::{Answered, Ask, House};
 use gu_fix::Frame;
@@ -18,7 +19,6 @@ use std::alloc::{AllocError, Global};
 /// One connection of a firm.
 #[derive(Drop)]
 pub struct Connection<H, C> {
-    alloc: Global,
     house: H,
     session: Session,
     /// The first entry whose notices the firm hasn't had.
@@ -35,14 +35,51 @@ impl<H, C> Connection<H, C> {
     pub fn new(alloc: Global, firms: Vec<FirmId>, house: H, clock: C) -> Self
         ensures { IsNew result firms.items house clock }
     {
+        Connection::resume(Conversation::new(alloc, firms), house, clock)
+    }
+
+    /// Goes on with a conversation, over this house and this clock.
+    pub fn resume(conversation: Conversation, house: H, clock: C) -> Self
+        ensures { result ≡ resumed conversation house clock }
+    {
+        let Conversation {
+            session,
+            next,
+            is_behind,
+            is_over,
+        } = conversation;
         Connection {
-            alloc,
             house,
-            session: Session::new(alloc, firms),
-            next: 1,
-            is_behind: false,
+            session,
+            next,
+            is_behind,
             clock,
-            is_over: false,
+            is_over,
+        }
+    }
+
+    /// Returns the conversation, to be gone on with later.
+    pub fn rest(self) -> Conversation
+    where
+        H: Drop,
+        C: Drop,
+        ensures { result ≡ conversation_of self }
+    {
+        let Connection {
+            house,
+            session,
+            next,
+            is_behind,
+            clock,
+            is_over,
+        } = self;
+        drop(house);
+        drop(clock);
+        Conversation {
+            session,
+            next,
+            is_behind,
+            is_over,
         }
     }
 
@@ -60,7 +97,6 @@ impl<H, C> Connection<H, C> {
         ensures { result ≡ self.house }
     {
         let Connection {
-            alloc: _,
             house,
             session,
             next: _,
@@ -192,6 +228,18 @@ impl<H, C> Connection<H, C> {
             × Ticks now self.old text self.new) }
     {
         let taken = self.session.tick_onto(now, output)?;
+        drop(self.note(taken));
+        Ok(())
+    }
+
+    /// Tells the session that the house closes: a firm that is logged on is sent a Logout. After an error nothing has changed.
+    pub fn close(&mut self, now: Moment, output: &mut Vec<u8>) -> Result<(), AllocError>
+        ensures closed { OnOk result ((text : List ℕ) × (output.new.items ≡ output.old.items ++ text)
+            × ClosesSession now self.old text self.new) }
+        ensures refused { OnErr result (self.new ≡ self.old) }
+        ensures kept { OnErr result (output.new.items ≡ output.old.items) }
+    {
+        let taken = self.session.close_onto(now, output)?;
         drop(self.note(taken));
         Ok(())
     }

@@ -35,6 +35,26 @@ impl<O> Held<O> {
     {
         self.bytes.len() > MOST_HELD
     }
+
+    /// Gives back the room for answers, if none are held.
+    pub(crate) fn release(&mut self)
+        ensures held { self.new.bytes.items ≡ self.old.bytes.items }
+        ensures outlet { self.new.outlet ≡ self.old.outlet }
+    {
+        if self.bytes.is_empty() {
+            self.bytes.shrink_to_fit();
+        }
+    }
+}
+
+impl<O: Drop> Held<O> {
+    /// Lets go by another outlet from now on.
+    pub(crate) fn set_outlet(&mut self, outlet: O)
+        ensures held { self.new.bytes ≡ self.old.bytes }
+        ensures outlet { self.new.outlet ≡ outlet }
+    {
+        self.outlet = outlet;
+    }
 }
 
 impl<O: Outlet> Held<O> {

@@ -48,3 +48,18 @@ pub trait House {
         ensures told { IfOk result (λ stretch. rules.tells self.old firm.now from stretch self.new) }
         ensures goes_on { IfOk result (λ stretch. stretch.is_last ≡ false → from < stretch.notices.next) };
 }
+
+/// A house that is lent answers as the house itself.
+impl<H: House> House for &mut H {
+    ghost use Rattle.gu_engine.specs.Houses.{lent};
+
+    ghost rules = { lent H.rules };
+
+    fn answer(&mut self, ask: Ask, from: u64) -> Result<Answered, AllocError> {
+        House::answer(&mut **self, ask, from)
+    }
+
+    fn notices(&mut self, firm: &FirmId, from: u64) -> Result<Stretch, AllocError> {
+        House::notices(&mut **self, firm, from)
+    }
+}

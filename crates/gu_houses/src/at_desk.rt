@@ -3,6 +3,7 @@
 ghost use Rattle.std.specs.Prelude.{◌≡◌, IfOk, IfSome};
 ghost use Rattle.gu_houses.specs.SeatHouse.{SeatAnswers, SeatTells, failure_of};
 
+use crate::informs::Informs;
 use crate::orders::Orders;
 use crate::seat_receipts::SeatReceipts;
 use crate::tally::Tally;
@@ -28,22 +29,25 @@ fn failure_of(error: EnterError) -> Failure
 
 /// A seat at a desk as a house. To a contract it is the seat.
 ///
-/// The notices that follow a command are had with it, in one hold of the lock.
-pub struct AtDesk<'a, 'o, E: EntryLedger, S: LotLedger, R: Wait> {
+/// The notices that follow a command are had with it, in one hold of the lock. After the hold, other firms hear of the entry.
+pub struct AtDesk<'a, 'o, E: EntryLedger, S: LotLedger, R: Wait, I: Informs> {
     rt: &'a R,
     desk: &'a Desk<E, S>,
     tally: &'a Tally,
+    informs: &'a I,
     seat: SeatReceipts<E, S>,
     orders: Orders<'o>,
 }
 
-impl<'a, 'o, E: EntryLedger, S: LotLedger, R: Wait> Drop for AtDesk<'a, 'o, E, S, R> {
+impl<'a, 'o, E: EntryLedger, S: LotLedger, R: Wait, I: Informs> Drop
+    for AtDesk<'a, 'o, E, S, R, I> {
     fn drop(self) {
         drop(self.into_seat());
     }
 }
 
-impl<'a, 'o, E: EntryLedger, S: LotLedger, R: Wait> Model for AtDesk<'a, 'o, E, S, R> {
+impl<'a, 'o, E: EntryLedger, S: LotLedger, R: Wait, I: Informs> Model
+    for AtDesk<'a, 'o, E, S, R, I> {
     ghost use Rattle.gu_desk.specs.Seats.{SeatState};
 
     ghost Value = { SeatState };
@@ -51,12 +55,13 @@ impl<'a, 'o, E: EntryLedger, S: LotLedger, R: Wait> Model for AtDesk<'a, 'o, E, 
     ghost view = { λ a. a.seat };
 }
 
-impl<'a, 'o, E: EntryLedger, S: LotLedger, R: Wait> AtDesk<'a, 'o, E, S, R> {
-    /// Creates the house of a seat at a desk, whose give-ups count for these orders.
+impl<'a, 'o, E: EntryLedger, S: LotLedger, R: Wait, I: Informs> AtDesk<'a, 'o, E, S, R, I> {
+    /// Creates the house of a seat at a desk, whose entries firms hear of by `informs`, and whose give-ups count for these orders.
     pub fn new(
         rt: &'a R,
         desk: &'a Desk<E, S>,
         tally: &'a Tally,
+        informs: &'a I,
         seat: SeatReceipts<E, S>,
         orders: Orders<'o>,
     ) -> Self
@@ -66,6 +71,7 @@ impl<'a, 'o, E: EntryLedger, S: LotLedger, R: Wait> AtDesk<'a, 'o, E, S, R> {
             rt,
             desk,
             tally,
+            informs,
             seat,
             orders,
         }
@@ -79,11 +85,24 @@ impl<'a, 'o, E: EntryLedger, S: LotLedger, R: Wait> AtDesk<'a, 'o, E, S, R> {
             rt: _,
             desk: _,
             tally: _,
+            informs: _,
             seat,
             orders,
         } = self;
         drop(orders);
         seat
+    }
+
+    /// Returns how many give-ups of its connection were accepted since the last one whose order was due.
+    pub fn give_ups(&self) -> u64 {
+        self.orders.since()
+    }
+
+    /// Goes on with a connection of which this number of give-ups were accepted since the last one whose order was due.
+    pub fn resume_count(&mut self, give_ups: u64)
+        ensures { self.new ≡ self.old }
+    {
+        self.orders.resume(give_ups);
     }
 
     /// Sends the order of what was entered last, if it is due.
@@ -100,9 +119,10 @@ impl<'a, 'o, E: EntryLedger, S: LotLedger, R: Wait> AtDesk<'a, 'o, E, S, R> {
         ensures outcome { SeatAnswers E.reference self.old (Request.Enter command) result.outcome self.new }
         ensures told { IfSome result.stretch (λ stretch. SeatTells E.reference self.new tell.0 tell.1 stretch self.new) }
     {
-        match self.seat.enter(self.rt, self.desk, command, tell) {
+        match self.seat.enter(self.rt, self.desk, command, Some(tell)) {
             Ok(entered) => {
                 self.tally.add_entry();
+                self.informs.inform(entered.number, entered.informs);
                 self.order();
                 Answered {
                     outcome: Outcome::Replied(entered.reply),
@@ -131,7 +151,8 @@ impl<'a, 'o, E: EntryLedger, S: LotLedger, R: Wait> AtDesk<'a, 'o, E, S, R> {
     }
 }
 
-impl<'a, 'o, E: EntryLedger, S: LotLedger, R: Wait> House for AtDesk<'a, 'o, E, S, R> {
+impl<'a, 'o, E: EntryLedger, S: LotLedger, R: Wait, I: Informs> House
+    for AtDesk<'a, 'o, E, S, R, I> {
     ghost use Rattle.gu_houses.specs.SeatHouse.{rules_of_seat};
 
     ghost rules = { rules_of_seat E.reference };

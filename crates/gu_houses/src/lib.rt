@@ -2,13 +2,15 @@
 #![tactic(auto)]
 
 mod at_desk;
+mod informs;
 mod orders;
 mod over_book;
 mod seat_receipts;
 mod tally;
 
 pub use at_desk::AtDesk;
+pub use informs::{Informs, Nobody};
 pub use orders::{OpenOrders, Orders};
 pub use over_book::OverBook;
-pub use seat_receipts::SeatReceipts;
+pub use seat_receipts::{SeatReceipts, SeatSweep};
 pub use tally::{Counts, Tally};

@@ -73,13 +73,23 @@ impl<'a> Orders<'a> {
         }
     }
 
+    /// Returns how many give-ups were accepted since the last one that was due.
+    pub fn since(&self) -> u64 {
+        self.since
+    }
+
+    /// Goes on from this number of accepted give-ups since the last one that was due.
+    pub fn resume(&mut self, since: u64) {
+        self.since = since;
+    }
+
     /// Whether a receipt is that of the give-up whose order is due.
     fn is_due(&mut self, receipt: &Receipt) -> bool {
         if receipt.offered().is_none() {
             return false;
         }
         self.since = self.since.saturating_add(1);
-        if self.since != self.every {
+        if self.every == 0 || self.since < self.every {
             return false;
         }
         self.since = 0;

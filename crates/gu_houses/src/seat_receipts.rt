@@ -1,21 +1,27 @@
 //! A seat that keeps its receipts.
 
-ghost use Rattle.std.specs.Prelude.{◌≡◌, ◌↔◌, ◌<◌, false, length, IfErr, IfOk, IfSome, IsErrOf, OnErr, OnOk, Some};
+ghost use Rattle.std.specs.Prelude.{◌≡◌, ◌↔◌, ◌<◌, false, length, IfErr, IfOk, IfSome, IsErrOf, OnErr, OnOk};
 ghost use Rattle.gu_ref.specs.Reference.{is_group};
 ghost use Rattle.gu_terms.specs.Histories.{swept_by};
-ghost use Rattle.gu_terms.specs.declared.receipt.Receipt.{Receipt as ReceiptOf};
+ghost use Rattle.gu_terms.specs.declared.entry.Entry.{Entry as EntryOf};
+ghost use Rattle.gu_view.specs.Boards.{Shows};
 ghost use Rattle.gu_rules.specs.Notices.{IsStretch};
+ghost use Rattle.gu_book.specs.Informing.{HoldsInformed};
 ghost use Rattle.gu_book.specs.Questions.{IsAnswer, IsUnknown};
 ghost use Rattle.gu_desk.specs.Audits.{IsReceiptOf};
 ghost use Rattle.gu_desk.specs.KeptReceipts.{receipts_in};
 ghost use Rattle.gu_desk.specs.Holds.{book_seen, Enters, IsStretchAsked, Sees};
 ghost use Rattle.gu_desk.specs.Seats.{IsNew};
-ghost use Rattle.gu_desk.specs.Sweeps.{DiffersIfStale, Sweeps};
+ghost use Rattle.gu_desk.specs.Sweeps.{DiffersIfStale, IsViewBefore, Sweeps};
 ghost use Rattle.gu_houses.specs.Receipts.{HasReceipts};
 
 use gu_book::{Answer, AskError, EnterError};
-use gu_desk::{Desk, Entered, EntryLedger, Gate, KeptReceipts, LotLedger, Seat, SweepError};
+use gu_desk::{
+    Committed, Desk, Entered, EntryLedger, FirmFilter, Gate, KeptReceipts, LotLedger, Question,
+    Seat, SweepError,
+};
 use gu_terms::{Command, Entry, FirmId, Group, Query, Receipt, Reply, Stretch};
+use gu_view::ViewToken;
 use std::alloc::{AllocError, Global};
 use std::marker::Model;
 use std::sync::Wait;
@@ -41,6 +47,16 @@ impl<E: EntryLedger, S: LotLedger> Model for SeatReceipts<E, S> {
     ghost view = { λ s. s.seat };
 
     ghost invariant = { λ s. HasReceipts (length E.opening) s.seat (receipts_in s.receipts) };
+}
+
+/// A sweep that was entered from a seat: its number, its lots, firms that hold each one that it informs, and its group's view just
+/// before it, which is on the desk's board.
+#[derive(Drop)]
+pub struct SeatSweep {
+    pub number: u64,
+    pub lots: u64,
+    pub informs: FirmFilter,
+    pub view: ViewToken,
 }
 
 /// The lots of a sweep.
@@ -88,48 +104,66 @@ impl<E: EntryLedger, S: LotLedger> SeatReceipts<E, S> {
     }
 
     /// Enters a command, if there is room for its receipt, and keeps the receipt. Returns what the desk gave, with a stretch of what a
-    /// firm is told of the entries from a number on, this one among them.
+    /// firm is told of the entries from a number on, this one among them, if that was asked for.
     pub fn enter<R: Wait>(
         &mut self,
         rt: &R,
         desk: &Desk<E, S>,
         command: Command,
-        tell: (FirmId, u64),
+        tell: Option<(FirmId, u64)>,
     ) -> Result<Entered, EnterError>
         ensures entered { IfOk result (λ e. Enters E.reference self.old
             (record { number = e.number; entry = Entry.Asked command e.reply }) self.new) }
-        ensures told { IfOk result (λ e. IfSome e.stretch (IsStretchAsked (book_seen E.reference self.new) (Some tell))) }
+        ensures told { IfOk result (λ e. IfSome e.stretch (IsStretchAsked (book_seen E.reference self.new) tell)) }
+        ensures informs { IfOk result (λ e. HoldsInformed (book_seen E.reference self.new) e.number e.informs) }
         ensures refused { OnErr result (self.new ≡ self.old) }
     {
         // Room for the receipt first: once the command is entered, its receipt is kept without an allocation.
         if self.receipts.reserve().is_err() {
             return Err(EnterError::Memory);
         }
-        let entered = desk.hold(rt).enter(&mut self.seat, &command, Some(tell))?;
+        let entered = desk.hold(rt).enter(&mut self.seat, &command, tell)?;
         self.receipts
             .push_reserved(receipt_of(entered.number, command, &entered.reply));
         Ok(entered)
     }
 
-    /// Sweeps a group by a gate's proposals, if there is room for the receipt, and keeps the receipt. Returns the lots.
+    /// Sweeps a group by a gate's proposals, if there is room for the receipt, and keeps the receipt.
     pub fn sweep<R: Wait, G: Gate>(
         &mut self,
         rt: &R,
         desk: &Desk<E, S>,
         group: Group,
         gate: &G,
-    ) -> Result<u64, SweepError>
-        ensures swept { IfOk result (λ lots. (receipt : ReceiptOf) × Sweeps group receipt.entry × (swept_by receipt.entry ≡ lots)
-            × Enters E.reference self.old receipt self.new) }
+    ) -> Result<SeatSweep, SweepError>
+        ensures swept { IfOk result (λ s. (entry : EntryOf) × Sweeps group entry × (swept_by entry ≡ s.lots)
+            × Enters E.reference self.old (record { number = s.number; entry = entry }) self.new) }
+        ensures informs { IfOk result (λ s. HoldsInformed (book_seen E.reference self.new) s.number s.informs) }
+
+        // The view is on the desk's board, and is that of the group by the history before the sweep.
+        ensures here { IfOk result (λ s. Shows desk.now.board s.view) }
+        ensures before { IfOk result (λ s. IsViewBefore E.reference self.new.front s.view.value) }
+        ensures group { IfOk result (λ s. s.view.value.group ≡ group) }
         ensures unknown { IsErrOf result SweepError.UnknownGroup → is_group E.reference group ≡ false }
         ensures stale { IfErr result DiffersIfStale }
         ensures refused { OnErr result (self.new ≡ self.old) }
     {
         self.receipts.reserve()?;
-        let swept = desk.sweep_until(rt, &mut self.seat, group, TRIES, gate)?;
-        let lots = lots_of(&swept);
-        self.receipts.push_reserved(swept);
-        Ok(lots)
+        let committed = desk.sweep(rt, &mut self.seat, &group, TRIES, gate)?;
+        let number = committed.receipt.number;
+        let lots = lots_of(&committed.receipt);
+        let Committed {
+            receipt,
+            informs,
+            view,
+        } = committed;
+        self.receipts.push_reserved(receipt);
+        Ok(SeatSweep {
+            number,
+            lots,
+            informs,
+            view,
+        })
     }
 
     /// Answers a query by what the seat sees then.
@@ -145,6 +179,20 @@ impl<E: EntryLedger, S: LotLedger> SeatReceipts<E, S> {
         ensures refused { OnErr result (self.new ≡ self.old) }
     {
         desk.hold(rt).ask(&mut self.seat, query)
+    }
+
+    /// Puts a question to the book, as the seat sees it then. The desk's lock is held meanwhile.
+    pub fn put<R: Wait, Q: Question>(
+        &mut self,
+        rt: &R,
+        desk: &Desk<E, S>,
+        question: &mut Q,
+    ) -> Result<(), AllocError>
+        ensures tells { OnOk result (Q.tells question.old (book_seen E.reference self.new) question.new) }
+        ensures sees { OnOk result (Sees E.reference self.old self.new) }
+        ensures refused { OnErr result (self.new ≡ self.old) }
+    {
+        desk.hold(rt).put(&mut self.seat, question)
     }
 
     /// Returns a stretch of what a firm is told of the entries from a number on, as the seat sees them then.
@@ -168,5 +216,16 @@ impl<E: EntryLedger, S: LotLedger> SeatReceipts<E, S> {
         ensures { IfSome result (λ last. (0 < self.now.entries) × IsReceiptOf self.now.front last.now) }
     {
         self.receipts.last()
+    }
+
+    /// Returns the receipt of the entry of a number, if that is the one that was entered last and nothing was refused since.
+    pub fn last_of(&self, number: u64) -> Option<&Receipt>
+        ensures { IfSome result (λ last. (last.now.number ≡ number) × IsReceiptOf self.now.front last.now) }
+    {
+        let last = self.last()?;
+        if last.number != number {
+            return None;
+        }
+        Some(last)
     }
 }

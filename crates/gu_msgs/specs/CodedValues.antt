@@ -9,7 +9,7 @@ use Rattle.gu_msgs.specs.declared.coded_values.AllocReportType.TheVariants.{Requ
 use Rattle.gu_msgs.specs.declared.coded_values.BusinessRejectReason.{BusinessRejectReason}
 use Rattle.gu_msgs.specs.declared.coded_values.BusinessRejectReason.TheVariants.{Other, UnsupportedMessageType}
 use Rattle.gu_msgs.specs.declared.coded_values.LogoutReason.{LogoutReason}
-use Rattle.gu_msgs.specs.declared.coded_values.LogoutReason.TheVariants.{BadSeqNum, SeqTooLow, CompId, LoggedOn, Silent}
+use Rattle.gu_msgs.specs.declared.coded_values.LogoutReason.TheVariants.{BadSeqNum, SeqTooLow, CompId, LoggedOn, Silent, Closing}
 use Rattle.gu_msgs.specs.declared.coded_values.PosReqResult.{PosReqResult}
 use Rattle.gu_msgs.specs.declared.coded_values.PosReqResult.TheVariants.{ValidRequest, NoPositionsFound, NotAuthorized}
 
@@ -20,6 +20,7 @@ logout_text SeqTooLow = codes "SeqTooLow"
 logout_text CompId = codes "CompId"
 logout_text LoggedOn = codes "LoggedOn"
 logout_text Silent = codes "Silent"
+logout_text Closing = codes "Closing"
 
 -- BusinessRejectReason, tag 380
 abbrev pub business_number : BusinessRejectReason → ℕ

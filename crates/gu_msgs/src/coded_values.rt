@@ -22,6 +22,8 @@ pub enum LogoutReason {
     LoggedOn,
     /// Nothing was heard of the firm.
     Silent,
+    /// The house closes.
+    Closing,
 }
 
 impl LogoutReason {
@@ -36,6 +38,7 @@ impl LogoutReason {
             LogoutReason::CompId => "CompId",
             LogoutReason::LoggedOn => "LoggedOn",
             LogoutReason::Silent => "Silent",
+            LogoutReason::Closing => "Closing",
         }
     }
 }

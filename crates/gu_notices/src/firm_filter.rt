@@ -27,6 +27,14 @@ impl FirmPlace {
         }
         FirmPlace { number }
     }
+
+    /// Returns its number, from 0 to 63.
+    pub fn number(self) -> u32
+        ensures number { result ≡ self.number }
+        ensures few { result < 64 }
+    {
+        self.number
+    }
 }
 
 /// Firms, as a set that may hold more of them: with a firm it holds each one that shares its place.
@@ -53,6 +61,13 @@ impl FirmFilter {
         ensures { (firm : FirmOf) → may_hold self.new firm ≡ true }
     {
         self.places = u64::MAX;
+    }
+
+    /// Returns a number with a bit for each place: the lowest for place 0.
+    pub fn bits(self) -> u64
+        ensures { result ≡ self.places }
+    {
+        self.places
     }
 
     /// Whether it may hold the firms of a place.

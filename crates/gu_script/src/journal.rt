@@ -17,8 +17,8 @@ use std::io::Write;
 /// The bytes that are held at most, but for the lines of one entry.
 const MOST_HELD: usize = 65_536;
 
-/// The day that an entry opened.
-fn opened_day(entry: &Entry) -> Option<Day>
+/// Returns the day that an entry opened, if it opened one.
+pub fn opened_day(entry: &Entry) -> Option<Day>
     ensures { result ≡ opened_day entry.now }
 {
     match entry {
@@ -59,8 +59,12 @@ fn append_asked(
     }
 }
 
-/// Appends the lines of an entry, where this day is open before it.
-fn append_entry(output: &mut Vec<u8>, today: Option<Day>, entry: &Entry) -> Result<(), AllocError>
+/// Appends the lines of an entry in a journal, if this day is open before it.
+pub fn append_entry(
+    output: &mut Vec<u8>,
+    today: Option<Day>,
+    entry: &Entry,
+) -> Result<(), AllocError>
     ensures { OnOk result (output.new.items ≡ output.old.items ++ flat_map line_of (entry_rows today entry.now)) }
 {
     match entry {

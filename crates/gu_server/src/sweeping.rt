@@ -28,8 +28,8 @@ fn sweep<E: EntryLedger, S: LotLedger, R: Wait>(
     order: &SweepOrder,
 ) {
     floor.open_orders.close(&order.group());
-    if let Ok(lots) = seat.sweep(floor.rt, floor.desk, order.group(), &Direct) {
-        floor.tally.add_sweep(lots);
+    if let Ok(swept) = seat.sweep(floor.rt, floor.desk, order.group(), &Direct) {
+        floor.tally.add_sweep(swept.lots);
     }
 }
 

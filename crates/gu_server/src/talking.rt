@@ -9,7 +9,7 @@ use crate::timed::{LogonTimer, Timed};
 use crossbeam_channel::Sender;
 use gu_desk::{EntryLedger, LotLedger, SweepOrder};
 use gu_engine::{Connection, SystemClock, converse};
-use gu_houses::{AtDesk, Orders, SeatReceipts};
+use gu_houses::{AtDesk, Nobody, Orders, SeatReceipts};
 use gu_streams::{CountedReads, StreamError};
 use gu_terms::FirmId;
 use std::io;
@@ -91,9 +91,9 @@ fn connect<H, C, E: EntryLedger, S: LotLedger, R>(
 /// The exchange of a connection's session with its seat, over the stream. The seat comes back.
 fn exchange<'a, 'o, E: EntryLedger, S: LotLedger, R: Wait + Clock>(
     floor: &Floor<'a, E, S, R>,
-    house: AtDesk<'a, 'o, E, S, R>,
+    house: AtDesk<'a, 'o, E, S, R, Nobody>,
     stream: &TcpStream,
-) -> (AtDesk<'a, 'o, E, S, R>, Result<(), StreamError>) {
+) -> (AtDesk<'a, 'o, E, S, R, Nobody>, Result<(), StreamError>) {
     let Ok(timer) = start(floor, stream) else {
         return (house, Err(StreamError::Read));
     };
@@ -122,7 +122,7 @@ pub fn talk<E: EntryLedger, S: LotLedger, R: Wait + Clock>(
 ) -> SeatReceipts<E, S> {
     floor.tally.begin();
     let orders = Orders::new(orders, floor.open_orders, floor.every);
-    let house = AtDesk::new(floor.rt, floor.desk, floor.tally, seat, orders);
+    let house = AtDesk::new(floor.rt, floor.desk, floor.tally, &Nobody, seat, orders);
     let (house, result) = exchange(floor, house, &stream);
     drop(stream);
     floor.tally.end(result.is_err());

@@ -16,7 +16,7 @@ use Rattle.gu_session.specs.Plans.{answers, leaves, says}
 use Rattle.gu_session.specs.Runs.{handed_reference}
 use Rattle.gu_session.specs.Sending.{ending_of, is_over, sent_by}
 use Rattle.gu_session.specs.States.{SessionState}
-use Rattle.gu_session.specs.Steps.{IsCourse, at_frame, frame_course, responses_of, session_after}
+use Rattle.gu_session.specs.Steps.{IsCourse, at_frame, frame_course, on_close, responses_of, session_after}
 use Rattle.gu_session.specs.TimeRules.{have_passed, on_tick}
 use Rattle.gu_session.specs.declared.heard.Heard.{Heard}
 use Rattle.gu_session.specs.declared.input.Input.{Input}
@@ -68,6 +68,11 @@ takes-tick (Some at) sent_at now =
     (takes-if (Some at) (have_passed 2 at at.heard_at now && not at.is_tested) (Go (says (record at { is_tested = true }) (body.TestRequest ∷ []))) _ (record { hands = tt; on = omega arith })
     (takes-if (Some at) (have_passed 1 at sent_at now) (Go (says at (body.Heartbeat None ∷ []))) Stay (record { hands = tt; on = omega arith }) tt)))
 
+-- the house closes
+pub takes-close : (at : Option LoggedOn) → Takes at (option_map_or (λ (at : LoggedOn). on_close at) at Leave)
+takes-close None = tt
+takes-close (Some at) = record { hands = tt; on = omega arith }
+
 -- logons
 pub begins-logged_on : (firm : FirmId) (number : ℕ) (m : Logon) (now : ℕ) (is_first : Bool) → (number == 1) ≡ is_first →
     ((logged_on firm number m now).handed ≡ None) × (1 ≤ (logged_on firm number m now).after.expected)
@@ -94,6 +99,7 @@ takes-course s (input.Notice notice) now course is = rw is (takes-notice s.at no
 takes-course s (input.Answer reference outcome) now course is = rw is (takes-answer s.at s.waiting reference outcome)
 takes-course s input.Tick now course is = rw is (takes-tick s.at s.sent_at now)
 takes-course s input.End now course is = rw is tt
+takes-course s input.Close now course is = rw is (takes-close s.at)
 
 -- messages are not handed out
 pub no_references-sends : (messages : List Outbound) (given : List Response) → filter_map handed_reference (map Sends messages ++ given) ≡ filter_map handed_reference given

@@ -72,6 +72,7 @@ one_course s (input.Notice notice) now course other is too = is ∙ sym too
 one_course s (input.Answer reference outcome) now course other is too = is ∙ sym too
 one_course s input.Tick now course other is too = is ∙ sym too
 one_course s input.End now course other is too = is ∙ sym too
+one_course s input.Close now course other is too = is ∙ sym too
 
 -- two steps of an open session
 pub one_open : (old new other : SessionState) (given_input : Input) (now : ℕ) (given others : List Response) →

@@ -16,6 +16,7 @@ pub mod Sound
 pub mod Sending
 pub mod Steps
 pub mod Readiness
+pub mod Dues
 pub mod Outputs
 pub mod Following
 pub mod Appending

@@ -2,17 +2,20 @@
 use Rattle.std.specs.Prelude.{◌≡◌, ◌⊎◌, ℕ, true, false, List, [], ◌∷◌, Option, None, Some, if◌then◌else◌}
 use Rattle.std.specs.Option.{option_map_or}
 use Rattle.gu_terms.specs.declared.firm.FirmId.{FirmId}
+use Rattle.gu_msgs.specs.declared.coded_values.LogoutReason.TheVariants.{Closing}
+use Rattle.gu_msgs.specs.declared.outbound.Body.TheVariants.{Logout}
 use Rattle.gu_session.specs.AnswerRules.{on_answer, on_notice}
 use Rattle.gu_session.specs.Encoded.{AreOutputs, Response, Closes}
 use Rattle.gu_session.specs.FrameRules.{frame_plan}
 use Rattle.gu_session.specs.Hearing.{Hears}
 use Rattle.gu_session.specs.Logons.{logon_course}
+use Rattle.gu_session.specs.Plans.{leaves}
 use Rattle.gu_session.specs.Sending.{behind, closed, given_by, is_over}
 use Rattle.gu_session.specs.States.{SessionState}
 use Rattle.gu_session.specs.TimeRules.{on_tick}
 use Rattle.gu_session.specs.declared.heard.Heard.{Heard}
 use Rattle.gu_session.specs.declared.input.Input.{Input}
-use Rattle.gu_session.specs.declared.input.Input.TheVariants.{Frame, Notice, Answer, Tick, End}
+use Rattle.gu_session.specs.declared.input.Input.TheVariants.{Frame, Notice, Answer, Tick, End, Close}
 use Rattle.gu_session.specs.declared.output.Output.{Output}
 use Rattle.gu_session.specs.declared.plan.Course.{Course}
 use Rattle.gu_session.specs.declared.plan.Course.TheVariants.{Stay, Leave, Go}
@@ -33,6 +36,10 @@ pub record IsFrameCourse (firms : List FirmId) (at : Option LoggedOn) (bytes : L
   pub hears : Hears bytes heard
   pub course_is : course ≡ frame_course firms at heard now
 
+-- as the house closes, a firm that is logged on is sent a Logout that says so, and that is the end
+abbrev pub on_close : LoggedOn → Course
+on_close at = Go (leaves at (Logout (Some Closing) ∷ []))
+
 -- what is done on an input; notices, answers and time do nothing before a firm is logged on
 abbrev pub IsCourse : SessionState → Input → ℕ → Course → Type 0
 IsCourse s (Frame bytes) now course = IsFrameCourse s.firms s.at bytes now course
@@ -40,6 +47,7 @@ IsCourse s (Notice notice) now course = course ≡ option_map_or (λ at. on_noti
 IsCourse s (Answer reference outcome) now course = course ≡ option_map_or (λ at. on_answer at s.waiting reference outcome) s.at Stay
 IsCourse s Tick now course = course ≡ option_map_or (λ at. on_tick at s.sent_at now) s.at Stay
 IsCourse s End now course = course ≡ Leave
+IsCourse s Close now course = course ≡ option_map_or (λ at. on_close at) s.at Leave
 
 -- what a course gives; a plan that needs a number above the greatest gives the end alone
 abbrev pub responses_of : SessionState → ℕ → Course → List Response

@@ -4,9 +4,9 @@ ghost use Rattle.std.specs.Prelude.{◌≡◌, IfOk};
 ghost use Rattle.std.specs.Option.{option_map_or};
 ghost use Rattle.gu_session.specs.AnswerRules.{message_course, on_answer};
 ghost use Rattle.gu_session.specs.Hearing.{Hears};
-ghost use Rattle.gu_session.specs.Steps.{IsFrameCourse, at_frame, frame_course};
+ghost use Rattle.gu_session.specs.Steps.{IsFrameCourse, at_frame, frame_course, on_close};
 ghost use Rattle.gu_session.specs.TimeRules.{on_tick};
-ghost use Rattle.gu_session.specs.declared.plan.Course.TheVariants.{Stay};
+ghost use Rattle.gu_session.specs.declared.plan.Course.TheVariants.{Leave, Stay};
 ghost use Rattle.gu_session.specs.declared.logged_on.LoggedOn.{LoggedOn as LoggedOnOf};
 
 use crate::answers::on_answer;
@@ -21,6 +21,7 @@ use crate::messages::Messages;
 use crate::plan::{Course, Plan};
 use crate::sequence::frame_plan;
 use gu_fix::{Frame, into_fields};
+use gu_msgs::LogoutReason;
 use gu_msgs::outbound::Body;
 use gu_terms::{FirmId, Moment};
 use std::alloc::{AllocError, Global};
@@ -106,5 +107,18 @@ pub fn tick_course(
     match at {
         Some(at) => on_tick(alloc, at, sent_at, now),
         None => Ok(Course::Stay),
+    }
+}
+
+/// What is done as the house closes.
+pub fn close_course(alloc: Global, at: &Option<LoggedOn>) -> Result<Course<'static>, AllocError>
+    ensures { IfOk result (λ course. course ≡ option_map_or (λ (at : LoggedOnOf). on_close at) at.now Leave) }
+{
+    match at {
+        Some(at) => {
+            let body = Body::Logout(Some(LogoutReason::Closing));
+            Ok(Course::Go(Plan::leaves_with(alloc, at, body)?))
+        }
+        None => Ok(Course::Leave),
     }
 }

@@ -1,6 +1,8 @@
 //! Heartbeats, and silence.
 
-ghost use Rattle.std.specs.Prelude.{◌≡◌, ◌≤◌, IfOk};
+ghost use Rattle.std.specs.Prelude.{◌≡◌, ◌≢◌, ◌<◌, ◌≤◌, ℕ, false, true, IfOk, IfSome};
+ghost use Rattle.gu_terms.specs.Numbers.{IsMoment};
+ghost use Rattle.gu_session.specs.declared.plan.Course.TheVariants.{Stay};
 ghost use Rattle.gu_session.specs.TimeRules.{have_passed, on_tick};
 
 use crate::logged_on::LoggedOn;
@@ -52,4 +54,45 @@ pub fn on_tick(
         return Ok(Course::Go(Plan::says(alloc, at, Body::Heartbeat(None))?));
     }
     Ok(Course::Stay)
+}
+
+/// Returns the number of the first moment at which so many intervals have passed; it may be above that of the last moment.
+fn after(at: &LoggedOn, count: u64, from: Moment) -> u64
+    requires some { 0 < count }
+    requires few { count ≤ 3 }
+    requires beats { 0 < at.now.heart_bt_int }
+    ensures not_before { (now : ℕ) → now < result → have_passed count at.now from now ≡ false }
+    ensures then { IsMoment result → have_passed count at.now from result ≡ true }
+{
+    match at.heart_bt_int.checked_mul(SECOND * count) {
+        Some(wait) => from.get().saturating_add(wait),
+        None => u64::MAX,
+    }
+}
+
+/// Returns the number of the first moment at which time does something, where there are heartbeats.
+fn due_number(at: &LoggedOn, sent_at: Moment) -> u64
+    requires { 0 < at.now.heart_bt_int }
+    ensures rests { (now : ℕ) → now < result → on_tick at.now sent_at now ≡ Stay }
+    ensures acts { IsMoment result → on_tick at.now sent_at result ≢ Stay }
+{
+    let silent = after(at, 3, at.heard_at);
+    let unheard = after(at, 2, at.heard_at);
+    let unsent = after(at, 1, sent_at);
+    if at.is_tested {
+        silent.min(unsent)
+    } else {
+        silent.min(unheard).min(unsent)
+    }
+}
+
+/// Returns the first moment at which time does something, if it ever does.
+pub fn due_at(at: &LoggedOn, sent_at: Moment) -> Option<Moment>
+    ensures rests { (now : ℕ) → IsMoment now → IfSome result (λ due. now < due) → on_tick at.now sent_at now ≡ Stay }
+    ensures acts { IfSome result (λ due. on_tick at.now sent_at due ≢ Stay) }
+{
+    if at.heart_bt_int == 0 {
+        return None;
+    }
+    Moment::new(due_number(at, sent_at))
 }

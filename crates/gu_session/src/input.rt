@@ -37,4 +37,6 @@ pub enum Input {
     Tick,
     /// Nothing more comes.
     End,
+    /// The house closes.
+    Close,
 }

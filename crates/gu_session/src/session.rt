@@ -2,6 +2,7 @@
 
 ghost use Rattle.std.specs.Prelude.{◌≡◌, [], ◌∷◌, List, ℕ, IfOk, OnOk, OnErr};
 ghost use Rattle.std.specs.Option.{option_map};
+ghost use Rattle.gu_session.specs.Dues.{ActsAt, RestsUntil, expected_of};
 ghost use Rattle.gu_session.specs.Encoded.{AreOutputs, Closes};
 ghost use Rattle.gu_session.specs.Following.{Follows, FollowsOnto};
 ghost use Rattle.gu_session.specs.Outputs.{StepsOnto};
@@ -13,7 +14,8 @@ ghost use Rattle.gu_session.specs.declared.logged_on.LoggedOn.{LoggedOn as Logge
 
 use crate::ask_ref::AskRef;
 use crate::carrying::is_over;
-use crate::course::{answer_course, frame_course, message_course, tick_course};
+use crate::course::{answer_course, close_course, frame_course, message_course, tick_course};
+use crate::heartbeat::due_at;
 use crate::input::{Input, Outcome};
 use crate::output::{Output, Taken};
 use crate::plan::{Course, Plan};
@@ -74,6 +76,34 @@ impl Session {
     {
         match &self.state.at {
             Some(at) => Some(at.firm),
+            None => None,
+        }
+    }
+
+    /// Returns the MsgSeqNum (34) that the firm's next message is to have, which is 1 before its Logon, and that of the next message to
+    /// send.
+    pub fn numbers(&self) -> (u64, u64)
+        ensures expected { result.0 ≡ expected_of self.now }
+        ensures next { result.1 ≡ self.now.next }
+    {
+        match &self.state.at {
+            Some(at) => (at.expected, self.state.next),
+            None => (1, self.state.next),
+        }
+    }
+
+    /// Returns the next moment at which a tick does something, as long as nothing else comes; or None if it never does: nobody is logged
+    /// on, the session is closed, or there are no heartbeats.
+    pub fn due_at(&self) -> Option<Moment>
+        ensures rests { RestsUntil self.now result }
+        ensures acts { ActsAt self.now result }
+    {
+        let state = &self.state;
+        if state.is_closed {
+            return None;
+        }
+        match &state.at {
+            Some(at) => due_at(at, state.sent_at),
             None => None,
         }
     }
@@ -145,6 +175,10 @@ impl Session {
                 self.perform(course, now)
             }
             Input::End => self.perform(Course::Leave, now),
+            Input::Close => {
+                let course = close_course(self.alloc, &state.at)?;
+                self.perform(course, now)
+            }
         }
     }
 
@@ -258,6 +292,20 @@ impl Session {
             return Ok(Taken::nothing());
         }
         let course = tick_course(self.alloc, &state.at, state.sent_at, now)?;
+        self.follow(course, now, output)
+    }
+
+    /// Takes it that the house closes in the same way: a firm that is logged on is sent a Logout, and that is the end.
+    pub fn close_onto(&mut self, now: Moment, output: &mut Vec<u8>) -> Result<Taken, AllocError>
+        ensures steps { IfOk result (λ taken. StepsOnto self.old Input.Close now output.old.items output.new.items taken self.new) }
+        ensures refused { OnErr result (self.new ≡ self.old) }
+        ensures kept { OnErr result (output.new.items ≡ output.old.items) }
+    {
+        let state = &self.state;
+        if state.is_closed {
+            return Ok(Taken::nothing());
+        }
+        let course = close_course(self.alloc, &state.at)?;
         self.follow(course, now, output)
     }
 

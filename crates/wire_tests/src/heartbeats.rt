@@ -4,18 +4,23 @@ use crate::talk::follow;
 /// Conversations, each named for what it shows.
 const TALKS: &str = "\
 new beats asks and leaves: with a heartbeat each half minute: one after half a minute, a TestRequest after one of silence, and the end after one and a half
+due
 in A 1 98=0|108=30|1137=9|
 out A 1 98=0|108=30|1137=9|
+due 09:00:30.000
 now 09:00:30.000
 tick
 out 0 2
+due 09:01:00.000
 now 09:01:00.000
 tick
 out 1 3 112=TEST|
+due 09:01:30.000
 now 09:01:30.000
 tick
 out 5 4 58=Silent|
 close
+due
 new beats from the last sending: a heartbeat is due an interval after the last sending, also of what was sent again; what comes in is none
 in A 1 98=0|108=30|1137=9|
 out A 1 98=0|108=30|1137=9|
@@ -31,6 +36,7 @@ tick
 now 09:00:50.000
 in 2 3 7=1|16=0|
 out 4 1 43=Y|122=20260105-09:00:50.000|123=Y|36=3|
+due 09:01:20.000
 now 09:01:00.000
 tick
 now 09:01:19.999
@@ -91,6 +97,7 @@ close
 new is patient where no heartbeat was asked for: with an interval of 0 time gives nothing
 in A 1 98=0|108=0|1137=9|
 out A 1 98=0|108=0|1137=9|
+due
 now 23:59:59.999
 tick
 in 0 2

@@ -6,6 +6,8 @@ mod answering;
 #[cfg(test)]
 mod bodies;
 #[cfg(test)]
+mod closing;
+#[cfg(test)]
 mod commands;
 #[cfg(test)]
 mod cut;

@@ -3,10 +3,10 @@
 //! - `new name`: another session begins, and another conversation, which shows what its name says
 //! - `now 09:00:30.000`: the clock, on 2026-01-05
 //! - `in T N fields`: a message of type T and number N comes from E1 to the house; `body fields`: one with these fields
-//! - `answer word`: the answer to what was handed out last; `notice matched`, `notice offered`; `tick`; `end`
+//! - `answer word`: the answer to what was handed out last; `notice matched`, `notice offered`; `tick`; `end`; `closing`
 //! - `out T N fields`: the session sends a message of type T and number N to E1, now; `sent text`: these very bytes
 //! - `hand text`: it hands this out; `close`: it ends
-//! - `firm name`: this firm is logged on
+//! - `firm name`: this firm is logged on; `due time`: a tick does something then, and not before; with no time it never does
 //! - `each 2 9 lines`: the lines, which `; ` parts, for each number from 2 to 9 in the place of `#`
 use crate::bodies::{message_at, message_of};
 use crate::messages::{frame_in, replaced, shown};
@@ -109,6 +109,7 @@ fn take(
         Input::Answer(reference, outcome) => session.answer_onto(reference, &outcome, now, text),
         Input::Tick => session.tick_onto(now, text),
         Input::End => Ok(session.end()),
+        Input::Close => session.close_onto(now, text),
     }
 }
 
@@ -185,6 +186,7 @@ impl Talk {
             "answer" => self.answer(alloc, text),
             "tick" => Ok(Some(Input::Tick)),
             "end" => Ok(Some(Input::End)),
+            "closing" => Ok(Some(Input::Close)),
             _ => Ok(None),
         }
     }
@@ -274,6 +276,7 @@ impl Talk {
         }
         match word {
             "firm" => Ok(self.is_firm(text)),
+            "due" => Ok(self.session.due_at() == moment_of(text)),
             "done" => Ok(self.given.is_empty()),
             _ => self.gives(alloc, word, text),
         }

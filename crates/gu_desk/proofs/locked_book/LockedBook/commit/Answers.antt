@@ -63,3 +63,8 @@ invariant_of-seat-2 g c =
 
 pub returns-clause-front : goal.returns-clause-front
 returns-clause-front g c = c.swept.ensures.front ∙ told g c
+
+pub returns-clause-current : goal.returns-clause-current
+returns-clause-current g c =
+    let view = c.args.proposal.now.view in
+    c.in_ok-number.ensures.current.same ∙ (λ k. group_view (c.self.invariant.0 k) (c.self.view_is k) view.group)

@@ -1,0 +1,215 @@
+//! What workers share with those that reach them: the thread that accepts connections, who makes entries, who asks and who closes.
+
+use crate::bell::Bell;
+use crate::connection_row::ConnectionStatus;
+use crate::post::Post;
+use gu_notices::{FirmFilter, FirmPlace};
+use std::alloc::{AllocError, Global};
+use std::sync::atomic::{AtomicBool, AtomicU64, Ordering};
+
+/// How many places there are for firms.
+const FIRM_PLACES: usize = 64;
+
+/// What is known of the firms of a place.
+#[derive(Drop)]
+struct FirmRow {
+    /// The number of the last entry that informs one of them: it only grows.
+    number: AtomicU64,
+    /// The workers that have a connection of one of them, a bit each.
+    workers: AtomicU64,
+}
+
+/// What workers share with those that reach them.
+#[derive(Drop)]
+pub struct Posts<B> {
+    firms: Vec<FirmRow>,
+    posts: Vec<Post<B>>,
+    /// What wakes the thread that accepts connections.
+    accepting: B,
+    is_closing: AtomicBool,
+    has_failed: AtomicBool,
+}
+
+/// Returns the bit of a worker or of a place of firms. Past the 64th there is none.
+pub fn bit_of(number: usize) -> u64 {
+    match u32::try_from(number) {
+        Ok(number) if number < 64 => 1 << number,
+        _ => 0,
+    }
+}
+
+/// Returns the rows of places at which no firm was informed.
+fn firm_rows(alloc: Global) -> Result<Vec<FirmRow>, AllocError> {
+    let mut rows = Vec::with_capacity(alloc, FIRM_PLACES)?;
+    for _place in 0..FIRM_PLACES {
+        rows.push(FirmRow {
+            number: AtomicU64::new(0),
+            workers: AtomicU64::new(0),
+        })?;
+    }
+    Ok(rows)
+}
+
+impl<B: Drop> Posts<B> {
+    /// Creates those of workers with these bells, 64 at most, each with this many places; and with the bell of the thread that
+    /// accepts connections.
+    pub fn new(
+        alloc: Global,
+        bells: Vec<B>,
+        places: usize,
+        accepting: B,
+    ) -> Result<Self, AllocError> {
+        let mut posts = Vec::with_capacity(alloc, bells.len())?;
+        for bell in bells {
+            posts.push(Post::new(alloc, bell, places)?)?;
+        }
+        Ok(Posts {
+            firms: firm_rows(alloc)?,
+            posts,
+            accepting,
+            is_closing: AtomicBool::new(false),
+            has_failed: AtomicBool::new(false),
+        })
+    }
+}
+
+impl<B> Posts<B> {
+    /// Returns the post of a worker.
+    pub fn post(&self, worker: usize) -> Option<&Post<B>> {
+        self.posts.get(worker)
+    }
+
+    /// Returns how many workers there are.
+    pub fn workers(&self) -> usize {
+        self.posts.len()
+    }
+
+    /// Returns how many connections a worker has, with those that are on their way to it.
+    pub fn connections_of(&self, worker: usize) -> u64 {
+        match self.posts.get(worker) {
+            Some(post) => post.connections(),
+            None => 0,
+        }
+    }
+
+    /// Returns how many connections all workers have.
+    pub fn connections(&self) -> u64 {
+        let mut sum = 0u64;
+        for post in &self.posts {
+            sum = sum.saturating_add(post.connections());
+        }
+        sum
+    }
+
+    /// Returns the worker that has the fewest connections, the first of several.
+    pub fn least_busy(&self) -> usize {
+        let mut least = 0;
+        let mut fewest = u64::MAX;
+        for (worker, post) in self.posts.iter().enumerate() {
+            let connections = post.connections();
+            if connections < fewest {
+                least = worker;
+                fewest = connections;
+            }
+        }
+        least
+    }
+
+    /// Returns what is shown of each connection.
+    pub fn status(&self, alloc: Global) -> Result<Vec<ConnectionStatus>, AllocError> {
+        let mut connections = Vec::new(alloc);
+        for post in &self.posts {
+            for row in post.rows() {
+                if let Some(status) = row.read() {
+                    connections.push(status)?;
+                }
+            }
+        }
+        Ok(connections)
+    }
+
+    /// Returns whether the day is being closed.
+    pub fn is_closing(&self) -> bool {
+        self.is_closing.load(Ordering::SeqCst)
+    }
+
+    /// Returns whether a worker couldn't go on.
+    pub fn has_failed(&self) -> bool {
+        self.has_failed.load(Ordering::SeqCst)
+    }
+
+    /// Notes that a worker has a connection of a firm, or that it has none any more.
+    pub fn set_firm(&self, worker: usize, firm: FirmPlace, is_here: bool) {
+        let Some(row) = self.firms.get(firm.number() as usize) else {
+            return;
+        };
+        let bit = bit_of(worker);
+        if is_here {
+            let _ = row.workers.fetch_or(bit, Ordering::SeqCst);
+        } else {
+            let _ = row.workers.fetch_and(u64::MAX ^ bit, Ordering::SeqCst);
+        }
+    }
+
+    /// Returns the number of the last entry that informs a firm of a place, or 0.
+    pub fn number(&self, firm: FirmPlace) -> u64 {
+        match self.firms.get(firm.number() as usize) {
+            Some(row) => row.number.load(Ordering::SeqCst),
+            None => 0,
+        }
+    }
+
+    /// Raises the numbers of these places, and returns the workers that have a connection of a firm at one of them.
+    fn raise(&self, number: u64, firms: u64) -> u64 {
+        let mut workers = 0;
+        for (place, row) in self.firms.iter().enumerate() {
+            if firms & bit_of(place) != 0 {
+                let _ = row.number.fetch_max(number, Ordering::SeqCst);
+                workers |= row.workers.load(Ordering::SeqCst);
+            }
+        }
+        workers
+    }
+}
+
+impl<B: Bell> Posts<B> {
+    /// Says that the entry of this number informs these firms: the workers that have a connection of one of them are told, and woken if
+    /// they wait. It is for whoever made the entry, once it may be shown, and outside the desk's lock.
+    pub fn inform(&self, number: u64, firms: FirmFilter) {
+        let firms = firms.bits();
+        let workers = self.raise(number, firms);
+        for (worker, post) in self.posts.iter().enumerate() {
+            if workers & bit_of(worker) != 0 {
+                post.tell(firms);
+            }
+        }
+    }
+
+    /// Closes the day: each connection is sent a Logout and ended, and no call is taken any more.
+    pub fn close(&self) {
+        self.is_closing.store(true, Ordering::SeqCst);
+        for post in &self.posts {
+            post.ring();
+        }
+        self.accepting.ring();
+    }
+
+    /// Drops the connection of this number, and returns whether there is one.
+    pub fn cut(&self, number: u64) -> bool {
+        self.posts.iter().any(|post| post.cut(number))
+    }
+
+    /// Counts out a connection of a worker, and says so to the thread that accepts connections.
+    pub fn end_connection(&self, worker: usize) {
+        if let Some(post) = self.posts.get(worker) {
+            post.remove_connection();
+        }
+        self.accepting.ring();
+    }
+
+    /// Says that a worker couldn't go on.
+    pub fn fail(&self) {
+        self.has_failed.store(true, Ordering::SeqCst);
+        self.accepting.ring();
+    }
+}

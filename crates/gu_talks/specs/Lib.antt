@@ -1,0 +1,5 @@
+pub mod Moments
+pub mod Sources
+pub mod Talks
+pub mod Turns
+pub mod Visits

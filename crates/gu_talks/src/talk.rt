@@ -1,0 +1,290 @@
+//! The exchange of a connection: its session, what it reads and writes, and what a turn left.
+
+ghost use Rattle.std.specs.Prelude.{◌≡◌, ◌↔◌, ◌≤◌, false, true, if◌then◌else◌, IfOk, IsTrue, OnOk, ℕ};
+ghost use Rattle.gu_talks.specs.Sources.{left_ahead};
+ghost use Rattle.gu_talks.specs.Turns.{TurnsOn, TurnsOnce, spot};
+
+use crate::outgoing::Outgoing;
+use crate::poller::{EndsWriting, Ready};
+use crate::source::{Ahead, Source};
+use crate::visit_clock::VisitClock;
+use gu_engine::{Answerer, Backlog, Connection, Conversation, Gate, House, Turned};
+use gu_streams::{CountedReads, LONGEST_READ, StreamError};
+use gu_terms::{FirmId, Moment};
+use std::alloc::Global;
+use std::io::{Read, Write};
+
+/// How many turns a visit makes at most: enough for all that is read at once.
+const MOST_TURNS: u32 = 4;
+
+/// With more bytes held than this, nothing is read or answered.
+const MOST_HELD: usize = 65_536;
+
+/// Where a turn puts what it reads.
+pub type TurnBuffer = [u8; LONGEST_READ];
+
+/// The exchange of a connection between its visits. No answer leaves but by `send`.
+#[derive(Drop)]
+pub struct Talk<I, O> {
+    conversation: Conversation,
+    source: Source<I>,
+    writer: Outgoing<O>,
+    backlog: Backlog<Gate>,
+}
+
+/// Makes one turn.
+fn make_turn<I: Read, O: Write, A: Answerer>(
+    ahead: Ahead<I>,
+    writer: &mut Outgoing<O>,
+    answerer: &mut A,
+    backlog: &mut Backlog<Gate>,
+    buffer: &mut TurnBuffer,
+) -> (Ahead<I>, Result<Turned, StreamError>)
+    ensures { IfOk result.1 (λ turned. TurnsOnce A.engine (left_ahead I.remaining)
+        (spot O.contents answerer.old ahead writer.old backlog.old) turned (spot O.contents answerer.new result.0 writer.new backlog.new)) }
+{
+    let mut reads = CountedReads::patient(ahead);
+    let turned = gu_engine::turn(&mut reads, writer, answerer, backlog, buffer);
+    (reads.into_reader(), turned)
+}
+
+/// Makes turns, this many at most, as long as bytes are ahead or the last one was cut and may go on.
+fn make_turns<I: Read, O: Write, A: Answerer>(
+    ahead: Ahead<I>,
+    writer: &mut Outgoing<O>,
+    answerer: &mut A,
+    backlog: &mut Backlog<Gate>,
+    buffer: &mut TurnBuffer,
+    most: u32,
+) -> (Ahead<I>, Result<Turned, StreamError>)
+    ensures { IfOk result.1 (λ turned. (more : ℕ) × TurnsOn A.engine (left_ahead I.remaining) more
+        (spot O.contents answerer.old ahead writer.old backlog.old) turned (spot O.contents answerer.new result.0 writer.new backlog.new)) }
+{
+    let (mut ahead, mut turned) = make_turn(ahead, writer, answerer, backlog, buffer);
+    for _turn in 1..most {
+        let Ok(Turned::Again) = turned else {
+            break;
+        };
+        if !ahead.has_bytes() {
+            break;
+        }
+        let (read, again) = make_turn(ahead, writer, answerer, backlog, buffer);
+        ahead = read;
+        turned = again;
+    }
+    (ahead, turned)
+}
+
+impl<I: Read + Drop, O: Write + Drop> Talk<I, O> {
+    ghost use Rattle.gu_talks.specs.Talks.{HasNothingLeft};
+    ghost use Rattle.gu_talks.specs.Visits.{ClosesTalk, IsNewTalk, Sends, StaysAsItIs, Visits};
+
+    /// Creates the exchange of a connection that was accepted, in which one of these firms may log on. Its turns may make this many reads.
+    pub fn new(alloc: Global, firms: Vec<FirmId>, incoming: I, outgoing: O, reads: u64) -> Self
+        ensures { IsNewTalk result firms.items (I.remaining incoming) I.remaining }
+    {
+        Talk {
+            conversation: Conversation::new(alloc, firms),
+            source: Source::new(incoming, reads),
+            writer: Outgoing::new(outgoing),
+            backlog: Backlog::new(alloc, Gate::closed()),
+        }
+    }
+
+    /// Makes turns at a moment: one if its firm isn't logged on, else four at most, as long as bytes are ahead. After the last of the
+    /// session it is told so. Where an allocation fails, the exchange is lost.
+    pub fn turn<H: House>(
+        self,
+        alloc: Global,
+        house: &mut H,
+        buffer: &mut TurnBuffer,
+        moment: Moment,
+    ) -> Result<(Self, Turned), StreamError>
+        ensures { IfOk result (λ went. Visits H.rules I.remaining O.contents moment self house.old went.0 went.1) }
+    {
+        let most = if self.firm().is_some() { MOST_TURNS } else { 1 };
+        let Talk {
+            conversation,
+            source,
+            mut writer,
+            mut backlog,
+        } = self;
+        let ahead = source.into_ahead(alloc)?;
+        let clock = VisitClock::new(moment, most);
+        let mut connection = Connection::resume(conversation, house, clock);
+        let (ahead, turned) = make_turns(
+            ahead,
+            &mut writer,
+            &mut connection,
+            &mut backlog,
+            buffer,
+            most,
+        );
+        let turned = turned?;
+        if turned.is_last() {
+            connection.end();
+        }
+        let talk = Talk {
+            conversation: connection.rest(),
+            source: ahead.into_source(),
+            writer,
+            backlog,
+        };
+        Ok((talk, turned))
+    }
+
+    /// Sends its firm, if it is logged on, the Logout of a house that closes: it is held then. It is for one that has nothing left to be
+    /// answered.
+    pub fn close<H: House>(self, house: &mut H, moment: Moment) -> Result<Self, StreamError>
+        requires { HasNothingLeft self }
+        ensures { IfOk result (λ closed. ClosesTalk moment self house.old closed) }
+    {
+        let Talk {
+            conversation,
+            source,
+            writer,
+            mut backlog,
+        } = self;
+        let clock = VisitClock::new(moment, 1);
+        let mut connection = Connection::resume(conversation, house, clock);
+        gu_engine::close(&mut connection, &mut backlog)?;
+        Ok(Talk {
+            conversation: connection.rest(),
+            source,
+            writer,
+            backlog,
+        })
+    }
+
+    /// Lets go of as much of what is held as the stream takes, and gives back the room of what is empty.
+    pub fn send(&mut self) -> Result<(), StreamError>
+        ensures { OnOk result (Sends O.contents self.old self.new) }
+    {
+        self.backlog.set_outlet(Gate::open());
+        let sent = self.backlog.send(&mut self.writer);
+        self.backlog.set_outlet(Gate::closed());
+        self.backlog.release();
+        sent
+    }
+
+    /// Returns the firm that is logged on.
+    pub fn firm(&self) -> Option<FirmId> {
+        self.conversation.firm()
+    }
+
+    /// Reads what comes and drops it, a few times at most. Returns whether its peer has ended or failed.
+    pub fn drain(&mut self, buffer: &mut TurnBuffer) -> bool
+        ensures conversation { self.new.conversation ≡ self.old.conversation }
+        ensures backlog { self.new.backlog ≡ self.old.backlog }
+        ensures writer { self.new.writer ≡ self.old.writer }
+    {
+        self.source.drain(buffer)
+    }
+
+    /// Notes what its streams are ready for.
+    pub fn note(&mut self, ready: Ready)
+        ensures { StaysAsItIs I.remaining self.old self.new }
+    {
+        if ready.is_readable || ready.is_ending {
+            self.source.note(ready.is_ending);
+        }
+        if ready.is_writable || ready.is_ending {
+            self.writer.note();
+        }
+    }
+
+    /// Has its next turn read, whether or not bytes are known to have come.
+    pub fn try_read(&mut self)
+        ensures { StaysAsItIs I.remaining self.old self.new }
+    {
+        self.source.note(false);
+    }
+
+    /// Notes that nothing more is to be read, whatever comes.
+    pub fn stop_reading(&mut self)
+        ensures { StaysAsItIs I.remaining self.old self.new }
+    {
+        self.source.stop();
+    }
+
+    /// Notes that entries up to this number may inform its firm. Returns whether any of them is new to it: then its next turn sends notices.
+    pub fn tell(&mut self, number: u64) -> bool
+        ensures new { IsTrue result ↔ (self.old.conversation.next ≤ number) }
+        ensures told { self.new ≡ (if result then record self.old { conversation = record self.old.conversation { is_behind = true } } else self.old) }
+    {
+        let is_new = self.conversation.next() <= number;
+        if is_new {
+            self.conversation.expect_notices();
+        }
+        is_new
+    }
+
+    /// Returns the next moment at which time alone does something.
+    pub fn due_at(&self) -> Option<Moment> {
+        self.conversation.due_at()
+    }
+
+    /// Returns the MsgSeqNum (34) that the firm's next message is to have, and that of the next message to send.
+    pub fn numbers(&self) -> (u64, u64) {
+        self.conversation.numbers()
+    }
+
+    /// Returns whether a read may bring bytes.
+    pub fn is_readable(&self) -> bool {
+        self.source.stream().is_readable()
+    }
+
+    /// Returns how many bytes were read.
+    pub fn bytes_in(&self) -> u64 {
+        self.source.stream().bytes()
+    }
+
+    /// Returns how many bytes were written.
+    pub fn bytes_out(&self) -> u64 {
+        self.writer.bytes()
+    }
+
+    /// Returns how many bytes of answers are held.
+    pub fn held(&self) -> usize {
+        self.backlog.held()
+    }
+
+    /// Returns whether so much is held that nothing is read or answered.
+    pub fn is_full(&self) -> bool {
+        self.backlog.held() > MOST_HELD
+    }
+
+    /// Returns whether there is anything to be answered without its stream: bytes are ahead, or a turn left something.
+    pub fn has_work(&self) -> bool
+        ensures { result ≡ false → HasNothingLeft self.now }
+    {
+        self.source.has_bytes() || !self.backlog.is_idle()
+    }
+
+    /// Returns whether another turn would do something at once.
+    pub fn wants_turn(&self) -> bool {
+        !self.is_full() && (self.has_work() || self.is_readable())
+    }
+}
+
+impl<I: Read + Drop, O: EndsWriting + Drop> Talk<I, O> {
+    /// Tells its peer that nothing more is written. What was read ahead is dropped, as is what comes.
+    pub fn hang_up(self) -> Self
+        ensures conversation { result.conversation ≡ self.conversation }
+        ensures backlog { result.backlog ≡ self.backlog }
+    {
+        let Talk {
+            conversation,
+            source,
+            mut writer,
+            backlog,
+        } = self;
+        writer.end_writing();
+        Talk {
+            conversation,
+            source: source.into_bare(),
+            writer,
+            backlog,
+        }
+    }
+}

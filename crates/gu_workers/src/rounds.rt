@@ -1,0 +1,257 @@
+//! The rounds of a worker: it waits, notes what has happened, and visits the connections that want it.
+
+use crate::admission::{Admission, CountsGiveUps};
+use crate::error::WorkerError;
+use crate::place::Ended;
+use crate::stage::Deadline;
+use crate::timer::{Now, Timer};
+use crate::worker::{Round, Worker};
+use crossbeam_channel::TryRecvError;
+use gu_engine::House;
+use gu_notices::FirmPlace;
+use gu_posts::{Bell, bit_of};
+use gu_talks::Poller;
+use std::alloc::AllocError;
+use std::io::ErrorKind;
+use std::mem;
+use std::sync::{Wait, WaitMethods};
+use std::time::Duration;
+
+/// How many milliseconds a worker waits at most while it has connections.
+const LONGEST_WAIT_MS: u64 = 1_000;
+
+impl<
+    P: Poller + Drop,
+    T: Timer + Drop,
+    H: House + CountsGiveUps + Drop,
+    A: Admission,
+    B: Bell,
+> Worker<'_, P, T, H, A, B> {
+    /// Makes one round: waits once, notes what has happened, visits each connection that wants it once, and takes those that have come.
+    pub fn round<R: Wait>(&mut self, rt: &R) -> Result<Round, WorkerError> {
+        self.wait()?;
+        let now = self.timer.now()?;
+        self.note_ready()?;
+        self.note_told()?;
+        self.note_cuts()?;
+        self.note_closing(&now)?;
+        self.note_due(&now)?;
+        self.visit_all(&now)?;
+        self.take_calls(rt, &now)?;
+        if self.has_all_calls && self.slots.is_empty() {
+            return Ok(Round::Over);
+        }
+        Ok(Round::GoesOn)
+    }
+
+    /// Makes rounds until no more connections come and the last has ended. Where it can't go on, it ends its connections and says so.
+    pub fn run<R: Wait>(&mut self, rt: &R) -> Result<(), WorkerError> {
+        for _round in rt.forever() {
+            match self.round(rt) {
+                Ok(Round::GoesOn) => {}
+                Ok(Round::Over) => break,
+                Err(error) => {
+                    self.give_up(rt);
+                    return Err(error);
+                }
+            }
+        }
+        Ok(())
+    }
+
+    /// Ends all its connections, also those that have come and aren't taken yet, and says that it couldn't go on.
+    fn give_up<R: Wait>(&mut self, rt: &R) {
+        for at in 0..self.slots.len() {
+            if self.drop_at(at).is_err() {
+                break;
+            }
+        }
+        for call in self.calls.try_iter(rt) {
+            drop(call);
+            self.shared.posts.end_connection(self.settings.worker);
+        }
+        self.shared.posts.fail();
+    }
+
+    /// Ends the connection at a place, if there is one.
+    fn drop_at(&mut self, at: usize) -> Result<(), AllocError> {
+        let Some(place) = self.slots.take(at) else {
+            return Ok(());
+        };
+        let card = place.card;
+        drop(place);
+        self.end(at, card, Ended { has_failed: true })
+    }
+
+    /// Returns how long it may wait: not at all where a place wants a visit, else until the next deadline.
+    fn longest_wait(&mut self) -> Result<Option<Duration>, WorkerError> {
+        if self.slots.has_wanting() {
+            return Ok(Some(Duration::from_millis(0)));
+        }
+        if self.slots.is_empty() {
+            return Ok(None);
+        }
+        let now = self.timer.now()?;
+        let left = self.earliest.left_ms(&now).min(LONGEST_WAIT_MS);
+        Ok(Some(Duration::from_millis(left)))
+    }
+
+    /// Returns whether there is anything to do that the poller doesn't know of.
+    fn has_news(&self) -> bool {
+        let posts = self.shared.posts;
+        let is_told = match posts.post(self.settings.worker) {
+            Some(post) => post.has_news(),
+            None => false,
+        };
+        is_told || (self.closing.is_none() && posts.is_closing())
+    }
+
+    /// Waits once. What others say while it doesn't wait is seen before, or by the next round.
+    fn wait(&mut self) -> Result<(), WorkerError> {
+        let mut most = self.longest_wait()?;
+        let posts = self.shared.posts;
+        if let Some(post) = posts.post(self.settings.worker) {
+            post.fall_asleep();
+        }
+        if self.has_news() {
+            most = Some(Duration::from_millis(0));
+        }
+        self.ready.clear();
+        let waited = self.poller.wait(most, &mut self.ready);
+        if let Some(post) = posts.post(self.settings.worker) {
+            post.wake_up();
+        }
+        match waited {
+            Err(error) if error.kind() != ErrorKind::Interrupted => Err(WorkerError::Poller(error)),
+            _ => Ok(()),
+        }
+    }
+
+    /// Notes which connections are ready.
+    fn note_ready(&mut self) -> Result<(), AllocError> {
+        for ready in &self.ready {
+            if let Some(place) = self.slots.get_mut(ready.place) {
+                place.note(*ready);
+                self.slots.list(ready.place)?;
+            }
+        }
+        Ok(())
+    }
+
+    /// Notes which connections have notices to be sent.
+    fn note_told(&mut self) -> Result<(), AllocError> {
+        let posts = self.shared.posts;
+        let Some(post) = posts.post(self.settings.worker) else {
+            return Ok(());
+        };
+        let told = post.take_told();
+        if told == 0 {
+            return Ok(());
+        }
+        for at in 0..self.slots.len() {
+            self.tell(at, told)?;
+        }
+        Ok(())
+    }
+
+    /// Notes whether the connection at a place has notices to be sent, where its firm's place is among these.
+    fn tell(&mut self, at: usize, told: u64) -> Result<(), AllocError> {
+        let Some(place) = self.slots.get_mut(at) else {
+            return Ok(());
+        };
+        let Some(admitted) = place.card.firm else {
+            return Ok(());
+        };
+        let firm_place = FirmPlace::of(&admitted.firm);
+        if told & bit_of(firm_place.number() as usize) == 0 {
+            return Ok(());
+        }
+        if place.tell(self.shared.posts.number(firm_place)) {
+            self.slots.list(at)?;
+        }
+        Ok(())
+    }
+
+    /// Ends the connections that were cut.
+    fn note_cuts(&mut self) -> Result<(), AllocError> {
+        let Some(post) = self.shared.posts.post(self.settings.worker) else {
+            return Ok(());
+        };
+        if !post.take_cuts() {
+            return Ok(());
+        }
+        for at in 0..self.slots.len() {
+            let is_cut = match post.rows().get(at) {
+                Some(row) => row.is_cut(),
+                None => false,
+            };
+            if is_cut {
+                self.drop_at(at)?;
+            }
+        }
+        Ok(())
+    }
+
+    /// Notes that the day is being closed, once: nothing more is read then, and each connection is visited.
+    fn note_closing(&mut self, now: &Now) -> Result<(), AllocError> {
+        if self.closing.is_some() || !self.shared.posts.is_closing() {
+            return Ok(());
+        }
+        self.closing = Some(now.ms);
+        for at in 0..self.slots.len() {
+            if let Some(place) = self.slots.get_mut(at) {
+                place.stop_reading();
+            }
+            self.slots.list(at)?;
+        }
+        Ok(())
+    }
+
+    /// Lists the connections whose deadline has come, and finds the earliest of the others.
+    fn note_due(&mut self, now: &Now) -> Result<(), AllocError> {
+        if !self.earliest.has_come(now) {
+            return Ok(());
+        }
+        let closing = self.closing;
+        let write_wait_ms = self.settings.write_wait_ms;
+        let mut earliest = Deadline::never();
+        for at in 0..self.slots.len() {
+            let Some(place) = self.slots.get(at) else {
+                continue;
+            };
+            let deadline = place.deadline(closing, write_wait_ms);
+            if deadline.has_come(now) {
+                self.slots.list(at)?;
+            } else {
+                earliest = earliest.min(deadline);
+            }
+        }
+        self.earliest = earliest;
+        Ok(())
+    }
+
+    /// Visits each connection that is listed, once.
+    fn visit_all(&mut self, now: &Now) -> Result<(), AllocError> {
+        for _visit in 0..self.slots.begin_visits() {
+            if let Some((at, place)) = self.slots.next_visit() {
+                self.visit(at, place, now)?;
+            }
+        }
+        Ok(())
+    }
+
+    /// Takes the connections that have come.
+    fn take_calls<R: Wait>(&mut self, rt: &R, now: &Now) -> Result<(), AllocError> {
+        for _call in 0..self.slots.len() {
+            match self.calls.try_recv(rt) {
+                Ok(call) => self.take_call(call, now)?,
+                Err(TryRecvError::Disconnected) => {
+                    self.has_all_calls = true;
+                    break;
+                }
+                Err(TryRecvError::Empty) => break,
+            }
+        }
+        Ok(())
+    }
+}

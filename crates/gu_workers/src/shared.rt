@@ -1,0 +1,23 @@
+//! What the workers of a server share.
+
+use gu_posts::Posts;
+use gu_terms::FirmId;
+use std::alloc::AllocError;
+
+/// What the workers of a server share.
+pub struct Shared<'a, A, B> {
+    /// The firms of the reference, each of which may log on.
+    pub firms: &'a [FirmId],
+    /// Who may be connected.
+    pub admission: &'a A,
+    /// How others reach the workers.
+    pub posts: &'a Posts<B>,
+}
+
+impl<A, B> Clone for Shared<'_, A, B> {
+    fn clone(&self) -> Result<Self, AllocError> {
+        Ok(*self)
+    }
+}
+
+impl<A, B> Copy for Shared<'_, A, B> {}

@@ -1,0 +1,350 @@
+//! A worker: its places, what watches them, and the house that answers them.
+
+ghost use Rattle.std.specs.Prelude.{◌≡◌, IfErr, IfOk};
+ghost use Rattle.gu_engine.specs.Exchange.{new_conversation};
+
+use crate::admission::{Admission, CountsGiveUps};
+use crate::card::{Admitted, Card};
+use crate::error::WorkerError;
+use crate::firms_here::FirmsHere;
+use crate::place::{Ended, Place};
+use crate::shared::Shared;
+use crate::slots::Slots;
+use crate::stage::Deadline;
+use crate::timer::{Now, Timer};
+use crossbeam_channel::Receiver;
+use gu_engine::House;
+use gu_notices::FirmPlace;
+use gu_posts::{Bell, Call};
+use gu_streams::{LONGEST_READ, MOST_READS};
+use gu_talks::{Poller, Ready, Talk, TurnBuffer};
+use std::alloc::{AllocError, Global};
+
+/// How many connections are noted as ready at once, as a rule.
+const MOST_READY: usize = 256;
+
+/// How a worker serves its connections.
+#[derive(Clone, Copy, Debug)]
+pub struct WorkerSettings {
+    /// Which worker it is, from 0 on.
+    pub worker: usize,
+    /// How many places it has.
+    pub places: usize,
+    /// How many milliseconds answers may be held of which none goes out.
+    pub write_wait_ms: u64,
+    /// Whether a connection ends after 1,000,000 reads.
+    pub keeps_count: bool,
+}
+
+/// What a worker works with.
+pub struct WorkerTools<P: Poller, T, H> {
+    /// What watches its connections.
+    pub poller: P,
+    /// What gives it the time.
+    pub timer: T,
+    /// What answers its connections.
+    pub house: H,
+    /// Where its connections come from.
+    pub calls: Receiver<Call<P::Call>>,
+}
+
+/// What became of a round.
+#[derive(Clone, Copy, Debug, PartialEq, Eq)]
+pub enum Round {
+    /// There is or may be more to do.
+    GoesOn,
+    /// No more connections come, and the last has ended.
+    Over,
+}
+
+/// A worker, which turns many connections. It opens nothing and starts nothing: what it reads, writes and waits for is what its poller
+/// gives.
+#[derive(Drop)]
+pub struct Worker<'a, P: Poller, T, H, A, B> {
+    pub(crate) alloc: Global,
+    pub(crate) shared: Shared<'a, A, B>,
+    pub(crate) settings: WorkerSettings,
+    pub(crate) poller: P,
+    pub(crate) timer: T,
+    pub(crate) house: H,
+    pub(crate) calls: Receiver<Call<P::Call>>,
+    /// Whether no more connections come.
+    pub(crate) has_all_calls: bool,
+    pub(crate) slots: Slots<P::Incoming, P::Outgoing>,
+    pub(crate) firms_here: FirmsHere,
+    /// The connections that are ready, as the poller says.
+    pub(crate) ready: Vec<Ready>,
+    /// Where turns put what they read.
+    pub(crate) buffer: TurnBuffer,
+    /// No deadline of a place comes before this one.
+    pub(crate) earliest: Deadline,
+    /// The milliseconds at which it saw that the day is being closed.
+    pub(crate) closing: Option<u64>,
+}
+
+impl<
+    'a,
+    P: Poller + Drop,
+    T: Timer + Drop,
+    H: House + CountsGiveUps + Drop,
+    A: Admission,
+    B: Bell,
+> Worker<'a, P, T, H, A, B> {
+    /// Creates a worker whose places are free. Where an allocation fails, the house comes back.
+    pub fn new(
+        alloc: Global,
+        shared: Shared<'a, A, B>,
+        settings: WorkerSettings,
+        tools: WorkerTools<P, T, H>,
+    ) -> Result<Self, H>
+        ensures { IfErr result (λ house. house ≡ tools.house) }
+    {
+        let WorkerTools {
+            poller,
+            timer,
+            house,
+            calls,
+        } = tools;
+        let Ok(slots) = Slots::new(alloc, settings.places) else {
+            return Err(house);
+        };
+        let Ok(ready) = Vec::with_capacity(alloc, MOST_READY) else {
+            return Err(house);
+        };
+        Ok(Worker {
+            alloc,
+            shared,
+            settings,
+            poller,
+            timer,
+            house,
+            calls,
+            has_all_calls: false,
+            slots,
+            firms_here: FirmsHere::new(),
+            ready,
+            buffer: [0; LONGEST_READ],
+            earliest: Deadline::never(),
+            closing: None,
+        })
+    }
+
+    /// Returns the house, which outlives it.
+    pub fn into_house(self) -> H
+        ensures { result ≡ self.entry.house }
+    {
+        let Worker {
+            alloc: _,
+            shared: _,
+            settings: _,
+            poller,
+            timer,
+            house,
+            calls,
+            has_all_calls: _,
+            slots,
+            firms_here,
+            ready,
+            buffer: _,
+            earliest: _,
+            closing: _,
+        } = self;
+        drop(poller);
+        drop(timer);
+        drop(calls);
+        drop(slots);
+        drop(firms_here);
+        drop(ready);
+        house
+    }
+
+    /// Returns the place of a firm in the reference's list, from 1 on; 0 if it isn't there.
+    fn index_of(&self, firm: &gu_terms::FirmId) -> u64 {
+        match self.shared.firms.iter().position(|one| one == firm) {
+            Some(index) => (index as u64).saturating_add(1),
+            None => 0,
+        }
+    }
+
+    /// Asks whether the firm of a connection may have a place, if it has just logged on. From then on it is told of what informs it,
+    /// and of what informed it before.
+    fn admit(&mut self, mut place: PlaceOf<P>, card: &mut Card) -> Result<PlaceOf<P>, Ended> {
+        let Some(firm) = place.talk.firm() else {
+            return Ok(place);
+        };
+        if card.firm.is_some() {
+            return Ok(place);
+        }
+        if !self.shared.admission.admit(&firm) {
+            return Err(Ended { has_failed: true });
+        }
+        card.firm = Some(Admitted {
+            firm,
+            index: self.index_of(&firm),
+        });
+        let firm_place = FirmPlace::of(&firm);
+        self.firms_here.add(firm_place);
+        let posts = self.shared.posts;
+        posts.set_firm(self.settings.worker, firm_place, true);
+        place.log_on();
+        place.tell(posts.number(firm_place));
+        Ok(place)
+    }
+
+    /// Makes a visit: the session goes on, and what is held goes out.
+    fn go_on(
+        &mut self,
+        place: PlaceOf<P>,
+        card: &mut Card,
+        now: &Now,
+    ) -> Result<PlaceOf<P>, Ended> {
+        if place.is_overdue(self.closing, self.settings.write_wait_ms, now) {
+            return Err(place.ended());
+        }
+        if place.stage.is_leaving() {
+            return place.leave(&mut self.buffer, now);
+        }
+        self.house.resume_count(card.give_ups);
+        let place = place.go_on(
+            self.alloc,
+            &mut self.house,
+            &mut self.buffer,
+            now,
+            self.closing.is_some(),
+        )?;
+        card.give_ups = self.house.give_ups();
+        let place = self.admit(place, card)?;
+        Ok(place.send(now)?)
+    }
+
+    /// Visits a connection, and puts it back at its place unless it has ended.
+    pub(crate) fn visit(
+        &mut self,
+        at: usize,
+        place: PlaceOf<P>,
+        now: &Now,
+    ) -> Result<(), AllocError> {
+        let mut card = place.card;
+        let went = self.go_on(place, &mut card, now);
+        match went {
+            Ok(place) => self.keep(at, place, card, now),
+            Err(ended) => self.end(at, card, ended),
+        }
+    }
+
+    /// Gives back what the firm of a connection has, if one was admitted: it is told of nothing more, and may have one more place.
+    fn let_go(&mut self, card: &mut Card) {
+        let Some(admitted) = card.firm else {
+            return;
+        };
+        card.firm = None;
+        let firm_place = FirmPlace::of(&admitted.firm);
+        if self.firms_here.remove(firm_place) {
+            self.shared
+                .posts
+                .set_firm(self.settings.worker, firm_place, false);
+        }
+        self.shared.admission.release(&admitted.firm);
+    }
+
+    /// Puts a connection at its place, and lists it if it wants another visit. One whose session is over is its firm's no more: so an
+    /// engine that logs out finds a place again at once.
+    fn keep(
+        &mut self,
+        at: usize,
+        mut place: PlaceOf<P>,
+        mut card: Card,
+        now: &Now,
+    ) -> Result<(), AllocError> {
+        card.note_bytes(place.talk.bytes_in(), now.moment);
+        if place.stage.is_leaving() {
+            self.let_go(&mut card);
+        }
+        place.card = card;
+        self.show(at, &place);
+        let deadline = place.deadline(self.closing, self.settings.write_wait_ms);
+        self.earliest = self.earliest.min(deadline);
+        let wants_visit = place.wants_visit(self.closing.is_some());
+        self.slots.put(at, place);
+        if wants_visit {
+            self.slots.list(at)?;
+        }
+        Ok(())
+    }
+
+    /// Shows what a connection has come to.
+    fn show(&self, at: usize, place: &PlaceOf<P>) {
+        if let Some(post) = self.shared.posts.post(self.settings.worker) {
+            if let Some(row) = post.rows().get(at) {
+                row.write(&place.status());
+            }
+        }
+    }
+
+    /// Frees the place of a connection that has ended.
+    pub(crate) fn end(
+        &mut self,
+        at: usize,
+        mut card: Card,
+        ended: Ended,
+    ) -> Result<(), AllocError> {
+        self.let_go(&mut card);
+        let posts = self.shared.posts;
+        let worker = self.settings.worker;
+        self.shared.admission.end(ended.has_failed);
+        if let Some(post) = posts.post(worker) {
+            if let Some(row) = post.rows().get(at) {
+                row.clear();
+            }
+        }
+        posts.end_connection(worker);
+        self.slots.give_back(at)
+    }
+
+    /// Begins to serve a connection at a place.
+    fn open(&mut self, call: Call<P::Call>, at: usize, now: &Now) -> Result<PlaceOf<P>, Ended>
+        ensures { IfOk result (λ place. place.talk.conversation ≡ new_conversation self.old.shared.firms.now) }
+    {
+        let Call {
+            stream,
+            number,
+            port,
+        } = call;
+        let Ok((incoming, outgoing)) = self.poller.watch(stream, at) else {
+            return Err(Ended { has_failed: true });
+        };
+        let Ok(firms) = Vec::from_slice(self.alloc, self.shared.firms) else {
+            return Err(Ended { has_failed: true });
+        };
+        let reads = if self.settings.keeps_count {
+            u64::from(MOST_READS)
+        } else {
+            u64::MAX
+        };
+        let talk = Talk::new(self.alloc, firms, incoming, outgoing, reads);
+        Ok(Place::new(talk, Card::new(number, port, now.moment), now))
+    }
+
+    /// Takes a connection that has come. Where no place is free, or the day is being closed, it is dropped without a byte.
+    pub(crate) fn take_call(&mut self, call: Call<P::Call>, now: &Now) -> Result<(), AllocError> {
+        let free = if self.closing.is_none() {
+            self.slots.take_free()
+        } else {
+            None
+        };
+        let Some(at) = free else {
+            drop(call);
+            self.shared.posts.end_connection(self.settings.worker);
+            return Ok(());
+        };
+        self.shared.admission.begin();
+        let card = Card::new(call.number, call.port, now.moment);
+        match self.open(call, at, now) {
+            Ok(place) => self.keep(at, place, card, now),
+            Err(ended) => self.end(at, card, ended),
+        }
+    }
+}
+
+/// A connection at its place, by what its worker's poller gives.
+pub type PlaceOf<P> = Place<<P as Poller>::Incoming, <P as Poller>::Outgoing>;
