@@ -101,11 +101,11 @@ impl<B> Posts<B> {
         sum
     }
 
-    /// Returns the worker that has the fewest connections, the first of several.
-    pub fn least_busy(&self) -> usize {
+    /// Returns the one of the first workers, this many, that has the fewest connections: the first of several.
+    pub fn least_busy(&self, among: usize) -> usize {
         let mut least = 0;
         let mut fewest = u64::MAX;
-        for (worker, post) in self.posts.iter().enumerate() {
+        for (worker, post) in self.posts.iter().take(among).enumerate() {
             let connections = post.connections();
             if connections < fewest {
                 least = worker;
