@@ -17,16 +17,25 @@ pub struct Call<C> {
     pub port: u64,
 }
 
-/// Where the connections of a worker are sent.
-#[derive(Drop)]
-pub struct CallSender<'a, C: Drop, B> {
+/// Where the connections of a worker are sent. Once it is dropped no more come, and the worker is woken to see it.
+pub struct CallSender<'a, C: Drop, B: Bell> {
     to: Sender<Call<C>>,
     posts: &'a Posts<B>,
     worker: usize,
 }
 
+impl<C: Drop, B: Bell> Drop for CallSender<'_, C, B> {
+    fn drop(self) {
+        let CallSender { to, posts, worker } = self;
+        drop(to);
+        if let Some(post) = posts.post(worker) {
+            post.ring();
+        }
+    }
+}
+
 /// Creates the two ends of the way by which connections come to a worker with this many places.
-pub fn calls<'a, C: Drop, B>(
+pub fn calls<'a, C: Drop, B: Bell>(
     alloc: Global,
     posts: &'a Posts<B>,
     worker: usize,
@@ -47,14 +56,5 @@ impl<C: Drop, B: Bell> CallSender<'_, C, B> {
             post.remove_connection();
         }
         post.ring();
-    }
-
-    /// Says that no more connections come.
-    pub fn end(self) {
-        let CallSender { to, posts, worker } = self;
-        drop(to);
-        if let Some(post) = posts.post(worker) {
-            post.ring();
-        }
     }
 }
