@@ -16,6 +16,23 @@ pub enum JournalFault {
     NotAFile,
 }
 
+/// Why the socket of operators can't be had, or isn't answered at.
+#[derive(Debug, Drop, Clone, Copy, PartialEq, Eq, Error)]
+pub enum ConsoleFault {
+    /// A desk answers at it.
+    #[error("InUse")]
+    InUse,
+    /// The path is that of something else.
+    #[error("NotASocket")]
+    NotASocket,
+    /// Nobody answers at it.
+    #[error("Unreachable")]
+    Unreachable,
+    /// A desk was sent a line, and didn't answer it to the end.
+    #[error("Unanswered")]
+    Unanswered,
+}
+
 /// Why the program ends with status 1.
 #[derive(Debug, Drop, Clone, Copy, PartialEq, Eq, Error)]
 pub enum RunError {
@@ -31,6 +48,9 @@ pub enum RunError {
     /// The journal can't be begun.
     #[error("journal: {0}")]
     Journal(JournalFault),
+    /// The socket of operators can't be had, or isn't answered at.
+    #[error("console: {0}")]
+    Console(ConsoleFault),
 }
 
 impl From<RefFault> for RunError {

@@ -1,6 +1,6 @@
 //! Faults of a run: the error that is named, and what is at fault.
 
-use crate::error::{JournalFault, RunError};
+use crate::error::{ConsoleFault, JournalFault, RunError};
 use gu_ref::RefFault;
 use gu_script::ScriptError;
 use gu_streams::StreamError;
@@ -65,6 +65,12 @@ impl fmt::Display for InWords {
                 f.write_str("it isn't empty, and a day doesn't write over what it finds")
             }
             RunError::Journal(JournalFault::NotAFile) => f.write_str("it isn't a file"),
+            RunError::Console(ConsoleFault::InUse) => f.write_str("a desk answers there"),
+            RunError::Console(ConsoleFault::NotASocket) => f.write_str("it isn't a socket"),
+            RunError::Console(ConsoleFault::Unreachable) => f.write_str("nobody answers there"),
+            RunError::Console(ConsoleFault::Unanswered) => {
+                f.write_str("it ended before all of an answer had come")
+            }
             RunError::Reference(_) | RunError::Script(_) | RunError::Stream(_) => {
                 f.write_str("it couldn't be read to its end")
             }
@@ -123,9 +129,9 @@ impl<'a> Fault<'a> {
         }
     }
 
-    /// Returns whether a second line says what is at fault: at a terminal, and for a journal, whose faults are new to who reads them.
+    /// Returns whether a second line says what is at fault: at a terminal, and for a journal and a console.
     fn has_second_line(&self, is_at_terminal: bool) -> bool {
-        is_at_terminal || matches!(self.error, RunError::Journal(_))
+        is_at_terminal || matches!(self.error, RunError::Journal(_) | RunError::Console(_))
     }
 
     /// Says the error on standard error, and in a second line what is at fault and why. What can't be written there is lost.

@@ -36,6 +36,7 @@ mod seeding;
 mod serving;
 #[cfg(test)]
 mod stream_tests;
+mod telling;
 #[cfg(test)]
 mod word_tests;
 

@@ -10,6 +10,7 @@ use crate::progress::Told;
 use crate::replaying::replay;
 use crate::sample::{sample_day, sample_reference};
 use crate::seeding::seed_from;
+use crate::telling::run_tell;
 use clap::Error;
 use gu_capture::capture;
 use gu_engine::{Connection, SystemClock};
@@ -144,6 +145,7 @@ fn perform<
         Ok(Task::Check) => Ok(run_check(rt)?),
         Ok(Task::Replay { reference }) => Ok(run_replay(rt, reference, terminal)?),
         Ok(Task::Serve(serving)) => run_serve(rt, &serving, terminal),
+        Ok(Task::Tell { path, lines }) => Ok(run_tell(rt, path, &lines)?),
         Ok(
             Task::Fix {
                 firm,

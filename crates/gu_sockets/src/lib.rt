@@ -2,6 +2,7 @@
 #![tactic(auto)]
 
 mod door;
+mod doors;
 mod doorway;
 mod listen_fault;
 mod listening;

@@ -2,13 +2,12 @@
 
 use crate::listen_fault::ListenFault;
 use mio::net::UnixStream;
-use std::fs;
 use std::fs::{Files, Permissions};
-use std::io;
 use std::io::ErrorKind;
 use std::net::Net;
 use std::os::unix::fs::{FileTypeExt, PermissionsExt};
 use std::os::unix::net::UnixListener;
+use std::{fs, io};
 
 /// The mode of a socket: its owner alone may connect.
 const OWNER_ONLY: u32 = 0o600;

@@ -15,7 +15,7 @@ pub struct PollBell {
 
 impl PollBell {
     /// Creates the bell of a poll.
-    pub fn new(registry: &Registry) -> io::Result<Self> {
+    pub(crate) fn new(registry: &Registry) -> io::Result<Self> {
         Ok(PollBell {
             waker: Waker::new(registry, BELL)?,
         })

@@ -78,7 +78,11 @@ impl Poller for SocketPoller {
 
     type Outgoing = SocketWriter;
 
-    fn watch(&mut self, mut call: TcpStream, place: usize) -> io::Result<(SocketReader, SocketWriter)> {
+    fn watch(
+        &mut self,
+        mut call: TcpStream,
+        place: usize,
+    ) -> io::Result<(SocketReader, SocketWriter)> {
         call.set_nodelay(true)?;
         self.poll.registry().register(
             &mut call,

@@ -2,12 +2,14 @@
 
 use crate::clients::{Client, Ending};
 use std::alloc::Global;
-use std::io;
 use std::io::{Read, Write};
 use std::net::{Net, TcpListener, TcpStream};
 use std::os::unix::net::UnixStream;
 use std::process::Abort;
+use std::rt::Clock;
+use std::sync::Wait;
 use std::time::Duration;
+use std::{io, thread};
 
 /// What a firm or the operator does.
 #[derive(Clone, Copy)]
@@ -28,7 +30,9 @@ pub enum Act {
     HangsUp(usize),
     /// The operator sends this line, and its answer begins so.
     Asks(&'static str, &'static str),
-    /// The operator sends this line, whose answer ends with the day.
+    /// The operator asks for the status until it begins so.
+    Awaits(&'static str),
+    /// The operator closes the day, and is answered so at once.
     Closes(&'static str),
 }
 
@@ -101,8 +105,25 @@ impl Clients {
     }
 }
 
+/// Has an operator ask for the status until it begins so.
+fn await_status<R: Wait + Clock + Abort>(
+    rt: &R,
+    alloc: Global,
+    operator: &mut Operator,
+    begins: &str,
+) -> io::Result<()> {
+    for _look in 0..2_000 {
+        if operator.ask(alloc, "STATUS")?.starts_with(begins) {
+            return Ok(());
+        }
+        thread::sleep(rt, Duration::from_millis(5));
+    }
+    assert!(rt; false, "{begins}");
+    Ok(())
+}
+
 /// Has a firm or the operator act.
-fn act<R: Net<Listener = TcpListener, Stream = TcpStream> + Abort>(
+fn act<R: Net<Listener = TcpListener, Stream = TcpStream> + Wait + Clock + Abort>(
     rt: &R,
     alloc: Global,
     port: u16,
@@ -132,6 +153,7 @@ fn act<R: Net<Listener = TcpListener, Stream = TcpStream> + Abort>(
             let came = operator.ask(alloc, line)?;
             assert!(rt; came.starts_with(begins), "{came}");
         }
+        Act::Awaits(begins) => await_status(rt, alloc, operator, begins)?,
         Act::Closes(begins) => {
             operator.send("CLOSE")?;
             let came = operator.read_to(alloc, b"\n")?;
@@ -142,7 +164,7 @@ fn act<R: Net<Listener = TcpListener, Stream = TcpStream> + Abort>(
 }
 
 /// Has firms and an operator act in turn. The operator is gone at the end.
-pub fn act_all<R: Net<Listener = TcpListener, Stream = TcpStream> + Abort>(
+pub fn act_all<R: Net<Listener = TcpListener, Stream = TcpStream> + Wait + Clock + Abort>(
     rt: &R,
     alloc: Global,
     port: u16,

@@ -23,14 +23,20 @@ const ROWS: [Row; 6] = [
     // More connections come than there are places, one after the other; a place is free once its connection has ended.
     Row {
         begin: A_TRADE,
-        span: Span::UntilClosed(2, 1),
+        span: Span::UntilClosed(1, 1),
         doing: Doing::Acts(&[
             Act::Comes,
             Act::Says(0, "E1", GIVES_UP_LINES),
             Act::LogsOut(0, "E1", 3),
+            Act::Awaits(
+                "DESK OPEN DAY 20260105 ENTRIES 8 OF 1000000 SWEPT 0 CONNECTIONS 0 OF 1 ALL 1",
+            ),
             Act::Comes,
             Act::Says(1, "E3", LOGON),
             Act::LogsOut(1, "E3", 2),
+            Act::Awaits(
+                "DESK OPEN DAY 20260105 ENTRIES 8 OF 1000000 SWEPT 0 CONNECTIONS 0 OF 1 ALL 2",
+            ),
             Act::Comes,
             Act::Says(2, "E3", LOGON),
             Act::LogsOut(2, "E3", 2),
@@ -69,6 +75,9 @@ const ROWS: [Row; 6] = [
             Act::Says(0, "C1", LOGON),
             Act::Comes,
             Act::IsTurnedAway(1, "C1", LOGON),
+            Act::Awaits(
+                "DESK OPEN DAY 20260105 ENTRIES 7 OF 1000000 SWEPT 0 CONNECTIONS 1 OF 2 ALL 2",
+            ),
             Act::Comes,
             Act::Says(2, "E3", LOGON),
             Act::Closes("CLOSING"),
