@@ -68,7 +68,10 @@ fn fault_of<'a>(serving: &Serving<'a>, error: ListenError<'a>) -> Fault<'a> {
             Fault::at(Place::File(path), RunError::Console(ConsoleFault::InUse))
         }
         ListenError::Socket(path, ListenFault::NotASocket) => {
-            Fault::at(Place::File(path), RunError::Console(ConsoleFault::NotASocket))
+            Fault::at(
+                Place::File(path),
+                RunError::Console(ConsoleFault::NotASocket),
+            )
         }
     }
 }

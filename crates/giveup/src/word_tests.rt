@@ -4,7 +4,7 @@ use crate::engines::end_text;
 use crate::error::RunError;
 use crate::rows::check_told;
 use clap::Error;
-use gu_words::{Serving, Task, answer, firm_named, read};
+use gu_words::{Serving, Span, Task, answer, firm_named, read};
 use std::alloc::{AllocError, Global};
 use std::cell::Cell;
 use std::fmt::Display;
@@ -96,19 +96,39 @@ fn error_text(alloc: Global, telling: Telling, error: &Error) -> Result<String, 
     }
 }
 
-/// What a server is started with, as words.
+/// How long a server goes on, as words.
+fn span_text(alloc: Global, span: Span<'_>) -> Result<String, AllocError> {
+    match span {
+        Span::Counted(counted) => format!(in alloc; "{}", counted.connections),
+        Span::UntilClosed(until_closed) => match until_closed.workers {
+            Some(workers) => format!(in alloc; "{} at once by {workers}", until_closed.places),
+            None => format!(in alloc; "{} at once", until_closed.places),
+        },
+    }
+}
+
+/// What a server is started with, as words. Sockets of operators stand last, where there are some.
 fn serving_text(alloc: Global, serving: Serving<'_>) -> Result<String, AllocError> {
+    let console = serving.console();
     let Serving {
         reference,
         port,
         script,
-        journal,
-        connections,
+        span,
         every,
+        journal,
+        watch,
     } = serving;
     let script = script.unwrap_or("no script");
     let journal = journal.unwrap_or("no journal");
-    format!(in alloc; "serve {reference} {port}, {script}, {journal}, {connections}, {every}")
+    let span = span_text(alloc, span)?;
+    let mut text =
+        format!(in alloc; "serve {reference} {port}, {script}, {journal}, {span}, {every}")?;
+    for path in [console, watch].iter().flatten() {
+        text.push_str(", ")?;
+        text.push_str(path)?;
+    }
+    Ok(text)
 }
 
 /// A task, with its words.
@@ -126,6 +146,15 @@ fn task_text(alloc: Global, task: Task<'_>) -> Result<String, AllocError> {
             format!(in alloc; "fix {firm} {reference}, {script}")
         }
         Task::Serve(serving) => serving_text(alloc, serving),
+        Task::Tell { path, lines } => {
+            let mut text = format!(in alloc; "tell {path}")?;
+            for line in &lines {
+                text.push_str(", ")?;
+                text.push_str(line)?;
+            }
+            drop(lines);
+            Ok(text)
+        }
     }
 }
 
@@ -177,6 +206,15 @@ giveup serve house.csv 9878 --connections 32 -> serve house.csv 9878, no script,
 giveup serve house.csv 9878 --every 0 -> serve house.csv 9878, no script, no journal, 8, 0
 giveup serve house.csv 9878 --every=1000 -> serve house.csv 9878, no script, no journal, 8, 1000
 giveup serve --every 1 --connections=2 --script day house.csv 9878 -> serve house.csv 9878, day, no journal, 2, 1
+giveup serve house.csv 9878 --console desk -> serve house.csv 9878, no script, no journal, 8, 16, desk
+giveup serve house.csv 9878 --watch look -> serve house.csv 9878, no script, no journal, 8, 16, look
+giveup serve house.csv 9878 --watch look --console desk --connections 32 -> serve house.csv 9878, no script, no journal, 32, 16, desk, look
+giveup serve house.csv 9878 --console desk --until-closed -> serve house.csv 9878, no script, no journal, 8 at once, 16, desk
+giveup serve house.csv 9878 --until-closed --console desk --connections 1 -> serve house.csv 9878, no script, no journal, 1 at once, 16, desk
+giveup serve house.csv 9878 --until-closed --console desk --connections 1024 --workers 60 -> serve house.csv 9878, no script, no journal, 1024 at once by 60, 16, desk
+giveup serve house.csv 9878 --workers=1 --until-closed --console desk --every 0 -> serve house.csv 9878, no script, no journal, 8 at once by 1, 0, desk
+giveup tell desk -> tell desk
+giveup tell desk STATUS CLOSE -> tell desk, STATUS, CLOSE
 ";
 
 /// Words that ask for help.
@@ -228,6 +266,19 @@ giveup serve house.csv 9878 --journal -> InvalidValue 2
 giveup serve house.csv 9878 --journal log --journal log -> ArgumentConflict 2
 giveup serve house.csv 9878 --day log -> UnknownArgument 2
 giveup replay house.csv --journal log -> UnknownArgument 2
+giveup replay house.csv --console desk -> UnknownArgument 2
+giveup fix E1 house.csv --watch look -> UnknownArgument 2
+giveup serve house.csv 9878 --until-closed -> MissingRequiredArgument 2
+giveup serve house.csv 9878 --until-closed --watch look -> MissingRequiredArgument 2
+giveup serve house.csv 9878 --console desk --workers 2 -> MissingRequiredArgument 2
+giveup serve house.csv 9878 --console desk --connections 33 -> ValueValidation 2
+giveup serve house.csv 9878 --console desk --until-closed --connections 1025 -> ValueValidation 2
+giveup serve house.csv 9878 --console desk --until-closed --connections 0 -> ValueValidation 2
+giveup serve house.csv 9878 --console desk --until-closed --workers 0 -> ValueValidation 2
+giveup serve house.csv 9878 --console desk --until-closed --workers 61 -> ValueValidation 2
+giveup serve house.csv 9878 --console desk --watch desk -> ArgumentConflict 2
+giveup serve house.csv 9878 --console desk --console desk -> ArgumentConflict 2
+giveup tell -> MissingRequiredArgument 2
 ";
 
 #[test]

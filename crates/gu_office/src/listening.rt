@@ -3,11 +3,10 @@
 use gu_server::Front;
 use gu_sockets::{Doorway, ListenFault, listen_at};
 use std::alloc::Global;
-use std::fs;
-use std::io;
 use std::net::{Net, TcpListener, TcpStream};
 use std::os::unix::net::UnixListener;
 use std::rt::Files;
+use std::{fs, io};
 
 /// Where firms and operators come in.
 #[derive(Clone, Copy, Debug)]

@@ -43,13 +43,17 @@ fn have_passed<R: Clock>(rt: &R, since: Instant, seconds: u64) -> bool {
     }
 }
 
-/// Writes a text, in ten seconds at most. Returns whether all of it went out.
-fn send<R: Wait + Clock>(rt: &R, mut stream: &UnixStream, text: &[u8]) -> bool {
-    let Ok(since) = Instant::now(rt) else {
+/// Writes a text, in ten seconds at most and only until the day is over. Returns whether all of it went out.
+fn send<E: EntryLedger, S: LotLedger, R: Wait + Clock>(
+    floor: &Floor<'_, E, S, R>,
+    mut stream: &UnixStream,
+    text: &[u8],
+) -> bool {
+    let Ok(since) = Instant::now(floor.rt) else {
         return false;
     };
     let mut rest = text;
-    for _write in rt.forever() {
+    for _write in floor.rt.forever() {
         if rest.is_empty() {
             return true;
         }
@@ -59,7 +63,7 @@ fn send<R: Wait + Clock>(rt: &R, mut stream: &UnixStream, text: &[u8]) -> bool {
             Err(error) if !is_pause(&error) => return false,
             Err(_) => {}
         }
-        if have_passed(rt, since, MOST_SENDING_S) {
+        if floor.is_over() || have_passed(floor.rt, since, MOST_SENDING_S) {
             return rest.is_empty();
         }
     }
@@ -84,17 +88,20 @@ struct Exchange<'s> {
 
 impl Exchange<'_> {
     /// Sends the answers. Returns whether all went out.
-    fn send<R: Wait + Clock>(&mut self, rt: &R) -> bool {
-        let is_sent = send(rt, self.stream, &self.output);
+    fn send<E: EntryLedger, S: LotLedger, R: Wait + Clock>(
+        &mut self,
+        floor: &Floor<'_, E, S, R>,
+    ) -> bool {
+        let is_sent = send(floor, self.stream, &self.output);
         self.output.clear();
         is_sent
     }
 
     /// Answers what came, line by line, and sends the answers: so little is held, however much is asked. Returns nothing where the
     /// connection is to be closed.
-    fn answer<'a, E: EntryLedger, S: LotLedger, R: Wait + Clock, O: Office, I: Informs>(
+    fn answer<'a, 'f, E: EntryLedger, S: LotLedger, R: Wait + Clock, O: Office, I: Informs>(
         &mut self,
-        rt: &R,
+        floor: &Floor<'f, E, S, R>,
         operator: &mut Operator<'a, E, S, R, O, I>,
         came: &[u8],
     ) -> Option<Said> {
@@ -104,7 +111,7 @@ impl Exchange<'_> {
             left = rest;
             let said = serve_lines(operator, &mut self.lines, line, &mut self.output).ok()?;
             let is_last = left.is_empty() || said == Said::Closes;
-            if (is_last || self.output.len() > MOST_HELD) && !self.send(rt) {
+            if (is_last || self.output.len() > MOST_HELD) && !self.send(floor) {
                 return None;
             }
             if is_last {
@@ -148,7 +155,7 @@ pub fn talk<'a, 'f, E: EntryLedger, S: LotLedger, R: Wait + Clock, O: Office, I:
             Ok(0) => break,
             Ok(count) => {
                 let came = buffer.get(..count).unwrap_or(&[]);
-                match exchange.answer(floor.rt, operator, came) {
+                match exchange.answer(floor, operator, came) {
                     Some(Said::GoesOn) => {}
                     Some(Said::Closes) => return Said::Closes,
                     None => break,

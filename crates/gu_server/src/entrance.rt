@@ -246,7 +246,8 @@ impl<'a, D: LetsIn + Drop> Entrance<'a, D> {
         &mut self,
         floor: &Floor<'_, E, S, R>,
     ) -> Result<(), StreamError> {
-        if self.door.wait(self.longest_wait()).is_err() {
+        let most = self.longest_wait();
+        if self.door.wait(most).is_err() {
             return Err(StreamError::Read);
         }
         self.accept_operators(floor);
