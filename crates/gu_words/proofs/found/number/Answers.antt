@@ -1,5 +1,5 @@
 use Rattle.gu_words.proofs.WordLemmas.{never_unread}
-use Rattle.gu_words.proofs.words.number.Goals as goal
+use Rattle.gu_words.proofs.found.number.Goals as goal
 
 pub returns-in-Ok-clause-number : goal.returns-in-Ok-clause-number
 returns-in-Ok-clause-number c within = c.in-Ok.ensures.value.0.1

@@ -1,8 +1,8 @@
 use Rattle.std.proofs.Common.{rules, ◌≡◌, codes}
 use Rattle.clap.specs.Words.{app_of, new_app, rule_of}
-use Rattle.gu_words.specs.ProgramWords.{needed}
+use Rattle.gu_words.specs.CommandLine.{needed}
 use Rattle.gu_words.proofs.WordLemmas.{last_word_added}
-use Rattle.gu_words.proofs.words.replay_command.Goals as goal
+use Rattle.gu_words.proofs.commands.replay_command.Goals as goal
 
 pub returns : goal.returns
 returns c =

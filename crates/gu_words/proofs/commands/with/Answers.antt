@@ -1,5 +1,5 @@
 use Rattle.gu_words.proofs.WordLemmas.{last_command_added}
-use Rattle.gu_words.proofs.words.with.Goals as goal
+use Rattle.gu_words.proofs.commands.with.Goals as goal
 
 pub returns-in-Ok : goal.returns-in-Ok
 returns-in-Ok c shape plain made =
