@@ -224,7 +224,7 @@ pub fn serve_command<'a>(alloc: Global, is_until_closed: bool) -> Result<Command
 }
 
 /// The command `tell`.
-fn tell_command<'a>(alloc: Global) -> Result<Command<'a>, AllocError>
+pub fn tell_command<'a>(alloc: Global) -> Result<Command<'a>, AllocError>
     ensures { IfOk result (λ command. shape_of command ≡ tell_shape) }
 {
     let bare = Command::new(alloc, "tell")

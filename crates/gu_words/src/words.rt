@@ -2,12 +2,12 @@
 
 ghost use Rattle.std.specs.Prelude.{◌≡◌, ◌∷◌, [], List, ℕ, Err, IfOk, codes, map};
 ghost use Rattle.clap.specs.Words.{FailsBy, kind_of, subcommand_rows_of};
-ghost use Rattle.clap.specs.declared.error.kind.ErrorKind.TheVariants.{OutOfMemory};
+ghost use Rattle.clap.specs.declared.error.kind.ErrorKind.TheVariants.{InvalidValue, OutOfMemory};
 ghost use Rattle.gu_words.specs.CommandLine.{has_until_closed, says_until_closed};
 ghost use Rattle.gu_words.specs.Misfits.{kind_of_misfit, kinds_of, misfit_of, refusals_of};
 ghost use Rattle.gu_words.specs.ProgramWords.{Captures, Checks, IsWithin, Reads, command_in, status_of, wanted_by, wanted_in, wanted_of};
 
-use crate::commands::{fix_command, program, serve_command};
+use crate::commands::{fix_command, program, serve_command, tell_command};
 use crate::found::{lines_in, misfit_in, serving_in, word};
 use crate::misfit::Misfit;
 use crate::serving::Serving;
@@ -26,6 +26,10 @@ const NOT_TEXT: &str = "invalid UTF-8 was detected in one or more arguments";
 
 /// What is said of a word that names no firm.
 const NO_FIRM: &str = "invalid value for '<FIRM>': a firm is 1 to 12 of A-Z, 0-9 and -";
+
+/// What is said of a word that is no line for a desk.
+const NO_LINE: &str =
+    "invalid value for '[LINE]...': it is neither a line of a script nor a word of the console";
 
 /// What the words ask for.
 #[derive(Debug, Drop)]
@@ -169,6 +173,14 @@ pub fn firm_named(alloc: Global, name: &str) -> Result<FirmId, Error>
             Err(refusal(command, ErrorKind::InvalidValue, NO_FIRM)?)
         }
     }
+}
+
+/// Returns the refusal of a word that is no line for a desk.
+pub fn line_refusal(alloc: Global) -> Result<Error, AllocError>
+    ensures { IfOk result (λ error. kind_of error ≡ InvalidValue) }
+{
+    let command = tell_command(alloc)?.bin_name("giveup tell")?;
+    refusal(command, ErrorKind::InvalidValue, NO_LINE)
 }
 
 /// Returns the words of this run.
