@@ -38,6 +38,9 @@ mod seeding;
 mod serving;
 #[cfg(test)]
 mod stream_tests;
+mod telling;
+#[cfg(test)]
+mod telling_tests;
 #[cfg(test)]
 mod told_words;
 #[cfg(test)]
