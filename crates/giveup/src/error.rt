@@ -16,21 +16,24 @@ pub enum JournalFault {
     NotAFile,
 }
 
-/// Why the socket of operators can't be had, or isn't answered at.
+/// Why a console can't be had, or doesn't answer.
 #[derive(Debug, Drop, Clone, Copy, PartialEq, Eq, Error)]
 pub enum ConsoleFault {
-    /// A desk answers at it.
+    /// A desk answers at its path.
     #[error("InUse")]
     InUse,
-    /// The path is that of something else.
+    /// What is at its path isn't a socket.
     #[error("NotASocket")]
     NotASocket,
-    /// Nobody answers at it.
-    #[error("Unreachable")]
-    Unreachable,
-    /// A desk was sent a line, and didn't answer it to the end.
-    #[error("Unanswered")]
-    Unanswered,
+    /// The socket can't be made.
+    #[error("NotMade")]
+    NotMade,
+    /// No desk can be reached at its path.
+    #[error("NotReached")]
+    NotReached,
+    /// The desk ended the connection before its answer was whole.
+    #[error("Ended")]
+    Ended,
 }
 
 /// Why the program ends with status 1.
@@ -48,7 +51,7 @@ pub enum RunError {
     /// The journal can't be begun.
     #[error("journal: {0}")]
     Journal(JournalFault),
-    /// The socket of operators can't be had, or isn't answered at.
+    /// A console can't be had, or doesn't answer.
     #[error("console: {0}")]
     Console(ConsoleFault),
 }

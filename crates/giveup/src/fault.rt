@@ -34,6 +34,17 @@ impl fmt::Display for Place<'_> {
 #[derive(Drop)]
 struct InWords(RunError);
 
+/// Returns what is said of a console that can't be had, or that doesn't answer.
+fn console_words(fault: ConsoleFault) -> &'static str {
+    match fault {
+        ConsoleFault::InUse => "a desk answers there",
+        ConsoleFault::NotASocket => "it isn't a socket, and is left as it is",
+        ConsoleFault::NotMade => "it can't be made",
+        ConsoleFault::NotReached => "no desk can be reached there",
+        ConsoleFault::Ended => "the desk ended the connection before its answer was whole",
+    }
+}
+
 impl fmt::Display for InWords {
     fn fmt<W: fmt::Write>(&self, f: &mut fmt::Formatter<W>) -> fmt::Result {
         match self.0 {
@@ -65,12 +76,7 @@ impl fmt::Display for InWords {
                 f.write_str("it isn't empty, and a day doesn't write over what it finds")
             }
             RunError::Journal(JournalFault::NotAFile) => f.write_str("it isn't a file"),
-            RunError::Console(ConsoleFault::InUse) => f.write_str("a desk answers there"),
-            RunError::Console(ConsoleFault::NotASocket) => f.write_str("it isn't a socket"),
-            RunError::Console(ConsoleFault::Unreachable) => f.write_str("nobody answers there"),
-            RunError::Console(ConsoleFault::Unanswered) => {
-                f.write_str("it ended before all of an answer had come")
-            }
+            RunError::Console(fault) => f.write_str(console_words(fault)),
             RunError::Reference(_) | RunError::Script(_) | RunError::Stream(_) => {
                 f.write_str("it couldn't be read to its end")
             }
@@ -129,7 +135,8 @@ impl<'a> Fault<'a> {
         }
     }
 
-    /// Returns whether a second line says what is at fault: at a terminal, and for a journal and a console.
+    /// Returns whether a second line says what is at fault: at a terminal, and for a journal or a console, whose faults are new to who
+    /// reads them.
     fn has_second_line(&self, is_at_terminal: bool) -> bool {
         is_at_terminal || matches!(self.error, RunError::Journal(_) | RunError::Console(_))
     }

@@ -1,128 +1,116 @@
-//! Lines that are told to a desk at the socket of its operators.
+//! Lines for a desk, of the command line or of standard input.
 
 use crate::error::{ConsoleFault, RunError};
-use crate::fault::{Fault, Place};
 use gu_console::{TellError, Told, is_line, tell};
-use gu_streams::StreamError;
-use gu_words::{Status, answer, refused_line};
-use std::alloc::Global;
-use std::io;
-use std::io::Write;
-use std::net::Net;
-use std::os::unix::net::UnixStream;
+use gu_script::ScriptError;
+use gu_streams::{CountedReads, LONGEST_READ, StreamError};
+use gu_text::{is_too_long, split_at_line_feed};
+use gu_words::Status;
+use std::alloc::{AllocError, Global};
+use std::io::{Read, Write};
 
-/// A desk that is told lines, and whether it refused one of them.
+/// A desk that is sent lines: the stream to its socket, and where its answers are shown.
 #[derive(Drop)]
-struct Desk<'a> {
-    path: &'a str,
-    stream: UnixStream,
-    has_refused: bool,
+pub struct Telling<C, W> {
+    stream: C,
+    output: W,
+    /// How many lines were sent.
+    count: u64,
+    /// Whether one of them was refused.
+    is_refused: bool,
 }
 
-impl<'a> Desk<'a> {
-    /// Connects to the socket of a desk's operators.
-    fn at<R: Net>(rt: &R, path: &'a str) -> Result<Self, Fault<'a>> {
-        match UnixStream::connect(rt, path) {
-            Ok(stream) => Ok(Desk {
-                path,
-                stream,
-                has_refused: false,
-            }),
-            Err(cause) => Err(Fault::refused(
-                Place::File(path),
-                cause,
-                RunError::Console(ConsoleFault::Unreachable),
-            )),
+/// Returns whether each of some words is a line that may be sent.
+pub fn are_lines(alloc: Global, words: &[&str]) -> Result<bool, AllocError> {
+    for word in words {
+        if !is_line(alloc, word.as_bytes())? {
+            return Ok(false);
+        }
+    }
+    Ok(true)
+}
+
+impl<C: Read + Write, W: Write> Telling<C, W> {
+    /// Creates the client of a desk that was sent nothing.
+    pub fn new(stream: C, output: W) -> Self {
+        Telling {
+            stream,
+            output,
+            count: 0,
+            is_refused: false,
         }
     }
 
-    /// Tells it a line, and shows its answer as it comes.
-    fn tell<W: Write>(&mut self, line: &[u8], output: &mut W) -> Result<(), Fault<'a>> {
-        match tell(line, &mut self.stream, output) {
+    /// Sends a line, and shows its answer.
+    fn tell_line(&mut self, line: &[u8]) -> Result<(), RunError> {
+        self.count = self.count.saturating_add(1);
+        match tell(line, &mut self.stream, &mut self.output) {
             Ok(Told::Answered) => Ok(()),
             Ok(Told::Refused) => {
-                self.has_refused = true;
+                self.is_refused = true;
                 Ok(())
             }
-            Err(TellError::Show) => Err(Fault::from(StreamError::Write)),
-            Ok(Told::Ended) | Err(TellError::Send | TellError::Read) => Err(Fault::at(
-                Place::File(self.path),
-                RunError::Console(ConsoleFault::Unanswered),
-            )),
+            Err(TellError::Show) => Err(RunError::from(StreamError::Write)),
+            Ok(Told::Ended) | Err(_) => Err(RunError::Console(ConsoleFault::Ended)),
         }
     }
 
-    /// Returns the status after the lines: 1 where one was refused.
+    /// Returns the status that the answers make.
     fn status(&self) -> Status {
-        if self.has_refused {
+        if self.is_refused {
             Status::Fault
         } else {
             Status::Done
         }
     }
-}
 
-/// Tells a desk the lines of standard input, each once the last one was answered.
-fn tell_typed<'a, R: Input + Print + Net + Alloc<A = Global>>(
-    rt: &R,
-    path: &'a str,
-) -> Result<Status, Fault<'a>> {
-    let mut desk = Desk::at(rt, path)?;
-    let mut writer = io::writer(rt);
-    for line in rt.lines(rt.alloc()) {
-        match line {
-            Ok(line) => desk.tell(line.as_bytes(), &mut writer)?,
-            Err(cause) => {
-                let read = RunError::from(StreamError::Read);
-                return Err(Fault::refused(Place::Input, cause, read));
+    /// Sends these lines.
+    pub fn tell_words(&mut self, lines: &[&str]) -> Result<Status, RunError> {
+        for line in lines {
+            self.tell_line(line.as_bytes())?;
+        }
+        Ok(self.status())
+    }
+
+    /// Sends the lines that a piece ends, and keeps what comes after the last LF.
+    fn take(&mut self, rest: &mut Vec<u8>, piece: &[u8]) -> Result<(), RunError> {
+        let mut left = piece;
+        'lines: while let Some((part, after)) = split_at_line_feed(left) {
+            rest.extend_from_slice(part).map_err(StreamError::from)?;
+            self.tell_line(rest)?;
+            rest.clear();
+            left = after;
+        }
+        rest.extend_from_slice(left).map_err(StreamError::from)?;
+        if is_too_long(rest) {
+            return Err(RunError::from(ScriptError::BadLine(self.count.saturating_add(1))));
+        }
+        Ok(())
+    }
+
+    /// Sends the last line, if it lacks its LF.
+    fn take_end(&mut self, rest: &[u8]) -> Result<Status, RunError> {
+        if !rest.is_empty() {
+            self.tell_line(rest)?;
+        }
+        Ok(self.status())
+    }
+
+    /// Sends the lines of a reader, each once the one before it is answered.
+    pub fn tell_input<R: Read>(
+        &mut self,
+        alloc: Global,
+        reads: &mut CountedReads<R>,
+    ) -> Result<Status, RunError> {
+        let mut rest = Vec::new(alloc);
+        let mut buffer = [0; LONGEST_READ];
+        'reading: while !reads.is_spent() {
+            match reads.read(&mut buffer) {
+                Ok(0) => return self.take_end(&rest),
+                Ok(count) => self.take(&mut rest, &buffer[..count])?,
+                Err(_) => return Err(RunError::from(StreamError::Read)),
             }
         }
+        Err(RunError::from(StreamError::Read))
     }
-    Ok(desk.status())
-}
-
-/// Tells a desk these lines, each once the last one was answered.
-fn tell_all<'a, R: Print + Net + Alloc<A = Global>>(
-    rt: &R,
-    path: &'a str,
-    lines: &[&str],
-) -> Result<Status, Fault<'a>> {
-    let mut desk = Desk::at(rt, path)?;
-    let mut writer = io::writer(rt);
-    for line in lines {
-        desk.tell(line.as_bytes(), &mut writer)?;
-    }
-    Ok(desk.status())
-}
-
-/// Returns the first of some lines that can't be told.
-fn first_bad<'l>(alloc: Global, lines: &[&'l str]) -> Result<Option<&'l str>, StreamError> {
-    for line in lines {
-        if !is_line(alloc, line.as_bytes())? {
-            return Ok(Some(*line));
-        }
-    }
-    Ok(None)
-}
-
-/// Says that a line can't be told, and returns the status.
-fn refuse<R: Print + Eprint + Alloc<A = Global>>(rt: &R) -> Result<Status, StreamError> {
-    let refused = refused_line(rt.alloc())?;
-    answer(rt, &refused)
-}
-
-/// Tells a desk these lines, or those of standard input where there are none. Of these lines each must be one that may be told, or nothing is
-/// sent.
-pub fn run_tell<'a, R: Input + Print + Eprint + Net + Alloc<A = Global>>(
-    rt: &R,
-    path: &'a str,
-    lines: &[&str],
-) -> Result<Status, Fault<'a>> {
-    if first_bad(rt.alloc(), lines)?.is_some() {
-        return Ok(refuse(rt)?);
-    }
-    if lines.is_empty() {
-        return tell_typed(rt, path);
-    }
-    tell_all(rt, path, lines)
 }

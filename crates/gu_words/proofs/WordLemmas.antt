@@ -1,20 +1,23 @@
 -- The words that ask for a task.
-use Rattle.std.proofs.Common.{◌≡◌, ◌<◌, ◌^◌, ◌&&◌, not, unwrap_or, subst, ℕ, Bool, List, [], ◌∷◌, codes, true, false, Option, Some, None, Result, Ok, Err, refl, sym, ap, ◌∙◌}
+use Rattle.std.proofs.Common.{◌≡◌, ◌<◌, ◌^◌, ◌&&◌, not, cond, is_some, nat_lt, unwrap_or, subst, ℕ, Bool, List, [], ◌∷◌, codes, true, false, Option, Some, None, Result, Ok, Err, inl, inr, refl, sym, ap, ◌∙◌}
 use Rattle.std.specs.Option.{option_map}
 use Rattle.std.specs.Prelude.{IfOk}
 use Rattle.clap.specs.Words.{AddsArg, AddsSubcommand, App, IsUnsignedIn, Row, Rule, Shape, Text, app_of, all_of, first_of, is_simple_and_free, rule_of, shape_of, takes, with_rule, with_subcommand}
 use Rattle.clap.specs.declared.builder.arg.Arg.{Arg}
 use Rattle.clap.specs.declared.builder.command.Command.{Command}
-use Rattle.clap.specs.Words.{first_value, rows_of}
-use Rattle.clap.specs.declared.parser.matches.Found.{Found}
+use Rattle.std.specs.Borrow.{Bor}
+use Rattle.clap.specs.Kinds.{FailsBy, HasKind, Kinds, or_else}
+use Rattle.clap.specs.declared.error.Error.{Error}
 use Rattle.clap.proofs.OnLiterals.{clap_on_literals}
-use Rattle.clap.proofs.WalkLemmas.{first_value-rows}
 use Rattle.std.proofs.Math.Nat.{lt_of_le_of_lt}
+use Rattle.std.proofs.lemmas.Bool.{ltb-false}
 use Rattle.std.specs.Str.Parse.{IsNumeral, digits_value, without_leading_plus}
 use Rattle.gu_words.specs.CommandLine.{bare_program, check_shape, fix_shape, program, replay_shape, serve_shape, tell_shape}
-use Rattle.gu_words.specs.Misfits.{has, is_one_path, misfit_in, misfit_of}
+use Rattle.gu_words.specs.Misfits.{has, is_one_path, misfit_in, misfit_of, refusals_of}
+use Rattle.gu_words.specs.declared.words.Task.{Task}
+use Rattle.gu_words.specs.declared.misfit.Misfit.{Misfit}
 use Rattle.gu_words.specs.declared.misfit.Misfit.TheVariants.{ManyConnections, NotUntilClosed, OnePath}
-use Rattle.gu_words.specs.ProgramWords.{Captures, Checks, Counts, Fixes, GoesOn, HasNumbers, IsWithin, Lasting, Replays, Serves, Tells, Wanted, is_until_closed, lasting_by, number_of, served_by, told_by, wanted_by, wanted_in, wanted_of_command, word_in}
+use Rattle.gu_words.specs.ProgramWords.{Captures, Checks, Counts, Fixes, GoesOn, HasNumbers, IsWithin, Lasting, Reads, Replays, Serves, Tells, Wanted, is_until_closed, lasting_by, number_of, served_by, text_of, told_by, wanted_by, wanted_in, wanted_of, wanted_of_command, word_in}
 
 -- the program is one whose words clap tells in full
 pub simple-program : (is_until_closed : Bool) → is_simple_and_free (program is_until_closed) ≡ true
@@ -41,6 +44,31 @@ wanted_by-name name = refl
 pub wanted_by-check : (name : List ℕ) → wanted_by (name ∷ codes "check" ∷ []) ≡ Checks
 unfolding clap_on_literals
 wanted_by-check name = refl
+
+-- neither is refused
+pub no_refusals-name : (name : List ℕ) → refusals_of (name ∷ []) ≡ []
+unfolding clap_on_literals
+no_refusals-name name = refl
+
+-- the second
+pub no_refusals-check : (name : List ℕ) → refusals_of (name ∷ codes "check" ∷ []) ≡ []
+unfolding clap_on_literals
+no_refusals-check name = refl
+
+-- a task of this kind is read, where only memory may refuse it
+pub read_unless_memory : (result : Result Task Error) (wanted : Wanted) → IfOk result (λ task. wanted_of task ≡ wanted) → FailsBy [] result → Reads result wanted
+read_unless_memory (Ok task) wanted is fails = is
+read_unless_memory (Err error) wanted is fails = elim fails [ inl memory ↦ memory | inr none ↦ absurd none ]
+
+-- what one list of kinds has, it has with another after it
+pub first_kinds : (first others : Kinds) (error : Error) → HasKind first error → HasKind (or_else first others) error
+first_kinds [] others error has = elim has [ inl memory ↦ inl memory | inr none ↦ absurd none ]
+first_kinds (kind ∷ kinds) others error has = has
+
+-- what holds anyway holds of a success
+pub holds_anyway : {T E P : Type 0} (result : Result T E) → P → IfOk result (λ _. P)
+holds_anyway (Ok value) p = p
+holds_anyway (Err error) p = tt
 
 -- the third of some tests that all fail
 third_fails : (a b c others : Bool) → (a && (not b && (not c && others))) ≡ true → c ≡ false
@@ -113,9 +141,15 @@ replays (Some (name, found)) rows reference is_name is_rows is_reference =
     ∙ ap (λ (rs : List Row). Replays (word_in rs (codes "REF"))) (sym same)
     ∙ ap (λ (n : Text). wanted_of_command n found) (sym named)
 
--- the word of a name is that of the rows
-pub word_read : (found : Found) (name word : Text) → word ≡ unwrap_or (first_value found name) [] → word ≡ word_in (rows_of found) name
-word_read found name word is = is ∙ ap (λ (v : Option Text). unwrap_or v []) (first_value-rows found name)
+-- a word is given where its text is
+pub is_some-text : (word : Option (Bor Text)) → is_some word ≡ is_some (text_of word)
+is_some-text None = refl
+is_some-text (Some word) = refl
+
+-- the text of a word, or of another
+pub unwrap_or-text : (word : Option (Bor Text)) (other : Bor Text) → (unwrap_or word other).now ≡ unwrap_or (text_of word) other.now
+unwrap_or-text None other = refl
+unwrap_or-text (Some word) other = refl
 
 -- a word within bounds of two bytes is read
 pub never_unread : (least most other : ℕ) (word : Text) → most < 2 ^ 16 → (IsNumeral 10 (without_leading_plus word) × (digits_value 10 (without_leading_plus word) < 2 ^ 16) → ⊥) → IsUnsignedIn least most word → other ≡ number_of word
@@ -142,6 +176,15 @@ pub counts : (rows : List Row) (connections : ℕ) (console : Option Text) → i
     → console ≡ first_of (codes "console") rows → Counts connections console ≡ lasting_by rows
 counts rows connections console is a b = rw is (λ i. Counts (a i) (b i))
 
+-- the command `serve`, whose options may not go together
+pub misfit_read : (sub : Option (Text × List Row)) (rows : List Row) (misfit : Option Misfit) → option_map (λ (p : Text × List Row). p.0) sub ≡ Some (codes "serve")
+    → option_map (λ (p : Text × List Row). p.1) sub ≡ Some rows → (IsUnsignedIn 1 1024 (word_in rows (codes "N")) → misfit ≡ misfit_in rows) → IsWithin sub → misfit ≡ misfit_of sub
+misfit_read None rows misfit name row asked within = cc
+misfit_read (Some (name, found)) rows misfit is_name is_rows asked within =
+    let named : name ≡ codes "serve" = cc in
+    let same : found ≡ rows = cc in
+    asked ((within rows (λ i. Some (named i, same i))).connections) ∙ ap misfit_in (sym same) ∙ ap (λ (n : Text). misfit_of (Some (n, found))) (sym named)
+
 -- the command `serve`, for a server
 pub serves : (sub : Option (Text × List Row)) (rows : List Row) (wanted : Wanted) → option_map (λ (p : Text × List Row). p.0) sub ≡ Some (codes "serve") → option_map (λ (p : Text × List Row). p.1) sub ≡ Some rows
     → (HasNumbers rows → misfit_in rows ≡ None → wanted ≡ served_by rows) → IsWithin sub → misfit_of sub ≡ None → wanted ≡ wanted_in sub
@@ -163,7 +206,7 @@ tells (Some (name, found)) rows path lines is_name is_rows is_path is_lines =
 
 -- a server that isn't closed, and whose options go together, has at most 32 connections
 pub few_connections : (rows : List Row) → is_until_closed rows ≡ false → misfit_in rows ≡ None → IsUnsignedIn 1 1024 (word_in rows (codes "N")) → IsUnsignedIn 1 32 (word_in rows (codes "N"))
-few_connections rows counted fits within = (within.0, within.1, within.2, ltb_false 32 _ (not_many counted fits))
+few_connections rows counted fits within = (within.0, within.1, within.2, ltb-false 32 _ (not_many counted fits))
   where
     no_more : (workers many one : Bool) → cond workers (Some NotUntilClosed) (cond many (Some ManyConnections) (cond one (Some OnePath) None)) ≡ None → many ≡ false
     no_more true many one is = cc

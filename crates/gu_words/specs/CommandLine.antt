@@ -87,6 +87,10 @@ program is_until_closed =
     with_subcommand (with_subcommand (with_subcommand (with_subcommand (with_subcommand bare_program check_shape) fix_shape) replay_shape)
     (serve_shape is_until_closed)) tell_shape
 
--- a word after the program's name is `--until-closed`
+-- a word is `--until-closed`
+abbrev pub has_until_closed : List Text → Bool
+has_until_closed = list_any (λ word. bytes_eq word (codes "--until-closed"))
+
+-- a word after the program's own name is
 abbrev pub says_until_closed : List Text → Bool
-says_until_closed words = list_any (λ word. bytes_eq word (codes "--until-closed")) (drop 1 words)
+says_until_closed words = has_until_closed (drop 1 words)

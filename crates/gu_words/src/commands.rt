@@ -229,7 +229,7 @@ pub fn tell_command<'a>(alloc: Global) -> Result<Command<'a>, AllocError>
 {
     let bare = Command::new(alloc, "tell")
         .about("Sends lines to the console of a server, and prints its answers")
-        .after_help("Example: giveup tell desk.socket 'LIMIT AGREEMENT A1 500' STATUS");
+        .after_help("Example: giveup tell desk.socket 'LIMIT G1 ACCT A1 50' STATUS");
     let path = needed(alloc, "PATH", "The path of the console, or of the watch");
     let at_path = bare.arg(path)?;
     let lines = lines_word(alloc);

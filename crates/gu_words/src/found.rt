@@ -11,14 +11,14 @@ use crate::words::Task;
 use clap::ArgMatches;
 use std::alloc::{AllocError, Global};
 
-/// The word that was given for a name.
+/// Returns the word that was given for a name.
 pub fn word<'a>(found: &ArgMatches<'a>, name: &str) -> &'a str
     ensures { result.now ≡ word_in (rows_of (found_of found.now)) name.now }
 {
     found.get_str(name).unwrap_or("")
 }
 
-/// The number that a word means, where it is from `least` to `most`: a command that was read has no other word.
+/// Returns the number that a word means, where it is from `least` to `most`: a command that was read has no other word.
 fn number(word: &str, least: u16, most: u16) -> u16
     requires { least ≤ most }
     ensures number { IsUnsignedIn least most word.now → result ≡ number_of word.now }
@@ -31,7 +31,7 @@ fn number(word: &str, least: u16, most: u16) -> u16
     }
 }
 
-/// Whether the words have a server go on until it is closed.
+/// Returns whether the words have a server go on until it is closed.
 fn is_until_closed(found: &ArgMatches<'_>) -> bool
     ensures { result ≡ is_until_closed (rows_of (found_of found.now)) }
 {
@@ -41,14 +41,14 @@ fn is_until_closed(found: &ArgMatches<'_>) -> bool
     }
 }
 
-/// Whether an option is given.
+/// Returns whether an option is given.
 fn has(found: &ArgMatches<'_>, name: &str) -> bool
     ensures { result ≡ has (rows_of (found_of found.now)) name.now }
 {
     found.get_str(name).is_some()
 }
 
-/// Whether there are more connections than a server has that isn't closed.
+/// Returns whether there are more connections than a server has that goes on for counted ones.
 fn has_many_connections(found: &ArgMatches<'_>) -> bool
     ensures { IsUnsignedIn 1 1024 (word_in (rows_of (found_of found.now)) (codes "N"))
         → result ≡ nat_lt 32 (number_of (word_in (rows_of (found_of found.now)) (codes "N"))) }
@@ -56,7 +56,7 @@ fn has_many_connections(found: &ArgMatches<'_>) -> bool
     number(word(found, "N"), 1, 1024) > 32
 }
 
-/// Whether the console and the watch are one socket.
+/// Returns whether the console and the watch are one socket.
 fn has_one_path(found: &ArgMatches<'_>) -> bool
     ensures { result ≡ is_one_path (first_of (codes "console") (rows_of (found_of found.now))) (first_of (codes "watch") (rows_of (found_of found.now))) }
 {
@@ -66,7 +66,7 @@ fn has_one_path(found: &ArgMatches<'_>) -> bool
     }
 }
 
-/// Why the options of `serve` don't go together.
+/// Returns why the options of `serve` don't go together, if they don't.
 pub fn misfit_in(found: &ArgMatches<'_>) -> Option<Misfit>
     ensures { IsUnsignedIn 1 1024 (word_in (rows_of (found_of found.now)) (codes "N")) → result ≡ misfit_in (rows_of (found_of found.now)) }
 {
@@ -84,12 +84,12 @@ pub fn misfit_in(found: &ArgMatches<'_>) -> Option<Misfit>
     }
 }
 
-/// How many threads serve the connections, where a number is given.
+/// Returns how many threads serve the connections, where a number is given.
 fn workers_in(found: &ArgMatches<'_>) -> Option<u16>
     ensures number { IfSome (first_of (codes "W") (rows_of (found_of found.now))) (IsUnsignedIn 1 60)
         → result ≡ option_map number_of (first_of (codes "W") (rows_of (found_of found.now))) }
-    ensures from_one { IfSome result (λ number. 1 ≤ number) }
-    ensures to_60 { IfSome result (λ number. number ≤ 60) }
+    ensures from_one { 1 ≤ unwrap_or result 1 }
+    ensures to_60 { unwrap_or result 1 ≤ 60 }
 {
     match found.get_str("W") {
         Some(word) => Some(number(word, 1, 60)),
@@ -97,7 +97,7 @@ fn workers_in(found: &ArgMatches<'_>) -> Option<u16>
     }
 }
 
-/// How long a server goes on.
+/// Returns how long a server goes on.
 fn span_in<'a>(found: &ArgMatches<'a>) -> Span<'a>
     ensures { HasNumbers (rows_of (found_of found.now)) → misfit_in (rows_of (found_of found.now)) ≡ None
         → lasting_of result ≡ lasting_by (rows_of (found_of found.now)) }
@@ -116,7 +116,7 @@ fn span_in<'a>(found: &ArgMatches<'a>) -> Span<'a>
     }
 }
 
-/// What the words of `serve` ask for.
+/// Returns what the words of `serve` ask for.
 pub fn serving_in<'a>(found: &ArgMatches<'a>) -> Serving<'a>
     ensures { HasNumbers (rows_of (found_of found.now)) → misfit_in (rows_of (found_of found.now)) ≡ None
         → wanted_of (Task.Serve result) ≡ served_by (rows_of (found_of found.now)) }
@@ -132,7 +132,7 @@ pub fn serving_in<'a>(found: &ArgMatches<'a>) -> Serving<'a>
     }
 }
 
-/// The lines of `tell`.
+/// Returns the lines of `tell`.
 pub fn lines_in<'a>(alloc: Global, found: &ArgMatches<'a>) -> Result<Vec<&'a str>, AllocError>
     ensures { IfOk result (λ lines. map (λ line. line.now) lines.items ≡ unwrap_or (all_of (codes "LINE") (rows_of (found_of found.now))) []) }
 {

@@ -1,6 +1,6 @@
 //! What a server is started with.
 
-ghost use Rattle.std.specs.Prelude.{◌≡◌, ◌≤◌, IfSome, Some};
+ghost use Rattle.std.specs.Prelude.{◌≡◌, ◌≤◌, unwrap_or};
 
 /// A server that accepts so many connections, and whose day ends after the last. Each number is within its range.
 #[derive(Clone, Copy, Debug)]
@@ -24,8 +24,8 @@ pub struct UntilClosed<'a> {
     pub workers: Option<u16>,
     ghost one_place: { 1 ≤ places },
     ghost most_places: { places ≤ 1024 },
-    ghost one_worker: { IfSome workers (λ number. 1 ≤ number) },
-    ghost most_workers: { IfSome workers (λ number. number ≤ 60) },
+    ghost one_worker: { 1 ≤ unwrap_or workers 1 },
+    ghost most_workers: { unwrap_or workers 1 ≤ 60 },
 }
 
 /// How long a server goes on.

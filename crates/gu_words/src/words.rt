@@ -3,7 +3,7 @@
 ghost use Rattle.std.specs.Prelude.{◌≡◌, ◌∷◌, [], List, ℕ, Err, IfOk, codes, map};
 ghost use Rattle.clap.specs.Words.{FailsBy, kind_of, subcommand_rows_of};
 ghost use Rattle.clap.specs.declared.error.kind.ErrorKind.TheVariants.{InvalidValue, OutOfMemory};
-ghost use Rattle.gu_words.specs.CommandLine.{says_until_closed};
+ghost use Rattle.gu_words.specs.CommandLine.{has_until_closed, says_until_closed};
 ghost use Rattle.gu_words.specs.Misfits.{kind_of_misfit, kinds_of, misfit_of, refusals_of};
 ghost use Rattle.gu_words.specs.ProgramWords.{Captures, Checks, IsWithin, Reads, command_in, status_of, wanted_by, wanted_in, wanted_of};
 
@@ -29,7 +29,7 @@ const NO_FIRM: &str = "invalid value for '<FIRM>': a firm is 1 to 12 of A-Z, 0-9
 
 /// What is said of a word that is no line for a desk.
 const NO_LINE: &str =
-    "invalid value for '[LINE]...': a line is one that a script may have, but for SEE, PROPOSE and COMMIT, or STATUS, JOURNAL, CUT n or CLOSE";
+    "invalid value for '[LINE]...': it is neither a line of a script nor a word of the console";
 
 /// What the words ask for.
 #[derive(Debug, Drop)]
@@ -57,11 +57,11 @@ pub enum Task<'a> {
     },
 }
 
-/// Whether a word after the program's name has a server go on until it is closed.
-fn says_until_closed<S: AsStr>(words: &[S]) -> bool
-    ensures { result ≡ says_until_closed (map S.text words.now) }
+/// Returns whether one of some words is `--until-closed`.
+fn has_until_closed<S: AsStr>(words: &[S]) -> bool
+    ensures { result ≡ has_until_closed (map S.text words.now) }
 {
-    for word in words.iter().skip(1) {
+    for word in words {
         if word.as_str() == "--until-closed" {
             return true;
         }
@@ -69,7 +69,17 @@ fn says_until_closed<S: AsStr>(words: &[S]) -> bool
     false
 }
 
-/// The refusal of words, for this reason, with how the command is called.
+/// Returns whether a word after the program's name has a server go on until it is closed.
+fn says_until_closed<S: AsStr>(words: &[S]) -> bool
+    ensures { result ≡ says_until_closed (map S.text words.now) }
+{
+    match words {
+        [_, after_name @ ..] => has_until_closed(after_name),
+        [] => false,
+    }
+}
+
+/// Returns the refusal of words, for this reason, with how the command is called.
 fn refusal(mut command: Command<'_>, kind: ErrorKind, why: &str) -> Result<Error, AllocError>
     ensures { IfOk result (λ error. kind_of error ≡ kind) }
 {
@@ -78,7 +88,7 @@ fn refusal(mut command: Command<'_>, kind: ErrorKind, why: &str) -> Result<Error
     refused
 }
 
-/// The refusal of options of `serve` that don't go together.
+/// Returns the refusal of options of `serve` that don't go together.
 fn refusal_of(alloc: Global, misfit: Misfit) -> Result<Error, AllocError>
     ensures { IfOk result (λ error. kind_of error ≡ kind_of_misfit misfit) }
 {
@@ -86,7 +96,7 @@ fn refusal_of(alloc: Global, misfit: Misfit) -> Result<Error, AllocError>
     refusal(command, misfit.kind(), misfit.why())
 }
 
-/// Why the options of a command don't go together.
+/// Returns why the options of a command don't go together, if they don't.
 fn misfit_of(matches: &ArgMatches<'_>) -> Option<Misfit>
     ensures { IsWithin (subcommand_rows_of matches.now) → result ≡ misfit_of (subcommand_rows_of matches.now) }
 {
@@ -96,7 +106,7 @@ fn misfit_of(matches: &ArgMatches<'_>) -> Option<Misfit>
     }
 }
 
-/// The task of a command that was read, whose options go together.
+/// Returns the task of a command that was read, whose options go together.
 fn task_of<'a>(alloc: Global, matches: &ArgMatches<'a>) -> Result<Task<'a>, AllocError>
     ensures { IsWithin (subcommand_rows_of matches.now) → misfit_of (subcommand_rows_of matches.now) ≡ None
         → IfOk result (λ task. wanted_of task ≡ wanted_in (subcommand_rows_of matches.now)) }
@@ -123,7 +133,7 @@ fn task_of<'a>(alloc: Global, matches: &ArgMatches<'a>) -> Result<Task<'a>, Allo
     }
 }
 
-/// The task of a command that was read; options that don't go together are refused.
+/// Returns the task of a command that was read; options that don't go together are refused.
 fn fitting_task<'a>(alloc: Global, matches: &ArgMatches<'a>) -> Result<Task<'a>, Error>
     ensures task { IsWithin (subcommand_rows_of matches.now) → IfOk result (λ task. wanted_of task ≡ wanted_in (subcommand_rows_of matches.now)) }
     ensures refused { IsWithin (subcommand_rows_of matches.now) → FailsBy (kinds_of (misfit_of (subcommand_rows_of matches.now))) result }
@@ -134,7 +144,7 @@ fn fitting_task<'a>(alloc: Global, matches: &ArgMatches<'a>) -> Result<Task<'a>,
     }
 }
 
-/// The task that the words ask for. The first word is the program's own name.
+/// Returns the task that the words ask for. The first word is the program's own name.
 pub fn read<'a, S: AsStr>(alloc: Global, words: &'a [S]) -> Result<Task<'a>, Error>
     ensures task { IfOk result (λ task. wanted_of task ≡ wanted_by (map S.text words.now)) }
     ensures refused { FailsBy (refusals_of (map S.text words.now)) result }
@@ -152,7 +162,7 @@ pub fn read<'a, S: AsStr>(alloc: Global, words: &'a [S]) -> Result<Task<'a>, Err
     task
 }
 
-/// The firm of a name; a word that is none is refused.
+/// Returns the firm of a name; a word that is none is refused.
 pub fn firm_named(alloc: Global, name: &str) -> Result<FirmId, Error>
     ensures { IfOk result (λ firm. firm.name ≡ name.now) }
 {
@@ -165,15 +175,15 @@ pub fn firm_named(alloc: Global, name: &str) -> Result<FirmId, Error>
     }
 }
 
-/// The refusal of a line that a desk can't be told.
-pub fn refused_line(alloc: Global) -> Result<Error, AllocError>
+/// Returns the refusal of a word that is no line for a desk.
+pub fn line_refusal(alloc: Global) -> Result<Error, AllocError>
     ensures { IfOk result (λ error. kind_of error ≡ InvalidValue) }
 {
     let command = tell_command(alloc)?.bin_name("giveup tell")?;
     refusal(command, ErrorKind::InvalidValue, NO_LINE)
 }
 
-/// The words of this run.
+/// Returns the words of this run.
 pub fn given<R: Env + Alloc<A = Global>>(rt: &R) -> Result<Vec<String>, Error> {
     let alloc = rt.alloc();
     match env::args(rt) {

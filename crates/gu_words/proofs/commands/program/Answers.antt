@@ -1,4 +1,4 @@
-use Rattle.std.proofs.Common.{rules, ◌≡◌, codes, refl}
+use Rattle.std.proofs.Common.{rules, ◌≡◌, refl}
 use Rattle.clap.specs.Words.{app_of}
 use Rattle.gu_words.specs.CommandLine.{bare_program, fix_shape, replay_shape, serve_shape, tell_shape}
 use Rattle.gu_words.proofs.WordLemmas.{five_commands}
