@@ -62,7 +62,11 @@ fn fault_of<'a>(serving: &Serving<'a>, error: ListenError<'a>) -> Fault<'a> {
     match error {
         ListenError::Port(cause) => Fault::refused(Place::Port(serving.port), cause, read),
         ListenError::Socket(path, ListenFault::Io(cause)) => {
-            Fault::refused(Place::File(path), cause, RunError::Console(ConsoleFault::NotMade))
+            Fault::refused(
+                Place::File(path),
+                cause,
+                RunError::Console(ConsoleFault::NotMade),
+            )
         }
         ListenError::Socket(path, ListenFault::InUse) => {
             Fault::at(Place::File(path), RunError::Console(ConsoleFault::InUse))
