@@ -1,6 +1,6 @@
 -- Answers to an operator: what a replay prints for such a line, where its book has a beginning of the desk's one history that the seat has
 -- seen, with at least the seat's own entries.
-use Rattle.std.specs.Prelude.{◌≡◌, ℕ, ◌+◌, ◌≤◌, ◌⊎◌, ◌++◌, Bool, true, false, List, [], ◌∷◌, Option, Some, None, codes}
+use Rattle.std.specs.Prelude.{◌≡◌, ℕ, ◌+◌, ◌≤◌, ◌⊎◌, ◌++◌, Bool, true, false, List, [], ◌∷◌, Option, Some, None, Result, Ok, Err, codes}
 use mathlib.Core.List.{IsPrefix}
 use Rattle.gu_terms.specs.declared.command.Command.{Command}
 use Rattle.gu_terms.specs.declared.entry.Entry.{Entry}
@@ -63,6 +63,10 @@ pub record IsLeftOut (old : SeatState) (text : List ℕ) (new : SeatState) : Typ
   pub text_is : (text ≡ outcome_text None None outcome.Full) ⊎ (text ≡ memory_text)
   pub new_is : new ≡ old
 
+-- the text of a sweep is its line and its sheet, which shows this view; or its line alone
+abbrev pub IsSweptText : GroupView → ℕ → SweepEntry → List ℕ → Type 0
+IsSweptText view number sweep text = (text ≡ swept_text (Some view) number sweep) ⊎ (text ≡ swept_text None number sweep)
+
 -- a sweep of the group is made from the seat, and the text is its line and its sheet, which shows the group's view just before; where memory
 -- fails for the sheet, it is the line alone
 pub record IsSwept (reference : Tables) (old : SeatState) (group : Group) (text : List ℕ) (new : SeatState) : Type 0 where
@@ -73,7 +77,7 @@ pub record IsSwept (reference : Tables) (old : SeatState) (group : Group) (text 
   pub group_is : sweep.group ≡ group
   pub view_is : IsViewBefore reference new.front view
   pub of_group : view.group ≡ group
-  pub text_is : (text ≡ swept_text (Some view) number sweep) ⊎ (text ≡ swept_text None number sweep)
+  pub text_is : IsSweptText view number sweep text
 
 -- why no sweep is made
 abbrev pub unswept_text : SweepError → List ℕ
@@ -143,17 +147,42 @@ abbrev pub AnswersAsked : Tables → OperatorState → Option Request → List �
 AnswersAsked reference old None text new = (text ≡ bad_text) × (new ≡ old)
 AnswersAsked reference old (Some asked) text new = Answers reference old asked text new
 
--- a line of an operator is answered: by what it asks for, or by MEMORY where memory failed for reading it
-pub record AnswersLine (reference : Tables) (old : OperatorState) (line text : List ℕ) (new : OperatorState) : Type 0 where
-  pub asked : Option Request
-  pub is_asked : IsAsked old.is_watch line asked
-  pub answers : AnswersAsked reference old asked text new ⊎ ((text ≡ memory_text) × (new ≡ old))
-  pub watch_is : new.is_watch ≡ old.is_watch
-
 -- an answer as it is sent: an empty line ends it, unless the day closes, when the day's last lines follow it
 abbrev pub sent_as : Said → List ℕ → List ℕ
 sent_as GoesOn text = text ++ 10 ∷ []
 sent_as Closes text = text
+
+-- machinery: what is said after an answer that found its memory: the connection goes on
+abbrev pub after_answer : {E : Type 0} → Result (Unit {0}) E → Result Said E
+after_answer (Ok done) = Ok GoesOn
+after_answer (Err error) = Err error
+
+-- an answer is the last one only where it closes the day
+abbrev pub ClosesOnly : Said → Request → Type 0
+ClosesOnly GoesOn asked = Unit {0}
+ClosesOnly Closes asked = asked ≡ request.Close
+
+-- what a line asks for is answered so, and the answer is the last one only where it closes the day
+pub record AnswersMeant (reference : Tables) (old : OperatorState) (asked : Option Request) (text : List ℕ) (said : Said) (new : OperatorState) : Type 0 where
+  pub answers : AnswersAsked reference old asked text new
+  pub closes : said ≡ Closes → asked ≡ Some request.Close
+
+-- memory failed for reading a line, and nothing is done
+pub record IsUnread (old : OperatorState) (text : List ℕ) (said : Said) (new : OperatorState) : Type 0 where
+  pub text_is : text ≡ memory_text
+  pub said_is : said ≡ GoesOn
+  pub new_is : new ≡ old
+
+-- a line of an operator is answered: by what it asks for, or by MEMORY where memory failed for reading it
+abbrev pub AnswersLine : Tables → OperatorState → List ℕ → List ℕ → Said → OperatorState → Type 0
+AnswersLine reference old line text said new =
+    ((asked : Option Request) × IsAsked old.is_watch line asked × AnswersMeant reference old asked text said new) ⊎ IsUnread old text said new
+
+-- a line is answered, and the answer is sent, after what an output has; it is the last one only where it closes the day
+pub record IsAnswered (reference : Tables) (old : OperatorState) (line before after : List ℕ) (said : Said) (new : OperatorState) : Type 0 where
+  pub text : List ℕ
+  pub answers : AnswersLine reference old line text said new
+  pub sent : after ≡ before ++ sent_as said text
 
 -- what a seat has seen goes on, and at most one entry was made from it
 pub record GoesOnFrom (old new : SeatState) : Type 0 where

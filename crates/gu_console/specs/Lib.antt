@@ -1,3 +1,5 @@
 pub mod Answers
+pub mod Copies
 pub mod Requests
+pub mod Served
 pub mod Shown

@@ -1,5 +1,5 @@
 -- Requests: what a line of an operator asks for, and who may ask for it.
-use Rattle.std.specs.Prelude.{◌≡◌, ℕ, ◌<◌, ◌≤◌, ◌⊎◌, ◌++◌, Bool, true, false, List, Option, Some, None, codes, length, IsTrue, MatchOption}
+use Rattle.std.specs.Prelude.{◌≡◌, ℕ, ◌<◌, ◌≤◌, ◌⊎◌, ◌++◌, Bool, true, false, List, Option, Some, None, codes, length, IsTrue, MatchOption, if◌then◌else◌}
 use Rattle.std.specs.Str.Parse.{AllDigits, digits_value}
 use Rattle.gu_world.specs.declared.step.Step.TheVariants.{Enter}
 use Rattle.gu_text.specs.Lines.{is_silent}
@@ -33,13 +33,17 @@ pub record IsCut (text : List ℕ) (number : ℕ) : Type 0 where
   pub text_is : text ≡ codes "CUT " ++ digits
   pub writes : WritesNumber digits number
 
--- a line is a word of the console, which asks for this
+-- a line is one word of the console, which asks for this
+abbrev pub IsPlainWord : List ℕ → Request → Type 0
+IsPlainWord text request.Status = text ≡ codes "STATUS"
+IsPlainWord text request.Journal = text ≡ codes "JOURNAL"
+IsPlainWord text request.Close = text ≡ codes "CLOSE"
+IsPlainWord text asked = ⊥
+
+-- a line is one of the console's own, which asks for this
 abbrev pub IsWord : List ℕ → Request → Type 0
-IsWord text request.Status = text ≡ codes "STATUS"
-IsWord text request.Journal = text ≡ codes "JOURNAL"
-IsWord text request.Close = text ≡ codes "CLOSE"
 IsWord text (request.Cut number) = IsCut text number
-IsWord text asked = ⊥
+IsWord text asked = IsPlainWord text asked
 
 -- a line asks for this as a line of a script: it is silent, or says it
 abbrev pub IsScriptLine : List ℕ → Request → Type 0
@@ -63,11 +67,17 @@ may_ask true request.Status = true
 may_ask true request.Journal = true
 may_ask true asked = false
 
--- a line asks for what may be asked
-pub record Requests (is_watch : Bool) (text : List ℕ) (asked : Request) : Type 0 where
-  pub means : Means text asked
-  pub may : IsTrue (may_ask is_watch asked)
+-- what a line asks for, or none where it asks for nothing
+abbrev pub IsMeant : List ℕ → Option Request → Type 0
+IsMeant text meant = MatchOption meant ((other : Request) → ¬ Means text other) (Means text)
 
--- what a line asks for, or none where it asks for nothing that may be asked: the line is bad
-abbrev pub IsAsked : Bool → List ℕ → Option Request → Type 0
-IsAsked is_watch text asked = MatchOption asked ((other : Request) → ¬ Requests is_watch text other) (Requests is_watch text)
+-- what is asked for, if it may be asked
+abbrev pub allowed : Bool → Option Request → Option Request
+allowed is_watch None = None
+allowed is_watch (Some asked) = if may_ask is_watch asked then Some asked else None
+
+-- what a line asks for, if it may be asked; where there is none, the line is bad
+pub record IsAsked (is_watch : Bool) (text : List ℕ) (asked : Option Request) : Type 0 where
+  pub meant : Option Request
+  pub is_meant : IsMeant text meant
+  pub asked_is : asked ≡ allowed is_watch meant

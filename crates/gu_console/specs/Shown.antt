@@ -1,13 +1,19 @@
 -- The journal of a history, stretch by stretch.
 use Rattle.std.specs.Prelude.{◌≡◌, ℕ, ◌+◌, ◌<◌, ◌≤◌, ◌⊎◌, ◌++◌, List, [], ◌∷◌, Option, length, take}
+use Rattle.std.specs.List.{flat_map}
 use Rattle.gu_terms.specs.declared.day.Day.{Day}
 use Rattle.gu_terms.specs.declared.entry.Entry.{Entry}
-use Rattle.gu_script.specs.Journals.{journal_text, open_after}
+use Rattle.gu_text.specs.Texts.{line_of}
+use Rattle.gu_script.specs.Journals.{journal_text, open_after, rows_after}
 
 -- the day that is open after entries, where this one is open before them
 abbrev pub day_after : Option Day → List Entry → Option Day
 day_after today [] = today
 day_after today (entry ∷ later) = day_after (open_after today entry) later
+
+-- the lines of entries, where this day is open before them
+abbrev pub lines_after : Option Day → List Entry → List ℕ
+lines_after today entries = flat_map line_of (rows_after today entries)
 
 -- the journal of the first entries of a history
 abbrev pub journal_to : List Entry → ℕ → List ℕ

@@ -1,6 +1,6 @@
 //! Questions of operators, asked of the book.
 
-ghost use Rattle.std.specs.Prelude.{◌≡◌, ◌++◌, OnOk};
+ghost use Rattle.std.specs.Prelude.{◌≡◌, ◌++◌, [], OnOk};
 ghost use Rattle.gu_console.specs.Answers.{answer_of};
 
 use crate::request::BookQuestion;

@@ -1,7 +1,9 @@
 //! Lines of an operator, as their bytes come.
 
-ghost use Rattle.std.specs.Prelude.{◌≡◌, ◌++◌, [], take};
+ghost use Rattle.std.specs.Prelude.{◌≡◌, ◌++◌, [], ℕ, List, take, IfOk};
 ghost use Rattle.std.specs.Str.Lines.{strip_carriage_return};
+ghost use Rattle.gu_text.specs.LineFeeds.{HasNoLineFeed};
+ghost use Rattle.gu_console.specs.Served.{ServesBytes};
 
 use crate::office::Office;
 use crate::operator::Operator;
@@ -25,10 +27,13 @@ pub struct LineBuffer {
 
 impl Model for LineBuffer {
     ghost use Rattle.std.specs.Prelude.{ℕ, List};
+    ghost use Rattle.gu_text.specs.LineFeeds.{HasNoLineFeed};
 
     ghost Value = { List ℕ };
 
     ghost view = { λ b. b.kept.items };
+
+    ghost invariant = { λ b. HasNoLineFeed b.kept.items };
 }
 
 impl LineBuffer {
@@ -43,7 +48,9 @@ impl LineBuffer {
 
     /// Keeps what has come of a line.
     fn keep(&mut self, part: &[u8])
-        ensures { self.new ≡ take 1026 (self.old ++ part.now) }
+        requires { HasNoLineFeed part.now }
+        ensures kept { self.new ≡ take 1026 (self.old ++ part.now) }
+        ensures none { HasNoLineFeed (self.old ++ part.now) }
     {
         let count = self.kept.remaining_capacity().min(part.len());
         let _ = self.kept.try_extend_from_slice(&part[..count]);
@@ -71,15 +78,17 @@ pub fn serve_lines<E: EntryLedger, S: LotLedger, R: Wait, O: Office, I: Informs>
     buffer: &mut LineBuffer,
     piece: &[u8],
     output: &mut Vec<u8>,
-) -> Result<Said, AllocError> {
+) -> Result<Said, AllocError>
+    ensures { IfOk result (λ said. (text : List ℕ) × ServesBytes said E.reference operator.old (buffer.old ++ piece.now) text operator.new buffer.new
+        × (output.new.items ≡ output.old.items ++ text)) }
+{
     let mut left = piece;
     'lines: while let Some((part, after)) = split_at_line_feed(left) {
         buffer.keep(part);
-        let said = operator.answer(buffer.line(), output)?;
-        buffer.begin();
-        if said == Said::Closes {
+        if let Said::Closes = operator.answer(buffer.line(), output)? {
             return Ok(Said::Closes);
         }
+        buffer.begin();
         left = after;
     }
     buffer.keep(left);

@@ -1,9 +1,9 @@
 //! What a line of an operator asks for.
 
-ghost use Rattle.std.specs.Prelude.{◌≡◌, ◌×◌, ℕ, IfOk, MatchOption};
+ghost use Rattle.std.specs.Prelude.{◌≡◌, ◌≢◌, ◌++◌, ℕ, List, false, true, codes, IfOk, MatchOption};
 ghost use Rattle.gu_text.specs.Scripts.{Says};
 ghost use Rattle.gu_text.specs.declared.script_line.Line.{Line as LineOf};
-ghost use Rattle.gu_console.specs.Requests.{IsAsked, IsAskedByScript, IsWord, WritesNumber, may_ask, request_of};
+ghost use Rattle.gu_console.specs.Requests.{IsAsked, IsAskedByScript, IsCut, IsMeant, IsPlainWord, IsWord, WritesNumber, allowed, may_ask, request_of};
 ghost use Rattle.gu_console.specs.declared.request.Request.{Request as RequestOf};
 
 use gu_terms::{AccountId, Command, Group, Symbol, are_digits, value_of};
@@ -59,17 +59,46 @@ fn number_of(digits: &[u8]) -> Option<u64>
     value_of(digits, MOST)
 }
 
-/// Returns what a word of the console asks for.
-fn word_said(line: &[u8]) -> Option<Request>
-    ensures { MatchOption result ((asked : RequestOf) → ¬ IsWord line.now asked) (IsWord line.now) }
+/// Returns what a line asks for that is one of the console's words and no more.
+fn plain_word_said(line: &[u8]) -> Option<Request>
+    ensures { MatchOption result ((asked : RequestOf) → ¬ IsPlainWord line.now asked) (IsPlainWord line.now) }
 {
     match line {
         b"STATUS" => Some(Request::Status),
         b"JOURNAL" => Some(Request::Journal),
         b"CLOSE" => Some(Request::Close),
-        [b'C', b'U', b'T', b' ', digits @ ..] => Some(Request::Cut(number_of(digits)?)),
         _ => None,
     }
+}
+
+/// Returns what comes after `CUT `.
+fn after_cut(line: &[u8]) -> Option<&[u8]>
+    ensures { MatchOption result ((rest : List ℕ) → line.now ≢ codes "CUT " ++ rest) (λ rest. line.now ≡ codes "CUT " ++ rest.now) }
+{
+    match line {
+        [b'C', b'U', b'T', b' ', rest @ ..] => Some(rest),
+        _ => None,
+    }
+}
+
+/// Returns the number of the connection that a line cuts.
+fn cut_said(line: &[u8]) -> Option<u64>
+    ensures { MatchOption result ((number : ℕ) → ¬ IsCut line.now number) (IsCut line.now) }
+{
+    number_of(after_cut(line)?)
+}
+
+/// Returns what a word of the console asks for.
+fn word_said(line: &[u8]) -> Option<Request>
+    ensures { MatchOption result ((asked : RequestOf) → ¬ IsWord line.now asked) (IsWord line.now) }
+{
+    if let Some(asked) = plain_word_said(line) {
+        return Some(asked);
+    }
+    let Some(number) = cut_said(line) else {
+        return None;
+    };
+    Some(Request::Cut(number))
 }
 
 /// Returns what a line of a script asks a desk for, if it is an operator's.
@@ -105,6 +134,30 @@ fn script_said(alloc: Global, line: &[u8]) -> Result<Option<Request>, AllocError
     }
 }
 
+/// Returns what a line of an operator asks for, whether it may be asked or not.
+fn meant(alloc: Global, line: &[u8]) -> Result<Option<Request>, AllocError>
+    ensures { IfOk result (IsMeant line.now) }
+{
+    if let Some(asked) = word_said(line) {
+        return Ok(Some(asked));
+    }
+    script_said(alloc, line)
+}
+
+/// Returns what is asked for, if it may be asked.
+fn allowed(asked: Option<Request>, is_watch: bool) -> Option<Request>
+    ensures { result ≡ allowed is_watch asked }
+{
+    match asked {
+        Some(asked) if asked.may_be_asked(is_watch) => Some(asked),
+        Some(asked) => {
+            drop(asked);
+            None
+        }
+        None => None,
+    }
+}
+
 impl Request {
     /// Returns whether it may be asked: who only watches asks for what changes nothing.
     fn may_be_asked(&self, is_watch: bool) -> bool
@@ -117,32 +170,11 @@ impl Request {
             )
     }
 
-    /// Returns it, if it may be asked.
-    fn allowed(self, is_watch: bool) -> Option<Request>
-        ensures { MatchOption result (may_ask is_watch self ≡ false) (λ asked. (asked ≡ self) × (may_ask is_watch self ≡ true)) }
-    {
-        if self.may_be_asked(is_watch) {
-            Some(self)
-        } else {
-            None
-        }
-    }
-
-    /// Returns what a line of an operator asks for, or none where it asks for nothing that may be asked.
-    pub fn read(
-        alloc: Global,
-        line: &[u8],
-        is_watch: bool,
-    ) -> Result<Option<Request>, AllocError>
+    /// Returns what a line of an operator asks for, if it may be asked.
+    pub fn read(alloc: Global, line: &[u8], is_watch: bool) -> Result<Option<Request>, AllocError>
         ensures { IfOk result (IsAsked is_watch line.now) }
     {
-        let asked = match word_said(line) {
-            Some(word) => Some(word),
-            None => script_said(alloc, line)?,
-        };
-        match asked {
-            Some(asked) => Ok(asked.allowed(is_watch)),
-            None => Ok(None),
-        }
+        let asked = meant(alloc, line)?;
+        Ok(allowed(asked, is_watch))
     }
 }

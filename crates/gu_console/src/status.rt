@@ -1,12 +1,12 @@
 //! What STATUS shows.
 
-ghost use Rattle.std.specs.Prelude.{◌≡◌, ◌++◌, OnOk};
+ghost use Rattle.gu_console.specs.Answers.{GoesOnFrom, Looks};
 
 use crate::console::Console;
 use crate::office::{Office, Places};
 use gu_book::Book;
 use gu_desk::{EntryLedger, LotLedger, Question};
-use gu_houses::Informs;
+use gu_houses::{Informs, SeatReceipts};
 use gu_posts::ConnectionStatus;
 use gu_terms::{Day, FirmId, MOST_ENTRIES};
 use gu_text::texts::{append_last_number, append_number, append_word};
@@ -120,7 +120,7 @@ fn append_connection(
 }
 
 /// Returns what STATUS shows, where the book has these counts.
-pub(crate) fn status_of<E: EntryLedger, S: LotLedger, R: Wait, O: Office, I: Informs>(
+fn status_of<E: EntryLedger, S: LotLedger, R: Wait, O: Office, I: Informs>(
     console: &Console<'_, E, S, R, O, I>,
     counts: &BookCounts,
 ) -> Result<Vec<u8>, AllocError> {
@@ -133,4 +133,17 @@ pub(crate) fn status_of<E: EntryLedger, S: LotLedger, R: Wait, O: Office, I: Inf
         append_connection(&mut text, office.firms(), now, row)?;
     }
     Ok(text)
+}
+
+/// Counts what the book has, as the seat sees it then, and returns what STATUS shows.
+pub(crate) fn show_status<E: EntryLedger, S: LotLedger, R: Wait, O: Office, I: Informs>(
+    console: &Console<'_, E, S, R, O, I>,
+    seat: &mut SeatReceipts<E, S>,
+    counts: &mut BookCounts,
+) -> Result<Vec<u8>, AllocError>
+    ensures looks { Looks E.reference seat.old seat.new }
+    ensures goes_on { GoesOnFrom seat.old seat.new }
+{
+    seat.put(console.rt, console.desk, counts)?;
+    status_of(console, counts)
 }

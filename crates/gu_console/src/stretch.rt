@@ -1,10 +1,7 @@
 //! Stretches of the journal: entries that are copied while the lock is held, and their lines, which are made after it.
 
-ghost use Rattle.std.specs.Prelude.{◌≡◌, ◌≤◌, ◌⊎◌, ◌++◌, [], length, take, IfOk, OnOk};
-ghost use Rattle.std.specs.List.{flat_map};
-ghost use Rattle.gu_script.specs.Journals.{rows_after};
-ghost use Rattle.gu_text.specs.Texts.{line_of};
-ghost use Rattle.gu_console.specs.Shown.{day_after};
+ghost use Rattle.std.specs.Prelude.{◌≡◌, ◌↔◌, ◌+◌, ◌-◌, ◌<◌, ◌≤◌, ◌++◌, [], drop, length, min, take, IfOk, IsTrue, OnOk};
+ghost use Rattle.gu_console.specs.Copies.{AreLinesOf};
 
 use gu_book::Book;
 use gu_desk::Question;
@@ -41,30 +38,38 @@ impl EntryCopies {
     }
 }
 
-/// Returns copies of the entries of a history from a place up to another.
-fn copies_of(
-    alloc: Global,
+/// Appends copies of the entries of a history from a place up to another.
+fn copy_entries(
     history: &History,
     from: usize,
     end: usize,
-) -> Result<Vec<Entry>, AllocError>
+    entries: &mut Vec<Entry>,
+) -> Result<(), AllocError>
+    requires { end ≤ length history.now }
+    ensures { OnOk result (entries.new.items ≡ entries.old.items ++ take (end - from) (drop from history.now)) }
 {
-    let mut entries = Vec::new(alloc);
     for place in from..end {
         entries.push(history.at(place)?)?;
     }
-    Ok(entries)
+    Ok(())
+}
+
+/// Returns where a stretch ends that begins after this number of entries, in a history of this many.
+fn end_of(from: usize, len: usize) -> usize
+    ensures { result ≡ min len (from + 256) }
+{
+    len.min(from.saturating_add(MOST_ENTRIES))
 }
 
 impl Question for EntryCopies {
-    ghost tells = { λ old book new. Unit {0} };
+    ghost use Rattle.gu_console.specs.Copies.{AreCopies};
+
+    ghost tells = { λ old book new. AreCopies book.history old.from old.entries.items new.end new.entries.items };
 
     fn ask(&mut self, book: &Book) -> Result<(), AllocError> {
         let history = book.history();
-        let end = history.len().min(self.from.saturating_add(MOST_ENTRIES));
-        for place in self.from..end {
-            self.entries.push(history.at(place)?)?;
-        }
+        let end = end_of(self.from, history.len());
+        copy_entries(history, self.from, end, &mut self.entries)?;
         self.end = end;
         Ok(())
     }
@@ -78,6 +83,13 @@ pub(crate) struct StretchLines {
     pub(crate) today: Option<Day>,
 }
 
+/// Returns whether a stretch of this number of entries, with this text, ends before an entry with these lines.
+fn ends_before(count: usize, text: &[u8], row: &[u8]) -> bool
+    ensures { IsTrue result ↔ ((0 < count) × (65536 < length text.now + length row.now)) }
+{
+    count > 0 && text.len() + row.len() > MOST_BYTES
+}
+
 /// Returns the lines of entries, where this day is open before them: of all of them, or of the first ones, with as many bytes as a stretch
 /// has at most.
 pub(crate) fn stretch_of(
@@ -85,28 +97,28 @@ pub(crate) fn stretch_of(
     today: Option<Day>,
     entries: &[Entry],
 ) -> Result<StretchLines, AllocError>
-    ensures count { IfOk result (λ lines. lines.count ≤ length entries.now) }
+    ensures { IfOk result (λ lines. AreLinesOf today entries.now lines.text.items lines.count lines.today) }
 {
     let mut text = Vec::new(alloc);
     let mut row = Vec::new(alloc);
-    let mut today = today;
+    let mut day = today;
     for place in 0..entries.len() {
         let entry = &entries[place];
         row.clear();
-        append_entry(&mut row, today, entry)?;
-        if place > 0 && text.len() + row.len() > MOST_BYTES {
+        append_entry(&mut row, day, entry)?;
+        if ends_before(place, &text, &row) {
             return Ok(StretchLines {
                 text,
                 count: place,
-                today,
+                today: day,
             });
         }
         text.extend_from_slice(&row)?;
-        today = opened_day(entry).or(today);
+        day = opened_day(entry).or(day);
     }
     Ok(StretchLines {
         text,
         count: entries.len(),
-        today,
+        today: day,
     })
 }

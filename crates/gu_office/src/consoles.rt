@@ -22,13 +22,21 @@ impl<E: EntryLedger, S: LotLedger> Attends<E, S> for Consoles {
     ) -> (SeatReceipts<E, S>, Attended) {
         let OperatorCall { stream, is_watch } = call;
         let office = FloorOffice::new(floor);
+        let Floor {
+            rt,
+            alloc,
+            desk,
+            tally,
+            informer,
+            ..
+        } = *floor;
         let console = Console {
-            alloc: floor.alloc,
-            rt: floor.rt,
-            desk: floor.desk,
+            alloc,
+            rt,
+            desk,
             office: &office,
-            tally: floor.tally,
-            informs: floor.informer,
+            tally,
+            informs: informer,
             is_watch,
         };
         let mut operator = Operator::new(console, seat);
