@@ -1,6 +1,6 @@
 -- Answers, and what a seat has seen after them.
-use Rattle.std.proofs.Common.{◌≡◌, ◌⊎◌, ◌∙◌, ℕ, ◌+◌, ◌≤◌, List, [], ◌∷◌, ◌++◌, Option, Some, None, Result, Ok, Err, IfOk, codes, inl, inr, refl, sym, ap, subst, arith, append-nil, append_assoc}
-use Rattle.std.specs.Prelude.{OnErr, OnOk}
+use Rattle.std.proofs.Common.{◌≡◌, ◌⊎◌, ◌∙◌, ℕ, List, [], ◌∷◌, ◌++◌, Some, None, Result, Ok, Err, IfOk, codes, inl, inr, refl, sym, ap, subst, arith, append-nil, append_assoc}
+use Rattle.std.specs.Prelude.{OnOk}
 use Rattle.std.specs.Fmt.{decimal}
 use mathlib.Core.List.{IsPrefix}
 use Rattle.gu_terms.specs.Histories.{entry_at}
@@ -11,7 +11,6 @@ use Rattle.gu_terms.specs.declared.group.Group.{Group}
 use Rattle.gu_terms.specs.declared.receipt.Receipt.{Receipt}
 use Rattle.gu_ref.specs.Tables.{Tables}
 use Rattle.gu_view.specs.View.{GroupView}
-use Rattle.gu_text.specs.Outcomes.{swept_text}
 use Rattle.gu_text.specs.SheetText.{sheet_text}
 use Rattle.gu_text.specs.Texts.{line_of}
 use Rattle.gu_desk.specs.Holds.{Enters, Sees}
@@ -19,7 +18,6 @@ use Rattle.gu_desk.specs.Seats.{SeatState}
 use Rattle.gu_console.specs.Answers.{AnswersLine, GoesOnFrom, IsSweptText, OperatorState, after_answer, bad_text}
 use Rattle.gu_console.specs.Requests.{IsAsked}
 use Rattle.gu_console.specs.declared.said.Said.{Said}
-use Rattle.gu_console.specs.declared.said.Said.TheVariants.{GoesOn, Closes}
 
 -- a seat that stays as it was
 pub stays : (old new : SeatState) → new ≡ old → GoesOnFrom old new

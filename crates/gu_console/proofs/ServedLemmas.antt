@@ -1,12 +1,12 @@
 -- Lines of an operator that are answered one after another.
-use Rattle.std.proofs.Common.{◌≡◌, ◌≢◌, ◌∙◌, ℕ, List, [], ◌∷◌, ◌++◌, All, take, refl, sym, ap, subst, append_assoc, append-nil}
+use Rattle.std.proofs.Common.{◌≡◌, ◌∙◌, ℕ, List, [], ◌∷◌, ◌++◌, All, take, refl, sym, ap, subst, append_assoc, append-nil}
 use Rattle.std.specs.List.{flat_map}
 use Rattle.std.proofs.lemmas.Grind.{flat_map-append}
 use Rattle.std.proofs.lemmas.List.Elements.{All-nil, All-push}
 use Rattle.gu_ref.specs.Tables.{Tables}
-use Rattle.gu_text.specs.LineFeeds.{HasNoLineFeed, IsParted}
+use Rattle.gu_text.specs.LineFeeds.{HasNoLineFeed}
 use Rattle.gu_console.specs.Answers.{AnswersLine, IsAnswered, OperatorState, sent_as}
-use Rattle.gu_console.specs.Served.{AnswersEach, Parts, Serves, ServesLast, ended, line_kept}
+use Rattle.gu_console.specs.Served.{AnswersEach, Serves, ServesLast, ended, line_kept}
 use Rattle.gu_console.specs.declared.said.Said.{Said}
 use Rattle.gu_console.specs.declared.said.Said.TheVariants.{GoesOn, Closes}
 

@@ -1,5 +1,5 @@
 -- The journal, stretch by stretch.
-use Rattle.std.proofs.Common.{◌≡◌, ◌⊎◌, ◌∙◌, ℕ, ◌+◌, ◌-◌, ◌<◌, ◌≤◌, min, List, [], ◌∷◌, ◌++◌, Option, Some, None, Result, Ok, Err, Bool, true, false, IsTrue, length, take, drop, slice_get, get_or, inl, inr, refl, sym, ap, subst, arith, append_assoc, length-append, append-nil}
+use Rattle.std.proofs.Common.{◌≡◌, ◌⊎◌, ◌∙◌, ℕ, ◌+◌, ◌-◌, ◌<◌, ◌≤◌, min, List, [], ◌∷◌, ◌++◌, Option, None, Result, Ok, Err, Bool, true, false, IsTrue, length, take, drop, get_or, inl, inr, refl, sym, ap, subst, arith, append_assoc, length-append, append-nil}
 use Rattle.std.specs.Prelude.{◌↔◌, IsOk, OnOk}
 use Rattle.std.specs.List.{flat_map}
 use Rattle.std.proofs.lemmas.Grind.{flat_map-append}
@@ -10,7 +10,7 @@ use mathlib.Core.List.{IsPrefix}
 use Rattle.gu_terms.specs.declared.day.Day.{Day}
 use Rattle.gu_terms.specs.declared.entry.Entry.{Entry}
 use Rattle.gu_text.specs.Texts.{line_of}
-use Rattle.gu_script.specs.Journals.{entry_rows, journal_text, open_after, rows_after}
+use Rattle.gu_script.specs.Journals.{entry_rows, open_after, rows_after}
 use Rattle.gu_ref.specs.Tables.{Tables}
 use Rattle.gu_desk.specs.Holds.{Sees}
 use Rattle.gu_desk.specs.Seats.{SeatState}

@@ -1,9 +1,8 @@
 -- Answers to an operator: what a replay prints for such a line, where its book has a beginning of the desk's one history that the seat has
 -- seen, with at least the seat's own entries.
-use Rattle.std.specs.Prelude.{◌≡◌, ℕ, ◌+◌, ◌≤◌, ◌⊎◌, ◌++◌, Bool, true, false, List, [], ◌∷◌, Option, Some, None, Result, Ok, Err, codes}
+use Rattle.std.specs.Prelude.{◌≡◌, ℕ, ◌+◌, ◌≤◌, ◌⊎◌, ◌++◌, Bool, false, List, [], ◌∷◌, Option, Some, None, Result, Ok, Err, codes}
 use mathlib.Core.List.{IsPrefix}
 use Rattle.gu_terms.specs.declared.command.Command.{Command}
-use Rattle.gu_terms.specs.declared.entry.Entry.{Entry}
 use Rattle.gu_terms.specs.declared.entry.Entry.TheVariants.{Asked, Swept}
 use Rattle.gu_terms.specs.declared.entry.SweepEntry.{SweepEntry}
 use Rattle.gu_terms.specs.declared.group.Group.{Group}
@@ -25,6 +24,7 @@ use Rattle.gu_desk.specs.declared.error.SweepError.{SweepError}
 use Rattle.gu_desk.specs.declared.error.SweepError.TheVariants as refusal
 use Rattle.gu_console.specs.Requests.{IsAsked}
 use Rattle.gu_console.specs.Shown.{IsStretch}
+use Rattle.gu_console.specs.Status.{IsStatus}
 use Rattle.gu_console.specs.declared.request.BookQuestion.{BookQuestion}
 use Rattle.gu_console.specs.declared.request.BookQuestion.TheVariants.{Position, Interest, Limits}
 use Rattle.gu_console.specs.declared.request.Request.{Request}
@@ -131,13 +131,17 @@ pub record IsUnshown (reference : Tables) (old : OperatorState) (text : List ℕ
   pub shown_is : new.shown ≡ old.shown
   pub text_is : text ≡ memory_text
 
--- what an operator asks for is answered so. (Of the text of STATUS nothing is said here.)
+-- STATUS is answered by the status of what the seat sees then; or memory failed
+abbrev pub AnswersStatus : Tables → SeatState → List ℕ → SeatState → Type 0
+AnswersStatus reference old text new = IsStatus reference old text new ⊎ (Looks reference old new × (text ≡ memory_text))
+
+-- what an operator asks for is answered so
 abbrev pub Answers : Tables → OperatorState → Request → List ℕ → OperatorState → Type 0
 Answers reference old request.Nothing text new = (text ≡ []) × (new ≡ old)
 Answers reference old (request.Enter command) text new = AnswersCommand reference old.seat command text new.seat × (new.shown ≡ old.shown)
 Answers reference old (request.Sweep group) text new = AnswersSweep reference old.seat group text new.seat × (new.shown ≡ old.shown)
 Answers reference old (request.Ask question) text new = IsTold reference old.seat question text new.seat × (new.shown ≡ old.shown)
-Answers reference old request.Status text new = Looks reference old.seat new.seat × (new.shown ≡ old.shown)
+Answers reference old request.Status text new = AnswersStatus reference old.seat text new.seat × (new.shown ≡ old.shown)
 Answers reference old request.Journal text new = IsShown reference old text new ⊎ IsUnshown reference old text new
 Answers reference old (request.Cut number) text new = IsCutText text × (new ≡ old)
 Answers reference old request.Close text new = (text ≡ closing_text) × (new ≡ old)

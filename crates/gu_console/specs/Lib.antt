@@ -3,3 +3,4 @@ pub mod Copies
 pub mod Requests
 pub mod Served
 pub mod Shown
+pub mod Status

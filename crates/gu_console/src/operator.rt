@@ -126,17 +126,16 @@ impl<'a, E: EntryLedger, S: LotLedger, R: Wait, O: Office, I: Informs> Operator<
 
     /// Answers STATUS, in a text without bytes.
     fn status(&mut self, text: &mut Vec<u8>) -> Result<(), AllocError>
+        requires { text.old.items ≡ [] }
         ensures answered { OnOk result (Answers E.reference self.old request.Status text.new.items self.new) }
         ensures goes_on { GoesOnFrom self.old.seat self.new.seat }
         ensures watch { self.new.is_watch ≡ self.old.is_watch }
     {
-        match show_status(&self.console, &mut self.seat, &mut self.counts) {
-            Ok(mut status) => {
-                swap(text, &mut status);
-                Ok(())
-            }
-            Err(AllocError) => append_last_word(text, b"MEMORY"),
-        }
+        let Ok(mut status) = show_status(&self.console, &mut self.seat, &mut self.counts) else {
+            return say_memory(text);
+        };
+        swap(text, &mut status);
+        Ok(())
     }
 
     /// Answers JOURNAL by the next stretch, in a text without bytes.

@@ -1,4 +1,4 @@
-use Rattle.std.proofs.Common.{◌∙◌, List, ℕ, ap, subst, take, ◌++◌}
+use Rattle.std.proofs.Common.{◌∙◌, List, ℕ, ap, subst, ◌++◌}
 use Rattle.std.specs.Str.Lines.{strip_carriage_return}
 use Rattle.gu_console.specs.Answers.{IsAnswered}
 use Rattle.gu_console.specs.declared.said.Said.{Said}

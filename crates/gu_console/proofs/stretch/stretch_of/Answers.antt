@@ -1,10 +1,9 @@
-use Rattle.std.proofs.Common.{◌≡◌, ◌∙◌, ◌+◌, ◌<◌, ◌≤◌, ◌++◌, ◌⊎◌, ℕ, List, Option, ap, arith, inl, inr, length, length-append, rules, sym, take}
+use Rattle.std.proofs.Common.{◌≡◌, ◌∙◌, ◌<◌, ◌++◌, ℕ, List, Option, ap, arith, inr, length, length-append}
 use Rattle.std.specs.List.{flat_map}
 use Rattle.std.specs.Option.{option_or}
 use Rattle.gu_terms.specs.declared.day.Day.{Day}
 use Rattle.gu_text.specs.Texts.{line_of}
 use Rattle.gu_script.specs.Journals.{entry_rows, open_after}
-use Rattle.gu_console.specs.Shown.{lines_after}
 use Rattle.gu_console.proofs.ShownLemmas.{one_more_day, one_more_row, room_left}
 use Rattle.gu_console.proofs.stretch.stretch_of.Goals as goal
 

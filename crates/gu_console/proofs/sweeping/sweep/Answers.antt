@@ -1,4 +1,4 @@
-use Rattle.std.proofs.Common.{◌≡◌, ◌∙◌, Some, ap, inl, subst, sym}
+use Rattle.std.proofs.Common.{◌∙◌, Some, ap, inl, subst, sym}
 use Rattle.gu_terms.specs.Histories.{swept_by}
 use Rattle.gu_terms.specs.declared.entry.Entry.{Entry}
 use Rattle.gu_streams.proofs.Writing.{on_ok_then}
