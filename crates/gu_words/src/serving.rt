@@ -2,7 +2,7 @@
 
 ghost use Rattle.std.specs.Prelude.{◌≡◌, ◌≤◌, unwrap_or};
 
-/// A server that accepts so many connections, and whose day ends after the last. Each number is within its range.
+/// A server whose day ends once it has accepted all its connections, and they have ended. Each number is within its range.
 #[derive(Clone, Copy, Debug)]
 pub struct Counted<'a> {
     /// How many connections it accepts: 1 to 32.
@@ -13,7 +13,7 @@ pub struct Counted<'a> {
     ghost most_connections: { connections ≤ 32 },
 }
 
-/// A server that accepts as many connections as come, and whose day ends when an operator closes it. Each number is within its range.
+/// A server whose day goes on until an operator closes it, however many connections come. Each number is within its range.
 #[derive(Clone, Copy, Debug)]
 pub struct UntilClosed<'a> {
     /// The path of the socket of its operators.
