@@ -5,7 +5,7 @@ ghost use Rattle.std.specs.Prelude.{◌≡◌, IfOk, false, true};
 use crate::error::{ConsoleFault, RunError};
 use crate::fault::{Fault, Place};
 use gu_book::Book;
-use gu_office::{Addresses, Consoles, ListenError};
+use gu_office::{Addresses, ListenError};
 use gu_server::{Closed, Closers, Front, Opening, Service, serve_day};
 use gu_sockets::{Doorway, ListenFault};
 use gu_streams::StreamError;
@@ -122,7 +122,7 @@ pub fn serve<
     let receipts = world.outcomes().receipts(alloc)?;
     let service = service_of(rt, serving);
     let opening = opening_of(alloc, world.into_book(), receipts, service, serving.every)?;
-    serve_day::<Brand, Brand, R, T, Doorway, Consoles>(
-        rt, alloc, opening, front, &Consoles, terminal,
+    serve_day::<Brand, Brand, R, T, Doorway>(
+        rt, alloc, opening, front, terminal,
     )
 }

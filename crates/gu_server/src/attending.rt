@@ -2,9 +2,13 @@
 
 use crate::crew::Crew;
 use crate::floor::Floor;
+use crate::floor_office::FloorOffice;
+use crate::informer::Informer;
+use crate::talking::talk;
 use crossbeam_channel::{Receiver, Sender};
-use gu_desk::{EntryLedger, LotLedger};
-use gu_houses::SeatReceipts;
+use gu_console::{Console, Operator, Said};
+use gu_desk::{Desk, EntryLedger, LotLedger};
+use gu_houses::{SeatReceipts, Tally};
 use gu_streams::StreamError;
 use std::alloc::{AllocError, Global};
 use std::os::unix::net::UnixStream;
@@ -22,26 +26,6 @@ pub struct OperatorCall {
     pub stream: UnixStream,
     /// Whether its operator may only look.
     pub is_watch: bool,
-}
-
-/// What becomes of an operator's connection.
-#[derive(Drop)]
-pub enum Attended {
-    /// It has ended.
-    Ended,
-    /// It closed the day, and waits for its last lines.
-    Waits(UnixStream),
-}
-
-/// Who answers operators.
-pub trait Attends<E: EntryLedger, S: LotLedger> {
-    /// Answers an operator from a seat until its connection ends, or until the day is over. The seat comes back.
-    fn attend<R: Wait + Clock>(
-        &self,
-        floor: &Floor<'_, E, S, R>,
-        call: OperatorCall,
-        seat: SeatReceipts<E, S>,
-    ) -> (SeatReceipts<E, S>, Attended);
 }
 
 /// Where the operators of one socket go, and where they come from.
@@ -66,21 +50,68 @@ impl OperatorEnds {
     }
 }
 
-/// Waits for a seat, and answers one operator after another from it, until no more come.
-fn attend_all<E: EntryLedger, S: LotLedger, R: Wait + Clock, A: Attends<E, S>>(
+/// Answers an operator from a seat, over a desk whose parts are lent one by one. The seat comes back.
+fn attend_at<E: EntryLedger, S: LotLedger, R: Wait + Clock>(
+    rt: &R,
+    desk: &Desk<E, S>,
+    tally: &Tally,
+    informer: &Informer<'_>,
     floor: &Floor<'_, E, S, R>,
-    attends: &A,
+    call: &OperatorCall,
+    seat: SeatReceipts<E, S>,
+) -> (SeatReceipts<E, S>, Said) {
+    let office = FloorOffice::new(floor);
+    let console = Console {
+        alloc: floor.alloc,
+        rt,
+        desk,
+        office: &office,
+        tally,
+        informs: informer,
+        is_watch: call.is_watch,
+    };
+    let mut operator = Operator::new(console, seat);
+    let said = talk(floor, &mut operator, &call.stream);
+    (operator.into_seat(), said)
+}
+
+/// Answers an operator from a seat until its connection ends, or until the day is over. The seat comes back. An operator that closed the day is
+/// kept, since it waits for the last lines.
+fn attend<E: EntryLedger, S: LotLedger, R: Wait + Clock>(
+    floor: &Floor<'_, E, S, R>,
+    call: OperatorCall,
+    seat: SeatReceipts<E, S>,
+) -> SeatReceipts<E, S> {
+    let (seat, said) = attend_at(
+        floor.rt,
+        floor.desk,
+        floor.tally,
+        floor.informer,
+        floor,
+        &call,
+        seat,
+    );
+    let OperatorCall {
+        stream,
+        is_watch: _,
+    } = call;
+    match said {
+        Said::Closes => floor.keep_closer(stream),
+        Said::GoesOn => drop(stream),
+    }
+    seat
+}
+
+/// Waits for a seat, and answers one operator after another from it, until no more come.
+fn attend_all<E: EntryLedger, S: LotLedger, R: Wait + Clock>(
+    floor: &Floor<'_, E, S, R>,
     seats: Receiver<SeatReceipts<E, S>>,
     calls: Receiver<OperatorCall>,
 ) -> Option<SeatReceipts<E, S>> {
     let mut seat = seats.recv(floor.rt).ok()?;
     drop(seats);
     for call in calls.iter(floor.rt) {
-        let (back, attended) = attends.attend(floor, call, seat);
-        seat = back;
-        if let Attended::Waits(stream) = attended {
-            floor.keep_closer(stream);
-        }
+        seat = attend(floor, call, seat);
     }
     Some(seat)
 }
@@ -92,17 +123,15 @@ fn start_attendant<
     E: EntryLedger + Send + Sync + 's,
     S: LotLedger + Send + Sync + 's,
     R: Threads + Wait + Clock + Sync,
-    A: Attends<E, S> + Sync,
 >(
     scope: &Scope<'s, X>,
     floor: &'s Floor<'s, E, S, R>,
     crew: &mut Crew<E, S>,
-    attends: &'s A,
     calls: Receiver<OperatorCall>,
 ) -> Result<(), StreamError> {
     crew.reserve()?;
     let (to, seats) = crossbeam_channel::bounded(floor.alloc, 1)?;
-    match scope.spawn(move || attend_all(floor, attends, seats, calls)) {
+    match scope.spawn(move || attend_all(floor, seats, calls)) {
         Ok(attendant) => crew.add(attendant),
         Err(_) => return Err(StreamError::Memory),
     }
@@ -117,18 +146,16 @@ pub fn start_attendants<
     E: EntryLedger + Send + Sync + 's,
     S: LotLedger + Send + Sync + 's,
     R: Threads + Wait + Clock + Sync,
-    A: Attends<E, S> + Sync,
 >(
     scope: &Scope<'s, X>,
     floor: &'s Floor<'s, E, S, R>,
     crew: &mut Crew<E, S>,
-    attends: &'s A,
     ends: &OperatorEnds,
     threads: usize,
 ) -> Result<(), StreamError> {
     for _attendant in 0..threads {
         let calls = ends.from.clone()?;
-        start_attendant(scope, floor, crew, attends, calls)?;
+        start_attendant(scope, floor, crew, calls)?;
     }
     Ok(())
 }

@@ -5,7 +5,6 @@ ghost use Rattle.gu_terms.specs.Histories.{lots_swept};
 ghost use Rattle.gu_desk.specs.Seats.{IsNew};
 ghost use Rattle.gu_server.specs.Receipts.{AddsReceipts};
 
-use crate::attending::Attends;
 use crate::closers::Closers;
 use crate::closing::{Closed, Ending, close};
 use crate::entrance::LetsIn;
@@ -174,13 +173,11 @@ pub fn serve_day<
     R: Net + Threads + Wait + Clock + Eprint + Sync,
     T: Write + Send + Drop,
     D: LetsIn + Drop,
-    A: Attends<E, S> + Sync,
 >(
     rt: &R,
     alloc: Global,
     opening: Opening,
     front: Front<D>,
-    attends: &A,
     terminal: Option<T>,
 ) -> Result<(Closed, Closers), StreamError>
     requires reference { opening.book.reference ≡ E.reference }
@@ -233,11 +230,7 @@ pub fn serve_day<
         is_over: &is_over,
         closers: &closers,
     };
-    let posting = Posting {
-        door,
-        pollers,
-        attends,
-    };
+    let posting = Posting { door, pollers };
     let shift = shift_at(&floor, posting, seats, terminal);
     drop(floor);
     let closed = close(desk, shift, ending)?;

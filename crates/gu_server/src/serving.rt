@@ -3,7 +3,7 @@
 ghost use Rattle.std.specs.Prelude.{◌≡◌};
 ghost use denote.Param.Send.{IsSend, IsSync};
 
-use crate::attending::{Attends, OperatorEnds, start_attendants};
+use crate::attending::{OperatorEnds, start_attendants};
 use crate::crew::Crew;
 use crate::entrance::{Entrance, LetsIn, OperatorWays};
 use crate::floor::Floor;
@@ -22,12 +22,11 @@ use std::sync::atomic::Ordering;
 use std::thread;
 use std::thread::{JoinHandle, Scope, Threads};
 
-/// What a shift begins with: by what connections come in, what watches those of each worker, and who answers operators.
+/// What a shift begins with: by what connections come in, and what watches those of each worker.
 #[derive(Drop)]
-pub struct Posting<'a, D, A> {
+pub struct Posting<D> {
     pub door: D,
     pub pollers: Vec<SocketPoller>,
-    pub attends: &'a A,
 }
 
 /// The seats after a shift, and why not every connection was accepted, where that is so.
@@ -90,24 +89,15 @@ fn start_answering<
     E: EntryLedger + Send + Sync + 's,
     S: LotLedger + Send + Sync + 's,
     R: Threads + Wait + Clock + Sync,
-    A: Attends<E, S> + Sync,
 >(
     scope: &Scope<'s, X>,
     floor: &'s Floor<'s, E, S, R>,
     crew: &mut Crew<E, S>,
-    attends: &'s A,
 ) -> Result<OperatorWays, StreamError> {
     let console = OperatorEnds::new(floor.alloc)?;
     let watch = OperatorEnds::new(floor.alloc)?;
-    start_attendants(
-        scope,
-        floor,
-        crew,
-        attends,
-        &console,
-        floor.service.operators,
-    )?;
-    start_attendants(scope, floor, crew, attends, &watch, floor.service.watchers)?;
+    start_attendants(scope, floor, crew, &console, floor.service.operators)?;
+    start_attendants(scope, floor, crew, &watch, floor.service.watchers)?;
     Ok(OperatorWays {
         console: console.into_sender(),
         watch: watch.into_sender(),
@@ -123,21 +113,16 @@ fn serve_calls<
     S: LotLedger + Send + Sync + 's,
     R: Threads + Wait + Clock + Eprint + Sync,
     D: LetsIn + Drop,
-    A: Attends<E, S> + Sync,
 >(
     scope: &Scope<'s, X>,
     floor: &'s Floor<'s, E, S, R>,
-    posting: Posting<'s, D, A>,
+    posting: Posting<D>,
     crew: &mut Crew<E, S>,
 ) -> Result<(), StreamError> {
-    let Posting {
-        door,
-        pollers,
-        attends,
-    } = posting;
+    let Posting { door, pollers } = posting;
     let (orders, ordered) = crossbeam_channel::unbounded(floor.alloc)?;
     start_sweepers(scope, floor, ordered, crew)?;
-    let operators = start_answering(scope, floor, crew, attends)?;
+    let operators = start_answering(scope, floor, crew)?;
     let calls = start_workers(scope, floor, crew, pollers, &orders)?;
     drop(orders);
     Entrance::new(door, calls, operators).run(floor)
@@ -152,11 +137,10 @@ fn run_all<
     R: Threads + Wait + Clock + Eprint + Sync,
     T: Write + Send + Drop + 's,
     D: LetsIn + Drop,
-    A: Attends<E, S> + Sync,
 >(
     scope: &Scope<'s, X>,
     floor: &'s Floor<'s, E, S, R>,
-    posting: Posting<'s, D, A>,
+    posting: Posting<D>,
     seats: Vec<SeatReceipts<E, S>>,
     terminal: Option<T>,
 ) -> Shift<E, S> {
@@ -178,10 +162,9 @@ pub fn shift_at<
     R: Threads + Wait + Clock + Eprint + Sync,
     T: Write + Send + Drop,
     D: LetsIn + Drop,
-    A: Attends<E, S> + Sync,
 >(
     floor: &Floor<'_, E, S, R>,
-    posting: Posting<'_, D, A>,
+    posting: Posting<D>,
     seats: Vec<SeatReceipts<E, S>>,
     terminal: Option<T>,
 ) -> Shift<E, S> {
@@ -189,7 +172,7 @@ pub fn shift_at<
         thread::scope_env(),
         floor.rt,
         |scope| -> Shift<E, S>
-            requires { IsSync R.row × IsSend E.row × IsSync E.row × IsSend S.row × IsSync S.row × IsSend T.row × IsSync A.row }
+            requires { IsSync R.row × IsSend E.row × IsSync E.row × IsSend S.row × IsSync S.row × IsSend T.row }
         { run_all(scope, floor, posting, seats, terminal) },
     )
 }

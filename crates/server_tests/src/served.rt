@@ -10,7 +10,6 @@ use crate::doors::TestDoor;
 use crate::machine::Machine;
 use crate::opening::book_after;
 use gu_desk::{EntryLedger, LotLedger};
-use gu_office::Consoles;
 use gu_server::{Closed, Closers, Front, Opening, Service, serve_day};
 use gu_sockets::Doorway;
 use gu_streams::StreamError;
@@ -146,8 +145,8 @@ fn day<
                 × (opening.swept.name ≡ S.name) × (opening.swept.parts ≡ S.parts)
                 × IsSync R.row × IsSend E.row × IsSync E.row × IsSend S.row × IsSync S.row }
         {
-            serve_day::<E, S, Machine<'_, R>, Vec<u8>, TestDoor, Consoles>(
-                &machine, alloc, opening, front, &Consoles, None,
+            serve_day::<E, S, Machine<'_, R>, Vec<u8>, TestDoor>(
+                &machine, alloc, opening, front, None,
             )
         },
         || do_all(rt, alloc, there, doing, said),

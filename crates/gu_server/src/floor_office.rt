@@ -1,10 +1,10 @@
 //! What operators ask of a server besides its book.
 
+use crate::floor::Floor;
 use gu_console::{Office, Places};
 use gu_desk::{EntryLedger, LotLedger};
 use gu_engine::{Clock, SystemClock};
 use gu_posts::ConnectionStatus;
-use gu_server::Floor;
 use gu_terms::FirmId;
 use std::alloc::{AllocError, Global};
 use std::rt;

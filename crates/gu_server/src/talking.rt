@@ -1,9 +1,9 @@
 //! The exchange of an operator over a socket.
 
+use crate::floor::Floor;
 use gu_console::{LineBuffer, Office, Operator, Said, serve_lines};
 use gu_desk::{EntryLedger, LotLedger};
 use gu_houses::Informs;
-use gu_server::Floor;
 use gu_text::split_at_line_feed;
 use std::io;
 use std::io::{ErrorKind, Read, Write};
