@@ -1,6 +1,10 @@
 //! Lines of operators, and their answers.
 
+use crate::house::book_of;
+use crate::opening::annals_of;
 use crate::transcript::play;
+use std::marker::Brand;
+use std::sync::ledger::Blank;
 
 /// The day of docs/rules/script.md, its first sweep made at the console.
 const A_DAY: &str = "\
@@ -117,7 +121,18 @@ CONNECTION 5 - PORT 50515 SINCE 7 HEARD 0 IN 0 OUT 0 EXPECTS 1 SENDS 1 HELD 18
 
 #[test]
 fn lines_are_answered_as_a_script_is(rt: HostRuntime) {
-    let heard = play(&rt, rt.alloc(), A_DAY);
+    let alloc = rt.alloc();
+    let book = book_of(alloc).expect(&rt, "a book");
+    let annals = annals_of(&rt, alloc, &book);
+    let heard = play::<Brand, Brand, HostRuntime>(
+        &rt,
+        alloc,
+        book,
+        annals,
+        Blank::new(4),
+        Blank::new(4),
+        A_DAY,
+    );
     // Others hear of each of the 16 entries, the last of them too.
     assert_eq!(rt; heard, (16, 16));
 }
@@ -183,7 +198,18 @@ BAD LINE
 
 #[test]
 fn what_is_no_line_is_bad_and_the_connection_goes_on(rt: HostRuntime) {
-    let heard = play(&rt, rt.alloc(), BAD);
+    let alloc = rt.alloc();
+    let book = book_of(alloc).expect(&rt, "a book");
+    let annals = annals_of(&rt, alloc, &book);
+    let heard = play::<Brand, Brand, HostRuntime>(
+        &rt,
+        alloc,
+        book,
+        annals,
+        Blank::new(4),
+        Blank::new(4),
+        BAD,
+    );
     assert_eq!(rt; heard, (1, 1));
 }
 
@@ -218,7 +244,18 @@ CONNECTION 5 - PORT 50515 SINCE 7 HEARD 0 IN 0 OUT 0 EXPECTS 1 SENDS 1 HELD 18
 
 #[test]
 fn an_operator_cuts_connections_and_closes_the_day_once(rt: HostRuntime) {
-    let heard = play(&rt, rt.alloc(), CLOSING);
+    let alloc = rt.alloc();
+    let book = book_of(alloc).expect(&rt, "a book");
+    let annals = annals_of(&rt, alloc, &book);
+    let heard = play::<Brand, Brand, HostRuntime>(
+        &rt,
+        alloc,
+        book,
+        annals,
+        Blank::new(4),
+        Blank::new(4),
+        CLOSING,
+    );
     assert_eq!(rt; heard, (1, 1));
 }
 
@@ -272,7 +309,18 @@ CONNECTION 5 - PORT 50515 SINCE 7 HEARD 0 IN 0 OUT 0 EXPECTS 1 SENDS 1 HELD 18
 
 #[test]
 fn who_watches_changes_nothing(rt: HostRuntime) {
-    let heard = play(&rt, rt.alloc(), WATCHED);
+    let alloc = rt.alloc();
+    let book = book_of(alloc).expect(&rt, "a book");
+    let annals = annals_of(&rt, alloc, &book);
+    let heard = play::<Brand, Brand, HostRuntime>(
+        &rt,
+        alloc,
+        book,
+        annals,
+        Blank::new(4),
+        Blank::new(4),
+        WATCHED,
+    );
     assert_eq!(rt; heard, (1, 1));
 }
 
@@ -365,6 +413,17 @@ SWEEP G1
 
 #[test]
 fn a_journal_is_followed_from_entry_to_entry(rt: HostRuntime) {
-    let heard = play(&rt, rt.alloc(), FOLLOWED);
+    let alloc = rt.alloc();
+    let book = book_of(alloc).expect(&rt, "a book");
+    let annals = annals_of(&rt, alloc, &book);
+    let heard = play::<Brand, Brand, HostRuntime>(
+        &rt,
+        alloc,
+        book,
+        annals,
+        Blank::new(4),
+        Blank::new(4),
+        FOLLOWED,
+    );
     assert_eq!(rt; heard, (11, 11));
 }

@@ -1,6 +1,10 @@
 //! How much of a journal is shown at once.
 
+use crate::house::book_of;
+use crate::opening::annals_of;
 use crate::transcript::play;
+use std::marker::Brand;
+use std::sync::ledger::Blank;
 use trials::meant;
 
 /// Six hundred entries.
@@ -35,7 +39,17 @@ const ENTRIES: &str = "\
 fn at_most_256_entries_are_shown_at_once(rt: HostRuntime) {
     let alloc = rt.alloc();
     let transcript = meant(alloc, ENTRIES).expect(&rt, "memory");
-    let heard = play(&rt, alloc, &transcript);
+    let book = book_of(alloc).expect(&rt, "a book");
+    let annals = annals_of(&rt, alloc, &book);
+    let heard = play::<Brand, Brand, HostRuntime>(
+        &rt,
+        alloc,
+        book,
+        annals,
+        Blank::new(4),
+        Blank::new(4),
+        &transcript,
+    );
     assert_eq!(rt; heard, (601, 601));
 }
 
@@ -61,7 +75,17 @@ fn at_most_65536_bytes_are_shown_at_once(rt: HostRuntime) {
     let pairs = meant(alloc, "( AAAAAAAAAAAA 1000000*16)").expect(&rt, "memory");
     let transcript = BYTES.replace(alloc, "@", &pairs).expect(&rt, "memory");
     let transcript = meant(alloc, &transcript).expect(&rt, "memory");
-    let heard = play(&rt, alloc, &transcript);
+    let book = book_of(alloc).expect(&rt, "a book");
+    let annals = annals_of(&rt, alloc, &book);
+    let heard = play::<Brand, Brand, HostRuntime>(
+        &rt,
+        alloc,
+        book,
+        annals,
+        Blank::new(4),
+        Blank::new(4),
+        &transcript,
+    );
     assert_eq!(rt; heard, (400, 400));
 }
 
@@ -106,6 +130,16 @@ DAY 20260106
 fn an_entry_that_is_longer_is_shown_alone(rt: HostRuntime) {
     let alloc = rt.alloc();
     let transcript = meant(alloc, SWEEP).expect(&rt, "memory");
-    let heard = play(&rt, alloc, &transcript);
+    let book = book_of(alloc).expect(&rt, "a book");
+    let annals = annals_of(&rt, alloc, &book);
+    let heard = play::<Brand, Brand, HostRuntime>(
+        &rt,
+        alloc,
+        book,
+        annals,
+        Blank::new(4),
+        Blank::new(4),
+        &transcript,
+    );
     assert_eq!(rt; heard, (265, 265));
 }

@@ -78,7 +78,7 @@ fn tell_lines<E: EntryLedger, S: LotLedger, R: Wait + Abort>(
             return;
         };
         let is_short = line == "SWEEP G1" && is_text(&output, "9 SWEPT G1 4//");
-        assert!(rt; is_short || is_text(&output, expected), "{line}");
+        assert!(rt; is_short || is_text(&output, expected), "{row}");
     }
 }
 

@@ -5,14 +5,13 @@
 ghost use Rattle.std.specs.Prelude.{◌≡◌};
 ghost use Rattle.gu_terms.specs.Histories.{lots_swept};
 
-use crate::house::{Heard, TestOffice, book_of};
-use crate::opening::{annals_of, desk_of};
+use crate::house::{Heard, TestOffice};
+use crate::opening::desk_of;
 use gu_book::Book;
 use gu_console::{Console, Operator, Said};
 use gu_desk::{BlankAnnals, Desk, EntryLedger, LotLedger};
 use gu_houses::{SeatReceipts, Tally};
 use std::alloc::Global;
-use std::marker::Brand;
 use std::process::Abort;
 use std::sync::Wait;
 use std::sync::ledger::Blank;
@@ -137,8 +136,8 @@ fn follow<E: EntryLedger, S: LotLedger, R: Wait + Abort>(
     drop(watch.into_seat());
 }
 
-/// Plays a transcript at a desk.
-fn play_at<E: EntryLedger, S: LotLedger, R: Wait + Abort>(
+/// Plays a transcript at a desk over a book, and returns how many entries others heard of, and the number of the last.
+pub fn play<E: EntryLedger, S: LotLedger, R: Wait + Abort>(
     rt: &R,
     alloc: Global,
     book: Book,
@@ -168,19 +167,4 @@ fn play_at<E: EntryLedger, S: LotLedger, R: Wait + Abort>(
     follow(rt, alloc, &room, seats, transcript);
     assert_eq!(rt; tally.counts().entries, heard.counts().0);
     heard.counts()
-}
-
-/// Plays a transcript at a desk of the sample, and returns how many entries others heard of, and the number of the last.
-pub fn play<R: Wait + Abort>(rt: &R, alloc: Global, transcript: &str) -> (u64, u64) {
-    let book = book_of(alloc).expect(rt, "a book");
-    let annals = annals_of(rt, alloc, &book);
-    play_at::<Brand, Brand, R>(
-        rt,
-        alloc,
-        book,
-        annals,
-        Blank::new(4),
-        Blank::new(4),
-        transcript,
-    )
 }

@@ -42,6 +42,11 @@ use std::process::Abort;
 use std::sync::Wait;
 use trials::meant;
 
+/// What comes before the first of these characters, and what comes after it.
+fn parts(text: &str, at: char) -> (&str, &str) {
+    text.split_once(at).unwrap_or((text, ""))
+}
+
 /// The number that a word writes.
 fn number(word: &str) -> usize {
     word.parse().unwrap_or(0)
@@ -101,8 +106,8 @@ fn check_wire<R: Abort>(rt: &R, play: &Play<'_>, wire: &Wire, word: &str, text: 
 
 /// Does what a line of a connection says.
 fn wire_step<R: Wait + Abort>(rt: &R, play: &Play<'_>, label: &str, line: &str) {
-    let (place, firm) = label.split_once(':').unwrap_or((label, ""));
-    let (word, text) = line.split_once(' ').unwrap_or((line, ""));
+    let (place, firm) = parts(label, ':');
+    let (word, text) = parts(line, ' ');
     let Some(wire) = play.wire(number(place)) else {
         assert!(rt; false, "{}: no line: {label} {line}", play.name);
         return;
@@ -171,7 +176,7 @@ fn say_ready(play: &Play<'_>, place: usize) -> Result<(), AllocError> {
 
 /// Does what a line says of a post of a worker.
 fn post_step<R: Abort>(rt: &R, play: &Play<'_>, word: &str, text: &str) {
-    let (worker, count) = text.split_once(' ').unwrap_or((text, ""));
+    let (worker, count) = parts(text, ' ');
     let post = play.floor.posts.post(number(worker)).expect(rt, "a post");
     match word {
         "asleep" => post.fall_asleep(),
@@ -272,7 +277,7 @@ fn round_step<R: Wait + Abort>(rt: &R, play: &mut Play<'_>, word: &str, text: &s
 
 /// Does what a line says.
 fn step<R: Wait + Abort>(rt: &R, play: &mut Play<'_>, line: &str) {
-    let (word, text) = line.split_once(' ').unwrap_or((line, ""));
+    let (word, text) = parts(line, ' ');
     if word == "round" || word == "rounds" || word == "run" {
         check_silence(rt, play, line);
     }
@@ -283,7 +288,7 @@ fn step<R: Wait + Abort>(rt: &R, play: &mut Play<'_>, line: &str) {
 
 /// Asserts that a play goes as its lines say. The first is its name.
 pub fn check_play<R: Wait + Abort>(rt: &R, alloc: Global, setting: Setting<'_>, case: &str) {
-    let (name, lines) = case.split_once('\n').unwrap_or((case, ""));
+    let (name, lines) = parts(case, '\n');
     let floor = Floor::new(alloc, setting).expect(rt, name);
     let mut play = Play::new(alloc, name, &floor, setting).expect(rt, name);
     for line in lines.lines() {
