@@ -5,6 +5,7 @@ use crate::opening::annals_of;
 use crate::transcript::play;
 use std::marker::Brand;
 use std::sync::ledger::Blank;
+use trials::meant;
 
 /// The day of docs/rules/script.md, its first sweep made at the console.
 const A_DAY: &str = "\
@@ -124,6 +125,7 @@ fn lines_are_answered_as_a_script_is(rt: HostRuntime) {
     let alloc = rt.alloc();
     let book = book_of(alloc).expect(&rt, "a book");
     let annals = annals_of(&rt, alloc, &book);
+    let transcript = meant(alloc, A_DAY).expect(&rt, "memory");
     let heard = play::<Brand, Brand, HostRuntime>(
         &rt,
         alloc,
@@ -131,7 +133,7 @@ fn lines_are_answered_as_a_script_is(rt: HostRuntime) {
         annals,
         Blank::new(4),
         Blank::new(4),
-        A_DAY,
+        &transcript,
     );
     // Others hear of each of the 16 entries, the last of them too.
     assert_eq!(rt; heard, (16, 16));
@@ -201,6 +203,7 @@ fn what_is_no_line_is_bad_and_the_connection_goes_on(rt: HostRuntime) {
     let alloc = rt.alloc();
     let book = book_of(alloc).expect(&rt, "a book");
     let annals = annals_of(&rt, alloc, &book);
+    let transcript = meant(alloc, BAD).expect(&rt, "memory");
     let heard = play::<Brand, Brand, HostRuntime>(
         &rt,
         alloc,
@@ -208,7 +211,7 @@ fn what_is_no_line_is_bad_and_the_connection_goes_on(rt: HostRuntime) {
         annals,
         Blank::new(4),
         Blank::new(4),
-        BAD,
+        &transcript,
     );
     assert_eq!(rt; heard, (1, 1));
 }
@@ -247,6 +250,7 @@ fn an_operator_cuts_connections_and_closes_the_day_once(rt: HostRuntime) {
     let alloc = rt.alloc();
     let book = book_of(alloc).expect(&rt, "a book");
     let annals = annals_of(&rt, alloc, &book);
+    let transcript = meant(alloc, CLOSING).expect(&rt, "memory");
     let heard = play::<Brand, Brand, HostRuntime>(
         &rt,
         alloc,
@@ -254,7 +258,7 @@ fn an_operator_cuts_connections_and_closes_the_day_once(rt: HostRuntime) {
         annals,
         Blank::new(4),
         Blank::new(4),
-        CLOSING,
+        &transcript,
     );
     assert_eq!(rt; heard, (1, 1));
 }
@@ -312,6 +316,7 @@ fn who_watches_changes_nothing(rt: HostRuntime) {
     let alloc = rt.alloc();
     let book = book_of(alloc).expect(&rt, "a book");
     let annals = annals_of(&rt, alloc, &book);
+    let transcript = meant(alloc, WATCHED).expect(&rt, "memory");
     let heard = play::<Brand, Brand, HostRuntime>(
         &rt,
         alloc,
@@ -319,7 +324,7 @@ fn who_watches_changes_nothing(rt: HostRuntime) {
         annals,
         Blank::new(4),
         Blank::new(4),
-        WATCHED,
+        &transcript,
     );
     assert_eq!(rt; heard, (1, 1));
 }
@@ -416,6 +421,7 @@ fn a_journal_is_followed_from_entry_to_entry(rt: HostRuntime) {
     let alloc = rt.alloc();
     let book = book_of(alloc).expect(&rt, "a book");
     let annals = annals_of(&rt, alloc, &book);
+    let transcript = meant(alloc, FOLLOWED).expect(&rt, "memory");
     let heard = play::<Brand, Brand, HostRuntime>(
         &rt,
         alloc,
@@ -423,7 +429,7 @@ fn a_journal_is_followed_from_entry_to_entry(rt: HostRuntime) {
         annals,
         Blank::new(4),
         Blank::new(4),
-        FOLLOWED,
+        &transcript,
     );
     assert_eq!(rt; heard, (11, 11));
 }

@@ -54,6 +54,9 @@ clock 09:00:09.000
 1:C1 room 1
 round
 1:C1 took 1
+clock 09:00:15.000
+1:C1 in 1 2 112=X|
+round
 clock 09:00:18.999
 rounds 2
 waits 1
