@@ -123,7 +123,7 @@ fn await_status<R: Wait + Clock + Abort>(
 }
 
 /// Has a firm or the operator act.
-fn act<R: Net<Listener = TcpListener, Stream = TcpStream> + Wait + Clock + Abort>(
+fn perform<R: Net<Listener = TcpListener, Stream = TcpStream> + Wait + Clock + Abort>(
     rt: &R,
     alloc: Global,
     port: u16,
@@ -175,7 +175,7 @@ pub fn act_all<R: Net<Listener = TcpListener, Stream = TcpStream> + Wait + Clock
         clients: Vec::new(alloc),
     };
     for (number, one) in acts.iter().enumerate() {
-        let acted = act(rt, alloc, port, &mut clients, &mut operator, *one);
+        let acted = perform(rt, alloc, port, &mut clients, &mut operator, *one);
         assert!(rt; acted.is_ok(), "act {number}");
     }
     Ok(())
