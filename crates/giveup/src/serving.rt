@@ -122,7 +122,5 @@ pub fn serve<
     let receipts = world.outcomes().receipts(alloc)?;
     let service = service_of(rt, serving);
     let opening = opening_of(alloc, world.into_book(), receipts, service, serving.every)?;
-    serve_day::<Brand, Brand, R, T, Doorway>(
-        rt, alloc, opening, front, terminal,
-    )
+    serve_day::<Brand, Brand, R, T, Doorway>(rt, alloc, opening, front, terminal)
 }
