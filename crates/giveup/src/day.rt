@@ -92,6 +92,14 @@ fn print_end<R: Print>(rt: &R, text: &str) -> Result<(), StreamError> {
     send(&mut io::writer(rt), text.as_bytes())
 }
 
+/// Returns the fault of what failed.
+fn fault_after<'a>(done: Result<(), StreamError>) -> Option<Fault<'a>> {
+    match done {
+        Ok(()) => None,
+        Err(error) => Some(Fault::from(error)),
+    }
+}
+
 /// Writes the journal of a day, if a file for it is named.
 fn keep_journal<'a, R: Files + Alloc<A = Global>>(
     rt: &R,
@@ -124,12 +132,12 @@ fn end_day<'a, R: Print + Files + Alloc<A = Global>>(
         closers.tell(text);
     }
     drop(closers);
-    let faults = [
-        printed.err().map(Fault::from),
-        kept.err(),
-        fault.map(Fault::from),
-    ];
-    match Faults::among(faults) {
+    let unprinted = fault_after(printed);
+    let unaccepted = match fault {
+        Some(fault) => Some(Fault::from(fault)),
+        None => None,
+    };
+    match Faults::among([unprinted, kept.err(), unaccepted]) {
         Some(faults) => Err(faults),
         None => Ok(status_after(&end)),
     }

@@ -1,6 +1,6 @@
 //! The server: a day at a desk, on a port of this machine and at the sockets of operators.
 
-ghost use Rattle.std.specs.Prelude.{◌≡◌, IfOk, false, true};
+ghost use Rattle.std.specs.Prelude.{◌≡◌, ◌≤◌, IfOk};
 
 use crate::error::{ConsoleFault, RunError};
 use crate::fault::{Fault, Place};
@@ -10,7 +10,7 @@ use gu_server::{Closed, Closers, Front, Opening, Service, serve_day};
 use gu_sockets::{Doorway, ListenFault};
 use gu_streams::StreamError;
 use gu_terms::Receipt;
-use gu_words::{Serving, Span};
+use gu_words::{Serving, Span, UntilClosed};
 use gu_world::World;
 use std::alloc::{AllocError, Global};
 use std::io::Write;
@@ -33,26 +33,51 @@ fn addresses_of<'a>(serving: &Serving<'a>) -> Addresses<'a> {
     }
 }
 
-/// Returns how many workers there are where no number is given: as many as processors.
-fn usual_workers<R: Threads>(rt: &R) -> usize {
-    match thread::available_parallelism(rt) {
-        Ok(processors) => processors.get().min(MOST_WORKERS),
-        Err(_) => 1,
+/// Returns how many workers there are where no number is given: as many as processors, 60 at most.
+fn usual_workers<R: Threads>(rt: &R) -> usize
+    ensures least { 1 ≤ result }
+    ensures most { result ≤ 60 }
+{
+    let Ok(processors) = thread::available_parallelism(rt) else {
+        return 1;
+    };
+    let processors = processors.get();
+    if processors < 1 {
+        1
+    } else if processors > MOST_WORKERS {
+        MOST_WORKERS
+    } else {
+        processors
     }
 }
 
-/// Returns how firms are served.
-fn service_of<R: Threads>(rt: &R, serving: &Serving<'_>) -> Service {
-    let service = match serving.span {
+/// Returns how many workers a server has that goes on until it is closed.
+fn workers_of<R: Threads>(rt: &R, until_closed: &UntilClosed<'_>) -> usize
+    ensures least { 1 ≤ result }
+    ensures most { result ≤ 60 }
+{
+    match until_closed.workers {
+        Some(workers) => usize::from(workers),
+        None => usual_workers(rt),
+    }
+}
+
+/// Returns how firms are served, beside whatever operators there are.
+fn firms_service<R: Threads>(rt: &R, span: &Span<'_>) -> Service
+    ensures { result.workers ≤ 60 }
+{
+    match span {
         Span::Counted(counted) => Service::of_connections(usize::from(counted.connections)),
         Span::UntilClosed(until_closed) => {
-            let workers = match until_closed.workers {
-                Some(workers) => usize::from(workers),
-                None => usual_workers(rt),
-            };
+            let workers = workers_of(rt, until_closed);
             Service::until_closed(usize::from(until_closed.places), workers)
         }
-    };
+    }
+}
+
+/// Returns how firms and operators are served.
+fn service_of<R: Threads>(rt: &R, serving: &Serving<'_>) -> Service {
+    let service = firms_service(rt, &serving.span);
     service.with_operators(serving.console().is_some(), serving.watch.is_some())
 }
 

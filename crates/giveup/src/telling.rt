@@ -3,7 +3,7 @@
 use crate::error::{ConsoleFault, RunError};
 use gu_console::{TellError, Told, is_line, tell};
 use gu_script::ScriptError;
-use gu_streams::{CountedReads, LONGEST_READ, StreamError};
+use gu_streams::{CountedReads, LONGEST_READ, MOST_READS, StreamError};
 use gu_text::{is_too_long, split_at_line_feed};
 use gu_words::Status;
 use std::alloc::{AllocError, Global};
@@ -75,7 +75,10 @@ impl<C: Read + Write, W: Write> Telling<C, W> {
     /// Sends the lines that a piece ends, and keeps what comes after the last LF.
     fn take(&mut self, rest: &mut Vec<u8>, piece: &[u8]) -> Result<(), RunError> {
         let mut left = piece;
-        'lines: while let Some((part, after)) = split_at_line_feed(left) {
+        for _line in 0..piece.len() {
+            let Some((part, after)) = split_at_line_feed(left) else {
+                break;
+            };
             rest.extend_from_slice(part).map_err(StreamError::from)?;
             self.tell_line(rest)?;
             rest.clear();
@@ -104,7 +107,7 @@ impl<C: Read + Write, W: Write> Telling<C, W> {
     ) -> Result<Status, RunError> {
         let mut rest = Vec::new(alloc);
         let mut buffer = [0; LONGEST_READ];
-        'reading: while !reads.is_spent() {
+        for _read in 0..MOST_READS {
             match reads.read(&mut buffer) {
                 Ok(0) => return self.take_end(&rest),
                 Ok(count) => self.take(&mut rest, &buffer[..count])?,

@@ -59,9 +59,12 @@ impl Operator {
     fn read_to(&mut self, alloc: Global, end: &[u8]) -> io::Result<String> {
         let mut came = Vec::new(alloc);
         let mut byte = [0];
-        while !came.ends_with(end) && came.len() < 65_536 {
+        for _byte in 0..65_536 {
             self.stream.read_exact(&mut byte)?;
             came.push(byte[0])?;
+            if came.ends_with(end) {
+                break;
+            }
         }
         match String::from_utf8(came) {
             Ok(text) => Ok(text),

@@ -1,6 +1,6 @@
 //! A day that is served, and what is done beside it.
 
-ghost use Rattle.std.specs.Prelude.{◌≡◌};
+ghost use Rattle.std.specs.Prelude.{◌≡◌, ◌≤◌};
 ghost use Rattle.gu_terms.specs.Histories.{lots_swept};
 ghost use denote.Param.Send.{IsSend, IsSync};
 
@@ -34,7 +34,9 @@ pub enum Span {
 
 impl Span {
     /// Returns how firms are served so.
-    fn service(self, rt: &impl Abort) -> Service {
+    fn service(self, rt: &impl Abort) -> Service
+        ensures { result.workers ≤ 60 }
+    {
         match self {
             Span::Connections(connections) => {
                 assert!(rt; 1 <= connections && connections <= 32);
