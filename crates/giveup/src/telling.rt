@@ -4,10 +4,13 @@ use crate::error::{ConsoleFault, RunError};
 use gu_console::{TellError, Told, is_line, tell};
 use gu_script::ScriptError;
 use gu_streams::{CountedReads, LONGEST_READ, MOST_READS, StreamError};
-use gu_text::{is_too_long, split_at_line_feed};
+use gu_text::split_at_line_feed;
 use gu_words::Status;
 use std::alloc::{AllocError, Global};
 use std::io::{Read, Write};
+
+/// The longest line that may be sent, with a CR at its end.
+const LONGEST_LINE: usize = 1_025;
 
 /// A desk that is sent lines: the stream to its socket, and where its answers are shown.
 #[derive(Drop)]
@@ -85,7 +88,7 @@ impl<C: Read + Write, W: Write> Telling<C, W> {
             left = after;
         }
         rest.extend_from_slice(left).map_err(StreamError::from)?;
-        if is_too_long(rest) {
+        if rest.len() > LONGEST_LINE {
             return Err(RunError::from(ScriptError::BadLine(self.count.saturating_add(1))));
         }
         Ok(())
