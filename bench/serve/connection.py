@@ -2,8 +2,23 @@
 import select
 import socket
 import time
+from pathlib import Path
 
 from messages import fields_of, is_whole, message, taken_from
+
+
+def is_open(port, line):
+    """Whether the desk's end of a connection is established (by /proc/net/tcp, since a firm that doesn't read can't see its close)."""
+    ends = f':{port:04X}', f':{line.getsockname()[1]:04X}'
+    rows = (row.split() for row in Path('/proc/net/tcp').read_text().splitlines()[1:])
+    return any(row[1].endswith(ends[0]) and row[2].endswith(ends[1]) and row[3] == '01' for row in rows)
+
+
+def seconds_open(port, line, since, most):
+    """How long the desk keeps its end of a connection open, up to `most` seconds."""
+    while is_open(port, line) and time.monotonic() < since + most:
+        time.sleep(0.05)
+    return time.monotonic() - since
 
 
 class Connection:

@@ -24,12 +24,13 @@ def is_listening(port):
 
 
 class Server:
-    """`giveup serve` on a port of its own, until it ends by itself."""
+    """`giveup serve` on a port of its own, until it ends by itself. `options` are further words of its command line."""
 
-    def __init__(self, program, reference, script, connections, every=0, journal=None, limits=None):
+    def __init__(self, program, reference, script, connections, every=0, journal=None, limits=None, options=()):
         self.port = free_port()
         words = [program, 'serve', reference, str(self.port), '--script', script, '--connections', str(connections), '--every', str(every)]
         words += ['--journal', journal] if journal else []
+        words += options
         self.child = subprocess.Popen(words, stdin=subprocess.DEVNULL, stdout=subprocess.PIPE, stderr=subprocess.PIPE, preexec_fn=limits)
         self.out, self.err, self.peak_kb = b'', b'', 0
         self.threads = [threading.Thread(target=part, daemon=True) for part in (self.read_out, self.read_err, self.watch)]

@@ -8,10 +8,10 @@ use crate::files::{digested_reference_at, world_after};
 use crate::heading::Heading;
 use crate::journal_file::{JournalFile, journal_at};
 use crate::seeding::seed_from;
-use crate::serving::serve;
+use crate::serving::{listen, serve};
 use gu_book::Book;
 use gu_script::RefusedLines;
-use gu_server::{Closed, DayEnd};
+use gu_server::{Closed, Closers, DayEnd};
 use gu_streams::{StreamError, send};
 use gu_words::{Serving, Status};
 use gu_world::World;
@@ -77,20 +77,27 @@ fn made_ready<'a, R: Eprint + Files + Clock + RandomSource + Alloc<A = Global>>(
     })
 }
 
-/// Returns the status that an audit makes.
-fn status_of_audit(is_well: bool) -> Status
-    ensures { result ≡ status_of_audit is_well }
+/// Returns the status after the end of a day: that which its audit makes.
+fn status_after(end: &DayEnd) -> Status
+    ensures { IfOk end.now (λ made. result ≡ status_of_audit made.1) }
 {
-    if is_well { Status::Done } else { Status::Fault }
+    match end {
+        Ok((_, true)) => Status::Done,
+        _ => Status::Fault,
+    }
 }
 
-/// Prints the lines of a day's end, and returns the status that its audit makes.
-fn print_end<R: Print>(rt: &R, end: DayEnd) -> Result<Status, StreamError>
-    ensures status { IfOk end (λ made. IfOk result (λ status. status ≡ status_of_audit made.1)) }
-{
-    let (text, is_well) = end?;
-    send(&mut io::writer(rt), text.as_bytes())?;
-    Ok(status_of_audit(is_well))
+/// Prints the lines of a day's end.
+fn print_end<R: Print>(rt: &R, text: &str) -> Result<(), StreamError> {
+    send(&mut io::writer(rt), text.as_bytes())
+}
+
+/// Returns the fault of what failed.
+fn fault_after<'a>(done: Result<(), StreamError>) -> Option<Fault<'a>> {
+    match done {
+        Ok(()) => None,
+        Err(error) => Some(Fault::from(error)),
+    }
 }
 
 /// Writes the journal of a day, if a file for it is named.
@@ -107,27 +114,32 @@ fn keep_journal<'a, R: Files + Alloc<A = Global>>(
 }
 
 /// Ends a day: prints its lines, also if not every connection could be accepted, and then writes its journal, also if the lines couldn't
-/// be made or printed. Returns all that failed.
+/// be made or printed. Operators that closed the day are told the lines once the journal is whole. Returns all that failed.
 fn end_day<'a, R: Print + Files + Alloc<A = Global>>(
     rt: &R,
-    closed: Closed,
+    (closed, closers): (Closed, Closers),
     journal: Option<JournalFile<'a, R::File>>,
     heading: &Heading,
 ) -> Result<Status, Faults<'a>> {
     let (end, book, fault) = closed.end(rt.alloc());
-    let (status, unprinted) = match print_end(rt, end) {
-        Ok(status) => (status, None),
-        Err(error) => (Status::Fault, Some(Fault::from(error))),
+    let printed = match &end {
+        Ok((text, _)) => print_end(rt, text),
+        Err(error) => Err(StreamError::from(*error)),
     };
-    let unkept = keep_journal(rt, journal, heading, &book).err();
+    let kept = keep_journal(rt, journal, heading, &book);
     drop(book);
+    if let (Ok((text, _)), Ok(())) = (&end, &kept) {
+        closers.tell(text);
+    }
+    drop(closers);
+    let unprinted = fault_after(printed);
     let unaccepted = match fault {
         Some(fault) => Some(Fault::from(fault)),
         None => None,
     };
-    match Faults::among([unprinted, unkept, unaccepted]) {
+    match Faults::among([unprinted, kept.err(), unaccepted]) {
         Some(faults) => Err(faults),
-        None => Ok(status),
+        None => Ok(status_after(&end)),
     }
 }
 
@@ -151,8 +163,16 @@ pub fn run_serve<
         journal,
         heading,
     } = made_ready(rt, serving)?;
-    let closed = serve(rt, world, serving, terminal)?;
-    let ended = end_day(rt, closed, journal, &heading);
-    drop(heading);
-    ended
+    let front = match listen(rt, serving) {
+        Ok(front) => front,
+        Err(fault) => {
+            drop(world);
+            return Err(Faults::from(fault));
+        }
+    };
+    let served = serve(rt, world, serving, front, terminal);
+    match served {
+        Ok(served) => end_day(rt, served, journal, &heading),
+        Err(error) => Err(Faults::from(Fault::from(error))),
+    }
 }

@@ -16,6 +16,26 @@ pub enum JournalFault {
     NotAFile,
 }
 
+/// Why a console can't be had, or doesn't answer.
+#[derive(Debug, Drop, Clone, Copy, PartialEq, Eq, Error)]
+pub enum ConsoleFault {
+    /// A desk answers at its path.
+    #[error("InUse")]
+    InUse,
+    /// What is at its path isn't a socket.
+    #[error("NotASocket")]
+    NotASocket,
+    /// The socket can't be made.
+    #[error("NotMade")]
+    NotMade,
+    /// No desk can be reached at its path.
+    #[error("NotReached")]
+    NotReached,
+    /// The desk ended the connection before its answer was whole.
+    #[error("Ended")]
+    Ended,
+}
+
 /// Why the program ends with status 1.
 #[derive(Debug, Drop, Clone, Copy, PartialEq, Eq, Error)]
 pub enum RunError {
@@ -31,6 +51,9 @@ pub enum RunError {
     /// The journal can't be begun.
     #[error("journal: {0}")]
     Journal(JournalFault),
+    /// A console can't be had, or doesn't answer.
+    #[error("console: {0}")]
+    Console(ConsoleFault),
 }
 
 impl From<RefFault> for RunError {

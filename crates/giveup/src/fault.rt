@@ -1,6 +1,6 @@
 //! Faults of a run: the error that is named, and what is at fault.
 
-use crate::error::{JournalFault, RunError};
+use crate::error::{ConsoleFault, JournalFault, RunError};
 use gu_ref::RefFault;
 use gu_script::ScriptError;
 use gu_streams::StreamError;
@@ -34,6 +34,17 @@ impl fmt::Display for Place<'_> {
 #[derive(Drop)]
 struct InWords(RunError);
 
+/// Returns what is said of a console that can't be had, or that doesn't answer.
+fn console_words(fault: ConsoleFault) -> &'static str {
+    match fault {
+        ConsoleFault::InUse => "a desk answers there",
+        ConsoleFault::NotASocket => "it isn't a socket, and is left as it is",
+        ConsoleFault::NotMade => "it can't be made",
+        ConsoleFault::NotReached => "no desk can be reached there",
+        ConsoleFault::Ended => "the desk ended the connection before its answer was whole",
+    }
+}
+
 impl fmt::Display for InWords {
     fn fmt<W: fmt::Write>(&self, f: &mut fmt::Formatter<W>) -> fmt::Result {
         match self.0 {
@@ -65,6 +76,7 @@ impl fmt::Display for InWords {
                 f.write_str("it isn't empty, and a day doesn't write over what it finds")
             }
             RunError::Journal(JournalFault::NotAFile) => f.write_str("it isn't a file"),
+            RunError::Console(fault) => f.write_str(console_words(fault)),
             RunError::Reference(_) | RunError::Script(_) | RunError::Stream(_) => {
                 f.write_str("it couldn't be read to its end")
             }
@@ -123,9 +135,10 @@ impl<'a> Fault<'a> {
         }
     }
 
-    /// Returns whether a second line says what is at fault: at a terminal, and for a journal, whose faults are new to who reads them.
+    /// Returns whether a second line says what is at fault: at a terminal, and for a journal or a console, whose faults are new to who
+    /// reads them.
     fn has_second_line(&self, is_at_terminal: bool) -> bool {
-        is_at_terminal || matches!(self.error, RunError::Journal(_))
+        is_at_terminal || matches!(self.error, RunError::Journal(_) | RunError::Console(_))
     }
 
     /// Says the error on standard error, and in a second line what is at fault and why. What can't be written there is lost.

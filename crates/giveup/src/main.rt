@@ -15,6 +15,8 @@ mod fault;
 mod files;
 mod fixing;
 mod heading;
+#[cfg(test)]
+mod help_tests;
 mod journal_file;
 #[cfg(test)]
 mod largest_tests;
@@ -36,6 +38,11 @@ mod seeding;
 mod serving;
 #[cfg(test)]
 mod stream_tests;
+mod telling;
+#[cfg(test)]
+mod telling_tests;
+#[cfg(test)]
+mod told_words;
 #[cfg(test)]
 mod word_tests;
 

@@ -2,7 +2,7 @@
 
 use crate::checking::check;
 use crate::day::run_serve;
-use crate::error::RunError;
+use crate::error::{ConsoleFault, RunError};
 use crate::fault::{Fault, Faults, Place};
 use crate::files::{reference_at, world_after};
 use crate::fixing::fix;
@@ -10,6 +10,7 @@ use crate::progress::Told;
 use crate::replaying::replay;
 use crate::sample::{sample_day, sample_reference};
 use crate::seeding::seed_from;
+use crate::telling::{Telling, are_lines};
 use clap::Error;
 use gu_capture::capture;
 use gu_engine::{Connection, SystemClock};
@@ -17,11 +18,12 @@ use gu_houses::OverBook;
 use gu_script::ScriptError;
 use gu_streams::{CountedReads, StreamError};
 use gu_terms::FirmId;
-use gu_words::{Status, Task, answer, firm_named, given, read};
+use gu_words::{Status, Task, answer, firm_named, given, line_refusal, read};
 use std::alloc::Global;
 use std::io;
 use std::io::Write;
 use std::net::{Net, TcpListener, TcpStream};
+use std::os::unix::net::UnixStream;
 use std::random::RandomSource;
 use std::rt::{Clock, Env, Files};
 use std::sync::Wait;
@@ -104,6 +106,55 @@ fn run_fix<'a, R: Input + Print + Files + Clock + RandomSource + Alloc<A = Globa
     Ok(Status::Done)
 }
 
+/// Lines for the desk whose socket is at a path: these, or those of standard input.
+fn run_tell<'a, R: Input + Print + Net + Alloc<A = Global>>(
+    rt: &R,
+    path: &'a str,
+    lines: &[&str],
+) -> Result<Status, Fault<'a>> {
+    let place = Place::File(path);
+    let stream = match UnixStream::connect(rt, path) {
+        Ok(stream) => stream,
+        Err(cause) => {
+            let error = RunError::Console(ConsoleFault::NotReached);
+            return Err(Fault::refused(place, cause, error));
+        }
+    };
+    let mut telling = Telling::new(stream, io::writer(rt));
+    let told = if lines.is_empty() {
+        telling.tell_input(rt.alloc(), &mut CountedReads::new(rt.reader()))
+    } else {
+        telling.tell_words(lines)
+    };
+    drop(telling);
+    told.map_err(|error| Fault::at(place_of(path, error), error))
+}
+
+/// Returns what is at fault where lines couldn't be sent to the desk at a path.
+fn place_of(path: &str, error: RunError) -> Place<'_> {
+    match error {
+        RunError::Console(_) => Place::File(path),
+        RunError::Stream(StreamError::Write) => Place::Output,
+        _ => Place::Input,
+    }
+}
+
+/// Lines for a desk, where each of them is one; else nothing is sent.
+fn run_tell_of<'a, R: Input + Print + Eprint + Net + Alloc<A = Global>>(
+    rt: &R,
+    path: &'a str,
+    lines: &[&str],
+) -> Result<Status, Faults<'a>> {
+    match are_lines(rt.alloc(), lines) {
+        Ok(true) => Ok(run_tell(rt, path, lines)?),
+        Ok(false) => match line_refusal(rt.alloc()) {
+            Ok(error) => answered(rt, &error),
+            Err(_) => Err(Faults::from(Fault::from(StreamError::Memory))),
+        },
+        Err(_) => Err(Faults::from(Fault::from(StreamError::Memory))),
+    }
+}
+
 /// Says what trade capture waits for.
 fn say_what_is_waited_for<R: Eprint>(rt: &R) {
     // Where this can't be written, it is lost.
@@ -154,6 +205,11 @@ fn perform<
             Ok(firm) => Ok(run_fix(rt, firm, reference, script)?),
             Err(error) => answered(rt, &error),
         },
+        Ok(Task::Tell { path, lines }) => {
+            let told = run_tell_of(rt, path, &lines);
+            drop(lines);
+            told
+        }
         Err(error) => answered(rt, &error),
     }
 }

@@ -1,67 +1,151 @@
-//! The server: a day at a desk on a port of this machine.
+//! The server: a day at a desk, on a port of this machine and at the sockets of operators.
 
-ghost use Rattle.std.specs.Prelude.{◌≡◌, IfOk};
+ghost use Rattle.std.specs.Prelude.{◌≡◌, ◌≤◌, IfOk};
 
-use crate::error::RunError;
+use crate::error::{ConsoleFault, RunError};
 use crate::fault::{Fault, Place};
 use gu_book::Book;
-use gu_server::{Closed, Opening, serve_day};
+use gu_office::{Addresses, ListenError};
+use gu_server::{Closed, Closers, Front, Opening, Service, serve_day};
+use gu_sockets::{Doorway, ListenFault};
 use gu_streams::StreamError;
 use gu_terms::Receipt;
-use gu_words::Serving;
+use gu_words::{Serving, Span, UntilClosed};
 use gu_world::World;
 use std::alloc::{AllocError, Global};
 use std::io::Write;
 use std::marker::Brand;
 use std::net::{Net, TcpListener, TcpStream};
-use std::rt::Clock;
+use std::rt::{Clock, Files};
 use std::sync::Wait;
+use std::thread;
 use std::thread::Threads;
+
+/// How many workers there are at most.
+const MOST_WORKERS: usize = 60;
+
+/// Returns where firms and operators come in.
+fn addresses_of<'a>(serving: &Serving<'a>) -> Addresses<'a> {
+    Addresses {
+        port: serving.port,
+        console: serving.console(),
+        watch: serving.watch,
+    }
+}
+
+/// Returns how many workers there are where no number is given: as many as processors, 60 at most.
+fn usual_workers<R: Threads>(rt: &R) -> usize
+    ensures least { 1 ≤ result }
+    ensures most { result ≤ 60 }
+{
+    let Ok(processors) = thread::available_parallelism(rt) else {
+        return 1;
+    };
+    let processors = processors.get();
+    if processors < 1 {
+        1
+    } else if processors > MOST_WORKERS {
+        MOST_WORKERS
+    } else {
+        processors
+    }
+}
+
+/// Returns how many workers a server has that goes on until it is closed.
+fn workers_of<R: Threads>(rt: &R, until_closed: &UntilClosed<'_>) -> usize
+    ensures least { 1 ≤ result }
+    ensures most { result ≤ 60 }
+{
+    match until_closed.workers {
+        Some(workers) => usize::from(workers),
+        None => usual_workers(rt),
+    }
+}
+
+/// Returns how firms are served, beside whatever operators there are.
+fn firms_service<R: Threads>(rt: &R, span: &Span<'_>) -> Service
+    ensures { result.workers ≤ 60 }
+{
+    match span {
+        Span::Counted(counted) => Service::of_connections(usize::from(counted.connections)),
+        Span::UntilClosed(until_closed) => {
+            let workers = workers_of(rt, until_closed);
+            Service::until_closed(usize::from(until_closed.places), workers)
+        }
+    }
+}
+
+/// Returns how firms and operators are served.
+fn service_of<R: Threads>(rt: &R, serving: &Serving<'_>) -> Service {
+    let service = firms_service(rt, &serving.span);
+    service.with_operators(serving.console().is_some(), serving.watch.is_some())
+}
+
+/// Returns what is wrong where something can't be listened at. A port that can't be had is a fault in reading.
+fn fault_of<'a>(serving: &Serving<'a>, error: ListenError<'a>) -> Fault<'a> {
+    let read = RunError::from(StreamError::Read);
+    match error {
+        ListenError::Port(cause) => Fault::refused(Place::Port(serving.port), cause, read),
+        ListenError::Socket(path, ListenFault::Io(cause)) => {
+            Fault::refused(
+                Place::File(path),
+                cause,
+                RunError::Console(ConsoleFault::NotMade),
+            )
+        }
+        ListenError::Socket(path, ListenFault::InUse) => {
+            Fault::at(Place::File(path), RunError::Console(ConsoleFault::InUse))
+        }
+        ListenError::Socket(path, ListenFault::NotASocket) => {
+            Fault::at(
+                Place::File(path),
+                RunError::Console(ConsoleFault::NotASocket),
+            )
+        }
+    }
+}
+
+/// Listens at the sockets of operators and at the port.
+pub fn listen<'a, R: Files + Net<Listener = TcpListener, Stream = TcpStream> + Alloc<A = Global>>(
+    rt: &R,
+    serving: &Serving<'a>,
+) -> Result<Front<Doorway>, Fault<'a>> {
+    match addresses_of(serving).listen(rt, rt.alloc()) {
+        Ok(front) => Ok(front),
+        Err(error) => Err(fault_of(serving, error)),
+    }
+}
 
 /// Returns what a server begins a day with: a book, the receipts of its entries, and what its words say.
 fn opening_of(
     alloc: Global,
     book: Book,
     receipts: Vec<Receipt>,
-    serving: &Serving<'_>,
+    service: Service,
+    every: u16,
 ) -> Result<Opening, AllocError>
     ensures book { IfOk result (λ opening. (opening.book ≡ book) × (opening.receipts ≡ receipts)) }
-    ensures served { IfOk result (λ opening. (opening.connections ≡ serving.now.connections) × (opening.every ≡ serving.now.every)) }
+    ensures served { IfOk result (λ opening. (opening.service ≡ service) × (opening.every ≡ every)) }
 {
-    let mut opening = Opening::new(alloc, book, receipts, usize::from(serving.connections))?;
-    opening.every = u64::from(serving.every);
+    let mut opening = Opening::new(alloc, book, receipts, service)?;
+    opening.every = u64::from(every);
     Ok(opening)
 }
 
-/// Listens on a port of this machine, and serves connections from the world that a script led to. The receipts of the script are audited
-/// too. A fault in listening is one of reading.
+/// Serves the connections that come in, from the world that a script led to. The receipts of the script are audited too.
 pub fn serve<
-    R: Net<Listener = TcpListener, Stream = TcpStream>
-        + Threads
-        + Wait
-        + Clock
-        + Eprint
-        + Sync
-        + Alloc<A = Global>,
+    R: Net + Threads + Wait + Clock + Eprint + Sync + Alloc<A = Global>,
     T: Write + Send + Drop,
 >(
     rt: &R,
     world: World,
     serving: &Serving<'_>,
+    front: Front<Doorway>,
     terminal: Option<T>,
-) -> Result<Closed, Fault<'static>> {
+) -> Result<(Closed, Closers), StreamError> {
     let alloc = rt.alloc();
-    let listener = match TcpListener::bind(rt, ("127.0.0.1", serving.port)) {
-        Ok(listener) => listener,
-        Err(cause) => {
-            drop(world);
-            let port = Place::Port(serving.port);
-            return Err(Fault::refused(port, cause, RunError::from(StreamError::Read)));
-        }
-    };
-    let receipts = world.outcomes().receipts(alloc).map_err(StreamError::from)?;
-    let opening = opening_of(alloc, world.into_book(), receipts, serving).map_err(
-        StreamError::from,
-    )?;
-    Ok(serve_day::<Brand, Brand, R, T>(rt, alloc, opening, listener, terminal)?)
+    let receipts = world.outcomes().receipts(alloc)?;
+    let service = service_of(rt, serving);
+    let opening = opening_of(alloc, world.into_book(), receipts, service, serving.every)?;
+    serve_day::<Brand, Brand, R, T, Doorway>(rt, alloc, opening, front, terminal)
 }

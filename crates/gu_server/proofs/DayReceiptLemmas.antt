@@ -1,5 +1,5 @@
 -- Receipts of a day: those of one seat more, and those of all seats.
-use Rattle.std.proofs.Common.{◌≡◌, ◌∙◌, ℕ, ◌+◌, ◌<◌, List, [], ◌∷◌, ◌++◌, length, sum_by, Some, ap, sym, subst, arith, append_assoc, append-nil, length-append, refl}
+use Rattle.std.proofs.Common.{◌≡◌, ◌∙◌, ℕ, ◌+◌, ◌<◌, List, [], ◌∷◌, ◌++◌, length, sum_by, Some, ap, sym, arith, append_assoc, append-nil, length-append, refl}
 use Rattle.std.proofs.lemmas.List.Elements.{All-append, All-nil, All-pop}
 use Rattle.std.proofs.lemmas.List.Sums.{sum_by_push}
 use mathlib.Core.List.{IsPrefix}

@@ -17,6 +17,18 @@ pub enum Cause {
     Accept(io::Error),
 }
 
+impl Cause {
+    /// Says on standard error why no connection is accepted until one has ended. If it can't be written, it is lost.
+    pub fn tell_pause<R: Eprint>(&self, rt: &R) {
+        let _ = eprintln!(rt; "giveup: no connection is accepted until one has ended: {self}");
+    }
+
+    /// Says on standard error why no connection is accepted for now. If it can't be written, it is lost.
+    pub fn tell_retry<R: Eprint>(&self, rt: &R) {
+        let _ = eprintln!(rt; "giveup: no connection is accepted for now: {self}");
+    }
+}
+
 impl fmt::Display for Cause {
     fn fmt<W: fmt::Write>(&self, f: &mut fmt::Formatter<W>) -> fmt::Result {
         match self {

@@ -5,23 +5,32 @@ ghost use Rattle.gu_terms.specs.Histories.{lots_swept};
 ghost use Rattle.gu_desk.specs.Seats.{IsNew};
 ghost use Rattle.gu_server.specs.Receipts.{AddsReceipts};
 
+use crate::closers::Closers;
 use crate::closing::{Closed, Ending, close};
+use crate::entrance::LetsIn;
+use crate::firm_places::FirmPlaces;
 use crate::floor::Floor;
-use crate::serving::shift_at;
-use crate::sweeping::SWEEPERS;
-use crate::talking::WRITE_WAIT_MS;
+use crate::informer::Informer;
+use crate::service::Service;
+use crate::serving::{Posting, shift_at};
 use gu_book::Book;
 use gu_desk::{BlankAnnals, Desk, EntryLedger, LotLedger, Seat};
 use gu_houses::{OpenOrders, SeatReceipts, Tally};
+use gu_posts::Posts;
+use gu_sockets::{PollBell, SocketPoller};
 use gu_streams::StreamError;
 use gu_terms::{FirmId, Receipt};
 use std::alloc::{AllocError, Global};
 use std::io::Write;
-use std::net::TcpListener;
+use std::net::Net;
 use std::rt::Clock;
-use std::sync::Wait;
+use std::sync::atomic::AtomicBool;
 use std::sync::ledger::Blank;
+use std::sync::{Mutex, Wait};
 use std::thread::Threads;
+
+/// How many milliseconds answers to a connection are held of which none goes out.
+pub const WRITE_WAIT_MS: u64 = 10_000;
 
 /// What a server begins a day with.
 #[derive(Drop)]
@@ -31,19 +40,18 @@ pub struct Opening {
     pub annals: BlankAnnals,
     /// The receipts of the entries that the book has.
     pub receipts: Vec<Receipt>,
-    /// How many connections are accepted.
-    pub connections: usize,
+    /// How firms are served.
+    pub service: Service,
     /// The order of every K-th accepted give-up of a connection, K being this, is sent to the sweepers; with 0, none is.
     pub every: u64,
-    /// How many milliseconds a write to a connection waits for room, after which the connection ends. `WRITE_WAIT_MS` is the desk's.
+    /// How many milliseconds answers to a connection are held of which none goes out, after which it ends. `WRITE_WAIT_MS` is the desk's.
     pub write_wait_ms: u64,
     /// The blanks of the ledgers of entries and of swept lots.
     pub entries: Blank,
     pub swept: Blank,
     ghost told: { annals.entries ≡ book.history },
-    ghost some: { 1 ≤ connections },
-    ghost few: { connections ≤ 32 },
-    ghost parts: { (entries.parts ≡ connections + 3) × (swept.parts ≡ connections + 3) },
+    ghost parts: { entries.parts ≡ service.workers + service.operators + service.watchers + 3 },
+    ghost swept_parts: { swept.parts ≡ service.workers + service.operators + service.watchers + 3 },
 }
 
 impl Opening {
@@ -52,19 +60,18 @@ impl Opening {
         alloc: Global,
         book: Book,
         receipts: Vec<Receipt>,
-        connections: usize,
+        service: Service,
     ) -> Result<Self, AllocError>
-        requires { (1 ≤ connections) × (connections ≤ 32) }
         ensures book { IfOk result (λ opening. (opening.book ≡ book) × (opening.receipts ≡ receipts)) }
-        ensures served { IfOk result (λ opening. (opening.connections ≡ connections) × (opening.every ≡ 0) × (opening.write_wait_ms ≡ 10000)) }
+        ensures served { IfOk result (λ opening. (opening.service ≡ service) × (opening.every ≡ 0) × (opening.write_wait_ms ≡ 10000)) }
     {
         let annals = BlankAnnals::of(alloc, &book)?;
-        let parts = connections as u64 + 3;
+        let parts = service.seats() as u64 + 1;
         Ok(Opening {
             book,
             annals,
             receipts,
-            connections,
+            service,
             every: 0,
             write_wait_ms: WRITE_WAIT_MS,
             entries: Blank::new(parts),
@@ -113,37 +120,82 @@ fn with_receipts<E: EntryLedger, S: LotLedger>(
     Ok(keeping)
 }
 
-/// Opens a desk over a book, serves the connections that come to a listener, and closes the desk after the last one. The listener is
-/// closed once the last connection was accepted. Where none can be accepted, standard error says so at once, and it is tried again each time that one
-/// has ended. What is done is printed at a terminal, where there is one.
+/// What watches the connections of each worker, and the bells that wake them.
+#[derive(Drop)]
+struct Watches {
+    pollers: Vec<SocketPoller>,
+    bells: Vec<PollBell>,
+}
+
+impl Watches {
+    /// Creates those of workers that aren't there yet, with room for this many.
+    fn new(alloc: Global, workers: usize) -> Result<Self, AllocError> {
+        Ok(Watches {
+            pollers: Vec::with_capacity(alloc, workers)?,
+            bells: Vec::with_capacity(alloc, workers)?,
+        })
+    }
+
+    /// Adds what watches the connections of one more worker.
+    fn add(&mut self, poller: SocketPoller, bell: PollBell) -> Result<(), AllocError> {
+        self.pollers.push(poller)?;
+        self.bells.push(bell)?;
+        Ok(())
+    }
+}
+
+/// Creates what watches the connections of this many workers.
+fn watches_of<R: Net>(rt: &R, alloc: Global, workers: usize) -> Result<Watches, StreamError> {
+    let mut watches = Watches::new(alloc, workers)?;
+    for _worker in 0..workers {
+        match SocketPoller::new(rt, alloc) {
+            Ok((poller, bell)) => watches.add(poller, bell)?,
+            Err(_) => return Err(StreamError::Read),
+        }
+    }
+    Ok(watches)
+}
+
+/// By what connections come in on a day, and what wakes who waits there.
+#[derive(Drop)]
+pub struct Front<D> {
+    pub door: D,
+    pub bell: PollBell,
+}
+
+/// Opens a desk over a book, serves the connections that come in, and closes the desk after the last one. The port is closed once the last
+/// connection was accepted, or an operator closes the day. Where none can be accepted, standard error says so at once: it is tried again each time that one
+/// has ended, or, where the day goes on until it is closed, soon after. What is done is printed at a terminal, where there is one. Returns
+/// the operators too that closed the day and wait for its last lines.
 pub fn serve_day<
     E: EntryLedger + Send + Sync,
     S: LotLedger + Send + Sync,
-    R: Threads + Wait + Clock + Eprint + Sync,
+    R: Net + Threads + Wait + Clock + Eprint + Sync,
     T: Write + Send + Drop,
+    D: LetsIn + Drop,
 >(
     rt: &R,
     alloc: Global,
     opening: Opening,
-    listener: TcpListener,
+    front: Front<D>,
     terminal: Option<T>,
-) -> Result<Closed, StreamError>
+) -> Result<(Closed, Closers), StreamError>
     requires reference { opening.book.reference ≡ E.reference }
     requires history { (opening.annals.name ≡ E.history) × (opening.book.history ≡ E.opening) × (lots_swept opening.book.history ≡ S.opening) }
     requires blanks { (opening.entries.name ≡ E.name) × (opening.swept.name ≡ S.name) × (opening.entries.parts ≡ E.parts) × (opening.swept.parts ≡ S.parts) }
-    ensures reference { IfOk result (λ closed. closed.book.reference ≡ E.reference) }
+    ensures reference { IfOk result (λ r. r.0.book.reference ≡ E.reference) }
 
-    ensures lots { IfOk result (λ closed. S.opening ≤ lots_swept closed.book.history) }
+    ensures lots { IfOk result (λ r. S.opening ≤ lots_swept r.0.book.history) }
 
     // The opening's history goes on. There are as many receipts as entries since, each of one of these; in all as many as entries, if so then.
-    ensures receipts { IfOk result (λ closed. AddsReceipts E.opening opening.receipts.items closed.book.history closed.receipts) }
-    ensures count { length opening.receipts.items ≡ length E.opening → IfOk result (λ closed. length closed.receipts ≡ length closed.book.history) }
+    ensures receipts { IfOk result (λ r. AddsReceipts E.opening opening.receipts.items r.0.book.history r.0.receipts) }
+    ensures count { length opening.receipts.items ≡ length E.opening → IfOk result (λ r. length r.0.receipts ≡ length r.0.book.history) }
 {
     let Opening {
         book,
         annals,
         receipts,
-        connections,
+        service,
         every,
         write_wait_ms,
         entries,
@@ -152,14 +204,14 @@ pub fn serve_day<
     let open_orders = OpenOrders::new(alloc, book.reference().groups())?;
     let firms = Vec::from_slice(alloc, book.reference().firms())?;
     let tally = Tally::new();
-    let (desk, seats) = opened::<E, S>(
-        alloc,
-        book,
-        annals,
-        connections + SWEEPERS,
-        entries,
-        swept,
-    )?;
+    let firm_places = FirmPlaces::new(alloc, firms.as_slice(), &tally, service)?;
+    let Watches { pollers, bells } = watches_of(rt, alloc, service.workers)?;
+    let Front { door, bell } = front;
+    let posts = Posts::new(alloc, bells, service.places(), bell)?;
+    let informer = Informer::new(&posts);
+    let is_over = AtomicBool::new(false);
+    let closers = Mutex::new(Vec::new(alloc));
+    let (desk, seats) = opened::<E, S>(alloc, book, annals, service.seats(), entries, swept)?;
     let seats = with_receipts(alloc, seats)?;
     let ending = Ending::new(alloc, seats.len(), receipts)?;
     let floor = Floor {
@@ -167,12 +219,20 @@ pub fn serve_day<
         alloc,
         desk: &desk,
         firms: firms.as_slice(),
+        firm_places: &firm_places,
+        posts: &posts,
+        informer: &informer,
         open_orders: &open_orders,
         tally: &tally,
+        service,
         every,
         write_wait_ms,
+        is_over: &is_over,
+        closers: &closers,
     };
-    let shift = shift_at(&floor, listener, seats, terminal);
+    let posting = Posting { door, pollers };
+    let shift = shift_at(&floor, posting, seats, terminal);
     drop(floor);
-    close(desk, shift, ending)
+    let closed = close(desk, shift, ending)?;
+    Ok((closed, Closers::new(closers.into_inner())))
 }

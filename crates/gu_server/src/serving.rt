@@ -1,23 +1,33 @@
-//! The threads of a day: one for each connection, and sweepers beside them.
+//! The threads of a day: workers, sweepers, and those that answer operators.
 
 ghost use Rattle.std.specs.Prelude.{◌≡◌};
 ghost use denote.Param.Send.{IsSend, IsSync};
 
-use crate::accepting::{Ends, Entrance, accept_all};
+use crate::attending::{OperatorEnds, start_attendants};
 use crate::crew::Crew;
+use crate::entrance::{Entrance, LetsIn, OperatorWays};
 use crate::floor::Floor;
 use crate::sweeping::start_sweepers;
 use crate::telling::tell_all;
+use crate::working::start_workers;
 use crossbeam_channel::Sender;
 use gu_desk::{EntryLedger, LotLedger};
 use gu_houses::SeatReceipts;
+use gu_sockets::SocketPoller;
 use gu_streams::StreamError;
 use std::io::Write;
-use std::net::TcpListener;
 use std::rt::Clock;
 use std::sync::Wait;
+use std::sync::atomic::Ordering;
 use std::thread;
 use std::thread::{JoinHandle, Scope, Threads};
+
+/// What a shift begins with: by what connections come in, and what watches those of each worker.
+#[derive(Drop)]
+pub struct Posting<D> {
+    pub door: D,
+    pub pollers: Vec<SocketPoller>,
+}
 
 /// The seats after a shift, and why not every connection was accepted, where that is so.
 #[derive(Drop)]
@@ -27,7 +37,7 @@ pub struct Shift<E: EntryLedger, S: LotLedger> {
 }
 
 impl<E: EntryLedger, S: LotLedger> Shift<E, S> {
-    /// The seats, and the fault.
+    /// Returns the seats, and the fault.
     pub fn into_parts(self) -> (Vec<SeatReceipts<E, S>>, Option<StreamError>)
         ensures seats { result.0 ≡ self.seats }
         ensures fault { result.1 ≡ self.fault }
@@ -72,28 +82,53 @@ fn start_teller<
     Some(Teller { until, thread })
 }
 
-/// Starts the sweepers, and accepts the connections. When it returns, the port is closed, and its ends of the channels are gone: so each
-/// thread ends with the connection that it serves, and the sweepers end with the last one.
+/// Starts the threads that answer operators. Returns where operators go.
+fn start_answering<
+    's,
+    X,
+    E: EntryLedger + Send + Sync + 's,
+    S: LotLedger + Send + Sync + 's,
+    R: Threads + Wait + Clock + Sync,
+>(
+    scope: &Scope<'s, X>,
+    floor: &'s Floor<'s, E, S, R>,
+    crew: &mut Crew<E, S>,
+) -> Result<OperatorWays, StreamError> {
+    let console = OperatorEnds::new(floor.alloc)?;
+    let watch = OperatorEnds::new(floor.alloc)?;
+    start_attendants(scope, floor, crew, &console, floor.service.operators)?;
+    start_attendants(scope, floor, crew, &watch, floor.service.watchers)?;
+    Ok(OperatorWays {
+        console: console.into_sender(),
+        watch: watch.into_sender(),
+    })
+}
+
+/// Starts the threads, and lets connections in until the last has ended. When it returns, the port is closed, and its ends of the channels are
+/// gone: so each worker ends with its last connection, the sweepers with the last worker, and who answers operators at once.
 fn serve_calls<
     's,
     X,
     E: EntryLedger + Send + Sync + 's,
     S: LotLedger + Send + Sync + 's,
     R: Threads + Wait + Clock + Eprint + Sync,
+    D: LetsIn + Drop,
 >(
     scope: &Scope<'s, X>,
     floor: &'s Floor<'s, E, S, R>,
-    listener: TcpListener,
+    posting: Posting<D>,
     crew: &mut Crew<E, S>,
 ) -> Result<(), StreamError> {
+    let Posting { door, pollers } = posting;
     let (orders, ordered) = crossbeam_channel::unbounded(floor.alloc)?;
     start_sweepers(scope, floor, ordered, crew)?;
-    let ends = Ends::new(floor.alloc, crew.idle(), orders)?;
-    let mut entrance = Entrance::new(listener, ends);
-    accept_all(scope, floor, &mut entrance, crew)
+    let operators = start_answering(scope, floor, crew)?;
+    let calls = start_workers(scope, floor, crew, pollers, &orders)?;
+    drop(orders);
+    Entrance::new(door, calls, operators).run(floor)
 }
 
-/// Serves from these seats, one for each connection and each sweeper. Each seat comes back.
+/// Serves from these seats, one for each thread. Each seat comes back.
 fn run_all<
     's,
     X,
@@ -101,16 +136,18 @@ fn run_all<
     S: LotLedger + Send + Sync + 's,
     R: Threads + Wait + Clock + Eprint + Sync,
     T: Write + Send + Drop + 's,
+    D: LetsIn + Drop,
 >(
     scope: &Scope<'s, X>,
     floor: &'s Floor<'s, E, S, R>,
-    listener: TcpListener,
+    posting: Posting<D>,
     seats: Vec<SeatReceipts<E, S>>,
     terminal: Option<T>,
 ) -> Shift<E, S> {
     let teller = start_teller(scope, floor, terminal);
     let mut crew = Crew::new(floor.alloc, seats);
-    let fault = serve_calls(scope, floor, listener, &mut crew).err();
+    let fault = serve_calls(scope, floor, posting, &mut crew).err();
+    floor.is_over.store(true, Ordering::SeqCst);
     let seats = crew.join(floor.rt);
     if let Some(teller) = teller {
         teller.end(floor.rt);
@@ -118,15 +155,16 @@ fn run_all<
     Shift { seats, fault }
 }
 
-/// Serves connections that come to a listener, one from each seat but the sweepers', until the last has ended.
+/// Serves connections that come in by a door, until the last has ended.
 pub fn shift_at<
     E: EntryLedger + Send + Sync,
     S: LotLedger + Send + Sync,
     R: Threads + Wait + Clock + Eprint + Sync,
     T: Write + Send + Drop,
+    D: LetsIn + Drop,
 >(
     floor: &Floor<'_, E, S, R>,
-    listener: TcpListener,
+    posting: Posting<D>,
     seats: Vec<SeatReceipts<E, S>>,
     terminal: Option<T>,
 ) -> Shift<E, S> {
@@ -135,6 +173,6 @@ pub fn shift_at<
         floor.rt,
         |scope| -> Shift<E, S>
             requires { IsSync R.row × IsSend E.row × IsSync E.row × IsSend S.row × IsSync S.row × IsSend T.row }
-        { run_all(scope, floor, listener, seats, terminal) },
+        { run_all(scope, floor, posting, seats, terminal) },
     )
 }

@@ -2,15 +2,13 @@
 
 use crate::crew::Crew;
 use crate::floor::Floor;
+use crate::service::SWEEPERS;
 use crossbeam_channel::{Receiver, Sender};
 use gu_desk::{Direct, EntryLedger, LotLedger, SweepOrder};
 use gu_houses::SeatReceipts;
 use gu_streams::StreamError;
 use std::sync::Wait;
 use std::thread::{Scope, Threads};
-
-/// How many sweepers there are.
-pub const SWEEPERS: usize = 2;
 
 /// The ends of the channels by which sweepers are reached: where their seats go, where these come from, and where orders come from.
 #[derive(Drop)]
@@ -20,20 +18,25 @@ pub struct SweeperEnds<E: EntryLedger, S: LotLedger> {
     pub orders: Receiver<SweepOrder>,
 }
 
-/// Sweeps the group of an order. It doesn't wait from now on, so a give-up that is entered after the look has an order of its own. A sweep
-/// that is refused is not made up for: an order that comes later may sweep what was left.
+/// Sweeps the group of an order, and tells the firms that it informs. The order doesn't wait from now on, so a give-up that is entered after
+/// the look has an order of its own. A sweep that is refused is not made up for: an order that comes later may sweep what was left. Once
+/// the day is being closed, no order is followed.
 fn sweep<E: EntryLedger, S: LotLedger, R: Wait>(
     floor: &Floor<'_, E, S, R>,
     seat: &mut SeatReceipts<E, S>,
     order: &SweepOrder,
 ) {
     floor.open_orders.close(&order.group());
+    if floor.posts.is_closing() {
+        return;
+    }
     if let Ok(swept) = seat.sweep(floor.rt, floor.desk, order.group(), &Direct) {
         floor.tally.add_sweep(swept.lots);
+        floor.posts.inform(swept.number, swept.informs);
     }
 }
 
-/// Sweeps the group of each order, until no connection is left that could send one.
+/// Sweeps the group of each order, until no worker is left that could send one.
 fn sweep_all<E: EntryLedger, S: LotLedger, R: Wait>(
     floor: &Floor<'_, E, S, R>,
     mut seat: SeatReceipts<E, S>,

@@ -1,130 +1,173 @@
-//! The thread of a connection.
-
-ghost use Rattle.std.specs.Prelude.{◌≡◌};
-ghost use Rattle.gu_engine.specs.Exchange.{IsNew};
+//! The exchange of an operator over a socket.
 
 use crate::floor::Floor;
-use crate::quiet::{QuietTurn, TurnClock, Watched};
-use crate::timed::{LogonTimer, Timed};
-use crossbeam_channel::Sender;
-use gu_desk::{EntryLedger, LotLedger, SweepOrder};
-use gu_engine::{Connection, SystemClock, converse};
-use gu_houses::{AtDesk, Nobody, Orders, SeatReceipts};
-use gu_streams::{CountedReads, StreamError};
-use gu_terms::FirmId;
+use gu_console::{LineBuffer, Office, Operator, Said, serve_lines};
+use gu_desk::{EntryLedger, LotLedger};
+use gu_houses::Informs;
+use gu_text::split_at_line_feed;
 use std::io;
-use std::io::{ErrorKind, Read};
-use std::net::{Shutdown, TcpStream};
+use std::io::{ErrorKind, Read, Write};
+use std::os::unix::net::UnixStream;
 use std::rt::Clock;
 use std::sync::Wait;
 use std::time::{Duration, Instant};
 
-/// How many milliseconds a read waits for bytes. So a firm that sends nothing is sent its notices within this time.
-const READ_WAIT_MS: u64 = 100;
+/// How many milliseconds a read or a write waits at most.
+const WAIT_MS: u64 = 200;
 
-/// How many milliseconds a write of the desk waits for room.
-pub const WRITE_WAIT_MS: u64 = 10_000;
+/// How many seconds an operator may be silent.
+const MOST_SILENT_S: u64 = 60;
 
-/// How many seconds a connection is read on at most after its end, until the firm closes it too.
-const LAST_WAIT_S: u64 = 1;
+/// How many seconds an answer may take to go out.
+const MOST_SENDING_S: u64 = 10;
 
-/// How many reads there are at most then.
-const LAST_READS: u32 = 1_000_000;
+/// How many bytes of answers are held before they go out.
+const MOST_HELD: usize = 65_536;
 
-/// Sets how a stream waits, and starts the timer of its Logon.
-fn start<'a, E: EntryLedger, S: LotLedger, R: Clock>(
-    floor: &Floor<'a, E, S, R>,
-    stream: &TcpStream,
-) -> io::Result<LogonTimer<'a, R>> {
-    stream.set_read_timeout(Some(Duration::from_millis(READ_WAIT_MS)))?;
-    stream.set_write_timeout(Some(Duration::from_millis(floor.write_wait_ms)))?;
-    stream.set_nodelay(true)?;
-    LogonTimer::new(floor.rt)
+/// How many bytes are read at once at most.
+const LONGEST_READ: usize = 4_096;
+
+/// Returns whether an error of a stream means that it has nothing for now, or takes nothing for now.
+fn is_pause(error: &io::Error) -> bool {
+    matches!(
+        error.kind(),
+        ErrorKind::WouldBlock | ErrorKind::TimedOut | ErrorKind::Interrupted
+    )
 }
 
-/// Whether a second has passed since then. A clock that fails gives no more time.
-fn is_over<R: Clock>(rt: &R, since: Instant) -> bool {
+/// Returns whether so many seconds have passed since then. A clock that fails gives no more time.
+fn have_passed<R: Clock>(rt: &R, since: Instant, seconds: u64) -> bool {
     match since.elapsed(rt) {
-        Ok(elapsed) => elapsed >= Duration::from_secs(LAST_WAIT_S),
+        Ok(elapsed) => elapsed >= Duration::from_secs(seconds),
         Err(_) => true,
     }
 }
 
-/// Whether an error of a read means that bytes may still come.
-fn is_pause(error: &io::Error) -> bool {
-    matches!(error.kind(), ErrorKind::WouldBlock | ErrorKind::Interrupted)
-}
-
-/// Closes the writing side, and reads on for a second at most until the firm closes its own. Bytes that were never read would take
-/// what was sent last with them.
-fn hang_up<R: Clock>(rt: &R, mut stream: &TcpStream) {
-    let Ok(since) = Instant::now(rt) else {
-        return;
+/// Writes a text, in ten seconds at most and only until the day is over. Returns whether all of it went out.
+fn send<E: EntryLedger, S: LotLedger, R: Wait + Clock>(
+    floor: &Floor<'_, E, S, R>,
+    mut stream: &UnixStream,
+    text: &[u8],
+) -> bool {
+    let Ok(since) = Instant::now(floor.rt) else {
+        return false;
     };
-    if stream.shutdown(Shutdown::Write).is_err() {
-        return;
-    }
-    let mut buffer = [0; 4_096];
-    for _read in 0..LAST_READS {
-        match stream.read(&mut buffer) {
-            Ok(0) => return,
-            Err(error) if !is_pause(&error) => return,
-            _ if is_over(rt, since) => return,
-            _ => {}
+    let mut rest = text;
+    for _write in floor.rt.forever() {
+        if rest.is_empty() {
+            return true;
+        }
+        match stream.write(rest) {
+            Ok(0) => return false,
+            Ok(count) => rest = rest.get(count..).unwrap_or(&[]),
+            Err(error) if !is_pause(&error) => return false,
+            Err(_) => {}
+        }
+        if floor.is_over() || have_passed(floor.rt, since, MOST_SENDING_S) {
+            return rest.is_empty();
         }
     }
+    false
 }
 
-/// Creates the connection of a stream, in which each firm of the desk's reference may log on, and no other.
-fn connect<H, C, E: EntryLedger, S: LotLedger, R>(
-    floor: &Floor<'_, E, S, R>,
-    firms: Vec<FirmId>,
-    house: H,
-    clock: C,
-) -> Connection<H, C>
-    requires { firms.items ≡ E.reference.firms }
-    ensures { IsNew result E.reference.firms house clock }
-{
-    Connection::new(floor.alloc, firms, house, clock)
+/// Returns the first line of some bytes, with its LF, and what comes after it; all of them where none ends.
+fn first_line(bytes: &[u8]) -> (&[u8], &[u8]) {
+    match split_at_line_feed(bytes) {
+        Some((_, after)) => bytes.split_at(bytes.len().saturating_sub(after.len())),
+        None => (bytes, &[]),
+    }
 }
 
-/// The exchange of a connection's session with its seat, over the stream. The seat comes back.
-fn exchange<'a, 'o, E: EntryLedger, S: LotLedger, R: Wait + Clock>(
-    floor: &Floor<'a, E, S, R>,
-    house: AtDesk<'a, 'o, E, S, R, Nobody>,
-    stream: &TcpStream,
-) -> (AtDesk<'a, 'o, E, S, R, Nobody>, Result<(), StreamError>) {
-    let Ok(timer) = start(floor, stream) else {
-        return (house, Err(StreamError::Read));
-    };
-    let Ok(firms) = Vec::from_slice(floor.alloc, floor.firms) else {
-        return (house, Err(StreamError::Memory));
-    };
-    let quiet = QuietTurn::new();
-    let reader = Watched::new(stream, SystemClock::new(floor.rt), &quiet);
-    let Ok(mut reads) = CountedReads::reading_ahead(floor.alloc, Timed::new(reader, &timer)) else {
-        return (house, Err(StreamError::Memory));
-    };
-    let clock = TurnClock::new(SystemClock::new(floor.rt), &quiet);
-    let mut connection = connect(floor, firms, house, clock);
-    let mut writer = Timed::new(stream, &timer);
-    let talked = converse(floor.alloc, &mut connection, &mut reads, &mut writer);
-    hang_up(floor.rt, stream);
-    (connection.into_house(), talked)
+/// What an operator has sent of its next line, and the answers that didn't go out yet.
+#[derive(Drop)]
+struct Exchange<'s> {
+    stream: &'s UnixStream,
+    lines: LineBuffer,
+    output: Vec<u8>,
 }
 
-/// Serves a connection until it ends, from a seat, which comes back. A fault ends this connection alone.
-pub fn talk<E: EntryLedger, S: LotLedger, R: Wait + Clock>(
-    floor: &Floor<'_, E, S, R>,
-    stream: TcpStream,
-    seat: SeatReceipts<E, S>,
-    orders: &Sender<SweepOrder>,
-) -> SeatReceipts<E, S> {
-    floor.tally.begin();
-    let orders = Orders::new(orders, floor.open_orders, floor.every);
-    let house = AtDesk::new(floor.rt, floor.desk, floor.tally, &Nobody, seat, orders);
-    let (house, result) = exchange(floor, house, &stream);
-    drop(stream);
-    floor.tally.end(result.is_err());
-    house.into_seat()
+impl Exchange<'_> {
+    /// Sends the answers. Returns whether all went out.
+    fn send<E: EntryLedger, S: LotLedger, R: Wait + Clock>(
+        &mut self,
+        floor: &Floor<'_, E, S, R>,
+    ) -> bool {
+        let is_sent = send(floor, self.stream, &self.output);
+        self.output.clear();
+        is_sent
+    }
+
+    /// Answers what came, line by line, and sends the answers: so little is held, however much is asked. Returns nothing where the
+    /// connection is to be closed.
+    fn answer<'a, 'f, E: EntryLedger, S: LotLedger, R: Wait + Clock, O: Office, I: Informs>(
+        &mut self,
+        floor: &Floor<'f, E, S, R>,
+        operator: &mut Operator<'a, E, S, R, O, I>,
+        came: &[u8],
+    ) -> Option<Said> {
+        let mut left = came;
+        for _line in 0..came.len() {
+            let (line, rest) = first_line(left);
+            left = rest;
+            let said = serve_lines(operator, &mut self.lines, line, &mut self.output).ok()?;
+            let is_last = left.is_empty() || said == Said::Closes;
+            if (is_last || self.output.len() > MOST_HELD) && !self.send(floor) {
+                return None;
+            }
+            if is_last {
+                return Some(said);
+            }
+        }
+        Some(Said::GoesOn)
+    }
+}
+
+/// Sets how long the reads and the writes of a stream wait.
+fn set_waits(stream: &UnixStream) -> io::Result<()> {
+    stream.set_read_timeout(Some(Duration::from_millis(WAIT_MS)))?;
+    stream.set_write_timeout(Some(Duration::from_millis(WAIT_MS)))
+}
+
+/// Answers an operator until it has closed the day, its connection ends, it was silent for a minute, or the day is over. Returns whether it has
+/// closed the day and waits for its last lines.
+pub fn talk<'a, 'f, E: EntryLedger, S: LotLedger, R: Wait + Clock, O: Office, I: Informs>(
+    floor: &Floor<'f, E, S, R>,
+    operator: &mut Operator<'a, E, S, R, O, I>,
+    mut stream: &UnixStream,
+) -> Said {
+    let mut exchange = Exchange {
+        stream,
+        lines: LineBuffer::new(),
+        output: Vec::new(floor.alloc),
+    };
+    let mut buffer = [0; LONGEST_READ];
+    let Ok(mut heard) = Instant::now(floor.rt) else {
+        return Said::GoesOn;
+    };
+    if set_waits(stream).is_err() {
+        return Said::GoesOn;
+    }
+    for _read in floor.rt.forever() {
+        if floor.is_over() || have_passed(floor.rt, heard, MOST_SILENT_S) {
+            break;
+        }
+        match stream.read(&mut buffer) {
+            Ok(0) => break,
+            Ok(count) => {
+                let came = buffer.get(..count).unwrap_or(&[]);
+                match exchange.answer(floor, operator, came) {
+                    Some(Said::GoesOn) => {}
+                    Some(Said::Closes) => return Said::Closes,
+                    None => break,
+                }
+                match Instant::now(floor.rt) {
+                    Ok(now) => heard = now,
+                    Err(_) => break,
+                }
+            }
+            Err(error) if !is_pause(&error) => break,
+            Err(_) => {}
+        }
+    }
+    Said::GoesOn
 }

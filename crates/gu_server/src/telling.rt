@@ -1,6 +1,5 @@
-//! What a server says while it runs: its progress, at a terminal, and why it accepts no connection for now.
+//! What a server says while it runs: its progress, at a terminal.
 
-use crate::cause::Cause;
 use crossbeam_channel::{Receiver, RecvTimeoutError};
 use gu_houses::{Counts, Tally};
 use std::io;
@@ -50,9 +49,4 @@ pub fn tell_all<R: Wait + Clock, T: Write>(
         }
     }
     let _ = writeln!(terminal);
-}
-
-/// Says on standard error why no connection is accepted for now. If it can't be written, it is lost.
-pub fn tell_pause<R: Eprint>(rt: &R, cause: &Cause) {
-    let _ = eprintln!(rt; "giveup: no connection is accepted until one has ended: {cause}");
 }

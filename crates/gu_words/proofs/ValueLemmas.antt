@@ -1,6 +1,6 @@
 -- What a command's words pass: where a parse finds no fault, each value of a name passed that name's test.
 use Rattle.std.proofs.Common.{◌≡◌, ◌+◌, ◌&&◌, ◌||◌, ◌++◌, ℕ, Bool, cond, true, false, not, zero, suc, refl, sym, ◌∙◌, subst, List, [], ◌∷◌, Option, Some, None, fold, is_some, unwrap_or, true≢false}
-use Rattle.std.specs.Prelude.{⊤, drop, min, encode_utf8, find, length, slice_get}
+use Rattle.std.specs.Prelude.{⊤, IfSome, drop, min, encode_utf8, find, length, slice_get}
 use Rattle.std.specs.List.{list_all}
 use Rattle.std.specs.Option.{option_and_then, option_map_or}
 use Rattle.std.specs.Str.{bytes_eq, chars}
@@ -146,6 +146,19 @@ module _ (p : Text → Bool) (id : Text) where
       first_good : (values : List Text) → IsGood values → p (unwrap_or (slice_get values 0) []) ≡ true
       first_good [] good = absurd good
       first_good (v ∷ vs) good = good
+
+  -- the value of the name passes, where it is given
+  pub given_passes : (rows : List Row) → Sound rows → IfSome (first_of id rows) (λ v. p v ≡ true)
+  given_passes [] sound = tt
+  given_passes (r ∷ rs) sound =
+      elim (bytes_eq r.id id) as (λ (b : Bool). bytes_eq r.id id ≡ b → IfSome (option_and_then (λ (x : Row). slice_get x.values 0) (cond b (Some r) (find (λ (x : Row). bytes_eq x.id id) rs))) (λ v. p v ≡ true)) [
+        | true ↦ λ is. first_given r.values (sound.0 is)
+        | false ↦ λ is. given_passes rs sound.1
+      ] refl
+    where
+      first_given : (values : List Text) → IsGood values → IfSome (slice_get values 0) (λ v. p v ≡ true)
+      first_given [] good = tt
+      first_given (v ∷ vs) good = good
 
   -- what is given has a row
   pub given_row : (rows : List Row) → is_given id rows ≡ true → has_row id rows ≡ true

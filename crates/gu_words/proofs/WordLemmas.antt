@@ -1,30 +1,37 @@
 -- The words that ask for a task.
-use Rattle.std.proofs.Common.{◌≡◌, ◌<◌, ◌^◌, ◌&&◌, not, unwrap_or, subst, ℕ, Bool, List, [], ◌∷◌, codes, true, false, Option, Some, None, Result, Ok, Err, refl, sym, ap, ◌∙◌}
+use Rattle.std.proofs.Common.{◌≡◌, ◌<◌, ◌^◌, ◌&&◌, not, cond, is_some, nat_lt, unwrap_or, subst, ℕ, Bool, List, [], ◌∷◌, codes, true, false, Option, Some, None, Result, Ok, Err, inl, inr, refl, sym, ap, ◌∙◌}
 use Rattle.std.specs.Option.{option_map}
 use Rattle.std.specs.Prelude.{IfOk}
-use Rattle.clap.specs.Words.{AddsArg, AddsSubcommand, App, IsUnsignedIn, Row, Rule, Shape, Text, app_of, first_of, is_simple_and_free, rule_of, shape_of, takes, with_rule, with_subcommand}
+use Rattle.clap.specs.Words.{AddsArg, AddsSubcommand, App, IsUnsignedIn, Row, Rule, Shape, Text, app_of, all_of, first_of, is_simple_and_free, rule_of, shape_of, takes, with_rule, with_subcommand}
 use Rattle.clap.specs.declared.builder.arg.Arg.{Arg}
 use Rattle.clap.specs.declared.builder.command.Command.{Command}
-use Rattle.clap.specs.Words.{first_value, rows_of}
-use Rattle.clap.specs.declared.parser.matches.Found.{Found}
+use Rattle.std.specs.Borrow.{Bor}
+use Rattle.clap.specs.Kinds.{FailsBy, HasKind, Kinds, or_else}
+use Rattle.clap.specs.declared.error.Error.{Error}
 use Rattle.clap.proofs.OnLiterals.{clap_on_literals}
-use Rattle.clap.proofs.WalkLemmas.{first_value-rows}
 use Rattle.std.proofs.Math.Nat.{lt_of_le_of_lt}
+use Rattle.std.proofs.lemmas.Bool.{ltb-false}
 use Rattle.std.specs.Str.Parse.{IsNumeral, digits_value, without_leading_plus}
-use Rattle.gu_words.specs.ProgramWords.{Captures, Checks, Fixes, HasNumbers, IsWithin, Replays, Serves, Wanted, bare_program, check_shape, fix_shape, number_of, program, replay_shape, serve_shape, served_by, wanted_by, wanted_in, wanted_of_command, word_in}
+use Rattle.gu_words.specs.CommandLine.{bare_program, check_shape, fix_shape, program, replay_shape, serve_shape, tell_shape}
+use Rattle.gu_words.specs.Misfits.{has, is_one_path, misfit_in, misfit_of, refusals_of}
+use Rattle.gu_words.specs.declared.words.Task.{Task}
+use Rattle.gu_words.specs.declared.misfit.Misfit.{Misfit}
+use Rattle.gu_words.specs.declared.misfit.Misfit.TheVariants.{ManyConnections, NotUntilClosed, OnePath}
+use Rattle.gu_words.specs.ProgramWords.{Captures, Checks, Counts, Fixes, GoesOn, HasNumbers, IsWithin, Lasting, Reads, Replays, Serves, Tells, Wanted, is_until_closed, lasting_by, number_of, served_by, text_of, told_by, wanted_by, wanted_in, wanted_of, wanted_of_command, word_in}
 
 -- the program is one whose words clap tells in full
-pub simple-program : is_simple_and_free program ≡ true
+pub simple-program : (is_until_closed : Bool) → is_simple_and_free (program is_until_closed) ≡ true
 unfolding clap_on_literals
-simple-program = refl
+simple-program true = refl
+simple-program false = refl
 
 -- the program's name alone is taken
-pub takes-name : (name : List ℕ) → takes program (name ∷ []) ≡ true
+pub takes-name : (name : List ℕ) → takes (program false) (name ∷ []) ≡ true
 unfolding clap_on_literals
 takes-name name = refl
 
 -- the name and `check` are taken
-pub takes-check : (name : List ℕ) → takes program (name ∷ codes "check" ∷ []) ≡ true
+pub takes-check : (name : List ℕ) → takes (program false) (name ∷ codes "check" ∷ []) ≡ true
 unfolding clap_on_literals
 takes-check name = refl
 
@@ -38,6 +45,31 @@ pub wanted_by-check : (name : List ℕ) → wanted_by (name ∷ codes "check" �
 unfolding clap_on_literals
 wanted_by-check name = refl
 
+-- neither is refused
+pub no_refusals-name : (name : List ℕ) → refusals_of (name ∷ []) ≡ []
+unfolding clap_on_literals
+no_refusals-name name = refl
+
+-- the second
+pub no_refusals-check : (name : List ℕ) → refusals_of (name ∷ codes "check" ∷ []) ≡ []
+unfolding clap_on_literals
+no_refusals-check name = refl
+
+-- a task of this kind is read, where only memory may refuse it
+pub read_unless_memory : (result : Result Task Error) (wanted : Wanted) → IfOk result (λ task. wanted_of task ≡ wanted) → FailsBy [] result → Reads result wanted
+read_unless_memory (Ok task) wanted is fails = is
+read_unless_memory (Err error) wanted is fails = elim fails [ inl memory ↦ memory | inr none ↦ absurd none ]
+
+-- what one list of kinds has, it has with another after it
+pub first_kinds : (first others : Kinds) (error : Error) → HasKind first error → HasKind (or_else first others) error
+first_kinds [] others error has = elim has [ inl memory ↦ inl memory | inr none ↦ absurd none ]
+first_kinds (kind ∷ kinds) others error has = has
+
+-- what holds anyway holds of a success
+pub holds_anyway : {T E P : Type 0} (result : Result T E) → P → IfOk result (λ _. P)
+holds_anyway (Ok value) p = p
+holds_anyway (Err error) p = tt
+
 -- the third of some tests that all fail
 third_fails : (a b c others : Bool) → (a && (not b && (not c && others))) ≡ true → c ≡ false
 third_fails true false false others all = refl
@@ -50,6 +82,12 @@ pub word_added : (old new : Command) (word : Arg) (app : App) (rule : Rule) → 
 word_added old new word app rule adds local is bare = adds.shape local ∙ ap (λ (a : App). with_rule a (rule_of word)) bare ∙ ap (with_rule app) is
 
 -- a command with one word more is the last of its making
+pub last_rule_added : {E : Type 0} (result : Result Command E) (old : Command) (word : Arg) (app : App) (rule : Rule) → app_of old ≡ app → word.global ≡ false → rule_of word ≡ rule
+    → IfOk result (λ command. AddsArg old word command) → IfOk result (λ command. app_of command ≡ with_rule app rule)
+last_rule_added (Ok command) old word app rule bare local is adds = word_added old command word app rule adds local is bare
+last_rule_added (Err error) old word app rule bare local is adds = tt
+
+-- its words alone
 pub last_word_added : {E : Type 0} (result : Result Command E) (old : Command) (word : Arg) (app : App) (rule : Rule) → app_of old ≡ app → word.global ≡ false → rule_of word ≡ rule
     → IfOk result (λ command. AddsArg old word command) → IfOk result (λ command. shape_of command ≡ (with_rule app rule).top)
 last_word_added (Ok command) old word app rule bare local is adds = ap (λ (a : App). a.top) (word_added old command word app rule adds local is bare)
@@ -69,15 +107,17 @@ last_command_added (Ok command) old sub shape plain is adds = command_added old 
 last_command_added (Err error) old sub shape plain is adds = tt
 
 -- the program with its commands
-pub four_commands : {E : Type 0} (result : Result Command E) (bare one two three check : Command) → app_of bare ≡ bare_program
+pub five_commands : {E : Type 0} (result : Result Command E) (bare one two three four check : Command) (is_until_closed : Bool) → app_of bare ≡ bare_program
     → AddsSubcommand bare check one → shape_of check ≡ check_shape → app_of two ≡ with_subcommand (app_of one) fix_shape → app_of three ≡ with_subcommand (app_of two) replay_shape
-    → IfOk result (λ command. app_of command ≡ with_subcommand (app_of three) serve_shape) → IfOk result (λ command. app_of command ≡ program)
-four_commands (Ok command) bare one two three check is checks is_check fixes replays serves =
+    → app_of four ≡ with_subcommand (app_of three) (serve_shape is_until_closed)
+    → IfOk result (λ command. app_of command ≡ with_subcommand (app_of four) tell_shape) → IfOk result (λ command. app_of command ≡ program is_until_closed)
+five_commands (Ok command) bare one two three four check is_until_closed is checks is_check fixes replays serves tells =
     let checking = command_added bare check one bare_program check_shape checks refl is_check is in
     let fixing = fixes ∙ ap (λ (a : App). with_subcommand a fix_shape) checking in
     let replaying = replays ∙ ap (λ (a : App). with_subcommand a replay_shape) fixing in
-    serves ∙ ap (λ (a : App). with_subcommand a serve_shape) replaying
-four_commands (Err error) bare one two three check is checks is_check fixes replays serves = tt
+    let serving = serves ∙ ap (λ (a : App). with_subcommand a (serve_shape is_until_closed)) replaying in
+    tells ∙ ap (λ (a : App). with_subcommand a tell_shape) serving
+five_commands (Err error) bare one two three four check is_until_closed is checks is_check fixes replays serves tells = tt
 
 -- the command `fix`, with these rows, asks for a session
 pub fixes : (sub : Option (Text × List Row)) (rows : List Row) (firm reference : Text) (script : Option Text) → option_map (λ (p : Text × List Row). p.0) sub ≡ Some (codes "fix") → option_map (λ (p : Text × List Row). p.1) sub ≡ Some rows
@@ -101,9 +141,15 @@ replays (Some (name, found)) rows reference is_name is_rows is_reference =
     ∙ ap (λ (rs : List Row). Replays (word_in rs (codes "REF"))) (sym same)
     ∙ ap (λ (n : Text). wanted_of_command n found) (sym named)
 
--- the word of a name is that of the rows
-pub word_read : (found : Found) (name word : Text) → word ≡ unwrap_or (first_value found name) [] → word ≡ word_in (rows_of found) name
-word_read found name word is = is ∙ ap (λ (v : Option Text). unwrap_or v []) (first_value-rows found name)
+-- a word is given where its text is
+pub is_some-text : (word : Option (Bor Text)) → is_some word ≡ is_some (text_of word)
+is_some-text None = refl
+is_some-text (Some word) = refl
+
+-- the text of a word, or of another
+pub unwrap_or-text : (word : Option (Bor Text)) (other : Bor Text) → (unwrap_or word other).now ≡ unwrap_or (text_of word) other.now
+unwrap_or-text None other = refl
+unwrap_or-text (Some word) other = refl
 
 -- a word within bounds of two bytes is read
 pub never_unread : (least most other : ℕ) (word : Text) → most < 2 ^ 16 → (IsNumeral 10 (without_leading_plus word) × (digits_value 10 (without_leading_plus word) < 2 ^ 16) → ⊥) → IsUnsignedIn least most word → other ≡ number_of word
@@ -114,17 +160,59 @@ pub numbered : (rows : List Row) (result least most : ℕ) (name word : Text) �
 numbered rows result least most name word means is within = means (subst (IsUnsignedIn least most) (sym is) within) ∙ ap number_of is
 
 -- what `serve` asks for, word by word
-pub asks_to_serve : (rows : List Row) (reference : Text) (port : ℕ) (script : Option Text) (connections every : ℕ) (journal : Option Text)
+pub asks_to_serve : (rows : List Row) (reference : Text) (port : ℕ) (script : Option Text) (lasting : Lasting) (every : ℕ) (journal watch : Option Text)
     → reference ≡ word_in rows (codes "REF") → port ≡ number_of (word_in rows (codes "PORT")) → script ≡ first_of (codes "script") rows
-    → connections ≡ number_of (word_in rows (codes "N")) → every ≡ number_of (word_in rows (codes "K"))
-    → journal ≡ first_of (codes "journal") rows → Serves reference port script connections every journal ≡ served_by rows
-asks_to_serve rows reference port script connections every journal a b c d e f = λ i. Serves (a i) (b i) (c i) (d i) (e i) (f i)
+    → lasting ≡ lasting_by rows → every ≡ number_of (word_in rows (codes "K")) → journal ≡ first_of (codes "journal") rows
+    → watch ≡ first_of (codes "watch") rows → Serves reference port script lasting every journal watch ≡ served_by rows
+asks_to_serve rows reference port script lasting every journal watch a b c d e f g = λ i. Serves (a i) (b i) (c i) (d i) (e i) (f i) (g i)
+
+-- a server that goes on until it is closed
+pub goes_on : (rows : List Row) (console : Text) (places : ℕ) (workers : Option ℕ) → is_until_closed rows ≡ true → console ≡ word_in rows (codes "console")
+    → places ≡ number_of (word_in rows (codes "N")) → workers ≡ option_map number_of (first_of (codes "W") rows) → GoesOn console places workers ≡ lasting_by rows
+goes_on rows console places workers is a b c = rw is (λ i. GoesOn (a i) (b i) (c i))
+
+-- a server of counted connections
+pub counts : (rows : List Row) (connections : ℕ) (console : Option Text) → is_until_closed rows ≡ false → connections ≡ number_of (word_in rows (codes "N"))
+    → console ≡ first_of (codes "console") rows → Counts connections console ≡ lasting_by rows
+counts rows connections console is a b = rw is (λ i. Counts (a i) (b i))
+
+-- the command `serve`, whose options may not go together
+pub misfit_read : (sub : Option (Text × List Row)) (rows : List Row) (misfit : Option Misfit) → option_map (λ (p : Text × List Row). p.0) sub ≡ Some (codes "serve")
+    → option_map (λ (p : Text × List Row). p.1) sub ≡ Some rows → (IsUnsignedIn 1 1024 (word_in rows (codes "N")) → misfit ≡ misfit_in rows) → IsWithin sub → misfit ≡ misfit_of sub
+misfit_read None rows misfit name row asked within = cc
+misfit_read (Some (name, found)) rows misfit is_name is_rows asked within =
+    let named : name ≡ codes "serve" = cc in
+    let same : found ≡ rows = cc in
+    asked ((within rows (λ i. Some (named i, same i))).connections) ∙ ap misfit_in (sym same) ∙ ap (λ (n : Text). misfit_of (Some (n, found))) (sym named)
 
 -- the command `serve`, for a server
 pub serves : (sub : Option (Text × List Row)) (rows : List Row) (wanted : Wanted) → option_map (λ (p : Text × List Row). p.0) sub ≡ Some (codes "serve") → option_map (λ (p : Text × List Row). p.1) sub ≡ Some rows
-    → (HasNumbers rows → wanted ≡ served_by rows) → IsWithin sub → wanted ≡ wanted_in sub
-serves None rows wanted name row asked within = cc
-serves (Some (name, found)) rows wanted is_name is_rows asked within =
+    → (HasNumbers rows → misfit_in rows ≡ None → wanted ≡ served_by rows) → IsWithin sub → misfit_of sub ≡ None → wanted ≡ wanted_in sub
+serves None rows wanted name row asked within fits = cc
+serves (Some (name, found)) rows wanted is_name is_rows asked within fits =
     let named : name ≡ codes "serve" = cc in
     let same : found ≡ rows = cc in
-    asked (within rows (λ i. Some (named i, same i))) ∙ ap served_by (sym same) ∙ ap (λ (n : Text). wanted_of_command n found) (sym named)
+    let fitting : misfit_in rows ≡ None = ap misfit_in (sym same) ∙ ap (λ (n : Text). misfit_of (Some (n, found))) (sym named) ∙ fits in
+    asked (within rows (λ i. Some (named i, same i))) fitting ∙ ap served_by (sym same) ∙ ap (λ (n : Text). wanted_of_command n found) (sym named)
+
+-- the command `tell`, for lines
+pub tells : (sub : Option (Text × List Row)) (rows : List Row) (path : Text) (lines : List Text) → option_map (λ (p : Text × List Row). p.0) sub ≡ Some (codes "tell")
+    → option_map (λ (p : Text × List Row). p.1) sub ≡ Some rows → path ≡ word_in rows (codes "PATH") → lines ≡ unwrap_or (all_of (codes "LINE") rows) [] → Tells path lines ≡ wanted_in sub
+tells None rows path lines name row is_path is_lines = cc
+tells (Some (name, found)) rows path lines is_name is_rows is_path is_lines =
+    let named : name ≡ codes "tell" = cc in
+    let same : found ≡ rows = cc in
+    (λ i. Tells (is_path i) (is_lines i)) ∙ ap told_by (sym same) ∙ ap (λ (n : Text). wanted_of_command n found) (sym named)
+
+-- a server that isn't closed, and whose options go together, has at most 32 connections
+pub few_connections : (rows : List Row) → is_until_closed rows ≡ false → misfit_in rows ≡ None → IsUnsignedIn 1 1024 (word_in rows (codes "N")) → IsUnsignedIn 1 32 (word_in rows (codes "N"))
+few_connections rows counted fits within = (within.0, within.1, within.2, ltb-false 32 _ (not_many counted fits))
+  where
+    no_more : (workers many one : Bool) → cond workers (Some NotUntilClosed) (cond many (Some ManyConnections) (cond one (Some OnePath) None)) ≡ None → many ≡ false
+    no_more true many one is = cc
+    no_more false true one is = cc
+    no_more false false one is = refl
+
+    not_many : is_until_closed rows ≡ false → misfit_in rows ≡ None → nat_lt 32 (number_of (word_in rows (codes "N"))) ≡ false
+    not_many counted fits =
+        no_more (has rows (codes "W")) (nat_lt 32 (number_of (word_in rows (codes "N")))) (is_one_path (first_of (codes "console") rows) (first_of (codes "watch") rows)) (rw counted at fits)

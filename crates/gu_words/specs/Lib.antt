@@ -1,2 +1,4 @@
+pub mod CommandLine
+pub mod Misfits
 pub mod ProgramWords
 pub mod Statuses

@@ -1,12 +1,15 @@
 //! The words that the program is called with, and the statuses with which it ends.
 #![tactic(auto)]
 
+mod commands;
+mod found;
+mod misfit;
 mod serving;
 mod status;
 mod version;
 mod words;
 
-pub use serving::Serving;
+pub use serving::{Counted, Serving, Span, UntilClosed};
 pub use status::Status;
 pub use version::VERSION;
-pub use words::{Task, answer, firm_named, given, read};
+pub use words::{Task, answer, firm_named, given, line_refusal, read};

@@ -1,6 +1,41 @@
 //! What a server is started with.
 
-ghost use Rattle.std.specs.Prelude.{◌≤◌};
+ghost use Rattle.std.specs.Prelude.{◌≡◌, ◌≤◌, unwrap_or};
+
+/// A server whose day ends once it has accepted all its connections, and they have ended. Each number is within its range.
+#[derive(Clone, Copy, Debug)]
+pub struct Counted<'a> {
+    /// How many connections it accepts: 1 to 32.
+    pub connections: u16,
+    /// The path of the socket of its operators, where one is named.
+    pub console: Option<&'a str>,
+    ghost one_connection: { 1 ≤ connections },
+    ghost most_connections: { connections ≤ 32 },
+}
+
+/// A server whose day goes on until an operator closes it, however many connections come. Each number is within its range.
+#[derive(Clone, Copy, Debug)]
+pub struct UntilClosed<'a> {
+    /// The path of the socket of its operators.
+    pub console: &'a str,
+    /// How many connections it has at once at most: 1 to 1,024.
+    pub places: u16,
+    /// How many threads serve the connections: 1 to 60, or as many as there are processors, where no number is named.
+    pub workers: Option<u16>,
+    ghost one_place: { 1 ≤ places },
+    ghost most_places: { places ≤ 1024 },
+    ghost one_worker: { 1 ≤ unwrap_or workers 1 },
+    ghost most_workers: { unwrap_or workers 1 ≤ 60 },
+}
+
+/// How long a server goes on.
+#[derive(Clone, Copy, Debug)]
+pub enum Span<'a> {
+    /// Until its last connection has ended.
+    Counted(Counted<'a>),
+    /// Until an operator closes it.
+    UntilClosed(UntilClosed<'a>),
+}
 
 /// What a server is started with. Each number is within its range.
 #[derive(Clone, Copy, Debug)]
@@ -11,14 +46,28 @@ pub struct Serving<'a> {
     pub port: u16,
     /// The path of the script that is run first, where one is named.
     pub script: Option<&'a str>,
-    /// How many connections it accepts: 1 to 32.
-    pub connections: u16,
+    /// How long it goes on, with its connections and the socket of its operators.
+    pub span: Span<'a>,
     /// Of how many accepted give-ups each connection sends the order of the last to the sweepers: 0 to 1,000, where 0 sends none.
     pub every: u16,
     /// The path of the file to which the day is written as a script, where one is named.
     pub journal: Option<&'a str>,
+    /// The path of the socket of those who may only look, where one is named.
+    pub watch: Option<&'a str>,
     ghost port_from_one: { 1 ≤ port },
-    ghost one_connection: { 1 ≤ connections },
-    ghost most_connections: { connections ≤ 32 },
     ghost every_within: { every ≤ 1000 },
+}
+
+impl<'a> Serving<'a> {
+    ghost use Rattle.gu_words.specs.ProgramWords.{console_of};
+
+    /// Returns the path of the socket of its operators, where it has one.
+    pub fn console(&self) -> Option<&'a str>
+        ensures { result ≡ console_of self.now.span }
+    {
+        match self.span {
+            Span::Counted(counted) => counted.console,
+            Span::UntilClosed(until_closed) => Some(until_closed.console),
+        }
+    }
 }

@@ -1,16 +1,19 @@
 //! The words that the program is called with.
 
-ghost use Rattle.std.specs.Prelude.{◌≡◌, ◌≤◌, ◌∷◌, [], List, ℕ, Err, IfOk, codes, false, map, true, unwrap_or};
-ghost use Rattle.clap.specs.Words.{FailsBy, IsUnsignedIn, Shape, app_of, fault_of, first_value, found_of, kind_of, rows_of, rule_of, shape_of, subcommand_of, subcommand_rows_of, with_subcommand};
-ghost use Rattle.clap.specs.declared.error.kind.ErrorKind.TheVariants.{OutOfMemory};
-ghost use Rattle.gu_words.specs.ProgramWords.{Captures, Checks, HasNumbers, IsWithin, Reads, check_shape, fix_shape, needed, number_rule, number_of, path_rule, port_rule, program, replay_shape, serve_shape, served_by, status_of, wanted_by, wanted_in, wanted_of};
+ghost use Rattle.std.specs.Prelude.{◌≡◌, ◌∷◌, [], List, ℕ, Err, IfOk, codes, map};
+ghost use Rattle.clap.specs.Words.{FailsBy, kind_of, subcommand_rows_of};
+ghost use Rattle.clap.specs.declared.error.kind.ErrorKind.TheVariants.{InvalidValue, OutOfMemory};
+ghost use Rattle.gu_words.specs.CommandLine.{has_until_closed, says_until_closed};
+ghost use Rattle.gu_words.specs.Misfits.{kind_of_misfit, kinds_of, misfit_of, refusals_of};
+ghost use Rattle.gu_words.specs.ProgramWords.{Captures, Checks, IsWithin, Reads, command_in, status_of, wanted_by, wanted_in, wanted_of};
 
+use crate::commands::{fix_command, program, serve_command, tell_command};
+use crate::found::{lines_in, misfit_in, serving_in, word};
+use crate::misfit::Misfit;
 use crate::serving::Serving;
 use crate::status::Status;
-use crate::version::VERSION;
-use clap::builder::ValueParser;
 use clap::error::ErrorKind;
-use clap::{Arg, ArgMatches, Command, Error};
+use clap::{ArgMatches, Command, Error};
 use gu_streams::StreamError;
 use gu_terms::FirmId;
 use std::alloc::{AllocError, Global};
@@ -24,18 +27,12 @@ const NOT_TEXT: &str = "invalid UTF-8 was detected in one or more arguments";
 /// What is said of a word that names no firm.
 const NO_FIRM: &str = "invalid value for '<FIRM>': a firm is 1 to 12 of A-Z, 0-9 and -";
 
-/// What help shows after the commands.
-const EXAMPLES: &str = "\
-Examples:
-  giveup check < three-agreements.sheet
-  giveup fix E1 house.csv < session.fix
-  giveup replay house.csv < day.script
-  giveup serve house.csv 9878
-
-`giveup COMMAND --help` shows the words of a command.";
+/// What is said of a word that is no line for a desk.
+const NO_LINE: &str =
+    "invalid value for '[LINE]...': it is neither a line of a script nor a word of the console";
 
 /// What the words ask for.
-#[derive(Clone, Copy, Debug)]
+#[derive(Debug, Drop)]
 pub enum Task<'a> {
     /// Trade capture on the sample.
     Capture,
@@ -53,254 +50,119 @@ pub enum Task<'a> {
     },
     /// A server of firms.
     Serve(Serving<'a>),
+    /// Lines for the server whose console, or whose watch, is the socket of this path; without any, those of standard input.
+    Tell {
+        path: &'a str,
+        lines: Vec<&'a str>,
+    },
 }
 
-/// What help says of a reference.
-const REFERENCE: &str = "The path of the reference";
-
-/// What help says of a script that is run first.
-const SCRIPT: &str = "The path of a script that is run first, without output";
-
-/// What help says of a journal.
-const JOURNAL: &str =
-    "The path of a new or empty file to which the day is written at its end, as a script that makes the same entries";
-
-/// A word that must come after a command.
-fn needed<'a>(alloc: Global, name: &'a str, help: &'a str) -> Arg<'a>
-    ensures rule { rule_of result ≡ needed name.entry.now }
-    ensures local { result.global ≡ false }
+/// Returns whether one of some words is `--until-closed`.
+fn has_until_closed<S: AsStr>(words: &[S]) -> bool
+    ensures { result ≡ has_until_closed (map S.text words.now) }
 {
-    Arg::new(alloc, name).required(true).help(help)
-}
-
-/// An option whose value is the path of a file.
-fn path_option<'a>(alloc: Global, name: &'a str, help: &'a str) -> Arg<'a>
-    ensures rule { rule_of result ≡ path_rule name.entry.now }
-    ensures local { result.global ≡ false }
-{
-    Arg::new(alloc, name)
-        .long(name)
-        .value_name("FILE")
-        .help(help)
-}
-
-/// An option whose value is one of these numbers, and the usual one where none is given.
-fn number_option<'a>(
-    alloc: Global,
-    name: &'a str,
-    long: &'a str,
-    numbers: ValueParser<'a>,
-    usual: &'a str,
-    help: &'a str,
-) -> Arg<'a>
-    ensures rule { rule_of result ≡ number_rule name.entry.now long.entry.now numbers.entry usual.entry.now }
-    ensures local { result.global ≡ false }
-{
-    Arg::new(alloc, name)
-        .long(long)
-        .value_parser(numbers)
-        .default_value(usual)
-        .help(help)
-}
-
-/// The port of a server.
-fn port_word<'a>(alloc: Global) -> Arg<'a>
-    ensures rule { rule_of result ≡ port_rule }
-    ensures local { result.global ≡ false }
-{
-    needed(alloc, "PORT", "The port on which it listens, 1 to 65535").value_parser(
-        ValueParser::unsigned(1, 65535),
-    )
-}
-
-/// The command `check`.
-fn check_command<'a>(alloc: Global) -> Command<'a>
-    ensures { shape_of result ≡ check_shape }
-{
-    Command::new(alloc, "check")
-        .about(
-            "Checks the sweep sheet on standard input: prints OK and its lots, or its first fault",
-        )
-        .after_help("Example: giveup check < three-agreements.sheet")
-}
-
-/// The command `fix`.
-fn fix_command<'a>(alloc: Global) -> Result<Command<'a>, AllocError>
-    ensures { IfOk result (λ command. shape_of command ≡ fix_shape) }
-{
-    let bare = Command::new(alloc, "fix")
-        .about("Serves one session of a firm over standard input and output")
-        .after_help("Example: giveup fix E1 house.csv --script open.script < session.fix");
-    let firm = needed(alloc, "FIRM", "The name of the firm");
-    let of_firm = bare.arg(firm)?;
-    let reference = needed(alloc, "REF", REFERENCE);
-    let on_reference = of_firm.arg(reference)?;
-    let script = path_option(alloc, "script", SCRIPT);
-    on_reference.arg(script)
-}
-
-/// The command `replay`.
-fn replay_command<'a>(alloc: Global) -> Result<Command<'a>, AllocError>
-    ensures { IfOk result (λ command. shape_of command ≡ replay_shape) }
-{
-    let bare = Command::new(alloc, "replay")
-        .about("Answers the script on standard input, line by line")
-        .after_help("Example: giveup replay house.csv < day.script");
-    let reference = needed(alloc, "REF", REFERENCE);
-    bare.arg(reference)
-}
-
-/// The command `serve`.
-fn serve_command<'a>(alloc: Global) -> Result<Command<'a>, AllocError>
-    ensures { IfOk result (λ command. shape_of command ≡ serve_shape) }
-{
-    let bare = Command::new(alloc, "serve")
-        .about(
-            "Serves firms on a port of this machine, with sweepers beside them: prints ENTRIES, SWEPT and AUDIT at the end",
-        )
-        .after_help(
-            "Example: giveup serve house.csv 9878 --script open.script --journal day.script",
-        );
-    let reference = needed(alloc, "REF", REFERENCE);
-    let on_reference = bare.arg(reference)?;
-    let port = port_word(alloc);
-    let on_port = on_reference.arg(port)?;
-    let script = path_option(alloc, "script", SCRIPT);
-    let after_script = on_port.arg(script)?;
-    let connections = number_option(
-        alloc,
-        "N",
-        "connections",
-        ValueParser::unsigned(1, 32),
-        "8",
-        "How many connections it accepts, 1 to 32",
-    );
-    let of_firms = after_script.arg(connections)?;
-    let every = number_option(
-        alloc,
-        "K",
-        "every",
-        ValueParser::unsigned(0, 1000),
-        "16",
-        "Each connection sends every K-th of its accepted give-ups to the sweepers, 0 to 1000; 0 sends none",
-    );
-    let with_sweeps = of_firms.arg(every)?;
-    let journal = path_option(alloc, "journal", JOURNAL);
-    with_sweeps.arg(journal)
-}
-
-/// A command, and one more after it, where that was made.
-fn with<'a>(
-    command: Command<'a>,
-    made: Result<Command<'a>, AllocError>,
-) -> Result<Command<'a>, AllocError>
-    ensures { (shape : Shape) → shape.is_plain ≡ true → IfOk made.entry (λ added. shape_of added ≡ shape)
-        → IfOk result (λ with. app_of with ≡ with_subcommand (app_of command.entry) shape) }
-{
-    match made {
-        Ok(added) => command.subcommand(added),
-        Err(refused) => {
-            drop(command);
-            Err(refused)
+    for word in words {
+        if word.as_str() == "--until-closed" {
+            return true;
         }
+    }
+    false
+}
+
+/// Returns whether a word after the program's name has a server go on until it is closed.
+fn says_until_closed<S: AsStr>(words: &[S]) -> bool
+    ensures { result ≡ says_until_closed (map S.text words.now) }
+{
+    match words {
+        [_, after_name @ ..] => has_until_closed(after_name),
+        [] => false,
     }
 }
 
-/// The program's command, a subcommand for each task but trade capture.
-fn program<'a>(alloc: Global) -> Result<Command<'a>, AllocError>
-    ensures { IfOk result (λ command. app_of command ≡ program) }
+/// Returns the refusal of words, for this reason, with how the command is called.
+fn refusal(mut command: Command<'_>, kind: ErrorKind, why: &str) -> Result<Error, AllocError>
+    ensures { IfOk result (λ error. kind_of error ≡ kind) }
 {
-    let bare = Command::new(alloc, "giveup")
-        .about(
-            "The desk of a clearing house. Without a command: trade capture on the sample, from standard input",
-        )
-        .version(VERSION)
-        .after_help(EXAMPLES);
-    let checking = bare.subcommand(check_command(alloc))?;
-    let fixing = with(checking, fix_command(alloc))?;
-    let replaying = with(fixing, replay_command(alloc))?;
-    with(replaying, serve_command(alloc))
-}
-
-/// The refusal of a word, for this reason, with how the command is called.
-fn refusal(mut command: Command<'_>, why: &str) -> Result<Error, AllocError> {
-    let refused = command.error(ErrorKind::InvalidValue, why);
+    let refused = command.error(kind, why);
     drop(command);
     refused
 }
 
-/// The word that was given for a name.
-fn word<'a>(matches: &ArgMatches<'a>, name: &str) -> &'a str
-    ensures { result.now ≡ unwrap_or (first_value (found_of matches.now) name.now) [] }
+/// Returns the refusal of options of `serve` that don't go together.
+fn refusal_of(alloc: Global, misfit: Misfit) -> Result<Error, AllocError>
+    ensures { IfOk result (λ error. kind_of error ≡ kind_of_misfit misfit) }
 {
-    matches.get_str(name).unwrap_or("")
+    let command = serve_command(alloc, true)?.bin_name("giveup serve")?;
+    refusal(command, misfit.kind(), misfit.why())
 }
 
-/// The number that a word means, where it is from `least` to `most`: a command that was read has no other word.
-fn number(word: &str, least: u16, most: u16) -> u16
-    requires { least ≤ most }
-    ensures number { IsUnsignedIn least most word.now → result ≡ number_of word.now }
-    ensures from_least { least ≤ result }
-    ensures to_most { result ≤ most }
-{
-    match word.parse::<u16>() {
-        Ok(number) if least <= number && number <= most => number,
-        _ => least,
-    }
-}
-
-/// What the words of `serve` ask for.
-fn serving_of<'a>(found: &ArgMatches<'a>) -> Serving<'a>
-    ensures { HasNumbers (rows_of (found_of found.now)) → wanted_of (Task.Serve result) ≡ served_by (rows_of (found_of found.now)) }
-{
-    Serving {
-        reference: word(found, "REF"),
-        port: number(word(found, "PORT"), 1, 65535),
-        script: found.get_str("script"),
-        connections: number(word(found, "N"), 1, 32),
-        every: number(word(found, "K"), 0, 1000),
-        journal: found.get_str("journal"),
-    }
-}
-
-/// The task of a command that was read.
-fn task_of<'a>(matches: &ArgMatches<'a>) -> Task<'a>
-    ensures { IsWithin (subcommand_rows_of matches.now) → wanted_of result ≡ wanted_in (subcommand_rows_of matches.now) }
+/// Returns why the options of a command don't go together, if they don't.
+fn misfit_of(matches: &ArgMatches<'_>) -> Option<Misfit>
+    ensures { IsWithin (subcommand_rows_of matches.now) → result ≡ misfit_of (subcommand_rows_of matches.now) }
 {
     match matches.subcommand() {
-        Some(("check", _)) => Task::Check,
-        Some(("fix", found)) => Task::Fix {
+        Some(("serve", found)) => misfit_in(found),
+        _ => None,
+    }
+}
+
+/// Returns the task of a command that was read, whose options go together.
+fn task_of<'a>(alloc: Global, matches: &ArgMatches<'a>) -> Result<Task<'a>, AllocError>
+    ensures { IsWithin (subcommand_rows_of matches.now) → misfit_of (subcommand_rows_of matches.now) ≡ None
+        → IfOk result (λ task. wanted_of task ≡ wanted_in (subcommand_rows_of matches.now)) }
+{
+    match matches.subcommand() {
+        Some(("check", _)) => Ok(Task::Check),
+        Some(("fix", found)) => Ok(Task::Fix {
             firm: word(found, "FIRM"),
             reference: word(found, "REF"),
             script: found.get_str("script"),
-        },
-        Some(("replay", found)) => Task::Replay {
+        }),
+        Some(("replay", found)) => Ok(Task::Replay {
             reference: word(found, "REF"),
-        },
-        Some(("serve", found)) => Task::Serve(serving_of(found)),
-        _ => Task::Capture,
+        }),
+        Some(("serve", found)) => Ok(Task::Serve(serving_in(found))),
+        Some(("tell", found)) => {
+            let lines = lines_in(alloc, found)?;
+            Ok(Task::Tell {
+                path: word(found, "PATH"),
+                lines,
+            })
+        }
+        _ => Ok(Task::Capture),
     }
 }
 
-/// The task that the words ask for. The first word is the program's own name.
+/// Returns the task of a command that was read; options that don't go together are refused.
+fn fitting_task<'a>(alloc: Global, matches: &ArgMatches<'a>) -> Result<Task<'a>, Error>
+    ensures task { IsWithin (subcommand_rows_of matches.now) → IfOk result (λ task. wanted_of task ≡ wanted_in (subcommand_rows_of matches.now)) }
+    ensures refused { IsWithin (subcommand_rows_of matches.now) → FailsBy (kinds_of (misfit_of (subcommand_rows_of matches.now))) result }
+{
+    match misfit_of(matches) {
+        Some(misfit) => Err(refusal_of(alloc, misfit)?),
+        None => Ok(task_of(alloc, matches)?),
+    }
+}
+
+/// Returns the task that the words ask for. The first word is the program's own name.
 pub fn read<'a, S: AsStr>(alloc: Global, words: &'a [S]) -> Result<Task<'a>, Error>
     ensures task { IfOk result (λ task. wanted_of task ≡ wanted_by (map S.text words.now)) }
-    ensures refused { FailsBy (fault_of program (map S.text words.now)) result }
+    ensures refused { FailsBy (refusals_of (map S.text words.now)) result }
 
     // The numbers of a server are within their ranges.
-    ensures within { IfOk result (λ task. IsWithin (subcommand_of program (map S.text words.now))) }
+    ensures within { IfOk result (λ task. IsWithin (command_in (map S.text words.now))) }
 
     // The words of each task.
     ensures capture { (name : List ℕ) → map S.text words.now ≡ name ∷ [] → Reads result Captures }
     ensures check { (name : List ℕ) → map S.text words.now ≡ name ∷ codes "check" ∷ [] → Reads result Checks }
 {
-    let matches = program(alloc)?.try_get_matches_from(words)?;
-    let task = task_of(&matches);
+    let matches = program(alloc, says_until_closed(words))?.try_get_matches_from(words)?;
+    let task = fitting_task(alloc, &matches);
     drop(matches);
-    Ok(task)
+    task
 }
 
-/// The firm of a name; a word that is none is refused.
+/// Returns the firm of a name; a word that is none is refused.
 pub fn firm_named(alloc: Global, name: &str) -> Result<FirmId, Error>
     ensures { IfOk result (λ firm. firm.name ≡ name.now) }
 {
@@ -308,18 +170,29 @@ pub fn firm_named(alloc: Global, name: &str) -> Result<FirmId, Error>
         Some(firm) => Ok(firm),
         None => {
             let command = fix_command(alloc)?.bin_name("giveup fix")?;
-            Err(refusal(command, NO_FIRM)?)
+            Err(refusal(command, ErrorKind::InvalidValue, NO_FIRM)?)
         }
     }
 }
 
-/// The words of this run.
+/// Returns the refusal of a word that is no line for a desk.
+pub fn line_refusal(alloc: Global) -> Result<Error, AllocError>
+    ensures { IfOk result (λ error. kind_of error ≡ InvalidValue) }
+{
+    let command = tell_command(alloc)?.bin_name("giveup tell")?;
+    refusal(command, ErrorKind::InvalidValue, NO_LINE)
+}
+
+/// Returns the words of this run.
 pub fn given<R: Env + Alloc<A = Global>>(rt: &R) -> Result<Vec<String>, Error> {
     let alloc = rt.alloc();
     match env::args(rt) {
         Ok(words) => Ok(words.collect(alloc)?),
         Err(error) if error.kind() == io::ErrorKind::OutOfMemory => Err(Error::from(AllocError)),
-        Err(_) => Err(refusal(program(alloc)?, NOT_TEXT)?),
+        Err(_) => {
+            let command = program(alloc, false)?;
+            Err(refusal(command, ErrorKind::InvalidValue, NOT_TEXT)?)
+        }
     }
 }
 

@@ -45,11 +45,17 @@ impl Client {
         Ok(Client { alloc, stream })
     }
 
+    /// Sends what the lines of a connection say.
+    pub fn send(&mut self, firm: &str, lines: &str) -> io::Result<()> {
+        let talk = Talk::of(self.alloc, firm, lines)?;
+        let sent = wire(self.alloc, &talk.input)?;
+        self.stream.write_all(sent.as_bytes())
+    }
+
     /// Sends what the lines of a connection say, and waits for as many bytes as they say come. Returns what came, and what the lines say.
     pub fn talk(&mut self, firm: &str, lines: &str) -> io::Result<(String, String)> {
         let talk = Talk::of(self.alloc, firm, lines)?;
-        let sent = wire(self.alloc, &talk.input)?;
-        self.stream.write_all(sent.as_bytes())?;
+        self.send(firm, lines)?;
         let mut came = vec![in self.alloc; 0_u8; talk.output.len()]?;
         self.stream.read_exact(&mut came)?;
         let came = shown(self.alloc, &came)?;

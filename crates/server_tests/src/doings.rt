@@ -1,5 +1,6 @@
 //! What firms do on a day of a server.
 
+use crate::acts::{Act, Operator, act_all};
 use crate::clients::{Client, Ending, Visit};
 use crate::visits::{
     GIVES_UP, GIVES_UP_LINES, IS_OFFERED, LOGON, LOGON_OF_A_TRADE, OFFER, SAYS_NOTHING,
@@ -7,6 +8,7 @@ use crate::visits::{
 use gu_server::WRITE_WAIT_MS;
 use std::alloc::Global;
 use std::net::{Net, TcpListener, TcpStream};
+use std::os::unix::net::UnixStream;
 use std::process::Abort;
 use std::rt::Clock;
 use std::sync::{Mutex, Wait};
@@ -150,6 +152,8 @@ pub enum Doing {
     DoesNotRead,
     /// One comes once it was said that nobody is accepted before one that was there first has gone.
     ComesLater,
+    /// Firms and an operator act in turn.
+    Acts(&'static [Act]),
 }
 
 impl Doing {
@@ -170,15 +174,32 @@ impl Doing {
     }
 }
 
+/// Who is there when a day begins, and where firms connect.
+#[derive(Drop)]
+pub struct There {
+    pub port: u16,
+    /// A firm that has connected.
+    pub first: Option<Client>,
+    /// An operator's end of a console.
+    pub operator: UnixStream,
+}
+
 /// Does what firms do on a day. One that was there first gives up its lots, where no more is said of it.
 pub fn do_all<R: Net<Listener = TcpListener, Stream = TcpStream> + Abort + Wait + Clock>(
     rt: &R,
     alloc: Global,
-    port: u16,
-    first: Option<Client>,
+    there: There,
     doing: Doing,
     said: &Mutex<Vec<u8>>,
 ) -> io::Result<()> {
+    let There {
+        port,
+        first,
+        operator,
+    } = there;
+    if let Doing::Acts(acts) = doing {
+        return act_all(rt, alloc, port, Operator::new(operator)?, acts);
+    }
     match first {
         Some(first) => match doing {
             Doing::ComesLater => come_later(rt, alloc, port, first, said),
@@ -189,7 +210,9 @@ pub fn do_all<R: Net<Listener = TcpListener, Stream = TcpStream> + Abort + Wait 
             Doing::SendsMuch => send_much(rt, alloc, port),
             Doing::LogsOnTooLate => connect(rt, alloc, port, &SAYS_NOTHING),
             Doing::DoesNotRead => ask_and_read_nothing(rt, alloc, port),
-            Doing::Waits | Doing::ComesLater => wait_for_the_offer(rt, alloc, port),
+            Doing::Waits | Doing::ComesLater | Doing::Acts(_) => wait_for_the_offer(
+                rt, alloc, port,
+            ),
         },
     }
 }

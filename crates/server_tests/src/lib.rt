@@ -2,11 +2,15 @@
 #![tactic(auto)]
 
 #[cfg(test)]
+mod acts;
+#[cfg(test)]
 mod clients;
 #[cfg(test)]
 mod days;
 #[cfg(test)]
 mod doings;
+#[cfg(test)]
+mod doors;
 #[cfg(test)]
 mod machine;
 #[cfg(test)]
@@ -14,8 +18,10 @@ mod memory;
 #[cfg(test)]
 mod opening;
 #[cfg(test)]
+mod operators;
+#[cfg(test)]
 mod orders;
 #[cfg(test)]
-mod timers;
+mod served;
 #[cfg(test)]
 mod visits;

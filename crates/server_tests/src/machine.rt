@@ -2,7 +2,8 @@
 
 use std::fmt::Display;
 use std::io;
-use std::io::Write;
+use std::io::{Error, ErrorKind, Write};
+use std::net::{Net, SocketAddr, TcpListener, TcpStream};
 use std::rt::Clock;
 use std::sync::atomic::{AtomicU64, Ordering};
 use std::sync::{Mutex, Wait};
@@ -33,6 +34,21 @@ impl<'a, R> Machine<'a, R> {
 impl<R: Wait> Wait for Machine<'_, R> {}
 
 impl<R: Threads> Threads for Machine<'_, R> {}
+
+// What watches connections reaches the system by itself: this is asked for nothing.
+impl<R> Net for Machine<'_, R> {
+    type Stream = TcpStream;
+
+    type Listener = TcpListener;
+
+    fn bind(&self, _addr: SocketAddr) -> io::Result<TcpListener> {
+        Err(Error::from(ErrorKind::Unsupported))
+    }
+
+    fn connect(&self, _addr: SocketAddr) -> io::Result<TcpStream> {
+        Err(Error::from(ErrorKind::Unsupported))
+    }
+}
 
 impl<R> Clock for Machine<'_, R> {
     fn monotonic(&self) -> io::Result<Duration> {

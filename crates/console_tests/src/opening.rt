@@ -1,0 +1,80 @@
+//! Desks that tests open.
+
+ghost use Rattle.std.specs.Prelude.{◌≡◌, ◌+◌, ◌≤◌, All};
+ghost use Rattle.gu_terms.specs.Histories.{lots_swept};
+ghost use Rattle.gu_desk.specs.Seats.{IsNew};
+
+use gu_book::Book;
+use gu_desk::{BlankAnnals, Desk, EntryLedger, LotLedger, Seat};
+use gu_houses::SeatReceipts;
+use std::alloc::{AllocError, Global};
+use std::process::Abort;
+use std::sync::ledger::Blank;
+
+/// The history of a book, for a desk over it.
+pub fn annals_of(rt: &impl Abort, alloc: Global, book: &Book) -> BlankAnnals
+    ensures { result.entries ≡ book.now.history }
+{
+    BlankAnnals::of(alloc, book).ok().expect(rt, "memory")
+}
+
+/// A desk over a book, with three seats.
+fn opened<E: EntryLedger, S: LotLedger, R: Abort>(
+    rt: &R,
+    alloc: Global,
+    book: Book,
+    annals: BlankAnnals,
+    entries: Blank,
+    swept: Blank,
+) -> (Desk<E, S>, Vec<Seat<E, S>>)
+    requires reference { book.reference ≡ E.reference }
+    requires opening { (book.history ≡ E.opening) × (lots_swept book.history ≡ S.opening) }
+    requires history { (annals.name ≡ E.history) × (annals.entries ≡ E.opening) }
+    requires entries { (entries.name ≡ E.name) × (entries.parts ≡ E.parts) × (entries.parts ≡ 4) }
+    requires swept { (swept.name ≡ S.name) × (swept.parts ≡ S.parts) × (swept.parts ≡ 4) }
+    ensures { All (IsNew E.opening) result.1.items }
+{
+    let made: Result<(Desk<E, S>, Vec<Seat<E, S>>), (AllocError, Book)> = Desk::new(
+        alloc, book, annals, 3, entries, swept,
+    );
+    match made {
+        Ok(made) => made,
+        Err(_) => panic!(rt; "no memory for a desk"),
+    }
+}
+
+/// Seats that keep their receipts.
+fn keeping<E: EntryLedger, S: LotLedger>(
+    rt: &impl Abort,
+    alloc: Global,
+    seats: Vec<Seat<E, S>>,
+) -> Vec<SeatReceipts<E, S>>
+    requires { All (IsNew E.opening) seats.items }
+{
+    let mut keeping = Vec::new(alloc);
+    for seat in seats {
+        let pushed = keeping.push(SeatReceipts::new(alloc, seat));
+        assert!(rt; pushed.is_ok(), "no memory for a seat");
+    }
+    keeping
+}
+
+/// A desk over a book, with three seats that keep their receipts.
+pub fn desk_of<E: EntryLedger, S: LotLedger, R: Abort>(
+    rt: &R,
+    alloc: Global,
+    book: Book,
+    annals: BlankAnnals,
+    entries: Blank,
+    swept: Blank,
+) -> (Desk<E, S>, Vec<SeatReceipts<E, S>>)
+    requires reference { book.reference ≡ E.reference }
+    requires opening { (book.history ≡ E.opening) × (lots_swept book.history ≡ S.opening) }
+    requires history { (annals.name ≡ E.history) × (annals.entries ≡ E.opening) }
+    requires entries { (entries.name ≡ E.name) × (entries.parts ≡ E.parts) × (entries.parts ≡ 4) }
+    requires swept { (swept.name ≡ S.name) × (swept.parts ≡ S.parts) × (swept.parts ≡ 4) }
+{
+    let (desk, seats) = opened::<E, S, R>(rt, alloc, book, annals, entries, swept);
+    let seats = keeping(rt, alloc, seats);
+    (desk, seats)
+}

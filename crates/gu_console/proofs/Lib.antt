@@ -1,0 +1,4 @@
+pub mod AnswerLemmas
+pub mod RequestLemmas
+pub mod ServedLemmas
+pub mod ShownLemmas

@@ -1,0 +1,75 @@
+//! Answers to what asks for one command or one question.
+
+ghost use Rattle.std.specs.Prelude.{◌≡◌, [], OnOk};
+ghost use Rattle.gu_console.specs.Answers.{AnswersCommand, GoesOnFrom, IsTold, memory_text};
+
+use crate::book_asked::BookAsked;
+use crate::console::Console;
+use crate::office::Office;
+use crate::request::BookQuestion;
+use gu_book::EnterError;
+use gu_desk::{Entered, EntryLedger, LotLedger};
+use gu_houses::{Informs, SeatReceipts};
+use gu_terms::Command;
+use gu_text::append_reply;
+use gu_text::texts::append_last_word;
+use std::alloc::AllocError;
+use std::mem::swap;
+use std::sync::Wait;
+
+/// Says that memory failed, in a text without bytes.
+pub(crate) fn say_memory(text: &mut Vec<u8>) -> Result<(), AllocError>
+    requires { text.old.items ≡ [] }
+    ensures { OnOk result (text.new.items ≡ memory_text) }
+{
+    append_last_word(text, b"MEMORY")
+}
+
+/// Enters a command from a seat, and says its reply in a text without bytes. Others hear of the entry.
+pub(crate) fn enter<E: EntryLedger, S: LotLedger, R: Wait, O: Office, I: Informs>(
+    console: &Console<'_, E, S, R, O, I>,
+    seat: &mut SeatReceipts<E, S>,
+    command: Command,
+    text: &mut Vec<u8>,
+) -> Result<(), AllocError>
+    requires { text.old.items ≡ [] }
+    ensures answered { OnOk result (AnswersCommand E.reference seat.old command text.new.items seat.new) }
+    ensures goes_on { GoesOnFrom seat.old seat.new }
+{
+    match seat.enter(console.rt, console.desk, command, None) {
+        Ok(entered) => {
+            let Entered {
+                number,
+                reply,
+                informs,
+                stretch: _,
+            } = entered;
+            console.tally.add_entry();
+            console.informs.inform(number, informs);
+            append_reply(text, number, &reply)
+        }
+        Err(EnterError::Full) => append_last_word(text, b"FULL"),
+        Err(EnterError::Memory) => say_memory(text),
+    }
+}
+
+/// Answers a question, in a text without bytes.
+pub(crate) fn ask<E: EntryLedger, S: LotLedger, R: Wait, O: Office, I: Informs>(
+    console: &Console<'_, E, S, R, O, I>,
+    seat: &mut SeatReceipts<E, S>,
+    question: BookQuestion,
+    text: &mut Vec<u8>,
+) -> Result<(), AllocError>
+    requires { text.old.items ≡ [] }
+    ensures answered { OnOk result (IsTold E.reference seat.old question text.new.items seat.new) }
+    ensures goes_on { GoesOnFrom seat.old seat.new }
+{
+    let mut asked = BookAsked::new(console.alloc, question);
+    match seat.put(console.rt, console.desk, &mut asked) {
+        Ok(()) => {
+            swap(text, &mut asked.text);
+            Ok(())
+        }
+        Err(AllocError) => say_memory(text),
+    }
+}

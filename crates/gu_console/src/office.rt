@@ -1,0 +1,40 @@
+//! What an operator asks besides the book.
+
+use gu_posts::ConnectionStatus;
+use gu_terms::FirmId;
+use std::alloc::{AllocError, Global};
+
+/// How many connections of firms there are.
+#[derive(Clone, Copy, Debug, PartialEq, Eq)]
+pub struct Places {
+    /// How many there are now.
+    pub now: u64,
+    /// How many there may be at once.
+    pub most: u64,
+    /// How many there were in all.
+    pub all: u64,
+}
+
+/// What an operator asks besides the book: the connections of firms, and the end of the day.
+pub trait Office {
+    /// Returns what is shown of each connection.
+    fn connections(&self, alloc: Global) -> Result<Vec<ConnectionStatus>, AllocError>;
+
+    /// Returns how many connections there are.
+    fn places(&self) -> Places;
+
+    /// Returns the firms of the reference, in its order.
+    fn firms(&self) -> &[FirmId];
+
+    /// Returns the moment in milliseconds, by the clock that the moments of the connections are of, if it can be had.
+    fn now(&self) -> Option<u64>;
+
+    /// Drops the connection of this number, and returns whether there is one.
+    fn cut(&self, number: u64) -> bool;
+
+    /// Closes the day, and returns whether it was open until then.
+    fn close(&self) -> bool;
+
+    /// Returns whether the day is being closed.
+    fn is_closing(&self) -> bool;
+}

@@ -1,0 +1,32 @@
+//! The operators that closed a day.
+
+use std::io::Write;
+use std::os::unix::net::UnixStream;
+use std::time::Duration;
+
+/// How many seconds a write to one of them waits for room at most.
+const WRITE_WAIT_S: u64 = 10;
+
+/// The operators that closed a day, and wait for its last lines. Once they are dropped, their connections are closed.
+#[derive(Drop)]
+pub struct Closers {
+    streams: Vec<UnixStream>,
+}
+
+impl Closers {
+    /// Creates those of these connections.
+    pub fn new(streams: Vec<UnixStream>) -> Self {
+        Closers { streams }
+    }
+
+    /// Tells each the last lines of the day, and ends the answer by an empty line. What one of them doesn't take is lost to it.
+    pub fn tell(&self, lines: &str) {
+        for stream in &self.streams {
+            let _ = stream.set_write_timeout(Some(Duration::from_secs(WRITE_WAIT_S)));
+            let mut to = stream;
+            if to.write_all(lines.as_bytes()).is_ok() {
+                let _ = to.write_all(b"\n");
+            }
+        }
+    }
+}

@@ -1,0 +1,2 @@
+pub mod Doorways
+pub mod Readiness

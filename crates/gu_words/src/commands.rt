@@ -1,0 +1,271 @@
+//! The program's command line.
+
+ghost use Rattle.std.specs.Prelude.{◌≡◌, IfOk, false, true};
+ghost use Rattle.clap.specs.Words.{Shape, app_of, rule_of, shape_of, with_subcommand};
+ghost use Rattle.gu_words.specs.CommandLine.{check_shape, counted_app, fix_shape, flag_rule, lines_rule, most_connections, needed, number_rule, path_rule, port_rule, program, replay_shape, serve_shape, tell_shape, workers_rule};
+
+use crate::version::VERSION;
+use clap::builder::ValueParser;
+use clap::{Arg, ArgAction, Command};
+use std::alloc::{AllocError, Global};
+
+/// What help shows after the commands.
+const EXAMPLES: &str = "\
+Examples:
+  giveup check < three-agreements.sheet
+  giveup fix E1 house.csv < session.fix
+  giveup replay house.csv < day.script
+  giveup serve house.csv 9878
+
+`giveup COMMAND --help` shows the words of a command.";
+
+/// What help says of a reference.
+const REFERENCE: &str = "The path of the reference";
+
+/// What help says of a script that is run first.
+const SCRIPT: &str = "The path of a script that is run first, without output";
+
+/// What help says of a journal.
+const JOURNAL: &str =
+    "The path of a new or empty file to which the day is written at its end, as a script that makes the same entries";
+
+/// What help says of a console.
+const CONSOLE: &str =
+    "The path of a socket that answers operators: lines of a script, STATUS, JOURNAL, CUT and CLOSE";
+
+/// What help says of a watch.
+const WATCH: &str =
+    "The path of a socket that answers those who only look: STATUS, JOURNAL, POSITION, INTEREST and LIMITS";
+
+/// What help says of a server that goes on until it is closed.
+const UNTIL_CLOSED: &str =
+    "Goes on until CLOSE at the console; N, 1 to 1024, is then how many connections there may be at once";
+
+/// What help says of workers.
+const WORKERS: &str =
+    "How many threads serve the connections with --until-closed, 1 to 60; as many as processors where none is given";
+
+/// A word that must come after a command.
+fn needed<'a>(alloc: Global, name: &'a str, help: &'a str) -> Arg<'a>
+    ensures rule { rule_of result ≡ needed name.entry.now }
+    ensures local { result.global ≡ false }
+{
+    Arg::new(alloc, name).required(true).help(help)
+}
+
+/// An option whose value is a path, which help calls `value`.
+fn path_option<'a>(alloc: Global, name: &'a str, value: &'a str, help: &'a str) -> Arg<'a>
+    ensures rule { rule_of result ≡ path_rule name.entry.now }
+    ensures local { result.global ≡ false }
+{
+    Arg::new(alloc, name)
+        .long(name)
+        .value_name(value)
+        .help(help)
+}
+
+/// An option whose value is one of these numbers, and the usual one where none is given.
+fn number_option<'a>(
+    alloc: Global,
+    name: &'a str,
+    long: &'a str,
+    numbers: ValueParser<'a>,
+    usual: &'a str,
+    help: &'a str,
+) -> Arg<'a>
+    ensures rule { rule_of result ≡ number_rule name.entry.now long.entry.now numbers.entry usual.entry.now }
+    ensures local { result.global ≡ false }
+{
+    Arg::new(alloc, name)
+        .long(long)
+        .value_parser(numbers)
+        .default_value(usual)
+        .help(help)
+}
+
+/// The port of a server.
+fn port_word<'a>(alloc: Global) -> Arg<'a>
+    ensures rule { rule_of result ≡ port_rule }
+    ensures local { result.global ≡ false }
+{
+    needed(alloc, "PORT", "The port on which it listens, 1 to 65535").value_parser(
+        ValueParser::unsigned(1, 65535),
+    )
+}
+
+/// The option of a server that goes on until it is closed.
+fn until_closed_flag<'a>(alloc: Global) -> Arg<'a>
+    ensures rule { rule_of result ≡ flag_rule }
+    ensures local { result.global ≡ false }
+{
+    Arg::new(alloc, "until-closed")
+        .long("until-closed")
+        .action(ArgAction::SetTrue)
+        .help(UNTIL_CLOSED)
+}
+
+/// The workers of a server.
+fn workers_option<'a>(alloc: Global) -> Arg<'a>
+    ensures rule { rule_of result ≡ workers_rule }
+    ensures local { result.global ≡ false }
+{
+    Arg::new(alloc, "W")
+        .long("workers")
+        .value_parser(ValueParser::unsigned(1, 60))
+        .help(WORKERS)
+}
+
+/// The lines that are sent to a console.
+fn lines_word<'a>(alloc: Global) -> Arg<'a>
+    ensures rule { rule_of result ≡ lines_rule }
+    ensures local { result.global ≡ false }
+{
+    Arg::new(alloc, "LINE").num_args(0..).help(
+        "A line to send; without any, the lines of standard input are sent",
+    )
+}
+
+/// The command `check`.
+fn check_command<'a>(alloc: Global) -> Command<'a>
+    ensures { shape_of result ≡ check_shape }
+{
+    Command::new(alloc, "check")
+        .about(
+            "Checks the sweep sheet on standard input: prints OK and its lots, or its first fault",
+        )
+        .after_help("Example: giveup check < three-agreements.sheet")
+}
+
+/// The command `fix`.
+pub fn fix_command<'a>(alloc: Global) -> Result<Command<'a>, AllocError>
+    ensures { IfOk result (λ command. shape_of command ≡ fix_shape) }
+{
+    let bare = Command::new(alloc, "fix")
+        .about("Serves one session of a firm over standard input and output")
+        .after_help("Example: giveup fix E1 house.csv --script open.script < session.fix");
+    let firm = needed(alloc, "FIRM", "The name of the firm");
+    let of_firm = bare.arg(firm)?;
+    let reference = needed(alloc, "REF", REFERENCE);
+    let on_reference = of_firm.arg(reference)?;
+    let script = path_option(alloc, "script", "FILE", SCRIPT);
+    on_reference.arg(script)
+}
+
+/// The command `replay`.
+fn replay_command<'a>(alloc: Global) -> Result<Command<'a>, AllocError>
+    ensures { IfOk result (λ command. shape_of command ≡ replay_shape) }
+{
+    let bare = Command::new(alloc, "replay")
+        .about("Answers the script on standard input, line by line")
+        .after_help("Example: giveup replay house.csv < day.script");
+    let reference = needed(alloc, "REF", REFERENCE);
+    bare.arg(reference)
+}
+
+/// How many connections a server may have.
+fn most_connections(is_until_closed: bool) -> u64
+    ensures { result ≡ most_connections is_until_closed }
+{
+    if is_until_closed { 1024 } else { 32 }
+}
+
+/// The command `serve` with the words of a counted day, of a server that may have so many connections.
+fn counted_command<'a>(alloc: Global, most: u64) -> Result<Command<'a>, AllocError>
+    ensures { IfOk result (λ command. app_of command ≡ counted_app most) }
+{
+    let bare = Command::new(alloc, "serve")
+        .about(
+            "Serves firms on a port of this machine, with sweepers beside them: prints ENTRIES, SWEPT and AUDIT at the end",
+        )
+        .after_help(
+            "Example: giveup serve house.csv 9878 --script open.script --journal day.script",
+        );
+    let reference = needed(alloc, "REF", REFERENCE);
+    let on_reference = bare.arg(reference)?;
+    let port = port_word(alloc);
+    let on_port = on_reference.arg(port)?;
+    let script = path_option(alloc, "script", "FILE", SCRIPT);
+    let after_script = on_port.arg(script)?;
+    let connections = number_option(
+        alloc,
+        "N",
+        "connections",
+        ValueParser::unsigned(1, most),
+        "8",
+        "How many connections it accepts, 1 to 32",
+    );
+    let of_firms = after_script.arg(connections)?;
+    let every = number_option(
+        alloc,
+        "K",
+        "every",
+        ValueParser::unsigned(0, 1000),
+        "16",
+        "Each connection sends every K-th of its accepted give-ups to the sweepers, 0 to 1000; 0 sends none",
+    );
+    let with_sweeps = of_firms.arg(every)?;
+    let journal = path_option(alloc, "journal", "FILE", JOURNAL);
+    with_sweeps.arg(journal)
+}
+
+/// The command `serve`, where its words name the end of the day, or don't.
+pub fn serve_command<'a>(alloc: Global, is_until_closed: bool) -> Result<Command<'a>, AllocError>
+    ensures { IfOk result (λ command. shape_of command ≡ serve_shape is_until_closed) }
+{
+    let counted = counted_command(alloc, most_connections(is_until_closed))?;
+    let console = path_option(alloc, "console", "PATH", CONSOLE);
+    let with_console = counted.arg(console)?;
+    let watch = path_option(alloc, "watch", "PATH", WATCH);
+    let watched = with_console.arg(watch)?;
+    let until_closed = until_closed_flag(alloc);
+    let going_on = watched.arg(until_closed)?;
+    let workers = workers_option(alloc);
+    going_on.arg(workers)
+}
+
+/// The command `tell`.
+pub fn tell_command<'a>(alloc: Global) -> Result<Command<'a>, AllocError>
+    ensures { IfOk result (λ command. shape_of command ≡ tell_shape) }
+{
+    let bare = Command::new(alloc, "tell")
+        .about("Sends lines to the console of a server, and prints its answers")
+        .after_help("Example: giveup tell desk.socket 'LIMIT G1 ACCT A1 50' STATUS");
+    let path = needed(alloc, "PATH", "The path of the console, or of the watch");
+    let at_path = bare.arg(path)?;
+    let lines = lines_word(alloc);
+    at_path.arg(lines)
+}
+
+/// A command, and one more after it, where that was made.
+fn with<'a>(
+    command: Command<'a>,
+    made: Result<Command<'a>, AllocError>,
+) -> Result<Command<'a>, AllocError>
+    ensures { (shape : Shape) → shape.is_plain ≡ true → IfOk made.entry (λ added. shape_of added ≡ shape)
+        → IfOk result (λ with. app_of with ≡ with_subcommand (app_of command.entry) shape) }
+{
+    match made {
+        Ok(added) => command.subcommand(added),
+        Err(refused) => {
+            drop(command);
+            Err(refused)
+        }
+    }
+}
+
+/// The program's command, a subcommand for each task but trade capture.
+pub fn program<'a>(alloc: Global, is_until_closed: bool) -> Result<Command<'a>, AllocError>
+    ensures { IfOk result (λ command. app_of command ≡ program is_until_closed) }
+{
+    let bare = Command::new(alloc, "giveup")
+        .about(
+            "The desk of a clearing house. Without a command: trade capture on the sample, from standard input",
+        )
+        .version(VERSION)
+        .after_help(EXAMPLES);
+    let checking = bare.subcommand(check_command(alloc))?;
+    let fixing = with(checking, fix_command(alloc))?;
+    let replaying = with(fixing, replay_command(alloc))?;
+    let serving = with(replaying, serve_command(alloc, is_until_closed))?;
+    with(serving, tell_command(alloc))
+}

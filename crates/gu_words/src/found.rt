@@ -1,0 +1,143 @@
+//! What was found in the words of a command that clap accepted.
+
+ghost use Rattle.std.specs.Prelude.{◌≡◌, ◌≤◌, [], IfOk, IfSome, codes, map, nat_lt, option_map, unwrap_or};
+ghost use Rattle.clap.specs.Words.{IsUnsignedIn, all_of, first_of, found_of, rows_of};
+ghost use Rattle.gu_words.specs.Misfits.{has, is_one_path, misfit_in};
+ghost use Rattle.gu_words.specs.ProgramWords.{HasNumbers, is_until_closed, lasting_by, lasting_of, number_of, served_by, wanted_of, word_in};
+
+use crate::misfit::Misfit;
+use crate::serving::{Counted, Serving, Span, UntilClosed};
+use crate::words::Task;
+use clap::ArgMatches;
+use std::alloc::{AllocError, Global};
+
+/// Returns the word that was given for a name.
+pub fn word<'a>(found: &ArgMatches<'a>, name: &str) -> &'a str
+    ensures { result.now ≡ word_in (rows_of (found_of found.now)) name.now }
+{
+    found.get_str(name).unwrap_or("")
+}
+
+/// Returns the number that a word means, where it is from `least` to `most`: a command that was read has no other word.
+fn number(word: &str, least: u16, most: u16) -> u16
+    requires { least ≤ most }
+    ensures number { IsUnsignedIn least most word.now → result ≡ number_of word.now }
+    ensures from_least { least ≤ result }
+    ensures to_most { result ≤ most }
+{
+    match word.parse::<u16>() {
+        Ok(number) if least <= number && number <= most => number,
+        _ => least,
+    }
+}
+
+/// Returns whether the words have a server go on until it is closed.
+fn is_until_closed(found: &ArgMatches<'_>) -> bool
+    ensures { result ≡ is_until_closed (rows_of (found_of found.now)) }
+{
+    match found.get_str("until-closed") {
+        Some(word) => word == "true",
+        None => false,
+    }
+}
+
+/// Returns whether an option is given.
+fn has(found: &ArgMatches<'_>, name: &str) -> bool
+    ensures { result ≡ has (rows_of (found_of found.now)) name.now }
+{
+    found.get_str(name).is_some()
+}
+
+/// Returns whether there are more connections than a server has that goes on for counted ones.
+fn has_many_connections(found: &ArgMatches<'_>) -> bool
+    ensures { IsUnsignedIn 1 1024 (word_in (rows_of (found_of found.now)) (codes "N"))
+        → result ≡ nat_lt 32 (number_of (word_in (rows_of (found_of found.now)) (codes "N"))) }
+{
+    number(word(found, "N"), 1, 1024) > 32
+}
+
+/// Returns whether the console and the watch are one socket.
+fn has_one_path(found: &ArgMatches<'_>) -> bool
+    ensures { result ≡ is_one_path (first_of (codes "console") (rows_of (found_of found.now))) (first_of (codes "watch") (rows_of (found_of found.now))) }
+{
+    match (found.get_str("console"), found.get_str("watch")) {
+        (Some(console), Some(watch)) => console == watch,
+        _ => false,
+    }
+}
+
+/// Returns why the options of `serve` don't go together, if they don't.
+pub fn misfit_in(found: &ArgMatches<'_>) -> Option<Misfit>
+    ensures { IsUnsignedIn 1 1024 (word_in (rows_of (found_of found.now)) (codes "N")) → result ≡ misfit_in (rows_of (found_of found.now)) }
+{
+    let is_until_closed = is_until_closed(found);
+    if is_until_closed && !has(found, "console") {
+        Some(Misfit::NoConsole)
+    } else if !is_until_closed && has(found, "W") {
+        Some(Misfit::NotUntilClosed)
+    } else if !is_until_closed && has_many_connections(found) {
+        Some(Misfit::ManyConnections)
+    } else if has_one_path(found) {
+        Some(Misfit::OnePath)
+    } else {
+        None
+    }
+}
+
+/// Returns how many threads serve the connections, where a number is given.
+fn workers_in(found: &ArgMatches<'_>) -> Option<u16>
+    ensures number { IfSome (first_of (codes "W") (rows_of (found_of found.now))) (IsUnsignedIn 1 60)
+        → result ≡ option_map number_of (first_of (codes "W") (rows_of (found_of found.now))) }
+    ensures from_one { 1 ≤ unwrap_or result 1 }
+    ensures to_60 { unwrap_or result 1 ≤ 60 }
+{
+    match found.get_str("W") {
+        Some(word) => Some(number(word, 1, 60)),
+        None => None,
+    }
+}
+
+/// Returns how long a server goes on.
+fn span_in<'a>(found: &ArgMatches<'a>) -> Span<'a>
+    ensures { HasNumbers (rows_of (found_of found.now)) → misfit_in (rows_of (found_of found.now)) ≡ None
+        → lasting_of result ≡ lasting_by (rows_of (found_of found.now)) }
+{
+    if is_until_closed(found) {
+        Span::UntilClosed(UntilClosed {
+            console: word(found, "console"),
+            places: number(word(found, "N"), 1, 1024),
+            workers: workers_in(found),
+        })
+    } else {
+        Span::Counted(Counted {
+            connections: number(word(found, "N"), 1, 32),
+            console: found.get_str("console"),
+        })
+    }
+}
+
+/// Returns what the words of `serve` ask for.
+pub fn serving_in<'a>(found: &ArgMatches<'a>) -> Serving<'a>
+    ensures { HasNumbers (rows_of (found_of found.now)) → misfit_in (rows_of (found_of found.now)) ≡ None
+        → wanted_of (Task.Serve result) ≡ served_by (rows_of (found_of found.now)) }
+{
+    Serving {
+        reference: word(found, "REF"),
+        port: number(word(found, "PORT"), 1, 65535),
+        script: found.get_str("script"),
+        span: span_in(found),
+        every: number(word(found, "K"), 0, 1000),
+        journal: found.get_str("journal"),
+        watch: found.get_str("watch"),
+    }
+}
+
+/// Returns the lines of `tell`.
+pub fn lines_in<'a>(alloc: Global, found: &ArgMatches<'a>) -> Result<Vec<&'a str>, AllocError>
+    ensures { IfOk result (λ lines. map (λ line. line.now) lines.items ≡ unwrap_or (all_of (codes "LINE") (rows_of (found_of found.now))) []) }
+{
+    match found.get_strs("LINE") {
+        Some(lines) => Vec::from_slice(alloc, lines),
+        None => Ok(Vec::new(alloc)),
+    }
+}

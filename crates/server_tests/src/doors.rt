@@ -1,0 +1,44 @@
+//! Doors of the tests' own.
+
+use gu_server::{LetsIn, SocketCall};
+use gu_sockets::{Doorway, OperatorDoor};
+use std::io;
+use std::io::{Error, ErrorKind};
+use std::os::unix::net::UnixStream;
+use std::time::Duration;
+
+/// A door at which an accept that finds nobody fails, where it is said so, and at which one operator may stand.
+#[derive(Drop)]
+pub struct TestDoor {
+    pub doorway: Doorway,
+    pub fails_where_nobody_waits: bool,
+    pub operator: Option<UnixStream>,
+}
+
+impl LetsIn for TestDoor {
+    fn wait(&mut self, most: Option<Duration>) -> io::Result<()> {
+        self.doorway.wait(most)
+    }
+
+    fn is_due(&self) -> bool {
+        self.doorway.is_due()
+    }
+
+    fn accept(&mut self) -> io::Result<Option<(SocketCall, u16)>> {
+        match self.doorway.accept() {
+            Ok(None) if self.fails_where_nobody_waits => Err(Error::from(ErrorKind::WouldBlock)),
+            accepted => accepted,
+        }
+    }
+
+    fn accept_operator(&mut self, which: OperatorDoor) -> io::Result<Option<UnixStream>> {
+        match which {
+            OperatorDoor::Console => Ok(self.operator.take()),
+            OperatorDoor::Watch => Ok(None),
+        }
+    }
+
+    fn close_port(&mut self) {
+        self.doorway.close_port();
+    }
+}

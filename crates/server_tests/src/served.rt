@@ -1,0 +1,191 @@
+//! A day that is served, and what is done beside it.
+
+ghost use Rattle.std.specs.Prelude.{◌≡◌, ◌≤◌};
+ghost use Rattle.gu_terms.specs.Histories.{lots_swept};
+ghost use denote.Param.Send.{IsSend, IsSync};
+
+use crate::clients::Client;
+use crate::doings::{Doing, There, do_all};
+use crate::doors::TestDoor;
+use crate::machine::Machine;
+use crate::opening::book_after;
+use gu_desk::{EntryLedger, LotLedger};
+use gu_server::{Closed, Closers, Front, Opening, Service, serve_day};
+use gu_sockets::Doorway;
+use gu_streams::StreamError;
+use std::alloc::Global;
+use std::marker::Brand;
+use std::net::{Net, TcpListener, TcpStream};
+use std::os::unix::net::UnixStream;
+use std::process::Abort;
+use std::rt::Clock;
+use std::sync::{Mutex, Wait};
+use std::thread;
+use std::thread::Threads;
+
+/// How long a day is served.
+#[derive(Clone, Copy)]
+pub enum Span {
+    /// For this many connections.
+    Connections(usize),
+    /// Until it is closed, with this many connections at once and this many workers.
+    UntilClosed(usize, usize),
+}
+
+impl Span {
+    /// Returns how firms are served so.
+    fn service(self, rt: &impl Abort) -> Service
+        ensures { result.workers ≤ 60 }
+    {
+        match self {
+            Span::Connections(connections) => {
+                assert!(rt; 1 <= connections && connections <= 32);
+                Service::of_connections(connections)
+            }
+            Span::UntilClosed(connections, workers) => {
+                assert!(rt; 1 <= connections && connections <= 1_024);
+                assert!(rt; 1 <= workers && workers <= 60);
+                Service::until_closed(connections, workers)
+            }
+        }
+    }
+}
+
+/// What a day begins with, how long it is served, what is done on it, and what it comes to.
+#[derive(Clone, Copy)]
+pub struct Row {
+    pub begin: &'static str,
+    pub doing: Doing,
+    pub span: Span,
+    /// The order of every K-th accepted give-up of a connection, K being this, is sent to the sweepers.
+    pub every: u64,
+    pub end: &'static str,
+}
+
+/// Where connections come in on a day, and who is there when it begins.
+#[derive(Drop)]
+pub struct Outside {
+    pub listener: TcpListener,
+    /// A firm that has connected.
+    pub first: Option<Client>,
+    /// Whether an accept that finds nobody fails.
+    pub fails_where_nobody_waits: bool,
+}
+
+/// Returns the port of a listener.
+pub fn port_of(listener: &TcpListener) -> u16 {
+    match listener.local_addr() {
+        Ok(address) => address.port(),
+        Err(_) => 0,
+    }
+}
+
+/// The two ends of a day: where connections come in, and who is there.
+#[derive(Drop)]
+struct Ends {
+    front: Front<TestDoor>,
+    there: There,
+}
+
+/// Returns the two ends of a day, where one operator is at the console.
+fn ends_of<R: Net<Listener = TcpListener, Stream = TcpStream> + Abort>(
+    rt: &R,
+    alloc: Global,
+    outside: Outside,
+) -> Ends {
+    let Outside {
+        listener,
+        first,
+        fails_where_nobody_waits,
+    } = outside;
+    let port = port_of(&listener);
+    let made = Doorway::new(rt, alloc, listener, None, None);
+    let (doorway, bell) = made.ok().expect(rt, "a doorway");
+    let paired = UnixStream::pair(rt);
+    let (near, far) = paired.ok().expect(rt, "two streams");
+    let door = TestDoor {
+        doorway,
+        fails_where_nobody_waits,
+        operator: Some(far),
+    };
+    Ends {
+        front: Front { door, bell },
+        there: There {
+            port,
+            first,
+            operator: near,
+        },
+    }
+}
+
+/// The end of a day, while this is done beside it.
+fn day<
+    E: EntryLedger + Send + Sync,
+    S: LotLedger + Send + Sync,
+    R: Net<Listener = TcpListener, Stream = TcpStream> + Threads + Wait + Clock + Abort + Sync,
+>(
+    rt: &R,
+    alloc: Global,
+    opening: Opening,
+    outside: Outside,
+    doing: Doing,
+    said: &Mutex<Vec<u8>>,
+) -> Result<(Closed, Closers), StreamError>
+    requires reference { opening.book.reference ≡ E.reference }
+    requires history { (opening.book.history ≡ E.opening) × (lots_swept opening.book.history ≡ S.opening) }
+    requires annals { opening.annals.name ≡ E.history }
+    requires entries { (opening.entries.name ≡ E.name) × (opening.entries.parts ≡ E.parts) }
+    requires swept { (opening.swept.name ≡ S.name) × (opening.swept.parts ≡ S.parts) }
+{
+    let machine = Machine::new(rt, doing.leap(), said);
+    let Ends { front, there } = ends_of(rt, alloc, outside);
+    let (served, done) = thread::join(
+        rt,
+        || -> Result<(Closed, Closers), StreamError>
+            requires { (opening.book.reference ≡ E.reference) × (opening.book.history ≡ E.opening) × (opening.annals.name ≡ E.history)
+                × (lots_swept opening.book.history ≡ S.opening) × (opening.entries.name ≡ E.name) × (opening.entries.parts ≡ E.parts)
+                × (opening.swept.name ≡ S.name) × (opening.swept.parts ≡ S.parts)
+                × IsSync R.row × IsSend E.row × IsSync E.row × IsSend S.row × IsSync S.row }
+        {
+            serve_day::<E, S, Machine<'_, R>, Vec<u8>, TestDoor>(
+                &machine, alloc, opening, front, None,
+            )
+        },
+        || do_all(rt, alloc, there, doing, said),
+    );
+    assert!(rt; done.is_ok());
+    served
+}
+
+/// What the day of a row begins with.
+fn opening_of(rt: &impl Abort, alloc: Global, row: &Row) -> Opening {
+    let (book, receipts) = book_after(alloc, row.begin).ok().expect(rt, "a book");
+    let opened = Opening::new(
+        alloc,
+        book,
+        receipts,
+        row.span.service(rt).with_operators(true, false),
+    );
+    let mut opening = opened.ok().expect(rt, "an opening");
+    opening.every = row.every;
+    opening.write_wait_ms = row.doing.write_wait_ms();
+    opening
+}
+
+/// What the day of a row comes to.
+pub fn end_of<
+    R: Net<Listener = TcpListener, Stream = TcpStream> + Threads + Wait + Clock + Abort + Sync,
+>(rt: &R, alloc: Global, outside: Outside, row: &Row, said: &Mutex<Vec<u8>>) -> (Closed, Closers) {
+    let opening = opening_of(rt, alloc, row);
+    let served = day::<Brand, Brand, R>(rt, alloc, opening, outside, row.doing, said);
+    served.ok().expect(rt, "a day")
+}
+
+/// Asserts that a day ends with these lines.
+pub fn check_end(rt: &impl Abort, alloc: Global, closed: Closed, lines: &str) {
+    let (end, book, _) = closed.end(alloc);
+    drop(book);
+    let (text, is_well) = end.expect(rt, "memory");
+    assert!(rt; is_well);
+    assert_eq!(rt; text.as_str(), lines);
+}

@@ -1,0 +1,139 @@
+//! What the workers of a test share, and a worker.
+
+use crate::book_house::{BookHouse, SharedBook};
+use crate::books::book_after;
+use crate::hosts::Host;
+use crate::switchboard::{Switchboard, Waits};
+use crate::watches::{Hands, Ring, Watch};
+use crate::wires::{Line, Wire};
+use gu_houses::OverBook;
+use gu_posts::{CallSender, Posts, calls};
+use gu_script::ScriptError;
+use gu_terms::FirmId;
+use gu_workers::{Shared, Worker, WorkerSettings, WorkerTools};
+use std::alloc::{AllocError, Global};
+use std::cell::{Cell, RefCell};
+use trials::meant;
+
+/// How many milliseconds answers may be held of which none goes out.
+pub const WRITE_WAIT_MS: u64 = 10_000;
+
+/// How a test begins.
+#[derive(Clone, Copy)]
+pub struct Setting<'a> {
+    /// The script that leads to its book, in which `/` ends a line and `(x%*1..9)` is nine lines.
+    pub script: &'a str,
+    /// How many connections may come in all.
+    pub wires: usize,
+    pub workers: usize,
+    /// How many places each worker has.
+    pub places: usize,
+}
+
+/// What the workers of a test share.
+#[derive(Drop)]
+pub struct Floor {
+    pub wires: Vec<Wire>,
+    pub hands: Hands,
+    pub waits: Waits,
+    pub host: Host,
+    pub book: SharedBook,
+    pub posts: Posts<Ring>,
+    firms: Vec<FirmId>,
+}
+
+/// A worker of a test.
+pub type Hand<'a> = Worker<'a, Switchboard<'a>, Watch<'a>, BookHouse<'a>, Host, Ring>;
+
+/// Where the connections of a worker of a test are sent.
+pub type Callers<'a> = CallSender<'a, Line<'a>, Ring>;
+
+/// The firms that may log on.
+fn firms(alloc: Global) -> Result<Vec<FirmId>, AllocError> {
+    let mut firms = Vec::new(alloc);
+    for name in [b"E1", b"E2", b"C1", b"C2"] {
+        if let Some(firm) = FirmId::new(name) {
+            firms.push(firm)?;
+        }
+    }
+    Ok(firms)
+}
+
+/// Bells that nobody rang.
+fn bells(alloc: Global, count: usize) -> Result<Vec<Ring>, AllocError> {
+    let mut bells = Vec::new(alloc);
+    for _ in 0..count {
+        bells.push(Ring::new())?;
+    }
+    Ok(bells)
+}
+
+/// Connections that haven't come.
+fn wires(alloc: Global, count: usize) -> Result<Vec<Wire>, AllocError> {
+    let mut wires = Vec::new(alloc);
+    for _ in 0..count {
+        wires.push(Wire::new(alloc))?;
+    }
+    Ok(wires)
+}
+
+impl Floor {
+    /// What workers share at nine, of a book after a script.
+    pub fn new(alloc: Global, setting: Setting<'_>) -> Result<Self, ScriptError> {
+        let script = meant(alloc, setting.script)?;
+        let house = OverBook::new(book_after(alloc, &script)?);
+        let bells = bells(alloc, setting.workers)?;
+        Ok(Floor {
+            wires: wires(alloc, setting.wires)?,
+            hands: Hands::new(),
+            waits: Waits {
+                asked: Cell::new(None),
+                takes_time: Cell::new(false),
+                has_failed: Cell::new(false),
+                besides: RefCell::new(Vec::new(alloc)),
+            },
+            host: Host::new(),
+            book: SharedBook::new(house),
+            posts: Posts::new(alloc, bells, setting.places, Ring::new())?,
+            firms: firms(alloc)?,
+        })
+    }
+
+    /// A worker, and where its connections are sent.
+    pub fn worker(
+        &self,
+        alloc: Global,
+        worker: usize,
+        places: usize,
+    ) -> Result<(Hand<'_>, Callers<'_>), AllocError> {
+        let (callers, calls) = calls(alloc, &self.posts, worker, places)?;
+        let bell = match self.posts.post(worker) {
+            Some(post) => Some(post.bell()),
+            None => None,
+        };
+        let settings = WorkerSettings {
+            worker,
+            places,
+            write_wait_ms: WRITE_WAIT_MS,
+            keeps_count: false,
+        };
+        let tools = WorkerTools {
+            poller: Switchboard::new(&self.wires, &self.hands, &self.waits, bell),
+            timer: Watch::new(&self.hands),
+            house: BookHouse::new(&self.book, &self.posts),
+            calls,
+        };
+        let shared = Shared {
+            firms: &self.firms,
+            admission: &self.host,
+            posts: &self.posts,
+        };
+        match Worker::new(alloc, shared, settings, tools) {
+            Ok(worker) => Ok((worker, callers)),
+            Err(house) => {
+                drop(house);
+                Err(AllocError)
+            }
+        }
+    }
+}
