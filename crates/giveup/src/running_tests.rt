@@ -106,15 +106,11 @@ const SLOW: &str = "\
 giveup fix E1 house < 8=FIXT.1.1|9=66|35=A|49=E1|56=GIVEUP|34=1|52=20260105-09:00:00|98=0|108=30|1137=9|10=004| -> 0 house ; 8=FIXT.1.1|9=70|35=A|49=GIVEUP|56=E1|34=1|52=20260105-09:00:00.000|98=0|108=30|1137=9|10=189|;
 ";
 
-/// Days on the machine's port, to which one firm has connected: it sends this input, and waits for the end of its connection. Where a
-/// second connection is to be accepted, that fails.
+/// Days on the machine's port, to which one firm has connected: it sends this input, and waits for the end of its connection.
 const SERVED: &str = "\
 giveup serve house 9878 --script day --connections 1 < 8=FIXT.1.1|9=66|35=A|49=E1|56=GIVEUP|34=1|52=20260105-09:00:00|98=0|108=30|1137=9|10=004|8=FIXT.1.1|9=112|35=AE|49=E1|56=GIVEUP|34=2|52=20260105-09:00:00|571=R1|880=M1|55=XF6|32=10|31=101.5|75=20260105|552=1|54=1|1=H1|10=236| -> 0 house day 127.0.0.1:9878 ; ENTRIES 2/SWEPT 0/AUDIT OK/;
 giveup serve house 9878 --script day --connections 1 --journal log < 8=FIXT.1.1|9=66|35=A|49=E1|56=GIVEUP|34=1|52=20260105-09:00:00|98=0|108=30|1137=9|10=004|8=FIXT.1.1|9=112|35=AE|49=E1|56=GIVEUP|34=2|52=20260105-09:00:00|571=R1|880=M1|55=XF6|32=10|31=101.5|75=20260105|552=1|54=1|1=H1|10=236| -> 0 house day +log 127.0.0.1:9878 !log . !. ; ENTRIES 2/SWEPT 0/AUDIT OK/; ; # giveup 0.1.0, proved with rattle-kit-13b (logic dac8208d650f15bf)/# reference: SHA-256 8167b5abead291b098903bd30fe0583fc384d2e678c4feae8d5f0182aa6165f4/# opened: 2026-01-05T09:00:00Z/DAY 20260105/REPORT E1 R1 M1 B XF6 10 101.5 H1/
 giveup serve house 9878 --script day --connections 1 --journal stuck < 8=FIXT.1.1|9=66|35=A|49=E1|56=GIVEUP|34=1|52=20260105-09:00:00|98=0|108=30|1137=9|10=004|8=FIXT.1.1|9=112|35=AE|49=E1|56=GIVEUP|34=2|52=20260105-09:00:00|571=R1|880=M1|55=XF6|32=10|31=101.5|75=20260105|552=1|54=1|1=H1|10=236| -> 1 house day +stuck 127.0.0.1:9878 ; ENTRIES 2/SWEPT 0/AUDIT OK/; giveup: write fault/
-giveup serve house 9878 --script day --connections 2 < 8=FIXT.1.1|9=66|35=A|49=E1|56=GIVEUP|34=1|52=20260105-09:00:00|98=0|108=30|1137=9|10=004|8=FIXT.1.1|9=112|35=AE|49=E1|56=GIVEUP|34=2|52=20260105-09:00:00|571=R1|880=M1|55=XF6|32=10|31=101.5|75=20260105|552=1|54=1|1=H1|10=236| -> 1 house day 127.0.0.1:9878 ; ENTRIES 2/SWEPT 0/AUDIT OK/; giveup: no connection is accepted until one has ended: Resource temporarily unavailable (os error 11)/giveup: read fault/
-giveup serve house 9878 --script day --connections 2 --journal log < 8=FIXT.1.1|9=66|35=A|49=E1|56=GIVEUP|34=1|52=20260105-09:00:00|98=0|108=30|1137=9|10=004|8=FIXT.1.1|9=112|35=AE|49=E1|56=GIVEUP|34=2|52=20260105-09:00:00|571=R1|880=M1|55=XF6|32=10|31=101.5|75=20260105|552=1|54=1|1=H1|10=236| -> 1 house day +log 127.0.0.1:9878 !log . !. ; ENTRIES 2/SWEPT 0/AUDIT OK/; giveup: no connection is accepted until one has ended: Resource temporarily unavailable (os error 11)/giveup: read fault/; # giveup 0.1.0, proved with rattle-kit-13b (logic dac8208d650f15bf)/# reference: SHA-256 8167b5abead291b098903bd30fe0583fc384d2e678c4feae8d5f0182aa6165f4/# opened: 2026-01-05T09:00:00Z/DAY 20260105/REPORT E1 R1 M1 B XF6 10 101.5 H1/
-giveup serve house 9878 --script day --connections 2 --journal stuck < 8=FIXT.1.1|9=66|35=A|49=E1|56=GIVEUP|34=1|52=20260105-09:00:00|98=0|108=30|1137=9|10=004|8=FIXT.1.1|9=112|35=AE|49=E1|56=GIVEUP|34=2|52=20260105-09:00:00|571=R1|880=M1|55=XF6|32=10|31=101.5|75=20260105|552=1|54=1|1=H1|10=236| -> 1 house day +stuck 127.0.0.1:9878 ; ENTRIES 2/SWEPT 0/AUDIT OK/; giveup: no connection is accepted until one has ended: Resource temporarily unavailable (os error 11)/giveup: write fault/giveup: read fault/
 giveup serve house 9878 --script traded --connections 1 --every 0 < 8=FIXT.1.1|9=66|35=A|49=E1|56=GIVEUP|34=1|52=20260105-09:00:00|98=0|108=30|1137=9|10=004|8=FIXT.1.1|9=93|35=J|49=E1|56=GIVEUP|34=2|52=20260105-09:00:00|70=L1|71=0|53=10|124=1|17=R1|78=1|79=A1|80=10|10=229| -> 0 house traded 127.0.0.1:9878 ; ENTRIES 8/SWEPT 0/AUDIT OK/;
 giveup serve house 9878 --script traded --connections 1 --every 1 < 8=FIXT.1.1|9=66|35=A|49=E1|56=GIVEUP|34=1|52=20260105-09:00:00|98=0|108=30|1137=9|10=004|8=FIXT.1.1|9=93|35=J|49=E1|56=GIVEUP|34=2|52=20260105-09:00:00|70=L1|71=0|53=10|124=1|17=R1|78=1|79=A1|80=10|10=229| -> 0 house traded 127.0.0.1:9878 ; ENTRIES 9/SWEPT 10/AUDIT OK/;
 ";
@@ -209,13 +205,12 @@ fn check<R: Abort + Threads + Wait + Sync + Alloc<A = Global>>(
     }
 }
 
-/// A port, and the connection of a firm to it. An accept that finds no further connection fails.
+/// A port, and the connection of a firm to it.
 fn connected<R: Net<Listener = TcpListener, Stream = TcpStream>>(
     rt: &R,
 ) -> io::Result<(TcpListener, TcpStream)> {
     let listener = TcpListener::bind(rt, ("127.0.0.1", 0))?;
     let stream = TcpStream::connect(rt, listener.local_addr()?)?;
-    listener.set_nonblocking(true)?;
     Ok((listener, stream))
 }
 
