@@ -115,7 +115,7 @@ fn keep_journal<'a, R: Files + Alloc<A = Global>>(
 
 /// Ends a day: prints its lines, also if not every connection could be accepted, and then writes its journal, also if the lines couldn't
 /// be made or printed. Operators that closed the day are told the lines once the journal is whole. Returns all that failed.
-fn end_day<'a, R: Print + Files + Alloc<A = Global>>(
+pub fn end_day<'a, R: Print + Files + Alloc<A = Global>>(
     rt: &R,
     (closed, closers): (Closed, Closers),
     journal: Option<JournalFile<'a, R::File>>,

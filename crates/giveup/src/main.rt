@@ -7,6 +7,8 @@ mod checking;
 mod day;
 mod digesting;
 #[cfg(test)]
+mod ending_tests;
+#[cfg(test)]
 mod engines;
 mod error;
 #[cfg(test)]
