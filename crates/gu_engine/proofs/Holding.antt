@@ -4,7 +4,7 @@ use Rattle.std.proofs.KnownBytes.{Appends-trans, Appends-nil}
 use Rattle.std.proofs.lemmas.List.{append-nil, length-append}
 use Rattle.gu_streams.specs.Written.{WrotePart}
 use Rattle.gu_streams.proofs.Writing.{wrote_then}
-use Rattle.gu_engine.specs.Sends.{Gives}
+use Rattle.gu_engine.specs.Sends.{Gives, GivesSome}
 
 -- nothing was given or written
 pub gives_nothing : (held : List ℕ) (o : Option (List ℕ)) → Gives [] held held o o
@@ -26,6 +26,14 @@ gives_then text more held mid new o p q first second = record {
 -- a text is given, and then what is held goes out
 pub gives_and_goes : (text held mid new : List ℕ) (o p q : Option (List ℕ)) → Gives text held mid o p → Gives [] mid new p q → Gives text held new o q
 gives_and_goes text held mid new o p q first second = subst (λ (t : List ℕ). Gives t held new o q) (append-nil text) (gives_then text [] held mid new o p q first second)
+
+-- a text is given
+pub some_given : (text held new : List ℕ) (o p : Option (List ℕ)) → Gives text held new o p → GivesSome held new o p
+some_given text held new o p gave = record { text = text; gave = gave }
+
+-- and then another
+pub some_then : (text held mid new : List ℕ) (o p q : Option (List ℕ)) → GivesSome held mid o p → Gives text mid new p q → GivesSome held new o q
+some_then text held mid new o p q first second = record { text = first.text ++ text; gave = gives_then first.text text held mid new o p q first.gave second }
 
 -- no more is held where nothing is given
 pub fewer_held : (held kept : List ℕ) (o p : Option (List ℕ)) → Gives [] held kept o p → length held ≤ 65536 → length kept ≤ 65536

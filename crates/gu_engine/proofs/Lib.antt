@@ -1,5 +1,6 @@
 pub mod Answering
 pub mod Exchanging
+pub mod FirstParts
 pub mod Frames
 pub mod Holding
 pub mod InTurn

@@ -13,6 +13,11 @@ pub record Gives (text held_old held_new : List ℕ) (output_old output_new : Op
   pub appended : Appends output_old output_new sent
   pub parts : held_old ++ text ≡ sent ++ held_new
 
+-- some text was given so
+pub record GivesSome (held_old held_new : List ℕ) (output_old output_new : Option (List ℕ)) : Type 0 where
+  pub text : List ℕ
+  pub gave : Gives text held_old held_new output_old output_new
+
 -- the first of what a turn brought is answered, and a prefix of what was held and of these answers was written
 pub record GivesPart {S : Type 0} (engine : Engine S) (now : ℕ) (old : S) (brought : List Event) (held : List ℕ) (output_old output_new : Option (List ℕ)) : Type 0 where
   pub text : List ℕ

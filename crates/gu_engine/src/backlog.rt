@@ -1,6 +1,6 @@
 //! What an engine keeps between two turns, besides what answers.
 
-ghost use Rattle.std.specs.Prelude.{◌≡◌, ◌↔◌, ◌<◌, [], List, ℕ, false, length, IfErr, IfNone, IfOk, IfSome, IsTrue, OnErr, OnOk, true};
+ghost use Rattle.std.specs.Prelude.{◌≡◌, ◌↔◌, ◌<◌, ◌≤◌, ◌+◌, [], List, ℕ, false, length, take, IfErr, IfNone, IfOk, IfSome, IsTrue, OnErr, OnOk, true};
 ghost use Rattle.gu_engine.specs.Backlogs.{TakesEvent, TakesIn, TakesLast, steps_left};
 ghost use Rattle.gu_engine.specs.Closings.{HoldsTheSame, IsIdle, KeepsInput};
 ghost use Rattle.gu_engine.specs.Running.{is_more};
@@ -78,6 +78,19 @@ impl<O> Backlog<O> {
     {
         self.intake.release();
         self.held.release();
+    }
+
+    /// Lets go of a first part of the answers that are held, of at most this many bytes, whatever its outlet.
+    pub fn send_first<W: Write>(&mut self, most: usize, writer: &mut W) -> Result<(), StreamError>
+        ensures given { OnOk result (Gives [] self.old.held.bytes.items self.new.held.bytes.items (W.contents writer.old) (W.contents writer.new)) }
+        ensures most { OnOk result (length self.old.held.bytes.items ≤ length self.new.held.bytes.items + most) }
+        ensures part { OnErr result (WrotePart (take most self.old.held.bytes.items) (W.contents writer.old) (W.contents writer.new)) }
+        ensures kept { OnErr result (self.new.held.bytes.items ≡ self.old.held.bytes.items) }
+        ensures fault { IfErr result (λ error. error ≡ StreamError.Write) }
+        ensures input { KeepsInput self.old self.new }
+        ensures outlet { self.new.held.outlet ≡ self.old.held.outlet }
+    {
+        self.held.let_go_first(most, writer)
     }
 
     /// Takes the first frame; or finds that the turn is over, as there is none yet.

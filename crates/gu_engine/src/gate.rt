@@ -1,31 +1,65 @@
-//! An outlet that is opened once answers may go out.
+//! An outlet that lets a first part of what is held go, once answers may go out.
 
-ghost use Rattle.std.specs.Prelude.{◌≡◌, false, true, IfErr, OnErr, OnOk};
+ghost use Rattle.std.specs.Prelude.{◌≡◌, ◌+◌, ◌≤◌, false, length, take, IfErr, IfOk, OnErr, OnOk};
+ghost use Rattle.std.specs.Io.KnownBytes.{Appends};
 ghost use Rattle.gu_streams.specs.Written.{LetsGo, WrotePart};
 
-use gu_streams::{Outlet, StreamError, send_some};
-use std::io::Write;
+use gu_streams::{Outlet, StreamError};
+use std::io::{ErrorKind, Write};
 
-/// An outlet that lets nothing go while it is closed, and once it is open as much as the writer takes without waiting.
+/// An outlet that lets at most a number of the bytes go that are held, as far as the writer takes them without waiting.
 #[derive(Drop)]
 pub struct Gate {
-    is_open: bool,
+    most: usize,
 }
 
 impl Gate {
-    /// Creates one that is closed.
+    /// Creates one that lets nothing go.
     pub fn closed() -> Self
-        ensures { result.is_open ≡ false }
+        ensures { result.most ≡ 0 }
     {
-        Gate { is_open: false }
+        Gate { most: 0 }
     }
 
-    /// Creates one that is open.
+    /// Creates one that lets all go.
     pub fn open() -> Self
-        ensures { result.is_open ≡ true }
+        ensures { result.most ≡ usize.MAX }
     {
-        Gate { is_open: true }
+        Gate { most: usize::MAX }
     }
+
+    /// Creates one that lets go of this many bytes at most, each time anew.
+    pub fn up_to(most: usize) -> Self
+        ensures { result.most ≡ most }
+    {
+        Gate { most }
+    }
+}
+
+/// Writes of a text as much as the writer takes without waiting, and returns how much that is. After an error some prefix was written.
+fn write_some<W: Write>(writer: &mut W, text: &[u8]) -> Result<usize, StreamError>
+    ensures within { IfOk result (λ count. count ≤ length text.now) }
+    ensures ok { IfOk result (λ count. Appends (W.contents writer.old) (W.contents writer.new) (take count text.now)) }
+    ensures err { OnErr result (WrotePart text.now (W.contents writer.old) (W.contents writer.new)) }
+    ensures fault { IfErr result (λ error. error ≡ StreamError.Write) }
+
+    // No text is written without asking the writer.
+    ensures unasked { length text.now ≡ 0 → writer.new ≡ writer.old }
+{
+    let mut at = 0;
+    'parts: while at < text.len() {
+        match writer.write(&text[at..]) {
+            Ok(0) => return Err(StreamError::Write),
+            Ok(count) => at += count,
+            Err(error) => {
+                return match error.kind() {
+                    ErrorKind::WouldBlock => Ok(at),
+                    _ => Err(StreamError::Write),
+                };
+            }
+        }
+    }
+    Ok(at)
 }
 
 impl Outlet for Gate {
@@ -37,13 +71,18 @@ impl Outlet for Gate {
         ensures kept { OnErr result (held.new.items ≡ held.old.items) }
         ensures fault { IfErr result (λ error. error ≡ StreamError.Write) }
 
+        // At most so many bytes go, also before an error.
+        ensures most { OnOk result (length held.old.items ≤ length held.new.items + self.old.most) }
+        ensures first { OnErr result (WrotePart (take self.old.most held.old.items) (W.contents writer.old) (W.contents writer.new)) }
+        ensures same { self.new ≡ self.old }
+
         // While it is closed nothing happens.
-        ensures unwritten { self.old.is_open ≡ false → writer.new ≡ writer.old }
-        ensures held { self.old.is_open ≡ false → held.new ≡ held.old }
+        ensures unwritten { self.old.most ≡ 0 → writer.new ≡ writer.old }
+        ensures held { self.old.most ≡ 0 → held.new.items ≡ held.old.items }
     {
-        if !self.is_open {
-            return Ok(());
-        }
-        send_some(writer, held)
+        let most = self.most.min(held.len());
+        let count = write_some(writer, &held[..most])?;
+        held.drain(..count);
+        Ok(())
     }
 }

@@ -1,9 +1,10 @@
 //! Answers that are held.
 
-ghost use Rattle.std.specs.Prelude.{◌≡◌, ◌≤◌, ◌<◌, ◌↔◌, [], true, length, IfErr, IsTrue, OnErr, OnOk};
+ghost use Rattle.std.specs.Prelude.{◌≡◌, ◌≤◌, ◌<◌, ◌+◌, ◌↔◌, [], true, length, take, IfErr, IsTrue, OnErr, OnOk};
 ghost use Rattle.gu_streams.specs.Written.{WrotePart};
 ghost use Rattle.gu_engine.specs.Sends.{Gives};
 
+use crate::gate::Gate;
 use gu_streams::{Outlet, StreamError};
 use std::alloc::Global;
 use std::io::Write;
@@ -44,6 +45,22 @@ impl<O> Held<O> {
         if self.bytes.is_empty() {
             self.bytes.shrink_to_fit();
         }
+    }
+
+    /// Lets go of a first part of what is held, of at most this many bytes, whatever its outlet.
+    pub(crate) fn let_go_first<W: Write>(
+        &mut self,
+        most: usize,
+        writer: &mut W,
+    ) -> Result<(), StreamError>
+        ensures given { OnOk result (Gives [] self.old.bytes.items self.new.bytes.items (W.contents writer.old) (W.contents writer.new)) }
+        ensures most { OnOk result (length self.old.bytes.items ≤ length self.new.bytes.items + most) }
+        ensures part { OnErr result (WrotePart (take most self.old.bytes.items) (W.contents writer.old) (W.contents writer.new)) }
+        ensures kept { OnErr result (self.new.bytes.items ≡ self.old.bytes.items) }
+        ensures fault { IfErr result (λ error. error ≡ StreamError.Write) }
+        ensures outlet { self.new.outlet ≡ self.old.outlet }
+    {
+        Gate::up_to(most).let_go(writer, &mut self.bytes)
     }
 }
 

@@ -6,7 +6,7 @@ ghost use Rattle.gu_streams.specs.Streams.{streams_of};
 ghost use Rattle.gu_streams.specs.Written.{WrotePart};
 ghost use Rattle.gu_engine.specs.Backlogs.{AnswersPartOfIt, AnswersWhatIsLeft};
 ghost use Rattle.gu_engine.specs.Running.{Answers, FailsToBegin, Served, ServedInPart, ServedSoFar, brought_in, is_more};
-ghost use Rattle.gu_engine.specs.Sends.{Gives, GivesAnswers, GivesPart, IsAnswerFault};
+ghost use Rattle.gu_engine.specs.Sends.{Gives, GivesAnswers, GivesPart, GivesSome, IsAnswerFault};
 ghost use Rattle.gu_engine.specs.Turned.{TurnsTo, TurnsToPart, is_last, work_of};
 ghost use Rattle.gu_engine.specs.Turns.{IsEmpty};
 
@@ -90,6 +90,7 @@ fn answer_left<W: Write, O: Outlet, A: Answerer>(
     now: Moment,
 ) -> Result<(), StreamError>
     ensures answered { OnOk result (AnswersWhatIsLeft A.engine now answerer.old backlog.old answerer.new backlog.new (W.contents writer.old) (W.contents writer.new)) }
+    ensures gave { OnOk result (GivesSome backlog.old.held.bytes.items backlog.new.held.bytes.items (W.contents writer.old) (W.contents writer.new)) }
     ensures few { OnOk result (O.takes_all ≡ true → length backlog.old.held.bytes.items ≤ 65536 → length backlog.new.held.bytes.items ≤ 65536) }
     ensures part { OnErr result (AnswersPartOfIt A.engine now answerer.old backlog.old (W.contents writer.old) (W.contents writer.new)) }
     ensures faults { IfErr result IsAnswerFault }
@@ -137,6 +138,9 @@ pub fn turn<R: Read, W: Write, O: Outlet, A: Answerer>(
     requires { 0 < length buffer.old }
     ensures turned { IfOk result (TurnsTo A.engine R.remaining answerer.old answerer.new
         (work_of W.contents reads.old reads.new writer.old writer.new backlog.old backlog.new)) }
+
+    // Whatever was left, a first part of what was held and answered went out, and the rest is held.
+    ensures gave { IfOk result (λ turned. GivesSome backlog.old.held.bytes.items backlog.new.held.bytes.items (W.contents writer.old) (W.contents writer.new)) }
 
     // By an outlet that always takes all, nothing is held where the next turn asks the reader, and no turn is cut.
     ensures sent { IfOk result (λ turned. O.takes_all ≡ true → (backlog.new.held.bytes.items ≡ []) ⊎ (IsAhead reads.new × (is_last turned ≡ false))) }

@@ -59,6 +59,7 @@ pub use laws::{
     what_is_read_has_no_fault,
 };
 pub use midnight::midnight_of;
+pub use moment_texts::moment_text;
 pub use outbound::{Outbound, OutboundRef};
 pub use reading::{ReadMessage, read, read_with_header};
 pub use reject_reason::SessionRejectReason;

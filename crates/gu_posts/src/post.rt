@@ -13,6 +13,8 @@ pub struct Post<B> {
     told: AtomicU64,
     /// Whether any of its connections was cut.
     has_cuts: AtomicBool,
+    /// Whether it holds answers back until more entries are kept.
+    holds_back: AtomicBool,
     /// Whether it waits, or is about to.
     is_asleep: AtomicBool,
     /// How many connections it has, with those that are on their way to it.
@@ -34,6 +36,7 @@ impl<B> Post<B> {
             bell,
             told: AtomicU64::new(0),
             has_cuts: AtomicBool::new(false),
+            holds_back: AtomicBool::new(false),
             is_asleep: AtomicBool::new(false),
             connections: AtomicU64::new(0),
             rows,
@@ -63,6 +66,11 @@ impl<B> Post<B> {
     /// Counts out a connection that has ended.
     pub fn remove_connection(&self) {
         let _ = self.connections.fetch_sub(1, Ordering::SeqCst);
+    }
+
+    /// Notes whether the worker holds answers back until more entries are kept.
+    pub fn set_holds_back(&self, holds_back: bool) {
+        self.holds_back.store(holds_back, Ordering::SeqCst);
     }
 
     /// Notes that the worker is about to wait.
@@ -95,6 +103,13 @@ impl<B: Bell> Post<B> {
     /// Wakes the worker, whether it waits or not.
     pub fn ring(&self) {
         self.bell.ring();
+    }
+
+    /// Wakes the worker if it waits, or is about to, and holds answers back.
+    pub fn release(&self) {
+        if self.holds_back.load(Ordering::SeqCst) {
+            self.ring_if_asleep();
+        }
     }
 
     /// Wakes the worker if it waits, or is about to.

@@ -2,6 +2,7 @@
 
 use crate::bell::Bell;
 use crate::connection_row::ConnectionStatus;
+use crate::failure::{Failure, Failures};
 use crate::post::Post;
 use gu_notices::{FirmFilter, FirmPlace};
 use std::alloc::{AllocError, Global};
@@ -26,8 +27,12 @@ pub struct Posts<B> {
     posts: Vec<Post<B>>,
     /// What wakes the thread that accepts connections.
     accepting: B,
+    /// How many entries are kept for good: it only grows. A day without a journal keeps none, and has the greatest number.
+    kept: AtomicU64,
     is_closing: AtomicBool,
-    has_failed: AtomicBool,
+    /// Whether no more entries will be kept.
+    is_stopped: AtomicBool,
+    failures: Failures,
 }
 
 /// Returns the bit of a worker or of a place of firms. Past the 64th there is none.
@@ -52,12 +57,13 @@ fn firm_rows(alloc: Global) -> Result<Vec<FirmRow>, AllocError> {
 
 impl<B: Drop> Posts<B> {
     /// Creates those of workers with these bells, 64 at most, each with this many places; and with the bell of the thread that
-    /// accepts connections.
+    /// accepts connections. This many entries are kept when the day begins: `u64::MAX` if it has no journal.
     pub fn new(
         alloc: Global,
         bells: Vec<B>,
         places: usize,
         accepting: B,
+        kept: u64,
     ) -> Result<Self, AllocError> {
         let mut posts = Vec::with_capacity(alloc, bells.len())?;
         for bell in bells {
@@ -67,8 +73,10 @@ impl<B: Drop> Posts<B> {
             firms: firm_rows(alloc)?,
             posts,
             accepting,
+            kept: AtomicU64::new(kept),
             is_closing: AtomicBool::new(false),
-            has_failed: AtomicBool::new(false),
+            is_stopped: AtomicBool::new(false),
+            failures: Failures::none(),
         })
     }
 }
@@ -133,9 +141,24 @@ impl<B> Posts<B> {
         self.is_closing.load(Ordering::SeqCst)
     }
 
+    /// Returns how many entries are kept for good, so that answers may show them.
+    pub fn kept(&self) -> u64 {
+        self.kept.load(Ordering::SeqCst)
+    }
+
+    /// Returns whether no more entries will be kept: then what shows them never goes out.
+    pub fn is_stopped(&self) -> bool {
+        self.is_stopped.load(Ordering::SeqCst)
+    }
+
+    /// Returns why a worker couldn't go on, if one couldn't.
+    pub fn failure(&self) -> Option<Failure> {
+        self.failures.any()
+    }
+
     /// Returns whether a worker couldn't go on.
     pub fn has_failed(&self) -> bool {
-        self.has_failed.load(Ordering::SeqCst)
+        self.failure().is_some()
     }
 
     /// Notes that a worker has a connection of a firm, or that it has none any more.
@@ -185,9 +208,28 @@ impl<B: Bell> Posts<B> {
         }
     }
 
+    /// Says that this many entries are kept for good: the workers that hold answers back are woken if they wait.
+    pub fn keep(&self, number: u64) {
+        let _ = self.kept.fetch_max(number, Ordering::SeqCst);
+        for post in &self.posts {
+            post.release();
+        }
+    }
+
+    /// Says that no more entries will be kept: what may go still goes, each connection is dropped, and no call is taken any more.
+    pub fn stop(&self) {
+        self.is_stopped.store(true, Ordering::SeqCst);
+        self.ring_all();
+    }
+
     /// Closes the day: each connection is sent a Logout and ended, and no call is taken any more.
     pub fn close(&self) {
         self.is_closing.store(true, Ordering::SeqCst);
+        self.ring_all();
+    }
+
+    /// Wakes the workers, and the thread that accepts connections.
+    fn ring_all(&self) {
         for post in &self.posts {
             post.ring();
         }
@@ -207,9 +249,9 @@ impl<B: Bell> Posts<B> {
         self.accepting.ring();
     }
 
-    /// Says that a worker couldn't go on.
-    pub fn fail(&self) {
-        self.has_failed.store(true, Ordering::SeqCst);
+    /// Says that a worker couldn't go on, and why.
+    pub fn fail(&self, failure: Failure) {
+        self.failures.note(failure);
         self.accepting.ring();
     }
 }

@@ -1,5 +1,7 @@
+pub mod Marks
 pub mod Moments
 pub mod Sources
 pub mod Talks
 pub mod Turns
+pub mod TwoParts
 pub mod Visits

@@ -1,5 +1,5 @@
--- Turns of the engine, one after another, over a reader that is lent for each.
-use Rattle.std.specs.Prelude.{◌≡◌, ℕ, zero, suc, false, List, Option}
+-- Turns of the engine, one after another, over a reader that is lent for each. What they answer is held.
+use Rattle.std.specs.Prelude.{◌≡◌, ◌++◌, ℕ, zero, suc, false, List, [], Option, Some}
 use Rattle.gu_engine.specs.Running.{Engine}
 use Rattle.gu_engine.specs.Turned.{TurnsTo}
 use Rattle.gu_engine.specs.declared.backlog.Backlog.{Backlog}
@@ -8,18 +8,16 @@ use Rattle.gu_engine.specs.declared.turned.Turned.TheVariants as turned
 use Rattle.gu_streams.specs.Reads.{has_failed, reader_under, reads_left, source_of}
 use Rattle.gu_streams.specs.declared.counted_reads.CountedReads.{CountedReads}
 use Rattle.gu_streams.specs.declared.source.Source.TheVariants.{Direct}
-use Rattle.gu_talks.specs.declared.outgoing.Outgoing.{Outgoing}
 
--- Where a connection is between two turns: what answers, what it reads, what was left, and the bytes that went out.
+-- Where a connection is between two turns: what answers, what it reads, and what was left.
 pub record Spot (S R O : Type 0) : Type 0 where
   pub state : S
   pub reader : R
   pub kept : Backlog O
-  pub output : Option (List ℕ)
 
--- a spot, by the stream that is written to
-abbrev pub spot : {S R W O : Type 0} → (W → Option (List ℕ)) → S → R → Outgoing W → Backlog O → Spot S R O
-spot contents state reader writer kept = record { state = state; reader = reader; kept = kept; output = contents writer.stream }
+-- a spot
+abbrev pub spot : {S R O : Type 0} → S → R → Backlog O → Spot S R O
+spot state reader kept = record { state = state; reader = reader; kept = kept }
 
 -- reads of a reader are counted anew
 pub record CountsAnew {R : Type 0} (reader : R) (reads : CountedReads R) : Type 0 where
@@ -27,15 +25,21 @@ pub record CountsAnew {R : Type 0} (reader : R) (reads : CountedReads R) : Type 
   pub left : reads_left reads ≡ 1000000
   pub fresh : has_failed reads ≡ false
 
+-- nothing goes: what was held is held still, and what was answered behind it
+pub record HoldsOn {O : Type 0} (old new : Backlog O) : Type 0 where
+  pub text : List ℕ
+  pub held : new.held.bytes.items ≡ old.held.bytes.items ++ text
+
 module _ {S R O : Type 0} (engine : Engine S) (remaining : R → Option (List ℕ)) where
-  -- one turn of the engine, and what became of it
+  -- one turn of the engine, and what became of it; nothing of what it answers goes
   pub record TurnsOnce (old : Spot S R O) (became : Turned) (new : Spot S R O) : Type 0 where
     pub before : CountedReads R
     pub after : CountedReads R
     pub begins : CountsAnew old.reader before
     pub ends : reader_under after ≡ new.reader
     pub turns : TurnsTo engine remaining old.state new.state
-        (record { reads_old = before; reads_new = after; kept_old = old.kept; kept_new = new.kept; output_old = old.output; output_new = new.output }) became
+        (record { reads_old = before; reads_new = after; kept_old = old.kept; kept_new = new.kept; output_old = Some []; output_new = Some [] }) became
+    pub holds : HoldsOn old.kept new.kept
 
   -- further turns of the engine, so many before the last, each of which may be followed by another; and what became of the last
   abbrev pub TurnsOn : ℕ → Spot S R O → Turned → Spot S R O → Type 0

@@ -1,11 +1,11 @@
 -- A visit of a connection: its session goes on by turns of the engine alone, at one moment.
-use Rattle.std.specs.Prelude.{◌≡◌, ℕ, true, false, List, [], Option}
+use Rattle.std.specs.Prelude.{◌≡◌, ◌≤◌, ◌++◌, ℕ, true, false, List, [], drop, length, take, Option}
 use Rattle.std.specs.Borrow.{MutBor}
-use Rattle.std.specs.Io.KnownBytes.{Keeps}
+use Rattle.std.specs.Io.KnownBytes.{Appends, Keeps}
+use Rattle.std.specs.List.{All}
 use Rattle.gu_engine.specs.Closings.{Closes, KeepsInput}
 use Rattle.gu_engine.specs.Exchange.{EndsSession, conversation_of, exchange, new_conversation}
 use Rattle.gu_engine.specs.Houses.{HouseRules, lent}
-use Rattle.gu_engine.specs.Sends.{Gives}
 use Rattle.gu_engine.specs.Turned.{is_last}
 use Rattle.gu_engine.specs.Turns.{IsEmpty}
 use Rattle.gu_engine.specs.declared.connection.Connection.{Connection}
@@ -13,7 +13,7 @@ use Rattle.gu_engine.specs.declared.turned.Turned.{Turned}
 use Rattle.gu_terms.specs.declared.firm.FirmId.{FirmId}
 use Rattle.gu_talks.specs.Moments.{is_used_up, moments_left}
 use Rattle.gu_talks.specs.Sources.{left_ahead, left_of}
-use Rattle.gu_talks.specs.Turns.{TurnsOn, spot}
+use Rattle.gu_talks.specs.Turns.{HoldsOn, TurnsOn, spot}
 use Rattle.gu_talks.specs.declared.source.Ahead.{Ahead}
 use Rattle.gu_talks.specs.declared.talk.Talk.{Talk}
 use Rattle.gu_talks.specs.declared.visit_clock.VisitClock.{VisitClock}
@@ -24,6 +24,7 @@ pub record IsNewTalk {I O : Type 0} (talk : Talk I O) (firms : List FirmId) (inc
   pub input : left_of remaining talk.source ≡ incoming
   pub empty : IsEmpty talk.backlog
   pub unheld : talk.backlog.held.bytes.items ≡ []
+  pub unmarked : talk.marks ≡ []
 
 -- after the last turn of a session it is told so, and after any other nothing is done
 pub record EndsAfter {H C : Type 0} (became : Turned) (old new : Connection H C) : Type 0 where
@@ -31,9 +32,8 @@ pub record EndsAfter {H C : Type 0} (became : Turned) (old new : Connection H C)
   pub other : is_last became ≡ false → new ≡ old
 
 -- A visit at a moment, over a house that is lent: the session goes on by turns, each at this moment, of which the last became this; nothing that was
--- read is lost. What the turns answer is held: it goes out later.
-pub record Visits {H I O : Type 0} (rules : HouseRules H) (remaining : I → Option (List ℕ)) (contents : O → Option (List ℕ)) (moment : ℕ)
-    (old : Talk I O) (house_old : H) (new : Talk I O) (became : Turned) : Type 0 where
+-- read is lost. Nothing goes: what was held is held still, with its marks, and what the turns answer is held behind it.
+pub record Visits {H I O : Type 0} (rules : HouseRules H) (remaining : I → Option (List ℕ)) (moment : ℕ) (old : Talk I O) (house_old : H) (new : Talk I O) (became : Turned) : Type 0 where
   pub begun : Connection (MutBor H) VisitClock
   pub ahead : Ahead I
   pub conversation : conversation_of begun ≡ old.conversation
@@ -44,11 +44,14 @@ pub record Visits {H I O : Type 0} (rules : HouseRules H) (remaining : I → Opt
   pub rest : Ahead I
   pub more : ℕ
   pub turns : TurnsOn (exchange (lent rules) (λ (clock : VisitClock). moments_left clock.left clock.moment) (λ (clock : VisitClock). is_used_up clock.left))
-      (left_ahead remaining) more (spot contents begun ahead old.writer old.backlog) became (spot contents went rest new.writer new.backlog)
+      (left_ahead remaining) more (spot begun ahead old.backlog) became (spot went rest new.backlog)
   pub ended : Connection (MutBor H) VisitClock
   pub ends : EndsAfter became went ended
   pub conversation_new : new.conversation ≡ conversation_of ended
   pub input_new : Keeps (left_ahead remaining rest) (left_of remaining new.source)
+  pub holds : HoldsOn old.backlog new.backlog
+  pub writer : new.writer ≡ old.writer
+  pub marks : new.marks ≡ old.marks
 
 -- Nothing of an exchange changes but what is known of its streams: the same session, the same bytes left to be read, the same answers held.
 pub record StaysAsItIs {I O : Type 0} (remaining : I → Option (List ℕ)) (old new : Talk I O) : Type 0 where
@@ -56,6 +59,7 @@ pub record StaysAsItIs {I O : Type 0} (remaining : I → Option (List ℕ)) (old
   pub input : left_of remaining new.source ≡ left_of remaining old.source
   pub backlog : new.backlog ≡ old.backlog
   pub output : new.writer.stream ≡ old.writer.stream
+  pub marks : new.marks ≡ old.marks
 
 -- At a moment the session is told that the house closes. What it sends is held after the other answers; nothing is read, and nothing else is sent.
 pub record ClosesTalk {H I O : Type 0} (moment : ℕ) (old : Talk I O) (house_old : H) (new : Talk I O) : Type 0 where
@@ -68,10 +72,17 @@ pub record ClosesTalk {H I O : Type 0} (moment : ℕ) (old : Talk I O) (house_ol
   pub conversation_new : new.conversation ≡ conversation_of ended
   pub source : new.source ≡ old.source
   pub writer : new.writer ≡ old.writer
+  pub marks : new.marks ≡ old.marks
 
--- a first part of what is held goes out, and the rest is still held; the session and what is read stay as they are
-pub record Sends {I O : Type 0} (contents : O → Option (List ℕ)) (old new : Talk I O) : Type 0 where
+-- Of what is held a first part goes out, of which each byte has a mark of at most `kept`. The rest is still held, with its marks; the session and
+-- what is read stay as they are.
+pub record Sends {I O : Type 0} (contents : O → Option (List ℕ)) (kept : ℕ) (old new : Talk I O) : Type 0 where
   pub conversation : new.conversation ≡ old.conversation
   pub source : new.source ≡ old.source
   pub input : KeepsInput old.backlog new.backlog
-  pub gives : Gives [] old.backlog.held.bytes.items new.backlog.held.bytes.items (contents old.writer.stream) (contents new.writer.stream)
+  pub sent : List ℕ
+  pub appended : Appends (contents old.writer.stream) (contents new.writer.stream) sent
+  pub parts : old.backlog.held.bytes.items ≡ sent ++ new.backlog.held.bytes.items
+  pub marked : length sent ≤ length old.marks
+  pub all_kept : All (λ mark. mark ≤ kept) (take (length sent) old.marks)
+  pub marks : new.marks ≡ drop (length sent) old.marks

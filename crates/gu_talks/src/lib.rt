@@ -1,7 +1,9 @@
 //! The exchange of one connection among many: its session and its streams, which wait for nothing, from visit to visit.
 #![tactic(auto)]
 
+mod closed_writer;
 mod incoming;
+mod marks;
 mod outgoing;
 mod poller;
 mod source;

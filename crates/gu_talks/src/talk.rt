@@ -1,15 +1,19 @@
-//! The exchange of a connection: its session, what it reads and writes, and what a turn left.
+//! The exchange of a connection: its session, what it reads and writes, what a turn left, and what is held back.
 
-ghost use Rattle.std.specs.Prelude.{◌≡◌, ◌↔◌, ◌≤◌, false, true, if◌then◌else◌, IfOk, IsTrue, OnOk, ℕ};
+ghost use Rattle.std.specs.Prelude.{◌≡◌, ◌↔◌, ◌≤◌, ◌<◌, false, true, if◌then◌else◌, drop, length, take, IfOk, IsTrue, OnOk, ℕ};
+ghost use Rattle.std.specs.List.{All};
+ghost use Rattle.gu_talks.specs.Marks.{MarksAll};
 ghost use Rattle.gu_talks.specs.Sources.{left_ahead};
 ghost use Rattle.gu_talks.specs.Turns.{TurnsOn, TurnsOnce, spot};
 
+use crate::closed_writer::ClosedWriter;
+use crate::marks::Marks;
 use crate::outgoing::Outgoing;
 use crate::poller::{EndsWriting, Ready};
 use crate::source::{Ahead, Source};
 use crate::visit_clock::VisitClock;
-use gu_engine::{Answerer, Backlog, Connection, Conversation, Gate, House, Turned};
-use gu_streams::{CountedReads, LONGEST_READ, StreamError};
+use gu_engine::{Answerer, Backlog, Connection, Conversation, House, Turned};
+use gu_streams::{CountedReads, LONGEST_READ, NonBlocking, StreamError};
 use gu_terms::{FirmId, Moment};
 use std::alloc::Global;
 use std::io::{Read, Write};
@@ -23,44 +27,45 @@ const MOST_HELD: usize = 65_536;
 /// Where a turn puts what it reads.
 pub type TurnBuffer = [u8; LONGEST_READ];
 
-/// The exchange of a connection between its visits. No answer leaves but by `send`.
+/// The exchange of a connection between its visits. No answer leaves but by `send`, and none before it is marked.
 #[derive(Drop)]
 pub struct Talk<I, O> {
     conversation: Conversation,
     source: Source<I>,
     writer: Outgoing<O>,
-    backlog: Backlog<Gate>,
+    backlog: Backlog<NonBlocking>,
+    /// How many entries must be kept before the bytes that are held may go: those that were held when it was marked last.
+    marks: Marks,
+    ghost within: { length marks ≤ length backlog.held.bytes.items },
 }
 
-/// Makes one turn.
-fn make_turn<I: Read, O: Write, A: Answerer>(
+/// Makes one turn, whose answers are held.
+fn make_turn<I: Read, A: Answerer>(
     ahead: Ahead<I>,
-    writer: &mut Outgoing<O>,
     answerer: &mut A,
-    backlog: &mut Backlog<Gate>,
+    backlog: &mut Backlog<NonBlocking>,
     buffer: &mut TurnBuffer,
 ) -> (Ahead<I>, Result<Turned, StreamError>)
     ensures { IfOk result.1 (λ turned. TurnsOnce A.engine (left_ahead I.remaining)
-        (spot O.contents answerer.old ahead writer.old backlog.old) turned (spot O.contents answerer.new result.0 writer.new backlog.new)) }
+        (spot answerer.old ahead backlog.old) turned (spot answerer.new result.0 backlog.new)) }
 {
     let mut reads = CountedReads::patient(ahead);
-    let turned = gu_engine::turn(&mut reads, writer, answerer, backlog, buffer);
+    let turned = gu_engine::turn(&mut reads, &mut ClosedWriter, answerer, backlog, buffer);
     (reads.into_reader(), turned)
 }
 
 /// Makes turns, this many at most, as long as bytes are ahead or the last one was cut and may go on.
-fn make_turns<I: Read, O: Write, A: Answerer>(
+fn make_turns<I: Read, A: Answerer>(
     ahead: Ahead<I>,
-    writer: &mut Outgoing<O>,
     answerer: &mut A,
-    backlog: &mut Backlog<Gate>,
+    backlog: &mut Backlog<NonBlocking>,
     buffer: &mut TurnBuffer,
     most: u32,
 ) -> (Ahead<I>, Result<Turned, StreamError>)
     ensures { IfOk result.1 (λ turned. (more : ℕ) × TurnsOn A.engine (left_ahead I.remaining) more
-        (spot O.contents answerer.old ahead writer.old backlog.old) turned (spot O.contents answerer.new result.0 writer.new backlog.new)) }
+        (spot answerer.old ahead backlog.old) turned (spot answerer.new result.0 backlog.new)) }
 {
-    let (mut ahead, mut turned) = make_turn(ahead, writer, answerer, backlog, buffer);
+    let (mut ahead, mut turned) = make_turn(ahead, answerer, backlog, buffer);
     for _turn in 1..most {
         let Ok(Turned::Again) = turned else {
             break;
@@ -68,7 +73,7 @@ fn make_turns<I: Read, O: Write, A: Answerer>(
         if !ahead.has_bytes() {
             break;
         }
-        let (read, again) = make_turn(ahead, writer, answerer, backlog, buffer);
+        let (read, again) = make_turn(ahead, answerer, backlog, buffer);
         ahead = read;
         turned = again;
     }
@@ -87,12 +92,13 @@ impl<I: Read + Drop, O: Write + Drop> Talk<I, O> {
             conversation: Conversation::new(alloc, firms),
             source: Source::new(incoming, reads),
             writer: Outgoing::new(outgoing),
-            backlog: Backlog::new(alloc, Gate::closed()),
+            backlog: Backlog::new(alloc, NonBlocking),
+            marks: Marks::new(),
         }
     }
 
-    /// Makes turns at a moment: one if its firm isn't logged on, else four at most, as long as bytes are ahead. After the last of the
-    /// session it is told so. Where an allocation fails, the exchange is lost.
+    /// Makes turns at a moment: one if its firm isn't logged on, else four at most, as long as bytes are ahead. What they answer is held. After
+    /// the last of the session it is told so. Where an allocation fails, the exchange is lost.
     pub fn turn<H: House>(
         self,
         alloc: Global,
@@ -100,26 +106,20 @@ impl<I: Read + Drop, O: Write + Drop> Talk<I, O> {
         buffer: &mut TurnBuffer,
         moment: Moment,
     ) -> Result<(Self, Turned), StreamError>
-        ensures { IfOk result (λ went. Visits H.rules I.remaining O.contents moment self house.old went.0 went.1) }
+        ensures { IfOk result (λ went. Visits H.rules I.remaining moment self house.old went.0 went.1) }
     {
         let most = if self.firm().is_some() { MOST_TURNS } else { 1 };
         let Talk {
             conversation,
             source,
-            mut writer,
+            writer,
             mut backlog,
+            marks,
         } = self;
         let ahead = source.into_ahead(alloc)?;
         let clock = VisitClock::new(moment, most);
         let mut connection = Connection::resume(conversation, house, clock);
-        let (ahead, turned) = make_turns(
-            ahead,
-            &mut writer,
-            &mut connection,
-            &mut backlog,
-            buffer,
-            most,
-        );
+        let (ahead, turned) = make_turns(ahead, &mut connection, &mut backlog, buffer, most);
         let turned = turned?;
         if turned.is_last() {
             connection.end();
@@ -129,6 +129,7 @@ impl<I: Read + Drop, O: Write + Drop> Talk<I, O> {
             source: ahead.into_source(),
             writer,
             backlog,
+            marks,
         };
         Ok((talk, turned))
     }
@@ -144,6 +145,7 @@ impl<I: Read + Drop, O: Write + Drop> Talk<I, O> {
             source,
             writer,
             mut backlog,
+            marks,
         } = self;
         let clock = VisitClock::new(moment, 1);
         let mut connection = Connection::resume(conversation, house, clock);
@@ -153,18 +155,50 @@ impl<I: Read + Drop, O: Write + Drop> Talk<I, O> {
             source,
             writer,
             backlog,
+            marks,
         })
     }
 
-    /// Lets go of as much of what is held as the stream takes, and gives back the room of what is empty.
-    pub fn send(&mut self) -> Result<(), StreamError>
-        ensures { OnOk result (Sends O.contents self.old self.new) }
+    /// Marks the answers that were added since it was marked last: they show this many entries at most, so that they go once these are kept.
+    pub fn mark(&mut self, number: u64)
+        ensures marked { MarksAll (length self.old.backlog.held.bytes.items) number self.old.marks self.new.marks }
+        ensures conversation { self.new.conversation ≡ self.old.conversation }
+        ensures source { self.new.source ≡ self.old.source }
+        ensures writer { self.new.writer ≡ self.old.writer }
+        ensures backlog { self.new.backlog ≡ self.old.backlog }
     {
-        self.backlog.set_outlet(Gate::open());
-        let sent = self.backlog.send(&mut self.writer);
-        self.backlog.set_outlet(Gate::closed());
+        self.marks.mark(self.backlog.held(), number);
+    }
+
+    /// Lets go of as much of what is held as its stream takes and as may go once this many entries are kept, and gives back the room of
+    /// what is empty.
+    pub fn send(&mut self, kept: u64) -> Result<(), StreamError>
+        ensures { OnOk result (Sends O.contents kept self.old self.new) }
+    {
+        let before = self.backlog.held();
+        self.backlog
+            .send_first(self.marks.free(kept), &mut self.writer)?;
+        let sent = before - self.backlog.held();
+        self.marks.pass(sent);
         self.backlog.release();
-        sent
+        Ok(())
+    }
+
+    /// Returns how many bytes that are held may go once this many entries are kept.
+    pub fn free(&self, kept: u64) -> usize
+        ensures within { result ≤ length self.now.marks }
+        ensures kept { All (λ mark. mark ≤ kept) (take result self.now.marks) }
+        ensures held { All (λ mark. kept < mark) (drop result self.now.marks) }
+    {
+        self.marks.free(kept)
+    }
+
+    /// Returns whether some of what is held may not go while this many entries are kept.
+    pub fn is_held_back(&self, kept: u64) -> bool
+        ensures none { result ≡ false → length self.now.marks ≡ length self.now.backlog.held.bytes.items }
+        ensures all { result ≡ false → All (λ mark. mark ≤ kept) self.now.marks }
+    {
+        self.marks.free(kept) < self.backlog.held()
     }
 
     /// Returns the firm that is logged on.
@@ -177,6 +211,7 @@ impl<I: Read + Drop, O: Write + Drop> Talk<I, O> {
         ensures conversation { self.new.conversation ≡ self.old.conversation }
         ensures backlog { self.new.backlog ≡ self.old.backlog }
         ensures writer { self.new.writer ≡ self.old.writer }
+        ensures marks { self.new.marks ≡ self.old.marks }
     {
         self.source.drain(buffer)
     }
@@ -272,12 +307,14 @@ impl<I: Read + Drop, O: EndsWriting + Drop> Talk<I, O> {
     pub fn hang_up(self) -> Self
         ensures conversation { result.conversation ≡ self.conversation }
         ensures backlog { result.backlog ≡ self.backlog }
+        ensures marks { result.marks ≡ self.marks }
     {
         let Talk {
             conversation,
             source,
             mut writer,
             backlog,
+            marks,
         } = self;
         writer.end_writing();
         Talk {
@@ -285,6 +322,7 @@ impl<I: Read + Drop, O: EndsWriting + Drop> Talk<I, O> {
             source: source.into_bare(),
             writer,
             backlog,
+            marks,
         }
     }
 }

@@ -1,1 +1,2 @@
+pub mod InsideHouses
 pub mod Staying

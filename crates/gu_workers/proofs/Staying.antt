@@ -5,4 +5,4 @@ use Rattle.gu_talks.specs.declared.talk.Talk.{Talk}
 
 -- it stays as it is
 pub stays : {I O : Type 0} (remaining : I → Option (List ℕ)) (talk : Talk I O) → StaysAsItIs remaining talk talk
-stays remaining talk = record { conversation = refl; input = refl; backlog = refl; output = refl }
+stays remaining talk = record { conversation = refl; input = refl; backlog = refl; output = refl; marks = refl }

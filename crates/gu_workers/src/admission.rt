@@ -16,13 +16,3 @@ pub trait Admission {
     /// A connection ends, by a fault or not.
     fn end(&self, has_failed: bool);
 }
-
-/// A house that counts the give-ups of the connection that it answers, for the sweeps that follow them. One house answers many connections
-/// in turn: each has its own count.
-pub trait CountsGiveUps {
-    /// Goes on with the count of a connection.
-    fn resume_count(&mut self, give_ups: u64);
-
-    /// Returns the count of the connection that it answers.
-    fn give_ups(&self) -> u64;
-}

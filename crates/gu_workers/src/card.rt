@@ -43,6 +43,14 @@ impl Card {
         }
     }
 
+    /// Returns its firm, once it is logged on and admitted.
+    pub fn firm(&self) -> Option<FirmId> {
+        match self.firm {
+            Some(admitted) => Some(admitted.firm),
+            None => None,
+        }
+    }
+
     /// Notes how many bytes have come up to this moment.
     pub fn note_bytes(&mut self, bytes: u64, now: Moment) {
         if bytes != self.bytes {

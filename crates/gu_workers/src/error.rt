@@ -1,6 +1,7 @@
 //! Why a worker can't go on.
 
 use gu_engine::ClockFault;
+use gu_posts::Failure;
 use std::alloc::AllocError;
 use std::io;
 use thiserror::Error;
@@ -17,6 +18,17 @@ pub enum WorkerError {
     /// The poller failed.
     #[error("{0}")]
     Poller(io::Error),
+}
+
+impl WorkerError {
+    /// Returns its kind, for those that the worker shares.
+    pub fn kind(&self) -> Failure {
+        match self {
+            WorkerError::Memory => Failure::Memory,
+            WorkerError::Clock => Failure::Clock,
+            WorkerError::Poller(_) => Failure::Poller,
+        }
+    }
 }
 
 impl From<AllocError> for WorkerError {

@@ -2,10 +2,13 @@
 #![tactic(auto)]
 
 mod admission;
+mod admitting_house;
+mod answers_many;
 mod card;
 mod error;
 mod firms_here;
 mod place;
+mod place_list;
 mod rounds;
 mod shared;
 mod slots;
@@ -13,7 +16,8 @@ mod stage;
 mod timer;
 mod worker;
 
-pub use admission::{Admission, CountsGiveUps};
+pub use admission::Admission;
+pub use answers_many::AnswersMany;
 pub use error::WorkerError;
 pub use shared::Shared;
 pub use timer::{MachineTimer, Now, Timer};

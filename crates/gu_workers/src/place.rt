@@ -1,7 +1,11 @@
 //! A connection at its place in a worker: its exchange, how far it has come, and what waits.
 
-ghost use Rattle.std.specs.Prelude.{◌≡◌, ◌≤◌, true, false, IfOk};
+ghost use Rattle.std.specs.Prelude.{◌≡◌, ◌≤◌, true, false, length, IfOk};
+ghost use Rattle.gu_talks.specs.Marks.{MarksAll};
+ghost use Rattle.gu_workers.specs.Admitting.{inside};
 
+use crate::admission::Admission;
+use crate::admitting_house::AdmittingHouse;
 use crate::card::Card;
 use crate::stage::{Deadline, HANG_UP_MS, LOGOUT_MS, Stage};
 use crate::timer::Now;
@@ -35,7 +39,7 @@ pub struct Place<I, O> {
     pub(crate) talk: Talk<I, O>,
     pub(crate) stage: Stage,
     pub(crate) card: Card,
-    /// The milliseconds since which answers are held and none of them went out.
+    /// The milliseconds since which answers may go and none of them went out.
     pub(crate) held_since: Option<u64>,
     /// Whether its firm is told of entries whose notices no turn has sent yet.
     pub(crate) is_told: bool,
@@ -44,7 +48,7 @@ pub struct Place<I, O> {
 impl<I: Read + Drop, O: Write + EndsWriting + Drop> Place<I, O> {
     ghost use Rattle.gu_talks.specs.Talks.{HasNothingLeft};
     ghost use Rattle.gu_talks.specs.Visits.{StaysAsItIs};
-    ghost use Rattle.gu_workers.specs.Places.{ClosesPlace, GoesOn, GoesOnOrCloses};
+    ghost use Rattle.gu_workers.specs.Places.{ClosesPlace, GoesOn, GoesOnOrCloses, SendsPlace};
     ghost use Rattle.gu_workers.specs.Stages.{is_leaving};
 
     /// Creates the place of a connection that begins now.
@@ -152,7 +156,7 @@ impl<I: Read + Drop, O: Write + EndsWriting + Drop> Place<I, O> {
         buffer: &mut TurnBuffer,
         now: &Now,
     ) -> Result<Self, StreamError>
-        ensures { IfOk result (λ gone. GoesOn H.rules I.remaining O.contents now.now.moment self house.old gone) }
+        ensures { IfOk result (λ gone. GoesOn H.rules I.remaining now.now.moment self house.old gone) }
     {
         let Place {
             mut talk,
@@ -214,7 +218,7 @@ impl<I: Read + Drop, O: Write + EndsWriting + Drop> Place<I, O> {
         now: &Now,
         is_closing: bool,
     ) -> Result<Self, StreamError>
-        ensures { IfOk result (λ gone. GoesOnOrCloses H.rules I.remaining O.contents now.now.moment is_closing self house.old gone) }
+        ensures { IfOk result (λ gone. GoesOnOrCloses H.rules I.remaining now.now.moment is_closing self house.old gone) }
     {
         if is_closing && !self.is_told && !self.talk.has_work() {
             return self.close(house, now);
@@ -222,19 +226,53 @@ impl<I: Read + Drop, O: Write + EndsWriting + Drop> Place<I, O> {
         self.turn(alloc, house, buffer, now)
     }
 
-    /// Lets go of as much of what is held as its stream takes. Once all went out of one whose session is over, its peer is told so.
-    pub fn send(mut self, now: &Now) -> Result<Self, StreamError>
-        ensures conversation { IfOk result (λ sent. sent.talk.conversation ≡ self.talk.conversation) }
-        ensures card { IfOk result (λ sent. sent.card ≡ self.card) }
+    /// Goes on with its session over a house that admits firms. If its firm is logged on then and has no place, the connection is lost.
+    pub fn go_on_admitted<H: House, A: Admission>(
+        self,
+        alloc: Global,
+        house: &mut AdmittingHouse<'_, H, A>,
+        buffer: &mut TurnBuffer,
+        now: &Now,
+        is_closing: bool,
+    ) -> Result<Self, StreamError>
+        ensures { IfOk result (λ gone. GoesOnOrCloses (inside H.rules) I.remaining now.now.moment is_closing self house.old gone) }
+    {
+        let place = self.go_on(alloc, house, buffer, now, is_closing)?;
+        match place.talk.firm() {
+            Some(firm) if !house.admit(&firm) => Err(StreamError::Memory),
+            _ => Ok(place),
+        }
+    }
+
+    /// Marks what was added to its answers: it shows this many entries at most.
+    pub fn mark(&mut self, number: u64)
+        ensures conversation { self.new.talk.conversation ≡ self.old.talk.conversation }
+        ensures held { self.new.talk.backlog ≡ self.old.talk.backlog }
+        ensures marked { MarksAll (length self.old.talk.backlog.held.bytes.items) number self.old.talk.marks self.new.talk.marks }
+        ensures same { self.new ≡ record self.old { talk = self.new.talk } }
+    {
+        self.talk.mark(number);
+    }
+
+    /// Returns since when answers may go of which none went out, where this many bytes had gone before it was sent last.
+    fn waits_since(&self, kept: u64, before: u64, now: &Now) -> Option<u64> {
+        if self.talk.free(kept) == 0 {
+            return None;
+        }
+        match self.held_since {
+            Some(since) if self.talk.bytes_out() == before => Some(since),
+            _ => Some(now.ms),
+        }
+    }
+
+    /// Lets go of as much of what is held as its stream takes and as may go while this many entries are kept. Once all went out of one whose
+    /// session is over, its peer is told so.
+    pub fn send(mut self, kept: u64, now: &Now) -> Result<Self, StreamError>
+        ensures sends { IfOk result (λ sent. SendsPlace O.contents kept self sent) }
     {
         let before = self.talk.bytes_out();
-        self.talk.send()?;
-        let is_stuck = self.held_since.is_some() && self.talk.bytes_out() == before;
-        if self.talk.held() == 0 {
-            self.held_since = None;
-        } else if !is_stuck {
-            self.held_since = Some(now.ms);
-        }
+        self.talk.send(kept)?;
+        self.held_since = self.waits_since(kept, before, now);
         match self.stage {
             Stage::GoingOut { wait_ms } if self.talk.held() == 0 => {
                 Ok(self.hang_up(now.ms.saturating_add(wait_ms)))
@@ -246,6 +284,8 @@ impl<I: Read + Drop, O: Write + EndsWriting + Drop> Place<I, O> {
     /// Tells its peer that nothing more is written, and drops what comes until then.
     fn hang_up(self, until: u64) -> Self
         ensures conversation { result.talk.conversation ≡ self.talk.conversation }
+        ensures backlog { result.talk.backlog ≡ self.talk.backlog }
+        ensures marks { result.talk.marks ≡ self.talk.marks }
         ensures card { result.card ≡ self.card }
     {
         let Place {
@@ -265,12 +305,12 @@ impl<I: Read + Drop, O: Write + EndsWriting + Drop> Place<I, O> {
     }
 
     /// Goes on with the end of one whose session is over.
-    pub fn leave(mut self, buffer: &mut TurnBuffer, now: &Now) -> Result<Self, Ended>
+    pub fn leave(mut self, buffer: &mut TurnBuffer, kept: u64, now: &Now) -> Result<Self, Ended>
         ensures conversation { IfOk result (λ left. left.talk.conversation ≡ self.talk.conversation) }
         ensures card { IfOk result (λ left. left.card ≡ self.card) }
     {
         if !matches!(self.stage, Stage::HangingUp { .. }) {
-            return Ok(self.send(now)?);
+            return Ok(self.send(kept, now)?);
         }
         if self.talk.drain(buffer) {
             return Err(Ended { has_failed: false });

@@ -1,6 +1,7 @@
 //! The rounds of a worker: it waits, notes what has happened, and visits the connections that want it.
 
-use crate::admission::{Admission, CountsGiveUps};
+use crate::admission::Admission;
+use crate::answers_many::AnswersMany;
 use crate::error::WorkerError;
 use crate::place::Ended;
 use crate::stage::Deadline;
@@ -13,7 +14,6 @@ use gu_posts::{Bell, bit_of};
 use gu_talks::Poller;
 use std::alloc::AllocError;
 use std::io::ErrorKind;
-use std::mem;
 use std::sync::{Wait, WaitMethods};
 use std::time::Duration;
 
@@ -23,19 +23,25 @@ const LONGEST_WAIT_MS: u64 = 1_000;
 impl<
     P: Poller + Drop,
     T: Timer + Drop,
-    H: House + CountsGiveUps + Drop,
+    H: House + AnswersMany + Drop,
     A: Admission,
     B: Bell,
 > Worker<'_, P, T, H, A, B> {
-    /// Makes one round: waits once, notes what has happened, visits each connection that wants it once, and takes those that have come.
+    /// Makes one round: waits once, notes what has happened, lets go of what was held back and may go now, visits each connection that wants
+    /// it once, and takes those that have come. Once no more entries are kept, it lets go of what may go, and is over.
     pub fn round<R: Wait>(&mut self, rt: &R) -> Result<Round, WorkerError> {
         self.wait()?;
         let now = self.timer.now()?;
+        if self.shared.posts.is_stopped() {
+            self.stop(rt);
+            return Ok(Round::Over);
+        }
         self.note_ready()?;
         self.note_told()?;
         self.note_cuts()?;
         self.note_closing(&now)?;
         self.note_due(&now)?;
+        self.note_kept(&now)?;
         self.visit_all(&now)?;
         self.take_calls(rt, &now)?;
         if self.has_all_calls && self.slots.is_empty() {
@@ -51,7 +57,8 @@ impl<
                 Ok(Round::GoesOn) => {}
                 Ok(Round::Over) => break,
                 Err(error) => {
-                    self.give_up(rt);
+                    self.end_all(rt);
+                    self.shared.posts.fail(error.kind());
                     return Err(error);
                 }
             }
@@ -59,8 +66,8 @@ impl<
         Ok(())
     }
 
-    /// Ends all its connections, also those that have come and aren't taken yet, and says that it couldn't go on.
-    fn give_up<R: Wait>(&mut self, rt: &R) {
+    /// Ends all its connections, also those that have come and aren't taken yet.
+    fn end_all<R: Wait>(&mut self, rt: &R) {
         for at in 0..self.slots.len() {
             if self.drop_at(at).is_err() {
                 break;
@@ -70,7 +77,17 @@ impl<
             drop(call);
             self.shared.posts.end_connection(self.settings.worker);
         }
-        self.shared.posts.fail();
+    }
+
+    /// Lets go of what may go of each connection, once, and ends them all: no more entries are kept, so nothing is answered any more.
+    fn stop<R: Wait>(&mut self, rt: &R) {
+        let kept = self.shared.posts.kept();
+        for at in 0..self.slots.len() {
+            if let Some(place) = self.slots.get_mut(at) {
+                let _ = place.talk.send(kept);
+            }
+        }
+        self.end_all(rt);
     }
 
     /// Ends the connection at a place, if there is one.
@@ -103,7 +120,9 @@ impl<
             Some(post) => post.has_news(),
             None => false,
         };
-        is_told || (self.closing.is_none() && posts.is_closing())
+        let may_release = self.slots.has_holding() && posts.kept() != self.kept;
+        let is_closing = self.closing.is_none() && posts.is_closing();
+        is_told || may_release || is_closing || posts.is_stopped()
     }
 
     /// Waits once. What others say while it doesn't wait is seen before, or by the next round.
@@ -111,6 +130,7 @@ impl<
         let mut most = self.longest_wait()?;
         let posts = self.shared.posts;
         if let Some(post) = posts.post(self.settings.worker) {
+            post.set_holds_back(self.slots.has_holding());
             post.fall_asleep();
         }
         if self.has_news() {
@@ -227,6 +247,21 @@ impl<
             }
         }
         self.earliest = earliest;
+        Ok(())
+    }
+
+    /// Lets go of what connections have held back, if more entries are kept than before.
+    fn note_kept(&mut self, now: &Now) -> Result<(), AllocError> {
+        let kept = self.shared.posts.kept();
+        if kept == self.kept {
+            return Ok(());
+        }
+        self.kept = kept;
+        for _place in 0..self.slots.begin_releases() {
+            if let Some((at, place)) = self.slots.next_release() {
+                self.release(at, place, now)?;
+            }
+        }
         Ok(())
     }
 

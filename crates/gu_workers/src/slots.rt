@@ -1,66 +1,60 @@
-//! The places of a worker, and which of them are free or want a visit.
+//! The places of a worker: which of them are free, want a visit, or hold answers back.
 
 use crate::place::Place;
+use crate::place_list::PlaceList;
 use std::alloc::{AllocError, Global};
-use std::mem;
-
-/// A place of a worker.
-#[derive(Drop)]
-struct Slot<I, O> {
-    /// The connection at the place, unless it is free or being visited.
-    place: Option<Place<I, O>>,
-    /// Whether it is in the list of places that want a visit.
-    is_listed: bool,
-}
 
 /// The places of a worker.
 #[derive(Drop)]
 pub struct Slots<I, O> {
-    slots: Vec<Slot<I, O>>,
+    /// The connection at each place, unless the place is free or being visited.
+    places: Vec<Option<Place<I, O>>>,
     free: Vec<usize>,
-    /// The places that want a visit, each once.
-    wanting: Vec<usize>,
-    /// Those of them that are visited in this round.
-    visiting: Vec<usize>,
+    /// The places that want a visit.
+    wanting: PlaceList,
+    /// The places that hold answers back until more entries are kept.
+    holding: PlaceList,
 }
 
 impl<I, O> Slots<I, O> {
     /// Creates this many places, which are free.
-    pub fn new(alloc: Global, places: usize) -> Result<Self, AllocError>
+    pub fn new(alloc: Global, count: usize) -> Result<Self, AllocError>
     where
         I: Drop,
         O: Drop,
     {
-        let mut slots = Vec::with_capacity(alloc, places)?;
-        let mut free = Vec::with_capacity(alloc, places)?;
-        for place in 0..places {
-            slots.push(Slot {
-                place: None,
-                is_listed: false,
-            })?;
-            free.push(place)?;
+        let mut places = Vec::with_capacity(alloc, count)?;
+        let mut free = Vec::with_capacity(alloc, count)?;
+        for at in 0..count {
+            places.push(None)?;
+            free.push(at)?;
         }
         Ok(Slots {
-            slots,
+            places,
             free,
-            wanting: Vec::with_capacity(alloc, places)?,
-            visiting: Vec::with_capacity(alloc, places)?,
+            wanting: PlaceList::new(alloc, count)?,
+            holding: PlaceList::new(alloc, count)?,
         })
     }
 
     /// Returns how many places there are.
     pub fn len(&self) -> usize {
-        self.slots.len()
+        self.places.len()
     }
 
     /// Returns whether all places are free.
     pub fn is_empty(&self) -> bool {
-        self.free.len() == self.slots.len()
+        self.free.len() == self.places.len()
     }
 
     /// Returns whether any place wants a visit.
     pub fn has_wanting(&self) -> bool {
         !self.wanting.is_empty()
+    }
+
+    /// Returns whether any place holds answers back.
+    pub fn has_holding(&self) -> bool {
+        !self.holding.is_empty()
     }
 
     /// Takes a free place, if there is one.
@@ -76,18 +70,17 @@ impl<I, O> Slots<I, O> {
 
     /// Returns the connection at a place.
     pub fn get_mut(&mut self, at: usize) -> Option<&mut Place<I, O>> {
-        self.slots.get_mut(at)?.place.as_mut()
+        self.places.get_mut(at)?.as_mut()
     }
 
     /// Returns the connection at a place.
     pub fn get(&self, at: usize) -> Option<&Place<I, O>> {
-        self.slots.get(at)?.place.as_ref()
+        self.places.get(at)?.as_ref()
     }
 
-    /// Takes the connection from a place, to visit it or to end it. It isn't listed any more.
+    /// Takes the connection from a place, to visit it or to end it.
     pub fn take(&mut self, at: usize) -> Option<Place<I, O>> {
-        let slot = self.slots.get_mut(at)?;
-        slot.place.take()
+        self.places.get_mut(at)?.take()
     }
 
     /// Puts a connection at a place that has none.
@@ -96,37 +89,49 @@ impl<I, O> Slots<I, O> {
         I: Drop,
         O: Drop,
     {
-        match self.slots.get_mut(at) {
-            Some(slot) => slot.place = Some(place),
+        match self.places.get_mut(at) {
+            Some(slot) => *slot = Some(place),
             None => drop(place),
         }
     }
 
     /// Lists a place, if it has a connection: it is visited in the next round of visits.
     pub fn list(&mut self, at: usize) -> Result<(), AllocError> {
-        let Some(slot) = self.slots.get_mut(at) else {
-            return Ok(());
-        };
-        if slot.is_listed || slot.place.is_none() {
+        if self.get(at).is_none() {
             return Ok(());
         }
-        slot.is_listed = true;
-        self.wanting.push(at)?;
-        Ok(())
+        self.wanting.list(at)
     }
 
     /// Begins to visit the places that are listed. Returns how many there are.
     pub fn begin_visits(&mut self) -> usize {
-        mem::swap(&mut self.wanting, &mut self.visiting);
-        self.visiting.len()
+        self.wanting.begin()
     }
 
     /// Takes the next connection to be visited, with its place.
     pub fn next_visit(&mut self) -> Option<(usize, Place<I, O>)> {
-        let at = self.visiting.pop()?;
-        let slot = self.slots.get_mut(at)?;
-        slot.is_listed = false;
-        let place = slot.place.take()?;
+        let at = self.wanting.next()?;
+        let place = self.take(at)?;
+        Some((at, place))
+    }
+
+    /// Notes that a place holds answers back.
+    pub fn hold_back(&mut self, at: usize) -> Result<(), AllocError> {
+        self.holding.list(at)
+    }
+
+    /// Begins to let go of what places hold back. Returns how many places hold answers back.
+    pub fn begin_releases(&mut self) -> usize {
+        self.holding.begin()
+    }
+
+    /// Takes the next connection that holds answers back, with its place. One that is listed stays: its visit lets go as well.
+    pub fn next_release(&mut self) -> Option<(usize, Place<I, O>)> {
+        let at = self.holding.next()?;
+        if self.wanting.has(at) {
+            return None;
+        }
+        let place = self.take(at)?;
         Some((at, place))
     }
 }

@@ -3,7 +3,9 @@
 ghost use Rattle.std.specs.Prelude.{◌≡◌, IfErr, IfOk};
 ghost use Rattle.gu_engine.specs.Exchange.{new_conversation};
 
-use crate::admission::{Admission, CountsGiveUps};
+use crate::admission::Admission;
+use crate::admitting_house::AdmittingHouse;
+use crate::answers_many::AnswersMany;
 use crate::card::{Admitted, Card};
 use crate::error::WorkerError;
 use crate::firms_here::FirmsHere;
@@ -16,8 +18,9 @@ use crossbeam_channel::Receiver;
 use gu_engine::House;
 use gu_notices::FirmPlace;
 use gu_posts::{Bell, Call};
-use gu_streams::{LONGEST_READ, MOST_READS};
+use gu_streams::{LONGEST_READ, MOST_READS, StreamError};
 use gu_talks::{Poller, Ready, Talk, TurnBuffer};
+use gu_terms::FirmId;
 use std::alloc::{AllocError, Global};
 
 /// How many connections are noted as ready at once, as a rule.
@@ -66,7 +69,7 @@ pub struct Worker<'a, P: Poller, T, H, A, B> {
     pub(crate) settings: WorkerSettings,
     pub(crate) poller: P,
     pub(crate) timer: T,
-    pub(crate) house: H,
+    pub(crate) house: AdmittingHouse<'a, H, A>,
     pub(crate) calls: Receiver<Call<P::Call>>,
     /// Whether no more connections come.
     pub(crate) has_all_calls: bool,
@@ -80,13 +83,15 @@ pub struct Worker<'a, P: Poller, T, H, A, B> {
     pub(crate) earliest: Deadline,
     /// The milliseconds at which it saw that the day is being closed.
     pub(crate) closing: Option<u64>,
+    /// How many entries were kept in this round: no answer goes out that shows more.
+    pub(crate) kept: u64,
 }
 
 impl<
     'a,
     P: Poller + Drop,
     T: Timer + Drop,
-    H: House + CountsGiveUps + Drop,
+    H: House + AnswersMany + Drop,
     A: Admission,
     B: Bell,
 > Worker<'a, P, T, H, A, B> {
@@ -117,7 +122,7 @@ impl<
             settings,
             poller,
             timer,
-            house,
+            house: AdmittingHouse::new(house, shared.admission),
             calls,
             has_all_calls: false,
             slots,
@@ -126,12 +131,13 @@ impl<
             buffer: [0; LONGEST_READ],
             earliest: Deadline::never(),
             closing: None,
+            kept: shared.posts.kept(),
         })
     }
 
     /// Returns the house, which outlives it.
     pub fn into_house(self) -> H
-        ensures { result ≡ self.entry.house }
+        ensures { result ≡ self.entry.house.house }
     {
         let Worker {
             alloc: _,
@@ -148,6 +154,7 @@ impl<
             buffer: _,
             earliest: _,
             closing: _,
+            kept: _,
         } = self;
         drop(poller);
         drop(timer);
@@ -155,28 +162,24 @@ impl<
         drop(slots);
         drop(firms_here);
         drop(ready);
-        house
+        house.into_house()
     }
 
     /// Returns the place of a firm in the reference's list, from 1 on; 0 if it isn't there.
-    fn index_of(&self, firm: &gu_terms::FirmId) -> u64 {
+    fn index_of(&self, firm: &FirmId) -> u64 {
         match self.shared.firms.iter().position(|one| one == firm) {
             Some(index) => (index as u64).saturating_add(1),
             None => 0,
         }
     }
 
-    /// Asks whether the firm of a connection may have a place, if it has just logged on. From then on it is told of what informs it,
-    /// and of what informed it before.
-    fn admit(&mut self, mut place: PlaceOf<P>, card: &mut Card) -> Result<PlaceOf<P>, Ended> {
-        let Some(firm) = place.talk.firm() else {
-            return Ok(place);
+    /// Notes the firm of a connection, if it was admitted in this visit: from now on the worker is told of what informs it.
+    fn note_firm(&mut self, card: &mut Card) {
+        let Some(firm) = self.house.firm() else {
+            return;
         };
         if card.firm.is_some() {
-            return Ok(place);
-        }
-        if !self.shared.admission.admit(&firm) {
-            return Err(Ended { has_failed: true });
+            return;
         }
         card.firm = Some(Admitted {
             firm,
@@ -184,11 +187,30 @@ impl<
         });
         let firm_place = FirmPlace::of(&firm);
         self.firms_here.add(firm_place);
-        let posts = self.shared.posts;
-        posts.set_firm(self.settings.worker, firm_place, true);
-        place.log_on();
-        place.tell(posts.number(firm_place));
-        Ok(place)
+        self.shared
+            .posts
+            .set_firm(self.settings.worker, firm_place, true);
+    }
+
+    /// Goes on with a session, over the house of this worker. Its firm is admitted before it is told or answered anything; where it isn't,
+    /// the connection ends.
+    fn turn(
+        &mut self,
+        place: PlaceOf<P>,
+        card: &mut Card,
+        now: &Now,
+    ) -> Result<PlaceOf<P>, StreamError> {
+        self.house.resume(card);
+        let went = place.go_on_admitted(
+            self.alloc,
+            &mut self.house,
+            &mut self.buffer,
+            now,
+            self.closing.is_some(),
+        );
+        card.give_ups = self.house.give_ups();
+        self.note_firm(card);
+        went
     }
 
     /// Makes a visit: the session goes on, and what is held goes out.
@@ -202,19 +224,32 @@ impl<
             return Err(place.ended());
         }
         if place.stage.is_leaving() {
-            return place.leave(&mut self.buffer, now);
+            return place.leave(&mut self.buffer, self.kept, now);
         }
-        self.house.resume_count(card.give_ups);
-        let place = place.go_on(
-            self.alloc,
-            &mut self.house,
-            &mut self.buffer,
-            now,
-            self.closing.is_some(),
-        )?;
-        card.give_ups = self.house.give_ups();
-        let place = self.admit(place, card)?;
-        Ok(place.send(now)?)
+        let was_admitted = card.firm.is_some();
+        let mut place = self.turn(place, card, now)?;
+        if let Some(firm) = card.firm()
+            && !was_admitted
+        {
+            place.log_on();
+            place.tell(self.shared.posts.number(FirmPlace::of(&firm)));
+        }
+        place.mark(self.house.seen());
+        Ok(place.send(self.kept, now)?)
+    }
+
+    /// Lets go of what a connection has held back and may go now, and puts it back at its place.
+    pub(crate) fn release(
+        &mut self,
+        at: usize,
+        place: PlaceOf<P>,
+        now: &Now,
+    ) -> Result<(), AllocError> {
+        let card = place.card;
+        match place.send(self.kept, now) {
+            Ok(place) => self.keep(at, place, card, now),
+            Err(error) => self.end(at, card, Ended::from(error)),
+        }
     }
 
     /// Visits a connection, and puts it back at its place unless it has ended.
@@ -247,8 +282,8 @@ impl<
         self.shared.admission.release(&admitted.firm);
     }
 
-    /// Puts a connection at its place, and lists it if it wants another visit. One whose session is over is its firm's no more: so an
-    /// engine that logs out finds a place again at once.
+    /// Puts a connection at its place, and lists it if it wants another visit or holds answers back. One whose session is over is its firm's
+    /// no more: so an engine that logs out finds a place again at once.
     fn keep(
         &mut self,
         at: usize,
@@ -265,9 +300,13 @@ impl<
         let deadline = place.deadline(self.closing, self.settings.write_wait_ms);
         self.earliest = self.earliest.min(deadline);
         let wants_visit = place.wants_visit(self.closing.is_some());
+        let holds_back = place.talk.is_held_back(self.kept);
         self.slots.put(at, place);
         if wants_visit {
             self.slots.list(at)?;
+        }
+        if holds_back {
+            self.slots.hold_back(at)?;
         }
         Ok(())
     }

@@ -7,7 +7,7 @@ use gu_msgs::Request;
 use gu_posts::Posts;
 use gu_session::{Failure, Outcome};
 use gu_terms::{Command, FirmId, Moment, Stretch};
-use gu_workers::CountsGiveUps;
+use gu_workers::AnswersMany;
 use std::alloc::AllocError;
 use std::cell::{Cell, RefCell};
 
@@ -19,6 +19,10 @@ pub struct SharedBook {
     besides: RefCell<Option<Command>>,
     /// The most give-ups that any connection has counted.
     pub most_give_ups: Cell<u64>,
+    /// The connection whose command or question came last.
+    pub last: Cell<u64>,
+    /// Whether it has no notices for anyone.
+    pub has_failed: Cell<bool>,
 }
 
 impl SharedBook {
@@ -28,6 +32,8 @@ impl SharedBook {
             house: RefCell::new(house),
             besides: RefCell::new(None),
             most_give_ups: Cell::new(0),
+            last: Cell::new(0),
+            has_failed: Cell::new(false),
         }
     }
 
@@ -89,6 +95,7 @@ fn enter_command(house: &mut OverBook, command: Command) {
 pub struct BookHouse<'a> {
     shared: &'a SharedBook,
     posts: &'a Posts<Ring>,
+    connection: u64,
     give_ups: u64,
 }
 
@@ -107,6 +114,7 @@ impl<'a> BookHouse<'a> {
         BookHouse {
             shared,
             posts,
+            connection: 0,
             give_ups: 0,
         }
     }
@@ -119,13 +127,18 @@ impl<'a> BookHouse<'a> {
     }
 }
 
-impl CountsGiveUps for BookHouse<'_> {
-    fn resume_count(&mut self, give_ups: u64) {
+impl AnswersMany for BookHouse<'_> {
+    fn resume(&mut self, connection: u64, give_ups: u64) {
+        self.connection = connection;
         self.give_ups = give_ups;
     }
 
     fn give_ups(&self) -> u64 {
         self.give_ups
+    }
+
+    fn seen(&self) -> u64 {
+        self.shared.entries() as u64
     }
 }
 
@@ -138,6 +151,7 @@ impl House for BookHouse<'_> {
         if matches!(&ask.request, Request::Enter(Command::GiveUp { .. })) {
             self.count();
         }
+        self.shared.last.set(self.connection);
         let before = self.shared.entries();
         let Ok(mut house) = self.shared.house.try_borrow_mut() else {
             return Ok(left_out(ask));
@@ -149,6 +163,9 @@ impl House for BookHouse<'_> {
     }
 
     fn notices(&mut self, firm: &FirmId, from: u64) -> Result<Stretch, AllocError> {
+        if self.shared.has_failed.get() {
+            return Err(AllocError);
+        }
         let Ok(mut house) = self.shared.house.try_borrow_mut() else {
             return Err(AllocError);
         };

@@ -1,6 +1,6 @@
 //! The close of a day: a Logout to each firm, what is read and dropped after it, and how long it takes at most.
 
-use crate::floors::Setting;
+use crate::floors::{NO_JOURNAL, Setting};
 use crate::steps::check_plays;
 
 /// A trade of 10,000 lots of E1 with E2, of which E1 gave up 960 in as many lines.
@@ -163,6 +163,7 @@ fn a_close_ends_each_connection_in_order_and_in_time(rt: HostRuntime) {
         wires: 3,
         workers: 1,
         places: 3,
+        kept: NO_JOURNAL,
     };
     check_plays(&rt, rt.alloc(), setting, CLOSE);
 }

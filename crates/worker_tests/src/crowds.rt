@@ -1,6 +1,6 @@
 //! A thousand connections in one worker.
 
-use crate::floors::Setting;
+use crate::floors::{NO_JOURNAL, Setting};
 use crate::steps::check_plays;
 
 /// A trade of E1 with E2.
@@ -49,6 +49,7 @@ fn a_thousand_connections_are_served_in_one_worker(rt: HostRuntime) {
         wires: 1_000,
         workers: 1,
         places: 1_000,
+        kept: NO_JOURNAL,
     };
     check_plays(&rt, rt.alloc(), setting, CROWD);
 }

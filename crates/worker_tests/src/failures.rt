@@ -1,6 +1,6 @@
 //! Workers that are left to themselves, until they are over or can't go on.
 
-use crate::floors::Setting;
+use crate::floors::{NO_JOURNAL, Setting};
 use crate::steps::check_plays;
 
 /// One that logs on and off, one that never logs on, and one that is on its way.
@@ -27,7 +27,7 @@ rounds 2
 1:E1 out A 1 98=0|108=0|1137=9|
 3:C1 comes
 fault poller
-run fails
+run poller
 1:E1 closed
 2:C2 closed
 3:C1 closed
@@ -42,7 +42,7 @@ rounds 2
 1:E1 out A 1 98=0|108=0|1137=9|
 3:C1 comes
 fault clock
-run fails
+run clock
 1:E1 closed
 2:C2 closed
 3:C1 closed
@@ -56,6 +56,7 @@ fn a_worker_runs_until_it_is_over_or_can_not_go_on(rt: HostRuntime) {
         wires: 3,
         workers: 1,
         places: 3,
+        kept: NO_JOURNAL,
     };
     check_plays(&rt, rt.alloc(), setting, RUNS);
 }

@@ -1,6 +1,6 @@
 //! A connection that has much to be read.
 
-use crate::floors::Setting;
+use crate::floors::{NO_JOURNAL, Setting};
 use crate::steps::check_plays;
 
 /// E1 has sent 13,700 Heartbeats, and C2 a TestRequest in each round. A visit makes four turns at most, each of 4,096 bytes at most.
@@ -38,6 +38,7 @@ fn one_that_has_much_to_be_read_keeps_nobody_waiting(rt: HostRuntime) {
         wires: 2,
         workers: 1,
         places: 2,
+        kept: NO_JOURNAL,
     };
     check_plays(&rt, rt.alloc(), setting, MUCH);
 }

@@ -18,6 +18,9 @@ use trials::meant;
 /// How many milliseconds answers may be held of which none goes out.
 pub const WRITE_WAIT_MS: u64 = 10_000;
 
+/// How many entries are kept on a day without a journal.
+pub const NO_JOURNAL: u64 = u64::MAX;
+
 /// How a test begins.
 #[derive(Clone, Copy)]
 pub struct Setting<'a> {
@@ -28,6 +31,8 @@ pub struct Setting<'a> {
     pub workers: usize,
     /// How many places each worker has.
     pub places: usize,
+    /// How many entries are kept when it begins.
+    pub kept: u64,
 }
 
 /// What the workers of a test share.
@@ -94,7 +99,7 @@ impl Floor {
             },
             host: Host::new(),
             book: SharedBook::new(house),
-            posts: Posts::new(alloc, bells, setting.places, Ring::new())?,
+            posts: Posts::new(alloc, bells, setting.places, Ring::new(), setting.kept)?,
             firms: firms(alloc)?,
         })
     }

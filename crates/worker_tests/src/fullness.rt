@@ -1,6 +1,6 @@
 //! Connections that take nothing, or little.
 
-use crate::floors::Setting;
+use crate::floors::{NO_JOURNAL, Setting};
 use crate::steps::check_plays;
 
 /// A trade of 10,000 lots of E1 with E2, of which E1 gave up 960 in as many lines: C1 has 960 notices of some 170 bytes.
@@ -95,6 +95,7 @@ fn one_that_takes_nothing_waits_and_hurts_nobody(rt: HostRuntime) {
         wires: 3,
         workers: 1,
         places: 3,
+        kept: NO_JOURNAL,
     };
     check_plays(&rt, rt.alloc(), setting, FULL);
 }

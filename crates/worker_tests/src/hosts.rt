@@ -4,11 +4,13 @@ use gu_terms::FirmId;
 use gu_workers::Admission;
 use std::cell::Cell;
 
-/// Counts connections, and refuses a firm.
+/// Counts connections, refuses a firm, and gives no more places than it has.
 #[derive(Drop)]
 pub struct Host {
     /// The firm that has no place.
     pub refused: Cell<Option<FirmId>>,
+    /// How many places firms may have.
+    pub most: Cell<u64>,
     begun: Cell<u64>,
     ended: Cell<u64>,
     failed: Cell<u64>,
@@ -26,6 +28,7 @@ impl Host {
     pub fn new() -> Self {
         Host {
             refused: Cell::new(None),
+            most: Cell::new(u64::MAX),
             begun: Cell::new(0),
             ended: Cell::new(0),
             failed: Cell::new(0),
@@ -50,7 +53,7 @@ impl Admission for Host {
     }
 
     fn admit(&self, firm: &FirmId) -> bool {
-        if self.refused.get() == Some(*firm) {
+        if self.refused.get() == Some(*firm) || self.most.get() <= self.places.get() {
             return false;
         }
         count(&self.places);

@@ -1,6 +1,8 @@
-//! Tests of workers over memory: places, notices at once, deadlines, cuts and the close.
+//! Tests of workers over memory: places, notices at once, what is held back, deadlines, cuts and the close.
 #![tactic(auto)]
 
+#[cfg(test)]
+mod admissions;
 #[cfg(test)]
 mod book_house;
 #[cfg(test)]
@@ -21,6 +23,8 @@ mod floors;
 mod fullness;
 #[cfg(test)]
 mod hosts;
+#[cfg(test)]
+mod keeping;
 #[cfg(test)]
 mod memory;
 #[cfg(test)]

@@ -1,6 +1,6 @@
 //! A worker in which each allocation fails in turn (tools/each-growth). A failure outside the worker shows nothing of it.
 
-use crate::floors::{Floor, Setting};
+use crate::floors::{Floor, NO_JOURNAL, Setting};
 use crate::plays::Play;
 use gu_script::ScriptError;
 use std::alloc::{AllocError, Global};
@@ -12,6 +12,7 @@ const SETTING: Setting<'static> = Setting {
     wires: 2,
     workers: 1,
     places: 2,
+    kept: NO_JOURNAL,
 };
 
 /// What C1 and C2 send, and what they are sent.

@@ -1,6 +1,6 @@
 //! Places: who gets one, how it becomes free, and what the next connection there begins with.
 
-use crate::floors::Setting;
+use crate::floors::{NO_JOURNAL, Setting};
 use crate::steps::check_plays;
 
 /// A trade of E1 with E2, of which E1 gave up five lots.
@@ -80,6 +80,7 @@ fn a_place_that_is_free_again_is_as_new(rt: HostRuntime) {
         wires: 3,
         workers: 1,
         places: 1,
+        kept: NO_JOURNAL,
     };
     check_plays(&rt, rt.alloc(), setting, ONE_PLACE);
 }
@@ -186,6 +187,7 @@ round
 1:E1 out P 3 70=L2|87=0|
 2:E1 out P 3 70=L3|87=0|
 counted 1
+asked 1
 1:E1 in J 3 70=L4|71=0|53=1|124=1|17=R1|78=1|79=A1|80=1|
 round
 1:E1 out P 4 70=L4|87=0|
@@ -198,6 +200,7 @@ fn a_connection_ends_alone(rt: HostRuntime) {
         wires: 3,
         workers: 1,
         places: 3,
+        kept: NO_JOURNAL,
     };
     check_plays(&rt, rt.alloc(), setting, ENDS);
 }

@@ -15,16 +15,19 @@
 //! - `waits 1000`, `waits ever`: how many milliseconds the last round was to wait at most
 //! - `asleep 1`: worker 1 waits; `rung 1 2`: its bell was rung twice since this was asked
 //! - `event 0`: the poller says once of place 0 that it is ready for all
+//! - `held 2`, `sent 2`: something is held for connection 2, or nothing
 //! - `full 2`: more than 65,536 bytes are held for connection 2
 //! - `cut 2`, `miss 3`, `close`: the connection is cut; there is none to be cut; the day is closed
 //! - `besides LINE`: it is entered as soon as a firm was given notices
-//! - `refuse E1`: E1 has no place from now on
+//! - `keep 4`, `stop`: four entries are kept; no more will be
+//! - `refuse E1`, `most 2`: E1 has no place from now on; firms have two places at most
 //! - `host 3 2 1 1`: three connections have begun, two have ended, one of them by a fault, and firms have one place
 //! - `entries 4`, `connections 0 2`: the book has four entries; worker 0 has two connections
 //! - `counted 2`: the most give-ups that a connection has counted
+//! - `asked 2`: the connection whose command or question came last
 //! - `last`, `over`: no more connections come; the last round was the last of its worker
-//! - `fault poller`, `fault clock`: it fails from now on
-//! - `run`, `run fails`: worker 0 makes rounds until it is over, or can't go on, and in the second case says so; a wait in which nothing
+//! - `fault poller`, `fault clock`, `fault house`: it fails from now on; a house that fails has no notices
+//! - `run`, `run poller`, `run clock`: worker 0 makes rounds until it is over, or can't go on and says why; a wait in which nothing
 //!   happens takes its time
 //!
 //! In a table `(x% *2..9)` is `x2 x3 ..` up to `x9 ` (as in `trials`).
@@ -33,6 +36,7 @@ use crate::bulk::Bulk;
 use crate::floors::{Floor, Setting};
 use crate::plays::Play;
 use crate::wires::Wire;
+use gu_posts::Failure;
 use gu_talks::Ready;
 use gu_terms::FirmId;
 use gu_text::{Line, TextError};
@@ -152,13 +156,26 @@ fn check_wait<R: Abort>(rt: &R, play: &Play<'_>, text: &str) -> Result<(), Alloc
     Ok(())
 }
 
-/// Asserts that so much is held for a connection that nothing is read.
-fn check_full<R: Abort>(rt: &R, play: &Play<'_>, number: u64) {
+/// Returns how many bytes are held for a connection, or 0 if there is none of this number.
+fn held<R: Abort>(rt: &R, play: &Play<'_>, number: u64) -> u64 {
     let list = play.floor.posts.status(play.alloc).expect(rt, "memory");
-    let is_full = list
-        .iter()
-        .any(|one| one.number == number && one.held > 65_536);
-    assert!(rt; is_full, "{}: full {number}", play.name);
+    for one in list.iter() {
+        if one.number == number {
+            return one.held;
+        }
+    }
+    0
+}
+
+/// Asserts how much is held for a connection: nothing, something, or so much that nothing is read.
+fn check_held<R: Abort>(rt: &R, play: &Play<'_>, word: &str, text: &str) {
+    let found = held(rt, play, number(text) as u64);
+    let is_so = match word {
+        "sent" => found == 0,
+        "held" => found > 0,
+        _ => found > 65_536,
+    };
+    assert!(rt; is_so, "{}: {word} {text}", play.name);
 }
 
 /// Has the poller say once of a place that it is ready for all.
@@ -195,23 +212,43 @@ fn post_step<R: Abort>(rt: &R, play: &Play<'_>, word: &str, text: &str) {
     }
 }
 
-/// From now on the poller fails, or the clock.
+/// From now on the poller fails, the clock or the house.
 fn set_fault(play: &Play<'_>, text: &str) {
-    if text == "poller" {
-        play.floor.waits.has_failed.set(true);
-    } else {
-        play.floor.hands.has_failed.set(true);
+    match text {
+        "poller" => play.floor.waits.has_failed.set(true),
+        "clock" => play.floor.hands.has_failed.set(true),
+        _ => play.floor.book.has_failed.set(true),
+    }
+}
+
+/// The failure that a word names, if it names one.
+fn failure(word: &str) -> Option<Failure> {
+    match word {
+        "poller" => Some(Failure::Poller),
+        "clock" => Some(Failure::Clock),
+        _ => None,
     }
 }
 
 /// Asserts that a worker that makes rounds ends so.
 fn check_run<R: Wait + Abort>(rt: &R, play: &mut Play<'_>, text: &str) {
-    let fails = text == "fails";
+    let failure = failure(text);
     play.floor.waits.takes_time.set(true);
-    assert_eq!(rt; play.run(rt, 0), !fails, "{}: run {text}", play.name);
+    assert_eq!(rt;
+        play.run(rt, 0),
+        failure.is_none(),
+        "{}: run {text}",
+        play.name
+    );
+    assert_eq!(rt;
+        play.floor.posts.failure(),
+        failure,
+        "{}: failure",
+        play.name
+    );
     assert_eq!(rt;
         play.floor.posts.has_failed(),
-        fails,
+        failure.is_some(),
         "{}: has failed",
         play.name
     );
@@ -226,7 +263,7 @@ fn floor_step<R: Wait + Abort>(rt: &R, play: &mut Play<'_>, word: &str, text: &s
         "besides" => enter_besides(play.alloc, play.floor, text).expect(rt, "memory"),
         "asleep" | "rung" | "connections" => post_step(rt, play, word, text),
         "event" => say_ready(play, number(text)).expect(rt, "memory"),
-        "full" => check_full(rt, play, number(text) as u64),
+        "full" | "held" | "sent" => check_held(rt, play, word, text),
         "counted" => assert_eq!(rt;
             play.floor.book.most_give_ups.get() as usize,
             number(text),
@@ -244,6 +281,9 @@ fn floor_step<R: Wait + Abort>(rt: &R, play: &mut Play<'_>, word: &str, text: &s
             play.name
         ),
         "close" => play.floor.posts.close(),
+        "keep" => play.floor.posts.keep(number(text) as u64),
+        "stop" => play.floor.posts.stop(),
+        "most" => play.floor.host.most.set(number(text) as u64),
         "refuse" => play.floor.host.refused.set(FirmId::new(text.as_bytes())),
         "entries" => assert_eq!(rt;
             play.floor.book.entries(),
@@ -252,6 +292,12 @@ fn floor_step<R: Wait + Abort>(rt: &R, play: &mut Play<'_>, word: &str, text: &s
             play.name
         ),
         "fault" => set_fault(play, text),
+        "asked" => assert_eq!(rt;
+            play.floor.book.last.get() as usize,
+            number(text),
+            "{}: asked",
+            play.name
+        ),
         "last" => play.end_calls(),
         "over" => assert!(rt; play.is_over, "{}: over", play.name),
         _ => return false,

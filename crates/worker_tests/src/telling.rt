@@ -1,6 +1,6 @@
 //! Notices at once: whom an entry informs is told by the next round of his worker.
 
-use crate::floors::Setting;
+use crate::floors::{NO_JOURNAL, Setting};
 use crate::steps::check_plays;
 
 /// A trade of E1 with E2.
@@ -57,6 +57,7 @@ fn an_entry_is_told_by_the_next_round(rt: HostRuntime) {
         wires: 4,
         workers: 1,
         places: 4,
+        kept: NO_JOURNAL,
     };
     check_plays(&rt, rt.alloc(), setting, ONE_WORKER);
 }
@@ -127,6 +128,7 @@ fn a_worker_is_woken_where_it_waits_and_has_the_firm(rt: HostRuntime) {
         wires: 3,
         workers: 2,
         places: 3,
+        kept: NO_JOURNAL,
     };
     check_plays(&rt, rt.alloc(), setting, TWO_WORKERS);
 }

@@ -1,6 +1,6 @@
 //! Deadlines: the Logon, heartbeats, the Logout of a firm that is silent, and how long a worker waits.
 
-use crate::floors::Setting;
+use crate::floors::{NO_JOURNAL, Setting};
 use crate::steps::check_plays;
 
 /// On a day without a trade.
@@ -132,6 +132,7 @@ fn deadlines_are_met_by_the_clock_alone(rt: HostRuntime) {
         wires: 2,
         workers: 1,
         places: 2,
+        kept: NO_JOURNAL,
     };
     check_plays(&rt, rt.alloc(), setting, TIMES);
 }

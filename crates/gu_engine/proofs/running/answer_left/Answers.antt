@@ -1,9 +1,10 @@
 use Rattle.std.proofs.Common.{◌<◌, ◌≤◌, ◌∷◌, [], ℕ, List, length, inl, inr, refl, sym, ap, subst, rules}
 use Rattle.gu_streams.proofs.Writing.{on_err_from}
-use Rattle.gu_engine.specs.Sends.{GivesAnswers, GivesPart}
+use Rattle.gu_engine.specs.Sends.{GivesAnswers, GivesPart, GivesSome}
 use Rattle.gu_engine.specs.declared.backlog.Backlog.{Backlog}
 use Rattle.gu_engine.specs.declared.held.Held.{Held}
 use Rattle.gu_engine.proofs.Answering.{idle_now, so_far_begins, so_far_cut, so_far_ends, so_far_fails, so_far_more, so_far_none, so_far_part}
+use Rattle.gu_engine.proofs.Holding.{some_given, some_then}
 use Rattle.gu_engine.proofs.running.answer_left.Goals as goal
 
 pub returns-in_err-give_due-clause-part : goal.returns-in_err-give_due-clause-part
@@ -14,6 +15,7 @@ events-init g c = record {
   so_far =
       let after : Backlog g.row.O.Denot = record c.args.backlog.now { held = c.give_due.new.held } in
       so_far_begins g.A.Answerer.engine c.args.now c.args.answerer.now c.args.backlog.now _ c.give_due.new.answerer after _ c.in_ok-give_due.ensures.answered refl refl;
+  gave = some_given c.in_ok-give_due.ensures.answered.text c.args.backlog.now.held.bytes.items c.give_due.new.held.bytes.items _ _ c.in_ok-give_due.ensures.answered.gave;
   ready = c.in_ok-give_due.ensures.answered.ends;
   few = c.in_ok-give_due.ensures.few;
 }
@@ -33,6 +35,11 @@ returns-in_default-clause-answered g c =
     let none = rw c.in_default.is at c.in_ok-event.ensures.none in
     so_far_ends g.A.Answerer.engine c.args.now c.args.answerer.now c.args.backlog.now _ c.events.answerer c.events.backlog c.next_event.new.self _ c.events.invariant.so_far none idle (ap (λ (held : Held g.row.O.Denot). held.bytes.items) c.next_event.ensures.held)
 
+pub returns-in_default-clause-gave : goal.returns-in_default-clause-gave
+returns-in_default-clause-gave g c =
+    subst (λ (held : Held g.row.O.Denot). GivesSome c.args.backlog.now.held.bytes.items held.bytes.items (g.W.Write.contents c.args.writer.now) (g.W.Write.contents c.events.writer)) (sym c.next_event.ensures.held)
+    c.events.invariant.gave
+
 pub events-preserved : goal.events-preserved
 events-preserved g c =
     let takes = rw c.in-Some.is at c.in_ok-event.ensures.event in
@@ -44,6 +51,7 @@ events-preserved g c =
       so_far =
           so_far_more g.A.Answerer.engine c.args.now c.args.answerer.now c.args.backlog.now _ c.events.answerer c.answer_event.new.answerer c.events.backlog c.next_event.new.self after c.in-Some.event _ _ c.events.invariant.so_far takes step
           refl refl;
+      gave = some_then step.text c.args.backlog.now.held.bytes.items c.events.backlog.held.bytes.items after.held.bytes.items _ _ _ c.events.invariant.gave step.gave;
       ready = c.in_ok-answer_event.ensures.answered.ends;
       few = λ all few. c.in_ok-answer_event.ensures.few all;
     }

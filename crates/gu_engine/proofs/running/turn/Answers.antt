@@ -5,7 +5,7 @@ use Rattle.gu_engine.specs.Turned.{TurnsToPart, work_of}
 use Rattle.gu_engine.specs.declared.backlog.Backlog.{Backlog}
 use Rattle.gu_engine.specs.declared.held.Held.{Held}
 use Rattle.gu_engine.proofs.Answering.{part_some}
-use Rattle.gu_engine.proofs.Holding.{fewer_held, gives_nothing, gives_then}
+use Rattle.gu_engine.proofs.Holding.{fewer_held, gives_nothing, gives_then, some_given, some_then}
 use Rattle.gu_engine.proofs.TurnParts.{found_here, no_more, none_is_left, not_full, part_idle, part_last, part_turn, turned_last, turned_over, turned_stopped, turns_made, wrote_gone, wrote_gone_then}
 use Rattle.gu_engine.proofs.running.turn.Goals as goal
 
@@ -164,3 +164,43 @@ returns-clause-turned g c old is =
     let none = none_is_left left.left _ c.answer_left.new.backlog.held.bytes.items left.cut goes_on little in
     turned_over g.A.Answerer.engine g.R.Read.remaining old c.args.answerer.now work is c.answer_left.new.answerer c.in_ok-turned.turned turns.0 found.0.read (sym c.if-is_last.ensures)
     (not_full g.R.Read.remaining c.args.reads.now c.take_in.new.reads before c.take_in.new.self c.in_ok-turned.turned c.in_ok-turned.ensures.taken) (turns.1 ∙ none) goes_on turns.2 found.1
+
+pub returns-then-is_last-clause-gave : goal.returns-then-is_last-clause-gave
+returns-then-is_last-clause-gave g c =
+    let gone =
+    subst (λ (h : Held g.row.O.Denot). Gives [] c.args.backlog.now.held.bytes.items h.bytes.items (g.W.Write.contents c.args.writer.now) (g.W.Write.contents c.send_unless_ahead.new.writer)) (sym c.take_in.ensures.held)
+    c.in_ok-send_unless_ahead.ensures.given in
+    some_then [] c.args.backlog.now.held.bytes.items c.take_in.new.self.held.bytes.items c.let_go.new.self.bytes.items _ _ _ (some_given [] _ _ _ _ gone) c.in_ok-let_go.ensures.given
+
+pub returns-in_default-clause-gave : goal.returns-in_default-clause-gave
+returns-in_default-clause-gave g c =
+    let gone =
+    subst (λ (h : Held g.row.O.Denot). Gives [] c.args.backlog.now.held.bytes.items h.bytes.items (g.W.Write.contents c.args.writer.now) (g.W.Write.contents c.send_unless_ahead.new.writer)) (sym c.take_in.ensures.held)
+    c.in_ok-send_unless_ahead.ensures.given in
+    some_then [] c.args.backlog.now.held.bytes.items c.take_in.new.self.held.bytes.items c.let_go-in_default.new.self.bytes.items _ _ _ (some_given [] _ _ _ _ gone) c.in_ok-let_go-2.ensures.given
+
+pub returns-then-is_cut-clause-gave : goal.returns-then-is_cut-clause-gave
+returns-then-is_cut-clause-gave g c =
+    let gone =
+    subst (λ (h : Held g.row.O.Denot). Gives [] c.args.backlog.now.held.bytes.items h.bytes.items (g.W.Write.contents c.args.writer.now) (g.W.Write.contents c.send_unless_ahead.new.writer)) (sym c.take_in.ensures.held)
+    c.in_ok-send_unless_ahead.ensures.given in
+    let gave = c.in_ok-answer_left.ensures.gave in
+    some_then gave.text c.args.backlog.now.held.bytes.items c.take_in.new.self.held.bytes.items c.answer_left.new.backlog.held.bytes.items _ _ _ (some_given [] _ _ _ _ gone) gave.gave
+
+pub returns-then-is_done-2-clause-gave : goal.returns-then-is_done-2-clause-gave
+returns-then-is_done-2-clause-gave g c =
+    let gone =
+    subst (λ (h : Held g.row.O.Denot). Gives [] c.args.backlog.now.held.bytes.items h.bytes.items (g.W.Write.contents c.args.writer.now) (g.W.Write.contents c.send_unless_ahead.new.writer)) (sym c.take_in.ensures.held)
+    c.in_ok-send_unless_ahead.ensures.given in
+    let gave = c.in_ok-answer_left.ensures.gave in
+    let answered = some_then gave.text c.args.backlog.now.held.bytes.items c.take_in.new.self.held.bytes.items c.answer_left.new.backlog.held.bytes.items _ _ _ (some_given [] _ _ _ _ gone) gave.gave in
+    some_then [] c.args.backlog.now.held.bytes.items c.answer_left.new.backlog.held.bytes.items c.send_unless_ahead-2.new.held.bytes.items _ _ _ answered c.in_ok-send_unless_ahead-2.ensures.given
+
+pub returns-clause-gave : goal.returns-clause-gave
+returns-clause-gave g c =
+    let gone =
+    subst (λ (h : Held g.row.O.Denot). Gives [] c.args.backlog.now.held.bytes.items h.bytes.items (g.W.Write.contents c.args.writer.now) (g.W.Write.contents c.send_unless_ahead.new.writer)) (sym c.take_in.ensures.held)
+    c.in_ok-send_unless_ahead.ensures.given in
+    let gave = c.in_ok-answer_left.ensures.gave in
+    let answered = some_then gave.text c.args.backlog.now.held.bytes.items c.take_in.new.self.held.bytes.items c.answer_left.new.backlog.held.bytes.items _ _ _ (some_given [] _ _ _ _ gone) gave.gave in
+    some_then [] c.args.backlog.now.held.bytes.items c.answer_left.new.backlog.held.bytes.items c.send_unless_ahead-2.new.held.bytes.items _ _ _ answered c.in_ok-send_unless_ahead-2.ensures.given

@@ -11,5 +11,5 @@ pub loop-turn-preserved : goal.loop-turn-preserved
 loop-turn-preserved g c =
     let is : c.loop-turn.turned ≡ Ok turned.Again = search rules in
     let before = IfOk-at_ok _ is c.loop-turn.invariant in
-    let mid = spot g.O.Write.contents c.loop-turn.answerer c.loop-turn.ahead c.loop-turn.writer c.loop-turn.backlog in
+    let mid = spot c.loop-turn.answerer c.loop-turn.ahead c.loop-turn.backlog in
     IfOk-weaker c.make_turn-read.result.1 _ _ (λ became once. (suc before.0, (mid, before.1, once))) c.make_turn-read.ensures

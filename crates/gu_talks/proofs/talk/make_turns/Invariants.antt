@@ -7,4 +7,4 @@ use Rattle.gu_talks.proofs.talk.make_turns.Given as goal
 abbrev pub invariant-loop-turn : goal.invariant-loop-turn
 invariant-loop-turn g l =
     IfOk l.turned (λ became. (more : ℕ) × TurnsOn g.A.Answerer.engine (left_ahead g.I.Read.remaining) more
-    (spot g.O.Write.contents l.fn.answerer l.fn.ahead l.fn.writer l.fn.backlog) became (spot g.O.Write.contents l.answerer l.ahead l.writer l.backlog))
+    (spot l.fn.answerer l.fn.ahead l.fn.backlog) became (spot l.answerer l.ahead l.backlog))

@@ -17,4 +17,5 @@ returns g c =
       conversation_new = c.rest.ensures;
       source = refl;
       writer = refl;
+      marks = refl;
     }

@@ -1,9 +1,10 @@
-use Rattle.std.proofs.Common.{◌∙◌, sym, ap, subst, MutBor}
+use Rattle.std.proofs.Common.{◌∙◌, refl, sym, ap, subst, MutBor}
 use Rattle.std.proofs.lemmas.Result.{IfOk-at_ok}
 use Rattle.gu_engine.specs.Exchange.{EndsSession, conversation_of}
 use Rattle.gu_engine.specs.declared.connection.Connection.{Connection}
 use Rattle.gu_talks.specs.declared.visit_clock.VisitClock.{VisitClock}
 use Rattle.gu_talks.proofs.EndingTurns.{ends_last, ends_other}
+use Rattle.gu_talks.proofs.HoldingOn.{all_hold_on, marks_fit}
 use Rattle.gu_talks.proofs.talk.Talk.turn.Goals.{then-is_last, else-is_last}
 use Rattle.gu_talks.proofs.talk.Talk.turn.Goals as goal
 
@@ -31,4 +32,13 @@ returns g c =
       ];
       conversation_new = c.rest.ensures;
       input_new = c.into_source.ensures;
+      holds = all_hold_on _ _ turns.0 _ c.in_ok-turned.turned _ turns.1;
+      writer = refl;
+      marks = refl;
     }
+
+pub invariant_of-talk : goal.invariant_of-talk
+invariant_of-talk g c =
+    let turns = IfOk-at_ok _ c.in_ok-turned.was c.make_turns-ahead.ensures in
+    let holds = all_hold_on _ _ turns.0 _ c.in_ok-turned.turned _ turns.1 in
+    record { within = marks_fit c.args.self.backlog c.make_turns-ahead.new.backlog c.args.self.marks c.args.self.within holds }
