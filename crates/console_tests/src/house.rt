@@ -2,12 +2,12 @@
 
 use gu_book::Book;
 use gu_console::{Office, Places};
-use gu_desk::FirmFilter;
+use gu_desk::{FirmFilter, Origin};
 use gu_houses::Informs;
 use gu_posts::ConnectionStatus;
 use gu_ref::Reference;
 use gu_streams::CountedReads;
-use gu_terms::FirmId;
+use gu_terms::{FirmId, Moment};
 use std::alloc::{AllocError, Global};
 use std::sync::atomic::{AtomicBool, AtomicU64, Ordering};
 
@@ -103,8 +103,8 @@ impl Office for TestOffice {
         &self.firms
     }
 
-    fn now(&self) -> Option<u64> {
-        Some(NOW)
+    fn now(&self) -> Option<Moment> {
+        Moment::new(NOW)
     }
 
     fn cut(&self, number: u64) -> bool {
@@ -120,10 +120,12 @@ impl Office for TestOffice {
     }
 }
 
-/// Counts the entries that others hear of, and knows the number of the last.
+/// Counts the entries that others hear of, and those of them that an operator made at this office's moment, and knows the number of the
+/// last.
 #[derive(Drop)]
 pub struct Heard {
     entries: AtomicU64,
+    own: AtomicU64,
     last: AtomicU64,
 }
 
@@ -132,6 +134,7 @@ impl Heard {
     pub fn new() -> Self {
         Heard {
             entries: AtomicU64::new(0),
+            own: AtomicU64::new(0),
             last: AtomicU64::new(0),
         }
     }
@@ -143,11 +146,19 @@ impl Heard {
             self.last.load(Ordering::SeqCst),
         )
     }
+
+    /// Returns how many of them were an operator's, made at the office's moment.
+    pub fn own(&self) -> u64 {
+        self.own.load(Ordering::SeqCst)
+    }
 }
 
 impl Informs for Heard {
-    fn inform(&self, number: u64, _firms: FirmFilter) {
+    fn inform(&self, number: u64, _firms: FirmFilter, origin: Origin) {
         let _ = self.entries.fetch_add(1, Ordering::SeqCst);
+        if origin.message.is_none() && origin.moment.get() == NOW {
+            let _ = self.own.fetch_add(1, Ordering::SeqCst);
+        }
         self.last.store(number, Ordering::SeqCst);
     }
 }

@@ -60,6 +60,7 @@ fn answered<E: EntryLedger, S: LotLedger, R: Wait + Abort>(
         match operator.answer(line.as_bytes(), &mut output) {
             Ok(_) if is_text(&output, "MEMORY//") => {}
             Ok(_) => return Some(output),
+            // The next JOURNAL goes on where this one would have begun: its answer is compared by the caller.
             Err(AllocError) => assert!(rt; output.is_empty(), "{line}"),
         }
     }

@@ -96,6 +96,19 @@ fn check_line<E: EntryLedger, S: LotLedger, R: Wait + Abort>(
         !expected.ends_with("\n\n") && expected != "\n",
         "{line}"
     );
+    check_seen(rt, operator, expected);
+}
+
+/// Compares how many entries an operator's seat has seen with the number of the entry that an answer is of, if it is of one.
+fn check_seen<E: EntryLedger, S: LotLedger, R: Wait + Abort>(
+    rt: &R,
+    operator: &Operator<'_, E, S, R, TestOffice, Heard>,
+    answer: &str,
+) {
+    let first = answer.split(' ').next().unwrap_or("");
+    if let Ok(number) = first.parse::<u64>() {
+        assert_eq!(rt; operator.seen(), number, "{answer}");
+    }
 }
 
 /// Tells the lines of a transcript, and compares their answers.
@@ -166,5 +179,6 @@ pub fn play<E: EntryLedger, S: LotLedger, R: Wait + Abort>(
     };
     follow(rt, alloc, &room, seats, transcript);
     assert_eq!(rt; tally.counts().entries, heard.counts().0);
+    assert_eq!(rt; heard.own(), heard.counts().0);
     heard.counts()
 }

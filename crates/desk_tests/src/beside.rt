@@ -1,6 +1,7 @@
 //! Lines that are answered while a sweep is proposed.
 
-ghost use Rattle.std.specs.Prelude.{◌≡◌};
+ghost use Rattle.std.specs.Prelude.{◌≡◌, All};
+ghost use Rattle.gu_desk.specs.Seats.{IsNew};
 ghost use Rattle.gu_terms.specs.Histories.{lots_swept};
 
 use crate::opening::{annals_of, opened};
@@ -8,6 +9,7 @@ use crate::sample::{A_TRADE, book_of, command_of, group_of};
 use gu_book::Book;
 use gu_desk::{BlankAnnals, Desk, EntryLedger, Gate, LotLedger, Seat, SweepError};
 use gu_flow::{Proposal, propose};
+use gu_houses::SeatReceipts;
 use gu_terms::{Entry, Group};
 use gu_view::View;
 use std::alloc::{AllocError, Global};
@@ -74,88 +76,146 @@ impl Gate for AfterLines<'_> {
 enum Tries {
     Once,
     Until(u32),
+    /// By that of a seat that keeps its receipts, which tries three times.
+    WithReceipts,
 }
 
 /// Lines that are entered one after another while a sweep is proposed, and what comes of the sweep: its entry's number and its lots, or
-/// why it is refused.
+/// why it is refused; and how many entries the sweep's seat has seen then.
 #[derive(Clone, Copy)]
 struct Row {
     lines: &'static str,
     tries: Tries,
     want: Result<(u64, u64), SweepError>,
+    seen: u64,
 }
 
 /// Each after a trade of ten lots that are given up, which are eight entries, six of which touch the group.
-const ROWS: [Row; 9] = [
+const ROWS: [Row; 11] = [
     Row {
         lines: "CLAIM C1 1",
         tries: Tries::Once,
         want: Err(SweepError::Stale { seen: 6, now: 7 }),
+        seen: 9,
     },
     Row {
         lines: "CLAIM C1 1",
         tries: Tries::Until(1),
         want: Err(SweepError::Stale { seen: 6, now: 7 }),
+        seen: 9,
     },
     Row {
         lines: "CLAIM C1 1",
         tries: Tries::Until(2),
         want: Ok((10, 0)),
+        seen: 10,
     },
     Row {
         lines: "CLAIM C1 1\nLIMIT G1 AGR P1 101",
         tries: Tries::Until(2),
         want: Err(SweepError::Stale { seen: 7, now: 8 }),
+        seen: 10,
     },
     Row {
         lines: "REPORT E1 R3 M2 B XF6 1 100 H1",
         tries: Tries::Once,
         want: Ok((10, 10)),
+        seen: 10,
     },
     Row {
         lines: "LIMIT G2 EXEC E1 5",
         tries: Tries::Once,
         want: Ok((10, 10)),
+        seen: 10,
     },
     Row {
         lines: "LIMIT G1 AGR P1 101\nLIMIT G1 AGR P1 102\nLIMIT G1 AGR P1 103",
         tries: Tries::Until(3),
         want: Err(SweepError::Stale { seen: 8, now: 9 }),
+        seen: 11,
     },
     Row {
         lines: "LIMIT G1 AGR P1 101\nLIMIT G1 AGR P1 102",
         tries: Tries::Until(3),
         want: Ok((11, 10)),
+        seen: 11,
     },
     Row {
         lines: "LIMIT G1 AGR P1 101\nLIMIT G1 AGR P1 102\nLIMIT G1 AGR P1 103\nLIMIT G1 AGR P1 104",
         tries: Tries::Until(4),
         want: Err(SweepError::Stale { seen: 9, now: 10 }),
+        seen: 12,
+    },
+    Row {
+        lines: "LIMIT G1 AGR P1 101\nLIMIT G1 AGR P1 102",
+        tries: Tries::WithReceipts,
+        want: Ok((11, 10)),
+        seen: 11,
+    },
+    Row {
+        lines: "LIMIT G1 AGR P1 101\nLIMIT G1 AGR P1 102\nLIMIT G1 AGR P1 103",
+        tries: Tries::WithReceipts,
+        want: Err(SweepError::Stale { seen: 8, now: 9 }),
+        seen: 11,
     },
 ];
 
-/// What comes of a sweep by the gate.
+/// The last seat as one that keeps its receipts.
+fn kept_seat<E: EntryLedger, S: LotLedger>(
+    alloc: Global,
+    seats: &mut Vec<Seat<E, S>>,
+) -> Option<SeatReceipts<E, S>>
+    requires { All (IsNew E.opening) seats.old.items }
+{
+    let seat = seats.pop()?;
+    Some(SeatReceipts::new(alloc, seat))
+}
+
+/// What comes of a sweep from a seat that keeps its receipts, and how many entries it has seen then.
+fn sweep_with_receipts<E: EntryLedger, S: LotLedger, R: Wait>(
+    rt: &R,
+    desk: &Desk<E, S>,
+    mut seat: SeatReceipts<E, S>,
+    group: Group,
+    gate: &AfterLines<'_>,
+) -> (Result<(u64, u64), SweepError>, u64) {
+    let swept = match seat.sweep(rt, desk, group, gate) {
+        Ok(swept) => Ok((swept.number, swept.lots)),
+        Err(error) => Err(error),
+    };
+    (swept, seat.seen())
+}
+
+/// What comes of a sweep by the gate, and how many entries its seat has seen then.
 fn sweep<E: EntryLedger, S: LotLedger, R: Wait>(
     rt: &R,
     desk: &Desk<E, S>,
-    mut seat: Seat<E, S>,
+    keeping: SeatReceipts<E, S>,
     group: Group,
     row: Row,
     counts: &Counts,
-) -> Result<(u64, u64), SweepError> {
+) -> (Result<(u64, u64), SweepError>, u64) {
     let lines = row.lines.lines().count() as u64;
     let gate = AfterLines { counts, lines };
-    let swept = match row.tries {
-        Tries::Once => desk.sweep_once(rt, &mut seat, group, &gate),
-        Tries::Until(most) => desk.sweep_until(rt, &mut seat, group, most.clamp(1, 1000), &gate),
+    let most = match row.tries {
+        Tries::Once => None,
+        Tries::Until(most) => Some(most.clamp(1, 1000)),
+        Tries::WithReceipts => return sweep_with_receipts(rt, desk, keeping, group, &gate),
     };
-    match swept {
+    let (mut seat, kept) = keeping.into_parts();
+    drop(kept);
+    let swept = match most {
+        Some(most) => desk.sweep_until(rt, &mut seat, group, most, &gate),
+        None => desk.sweep_once(rt, &mut seat, group, &gate),
+    };
+    let swept = match swept {
         Ok(receipt) => match &receipt.entry {
             Entry::Swept(sweep) => Ok((receipt.number, sweep.lots)),
             Entry::Asked { .. } => Ok((receipt.number, u64::MAX)),
         },
         Err(error) => Err(error),
-    }
+    };
+    (swept, seat.seen())
 }
 
 /// Enters a line from a seat. False where it isn't entered.
@@ -198,11 +258,11 @@ fn swept_beside<E: EntryLedger + Send + Sync, S: LotLedger + Send + Sync, R: Thr
     rt: &R,
     alloc: Global,
     desk: &Desk<E, S>,
-    seats: (Seat<E, S>, Seat<E, S>),
+    seats: (Seat<E, S>, SeatReceipts<E, S>),
     group: Group,
     row: Row,
     counts: &Counts,
-) -> Option<Result<(u64, u64), SweepError>> {
+) -> Option<(Result<(u64, u64), SweepError>, u64)> {
     let (mut seat, other) = seats;
     thread::scope(thread::scope_env(), rt, |scope| {
         let sweeper = scope
@@ -240,13 +300,13 @@ fn try_row<
     requires swept { (swept.name ≡ S.name) × (swept.parts ≡ S.parts) × (swept.parts ≡ 3) }
 {
     let (desk, mut seats) = opened::<E, S, R>(rt, alloc, book, annals, 2, entries, swept);
-    let mut seat = seats.pop().expect(rt, "a seat");
-    let other = seats.pop().expect(rt, "another seat");
+    let other = kept_seat(alloc, &mut seats).expect(rt, "a seat");
+    let mut seat = seats.pop().expect(rt, "another seat");
     submit_all(rt, alloc, &desk, &mut seat);
     let group = group_of("G1").expect(rt, "a group");
     let counts = Counts::new();
     let swept = swept_beside(rt, alloc, &desk, (seat, other), group, row, &counts);
-    assert_eq!(rt; swept, Some(row.want), "{}", row.lines);
+    assert_eq!(rt; swept, Some((row.want, row.seen)), "{}", row.lines);
     assert_eq!(rt; counts.run_out.load(Ordering::SeqCst), 0, "{}", row.lines);
 }
 

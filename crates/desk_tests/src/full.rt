@@ -55,6 +55,14 @@ impl Last {
             Last::Sweep => A_SWEEP_IS_LAST,
         }
     }
+
+    /// The line that is refused to a seat which has seen one entry less, and sees then that the book is full.
+    fn refused(self) -> &'static str {
+        match self {
+            Last::Command => "DAY 20260106 = Full",
+            Last::Sweep => "SWEEP G1 = Full",
+        }
+    }
 }
 
 /// A book with 999,999 entries: a day, and then the same day again and again.
@@ -81,13 +89,18 @@ fn fill_book<E: EntryLedger, S: LotLedger, R: Wait + Abort>(
     requires reference { book.reference ≡ E.reference }
     requires opening { (book.history ≡ E.opening) × (lots_swept book.history ≡ S.opening) }
     requires history { (annals.name ≡ E.history) × (annals.entries ≡ E.opening) }
-    requires entries { (entries.name ≡ E.name) × (entries.parts ≡ E.parts) × (entries.parts ≡ 2) }
-    requires swept { (swept.name ≡ S.name) × (swept.parts ≡ S.parts) × (swept.parts ≡ 2) }
+    requires entries { (entries.name ≡ E.name) × (entries.parts ≡ E.parts) × (entries.parts ≡ 3) }
+    requires swept { (swept.name ≡ S.name) × (swept.parts ≡ S.parts) × (swept.parts ≡ 3) }
 {
-    let (desk, mut seats) = opened::<E, S, R>(rt, alloc, book, annals, 1, entries, swept);
+    let (desk, mut seats) = opened::<E, S, R>(rt, alloc, book, annals, 2, entries, swept);
     let mut seat = seats.pop().expect(rt, "a seat");
+    let mut other = seats.pop().expect(rt, "another seat");
     follow(rt, alloc, &desk, &mut seat, last.lines());
+    assert_eq!(rt; (seat.seen(), other.seen()), (1_000_000, 999_999));
+    follow(rt, alloc, &desk, &mut other, last.refused());
+    assert_eq!(rt; other.seen(), 1_000_000);
     assert!(rt; seats.push(seat).is_ok());
+    assert!(rt; seats.push(other).is_ok());
     let book = desk.close(seats).ok().expect(rt, "all seats");
     assert_eq!(rt; book.history().len(), 1_000_000);
     assert_eq!(rt; audit(alloc, &book, &[]), Err(AuditFault::Unclaimed(1)));
@@ -104,8 +117,8 @@ fn a_desk_over_a_full_book_enters_nothing(rt: HostRuntime) {
             alloc,
             book,
             annals,
-            Blank::new(2),
-            Blank::new(2),
+            Blank::new(3),
+            Blank::new(3),
             last,
         );
     }

@@ -26,6 +26,8 @@ mod reading;
 #[cfg(test)]
 mod sample;
 #[cfg(test)]
+mod seen;
+#[cfg(test)]
 mod threads;
 #[cfg(test)]
 mod transcript;

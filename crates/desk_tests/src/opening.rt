@@ -1,7 +1,8 @@
 //! Desks that tests open.
 
-ghost use Rattle.std.specs.Prelude.{◌≡◌, ◌+◌, ◌≤◌};
+ghost use Rattle.std.specs.Prelude.{◌≡◌, ◌+◌, ◌≤◌, All};
 ghost use Rattle.gu_terms.specs.Histories.{lots_swept};
+ghost use Rattle.gu_desk.specs.Seats.{IsNew};
 
 use gu_book::Book;
 use gu_desk::{BlankAnnals, Desk, EntryLedger, LotLedger, Seat};
@@ -32,6 +33,7 @@ pub fn opened<E: EntryLedger, S: LotLedger, R: Abort>(
     requires history { (annals.name ≡ E.history) × (annals.entries ≡ E.opening) }
     requires entries { (entries.name ≡ E.name) × (entries.parts ≡ E.parts) × (entries.parts ≡ seats + 1) }
     requires swept { (swept.name ≡ S.name) × (swept.parts ≡ S.parts) × (swept.parts ≡ seats + 1) }
+    ensures { All (IsNew E.opening) result.1.items }
 {
     let made: Result<(Desk<E, S>, Vec<Seat<E, S>>), (AllocError, Book)> = Desk::new(
         alloc, book, annals, seats, entries, swept,

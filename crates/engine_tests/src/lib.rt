@@ -2,6 +2,8 @@
 #![tactic(auto)]
 
 #[cfg(test)]
+mod at_desk;
+#[cfg(test)]
 mod books;
 #[cfg(test)]
 mod clocks;

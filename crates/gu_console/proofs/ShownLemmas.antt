@@ -172,10 +172,11 @@ copied_from front from shown end old new entries copies is none same = (
 )
 
 -- the next stretch is shown
-pub shown_so : (reference : Tables) (old new : SeatState) (shown count : ℕ) (is_watch : Bool) (text said : List ℕ) → Sees reference old new
+pub shown_so : (reference : Tables) (old new : SeatState) (shown count counted : ℕ) (is_watch : Bool) (text said : List ℕ) → Sees reference old new
     → IsStretch new.front shown (shown + count) text → said ≡ text
-    → IsShown reference (record { seat = old; shown = shown; is_watch = is_watch }) said (record { seat = new; shown = shown + count; is_watch = is_watch })
-shown_so reference old new shown count is_watch text said sees stretch same = record {
+    → IsShown reference (record { seat = old; shown = shown; counted = counted; is_watch = is_watch }) said
+    (record { seat = new; shown = shown + count; counted = counted; is_watch = is_watch })
+shown_so reference old new shown count counted is_watch text said sees stretch same = record {
   sees = sees;
   stretch = subst (λ (t : List ℕ). IsStretch new.front shown (shown + count) t) (sym same) stretch;
 }

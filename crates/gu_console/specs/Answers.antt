@@ -1,25 +1,26 @@
 -- Answers to an operator: what a replay prints for such a line, where its book has a beginning of the desk's one history that the seat has
 -- seen, with at least the seat's own entries.
-use Rattle.std.specs.Prelude.{◌≡◌, ℕ, ◌+◌, ◌≤◌, ◌⊎◌, ◌++◌, Bool, false, List, [], ◌∷◌, Option, Some, None, Result, Ok, Err, codes}
+use Rattle.std.specs.Prelude.{◌≡◌, ℕ, ◌+◌, ◌≤◌, ◌⊎◌, ◌++◌, Bool, List, [], ◌∷◌, Option, Some, None, Result, Ok, Err, codes}
 use mathlib.Core.List.{IsPrefix}
 use Rattle.gu_terms.specs.declared.command.Command.{Command}
 use Rattle.gu_terms.specs.declared.entry.Entry.TheVariants.{Asked, Swept}
 use Rattle.gu_terms.specs.declared.entry.SweepEntry.{SweepEntry}
 use Rattle.gu_terms.specs.declared.group.Group.{Group}
 use Rattle.gu_terms.specs.declared.reply.Reply.{Reply}
-use Rattle.gu_ref.specs.Reference.{is_group}
 use Rattle.gu_ref.specs.Tables.{Tables}
 use Rattle.gu_view.specs.View.{GroupView}
 use Rattle.gu_rules.specs.BookState.{BookState}
+use Rattle.gu_book.specs.declared.error.EnterError.{EnterError}
+use Rattle.gu_book.specs.declared.error.EnterError.TheVariants as entering
 use Rattle.gu_world.specs.declared.outcome.Outcome.TheVariants as outcome
 use Rattle.gu_text.specs.Outcomes.{outcome_text, swept_text}
 use Rattle.gu_text.specs.Replies.{reply_text}
 use Rattle.gu_text.specs.Rows.{unknown_text}
 use Rattle.gu_text.specs.Texts.{line_of}
 use Rattle.gu_script.specs.Replaying.{interest_answer, limits_answer, position_answer}
-use Rattle.gu_desk.specs.Holds.{book_seen, Enters, Sees}
+use Rattle.gu_desk.specs.Holds.{book_seen, Enters, IsRefused, Looks, Sees}
 use Rattle.gu_desk.specs.Seats.{SeatState}
-use Rattle.gu_desk.specs.Sweeps.{DiffersIfStale, IsViewBefore}
+use Rattle.gu_desk.specs.Sweeps.{IsSweepRefused, IsViewBefore}
 use Rattle.gu_desk.specs.declared.error.SweepError.{SweepError}
 use Rattle.gu_desk.specs.declared.error.SweepError.TheVariants as refusal
 use Rattle.gu_console.specs.Requests.{IsAsked}
@@ -32,10 +33,12 @@ use Rattle.gu_console.specs.declared.request.Request.TheVariants as request
 use Rattle.gu_console.specs.declared.said.Said.{Said}
 use Rattle.gu_console.specs.declared.said.Said.TheVariants.{GoesOn, Closes}
 
--- an operator's connection: the seat that its entries are made from, how many entries JOURNAL has shown, and whether it only watches
+-- an operator's connection: the seat that its entries are made from, how many entries JOURNAL has shown, how many STATUS has counted, which
+-- aren't read again, and whether it only watches
 pub record OperatorState : Type 0 where
   pub seat : SeatState
   pub shown : ℕ
+  pub counted : ℕ
   pub is_watch : Bool
 
 -- the lines that are an operator's alone
@@ -58,10 +61,16 @@ pub record IsReplied (reference : Tables) (old : SeatState) (command : Command) 
   pub enters : Enters reference old (record { number = number; entry = Asked command reply }) new
   pub text_is : text ≡ reply_text number reply
 
--- nothing is entered: the book is full, or memory failed
-pub record IsLeftOut (old : SeatState) (text : List ℕ) (new : SeatState) : Type 0 where
-  pub text_is : (text ≡ outcome_text None None outcome.Full) ⊎ (text ≡ memory_text)
-  pub new_is : new ≡ old
+-- why a command isn't entered
+abbrev pub left_out_text : EnterError → List ℕ
+left_out_text entering.Full = outcome_text None None outcome.Full
+left_out_text entering.Memory = memory_text
+
+-- a command isn't entered: the book is full, as the seat sees then, or memory failed
+pub record IsLeftOut (reference : Tables) (old : SeatState) (text : List ℕ) (new : SeatState) : Type 0 where
+  pub why : EnterError
+  pub refused : IsRefused reference old why new
+  pub text_is : text ≡ left_out_text why
 
 -- the text of a sweep is its line and its sheet, which shows this view; or its line alone
 abbrev pub IsSweptText : GroupView → ℕ → SweepEntry → List ℕ → Type 0
@@ -89,20 +98,14 @@ unswept_text (refusal.Stale seen now) = outcome_text None None (outcome.Stale se
 -- no sweep is made: the reference lacks the group, the group was touched in between, the book is full, or memory failed
 pub record IsUnswept (reference : Tables) (old : SeatState) (group : Group) (text : List ℕ) (new : SeatState) : Type 0 where
   pub why : SweepError
+  pub refused : IsSweepRefused reference old group why new
   pub text_is : text ≡ unswept_text why
-  pub unknown : why ≡ refusal.UnknownGroup → is_group reference group ≡ false
-  pub stale : DiffersIfStale why
-  pub new_is : new ≡ old
 
 -- the answer to a question, where this is the book
 abbrev pub answer_of : BookState → BookQuestion → List ℕ
 answer_of book (Position account symbol) = position_answer book account symbol
 answer_of book (Interest symbol) = interest_answer book symbol
 answer_of book (Limits group) = limits_answer book group
-
--- nothing is entered, and the seat has seen as much as before, or more
-abbrev pub Looks : Tables → SeatState → SeatState → Type 0
-Looks reference old new = (new ≡ old) ⊎ Sees reference old new
 
 -- a question is answered by the book as the seat sees it then; or memory failed
 abbrev pub IsTold : Tables → SeatState → BookQuestion → List ℕ → SeatState → Type 0
@@ -111,7 +114,7 @@ IsTold reference old question text new =
 
 -- a command is entered with its reply, or left out
 abbrev pub AnswersCommand : Tables → SeatState → Command → List ℕ → SeatState → Type 0
-AnswersCommand reference old command text new = IsReplied reference old command text new ⊎ IsLeftOut old text new
+AnswersCommand reference old command text new = IsReplied reference old command text new ⊎ IsLeftOut reference old text new
 
 -- a group is swept, or not
 abbrev pub AnswersSweep : Tables → SeatState → Group → List ℕ → SeatState → Type 0

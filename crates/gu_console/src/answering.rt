@@ -1,7 +1,7 @@
 //! Answers to what asks for one command or one question.
 
 ghost use Rattle.std.specs.Prelude.{◌≡◌, [], OnOk};
-ghost use Rattle.gu_console.specs.Answers.{AnswersCommand, GoesOnFrom, IsTold, memory_text};
+ghost use Rattle.gu_console.specs.Answers.{AnswersCommand, GoesOnFrom, IsTold, left_out_text, memory_text};
 
 use crate::book_asked::BookAsked;
 use crate::console::Console;
@@ -25,6 +25,17 @@ pub(crate) fn say_memory(text: &mut Vec<u8>) -> Result<(), AllocError>
     append_last_word(text, b"MEMORY")
 }
 
+/// Says why a command isn't entered, in a text without bytes.
+fn say_left_out(text: &mut Vec<u8>, why: EnterError) -> Result<(), AllocError>
+    requires { text.old.items ≡ [] }
+    ensures { OnOk result (text.new.items ≡ left_out_text why) }
+{
+    match why {
+        EnterError::Full => append_last_word(text, b"FULL"),
+        EnterError::Memory => say_memory(text),
+    }
+}
+
 /// Enters a command from a seat, and says its reply in a text without bytes. Others hear of the entry.
 pub(crate) fn enter<E: EntryLedger, S: LotLedger, R: Wait, O: Office, I: Informs>(
     console: &Console<'_, E, S, R, O, I>,
@@ -45,11 +56,10 @@ pub(crate) fn enter<E: EntryLedger, S: LotLedger, R: Wait, O: Office, I: Informs
                 stretch: _,
             } = entered;
             console.tally.add_entry();
-            console.informs.inform(number, informs);
+            console.informs.inform(number, informs, console.origin());
             append_reply(text, number, &reply)
         }
-        Err(EnterError::Full) => append_last_word(text, b"FULL"),
-        Err(EnterError::Memory) => say_memory(text),
+        Err(why) => say_left_out(text, why),
     }
 }
 

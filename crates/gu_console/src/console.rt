@@ -1,7 +1,9 @@
 //! What the operators of one socket have in common.
 
-use crate::office::Office;
-use gu_desk::{Desk, EntryLedger, LotLedger};
+ghost use Rattle.std.specs.Prelude.{◌≡◌, None};
+
+use crate::office::{Office, moment_of};
+use gu_desk::{Desk, EntryLedger, LotLedger, Origin};
 use gu_houses::{Informs, Tally};
 use std::alloc::Global;
 use std::sync::Wait;
@@ -19,4 +21,16 @@ pub struct Console<'a, E: EntryLedger, S: LotLedger, R: Wait, O: Office, I: Info
     pub informs: &'a I,
     /// Whether they may look and change nothing.
     pub is_watch: bool,
+}
+
+impl<E: EntryLedger, S: LotLedger, R: Wait, O: Office, I: Informs> Console<'_, E, S, R, O, I> {
+    /// Returns the origin of an entry that an operator makes now.
+    pub(crate) fn origin(&self) -> Origin
+        ensures { result.message ≡ None }
+    {
+        Origin {
+            moment: moment_of(self.office),
+            message: None,
+        }
+    }
 }

@@ -1,7 +1,7 @@
 //! What an operator asks besides the book.
 
 use gu_posts::ConnectionStatus;
-use gu_terms::FirmId;
+use gu_terms::{FirmId, Moment};
 use std::alloc::{AllocError, Global};
 
 /// How many connections of firms there are.
@@ -26,8 +26,8 @@ pub trait Office {
     /// Returns the firms of the reference, in its order.
     fn firms(&self) -> &[FirmId];
 
-    /// Returns the moment in milliseconds, by the clock that the moments of the connections are of, if it can be had.
-    fn now(&self) -> Option<u64>;
+    /// Returns the moment, by the clock that the moments of the connections are of, if it can be had.
+    fn now(&self) -> Option<Moment>;
 
     /// Drops the connection of this number, and returns whether there is one.
     fn cut(&self, number: u64) -> bool;
@@ -37,4 +37,9 @@ pub trait Office {
 
     /// Returns whether the day is being closed.
     fn is_closing(&self) -> bool;
+}
+
+/// Returns the moment of an office, or the beginning of 1970 if it can't be had.
+pub(crate) fn moment_of<O: Office>(office: &O) -> Moment {
+    office.now().unwrap_or(Moment::known(0))
 }

@@ -1,7 +1,8 @@
 //! An operator's connection at a desk.
 
-ghost use Rattle.std.specs.Prelude.{◌≡◌, [], IfOk, OnErr, OnOk};
+ghost use Rattle.std.specs.Prelude.{◌≡◌, ◌≤◌, [], None, length, take, IfOk, OnErr, OnOk};
 ghost use Rattle.gu_console.specs.Answers.{Answers, AnswersLine, ClosesOnly, GoesOnFrom, IsAnswered, IsCutText, after_answer, bad_text, closing_text, sent_as};
+ghost use Rattle.gu_console.specs.Shown.{day_after};
 ghost use Rattle.gu_console.specs.declared.request.Request.TheVariants as request;
 
 use crate::answering::{ask, enter, say_memory};
@@ -25,7 +26,8 @@ use std::sync::Wait;
 /// The room that an answer of one line is given.
 const LINE_ROOM: usize = 192;
 
-/// An operator's connection at a desk. To a contract it is its seat, how many entries JOURNAL has shown, and whether it only watches.
+/// An operator's connection at a desk. To a contract it is its seat, how many entries JOURNAL has shown and STATUS has counted, and whether
+/// it only watches.
 pub struct Operator<'a, E: EntryLedger, S: LotLedger, R: Wait, O: Office, I: Informs> {
     console: Console<'a, E, S, R, O, I>,
     seat: SeatReceipts<E, S>,
@@ -51,7 +53,7 @@ impl<'a, E: EntryLedger, S: LotLedger, R: Wait, O: Office, I: Informs> Model
 
     ghost Value = { OperatorState };
 
-    ghost view = { λ o. record { seat = o.seat; shown = o.shown; is_watch = o.console.is_watch } };
+    ghost view = { λ o. record { seat = o.seat; shown = o.shown; counted = o.counts.entries; is_watch = o.console.is_watch } };
 
     ghost invariant = { λ o. (o.shown ≤ length o.seat.front) × (o.today ≡ day_after None (take o.shown o.seat.front)) };
 }
@@ -91,7 +93,7 @@ fn end_answer(text: &mut Vec<u8>, said: Said) -> Result<(), AllocError>
 impl<'a, E: EntryLedger, S: LotLedger, R: Wait, O: Office, I: Informs> Operator<'a, E, S, R, O, I> {
     /// Creates an operator's connection from a seat, to which no entry was shown yet.
     pub fn new(console: Console<'a, E, S, R, O, I>, seat: SeatReceipts<E, S>) -> Self
-        ensures { result ≡ record { seat = seat; shown = 0; is_watch = console.entry.is_watch } }
+        ensures { result ≡ record { seat = seat; shown = 0; counted = 0; is_watch = console.entry.is_watch } }
     {
         Operator {
             console,
@@ -116,12 +118,27 @@ impl<'a, E: EntryLedger, S: LotLedger, R: Wait, O: Office, I: Informs> Operator<
         seat
     }
 
-    /// Begins the next connection, to which no entry was shown yet.
+    /// Returns how many entries its seat has seen. No answer so far shows more of the desk's one history.
+    pub fn seen(&self) -> u64
+        ensures { result ≡ length self.now.seat.front }
+    {
+        self.seat.seen()
+    }
+
+    /// Goes back to where the journal that it follows stood.
+    fn go_back(&mut self, shown: usize, today: Option<Day>)
+        requires { (shown ≤ length self.old.seat.front) × (today ≡ day_after None (take shown self.old.seat.front)) }
+        ensures { self.new ≡ record self.old { shown = shown } }
+    {
+        self.shown = shown;
+        self.today = today;
+    }
+
+    /// Begins the next connection, to which no entry was shown yet. The entries that STATUS has counted aren't read again.
     pub fn begin(&mut self)
         ensures { self.new ≡ record self.old { shown = 0 } }
     {
-        self.shown = 0;
-        self.today = None;
+        self.go_back(0, None);
     }
 
     /// Answers STATUS, in a text without bytes.
@@ -225,9 +242,8 @@ impl<'a, E: EntryLedger, S: LotLedger, R: Wait, O: Office, I: Informs> Operator<
         }
     }
 
-    /// Answers a line, which has no LF, and appends the answer to an output. Room for an answer of one line is made before anything is
-    /// done. After an error the output is as it was, and the connection is to be closed, since an answer is missing.
-    pub fn answer(&mut self, line: &[u8], output: &mut Vec<u8>) -> Result<Said, AllocError>
+    /// Answers a line, and appends the answer to an output, unless memory fails for it.
+    fn append_answer(&mut self, line: &[u8], output: &mut Vec<u8>) -> Result<Said, AllocError>
         ensures answered { IfOk result (λ said. IsAnswered E.reference self.old line.now output.old.items output.new.items said self.new) }
         ensures goes_on { GoesOnFrom self.old.seat self.new.seat }
         ensures watch { self.new.is_watch ≡ self.old.is_watch }
@@ -239,5 +255,26 @@ impl<'a, E: EntryLedger, S: LotLedger, R: Wait, O: Office, I: Informs> Operator<
         end_answer(&mut text, said)?;
         output.extend_from_slice(&text)?;
         Ok(said)
+    }
+
+    /// Answers a line, which has no LF, and appends the answer to an output. Room for an answer of one line is made before anything is
+    /// done. After an error the output is as it was, JOURNAL goes on where it was, and the connection is to be closed, since an answer is
+    /// missing.
+    pub fn answer(&mut self, line: &[u8], output: &mut Vec<u8>) -> Result<Said, AllocError>
+        ensures answered { IfOk result (λ said. IsAnswered E.reference self.old line.now output.old.items output.new.items said self.new) }
+        ensures goes_on { GoesOnFrom self.old.seat self.new.seat }
+        ensures watch { self.new.is_watch ≡ self.old.is_watch }
+        ensures refused { OnErr result (output.new.items ≡ output.old.items) }
+        ensures unshown { OnErr result (self.new.shown ≡ self.old.shown) }
+    {
+        let shown = self.shown;
+        let today = self.today;
+        match self.append_answer(line, output) {
+            Ok(said) => Ok(said),
+            Err(AllocError) => {
+                self.go_back(shown, today);
+                Err(AllocError)
+            }
+        }
     }
 }

@@ -3,11 +3,12 @@
 ghost use Rattle.std.specs.Prelude.{◌≡◌, ◌++◌, ℕ, List, IfOk, OnOk};
 ghost use Rattle.std.specs.Fmt.{decimal};
 ghost use Rattle.gu_text.specs.Texts.{word};
-ghost use Rattle.gu_console.specs.Answers.{GoesOnFrom, Looks};
+ghost use Rattle.gu_desk.specs.Holds.{Looks};
+ghost use Rattle.gu_console.specs.Answers.{GoesOnFrom};
 ghost use Rattle.gu_console.specs.Status.{IsDeskState, IsStatus, day_words, desk_words};
 
 use crate::console::Console;
-use crate::office::{Office, Places};
+use crate::office::{Office, Places, moment_of};
 use gu_book::Book;
 use gu_desk::{EntryLedger, LotLedger, Question};
 use gu_houses::{Informs, SeatReceipts};
@@ -21,14 +22,16 @@ use std::sync::Wait;
 /// that were counted stay as they are.
 #[derive(Drop)]
 pub(crate) struct BookCounts {
-    entries: usize,
+    pub(crate) entries: usize,
     lots: u64,
     day: Option<Day>,
 }
 
 impl BookCounts {
     /// Creates the counts of a book without entries.
-    pub(crate) fn new() -> Self {
+    pub(crate) fn new() -> Self
+        ensures { result.entries ≡ 0 }
+    {
         BookCounts {
             entries: 0,
             lots: 0,
@@ -134,7 +137,7 @@ fn append_connection(
 /// Returns the rest of what STATUS shows, after what is shown of the book: how many connections there are, and each of them.
 fn rest_of<O: Office>(alloc: Global, office: &O, lots: u64) -> Result<Vec<u8>, AllocError> {
     let connections = office.connections(alloc)?;
-    let now = office.now().unwrap_or(0);
+    let now = moment_of(office).get();
     let mut rest = Vec::new(alloc);
     append_places(&mut rest, lots, office.places())?;
     for row in &connections {

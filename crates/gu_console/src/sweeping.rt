@@ -99,7 +99,9 @@ fn note_sweep<E: EntryLedger, S: LotLedger, R: Wait, O: Office, I: Informs>(
     swept: &SeatSweep,
 ) {
     console.tally.add_sweep(swept.lots);
-    console.informs.inform(swept.number, swept.informs);
+    console
+        .informs
+        .inform(swept.number, swept.informs, console.origin());
 }
 
 /// Sweeps a group from a seat, and says what came of it in a text without bytes. Others hear of the entry.

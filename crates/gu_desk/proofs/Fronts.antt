@@ -44,11 +44,6 @@ honest reference front history view p legal seen same =
     let version : version_of front view.group ≡ view.version = sym (ap (λ (v : GroupView). v.version) seen) in
     seen ∙ equal_views reference front history view.group p legal (version ∙ same)
 
--- a seat that goes back to its front is as it was
-pub gone_back : (reference : Tables) (old mid : SeatState) (front : List Entry) → Sees reference old mid → front ≡ old.front
-    → record { entries = mid.entries; swept = mid.swept; front = front } ≡ old
-gone_back reference old mid front sees is = λ i. record { entries = sees.entries_is i; swept = sees.swept_is i; front = is i }
-
 -- what is entered from a seat once it has seen more is entered from the seat
 pub enters_after : (reference : Tables) (old mid new : SeatState) (receipt : Receipt) → Sees reference old mid → Enters reference mid receipt new
     → Enters reference old receipt new

@@ -2,3 +2,4 @@ pub mod AnnalsMoves
 pub mod AuditLemmas
 pub mod Fronts
 pub mod ReceiptLists
+pub mod RefusalLemmas

@@ -1,6 +1,6 @@
 -- Holds: what a seat learns of the desk's one history in a hold of the lock. What it has seen is a beginning of that history, and
 -- only grows.
-use Rattle.std.specs.Prelude.{◌≡◌, ℕ, ◌+◌, ◌++◌, [], ◌∷◌, List, Option, Some, length}
+use Rattle.std.specs.Prelude.{◌≡◌, ℕ, ◌+◌, ◌≤◌, ◌⊎◌, ◌++◌, [], ◌∷◌, List, Option, Some, length}
 use mathlib.Core.List.{IsPrefix}
 use Rattle.gu_terms.specs.Histories.{swept_by}
 use Rattle.gu_terms.specs.declared.command.Command.{Command}
@@ -14,6 +14,8 @@ use Rattle.gu_ref.specs.Tables.{Tables}
 use Rattle.gu_rules.specs.BookState.{BookState}
 use Rattle.gu_rules.specs.Legal.{IsLegal}
 use Rattle.gu_rules.specs.Notices.{IsStretch}
+use Rattle.gu_book.specs.declared.error.EnterError.{EnterError}
+use Rattle.gu_book.specs.declared.error.EnterError.TheVariants.{Memory, Full}
 use Rattle.gu_desk.specs.Seats.{SeatState}
 
 -- the entry asks this command
@@ -30,6 +32,15 @@ pub record Sees (reference : Tables) (old new : SeatState) : Type 0 where
   pub legal : IsLegal reference new.front
   pub entries_is : new.entries ≡ old.entries
   pub swept_is : new.swept ≡ old.swept
+
+-- nothing is entered, and the seat has seen as much as before, or more
+abbrev pub Looks : Tables → SeatState → SeatState → Type 0
+Looks reference old new = (new ≡ old) ⊎ Sees reference old new
+
+-- a command isn't entered: the book is full, as the seat sees then; or memory failed, and the seat has seen no more than before
+abbrev pub IsRefused : Tables → SeatState → EnterError → SeatState → Type 0
+IsRefused reference old Full new = Sees reference old new × (1000000 ≤ length new.front)
+IsRefused reference old Memory new = new ≡ old
 
 -- one entry is made from a seat: the last one of the history as the seat sees it then, after all that the seat had seen before.
 -- The receipt has its number

@@ -1,14 +1,19 @@
 -- Sweeps at a desk: what a receipt says of one that was committed, and what a refusal says.
-use Rattle.std.specs.Prelude.{◌≡◌, ◌≢◌, ◌++◌, ◌∷◌, [], List}
+use Rattle.std.specs.Prelude.{◌≡◌, ◌≢◌, ℕ, ◌≤◌, ◌++◌, ◌∷◌, [], List, false, length}
+use mathlib.Core.List.{IsPrefix}
 use Rattle.gu_terms.specs.declared.entry.Entry.{Entry}
 use Rattle.gu_terms.specs.declared.entry.Entry.TheVariants.{Swept}
 use Rattle.gu_terms.specs.declared.entry.SweepEntry.{SweepEntry}
 use Rattle.gu_terms.specs.declared.group.Group.{Group}
+use Rattle.gu_ref.specs.Reference.{is_group}
 use Rattle.gu_ref.specs.Tables.{Tables}
 use Rattle.gu_view.specs.View.{GroupView}
+use Rattle.gu_rules.specs.Versions.{version_of}
 use Rattle.gu_rules.specs.Views.{group_view}
+use Rattle.gu_desk.specs.Holds.{Looks, Sees}
+use Rattle.gu_desk.specs.Seats.{SeatState}
 use Rattle.gu_desk.specs.declared.error.SweepError.{SweepError}
-use Rattle.gu_desk.specs.declared.error.SweepError.TheVariants.{Stale}
+use Rattle.gu_desk.specs.declared.error.SweepError.TheVariants.{Memory, UnknownGroup, Full, Stale}
 
 -- the entry is a sweep of this group
 pub record Sweeps (group : Group) (entry : Entry) : Type 0 where
@@ -23,7 +28,19 @@ pub record IsViewBefore (reference : Tables) (history : List Entry) (view : Grou
   pub history_is : history ≡ before ++ last ∷ []
   pub view_is : view ≡ group_view reference before view.group
 
--- the two versions that a stale sweep names differ
-abbrev pub DiffersIfStale : SweepError → Type 0
-DiffersIfStale (Stale seen now) = seen ≢ now
-DiffersIfStale error = Unit {0}
+-- entries touched the group after the seat saw it: its version then, and its version as the seat sees it at last
+pub record IsTouched (reference : Tables) (old : SeatState) (group : Group) (seen now : ℕ) (new : SeatState) : Type 0 where
+  pub sees : Sees reference old new
+  pub before : List Entry
+  pub begins : IsPrefix old.front before
+  pub goes_on : IsPrefix before new.front
+  pub seen_is : seen ≡ version_of before group
+  pub now_is : now ≡ version_of new.front group
+  pub differs : seen ≢ now
+
+-- why a group isn't swept, as the seat sees then: the reference lacks the group, the book is full, or the group was touched; or memory failed
+abbrev pub IsSweepRefused : Tables → SeatState → Group → SweepError → SeatState → Type 0
+IsSweepRefused reference old group Memory new = Looks reference old new
+IsSweepRefused reference old group UnknownGroup new = (is_group reference group ≡ false) × Looks reference old new
+IsSweepRefused reference old group Full new = Sees reference old new × (1000000 ≤ length new.front)
+IsSweepRefused reference old group (Stale seen now) new = IsTouched reference old group seen now new

@@ -1,6 +1,6 @@
 //! The one history of a desk, which is in the proofs alone, and beginnings of it.
 
-ghost use Rattle.std.specs.Prelude.{◌≡◌, ◌∷◌, ◌++◌, [], take, IfOk};
+ghost use Rattle.std.specs.Prelude.{◌≡◌, ◌≤◌, ◌+◌, ◌∷◌, ◌++◌, [], length, take, IfOk};
 ghost use mathlib.Core.List.{IsPrefix};
 ghost use Rattle.gu_book.specs.Commits.{sweep_of};
 
@@ -110,22 +110,32 @@ impl<N: Spoken> Split<Known> for Cutting<N> {
     ghost right = { λ v. beginning N.entries };
 }
 
-/// A beginning of the one history of a desk. To a contract it is the list of its entries. It has no bytes.
+/// A beginning of the one history of a desk. To a contract it is the list of its entries; at run time it is how many they are.
 #[derive(Drop)]
 pub struct Front<E: EntryLedger> {
     seat: Seat<(), Known>,
+    count: usize,
     of: PhantomData<E>,
 }
 
 impl<E: EntryLedger> Model for Front<E> {
-    ghost use Rattle.std.specs.Prelude.{◌≡◌, List, []};
+    ghost use Rattle.std.specs.Prelude.{◌≡◌, List, [], length};
     ghost use Rattle.gu_terms.specs.declared.entry.Entry.{Entry};
 
     ghost Value = { List Entry };
 
     ghost view = { λ f. f.seat.me.0.front };
 
-    ghost invariant = { λ f. (f.seat.table_id ≡ E.history) × (f.seat.me.1 ≡ []) };
+    ghost invariant = { λ f. (f.seat.table_id ≡ E.history) × (f.seat.me.1 ≡ []) × (f.count ≡ length f.seat.me.0.front) };
+}
+
+impl<E: EntryLedger> Front<E> {
+    /// Returns how many entries it has.
+    pub fn count(&self) -> usize
+        ensures { result ≡ length self.now }
+    {
+        self.count
+    }
 }
 
 /// The keeper of the history, which knows all of it. To a contract it is the list of its entries. At run time it is one word,
@@ -235,30 +245,33 @@ impl<E: EntryLedger> Annals<E> {
 
     /// Returns the first entries as a front, which are what the cut speaks of.
     fn cut_as<N: Spoken>(&mut self, count: usize) -> Front<E>
-        requires { N.entries ≡ take count self.old }
+        requires entries { N.entries ≡ take count self.old }
+        requires within { count ≤ length self.old }
         ensures front { result ≡ take count self.old }
         ensures same { self.new ≡ self.old }
     {
-        let _ = count;
         let table = &self.table;
         let shared = &table.shared;
         let seat = shared.split_seat::<Cutting<N>>(&mut self.keeper);
         Front {
             seat,
+            count,
             of: PhantomData,
         }
     }
 
-    /// Returns the first `count` entries as a front, or all if there are fewer.
+    /// Returns the first `count` entries as a front.
     pub(crate) fn cut(&mut self, count: usize) -> Front<E>
+        requires { count ≤ length self.old }
         ensures front { result ≡ take count self.old }
         ensures same { self.new ≡ self.old }
     {
         self.cut_as::<Brand>(count)
     }
 
-    /// Returns the whole history so far as a front.
-    pub(crate) fn front(&mut self) -> Front<E>
+    /// Returns the whole history so far, which has this number of entries, as a front.
+    pub(crate) fn front(&mut self, count: usize) -> Front<E>
+        requires { count ≡ length self.old }
         ensures front { result ≡ self.old }
         ensures same { self.new ≡ self.old }
     {
@@ -267,6 +280,7 @@ impl<E: EntryLedger> Annals<E> {
         let seat = shared.split_seat::<Telling>(&mut self.keeper);
         Front {
             seat,
+            count,
             of: PhantomData,
         }
     }
@@ -276,7 +290,11 @@ impl<E: EntryLedger> Annals<E> {
         ensures begins { IsPrefix front self.old }
         ensures same { self.new ≡ self.old }
     {
-        let Front { seat, of: _ } = front;
+        let Front {
+            seat,
+            count: _,
+            of: _,
+        } = front;
         let table = &self.table;
         let shared = &table.shared;
         shared.join_seat::<Telling>(&mut self.keeper, seat);
@@ -293,6 +311,7 @@ impl<E: EntryLedger> Annals<E> {
         let seat = shared.split_seat::<Copying>(&mut front.seat);
         Front {
             seat,
+            count: front.count,
             of: PhantomData,
         }
     }
@@ -307,35 +326,45 @@ impl<E: EntryLedger> Annals<E> {
         self.take_in(copy);
     }
 
-    /// Lengthens a front to the whole history.
-    pub(crate) fn complete(&mut self, front: &mut Front<E>)
+    /// Lengthens a front to the whole history, which has this number of entries.
+    pub(crate) fn complete(&mut self, front: &mut Front<E>, count: usize)
+        requires { count ≡ length self.old }
         ensures begins { IsPrefix front.old self.old }
         ensures front { front.new ≡ self.old }
         ensures same { self.new ≡ self.old }
     {
         self.compare(front);
-        *front = self.front();
+        *front = self.front(count);
     }
 
-    /// Adds the entry of a command, and lengthens a front to the whole history.
-    pub(crate) fn asked(&mut self, front: &mut Front<E>, command: &Command, reply: &Reply)
+    /// Adds the entry of a command, and lengthens a front to the whole history, which then has this number of entries.
+    pub(crate) fn asked(
+        &mut self,
+        front: &mut Front<E>,
+        command: &Command,
+        reply: &Reply,
+        count: usize,
+    )
+        requires { count ≡ length self.old + 1 }
         ensures begins { IsPrefix front.old self.old }
         ensures front { front.new ≡ self.new }
         ensures added { self.new ≡ self.old ++ Entry.Asked command.now reply.now ∷ [] }
     {
         self.compare(front);
         self.add_asked::<Brand>(command, reply);
-        *front = self.front();
+        *front = self.front(count);
     }
 
-    /// Adds the entry of the sweep that a proposal asks for, and lengthens a front to the whole history.
-    pub(crate) fn swept(&mut self, front: &mut Front<E>, proposal: &Proposal)
+    /// Adds the entry of the sweep that a proposal asks for, and lengthens a front to the whole history, which then has this number of
+    /// entries.
+    pub(crate) fn swept(&mut self, front: &mut Front<E>, proposal: &Proposal, count: usize)
+        requires { count ≡ length self.old + 1 }
         ensures begins { IsPrefix front.old self.old }
         ensures front { front.new ≡ self.new }
         ensures added { self.new ≡ self.old ++ Entry.Swept (sweep_of proposal.now) ∷ [] }
     {
         self.compare(front);
         self.add_sweep::<Brand>(proposal);
-        *front = self.front();
+        *front = self.front(count);
     }
 }

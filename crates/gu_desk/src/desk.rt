@@ -10,12 +10,12 @@ ghost use Rattle.gu_rules.specs.Views.{group_view};
 ghost use Rattle.gu_book.specs.Commits.{sweep_of};
 ghost use Rattle.gu_book.specs.Informing.{HoldsInformed};
 ghost use Rattle.gu_book.specs.Questions.{IsAnswer, IsUnknown};
-ghost use Rattle.gu_desk.specs.Holds.{Asks, Enters, Sees, book_seen};
+ghost use Rattle.gu_desk.specs.Holds.{Asks, Enters, IsRefused, Looks, Sees, book_seen};
 ghost use Rattle.gu_desk.specs.Refusals.{refusal_of_second_hold};
 ghost use Rattle.gu_desk.specs.Seats.{IsNew};
-ghost use Rattle.gu_desk.specs.Sweeps.{DiffersIfStale, IsViewBefore, Sweeps};
+ghost use Rattle.gu_desk.specs.Sweeps.{IsSweepRefused, IsViewBefore, Sweeps};
 
-use crate::annals::{BlankAnnals, Front};
+use crate::annals::BlankAnnals;
 use crate::error::{CloseFault, SweepError};
 use crate::gate::Gate;
 use crate::ledger::{EntryLedger, LotLedger};
@@ -121,13 +121,14 @@ impl<E: EntryLedger, S: LotLedger> Desk<E, S> {
             return Err((AllocError, book));
         };
         let mut annals = annals.opened::<E>();
+        let count = book.history().len();
         let (entries, mut own) = entries.open::<E>();
         let (swept, mut own_swept) = swept.open::<S>();
         for _seat in 0..seats {
             let seat = Seat::new(
                 own.split_off(1, 0),
                 own_swept.split_off(1, 0),
-                annals.front(),
+                annals.front(count),
             );
             places.push_reserved(seat);
         }
@@ -163,7 +164,7 @@ impl<E: EntryLedger, S: LotLedger> Desk<E, S> {
         ensures asks { IfOk result (λ r. Asks command r.entry) }
         ensures entered { IfOk result (λ r. Enters E.reference seat.old r seat.new) }
         ensures later { IfOk result (λ r. length E.opening + seat.old.entries < r.number) }
-        ensures refused { OnErr result (seat.new ≡ seat.old) }
+        ensures refused { IfErr result (λ why. IsRefused E.reference seat.old why seat.new) }
     {
         let Entered {
             number,
@@ -192,28 +193,16 @@ impl<E: EntryLedger, S: LotLedger> Desk<E, S> {
         self.hold(rt).ask(seat, query)
     }
 
-    /// Returns the view of a group, and the front that the seat had before, in one hold of the lock, for which it may wait.
-    fn view<R: Wait>(
-        &self,
-        rt: &R,
-        seat: &mut Seat<E, S>,
-        group: &Group,
-    ) -> Result<(View, Front<E>), AskError>
+    /// Returns the view of a group, in one hold of the lock, for which it may wait.
+    fn view<R: Wait>(&self, rt: &R, seat: &mut Seat<E, S>, group: &Group) -> Result<View, AskError>
         ensures sees { OnOk result (Sees E.reference seat.old seat.new) }
-        ensures view { IfOk result (λ r. r.0 ≡ group_view E.reference seat.new.front group.now) }
-        ensures nested { IfOk result (λ r. IsNested r.0) }
+        ensures view { IfOk result (λ view. view ≡ group_view E.reference seat.new.front group.now) }
+        ensures nested { IfOk result (λ view. IsNested view) }
         ensures known { OnOk result (is_group E.reference group.now ≡ true) }
-        ensures before { IfOk result (λ r. r.1 ≡ seat.old.front) }
-        ensures enough { length E.opening + seat.old.entries ≤ length seat.old.front }
         ensures unknown { IsErrOf result AskError.UnknownGroup ↔ (is_group E.reference group.now ≡ false) }
         ensures refused { OnErr result (seat.new ≡ seat.old) }
     {
-        // Shows the prover: what each seat keeps.
-        seat.rules();
-        let mut held = self.hold(rt);
-        let before = held.front(seat);
-        let view = held.view(seat, group)?;
-        Ok((view, before))
+        self.hold(rt).view(seat, group)
     }
 
     /// Looks at a group: its view is taken in one hold of the lock, and published on the desk's board after it. It may wait for
@@ -230,15 +219,12 @@ impl<E: EntryLedger, S: LotLedger> Desk<E, S> {
         ensures nested { IfOk result (λ token. IsNested token.value) }
         ensures known { OnOk result (is_group E.reference group ≡ true) }
         ensures unknown { IsErrOf result AskError.UnknownGroup ↔ (is_group E.reference group ≡ false) }
-        ensures refused { OnErr result (seat.new ≡ seat.old) }
+        ensures refused { OnErr result (Looks E.reference seat.old seat.new) }
     {
-        let (view, before) = self.view(rt, seat, &group)?;
+        let view = self.view(rt, seat, &group)?;
         match self.board.publish(rt, view) {
             Ok(token) => Ok(token),
-            Err(_) => {
-                seat.go_back(before);
-                Err(AskError::Memory)
-            }
+            Err(_) => Err(AskError::Memory),
         }
     }
 
@@ -265,8 +251,8 @@ impl<E: EntryLedger, S: LotLedger> Desk<E, S> {
         ensures later { IfOk result (λ r. length E.opening + seat.old.entries < r.0) }
         ensures informs { IfOk result (λ r. HoldsInformed (book_seen E.reference seat.new) r.0 r.1) }
         ensures before { OnOk result (IsViewBefore E.reference seat.new.front proposal.now.view) }
-        ensures stale { IfErr result (λ why. DiffersIfStale (refusal_of_second_hold why)) }
-        ensures refused { OnErr result (seat.new ≡ seat.old) }
+        ensures refused { IfErr result (λ why.
+            IsSweepRefused E.reference seat.old proposal.now.view.group (refusal_of_second_hold why) seat.new) }
     {
         let kept = kept_sweep(self.alloc, proposal)?;
         let mut held = self.hold(rt);
@@ -293,8 +279,8 @@ impl<E: EntryLedger, S: LotLedger> Desk<E, S> {
         ensures here { IfOk result (λ c. Shows self.now.board c.view) }
         ensures view { IfOk result (λ c. c.view.value ≡ view) }
         ensures before { IfOk result (λ c. IsViewBefore E.reference seat.new.front c.view.value) }
-        ensures stale { IfErr result (λ why. DiffersIfStale (refusal_of_second_hold why)) }
-        ensures refused { OnErr result (seat.new ≡ seat.old) }
+        ensures refused { IfErr result (λ why.
+            IsSweepRefused E.reference seat.old view.group (refusal_of_second_hold why) seat.new) }
     {
         let Ok(token) = self.board.publish(rt, view) else {
             return Err(SeenError::Memory);
@@ -327,16 +313,12 @@ impl<E: EntryLedger, S: LotLedger> Desk<E, S> {
         ensures before { IfOk result (λ c. IsViewBefore E.reference seat.new.front c.view.value) }
         ensures group { IfOk result (λ c. c.view.value.group ≡ group.now) }
         ensures unknown { IsErrOf result SweepError.UnknownGroup ↔ (is_group E.reference group.now ≡ false) }
-        ensures stale { IfErr result DiffersIfStale }
-        ensures refused { OnErr result (seat.new ≡ seat.old) }
+        ensures refused { IfErr result (λ why. IsSweepRefused E.reference seat.old group.now why seat.new) }
     {
-        let (view, earlier) = self.view(rt, seat, group)?;
+        let view = self.view(rt, seat, group)?;
         match self.sweep_view(rt, seat, view, gate) {
             Ok(committed) => Ok(committed),
-            Err(why) => {
-                seat.go_back(earlier);
-                Err(SweepError::from(why))
-            }
+            Err(why) => Err(SweepError::from(why)),
         }
     }
 
@@ -354,8 +336,7 @@ impl<E: EntryLedger, S: LotLedger> Desk<E, S> {
         ensures entered { IfOk result (λ r. Enters E.reference seat.old r seat.new) }
         ensures later { IfOk result (λ r. length E.opening + seat.old.entries < r.number) }
         ensures unknown { IsErrOf result SweepError.UnknownGroup ↔ (is_group E.reference group ≡ false) }
-        ensures stale { IfErr result DiffersIfStale }
-        ensures refused { OnErr result (seat.new ≡ seat.old) }
+        ensures refused { IfErr result (λ why. IsSweepRefused E.reference seat.old group why seat.new) }
     {
         Ok(receipt_of(self.try_sweep(rt, seat, &group, gate)?))
     }
@@ -381,8 +362,7 @@ impl<E: EntryLedger, S: LotLedger> Desk<E, S> {
         ensures before { IfOk result (λ c. IsViewBefore E.reference seat.new.front c.view.value) }
         ensures group { IfOk result (λ c. c.view.value.group ≡ group.now) }
         ensures unknown { IsErrOf result SweepError.UnknownGroup ↔ (is_group E.reference group.now ≡ false) }
-        ensures stale { IfErr result DiffersIfStale }
-        ensures refused { OnErr result (seat.new ≡ seat.old) }
+        ensures refused { IfErr result (λ why. IsSweepRefused E.reference seat.old group.now why seat.new) }
     {
         for _again in 1..tries {
             match self.try_sweep(rt, seat, group, gate) {
@@ -407,8 +387,7 @@ impl<E: EntryLedger, S: LotLedger> Desk<E, S> {
         ensures entered { IfOk result (λ r. Enters E.reference seat.old r seat.new) }
         ensures later { IfOk result (λ r. length E.opening + seat.old.entries < r.number) }
         ensures unknown { IsErrOf result SweepError.UnknownGroup ↔ (is_group E.reference group ≡ false) }
-        ensures stale { IfErr result DiffersIfStale }
-        ensures refused { OnErr result (seat.new ≡ seat.old) }
+        ensures refused { IfErr result (λ why. IsSweepRefused E.reference seat.old group why seat.new) }
     {
         Ok(receipt_of(self.sweep(rt, seat, &group, tries, gate)?))
     }

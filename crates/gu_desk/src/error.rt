@@ -6,7 +6,7 @@ use gu_book::{AskError, SeenError};
 use std::alloc::AllocError;
 use thiserror::Error;
 
-/// Why a sweep was not entered. The seat is as it was.
+/// Why a sweep was not entered. What it says of the book, the seat has seen.
 #[derive(Debug, Drop, Clone, Copy, PartialEq, Eq, Error)]
 pub enum SweepError {
     /// An allocation failed.

@@ -12,7 +12,9 @@ ghost use Rattle.gu_book.specs.Commits.{Refuses, sweep_of};
 ghost use Rattle.gu_book.specs.Informing.{HoldsInformed};
 ghost use Rattle.gu_book.specs.Questions.{IsAnswer, IsUnknown};
 ghost use Rattle.gu_book.specs.Refusals.{commit_error_of};
-ghost use Rattle.gu_desk.specs.Holds.{Enters, IsStretchAsked, Sees, book_seen};
+ghost use Rattle.gu_desk.specs.Holds.{Enters, IsRefused, IsStretchAsked, Sees, book_seen};
+ghost use Rattle.gu_desk.specs.Refusals.{refusal_of_second_hold};
+ghost use Rattle.gu_desk.specs.Sweeps.{IsSweepRefused};
 
 use crate::annals::{Annals, Front};
 use crate::copying::copy_entries;
@@ -108,7 +110,7 @@ impl<E: EntryLedger, S: LotLedger> LockedBook<E, S> {
     {
         // The opening's entries are noted before there is a lock to hold.
         let _ = book.note_recipients();
-        let opening = annals.front();
+        let opening = annals.front(book.history().len());
         LockedBook {
             book,
             annals,
@@ -127,9 +129,8 @@ impl<E: EntryLedger, S: LotLedger> LockedBook<E, S> {
         ensures same { self.new ≡ self.old }
     {
         self.entries.audit(&mut seat.entries);
-        // Shows the prover: the history is legal.
-        let _ = self.book.history();
-        self.annals.complete(&mut seat.front);
+        let seen = self.book.history().len();
+        self.annals.complete(&mut seat.front, seen);
     }
 
     /// Enters a command from a seat, which then has seen the whole history. Returns the number of the entry and the reply.
@@ -144,14 +145,22 @@ impl<E: EntryLedger, S: LotLedger> LockedBook<E, S> {
         ensures history { IfOk result (λ e. self.new ≡ self.old ++ Entry.Asked command.now e.1 ∷ []) }
         ensures front { OnOk result (seat.new.front ≡ self.new) }
         ensures full { IsErrOf result EnterError.Full ↔ (1000000 ≤ length self.old) }
-        ensures refused { OnErr result ((seat.new ≡ seat.old) × (self.new ≡ self.old)) }
+        ensures refused { IfErr result (λ why. IsRefused E.reference seat.old why seat.new) }
+        ensures same { OnErr result (self.new ≡ self.old) }
     {
         self.entries.audit(&mut seat.entries);
-        let reply = self.book.reply_to(command)?;
-        self.annals.asked(&mut seat.front, command, &reply);
+        let reply = match self.book.reply_to(command) {
+            Ok(reply) => reply,
+            Err(EnterError::Memory) => return Err(EnterError::Memory),
+            Err(EnterError::Full) => {
+                self.show(seat);
+                return Err(EnterError::Full);
+            }
+        };
+        let number = self.book.history().len();
+        self.annals.asked(&mut seat.front, command, &reply, number);
         self.entries.add(&mut seat.entries, 1);
-        let number = self.book.history().len() as u64;
-        Ok((number, reply))
+        Ok((number as u64, reply))
     }
 
     /// Returns a stretch of what a firm is told of the entries from a number on.
@@ -190,9 +199,10 @@ impl<E: EntryLedger, S: LotLedger> LockedBook<E, S> {
         ensures history { IfOk result (λ e. self.new ≡ self.old ++ Entry.Asked command.now e.reply ∷ []) }
         ensures front { OnOk result (seat.new.front ≡ self.new) }
 
-        // Nothing is entered in a full book, or where an allocation fails.
+        // Nothing is entered in a full book, which the seat sees then, or where an allocation fails.
         ensures full { IsErrOf result EnterError.Full ↔ (1000000 ≤ length self.old) }
-        ensures refused { OnErr result ((seat.new ≡ seat.old) × (self.new ≡ self.old)) }
+        ensures refused { IfErr result (λ why. IsRefused E.reference seat.old why seat.new) }
+        ensures same { OnErr result (self.new ≡ self.old) }
     {
         let (number, reply) = self.append(seat, command)?;
         let stretch = self.tell_asked(tell);
@@ -296,17 +306,26 @@ impl<E: EntryLedger, S: LotLedger> LockedBook<E, S> {
         ensures history { OnOk result (self.new ≡ self.old ++ Entry.Swept (sweep_of proposal.now) ∷ []) }
         ensures front { OnOk result (seat.new.front ≡ self.new) }
 
-        // What each refusal says.
+        // What each refusal says, also of what the seat sees then.
         ensures why { IfErr result (λ why.
             Refuses (record { reference = E.reference; history = self.old }) proposal.now.view (commit_error_of why)) }
-        ensures refused { OnErr result ((seat.new ≡ seat.old) × (self.new ≡ self.old)) }
+        ensures refused { IfErr result (λ why.
+            IsSweepRefused E.reference seat.old proposal.now.view.group (refusal_of_second_hold why) seat.new) }
+        ensures same { OnErr result (self.new ≡ self.old) }
     {
         self.entries.audit(&mut seat.entries);
         self.annals.compare(&mut seat.front);
         // Shows the prover: the history is legal.
         let _ = self.book.history();
-        let number = self.book.enter_seen(proposal, kept)?;
-        self.annals.swept(&mut seat.front, proposal);
+        let number = match self.book.enter_seen(proposal, kept) {
+            Ok(number) => number,
+            Err(why) => {
+                self.show(seat);
+                return Err(why);
+            }
+        };
+        self.annals
+            .swept(&mut seat.front, proposal, number as usize);
         self.entries.add(&mut seat.entries, 1);
         self.swept.add(&mut seat.swept, proposal.lots());
         // Shows the prover: the history is legal.

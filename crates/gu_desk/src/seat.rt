@@ -10,7 +10,7 @@ use std::marker::Model;
 use std::sync::ledger::Share;
 
 /// A place at a desk, for one thread at a time. To a contract it is how many entries were made from it, how many lots were swept
-/// from it, and its front: the beginning of the desk's one history that it has seen. It has no bytes.
+/// from it, and its front: the beginning of the desk's one history that it has seen. At run time it is how many entries that has.
 #[derive(Drop)]
 pub struct Seat<E: EntryLedger, S: LotLedger> {
     pub(crate) entries: Share<E>,
@@ -52,12 +52,11 @@ impl<E: EntryLedger, S: LotLedger> Seat<E, S> {
         let _ = &self.front;
     }
 
-    /// Goes back to an earlier front, as if it had seen no more.
-    pub(crate) fn go_back(&mut self, front: Front<E>)
-        requires { length E.opening + self.old.entries ≤ length front }
-        ensures { self.new ≡ record { entries = self.old.entries; swept = self.old.swept; front = front } }
+    /// Returns how many entries it has seen.
+    pub fn seen(&self) -> u64
+        ensures { result ≡ length self.now.front }
     {
-        self.front = front;
+        self.front.count() as u64
     }
 }
 

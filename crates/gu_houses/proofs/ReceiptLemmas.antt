@@ -7,7 +7,9 @@ use Rattle.gu_terms.specs.declared.entry.Entry.{Entry}
 use Rattle.gu_terms.specs.declared.receipt.Receipt.{Receipt}
 use Rattle.gu_ref.specs.Tables.{Tables}
 use Rattle.gu_desk.specs.Audits.{IsReceiptOf}
-use Rattle.gu_desk.specs.Holds.{Enters}
+use Rattle.gu_book.specs.declared.error.EnterError.{EnterError}
+use Rattle.gu_book.specs.declared.error.EnterError.TheVariants as refusal
+use Rattle.gu_desk.specs.Holds.{Enters, IsRefused, Sees}
 use Rattle.gu_desk.specs.Seats.{SeatState}
 use Rattle.gu_houses.specs.Receipts.{AreOf, HasReceipts}
 
@@ -35,6 +37,19 @@ pub receipts_later : (opening : ℕ) (front history : List Entry) (rs : List Rec
 receipts_later opening front history rs begins each =
     All-weaker (λ (r : Receipt). IsReceiptOf front r × (opening < r.number)) (λ (r : Receipt). IsReceiptOf history r × (opening < r.number))
     (λ r is. (receipt_later front history r begins is.0, is.1)) rs each
+
+module _ (reference : Tables) (opening : ℕ) (old new : SeatState) (rs : List Receipt) (have : HasReceipts opening old rs) where
+  -- the receipts of a seat that sees more
+  receipts_seen : Sees reference old new → HasReceipts opening new rs
+  receipts_seen sees = record { count = have.count ∙ sym sees.entries_is; each = receipts_later opening old.front new.front rs sees.begins have.each }
+
+  receipts_same : new ≡ old → HasReceipts opening new rs
+  receipts_same same = subst (λ (s : SeatState). HasReceipts opening s rs) (sym same) have
+
+  -- those of a seat that a command is refused to
+  pub receipts_refused : (why : EnterError) → IsRefused reference old why new → HasReceipts opening new rs
+  receipts_refused refusal.Full is = receipts_seen is.0
+  receipts_refused refusal.Memory is = receipts_same is
 
 -- nothing was entered, and there are no receipts
 pub no_receipts : (opening : ℕ) (seat : SeatState) → seat.entries ≡ 0 → HasReceipts opening seat []

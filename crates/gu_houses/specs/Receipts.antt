@@ -1,5 +1,5 @@
 -- Receipts: what is kept of the entries that are made from a seat, and from the seats of a day.
-use Rattle.std.specs.Prelude.{◌≡◌, ℕ, ◌+◌, ◌<◌, ◌++◌, All, List, length, sum_by}
+use Rattle.std.specs.Prelude.{◌≡◌, ℕ, ◌<◌, All, List, length}
 use Rattle.gu_terms.specs.declared.entry.Entry.{Entry}
 use Rattle.gu_terms.specs.declared.receipt.Receipt.{Receipt}
 use Rattle.gu_desk.specs.Audits.{IsReceiptOf}

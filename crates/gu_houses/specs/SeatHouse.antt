@@ -21,7 +21,7 @@ use Rattle.gu_book.specs.declared.asking.Answer.TheVariants as answered
 use Rattle.gu_book.specs.declared.error.EnterError.{EnterError}
 use Rattle.gu_book.specs.declared.error.EnterError.TheVariants as refusal
 use Rattle.gu_engine.specs.Houses.{HouseRules}
-use Rattle.gu_desk.specs.Holds.{book_seen, Enters, Sees}
+use Rattle.gu_desk.specs.Holds.{book_seen, Enters, IsRefused, Sees}
 use Rattle.gu_desk.specs.Seats.{SeatState}
 
 -- a command is entered from the seat, and the outcome is the reply of its entry
@@ -36,11 +36,11 @@ abbrev pub failure_of : EnterError → Failure
 failure_of refusal.Full = failure.Full
 failure_of refusal.Memory = failure.Memory
 
--- a command isn't entered
-pub record IsLeftOutAt (old : SeatState) (outcome : Outcome) (new : SeatState) : Type 0 where
-  pub failure : Failure
-  pub outcome_is : outcome ≡ Failed failure
-  pub new_is : new ≡ old
+-- a command isn't entered, since the desk refuses it: it fails as full where the book is, as the seat sees then
+pub record IsLeftOutAt (reference : Tables) (old : SeatState) (outcome : Outcome) (new : SeatState) : Type 0 where
+  pub why : EnterError
+  pub refused : IsRefused reference old why new
+  pub outcome_is : outcome ≡ Failed (failure_of why)
 
 -- a question for positions is answered by the book that the seat sees then
 pub record IsToldAt (reference : Tables) (old : SeatState) (asked : Query) (outcome : Outcome) (new : SeatState) : Type 0 where
@@ -56,7 +56,7 @@ pub record IsUntold (old : SeatState) (outcome : Outcome) (new : SeatState) : Ty
 
 -- how a seat answers: a command is entered or left out, and a question for positions is told
 abbrev pub SeatAnswers : Tables → SeatState → Request → Outcome → SeatState → Type 0
-SeatAnswers reference old (Enter command) outcome new = IsEnteredAt reference old command outcome new ⊎ IsLeftOutAt old outcome new
+SeatAnswers reference old (Enter command) outcome new = IsEnteredAt reference old command outcome new ⊎ IsLeftOutAt reference old outcome new
 SeatAnswers reference old (Ask (query.Positions firm account)) outcome new = IsToldAt reference old (query.Positions firm account) outcome new
 SeatAnswers reference old (Ask _) outcome new = IsUntold old outcome new
 

@@ -1,6 +1,6 @@
 //! A seat at a desk as a house.
 
-ghost use Rattle.std.specs.Prelude.{◌≡◌, IfOk, IfSome};
+ghost use Rattle.std.specs.Prelude.{◌≡◌, Some, length, IfOk, IfSome};
 ghost use Rattle.gu_houses.specs.SeatHouse.{SeatAnswers, SeatTells, failure_of};
 
 use crate::informs::Informs;
@@ -8,11 +8,11 @@ use crate::orders::Orders;
 use crate::seat_receipts::SeatReceipts;
 use crate::tally::Tally;
 use gu_book::{Answer, AskError, EnterError};
-use gu_desk::{Desk, EntryLedger, LotLedger};
+use gu_desk::{Desk, EntryLedger, FirmMessage, LotLedger, Origin};
 use gu_engine::{Answered, Ask, House};
 use gu_msgs::Request;
 use gu_session::{Failure, Outcome};
-use gu_terms::{Command, FirmId, Query, Stretch};
+use gu_terms::{Command, FirmId, Moment, Query, Stretch};
 use std::alloc::AllocError;
 use std::marker::Model;
 use std::sync::Wait;
@@ -27,6 +27,32 @@ fn failure_of(error: EnterError) -> Failure
     }
 }
 
+/// The message of a firm that asks for an entry: when it came, its firm, and its MsgSeqNum (34).
+#[derive(Clone, Copy)]
+struct Asking {
+    now: Moment,
+    firm: FirmId,
+    number: u64,
+}
+
+/// Returns the origin of an entry that a message of a connection asks for.
+fn origin_of(connection: u64, asking: Asking) -> Origin
+    ensures { result ≡ record {
+      moment = asking.now;
+      message = Some (record { firm = asking.firm; connection = connection; number = asking.number });
+    } }
+{
+    let Asking { now, firm, number } = asking;
+    Origin {
+        moment: now,
+        message: Some(FirmMessage {
+            firm,
+            connection,
+            number,
+        }),
+    }
+}
+
 /// A seat at a desk as a house. To a contract it is the seat.
 ///
 /// The notices that follow a command are had with it, in one hold of the lock. After the hold, other firms hear of the entry.
@@ -35,6 +61,8 @@ pub struct AtDesk<'a, 'o, E: EntryLedger, S: LotLedger, R: Wait, I: Informs> {
     desk: &'a Desk<E, S>,
     tally: &'a Tally,
     informs: &'a I,
+    /// The connection that it answers.
+    connection: u64,
     seat: SeatReceipts<E, S>,
     orders: Orders<'o>,
 }
@@ -56,7 +84,8 @@ impl<'a, 'o, E: EntryLedger, S: LotLedger, R: Wait, I: Informs> Model
 }
 
 impl<'a, 'o, E: EntryLedger, S: LotLedger, R: Wait, I: Informs> AtDesk<'a, 'o, E, S, R, I> {
-    /// Creates the house of a seat at a desk, whose entries firms hear of by `informs`, and whose give-ups count for these orders.
+    /// Creates the house of a seat at a desk, whose entries firms hear of by `informs`, and whose give-ups count for these orders. It
+    /// answers connection 0 until it goes on with another one.
     pub fn new(
         rt: &'a R,
         desk: &'a Desk<E, S>,
@@ -72,6 +101,7 @@ impl<'a, 'o, E: EntryLedger, S: LotLedger, R: Wait, I: Informs> AtDesk<'a, 'o, E
             desk,
             tally,
             informs,
+            connection: 0,
             seat,
             orders,
         }
@@ -86,6 +116,7 @@ impl<'a, 'o, E: EntryLedger, S: LotLedger, R: Wait, I: Informs> AtDesk<'a, 'o, E
             desk: _,
             tally: _,
             informs: _,
+            connection: _,
             seat,
             orders,
         } = self;
@@ -98,11 +129,19 @@ impl<'a, 'o, E: EntryLedger, S: LotLedger, R: Wait, I: Informs> AtDesk<'a, 'o, E
         self.orders.since()
     }
 
-    /// Goes on with a connection of which this number of give-ups were accepted since the last one whose order was due.
-    pub fn resume_count(&mut self, give_ups: u64)
+    /// Goes on with the connection of this number, of which so many give-ups were accepted since the last one whose order was due.
+    pub fn resume(&mut self, connection: u64, give_ups: u64)
         ensures { self.new ≡ self.old }
     {
+        self.connection = connection;
         self.orders.resume(give_ups);
+    }
+
+    /// Returns how many entries the seat has seen.
+    pub fn seen(&self) -> u64
+        ensures { result ≡ length self.now.front }
+    {
+        self.seat.seen()
     }
 
     /// Sends the order of what was entered last, if it is due.
@@ -114,15 +153,19 @@ impl<'a, 'o, E: EntryLedger, S: LotLedger, R: Wait, I: Informs> AtDesk<'a, 'o, E
         }
     }
 
-    /// Enters a command of a firm, and says what became of it, with a stretch of what the firm is told from a number on.
-    fn enter(&mut self, command: Command, tell: (FirmId, u64)) -> Answered
+    /// Enters a command that a message asks for, and says what became of it, with a stretch of what its firm is told from a number on.
+    fn enter(&mut self, command: Command, asking: Asking, from: u64) -> Answered
         ensures outcome { SeatAnswers E.reference self.old (Request.Enter command) result.outcome self.new }
-        ensures told { IfSome result.stretch (λ stretch. SeatTells E.reference self.new tell.0 tell.1 stretch self.new) }
+        ensures told { IfSome result.stretch (λ stretch. SeatTells E.reference self.new asking.firm from stretch self.new) }
     {
-        match self.seat.enter(self.rt, self.desk, command, Some(tell)) {
+        match self
+            .seat
+            .enter(self.rt, self.desk, command, Some((asking.firm, from)))
+        {
             Ok(entered) => {
                 self.tally.add_entry();
-                self.informs.inform(entered.number, entered.informs);
+                let origin = origin_of(self.connection, asking);
+                self.informs.inform(entered.number, entered.informs, origin);
                 self.order();
                 Answered {
                     outcome: Outcome::Replied(entered.reply),
@@ -158,9 +201,15 @@ impl<'a, 'o, E: EntryLedger, S: LotLedger, R: Wait, I: Informs> House
     ghost rules = { rules_of_seat E.reference };
 
     fn answer(&mut self, ask: Ask, from: u64) -> Result<Answered, AllocError> {
-        let Ask { firm, request, .. } = ask;
+        let Ask {
+            firm,
+            number,
+            now,
+            request,
+        } = ask;
+        let asking = Asking { now, firm, number };
         match request {
-            Request::Enter(command) => Ok(self.enter(command, (firm, from))),
+            Request::Enter(command) => Ok(self.enter(command, asking, from)),
             Request::Ask(query) => Ok(Answered {
                 outcome: self.tell(query)?,
                 stretch: None,

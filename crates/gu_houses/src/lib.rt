@@ -9,7 +9,7 @@ mod seat_receipts;
 mod tally;
 
 pub use at_desk::AtDesk;
-pub use informs::{Informs, Nobody};
+pub use informs::Informs;
 pub use orders::{OpenOrders, Orders};
 pub use over_book::OverBook;
 pub use seat_receipts::{SeatReceipts, SeatSweep};

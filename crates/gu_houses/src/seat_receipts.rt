@@ -1,7 +1,6 @@
 //! A seat that keeps its receipts.
 
-ghost use Rattle.std.specs.Prelude.{◌≡◌, ◌↔◌, ◌<◌, false, length, IfErr, IfOk, IfSome, IsErrOf, OnErr, OnOk};
-ghost use Rattle.gu_ref.specs.Reference.{is_group};
+ghost use Rattle.std.specs.Prelude.{◌≡◌, ◌↔◌, ◌<◌, length, IfErr, IfOk, IfSome, IsErrOf, OnErr, OnOk};
 ghost use Rattle.gu_terms.specs.Histories.{swept_by};
 ghost use Rattle.gu_terms.specs.declared.entry.Entry.{Entry as EntryOf};
 ghost use Rattle.gu_view.specs.Boards.{Shows};
@@ -10,9 +9,9 @@ ghost use Rattle.gu_book.specs.Informing.{HoldsInformed};
 ghost use Rattle.gu_book.specs.Questions.{IsAnswer, IsUnknown};
 ghost use Rattle.gu_desk.specs.Audits.{IsReceiptOf};
 ghost use Rattle.gu_desk.specs.KeptReceipts.{receipts_in};
-ghost use Rattle.gu_desk.specs.Holds.{book_seen, Enters, IsStretchAsked, Sees};
+ghost use Rattle.gu_desk.specs.Holds.{book_seen, Enters, IsRefused, IsStretchAsked, Sees};
 ghost use Rattle.gu_desk.specs.Seats.{IsNew};
-ghost use Rattle.gu_desk.specs.Sweeps.{DiffersIfStale, IsViewBefore, Sweeps};
+ghost use Rattle.gu_desk.specs.Sweeps.{IsSweepRefused, IsViewBefore, Sweeps};
 ghost use Rattle.gu_houses.specs.Receipts.{HasReceipts};
 
 use gu_book::{Answer, AskError, EnterError};
@@ -103,6 +102,13 @@ impl<E: EntryLedger, S: LotLedger> SeatReceipts<E, S> {
         (seat, receipts)
     }
 
+    /// Returns how many entries the seat has seen.
+    pub fn seen(&self) -> u64
+        ensures { result ≡ length self.now.front }
+    {
+        self.seat.seen()
+    }
+
     /// Enters a command, if there is room for its receipt, and keeps the receipt. Returns what the desk gave, with a stretch of what a
     /// firm is told of the entries from a number on, this one among them, if that was asked for.
     pub fn enter<R: Wait>(
@@ -116,7 +122,7 @@ impl<E: EntryLedger, S: LotLedger> SeatReceipts<E, S> {
             (record { number = e.number; entry = Entry.Asked command e.reply }) self.new) }
         ensures told { IfOk result (λ e. IfSome e.stretch (IsStretchAsked (book_seen E.reference self.new) tell)) }
         ensures informs { IfOk result (λ e. HoldsInformed (book_seen E.reference self.new) e.number e.informs) }
-        ensures refused { OnErr result (self.new ≡ self.old) }
+        ensures refused { IfErr result (λ why. IsRefused E.reference self.old why self.new) }
     {
         // Room for the receipt first: once the command is entered, its receipt is kept without an allocation.
         if self.receipts.reserve().is_err() {
@@ -144,9 +150,7 @@ impl<E: EntryLedger, S: LotLedger> SeatReceipts<E, S> {
         ensures here { IfOk result (λ s. Shows desk.now.board s.view) }
         ensures before { IfOk result (λ s. IsViewBefore E.reference self.new.front s.view.value) }
         ensures group { IfOk result (λ s. s.view.value.group ≡ group) }
-        ensures unknown { IsErrOf result SweepError.UnknownGroup → is_group E.reference group ≡ false }
-        ensures stale { IfErr result DiffersIfStale }
-        ensures refused { OnErr result (self.new ≡ self.old) }
+        ensures refused { IfErr result (λ why. IsSweepRefused E.reference self.old group why self.new) }
     {
         self.receipts.reserve()?;
         let committed = desk.sweep(rt, &mut self.seat, &group, TRIES, gate)?;

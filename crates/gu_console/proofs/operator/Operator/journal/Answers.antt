@@ -25,5 +25,5 @@ returns-in-Ok-stretch_of-clause-answered g c =
     let stretch = stretch_made front c.deref.result.now shown c.put.new.question.end c.in-Ok-stretch_of.lines.count c.self.inside.today c.in-Ok-stretch_of.lines.today
     c.in-Ok-stretch_of.lines.text.items kept.0 kept.1 copied.0 copied.1 c.in-Ok-stretch_of.ensures in
     rw (← c.self.view_is)
-    (inl (shown_so g.E.EntryLedger.reference c.self.inside.seat c.put.new.self shown c.in-Ok-stretch_of.lines.count c.self.inside.console.is_watch c.in-Ok-stretch_of.lines.text.items
+    (inl (shown_so g.E.EntryLedger.reference c.self.inside.seat c.put.new.self shown c.in-Ok-stretch_of.lines.count c.self.inside.counts.entries c.self.inside.console.is_watch c.in-Ok-stretch_of.lines.text.items
     c.swap.new.x.items c.in-Ok.ensures.sees stretch (ap (λ (v : Vec _ _). v.items) c.swap.ensures.x_after)))

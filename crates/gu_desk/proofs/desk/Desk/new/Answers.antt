@@ -8,6 +8,7 @@ loop-seat-preserved g c =
     let i = c.loop-seat.invariant in
     record {
       annals = search rules;
+      count = search rules;
       own = search rules;
       own_swept = search rules;
       places = search rules;

@@ -1,5 +1,5 @@
-use Rattle.std.proofs.Common.{◌≡◌}
+use Rattle.gu_desk.specs.Holds.{Looks}
 use Rattle.gu_desk.proofs.desk.Desk.sweep.Given as goal
 
 abbrev pub invariant-loop-again : goal.invariant-loop-again
-invariant-loop-again g l = l.seat ≡ l.fn.seat
+invariant-loop-again g l = Looks g.E.EntryLedger.reference l.fn.seat l.seat

@@ -1,4 +1,4 @@
-use Rattle.std.proofs.Common.{ℕ, IfSome, sym, subst}
+use Rattle.std.proofs.Common.{IfSome, sym, subst}
 use Rattle.gu_terms.specs.declared.notice.Stretch.{Stretch}
 use Rattle.gu_desk.specs.Seats.{SeatState}
 use Rattle.gu_houses.specs.SeatHouse.{SeatTells}
@@ -8,5 +8,5 @@ use Rattle.gu_houses.proofs.at_desk.AtDesk.enter.Goals as goal
 
 pub returns-in-Ok-clause-told : goal.returns-in-Ok-clause-told
 returns-in-Ok-clause-told g c =
-    subst (λ (seat : SeatState). IfSome c.in-Ok.entered.stretch (λ (s : Stretch). SeatTells g.E.EntryLedger.reference seat c.args.tell.0 c.args.tell.1 s seat)) (sym c.order.ensures)
-    (if_some c.in-Ok.entered.stretch (λ (s : Stretch) asked. told_then _ _ _ _ c.args.tell.0 c.args.tell.1 s c.in-Ok.ensures.entered asked) c.in-Ok.ensures.told)
+    subst (λ (seat : SeatState). IfSome c.in-Ok.entered.stretch (λ (s : Stretch). SeatTells g.E.EntryLedger.reference seat c.args.asking.firm c.args.from s seat)) (sym c.order.ensures)
+    (if_some c.in-Ok.entered.stretch (λ (s : Stretch) asked. told_then _ _ _ _ c.args.asking.firm c.args.from s c.in-Ok.ensures.entered asked) c.in-Ok.ensures.told)

@@ -1,4 +1,4 @@
-use Rattle.std.proofs.Common.{ℕ, refl, subst}
+use Rattle.std.proofs.Common.{refl, subst}
 use Rattle.gu_terms.specs.declared.notice.Stretch.{Stretch}
 use Rattle.gu_rules.specs.BookState.{BookState}
 use Rattle.gu_rules.specs.Notices.{IsStretch}

@@ -1,0 +1,154 @@
+//! How many entries a seat has seen, after each kind of call.
+
+ghost use Rattle.std.specs.Prelude.{◌≡◌};
+ghost use Rattle.gu_terms.specs.Histories.{lots_swept};
+
+use crate::opening::{annals_of, opened};
+use crate::sample::{book_of, command_of};
+use crate::transcript::answer_to;
+use gu_book::Book;
+use gu_desk::{BlankAnnals, Desk, EntryLedger, LotLedger, Question, Seat};
+use std::alloc::{AllocError, Global};
+use std::marker::Brand;
+use std::process::Abort;
+use std::sync::Wait;
+use std::sync::ledger::Blank;
+
+/// What is said from a seat, what is answered, and how many entries the seat has seen then. What is entered from one seat, the other sees
+/// with its next answer, and not before.
+const FIRST: [(&str, &str, u64); 4] = [
+    ("VIEW G9", "UnknownGroup", 2),
+    ("SWEEP G9", "UnknownGroup", 2),
+    ("SEE 0 G9", "UnknownGroup", 2),
+    ("LIMIT G1 EXEC E1 100", "3 OK", 3),
+];
+
+/// What is said from the other seat after that, which has seen two entries until then.
+const SECOND: [(&str, &str, u64); 5] = [
+    ("SWEEP G9", "UnknownGroup", 2),
+    ("POSITION A1 XF6", "LONG 0 SHORT 0", 3),
+    ("SWEEP G1", "4 SWEPT 0", 4),
+    ("DAY 20260105", "5 NO 2 WrongDay", 5),
+    ("INTEREST XF6", "LOTS 0", 5),
+];
+
+/// What is said from the first seat then, one line after each of which the other enters a command.
+const IN_TURN: [(&str, &str, u64); 6] = [
+    ("VIEW G1", "VERSION 4", 5),
+    ("SEE 0 G1", "VERSION 4", 6),
+    ("HELD C1 A1", "ROWS 0", 7),
+    ("NOTICES C1 1", "NOTICES 0 NEXT 9", 8),
+    ("STRETCH C1 1", "NOTICES 0 NEXT 10 LAST", 9),
+    ("SWEEP G1", "11 SWEPT 0", 11),
+];
+
+/// A question that asks nothing.
+#[derive(Drop)]
+struct Nothing;
+
+impl Question for Nothing {
+    ghost tells = { λ old book new. Unit {0} };
+
+    fn ask(&mut self, _book: &Book) -> Result<(), AllocError> {
+        Ok(())
+    }
+}
+
+/// Says a line from a seat, and compares the answer and how many entries the seat has seen.
+fn say<E: EntryLedger, S: LotLedger, R: Wait + Abort>(
+    rt: &R,
+    alloc: Global,
+    desk: &Desk<E, S>,
+    seat: &mut Seat<E, S>,
+    row: (&str, &str, u64),
+) {
+    let (line, want, seen) = row;
+    let answer = answer_to(rt, alloc, desk, seat, line)
+        .ok()
+        .expect(rt, "memory");
+    assert_eq!(rt; answer.as_str(), want, "{line}");
+    assert_eq!(rt; seat.seen(), seen, "{line}");
+}
+
+/// Enters a command from a seat that no answer is compared of.
+fn enter<E: EntryLedger, S: LotLedger, R: Wait + Abort>(
+    rt: &R,
+    alloc: Global,
+    desk: &Desk<E, S>,
+    seat: &mut Seat<E, S>,
+) {
+    let command = command_of(alloc, "CLAIM C1 1").expect(rt, "a command");
+    assert!(rt; desk.submit(rt, seat, command).is_ok());
+}
+
+/// Has a seat see what there is without an answer: by a question, and by a front that is shown to it.
+fn see<E: EntryLedger, S: LotLedger, R: Wait + Abort>(
+    rt: &R,
+    alloc: Global,
+    desk: &Desk<E, S>,
+    seat: &mut Seat<E, S>,
+    other: &mut Seat<E, S>,
+) {
+    enter(rt, alloc, desk, other);
+    assert!(rt; desk.hold(rt).put(seat, &mut Nothing).is_ok());
+    assert_eq!(rt; seat.seen(), 13);
+    let mut front = desk.hold(rt).front(seat);
+    enter(rt, alloc, desk, other);
+    assert_eq!(rt; (seat.seen(), front.count()), (13, 13));
+    desk.hold(rt).catch_up(seat, &mut front);
+    assert_eq!(rt; (seat.seen(), front.count()), (14, 13));
+}
+
+/// Says lines from two seats in turn, over a book that has two entries.
+fn say_all<E: EntryLedger, S: LotLedger, R: Wait + Abort>(
+    rt: &R,
+    alloc: Global,
+    book: Book,
+    annals: BlankAnnals,
+    entries: Blank,
+    swept: Blank,
+)
+    requires reference { book.reference ≡ E.reference }
+    requires opening { (book.history ≡ E.opening) × (lots_swept book.history ≡ S.opening) }
+    requires history { (annals.name ≡ E.history) × (annals.entries ≡ E.opening) }
+    requires entries { (entries.name ≡ E.name) × (entries.parts ≡ E.parts) × (entries.parts ≡ 3) }
+    requires swept { (swept.name ≡ S.name) × (swept.parts ≡ S.parts) × (swept.parts ≡ 3) }
+{
+    let (desk, mut seats) = opened::<E, S, R>(rt, alloc, book, annals, 2, entries, swept);
+    let mut seat = seats.pop().expect(rt, "a seat");
+    let mut other = seats.pop().expect(rt, "another seat");
+    assert_eq!(rt; (seat.seen(), other.seen()), (2, 2));
+    for row in FIRST {
+        say(rt, alloc, &desk, &mut seat, row);
+    }
+    for row in SECOND {
+        say(rt, alloc, &desk, &mut other, row);
+    }
+    assert_eq!(rt; seat.seen(), 3);
+    for row in IN_TURN {
+        say(rt, alloc, &desk, &mut seat, row);
+        enter(rt, alloc, &desk, &mut other);
+    }
+    see(rt, alloc, &desk, &mut seat, &mut other);
+    assert!(rt; seats.push(seat).is_ok());
+    assert!(rt; seats.push(other).is_ok());
+    assert!(rt; desk.close(seats).is_ok());
+}
+
+/// A book with a day and a limit.
+fn book_with_a_limit(rt: &impl Abort, alloc: Global) -> Book {
+    let mut book = book_of(alloc).expect(rt, "a book");
+    for line in ["DAY 20260105", "LIMIT G1 AGR P1 100"] {
+        let command = command_of(alloc, line).expect(rt, "a command");
+        assert!(rt; book.reply_to(&command).is_ok(), "{line}");
+    }
+    book
+}
+
+#[test]
+fn a_seat_says_how_many_entries_it_has_seen(rt: HostRuntime) {
+    let alloc = rt.alloc();
+    let book = book_with_a_limit(&rt, alloc);
+    let annals = annals_of(&rt, alloc, &book);
+    say_all::<Brand, Brand, HostRuntime>(&rt, alloc, book, annals, Blank::new(3), Blank::new(3));
+}
