@@ -1,0 +1,9 @@
+pub mod Tells
+pub mod Cuts
+pub mod RowWords
+pub mod DayLaws
+mod DigestLemmas
+mod Keepers
+mod Made
+mod Opened
+mod Results
