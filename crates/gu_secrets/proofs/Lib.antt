@@ -1,0 +1,5 @@
+mod Bytes
+mod Differences
+mod IssuedLemmas
+mod NamedFirms
+mod Splits
