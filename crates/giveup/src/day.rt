@@ -1,36 +1,66 @@
 //! A day of the server, from its files to its last line.
 
-ghost use Rattle.std.specs.Prelude.{◌≡◌, IfOk};
+ghost use Rattle.std.specs.Prelude.{◌≡◌, IfOk, IfSome};
+ghost use Rattle.std.proofs.Props.{props};
+ghost use Rattle.gu_keeping.specs.Chains.{chain_of};
 ghost use Rattle.gu_words.specs.Statuses.{status_of_audit};
 
 use crate::fault::{Fault, Faults};
 use crate::files::{digested_reference_at, world_after};
 use crate::heading::Heading;
-use crate::journal_file::{JournalFile, journal_at};
+use crate::journal_ending::end_journal;
+use crate::journal_file::{FileLog, empty_journal_at, has_day_at, journal_at};
+use crate::journal_name::JournalName;
+use crate::journal_opening::{BegunFile, BegunJournal, Resumed, begin_journal, resume_journal};
+use crate::locking::Locks;
 use crate::seeding::seed_from;
-use crate::serving::{listen, serve};
-use gu_book::Book;
+use crate::serving::{Begun, listen, serve};
+use gu_journal::Sink;
+use gu_ref::Reference;
 use gu_script::RefusedLines;
-use gu_server::{Closed, Closers, DayEnd};
+use gu_server::{DayEnd, Front, Served};
+use gu_sockets::Doorway;
 use gu_streams::{StreamError, send};
-use gu_words::{Serving, Status};
+use gu_terms::{History, Seed};
+use gu_words::{Journal, Serving, Status};
 use gu_world::World;
 use jiff::Timestamp;
 use std::alloc::Global;
+use std::fs::OpenFile;
 use std::io;
-use std::io::Write;
+use std::io::{Read, Seek, Write};
 use std::net::{Net, TcpListener, TcpStream};
 use std::random::RandomSource;
-use std::rt::{Clock, Env, Files};
+use std::rt::{Clock, Files};
 use std::sync::Wait;
 use std::thread::Threads;
 use std::time::{SystemTime, UNIX_EPOCH};
 
 /// A day that is ready to be served.
-struct Ready<'a, F> {
+struct Ready<'a, F, K: Sink> {
     world: World,
-    journal: Option<JournalFile<'a, F>>,
-    heading: Heading,
+    begun: Option<BegunJournal<'a, F, K>>,
+    ghost journaled: { IfSome begun (λ b. b.journal.chain ≡ chain_of world.state.book.history) } by { Prim.hlevel props },
+}
+
+/// One whose journal is in a file.
+type ReadyFile<'a, F> = Ready<'a, F, FileLog<F>>;
+
+impl<'a, F, K: Sink> Ready<'a, F, K> {
+    /// Returns the name of the journal, if there is one, and what a server begins with.
+    fn into_parts(self) -> (Option<JournalName<'a, F>>, Begun<K>) {
+        let Ready { world, begun } = self;
+        match begun {
+            Some(BegunJournal { name, journal }) => {
+                let journal = Some(journal);
+                (Some(name), Begun { world, journal })
+            }
+            None => {
+                let journal = None;
+                (None, Begun { world, journal })
+            }
+        }
+    }
 }
 
 /// Says which lines of a script did nothing, and how many there are. What can't be written is lost.
@@ -50,31 +80,88 @@ fn time<R: Clock>(rt: &R) -> Option<Timestamp> {
     Timestamp::from_millisecond(i64::try_from(since.as_millis()).ok()?).ok()
 }
 
-/// Reads the reference, plays the script, and opens the journal. Lines of the script that did nothing are said on standard error.
-fn made_ready<'a, R: Eprint + Files + Clock + RandomSource + Alloc<A = Global>>(
+/// Begins the journal of a day with the entries that were made before firms are let in, if the day has a journal.
+fn begun_journal<'a, R: Files + Alloc<A = Global>>(
     rt: &R,
     serving: &Serving<'a>,
-) -> Result<Ready<'a, R::File>, Fault<'a>> {
-    let seed = seed_from(rt)?;
-    let (reference, digest) = digested_reference_at(rt, serving.reference)?;
+    heading: &Heading,
+    history: &History,
+) -> Result<Option<BegunFile<'a, R::File>>, Fault<'a>>
+where
+    R::File: Locks,
+    ensures { IfOk result (λ begun. IfSome begun (λ b. b.journal.chain ≡ chain_of history.now)) }
+{
+    let Some(journal) = serving.journal else {
+        return Ok(None);
+    };
+    let found = empty_journal_at(rt, journal.path)?;
+    let begun = begin_journal(rt, found, heading, history)?;
+    Ok(Some(begun))
+}
+
+/// Returns a day that begins after a script, and begins its journal, if it has one. Lines of the script that did nothing are said on
+/// standard error.
+fn begun_day<'a, R: Eprint + Files + Alloc<A = Global>>(
+    rt: &R,
+    serving: &Serving<'a>,
+    reference: Reference,
+    heading: &Heading,
+    seed: Seed,
+) -> Result<ReadyFile<'a, R::File>, Fault<'a>>
+where
+    R::File: Locks,
+{
     let (world, refused) = world_after(rt, reference, serving.script, seed)?;
     if let Some(refused) = &refused {
         say_refused(rt, refused);
     }
     drop(refused);
-    let opened = time(rt).ok_or(StreamError::Read)?;
-    let journal = match serving.journal {
-        Some(path) => Some(journal_at(rt, path)?),
-        None => None,
+    let begun = begun_journal(rt, serving, heading, world.book().history())?;
+    Ok(Ready { world, begun })
+}
+
+/// Returns the path of the journal whose day goes on, if one does.
+fn journal_to_resume<'a, R: Files>(
+    rt: &R,
+    serving: &Serving<'a>,
+) -> Result<Option<&'a str>, Fault<'a>> {
+    match serving.journal {
+        Some(
+            Journal {
+                path,
+                resumes: true,
+            },
+        ) if has_day_at(rt, path)? => Ok(Some(path)),
+        _ => Ok(None),
+    }
+}
+
+/// Reads the reference, and makes the day ready: it goes on where its journal has lines and is to be resumed, and else it begins after the
+/// script.
+fn made_ready<'a, R: Eprint + Files + Clock + RandomSource + Alloc<A = Global>>(
+    rt: &R,
+    serving: &Serving<'a>,
+) -> Result<ReadyFile<'a, R::File>, Fault<'a>>
+where
+    R::File: Locks,
+{
+    let seed = seed_from(rt)?;
+    let (reference, digest) = digested_reference_at(rt, serving.reference)?;
+    let heading = Heading {
+        reference: digest,
+        opened: time(rt).ok_or(StreamError::Read)?,
     };
-    Ok(Ready {
-        world,
-        journal,
-        heading: Heading {
-            reference: digest,
-            opened,
-        },
-    })
+    match journal_to_resume(rt, serving)? {
+        Some(path) => {
+            let found = journal_at(rt, path)?;
+            let Resumed { world, begun } = resume_journal(rt, found, reference, &heading, seed)?;
+            Ok(Ready {
+                world,
+                begun: Some(begun),
+            })
+        }
+        None => begun_day(rt, serving, reference, &heading, seed),
+    }
 }
 
 /// Returns the status after the end of a day: that which its audit makes.
@@ -100,34 +187,30 @@ fn fault_after<'a>(done: Result<(), StreamError>) -> Option<Fault<'a>> {
     }
 }
 
-/// Writes the journal of a day, if a file for it is named.
-fn keep_journal<'a, R: Files + Alloc<A = Global>>(
+/// Ends a day: ends its journal, and prints its lines, also if not every connection could be accepted, but not if its journal lacks some of
+/// its entries. Operators that closed the day are told the lines once the journal is whole. Returns all that failed.
+pub fn end_day<'a, R: Print + Alloc<A = Global>, F: Read + Write + Seek + OpenFile + Drop>(
     rt: &R,
-    journal: Option<JournalFile<'a, R::File>>,
-    heading: &Heading,
-    book: &Book,
-) -> Result<(), Fault<'a>> {
-    match journal {
-        Some(journal) => journal.keep(rt, rt.alloc(), heading, book.history()),
-        None => Ok(()),
-    }
-}
-
-/// Ends a day: prints its lines, also if not every connection could be accepted, and then writes its journal, also if the lines couldn't
-/// be made or printed. Operators that closed the day are told the lines once the journal is whole. Returns all that failed.
-pub fn end_day<'a, R: Print + Files + Alloc<A = Global>>(
-    rt: &R,
-    (closed, closers): (Closed, Closers),
-    journal: Option<JournalFile<'a, R::File>>,
-    heading: &Heading,
+    served: Served<FileLog<F>>,
+    path: Option<&'a str>,
 ) -> Result<Status, Faults<'a>> {
+    let Served {
+        closed,
+        closers,
+        journal,
+    } = served;
     let (end, book, fault) = closed.end(rt.alloc());
-    let printed = match &end {
-        Ok((text, _)) => print_end(rt, text),
-        Err(error) => Err(StreamError::from(*error)),
-    };
-    let kept = keep_journal(rt, journal, heading, &book);
+    let entries = book.history().len();
     drop(book);
+    let kept = match (path, journal) {
+        (Some(path), Some(journal)) => end_journal(path, journal, entries),
+        _ => Ok(()),
+    };
+    let printed = match (&end, &kept) {
+        (Ok((text, _)), Ok(())) => print_end(rt, text),
+        (Ok(_), Err(_)) => Ok(()),
+        (Err(error), _) => Err(StreamError::from(*error)),
+    };
     if let (Ok((text, _)), Ok(())) = (&end, &kept) {
         closers.tell(text);
     }
@@ -141,6 +224,31 @@ pub fn end_day<'a, R: Print + Files + Alloc<A = Global>>(
         Some(faults) => Err(faults),
         None => Ok(status_after(&end)),
     }
+}
+
+/// Listens at the sockets of operators and at the port, and gives a new journal its name. Where that fails, a new journal is removed.
+fn opened<'a, R: Files + Net<Listener = TcpListener, Stream = TcpStream> + Alloc<A = Global>, F>(
+    rt: &R,
+    serving: &Serving<'a>,
+    name: Option<&JournalName<'a, F>>,
+) -> Result<Front<Doorway>, Fault<'a>> {
+    let Some(name) = name else {
+        return listen(rt, serving);
+    };
+    let opened = match listen(rt, serving) {
+        Ok(front) => match name.give(rt) {
+            Ok(()) => Ok(front),
+            Err(fault) => {
+                drop(front);
+                Err(fault)
+            }
+        },
+        Err(fault) => Err(fault),
+    };
+    if opened.is_err() {
+        name.give_up(rt);
+    }
+    opened
 }
 
 /// A server of firms on a port of this machine, on the reference of a file, after a script, if one is named.
@@ -157,22 +265,25 @@ pub fn run_serve<
         + Sync
         + Alloc<A = Global>,
     T: Write + Send + Drop,
->(rt: &R, serving: &Serving<'a>, terminal: Option<T>) -> Result<Status, Faults<'a>> {
-    let Ready {
-        world,
-        journal,
-        heading,
-    } = made_ready(rt, serving)?;
-    let front = match listen(rt, serving) {
+>(rt: &R, serving: &Serving<'a>, terminal: Option<T>) -> Result<Status, Faults<'a>>
+where
+    R::File: Locks + Send,
+{
+    let ready = made_ready(rt, serving)?;
+    let (name, begun) = ready.into_parts();
+    let front = match opened(rt, serving, name.as_ref()) {
         Ok(front) => front,
         Err(fault) => {
-            drop(world);
+            drop(begun);
             return Err(Faults::from(fault));
         }
     };
-    let served = serve(rt, world, serving, front, terminal);
-    match served {
-        Ok(served) => end_day(rt, served, journal, &heading),
+    let path = match &name {
+        Some(name) => Some(name.path),
+        None => None,
+    };
+    match serve(rt, begun, serving, front, terminal) {
+        Ok(served) => end_day(rt, served, path),
         Err(error) => Err(Faults::from(Fault::from(error))),
     }
 }

@@ -5,7 +5,7 @@ use gu_script::ScriptError;
 use gu_streams::StreamError;
 use thiserror::Error;
 
-/// Why a day's journal isn't begun.
+/// Why a day's journal isn't begun or gone on with.
 #[derive(Debug, Drop, Clone, Copy, PartialEq, Eq, Error)]
 pub enum JournalFault {
     /// The file has something already.
@@ -14,6 +14,21 @@ pub enum JournalFault {
     /// The path is that of a folder, a pipe or a device.
     #[error("NotAFile")]
     NotAFile,
+    /// Another desk has the file.
+    #[error("InUse")]
+    InUse,
+    /// The file is the journal of a day of another reference, or names none.
+    #[error("Reference")]
+    Reference,
+    /// The digest after this many entries isn't that of the entries that the lines make.
+    #[error("Differs {0}")]
+    Differs(u64),
+    /// There is more after the text than a batch can leave that was cut short.
+    #[error("Damaged")]
+    Damaged,
+    /// The line of this number isn't a line that may be there.
+    #[error("bad line {0}")]
+    BadLine(u64),
 }
 
 /// Why a console can't be had, or doesn't answer.

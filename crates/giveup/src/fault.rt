@@ -45,6 +45,20 @@ fn console_words(fault: ConsoleFault) -> &'static str {
     }
 }
 
+/// Returns what is said of a journal that can't be begun or gone on with.
+fn journal_words(fault: JournalFault) -> &'static str {
+    match fault {
+        JournalFault::NotEmpty => "it isn't empty, and a day doesn't write over what it finds",
+        JournalFault::NotAFile => "it isn't a file",
+        JournalFault::InUse => "another desk has it",
+        JournalFault::Reference => "it is the journal of a day of another reference",
+        JournalFault::Differs(_) => "its lines don't lead to the answers that it has a digest of",
+        JournalFault::Damaged =>
+            "more is after its text than a torn batch, and it is left as it is",
+        JournalFault::BadLine(_) => "the line isn't one that may be there",
+    }
+}
+
 impl fmt::Display for InWords {
     fn fmt<W: fmt::Write>(&self, f: &mut fmt::Formatter<W>) -> fmt::Result {
         match self.0 {
@@ -72,10 +86,7 @@ impl fmt::Display for InWords {
             RunError::Script(ScriptError::Write) | RunError::Stream(StreamError::Write) => {
                 f.write_str("it couldn't be written to its end")
             }
-            RunError::Journal(JournalFault::NotEmpty) => {
-                f.write_str("it isn't empty, and a day doesn't write over what it finds")
-            }
-            RunError::Journal(JournalFault::NotAFile) => f.write_str("it isn't a file"),
+            RunError::Journal(fault) => f.write_str(journal_words(fault)),
             RunError::Console(fault) => f.write_str(console_words(fault)),
             RunError::Reference(_) | RunError::Script(_) | RunError::Stream(_) => {
                 f.write_str("it couldn't be read to its end")
@@ -90,6 +101,8 @@ pub struct Fault<'a> {
     error: RunError,
     place: Option<Place<'a>>,
     cause: Option<io::Error>,
+    /// How many entries a journal has that couldn't be written on.
+    kept: Option<u64>,
 }
 
 impl<'a> From<RunError> for Fault<'a> {
@@ -98,6 +111,7 @@ impl<'a> From<RunError> for Fault<'a> {
             error,
             place: None,
             cause: None,
+            kept: None,
         }
     }
 }
@@ -118,6 +132,17 @@ impl<'a> Fault<'a> {
             error,
             place: Some(place),
             cause: Some(cause),
+            kept: None,
+        }
+    }
+
+    /// A journal that couldn't be written on, and the number of entries that it has.
+    pub fn lost(path: &'a str, cause: Option<io::Error>, error: RunError, kept: u64) -> Self {
+        Fault {
+            error,
+            place: Some(Place::File(path)),
+            cause,
+            kept: Some(kept),
         }
     }
 
@@ -131,6 +156,7 @@ impl<'a> Fault<'a> {
                 error,
                 place: Some(place),
                 cause: None,
+                kept: None,
             },
         }
     }
@@ -138,7 +164,9 @@ impl<'a> Fault<'a> {
     /// Returns whether a second line says what is at fault: at a terminal, and for a journal or a console, whose faults are new to who
     /// reads them.
     fn has_second_line(&self, is_at_terminal: bool) -> bool {
-        is_at_terminal || matches!(self.error, RunError::Journal(_) | RunError::Console(_))
+        is_at_terminal
+            || self.kept.is_some()
+            || matches!(self.error, RunError::Journal(_) | RunError::Console(_))
     }
 
     /// Says the error on standard error, and in a second line what is at fault and why. What can't be written there is lost.
@@ -147,14 +175,22 @@ impl<'a> Fault<'a> {
         if !self.has_second_line(is_at_terminal) {
             return;
         }
-        match (self.place, self.cause) {
-            (Some(place), Some(cause)) => {
+        let Some(place) = self.place else {
+            return;
+        };
+        match (self.cause, self.kept) {
+            (Some(cause), Some(kept)) => {
+                let _ = eprintln!(rt; "giveup: {place}: {cause}; entries that it has: {kept}");
+            }
+            (None, Some(kept)) => {
+                let _ = eprintln!(rt; "giveup: {place}: entries that it has: {kept}");
+            }
+            (Some(cause), None) => {
                 let _ = eprintln!(rt; "giveup: {place}: {cause}");
             }
-            (Some(place), None) => {
+            (None, None) => {
                 let _ = eprintln!(rt; "giveup: {place}: {}", InWords(self.error));
             }
-            (None, _) => {}
         }
     }
 }

@@ -29,7 +29,7 @@ const HELP_TEXT: &str =
 
 /// What help says of a server.
 const SERVE_TEXT: &str =
-    "Serves firms on a port of this machine, with sweepers beside them: prints ENTRIES, SWEPT and AUDIT at the end\n\nUsage: giveup serve [OPTIONS] <REF> <PORT>\n\nArguments:\n  <REF>   The path of the reference\n  <PORT>  The port on which it listens, 1 to 65535\n\nOptions:\n      --script <FILE>    The path of a script that is run first, without output\n      --connections <N>  How many connections it accepts, 1 to 32 [default: 8]\n      --every <K>        Each connection sends every K-th of its accepted give-ups to the sweepers, 0 to 1000; 0 sends none [default: 16]\n      --journal <FILE>   The path of a new or empty file to which the day is written at its end, as a script that makes the same entries\n      --console <PATH>   The path of a socket that answers operators: lines of a script, STATUS, JOURNAL, CUT and CLOSE\n      --watch <PATH>     The path of a socket that answers those who only look: STATUS, JOURNAL, POSITION, INTEREST and LIMITS\n      --until-closed     Goes on until CLOSE at the console; N, 1 to 1024, is then how many connections there may be at once\n      --workers <W>      How many threads serve the connections with --until-closed, 1 to 60; as many as processors where none is given\n  -h, --help             Print help\n\nExample: giveup serve house.csv 9878 --script open.script --journal day.script\n";
+    "Serves firms on a port of this machine, with sweepers beside them: prints ENTRIES, SWEPT and AUDIT at the end\n\nUsage: giveup serve [OPTIONS] <REF> <PORT>\n\nArguments:\n  <REF>   The path of the reference\n  <PORT>  The port on which it listens, 1 to 65535\n\nOptions:\n      --script <FILE>    The path of a script that is run first, without output\n      --connections <N>  How many connections it accepts, 1 to 32 [default: 8]\n      --every <K>        Each connection sends every K-th of its accepted give-ups to the sweepers, 0 to 1000; 0 sends none [default: 16]\n      --journal <FILE>   The path of a new or empty file to which the day is written as it goes on, as a script that makes the same entries; an answer leaves once what it shows is on the disk\n      --resume           Goes on with the day in the file of --journal, if it has lines: they are played in the place of --script\n      --console <PATH>   The path of a socket that answers operators: lines of a script, STATUS, JOURNAL, CUT and CLOSE\n      --watch <PATH>     The path of a socket that answers those who only look: STATUS, JOURNAL, POSITION, INTEREST and LIMITS\n      --until-closed     Goes on until CLOSE at the console; N, 1 to 1024, is then how many connections there may be at once\n      --workers <W>      How many threads serve the connections with --until-closed, 1 to 60; as many as processors where none is given\n  -h, --help             Print help\n\nExample: giveup serve house.csv 9878 --script open.script --journal day.script\n";
 
 /// What help says of a session.
 const FIX_TEXT: &str =
@@ -67,8 +67,13 @@ const ONE_PATH: &str =
 const NOT_CLOSED: &str =
     "error: invalid value for '--connections <N>': without '--until-closed' it is 1 to 32\n\nUsage: giveup serve [OPTIONS] <REF> <PORT>\n\nFor more information, try '--help'.\n";
 
+/// What is said of a day that is to go on, and has no journal in which it is.
+const NO_JOURNAL: &str =
+    "error: the following required arguments were not provided:\n  --journal <FILE>\n\nUsage: giveup serve [OPTIONS] <REF> <PORT>\n\nFor more information, try '--help'.\n";
+
 /// Words of which something is said.
-const SAID: [(&str, &str); 8] = [
+const SAID: [(&str, &str); 9] = [
+    ("giveup serve house.csv 9878 --resume", NO_JOURNAL),
     ("giveup tell --help", TELL_TEXT),
     (
         "giveup serve house.csv 9878 --until-closed --console desk --connections 1025",

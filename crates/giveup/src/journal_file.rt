@@ -1,98 +1,109 @@
-//! The file of a day's journal.
+//! The file of a day's journal, before the day begins.
 
 use crate::error::{JournalFault, RunError};
 use crate::fault::{Fault, Place};
-use crate::heading::Heading;
-use gu_script::write_journal;
-use gu_streams::{StreamError, send};
-use gu_terms::History;
-use std::alloc::Global;
+use crate::locking::Locks;
+use gu_journal::{FileDevice, Log};
+use gu_streams::StreamError;
 use std::fs::{File, OpenFile};
 use std::io::ErrorKind;
 use std::rt::Files;
 use std::{fs, io};
 
-/// The file of a journal, which is opened before the day begins and written at its end.
+/// A file that can be a journal, and that no other program has.
 #[derive(Drop)]
-pub struct JournalFile<'a, F> {
-    path: &'a str,
-    file: F,
+pub struct FoundFile<'a, F> {
+    pub path: &'a str,
+    pub file: F,
 }
 
-/// Returns the folder of a path.
-fn folder_of(path: &str) -> &str {
-    match path.rsplit_once('/') {
-        Some(("", _)) => "/",
-        Some((folder, _)) => folder,
-        None => ".",
-    }
+/// Where the text of a day is kept.
+pub type FileLog<F> = Log<FileDevice<F>>;
+
+/// Returns the fault of a journal at a path.
+pub fn fault_at(path: &str, fault: JournalFault) -> Fault<'_> {
+    Fault::at(Place::File(path), RunError::Journal(fault))
 }
 
-/// Returns why no journal is written to what is at a path, if that is so. A path at which there is nothing may have one.
-fn fault_at<R: Files>(rt: &R, path: &str) -> Result<Option<JournalFault>, io::Error> {
+/// Returns what the system refuses at the file of a path, as a fault in writing.
+pub fn refused(path: &str, cause: io::Error) -> Fault<'_> {
+    Fault::refused(Place::File(path), cause, RunError::from(StreamError::Write))
+}
+
+/// Returns whether what is at a path is no file.
+fn is_no_file<R: Files>(rt: &R, path: &str) -> io::Result<bool> {
     match fs::metadata(rt, path) {
-        Ok(found) if !found.is_file() => Ok(Some(JournalFault::NotAFile)),
-        Ok(found) if found.len() > 0 => Ok(Some(JournalFault::NotEmpty)),
-        Ok(_) => Ok(None),
-        Err(error) if error.kind() == ErrorKind::NotFound => Ok(None),
+        Ok(found) => Ok(!found.is_file()),
+        Err(error) if error.kind() == ErrorKind::NotFound => Ok(false),
         Err(error) => Err(error),
     }
 }
 
-/// Writes what a folder lists to its disk, so that the names in it outlive a power cut.
-fn sync_folder<R: Files>(rt: &R, folder: &str) -> io::Result<()> {
-    File::open(rt, folder)?.sync_all()
-}
-
-/// Returns what the system refuses at the file of a path, as a fault in writing.
-fn refused(path: &str, cause: io::Error) -> Fault<'_> {
-    Fault::refused(Place::File(path), cause, RunError::from(StreamError::Write))
-}
-
-/// Opens the file at a path, or creates it. What isn't a file, and a file that isn't empty, is refused and left as it was.
-pub fn journal_at<'a, R: Files>(
-    rt: &R,
-    path: &'a str,
-) -> Result<JournalFile<'a, R::File>, Fault<'a>> {
-    match fault_at(rt, path) {
-        Ok(None) => {}
-        Ok(Some(fault)) => return Err(Fault::at(Place::File(path), RunError::Journal(fault))),
-        Err(cause) => return Err(refused(path, cause)),
-    }
-    match File::options()
+/// Opens a file to be read and written, or makes it.
+fn open_or_make<R: Files>(rt: &R, path: &str) -> io::Result<R::File> {
+    File::options()
         .read(true)
         .write(true)
         .create(true)
         .open(rt, path)
-    {
-        Ok(file) => Ok(JournalFile { path, file }),
+}
+
+/// Opens the file at a path for this program alone, or makes it. It is the journal's own file, or stands in for it.
+pub fn opened_at<'a, R: Files>(rt: &R, at: &str, journal: &'a str) -> Result<R::File, Fault<'a>>
+where
+    R::File: Locks,
+{
+    let file = match open_or_make(rt, at) {
+        Ok(file) => file,
+        Err(cause) => return Err(refused(journal, cause)),
+    };
+    match file.lock_out() {
+        Ok(true) => Ok(file),
+        Ok(false) => Err(fault_at(journal, JournalFault::InUse)),
+        Err(cause) => Err(refused(journal, cause)),
+    }
+}
+
+/// Returns whether the file at a path has a day already. A path at which there is nothing has none.
+pub fn has_day_at<'a, R: Files>(rt: &R, path: &'a str) -> Result<bool, Fault<'a>> {
+    match fs::metadata(rt, path) {
+        Ok(found) => Ok(found.is_file() && found.len() > 0),
+        Err(error) if error.kind() == ErrorKind::NotFound => Ok(false),
         Err(cause) => Err(refused(path, cause)),
     }
 }
 
-impl<'a, F: io::Write + OpenFile + Drop> JournalFile<'a, F> {
-    /// Writes the heading and the journal of a history, and waits until the file and its name are on the disk.
-    pub fn keep<R: Files>(
-        self,
-        rt: &R,
-        alloc: Global,
-        heading: &Heading,
-        history: &History,
-    ) -> Result<(), Fault<'a>> {
-        let JournalFile { path, mut file } = self;
-        let headed = match heading.text(alloc) {
-            Ok(text) => send(&mut file, text.as_bytes()),
-            Err(_) => Err(StreamError::Memory),
-        };
-        let written = headed.and_then(|()| write_journal(alloc, history, &mut file));
-        if let Err(error) = written {
-            drop(file);
-            return Err(Fault::at(Place::File(path), RunError::from(error)));
-        }
-        let synced = file.sync_all();
-        drop(file);
-        synced
-            .and_then(|()| sync_folder(rt, folder_of(path)))
-            .map_err(|cause| refused(path, cause))
+/// Opens the file of a journal, or makes it. What isn't a file is refused and left as it was, and so is one that another program has.
+pub fn journal_at<'a, R: Files>(rt: &R, path: &'a str) -> Result<FoundFile<'a, R::File>, Fault<'a>>
+where
+    R::File: Locks,
+{
+    match is_no_file(rt, path) {
+        Ok(false) => {}
+        Ok(true) => return Err(fault_at(path, JournalFault::NotAFile)),
+        Err(cause) => return Err(refused(path, cause)),
+    }
+    Ok(FoundFile {
+        path,
+        file: opened_at(rt, path, path)?,
+    })
+}
+
+/// Opens the file of a journal whose day begins, or makes it. One that isn't empty is refused too, and left as it was.
+pub fn empty_journal_at<'a, R: Files>(
+    rt: &R,
+    path: &'a str,
+) -> Result<FoundFile<'a, R::File>, Fault<'a>>
+where
+    R::File: Locks,
+{
+    if has_day_at(rt, path)? {
+        return Err(fault_at(path, JournalFault::NotEmpty));
+    }
+    let found = journal_at(rt, path)?;
+    match found.file.metadata() {
+        Ok(now) if now.len() == 0 => Ok(found),
+        Ok(_) => Err(fault_at(path, JournalFault::NotEmpty)),
+        Err(cause) => Err(refused(path, cause)),
     }
 }

@@ -1,6 +1,8 @@
 //! A machine of the tests' own: words, files, standard streams, a clock at nine on 2026-01-05, and one free port or none. It writes
 //! down what it is asked for.
 
+use crate::disk::Disk;
+use crate::locking::Locks;
 use std::alloc::{Allocator, Global};
 use std::env::FillError;
 use std::fmt::Display;
@@ -28,6 +30,8 @@ pub enum Setting {
     Slow,
     /// Somebody types its input at a terminal.
     Watched,
+    /// Its file `log` has a day, and after it the beginning of a line.
+    Logged,
 }
 
 /// What a machine is given, and what it is told. It waits and starts threads as its host does.
@@ -36,18 +40,19 @@ pub struct Machine<'a, R> {
     pub host: &'a R,
     pub alloc: Global,
     pub words: &'a [&'a str],
-    /// What each file holds, by its path.
+    /// What each file holds that can't be written, by its path.
     pub files: &'a [(&'a str, &'a [u8])],
     pub input: &'a [u8],
     pub setting: Setting,
     /// The one port that can be had, whichever is asked for.
     pub port: Mutex<Option<TcpListener>>,
-    /// What is written to the file `log`.
-    pub log: &'a Mutex<Vec<u8>>,
+    /// The files that can be written.
+    pub disk: &'a Mutex<Disk>,
     pub out: Mutex<Vec<u8>>,
     pub err: Mutex<Vec<u8>>,
     /// What was asked for, each with a blank after it: the path of a file that is opened, `+` and the path of one that is opened or made
-    /// to be written, `!` and the path of one that is synced, and the address of a port.
+    /// to be written, `!` and the path of one that is synced with its length, `-` and the path of one that is removed, two paths with `=`
+    /// between them where a file gets a name, and the address of a port.
     pub opened: &'a Mutex<Vec<u8>>,
 }
 
@@ -237,33 +242,58 @@ impl<R> Env for Machine<'_, R> {
     }
 }
 
-/// A file that is open: what it holds, and where what is written to it goes. A file without such a place takes nothing.
+/// A file that is open: what it holds, or its number among those that can be written.
 #[derive(Drop)]
 pub struct Text<'a, R> {
     host: &'a R,
     alloc: Global,
     path: String,
     bytes: &'a [u8],
-    written: Option<&'a Mutex<Vec<u8>>>,
+    disk: &'a Mutex<Disk>,
+    number: Option<usize>,
+    /// Where the next read or write of one that can be written begins.
+    at: usize,
     /// Where it is written down that it was synced.
     opened: &'a Mutex<Vec<u8>>,
 }
 
-impl<R> Read for Text<'_, R> {
+impl<R: Wait> Text<'_, R> {
+    /// Returns its number, where it can be written.
+    fn number(&self) -> io::Result<usize> {
+        match self.number {
+            Some(number) => Ok(number),
+            None => Err(Error::from(ErrorKind::Unsupported)),
+        }
+    }
+
+    /// Returns how long it is.
+    fn len(&self) -> usize {
+        match self.number {
+            Some(number) => self.disk.lock(self.host).bytes(number).len(),
+            None => self.bytes.len(),
+        }
+    }
+}
+
+impl<R: Wait> Read for Text<'_, R> {
     fn read(&mut self, buf: &mut [u8]) -> io::Result<usize> {
-        self.bytes.read(buf)
+        let Some(number) = self.number else {
+            return self.bytes.read(buf);
+        };
+        let disk = self.disk.lock(self.host);
+        let mut rest = disk.bytes(number).get(self.at..).unwrap_or(&[]);
+        let count = rest.read(buf)?;
+        self.at = self.at.saturating_add(count);
+        Ok(count)
     }
 }
 
 impl<R: Wait> Write for Text<'_, R> {
     fn write(&mut self, buf: &[u8]) -> io::Result<usize> {
-        match self.written {
-            Some(written) => {
-                written.lock(self.host).extend_from_slice(buf)?;
-                Ok(buf.len())
-            }
-            None => Err(Error::from(ErrorKind::Unsupported)),
-        }
+        let number = self.number()?;
+        self.disk.lock(self.host).write_at(number, self.at, buf)?;
+        self.at = self.at.saturating_add(buf.len());
+        Ok(buf.len())
     }
 
     fn flush(&mut self) -> io::Result<()> {
@@ -271,19 +301,33 @@ impl<R: Wait> Write for Text<'_, R> {
     }
 }
 
-impl<R> Seek for Text<'_, R> {
-    fn seek(&mut self, _to: SeekFrom) -> io::Result<u64> {
-        unsupported()
+impl<R: Wait> Seek for Text<'_, R> {
+    fn seek(&mut self, to: SeekFrom) -> io::Result<u64> {
+        match to {
+            SeekFrom::Start(at) => self.at = at as usize,
+            SeekFrom::End(0) => self.at = self.len(),
+            _ => return unsupported(),
+        }
+        Ok(self.at as u64)
+    }
+}
+
+impl<R: Wait> Locks for Text<'_, R> {
+    fn lock_out(&self) -> io::Result<bool> {
+        let number = self.number()?;
+        Ok(self.disk.lock(self.host).is_free(number))
     }
 }
 
 impl<R: Wait> OpenFile for Text<'_, R> {
     fn metadata(&self) -> io::Result<Metadata> {
-        unsupported()
+        Ok(Metadata::of_file(self.len() as u64))
     }
 
-    fn set_len(&self, _size: u64) -> io::Result<()> {
-        unsupported()
+    fn set_len(&self, size: u64) -> io::Result<()> {
+        let number = self.number()?;
+        self.disk.lock(self.host).cut(number, size as usize);
+        Ok(())
     }
 
     fn sync_all(&self) -> io::Result<()> {
@@ -296,12 +340,12 @@ impl<R: Wait> OpenFile for Text<'_, R> {
     }
 
     fn sync_data(&self) -> io::Result<()> {
-        unsupported()
+        Ok(())
     }
 }
 
 /// Returns the mark of how a file is opened: to be read, or to be written, and made where there is none. A journal isn't emptied or
-/// appended to.
+/// appended to as it is opened.
 fn mark_of(how: &OpenOptions) -> &'static str {
     match (
         how.asks_write(),
@@ -314,6 +358,22 @@ fn mark_of(how: &OpenOptions) -> &'static str {
     }
 }
 
+impl<'a, R: Wait> Machine<'a, R> {
+    /// Returns a file that is open.
+    fn text(&self, path: &str, bytes: &'a [u8], number: Option<usize>) -> io::Result<Text<'a, R>> {
+        Ok(Text {
+            host: self.host,
+            alloc: self.alloc,
+            path: String::from_str(self.alloc, path)?,
+            bytes,
+            disk: self.disk,
+            number,
+            at: 0,
+            opened: self.opened,
+        })
+    }
+}
+
 impl<'a, R: Wait> Files for Machine<'a, R> {
     type File = Text<'a, R>;
 
@@ -321,17 +381,18 @@ impl<'a, R: Wait> Files for Machine<'a, R> {
 
     fn open_file(&self, how: &OpenOptions, path: &str) -> io::Result<Text<'a, R>> {
         self.note(mark_of(how), path)?;
-        match self.files.iter().find(|file| file.0 == path) {
-            Some(file) => Ok(Text {
-                host: self.host,
-                alloc: self.alloc,
-                path: String::from_str(self.alloc, path)?,
-                bytes: file.1,
-                written: if path == "log" { Some(self.log) } else { None },
-                opened: self.opened,
-            }),
-            None => Err(Error::from(ErrorKind::NotFound)),
+        if let Some(file) = self.files.iter().find(|file| file.0 == path) {
+            return self.text(path, file.1, None);
         }
+        let number = if how.asks_create() {
+            self.disk.lock(self.host).find_or_make(path)?
+        } else {
+            match self.disk.lock(self.host).find(path) {
+                Some(number) => number,
+                None => return Err(Error::from(ErrorKind::NotFound)),
+            }
+        };
+        self.text(path, &[], Some(number))
     }
 
     fn open_dir(&self, _path: &str) -> io::Result<Text<'a, R>> {
@@ -340,8 +401,13 @@ impl<'a, R: Wait> Files for Machine<'a, R> {
 
     fn metadata(&self, path: &str) -> io::Result<Metadata> {
         match self.files.iter().find(|file| file.0 == path) {
-            Some((".", _)) => Ok(Metadata::of_dir()),
-            Some((_, bytes)) => Ok(Metadata::of_file(bytes.len() as u64)),
+            Some((".", _)) => return Ok(Metadata::of_dir()),
+            Some((_, bytes)) => return Ok(Metadata::of_file(bytes.len() as u64)),
+            None => {}
+        }
+        let disk = self.disk.lock(self.host);
+        match disk.find(path) {
+            Some(number) => Ok(Metadata::of_file(disk.bytes(number).len() as u64)),
             None => Err(Error::from(ErrorKind::NotFound)),
         }
     }
@@ -354,12 +420,16 @@ impl<'a, R: Wait> Files for Machine<'a, R> {
         unsupported()
     }
 
-    fn rename(&self, _from: &str, _to: &str) -> io::Result<()> {
-        unsupported()
+    fn rename(&self, from: &str, to: &str) -> io::Result<()> {
+        let names = format!(in self.alloc; "{from}={to}")?;
+        self.note("", names)?;
+        self.disk.lock(self.host).rename(from, to)
     }
 
-    fn remove_file(&self, _path: &str) -> io::Result<()> {
-        unsupported()
+    fn remove_file(&self, path: &str) -> io::Result<()> {
+        self.note("-", path)?;
+        self.disk.lock(self.host).remove(path);
+        Ok(())
     }
 
     fn create_dir(&self, _path: &str) -> io::Result<()> {

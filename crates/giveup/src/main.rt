@@ -7,6 +7,8 @@ mod checking;
 mod day;
 mod digesting;
 #[cfg(test)]
+mod disk;
+#[cfg(test)]
 mod ending_tests;
 #[cfg(test)]
 mod engines;
@@ -19,9 +21,13 @@ mod fixing;
 mod heading;
 #[cfg(test)]
 mod help_tests;
+mod journal_ending;
 mod journal_file;
+mod journal_name;
+mod journal_opening;
 #[cfg(test)]
 mod largest_tests;
+mod locking;
 #[cfg(test)]
 mod machine;
 mod progress;

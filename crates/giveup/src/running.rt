@@ -6,6 +6,7 @@ use crate::error::{ConsoleFault, RunError};
 use crate::fault::{Fault, Faults, Place};
 use crate::files::{reference_at, world_after};
 use crate::fixing::fix;
+use crate::locking::Locks;
 use crate::progress::Told;
 use crate::replaying::replay;
 use crate::sample::{sample_day, sample_reference};
@@ -184,7 +185,10 @@ fn perform<
         + Sync
         + Alloc<A = Global>,
     T: Write + Send + Drop,
->(rt: &R, words: &'a [String], terminal: Option<T>, is_typed: bool) -> Result<Status, Faults<'a>> {
+>(rt: &R, words: &'a [String], terminal: Option<T>, is_typed: bool) -> Result<Status, Faults<'a>>
+where
+    R::File: Locks + Send,
+{
     match read(rt.alloc(), words) {
         Ok(Task::Capture) => {
             if is_typed && terminal.is_some() {
@@ -245,7 +249,10 @@ pub fn status_of<
         + Sync
         + Alloc<A = Global>,
     T: Write + Send + Drop,
->(rt: &R, terminal: Option<T>, is_typed: bool) -> Status {
+>(rt: &R, terminal: Option<T>, is_typed: bool) -> Status
+where
+    R::File: Locks + Send,
+{
     let is_at_terminal = terminal.is_some();
     match given(rt) {
         Ok(words) => {

@@ -1,9 +1,12 @@
 //! Runs of the program on a machine of the tests' own. A row is the words, ` < ` and standard input; and, after ` -> `, the status, what
-//! was asked for (`opened` of the machine), `; `, standard output, `; ` and standard error; and `; ` and what was written to the file
-//! `log`, if anything was. `/` ends a line, and `|` is SOH. The file `house` is the sample, `bad` has an eighteenth row that is none, `day`
+//! was asked for (`opened` of the machine), `; `, standard output, `; ` and standard error; and `; ` and what the file `log` has without
+//! the zeros at its end, if anything. `/` ends a line, and `|` is SOH. The file `house` is the sample, `bad` has an eighteenth row that is none, `day`
 //! opens a day, the second line of `two` is bad, three lines of `amiss` do nothing, and after `traded` E1 may give up ten lots. Nothing can
-//! be written to these, nor to `stuck`, which is empty. `.` is a folder. The digest of the sample is what sha256sum prints.
+//! be written to these, nor to `stuck`, which is empty; `worn` takes an opening and nothing else. `.` is a folder. Of the journals `alien`
+//! is of another reference, `edited` has another digest, `decayed` a bad line, `padded` too much after its text, and another program has
+//! `held`. The digests are what sha256sum prints: of the sample, of 32 zeros and `1 OK` with its LF, and of that digest and `2 OK OPEN`.
 
+use crate::disk::{Disk, Kind};
 use crate::machine::{Machine, Setting};
 use crate::rows::check_told;
 use crate::running::status_of;
@@ -57,7 +60,7 @@ giveup fix E1 lost --script gone < x -> 1 lost ; ; giveup: reference: ReadFault/
 giveup fix e1 lost < x -> 2 ; ; error: invalid value for '<FIRM>': a firm is 1 to 12 of A-Z, 0-9 and -//Usage: giveup fix [OPTIONS] <FIRM> <REF>//For more information, try '--help'./
 giveup check --help < x -> 0 ; Checks the sweep sheet on standard input: prints OK and its lots, or its first fault//Usage: giveup check//Options:/  -h, --help  Print help//Example: giveup check < three-agreements.sheet/;
 giveup claim < x -> 2 ; ; error: unrecognized subcommand 'claim'//Usage: giveup [COMMAND]//For more information, try '--help'./
-giveup --version < x -> 0 ; giveup 0.1.0, proved with rattle-kit-13b (logic dac8208d650f15bf)/;
+giveup --version < x -> 0 ; giveup 0.1.0, proved with rattle-kit-13f (logic dac8208d650f15bf)/;
 giveup serve house 9878 < x -> 1 house 127.0.0.1:9878 ; ; giveup: read fault/
 giveup serve house 41 --script day < x -> 1 house day 127.0.0.1:41 ; ; giveup: read fault/
 giveup serve house 9878 --script two < x -> 1 house two ; ; giveup: bad line 2/
@@ -67,6 +70,13 @@ giveup serve house 9878 --journal day < x -> 1 house ; ; giveup: journal: NotEmp
 giveup serve house 9878 --journal . < x -> 1 house ; ; giveup: journal: NotAFile/giveup: .: it isn't a file/
 giveup serve house 9878 --journal gone < x -> 1 house +gone ; ; giveup: write fault/
 giveup serve house 9878 --script two --journal log < x -> 1 house two ; ; giveup: bad line 2/
+giveup serve house 9878 --journal log --resume < x -> 1 house +log +log.new !log.new 127.0.0.1:9878 -log.new ; ; giveup: read fault/
+giveup serve house 9878 --journal stuck < x -> 1 house +stuck +stuck.new ; ; giveup: write fault/
+giveup serve house 9878 --journal held --resume < x -> 1 house +held ; ; giveup: journal: InUse/giveup: held: another desk has it/
+giveup serve house 9878 --journal alien --resume < x -> 1 house +alien ; ; giveup: journal: Reference/giveup: alien: it is the journal of a day of another reference/
+giveup serve house 9878 --journal edited --resume < x -> 1 house +edited ; ; giveup: journal: Differs 1/giveup: edited: its lines don't lead to the answers that it has a digest of/
+giveup serve house 9878 --journal decayed --resume < x -> 1 house +decayed ; ; giveup: journal: bad line 4/giveup: decayed: the line isn't one that may be there/
+giveup serve house 9878 --journal padded --resume < x -> 1 house +padded ; ; giveup: journal: Damaged/giveup: padded: more is after its text than a torn batch, and it is left as it is/
 giveup serve house 0 < x -> 2 ; ; error: invalid value '0' for '<PORT>': 0 is not in 1..=65535//For more information, try '--help'./
 ";
 
@@ -109,22 +119,76 @@ giveup fix E1 house < 8=FIXT.1.1|9=66|35=A|49=E1|56=GIVEUP|34=1|52=20260105-09:0
 /// Days on the machine's port, to which one firm has connected: it sends this input, and waits for the end of its connection.
 const SERVED: &str = "\
 giveup serve house 9878 --script day --connections 1 < 8=FIXT.1.1|9=66|35=A|49=E1|56=GIVEUP|34=1|52=20260105-09:00:00|98=0|108=30|1137=9|10=004|8=FIXT.1.1|9=112|35=AE|49=E1|56=GIVEUP|34=2|52=20260105-09:00:00|571=R1|880=M1|55=XF6|32=10|31=101.5|75=20260105|552=1|54=1|1=H1|10=236| -> 0 house day 127.0.0.1:9878 ; ENTRIES 2/SWEPT 0/AUDIT OK/;
-giveup serve house 9878 --script day --connections 1 --journal log < 8=FIXT.1.1|9=66|35=A|49=E1|56=GIVEUP|34=1|52=20260105-09:00:00|98=0|108=30|1137=9|10=004|8=FIXT.1.1|9=112|35=AE|49=E1|56=GIVEUP|34=2|52=20260105-09:00:00|571=R1|880=M1|55=XF6|32=10|31=101.5|75=20260105|552=1|54=1|1=H1|10=236| -> 0 house day +log 127.0.0.1:9878 !log . !. ; ENTRIES 2/SWEPT 0/AUDIT OK/; ; # giveup 0.1.0, proved with rattle-kit-13b (logic dac8208d650f15bf)/# reference: SHA-256 8167b5abead291b098903bd30fe0583fc384d2e678c4feae8d5f0182aa6165f4/# opened: 2026-01-05T09:00:00Z/DAY 20260105/REPORT E1 R1 M1 B XF6 10 101.5 H1/
-giveup serve house 9878 --script day --connections 1 --journal stuck < 8=FIXT.1.1|9=66|35=A|49=E1|56=GIVEUP|34=1|52=20260105-09:00:00|98=0|108=30|1137=9|10=004|8=FIXT.1.1|9=112|35=AE|49=E1|56=GIVEUP|34=2|52=20260105-09:00:00|571=R1|880=M1|55=XF6|32=10|31=101.5|75=20260105|552=1|54=1|1=H1|10=236| -> 1 house day +stuck 127.0.0.1:9878 ; ENTRIES 2/SWEPT 0/AUDIT OK/; giveup: write fault/
+giveup serve house 9878 --script day --connections 1 --journal log < 8=FIXT.1.1|9=66|35=A|49=E1|56=GIVEUP|34=1|52=20260105-09:00:00|98=0|108=30|1137=9|10=004|8=FIXT.1.1|9=112|35=AE|49=E1|56=GIVEUP|34=2|52=20260105-09:00:00|571=R1|880=M1|55=XF6|32=10|31=101.5|75=20260105|552=1|54=1|1=H1|10=236| -> 0 house day +log +log.new !log.new 127.0.0.1:9878 log.new=log . !. !log.new ; ENTRIES 2/SWEPT 0/AUDIT OK/; ; # giveup 0.1.0, proved with rattle-kit-13f (logic dac8208d650f15bf)/# reference: SHA-256 8167b5abead291b098903bd30fe0583fc384d2e678c4feae8d5f0182aa6165f4/# opened: 2026-01-05T09:00:00Z/DAY 20260105/# 1 087463b66c4a0bef301fae1c9da17125a35ee073bc886113b17bdebdcc15eb43/# 20260105-09:00:00.000 E1 1 2/REPORT E1 R1 M1 B XF6 10 101.5 H1/# 2 f7a1e81ddc4699d97f0dd50273a849abc37ad8ffdbf90d5a612000d801439a2a/
+giveup serve house 9878 --script day --connections 1 --journal worn < 8=FIXT.1.1|9=66|35=A|49=E1|56=GIVEUP|34=1|52=20260105-09:00:00|98=0|108=30|1137=9|10=004|8=FIXT.1.1|9=112|35=AE|49=E1|56=GIVEUP|34=2|52=20260105-09:00:00|571=R1|880=M1|55=XF6|32=10|31=101.5|75=20260105|552=1|54=1|1=H1|10=236| -> 1 house day +worn +worn.new !worn.new 127.0.0.1:9878 worn.new=worn . !. ; ; giveup: write fault/giveup: worn: no storage space; entries that it has: 1/
 giveup serve house 9878 --script traded --connections 1 --every 0 < 8=FIXT.1.1|9=66|35=A|49=E1|56=GIVEUP|34=1|52=20260105-09:00:00|98=0|108=30|1137=9|10=004|8=FIXT.1.1|9=93|35=J|49=E1|56=GIVEUP|34=2|52=20260105-09:00:00|70=L1|71=0|53=10|124=1|17=R1|78=1|79=A1|80=10|10=229| -> 0 house traded 127.0.0.1:9878 ; ENTRIES 8/SWEPT 0/AUDIT OK/;
 giveup serve house 9878 --script traded --connections 1 --every 1 < 8=FIXT.1.1|9=66|35=A|49=E1|56=GIVEUP|34=1|52=20260105-09:00:00|98=0|108=30|1137=9|10=004|8=FIXT.1.1|9=93|35=J|49=E1|56=GIVEUP|34=2|52=20260105-09:00:00|70=L1|71=0|53=10|124=1|17=R1|78=1|79=A1|80=10|10=229| -> 0 house traded 127.0.0.1:9878 ; ENTRIES 9/SWEPT 10/AUDIT OK/;
 ";
 
 /// A day whose lines can't be printed: its journal is written all the same, and both faults are said.
 const UNPRINTED: &str = "\
-giveup serve house 9878 --script day --connections 1 --journal log < 8=FIXT.1.1|9=66|35=A|49=E1|56=GIVEUP|34=1|52=20260105-09:00:00|98=0|108=30|1137=9|10=004|8=FIXT.1.1|9=112|35=AE|49=E1|56=GIVEUP|34=2|52=20260105-09:00:00|571=R1|880=M1|55=XF6|32=10|31=101.5|75=20260105|552=1|54=1|1=H1|10=236| -> 1 house day +log 127.0.0.1:9878 !log . !. ; ; giveup: write fault/; # giveup 0.1.0, proved with rattle-kit-13b (logic dac8208d650f15bf)/# reference: SHA-256 8167b5abead291b098903bd30fe0583fc384d2e678c4feae8d5f0182aa6165f4/# opened: 2026-01-05T09:00:00Z/DAY 20260105/REPORT E1 R1 M1 B XF6 10 101.5 H1/
-giveup serve house 9878 --script day --connections 1 --journal stuck < 8=FIXT.1.1|9=66|35=A|49=E1|56=GIVEUP|34=1|52=20260105-09:00:00|98=0|108=30|1137=9|10=004|8=FIXT.1.1|9=112|35=AE|49=E1|56=GIVEUP|34=2|52=20260105-09:00:00|571=R1|880=M1|55=XF6|32=10|31=101.5|75=20260105|552=1|54=1|1=H1|10=236| -> 1 house day +stuck 127.0.0.1:9878 ; ; giveup: write fault/giveup: write fault/
+giveup serve house 9878 --script day --connections 1 --journal log < 8=FIXT.1.1|9=66|35=A|49=E1|56=GIVEUP|34=1|52=20260105-09:00:00|98=0|108=30|1137=9|10=004|8=FIXT.1.1|9=112|35=AE|49=E1|56=GIVEUP|34=2|52=20260105-09:00:00|571=R1|880=M1|55=XF6|32=10|31=101.5|75=20260105|552=1|54=1|1=H1|10=236| -> 1 house day +log +log.new !log.new 127.0.0.1:9878 log.new=log . !. !log.new ; ; giveup: write fault/; # giveup 0.1.0, proved with rattle-kit-13f (logic dac8208d650f15bf)/# reference: SHA-256 8167b5abead291b098903bd30fe0583fc384d2e678c4feae8d5f0182aa6165f4/# opened: 2026-01-05T09:00:00Z/DAY 20260105/# 1 087463b66c4a0bef301fae1c9da17125a35ee073bc886113b17bdebdcc15eb43/# 20260105-09:00:00.000 E1 1 2/REPORT E1 R1 M1 B XF6 10 101.5 H1/# 2 f7a1e81ddc4699d97f0dd50273a849abc37ad8ffdbf90d5a612000d801439a2a/
 ";
 
-/// A day at a terminal whose journal can't be written.
-const UNWRITTEN: &str = "\
-giveup serve house 9878 --script day --connections 1 --journal stuck < x -> 1 house day +stuck 127.0.0.1:9878 ; ENTRIES 1/SWEPT 0/AUDIT OK/; giveup: write fault/giveup: stuck: it couldn't be written to its end/
+/// A day that goes on: of its journal a torn line is cut off.
+const RESUMED: &str = "\
+giveup serve house 9878 --script gone --connections 1 --journal log --resume < 8=FIXT.1.1|9=66|35=A|49=E1|56=GIVEUP|34=1|52=20260105-09:00:00|98=0|108=30|1137=9|10=004|8=FIXT.1.1|9=112|35=AE|49=E1|56=GIVEUP|34=2|52=20260105-09:00:00|571=R1|880=M1|55=XF6|32=10|31=101.5|75=20260105|552=1|54=1|1=H1|10=236| -> 0 house +log !log 127.0.0.1:9878 !log ; ENTRIES 2/SWEPT 0/AUDIT OK/; giveup: log: bytes cut after its last whole line: 6/; # giveup 0.1.0, proved with rattle-kit-13f (logic dac8208d650f15bf)/# reference: SHA-256 8167b5abead291b098903bd30fe0583fc384d2e678c4feae8d5f0182aa6165f4/# opened: 2026-01-05T09:00:00Z/DAY 20260105/# 1 087463b66c4a0bef301fae1c9da17125a35ee073bc886113b17bdebdcc15eb43/# giveup 0.1.0, proved with rattle-kit-13f (logic dac8208d650f15bf)/# resumed: 2026-01-05T09:00:00Z/# 20260105-09:00:00.000 E1 1 2/REPORT E1 R1 M1 B XF6 10 101.5 H1/# 2 f7a1e81ddc4699d97f0dd50273a849abc37ad8ffdbf90d5a612000d801439a2a/
 ";
+
+/// The head of the sample's journal, and a day.
+const JOURNAL: &[u8] = b"# giveup 0.1.0, proved with rattle-kit-13f (logic dac8208d650f15bf)
+# reference: SHA-256 8167b5abead291b098903bd30fe0583fc384d2e678c4feae8d5f0182aa6165f4
+# opened: 2026-01-05T09:00:00Z
+DAY 20260105
+";
+
+/// The digest after the day's one entry.
+const DIGEST: &[u8] = b"# 1 087463b66c4a0bef301fae1c9da17125a35ee073bc886113b17bdebdcc15eb43
+";
+
+/// Returns the text of a journal whose head is this, with what comes after it.
+fn text_of(alloc: Global, head: &[u8], rest: &[u8]) -> Result<Vec<u8>, AllocError> {
+    let mut text = Vec::from_slice(alloc, head)?;
+    text.extend_from_slice(rest)?;
+    Ok(text)
+}
+
+/// Returns the files of a machine that can be written.
+fn disk_of(alloc: Global, setting: Setting) -> Result<Disk, AllocError> {
+    let mut disk = Disk::new(alloc);
+    let mut torn = text_of(alloc, JOURNAL, DIGEST)?;
+    torn.extend_from_slice(b"REPORT\0\0\0")?;
+    let log = if setting == Setting::Logged {
+        torn.as_slice()
+    } else {
+        b""
+    };
+    disk.add("log", Kind::Sound, log)?;
+    disk.add("stuck", Kind::Stuck, b"")?;
+    disk.add("worn", Kind::Sound, b"")?;
+    disk.add("held", Kind::Held, JOURNAL)?;
+    disk.add(
+        "alien",
+        Kind::Sound,
+        b"# giveup\n# reference: SHA-256 00\nDAY 20260105\n",
+    )?;
+    let edited = text_of(
+        alloc,
+        JOURNAL,
+        b"# 1 0000000000000000000000000000000000000000000000000000000000000000\n",
+    )?;
+    disk.add("edited", Kind::Sound, &edited)?;
+    let decayed = text_of(
+        alloc,
+        JOURNAL.get(..JOURNAL.len() - 9).unwrap_or(&[]),
+        b"2026x105\n",
+    )?;
+    disk.add("decayed", Kind::Sound, &decayed)?;
+    let mut padded = text_of(alloc, JOURNAL, b"\0")?;
+    padded.resize(padded.len() + 1_048_577, b'x')?;
+    disk.add("padded", Kind::Sound, &padded)?;
+    Ok(disk)
+}
 
 /// Returns what a run on a machine did. A terminal's notes are appended to `notes`.
 fn run<R: Threads + Wait + Sync>(
@@ -143,7 +207,7 @@ fn run<R: Threads + Wait + Sync>(
     let opened = shown(alloc, machine.opened.lock(host).as_slice())?;
     let out = shown(alloc, machine.out.lock(host).as_slice())?;
     let err = shown(alloc, machine.err.lock(host).as_slice())?;
-    let log = shown(alloc, machine.log.lock(host).as_slice())?;
+    let log = shown(alloc, machine.disk.lock(host).text_of("log"))?;
     drop(machine);
     let end = if log.is_empty() { "" } else { "; " };
     format!(in alloc; "{number} {opened}; {out}; {err}{end}{log}")
@@ -163,7 +227,7 @@ fn told<R: Threads + Wait + Sync + Alloc<A = Global>>(
     let input = wire(alloc, input)?;
     let mut bad = Vec::from_slice(alloc, ROWS)?;
     bad.extend_from_slice(b"FIRM\n")?;
-    let log = Mutex::new(Vec::new(alloc));
+    let disk = Mutex::new(disk_of(alloc, setting)?);
     let opened = Mutex::new(Vec::new(alloc));
     let machine = Machine {
         host,
@@ -176,14 +240,12 @@ fn told<R: Threads + Wait + Sync + Alloc<A = Global>>(
             ("two", b"DAY 20260105\nDAY\n"),
             ("amiss", AMISS),
             ("traded", TRADED),
-            ("log", b""),
-            ("stuck", b""),
             (".", b""),
         ],
         input: input.as_bytes(),
         setting,
         port: Mutex::new(port),
-        log: &log,
+        disk: &disk,
         out: Mutex::new(Vec::new(alloc)),
         err: Mutex::new(Vec::new(alloc)),
         opened: &opened,
@@ -308,6 +370,6 @@ fn a_day_whose_lines_cant_be_printed_has_its_journal(rt: HostRuntime) {
 }
 
 #[test]
-fn a_journal_that_cant_be_written_is_named_at_a_terminal(rt: HostRuntime) {
-    check_served(&rt, Setting::Watched, UNWRITTEN);
+fn a_day_goes_on_in_its_journal(rt: HostRuntime) {
+    check_served(&rt, Setting::Logged, RESUMED);
 }

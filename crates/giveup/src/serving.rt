@@ -1,15 +1,16 @@
 //! The server: a day at a desk, on a port of this machine and at the sockets of operators.
 
-ghost use Rattle.std.specs.Prelude.{◌≡◌, ◌≤◌, IfOk};
+ghost use Rattle.std.specs.Prelude.{◌≡◌, ◌≤◌, IfOk, IfSome};
+ghost use Rattle.std.proofs.Props.{props};
+ghost use Rattle.gu_keeping.specs.Chains.{chain_of};
 
 use crate::error::{ConsoleFault, RunError};
 use crate::fault::{Fault, Place};
-use gu_book::Book;
+use gu_journal::Sink;
 use gu_office::{Addresses, ListenError};
-use gu_server::{Closed, Closers, Front, Opening, Service, serve_day};
+use gu_server::{DayJournal, Front, Opening, Served, Service, serve_day};
 use gu_sockets::{Doorway, ListenFault};
 use gu_streams::StreamError;
-use gu_terms::Receipt;
 use gu_words::{Serving, Span, UntilClosed};
 use gu_world::World;
 use std::alloc::{AllocError, Global};
@@ -116,36 +117,47 @@ pub fn listen<'a, R: Files + Net<Listener = TcpListener, Stream = TcpStream> + A
     }
 }
 
-/// Returns what a server begins a day with: a book, the receipts of its entries, and what its words say.
-fn opening_of(
+/// The world that a script or a journal led to, and the journal that has its entries, if the day has one.
+#[derive(Drop)]
+pub struct Begun<K: Sink> {
+    pub world: World,
+    pub journal: Option<DayJournal<K>>,
+    ghost journaled: { IfSome journal (λ j. j.chain ≡ chain_of world.state.book.history) } by { Prim.hlevel props },
+}
+
+/// Returns what a server begins a day with: a book, the receipts of its entries, its journal, and what its words say.
+fn opening_of<K: Sink + Drop>(
     alloc: Global,
-    book: Book,
-    receipts: Vec<Receipt>,
+    begun: Begun<K>,
     service: Service,
     every: u16,
-) -> Result<Opening, AllocError>
-    ensures book { IfOk result (λ opening. (opening.book ≡ book) × (opening.receipts ≡ receipts)) }
+) -> Result<Opening<K>, AllocError>
     ensures served { IfOk result (λ opening. (opening.service ≡ service) × (opening.every ≡ every)) }
 {
-    let mut opening = Opening::new(alloc, book, receipts, service)?;
+    let Begun { world, journal } = begun;
+    let receipts = world.outcomes().receipts(alloc)?;
+    let mut opening = Opening::new(alloc, world.into_book(), receipts, journal, service)?;
     opening.every = u64::from(every);
     Ok(opening)
 }
 
-/// Serves the connections that come in, from the world that a script led to. The receipts of the script are audited too.
+/// Serves the connections that come in, from a world. The receipts of its entries are audited too.
 pub fn serve<
     R: Net + Threads + Wait + Clock + Eprint + Sync + Alloc<A = Global>,
     T: Write + Send + Drop,
+    K: Sink + Send + Drop,
 >(
     rt: &R,
-    world: World,
+    begun: Begun<K>,
     serving: &Serving<'_>,
     front: Front<Doorway>,
     terminal: Option<T>,
-) -> Result<(Closed, Closers), StreamError> {
+) -> Result<Served<K>, StreamError>
+where
+    K::Place: Send,
+{
     let alloc = rt.alloc();
-    let receipts = world.outcomes().receipts(alloc)?;
     let service = service_of(rt, serving);
-    let opening = opening_of(alloc, world.into_book(), receipts, service, serving.every)?;
-    serve_day::<Brand, Brand, R, T, Doorway>(rt, alloc, opening, front, terminal)
+    let opening = opening_of(alloc, begun, service, serving.every)?;
+    serve_day::<Brand, Brand, R, T, Doorway, K>(rt, alloc, opening, front, terminal)
 }

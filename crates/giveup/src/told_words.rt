@@ -4,7 +4,7 @@ use crate::engines::end_text;
 use crate::error::RunError;
 use crate::rows::check_told;
 use clap::Error;
-use gu_words::{Counted, Serving, Span, Task, UntilClosed, answer, read};
+use gu_words::{Counted, Journal, Serving, Span, Task, UntilClosed, answer, read};
 use std::alloc::{AllocError, Global};
 use std::cell::Cell;
 use std::fmt::Display;
@@ -137,10 +137,15 @@ fn serving_text(alloc: Global, serving: Serving<'_>) -> Result<String, AllocErro
         watch,
     } = serving;
     let script = script.unwrap_or("no script");
-    let journal = journal.unwrap_or("no journal");
+    let (journal, goes_on) = match journal {
+        Some(Journal { path, resumes }) => (path, if resumes { " resumed" } else { "" }),
+        None => ("no journal", ""),
+    };
     let watch = watch.unwrap_or("no watch");
     let span = span_text(alloc, span)?;
-    format!(in alloc; "serve {reference} {port}, {script}, {journal}, {span}, {watch}, {every}")
+    format!(in alloc;
+        "serve {reference} {port}, {script}, {journal}{goes_on}, {span}, {watch}, {every}"
+    )
 }
 
 /// The lines for a desk, as words.

@@ -20,6 +20,8 @@ giveup serve house.csv 09878 -> serve house.csv 9878, no script, no journal, 8 i
 giveup serve house.csv 9878 --script day -> serve house.csv 9878, day, no journal, 8 in all, no console, no watch, 16
 giveup serve house.csv 9878 --journal log -> serve house.csv 9878, no script, log, 8 in all, no console, no watch, 16
 giveup serve house.csv 9878 --journal=log --script day -> serve house.csv 9878, day, log, 8 in all, no console, no watch, 16
+giveup serve house.csv 9878 --journal log --resume -> serve house.csv 9878, no script, log resumed, 8 in all, no console, no watch, 16
+giveup serve --resume house.csv 9878 --script day --journal=log -> serve house.csv 9878, day, log resumed, 8 in all, no console, no watch, 16
 giveup serve house.csv 9878 --connections 1 -> serve house.csv 9878, no script, no journal, 1 in all, no console, no watch, 16
 giveup serve house.csv 9878 --connections 32 -> serve house.csv 9878, no script, no journal, 32 in all, no console, no watch, 16
 giveup serve house.csv 9878 --every 0 -> serve house.csv 9878, no script, no journal, 8 in all, no console, no watch, 0
@@ -66,6 +68,10 @@ giveup --sheet -> UnknownArgument 2
 giveup check sheet -> UnknownArgument 2
 giveup check check -> UnknownArgument 2
 giveup fix E1 house.csv E2 -> UnknownArgument 2
+giveup fix E1 house.csv --resume -> UnknownArgument 2
+giveup replay house.csv --journal log -> UnknownArgument 2
+giveup serve house.csv 9878 --resume -> MissingRequiredArgument 2
+giveup serve house.csv 9878 --journal log --resume=yes -> ArgumentConflict 2
 giveup fix -> MissingRequiredArgument 2
 giveup fix E1 -> MissingRequiredArgument 2
 giveup replay -> MissingRequiredArgument 2

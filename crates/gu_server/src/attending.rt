@@ -2,13 +2,12 @@
 
 use crate::crew::Crew;
 use crate::floor::Floor;
-use crate::floor_office::FloorOffice;
 use crate::informer::Informer;
 use crate::talking::talk;
 use crossbeam_channel::{Receiver, Sender};
 use gu_console::{Console, Operator, Said};
-use gu_desk::{Desk, EntryLedger, LotLedger};
-use gu_houses::{SeatReceipts, Tally};
+use gu_desk::{EntryLedger, LotLedger};
+use gu_houses::SeatReceipts;
 use gu_streams::StreamError;
 use std::alloc::{AllocError, Global};
 use std::os::unix::net::UnixStream;
@@ -19,101 +18,69 @@ use std::thread::{Scope, Threads};
 /// How many operators wait for a thread at most.
 const MOST_WAITING: usize = 16;
 
-/// An operator's connection that was accepted.
-#[derive(Drop)]
-pub struct OperatorCall {
-    /// The connection itself, whose reads and writes wait.
-    pub stream: UnixStream,
-    /// Whether its operator may only look.
-    pub is_watch: bool,
-}
-
 /// Where the operators of one socket go, and where they come from.
 #[derive(Drop)]
 pub struct OperatorEnds {
-    pub to: Sender<OperatorCall>,
-    from: Receiver<OperatorCall>,
+    pub to: Sender<UnixStream>,
+    from: Receiver<UnixStream>,
+    /// Whether they may only look.
+    is_watch: bool,
 }
 
 impl OperatorEnds {
     /// Creates those of a socket.
-    pub fn new(alloc: Global) -> Result<Self, AllocError> {
+    pub fn new(alloc: Global, is_watch: bool) -> Result<Self, AllocError> {
         let (to, from) = crossbeam_channel::bounded(alloc, MOST_WAITING)?;
-        Ok(OperatorEnds { to, from })
+        Ok(OperatorEnds { to, from, is_watch })
     }
 
     /// Returns where they go.
-    pub fn into_sender(self) -> Sender<OperatorCall> {
-        let OperatorEnds { to, from } = self;
+    pub fn into_sender(self) -> Sender<UnixStream> {
+        let OperatorEnds {
+            to,
+            from,
+            is_watch: _,
+        } = self;
         drop(from);
         to
     }
 }
 
-/// Answers an operator from a seat, over a desk whose parts are lent one by one. The seat comes back.
-fn attend_at<E: EntryLedger, S: LotLedger, R: Wait + Clock>(
-    rt: &R,
-    desk: &Desk<E, S>,
-    tally: &Tally,
-    informer: &Informer<'_>,
-    floor: &Floor<'_, E, S, R>,
-    call: &OperatorCall,
-    seat: SeatReceipts<E, S>,
-) -> (SeatReceipts<E, S>, Said) {
-    let office = FloorOffice::new(floor);
-    let console = Console {
+/// Returns what the operators of one socket have in common.
+fn console_of<'s, E: EntryLedger, S: LotLedger, R: Wait + Clock>(
+    floor: &'s Floor<'s, E, S, R>,
+    is_watch: bool,
+) -> Console<'s, E, S, R, Floor<'s, E, S, R>, Informer<'s, R>> {
+    Console {
         alloc: floor.alloc,
-        rt,
-        desk,
-        office: &office,
-        tally,
-        informs: informer,
-        is_watch: call.is_watch,
-    };
-    let mut operator = Operator::new(console, seat);
-    let said = talk(floor, &mut operator, &call.stream);
-    (operator.into_seat(), said)
-}
-
-/// Answers an operator from a seat until its connection ends, or until the day is over. The seat comes back. An operator that closed the day is
-/// kept, since it waits for the last lines.
-fn attend<E: EntryLedger, S: LotLedger, R: Wait + Clock>(
-    floor: &Floor<'_, E, S, R>,
-    call: OperatorCall,
-    seat: SeatReceipts<E, S>,
-) -> SeatReceipts<E, S> {
-    let (seat, said) = attend_at(
-        floor.rt,
-        floor.desk,
-        floor.tally,
-        floor.informer,
-        floor,
-        &call,
-        seat,
-    );
-    let OperatorCall {
-        stream,
-        is_watch: _,
-    } = call;
-    match said {
-        Said::Closes => floor.keep_closer(stream),
-        Said::GoesOn => drop(stream),
+        rt: floor.rt,
+        desk: floor.desk,
+        office: floor,
+        tally: floor.tally,
+        informs: floor.informer,
+        is_watch,
     }
-    seat
 }
 
-/// Waits for a seat, and answers one operator after another from it, until no more come.
-fn attend_all<E: EntryLedger, S: LotLedger, R: Wait + Clock>(
-    floor: &Floor<'_, E, S, R>,
+/// Waits for a seat, and answers one operator after another from it, until no more come. An operator that closed the day is kept, since it
+/// waits for the last lines.
+fn attend_all<'s, E: EntryLedger, S: LotLedger, R: Wait + Clock>(
+    floor: &'s Floor<'s, E, S, R>,
+    is_watch: bool,
     seats: Receiver<SeatReceipts<E, S>>,
-    calls: Receiver<OperatorCall>,
+    calls: Receiver<UnixStream>,
 ) -> Option<SeatReceipts<E, S>> {
-    let mut seat = seats.recv(floor.rt).ok()?;
+    let seat = seats.recv(floor.rt).ok()?;
     drop(seats);
-    for call in calls.iter(floor.rt) {
-        seat = attend(floor, call, seat);
+    let mut operator = Operator::new(console_of(floor, is_watch), seat);
+    for stream in calls.iter(floor.rt) {
+        operator.begin();
+        match talk(floor, &mut operator, &stream) {
+            Said::Closes => floor.keep_closer(stream),
+            Said::GoesOn => drop(stream),
+        }
     }
-    Some(seat)
+    Some(operator.into_seat())
 }
 
 /// Starts a thread that answers the operators of a socket, and gives it a seat.
@@ -127,11 +94,13 @@ fn start_attendant<
     scope: &Scope<'s, X>,
     floor: &'s Floor<'s, E, S, R>,
     crew: &mut Crew<E, S>,
-    calls: Receiver<OperatorCall>,
+    ends: &OperatorEnds,
 ) -> Result<(), StreamError> {
     crew.reserve()?;
+    let is_watch = ends.is_watch;
+    let calls = ends.from.clone()?;
     let (to, seats) = crossbeam_channel::bounded(floor.alloc, 1)?;
-    match scope.spawn(move || attend_all(floor, seats, calls)) {
+    match scope.spawn(move || attend_all(floor, is_watch, seats, calls)) {
         Ok(attendant) => crew.add(attendant),
         Err(_) => return Err(StreamError::Memory),
     }
@@ -154,8 +123,7 @@ pub fn start_attendants<
     threads: usize,
 ) -> Result<(), StreamError> {
     for _attendant in 0..threads {
-        let calls = ends.from.clone()?;
-        start_attendant(scope, floor, crew, calls)?;
+        start_attendant(scope, floor, crew, ends)?;
     }
     Ok(())
 }

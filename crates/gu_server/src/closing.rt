@@ -8,7 +8,6 @@ ghost use Rattle.gu_server.specs.DayEnds.{Finds, audit_text, day_text};
 ghost use Rattle.gu_server.specs.Receipts.{AddsReceipts, EndsWith};
 
 use crate::day_receipts::DayReceipts;
-use crate::serving::Shift;
 use gu_book::Book;
 use gu_desk::{AuditFault, Desk, EntryLedger, LotLedger, Seat};
 use gu_houses::SeatReceipts;
@@ -161,16 +160,16 @@ fn apart<E: EntryLedger, S: LotLedger>(
 /// Closes a desk with what its threads handed back. The receipts come after those that there were before.
 pub fn close<E: EntryLedger, S: LotLedger>(
     desk: Desk<E, S>,
-    shift: Shift<E, S>,
+    keeping: Vec<SeatReceipts<E, S>>,
+    fault: Option<StreamError>,
     ending: Ending<E, S>,
 ) -> Result<Closed, StreamError>
     ensures reference { IfOk result (λ closed. closed.book.reference ≡ E.reference) }
     ensures lots { IfOk result (λ closed. S.opening ≤ lots_swept closed.book.history) }
     ensures receipts { IfOk result (λ closed. AddsReceipts E.opening ending.receipts closed.book.history closed.receipts) }
     ensures count { length ending.receipts ≡ length E.opening → IfOk result (λ closed. length closed.receipts ≡ length closed.book.history) }
-    ensures fault { IfOk result (λ closed. closed.fault ≡ shift.fault) }
+    ensures fault { IfOk result (λ closed. closed.fault ≡ fault) }
 {
-    let (keeping, fault) = shift.into_parts();
     let (seats, mut receipts) = ending.into_parts();
     let seats = apart(keeping, seats, &mut receipts)?;
     match desk.close(seats) {

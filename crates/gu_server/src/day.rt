@@ -1,8 +1,10 @@
 //! A day of the server.
 
-ghost use Rattle.std.specs.Prelude.{◌≡◌, ◌+◌, ◌≤◌, All, length, IfOk};
+ghost use Rattle.std.specs.Prelude.{◌≡◌, ◌+◌, ◌≤◌, All, length, IfOk, IfSome};
+ghost use Rattle.std.proofs.Props.{props};
 ghost use Rattle.gu_terms.specs.Histories.{lots_swept};
 ghost use Rattle.gu_desk.specs.Seats.{IsNew};
+ghost use Rattle.gu_keeping.specs.Chains.{chain_of};
 ghost use Rattle.gu_server.specs.Receipts.{AddsReceipts};
 
 use crate::closers::Closers;
@@ -11,11 +13,17 @@ use crate::entrance::LetsIn;
 use crate::firm_places::FirmPlaces;
 use crate::floor::Floor;
 use crate::informer::Informer;
+use crate::journal_end::{JournalEnd, journal_end};
+use crate::keeping::News;
+use crate::kept_bell::KeptBell;
 use crate::service::Service;
-use crate::serving::{Posting, shift_at};
+use crate::serving::{Posting, Shift, Writing, shift_at};
+use crossbeam_channel::Sender;
 use gu_book::Book;
-use gu_desk::{BlankAnnals, Desk, EntryLedger, LotLedger, Seat};
+use gu_desk::{BlankAnnals, Desk, EntryLedger, Front as Beginning, LotLedger, Seat};
 use gu_houses::{OpenOrders, SeatReceipts, Tally};
+use gu_journal::Sink;
+use gu_keeping::{Chain, Keeper};
 use gu_posts::Posts;
 use gu_sockets::{PollBell, SocketPoller};
 use gu_streams::StreamError;
@@ -32,14 +40,25 @@ use std::thread::Threads;
 /// How many milliseconds answers to a connection are held of which none goes out.
 pub const WRITE_WAIT_MS: u64 = 10_000;
 
+/// The journal of a day, which has the lines of each entry that the day begins with.
+#[derive(Drop)]
+pub struct DayJournal<K: Sink> {
+    /// Where its text is kept.
+    pub sink: K,
+    /// These entries in short.
+    pub chain: Chain,
+}
+
 /// What a server begins a day with.
 #[derive(Drop)]
-pub struct Opening {
+pub struct Opening<K: Sink> {
     pub book: Book,
     /// The book's history, as it will go on.
     pub annals: BlankAnnals,
     /// The receipts of the entries that the book has.
     pub receipts: Vec<Receipt>,
+    /// The journal that is written while the day goes on, if there is one.
+    pub journal: Option<DayJournal<K>>,
     /// How firms are served.
     pub service: Service,
     /// The order of every K-th accepted give-up of a connection, K being this, is sent to the sweepers; with 0, none is.
@@ -50,19 +69,23 @@ pub struct Opening {
     pub entries: Blank,
     pub swept: Blank,
     ghost told: { annals.entries ≡ book.history },
+    ghost journaled: { IfSome journal (λ j. j.chain ≡ chain_of book.history) } by { Prim.hlevel props },
     ghost parts: { entries.parts ≡ service.workers + service.operators + service.watchers + 3 },
     ghost swept_parts: { swept.parts ≡ service.workers + service.operators + service.watchers + 3 },
 }
 
-impl Opening {
+impl<K: Sink + Drop> Opening<K> {
     /// Returns what a day begins with that has no orders of sweeps, until `every` says otherwise.
     pub fn new(
         alloc: Global,
         book: Book,
         receipts: Vec<Receipt>,
+        journal: Option<DayJournal<K>>,
         service: Service,
     ) -> Result<Self, AllocError>
+        requires { IfSome journal (λ j. j.chain ≡ chain_of book.history) }
         ensures book { IfOk result (λ opening. (opening.book ≡ book) × (opening.receipts ≡ receipts)) }
+        ensures journal { IfOk result (λ opening. opening.journal ≡ journal) }
         ensures served { IfOk result (λ opening. (opening.service ≡ service) × (opening.every ≡ 0) × (opening.write_wait_ms ≡ 10000)) }
     {
         let annals = BlankAnnals::of(alloc, &book)?;
@@ -71,6 +94,7 @@ impl Opening {
             book,
             annals,
             receipts,
+            journal,
             service,
             every: 0,
             write_wait_ms: WRITE_WAIT_MS,
@@ -104,6 +128,53 @@ fn opened<E: EntryLedger, S: LotLedger>(
             Err(refused)
         }
     }
+}
+
+/// How the day is written: what is told of entries, and what keeps them.
+#[derive(Drop)]
+struct Pen<E: EntryLedger, K: Sink> {
+    news: Option<Sender<News>>,
+    writing: Option<Writing<E, K>>,
+}
+
+/// Returns the beginning of a desk's history that its last seat has seen, if it has a seat. The seats stay as they are.
+fn front_of<E: EntryLedger, S: LotLedger, R: Wait>(
+    rt: &R,
+    desk: &Desk<E, S>,
+    seats: &mut Vec<Seat<E, S>>,
+) -> Option<Beginning<E>>
+    requires { All (IsNew E.opening) seats.old.items }
+    ensures seats { seats.new.items ≡ seats.old.items }
+    ensures front { IfSome result (λ front. front ≡ E.opening) }
+{
+    let mut seat = seats.pop()?;
+    let front = desk.hold(rt).front(&mut seat);
+    seats.push_reserved(seat);
+    Some(front)
+}
+
+/// Returns how a day is written whose journal has the entries of this front.
+fn pen_of<E: EntryLedger, K: Sink + Drop>(
+    alloc: Global,
+    front: Option<Beginning<E>>,
+    journal: Option<DayJournal<K>>,
+) -> Result<Pen<E, K>, AllocError>
+    requires chain { IfSome journal (λ j. j.chain ≡ chain_of E.opening) }
+    requires front { IfSome front (λ f. f ≡ E.opening) }
+    requires few { length E.opening ≤ 1000000 }
+{
+    let (Some(DayJournal { sink, chain }), Some(front)) = (journal, front) else {
+        return Ok(Pen {
+            news: None,
+            writing: None,
+        });
+    };
+    let (news, told) = crossbeam_channel::unbounded(alloc)?;
+    let keeper = Keeper::new(alloc, sink, front, chain);
+    Ok(Pen {
+        news: Some(news),
+        writing: Some(Writing { keeper, news: told }),
+    })
 }
 
 /// Seats that keep their receipts.
@@ -156,6 +227,24 @@ fn watches_of<R: Net>(rt: &R, alloc: Global, workers: usize) -> Result<Watches, 
     Ok(watches)
 }
 
+/// Returns how many entries are kept as a day begins, whose book has this many: all of them. A day without a journal keeps each at once.
+fn kept_at_first<K: Sink>(journal: &Option<DayJournal<K>>, entries: usize) -> u64 {
+    match journal {
+        Some(_) => entries as u64,
+        None => u64::MAX,
+    }
+}
+
+/// A day that was served.
+#[derive(Drop)]
+pub struct Served<K: Sink> {
+    pub closed: Closed,
+    /// The operators that closed the day, and wait for its last lines.
+    pub closers: Closers,
+    /// What became of its journal, if it has one.
+    pub journal: Option<JournalEnd<K>>,
+}
+
 /// By what connections come in on a day, and what wakes who waits there.
 #[derive(Drop)]
 pub struct Front<D> {
@@ -165,36 +254,40 @@ pub struct Front<D> {
 
 /// Opens a desk over a book, serves the connections that come in, and closes the desk after the last one. The port is closed once the last
 /// connection was accepted, or an operator closes the day. Where none can be accepted, standard error says so at once: it is tried again each time that one
-/// has ended, or, where the day goes on until it is closed, soon after. What is done is printed at a terminal, where there is one. Returns
-/// the operators too that closed the day and wait for its last lines.
+/// has ended, or, where the day goes on until it is closed, soon after. What is done is printed at a terminal, where there is one. A day that
+/// has a journal shows nothing before it is kept there, and ends where nothing more can be kept.
 pub fn serve_day<
     E: EntryLedger + Send + Sync,
     S: LotLedger + Send + Sync,
     R: Net + Threads + Wait + Clock + Eprint + Sync,
     T: Write + Send + Drop,
     D: LetsIn + Drop,
+    K: Sink + Send + Drop,
 >(
     rt: &R,
     alloc: Global,
-    opening: Opening,
+    opening: Opening<K>,
     front: Front<D>,
     terminal: Option<T>,
-) -> Result<(Closed, Closers), StreamError>
+) -> Result<Served<K>, StreamError>
+where
+    K::Place: Send,
     requires reference { opening.book.reference ≡ E.reference }
     requires history { (opening.annals.name ≡ E.history) × (opening.book.history ≡ E.opening) × (lots_swept opening.book.history ≡ S.opening) }
     requires blanks { (opening.entries.name ≡ E.name) × (opening.swept.name ≡ S.name) × (opening.entries.parts ≡ E.parts) × (opening.swept.parts ≡ S.parts) }
-    ensures reference { IfOk result (λ r. r.0.book.reference ≡ E.reference) }
+    ensures reference { IfOk result (λ r. r.closed.book.reference ≡ E.reference) }
 
-    ensures lots { IfOk result (λ r. S.opening ≤ lots_swept r.0.book.history) }
+    ensures lots { IfOk result (λ r. S.opening ≤ lots_swept r.closed.book.history) }
 
     // The opening's history goes on. There are as many receipts as entries since, each of one of these; in all as many as entries, if so then.
-    ensures receipts { IfOk result (λ r. AddsReceipts E.opening opening.receipts.items r.0.book.history r.0.receipts) }
-    ensures count { length opening.receipts.items ≡ length E.opening → IfOk result (λ r. length r.0.receipts ≡ length r.0.book.history) }
+    ensures receipts { IfOk result (λ r. AddsReceipts E.opening opening.receipts.items r.closed.book.history r.closed.receipts) }
+    ensures count { length opening.receipts.items ≡ length E.opening → IfOk result (λ r. length r.closed.receipts ≡ length r.closed.book.history) }
 {
     let Opening {
         book,
         annals,
         receipts,
+        journal,
         service,
         every,
         write_wait_ms,
@@ -207,11 +300,15 @@ pub fn serve_day<
     let firm_places = FirmPlaces::new(alloc, firms.as_slice(), &tally, service)?;
     let Watches { pollers, bells } = watches_of(rt, alloc, service.workers)?;
     let Front { door, bell } = front;
-    let posts = Posts::new(alloc, bells, service.places(), bell)?;
-    let informer = Informer::new(&posts);
+    let kept = kept_at_first(&journal, book.history().len());
+    let posts = Posts::new(alloc, bells, service.places(), bell, kept)?;
+    let kept_bell = KeptBell::new();
     let is_over = AtomicBool::new(false);
     let closers = Mutex::new(Vec::new(alloc));
-    let (desk, seats) = opened::<E, S>(alloc, book, annals, service.seats(), entries, swept)?;
+    let (desk, mut seats) = opened::<E, S>(alloc, book, annals, service.seats(), entries, swept)?;
+    let front = front_of(rt, &desk, &mut seats);
+    let Pen { news, writing } = pen_of(alloc, front, journal)?;
+    let informer = Informer::new(rt, &posts, news);
     let seats = with_receipts(alloc, seats)?;
     let ending = Ending::new(alloc, seats.len(), receipts)?;
     let floor = Floor {
@@ -222,6 +319,7 @@ pub fn serve_day<
         firm_places: &firm_places,
         posts: &posts,
         informer: &informer,
+        kept_bell: &kept_bell,
         open_orders: &open_orders,
         tally: &tally,
         service,
@@ -230,9 +328,18 @@ pub fn serve_day<
         is_over: &is_over,
         closers: &closers,
     };
-    let posting = Posting { door, pollers };
-    let shift = shift_at(&floor, posting, seats, terminal);
+    let posting = Posting {
+        door,
+        pollers,
+        writing,
+    };
+    let Shift { seats, fault, kept } = shift_at(&floor, posting, seats, terminal);
     drop(floor);
-    let closed = close(desk, shift, ending)?;
-    Ok((closed, Closers::new(closers.into_inner())))
+    let closed = close(desk, seats, fault, ending)?;
+    let journal = journal_end(kept, closed.book.history().len());
+    Ok(Served {
+        closed,
+        closers: Closers::new(closers.into_inner()),
+        journal,
+    })
 }

@@ -6,7 +6,7 @@ use gu_desk::{EntryLedger, LotLedger};
 use gu_engine::{Answered, Ask, House};
 use gu_houses::{AtDesk, Informs, SeatReceipts};
 use gu_terms::{FirmId, Stretch};
-use gu_workers::CountsGiveUps;
+use gu_workers::AnswersMany;
 use std::alloc::AllocError;
 use std::marker::Model;
 use std::sync::Wait;
@@ -50,14 +50,18 @@ impl<'a, 'o, E: EntryLedger, S: LotLedger, R: Wait, I: Informs> DeskHouse<'a, 'o
     }
 }
 
-impl<'a, 'o, E: EntryLedger, S: LotLedger, R: Wait, I: Informs> CountsGiveUps
+impl<'a, 'o, E: EntryLedger, S: LotLedger, R: Wait, I: Informs> AnswersMany
     for DeskHouse<'a, 'o, E, S, R, I> {
-    fn resume_count(&mut self, give_ups: u64) {
-        self.desk.resume_count(give_ups);
+    fn resume(&mut self, connection: u64, give_ups: u64) {
+        self.desk.resume(connection, give_ups);
     }
 
     fn give_ups(&self) -> u64 {
         self.desk.give_ups()
+    }
+
+    fn seen(&self) -> u64 {
+        self.desk.seen()
     }
 }
 

@@ -1,12 +1,11 @@
 //! Accepting connections, each for the worker that has the fewest.
 
-use crate::attending::OperatorCall;
 use crate::cause::Cause;
 use crate::floor::Floor;
 use crate::working::{Calls, SocketCall};
 use crossbeam_channel::Sender;
 use gu_desk::{EntryLedger, LotLedger};
-use gu_posts::Call;
+use gu_posts::{Call, Failure};
 use gu_sockets::{Doorway, OperatorDoor};
 use gu_streams::StreamError;
 use std::io;
@@ -19,6 +18,14 @@ const MOST_AT_ONCE: u32 = 64;
 
 /// After how many milliseconds it is tried again to accept, where that failed.
 const RETRY_MS: u64 = 100;
+
+/// Returns the fault of a day one of whose workers couldn't go on.
+fn error_of(failure: Failure) -> StreamError {
+    match failure {
+        Failure::Memory => StreamError::Memory,
+        Failure::Clock | Failure::Poller => StreamError::Read,
+    }
+}
 
 /// By what connections come in.
 pub trait LetsIn {
@@ -63,18 +70,18 @@ impl LetsIn for Doorway {
 /// Where operators go that come in.
 #[derive(Drop)]
 pub struct OperatorWays {
-    pub console: Sender<OperatorCall>,
-    pub watch: Sender<OperatorCall>,
+    pub console: Sender<UnixStream>,
+    pub watch: Sender<UnixStream>,
 }
 
 impl OperatorWays {
     /// Sends an operator to the threads that answer at its socket. Where too many wait already, the connection is closed.
     fn send<R: Wait>(&self, rt: &R, which: OperatorDoor, stream: UnixStream) {
-        let (to, is_watch) = match which {
-            OperatorDoor::Console => (&self.console, false),
-            OperatorDoor::Watch => (&self.watch, true),
+        let to = match which {
+            OperatorDoor::Console => &self.console,
+            OperatorDoor::Watch => &self.watch,
         };
-        if let Err(refused) = to.try_send(rt, OperatorCall { stream, is_watch }) {
+        if let Err(refused) = to.try_send(rt, stream) {
             drop(refused);
         }
     }
@@ -251,10 +258,10 @@ impl<'a, D: LetsIn + Drop> Entrance<'a, D> {
             return Err(StreamError::Read);
         }
         self.accept_operators(floor);
-        if floor.posts.has_failed() {
-            return Err(StreamError::Memory);
+        if let Some(failure) = floor.posts.failure() {
+            return Err(error_of(failure));
         }
-        if floor.posts.is_closing() || self.has_all(floor) {
+        if floor.posts.is_closing() || floor.posts.is_stopped() || self.has_all(floor) {
             self.close();
         }
         if !self.is_open || !self.may_try(floor) {

@@ -4,6 +4,7 @@ ghost use Rattle.std.specs.Prelude.{◌≡◌};
 
 use crate::firm_places::FirmPlaces;
 use crate::informer::Informer;
+use crate::kept_bell::KeptBell;
 use crate::service::Service;
 use gu_desk::{Desk, EntryLedger, LotLedger};
 use gu_houses::{OpenOrders, Tally};
@@ -29,7 +30,9 @@ pub struct Floor<'a, E: EntryLedger, S: LotLedger, R> {
     /// How the workers are reached.
     pub posts: &'a Posts<PollBell>,
     /// Who tells the workers of entries.
-    pub informer: &'a Informer<'a>,
+    pub informer: &'a Informer<'a, R>,
+    /// What wakes the threads that wait until entries are kept.
+    pub kept_bell: &'a KeptBell,
     /// The orders of sweeps that wait.
     pub open_orders: &'a OpenOrders,
     pub tally: &'a Tally,
@@ -61,9 +64,26 @@ impl<'a, E: EntryLedger, S: LotLedger, R> Floor<'a, E, S, R> {
     pub fn is_over(&self) -> bool {
         self.is_over.load(Ordering::SeqCst)
     }
+
+    /// Says that this many entries are kept, so that what shows no more may go out.
+    pub fn show_kept(&self, kept: u64) {
+        self.posts.keep(kept);
+        self.kept_bell.ring();
+    }
+
+    /// Says that no more entries are ever kept.
+    pub fn lose_journal(&self) {
+        self.posts.stop();
+        self.kept_bell.ring();
+    }
 }
 
 impl<E: EntryLedger, S: LotLedger, R: Wait> Floor<'_, E, S, R> {
+    /// Waits until this many entries are kept. Returns whether they are.
+    pub fn await_kept(&self, number: u64) -> bool {
+        self.kept_bell.wait(self.rt, self.posts, number)
+    }
+
     /// Keeps the stream of an operator that waits for the last lines of the day. If an allocation fails, it is closed.
     pub fn keep_closer(&self, stream: UnixStream) {
         let _ = self.closers.lock(self.rt).push(stream);

@@ -1,6 +1,6 @@
 //! How firms are served: by how many threads, at how many places, and until when.
 
-ghost use Rattle.std.specs.Prelude.{◌≡◌, ◌+◌, ◌≤◌, false, true};
+ghost use Rattle.std.specs.Prelude.{◌≡◌, ◌+◌, ◌*◌, ◌<◌, ◌≤◌, false, true};
 
 /// How many sweepers there are.
 pub const SWEEPERS: usize = 2;
@@ -88,13 +88,20 @@ impl Service {
         self.workers + self.operators + self.watchers + SWEEPERS
     }
 
-    /// Returns how many places each worker has.
-    pub fn places(&self) -> usize {
+    /// Returns how many places each worker has: as few as are enough for all connections at once.
+    pub fn places(&self) -> usize
+        ensures enough { self.now.connections ≤ result * self.now.workers }
+        ensures fewest { result * self.now.workers < self.now.connections + self.now.workers }
+    {
         self.connections.div_ceil(self.workers)
     }
 
-    /// Returns how many places the sessions of one firm hold at most.
-    pub fn most_of_a_firm(&self) -> u64 {
+    /// Returns how many places the sessions of one firm hold at most: all but one, where the day goes on until it is closed and has more.
+    pub fn most_of_a_firm(&self) -> u64
+        ensures all_but_one { self.now.is_until_closed ≡ true → 2 ≤ self.now.connections → result + 1 ≡ self.now.connections }
+        ensures all { self.now.is_until_closed ≡ false → self.now.connections ≤ result }
+        ensures the_one { self.now.connections ≡ 1 → 1 ≤ result }
+    {
         if self.is_until_closed && self.connections > 1 {
             self.connections as u64 - 1
         } else {

@@ -7,12 +7,16 @@ use crate::attending::{OperatorEnds, start_attendants};
 use crate::crew::Crew;
 use crate::entrance::{Entrance, LetsIn, OperatorWays};
 use crate::floor::Floor;
+use crate::journal_end::{LostBy, LostJournal};
+use crate::keeping::{Kept, News, keep_all};
 use crate::sweeping::start_sweepers;
 use crate::telling::tell_all;
 use crate::working::start_workers;
-use crossbeam_channel::Sender;
+use crossbeam_channel::{Receiver, Sender};
 use gu_desk::{EntryLedger, LotLedger};
 use gu_houses::SeatReceipts;
+use gu_journal::Sink;
+use gu_keeping::Keeper;
 use gu_sockets::SocketPoller;
 use gu_streams::StreamError;
 use std::io::Write;
@@ -22,29 +26,27 @@ use std::sync::atomic::Ordering;
 use std::thread;
 use std::thread::{JoinHandle, Scope, Threads};
 
-/// What a shift begins with: by what connections come in, and what watches those of each worker.
+/// What keeps a day, and the news that it is told.
 #[derive(Drop)]
-pub struct Posting<D> {
+pub struct Writing<E: EntryLedger, K: Sink> {
+    pub keeper: Keeper<E, K>,
+    pub news: Receiver<News>,
+}
+
+/// What a shift begins with: by what connections come in, what watches those of each worker, and what keeps the day, if it is kept.
+#[derive(Drop)]
+pub struct Posting<D, E: EntryLedger, K: Sink> {
     pub door: D,
     pub pollers: Vec<SocketPoller>,
+    pub writing: Option<Writing<E, K>>,
 }
 
-/// The seats after a shift, and why not every connection was accepted, where that is so.
+/// The seats after a shift, why not every connection was accepted, where that is so, and what kept the day, if it was kept.
 #[derive(Drop)]
-pub struct Shift<E: EntryLedger, S: LotLedger> {
-    seats: Vec<SeatReceipts<E, S>>,
-    fault: Option<StreamError>,
-}
-
-impl<E: EntryLedger, S: LotLedger> Shift<E, S> {
-    /// Returns the seats, and the fault.
-    pub fn into_parts(self) -> (Vec<SeatReceipts<E, S>>, Option<StreamError>)
-        ensures seats { result.0 ≡ self.seats }
-        ensures fault { result.1 ≡ self.fault }
-    {
-        let Shift { seats, fault } = self;
-        (seats, fault)
-    }
+pub struct Shift<E: EntryLedger, S: LotLedger, K: Sink> {
+    pub seats: Vec<SeatReceipts<E, S>>,
+    pub fault: Option<StreamError>,
+    pub kept: Option<Kept<E, K>>,
 }
 
 /// The thread that prints the counts at a terminal, until its channel's end here is gone.
@@ -94,14 +96,54 @@ fn start_answering<
     floor: &'s Floor<'s, E, S, R>,
     crew: &mut Crew<E, S>,
 ) -> Result<OperatorWays, StreamError> {
-    let console = OperatorEnds::new(floor.alloc)?;
-    let watch = OperatorEnds::new(floor.alloc)?;
+    let console = OperatorEnds::new(floor.alloc, false)?;
+    let watch = OperatorEnds::new(floor.alloc, true)?;
     start_attendants(scope, floor, crew, &console, floor.service.operators)?;
     start_attendants(scope, floor, crew, &watch, floor.service.watchers)?;
     Ok(OperatorWays {
         console: console.into_sender(),
         watch: watch.into_sender(),
     })
+}
+
+/// The thread that writes the journal, or why there is none.
+type Writer<E, K> = Result<JoinHandle<Kept<E, K>>, LostJournal<<K as Sink>::Place>>;
+
+/// Starts the thread that writes the journal, if the day has one. Where it can't be started, the day ends.
+fn start_writer<
+    's,
+    X,
+    E: EntryLedger + Send + Sync + 's,
+    S: LotLedger + Send + Sync + 's,
+    R: Threads + Wait + Clock + Sync,
+    K: Sink + Send + Drop + 's,
+>(
+    scope: &Scope<'s, X>,
+    floor: &'s Floor<'s, E, S, R>,
+    writing: Option<Writing<E, K>>,
+) -> Option<Writer<E, K>>
+where
+    K::Place: Send,
+{
+    let Writing { keeper, news } = writing?;
+    match scope.spawn(move || keep_all(floor, keeper, news)) {
+        Ok(thread) => Some(Ok(thread)),
+        Err(_) => {
+            floor.lose_journal();
+            Some(Err(LostJournal {
+                kept: floor.posts.kept(),
+                by: LostBy::Memory,
+            }))
+        }
+    }
+}
+
+/// Waits until each entry of the day is kept, where it is kept at all.
+fn end_writer<E: EntryLedger, K: Sink, R: Threads>(rt: &R, writer: Writer<E, K>) -> Kept<E, K> {
+    match writer {
+        Ok(thread) => thread.join(rt),
+        Err(lost) => Err(lost),
+    }
 }
 
 /// Starts the threads, and lets connections in until the last has ended. When it returns, the port is closed, and its ends of the channels are
@@ -116,10 +158,10 @@ fn serve_calls<
 >(
     scope: &Scope<'s, X>,
     floor: &'s Floor<'s, E, S, R>,
-    posting: Posting<D>,
+    door: D,
+    pollers: Vec<SocketPoller>,
     crew: &mut Crew<E, S>,
 ) -> Result<(), StreamError> {
-    let Posting { door, pollers } = posting;
     let (orders, ordered) = crossbeam_channel::unbounded(floor.alloc)?;
     start_sweepers(scope, floor, ordered, crew)?;
     let operators = start_answering(scope, floor, crew)?;
@@ -137,42 +179,61 @@ fn run_all<
     R: Threads + Wait + Clock + Eprint + Sync,
     T: Write + Send + Drop + 's,
     D: LetsIn + Drop,
+    K: Sink + Send + Drop + 's,
 >(
     scope: &Scope<'s, X>,
     floor: &'s Floor<'s, E, S, R>,
-    posting: Posting<D>,
+    posting: Posting<D, E, K>,
     seats: Vec<SeatReceipts<E, S>>,
     terminal: Option<T>,
-) -> Shift<E, S> {
+) -> Shift<E, S, K>
+where
+    K::Place: Send,
+{
+    let Posting {
+        door,
+        pollers,
+        writing,
+    } = posting;
     let teller = start_teller(scope, floor, terminal);
+    let writer = start_writer(scope, floor, writing);
     let mut crew = Crew::new(floor.alloc, seats);
-    let fault = serve_calls(scope, floor, posting, &mut crew).err();
+    let fault = serve_calls(scope, floor, door, pollers, &mut crew).err();
     floor.is_over.store(true, Ordering::SeqCst);
     let seats = crew.join(floor.rt);
+    floor.informer.end();
+    let kept = match writer {
+        Some(writer) => Some(end_writer(floor.rt, writer)),
+        None => None,
+    };
     if let Some(teller) = teller {
         teller.end(floor.rt);
     }
-    Shift { seats, fault }
+    Shift { seats, fault, kept }
 }
 
-/// Serves connections that come in by a door, until the last has ended.
+/// Serves connections that come in by a door, until the last has ended and each entry is kept.
 pub fn shift_at<
     E: EntryLedger + Send + Sync,
     S: LotLedger + Send + Sync,
     R: Threads + Wait + Clock + Eprint + Sync,
     T: Write + Send + Drop,
     D: LetsIn + Drop,
+    K: Sink + Send + Drop,
 >(
     floor: &Floor<'_, E, S, R>,
-    posting: Posting<D>,
+    posting: Posting<D, E, K>,
     seats: Vec<SeatReceipts<E, S>>,
     terminal: Option<T>,
-) -> Shift<E, S> {
+) -> Shift<E, S, K>
+where
+    K::Place: Send,
+{
     thread::scope(
         thread::scope_env(),
         floor.rt,
-        |scope| -> Shift<E, S>
-            requires { IsSync R.row × IsSend E.row × IsSync E.row × IsSend S.row × IsSync S.row × IsSend T.row }
+        |scope| -> Shift<E, S, K>
+            requires { IsSync R.row × IsSend E.row × IsSync E.row × IsSend S.row × IsSync S.row × IsSend T.row × IsSend K.row × IsSend K.Place.row }
         { run_all(scope, floor, posting, seats, terminal) },
     )
 }

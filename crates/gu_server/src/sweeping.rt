@@ -4,9 +4,11 @@ use crate::crew::Crew;
 use crate::floor::Floor;
 use crate::service::SWEEPERS;
 use crossbeam_channel::{Receiver, Sender};
-use gu_desk::{Direct, EntryLedger, LotLedger, SweepOrder};
-use gu_houses::SeatReceipts;
+use gu_desk::{Direct, EntryLedger, LotLedger, Origin, SweepOrder};
+use gu_engine::{Clock as MomentClock, SystemClock};
+use gu_houses::{Informs, SeatReceipts};
 use gu_streams::StreamError;
+use std::rt::Clock;
 use std::sync::Wait;
 use std::thread::{Scope, Threads};
 
@@ -20,24 +22,31 @@ pub struct SweeperEnds<E: EntryLedger, S: LotLedger> {
 
 /// Sweeps the group of an order, and tells the firms that it informs. The order doesn't wait from now on, so a give-up that is entered after
 /// the look has an order of its own. A sweep that is refused is not made up for: an order that comes later may sweep what was left. Once
-/// the day is being closed, no order is followed.
-fn sweep<E: EntryLedger, S: LotLedger, R: Wait>(
+/// the day is being closed or its journal is lost, no order is followed, and none while the clock fails.
+fn sweep<E: EntryLedger, S: LotLedger, R: Wait + Clock>(
     floor: &Floor<'_, E, S, R>,
     seat: &mut SeatReceipts<E, S>,
     order: &SweepOrder,
 ) {
     floor.open_orders.close(&order.group());
-    if floor.posts.is_closing() {
+    if floor.posts.is_closing() || floor.posts.is_stopped() {
         return;
     }
+    let Ok(moment) = SystemClock::new(floor.rt).now() else {
+        return;
+    };
     if let Ok(swept) = seat.sweep(floor.rt, floor.desk, order.group(), &Direct) {
+        let origin = Origin {
+            moment,
+            message: None,
+        };
         floor.tally.add_sweep(swept.lots);
-        floor.posts.inform(swept.number, swept.informs);
+        floor.informer.inform(swept.number, swept.informs, origin);
     }
 }
 
 /// Sweeps the group of each order, until no worker is left that could send one.
-fn sweep_all<E: EntryLedger, S: LotLedger, R: Wait>(
+fn sweep_all<E: EntryLedger, S: LotLedger, R: Wait + Clock>(
     floor: &Floor<'_, E, S, R>,
     mut seat: SeatReceipts<E, S>,
     orders: &Receiver<SweepOrder>,
@@ -49,7 +58,7 @@ fn sweep_all<E: EntryLedger, S: LotLedger, R: Wait>(
 }
 
 /// Waits for a seat, and sweeps from it.
-fn take_orders<E: EntryLedger, S: LotLedger, R: Wait>(
+fn take_orders<E: EntryLedger, S: LotLedger, R: Wait + Clock>(
     floor: &Floor<'_, E, S, R>,
     seats: Receiver<SeatReceipts<E, S>>,
     orders: Receiver<SweepOrder>,
@@ -65,7 +74,7 @@ fn start_sweeper<
     X,
     E: EntryLedger + Send + Sync + 's,
     S: LotLedger + Send + Sync + 's,
-    R: Threads + Wait + Sync,
+    R: Threads + Wait + Clock + Sync,
 >(
     scope: &Scope<'s, X>,
     floor: &'s Floor<'s, E, S, R>,
@@ -90,7 +99,7 @@ pub fn start_sweepers<
     X,
     E: EntryLedger + Send + Sync + 's,
     S: LotLedger + Send + Sync + 's,
-    R: Threads + Wait + Sync,
+    R: Threads + Wait + Clock + Sync,
 >(
     scope: &Scope<'s, X>,
     floor: &'s Floor<'s, E, S, R>,

@@ -87,12 +87,13 @@ struct Exchange<'s> {
 }
 
 impl Exchange<'_> {
-    /// Sends the answers. Returns whether all went out.
+    /// Sends the answers once what they show is kept: this many entries. Returns whether all went out.
     fn send<E: EntryLedger, S: LotLedger, R: Wait + Clock>(
         &mut self,
         floor: &Floor<'_, E, S, R>,
+        seen: u64,
     ) -> bool {
-        let is_sent = send(floor, self.stream, &self.output);
+        let is_sent = floor.await_kept(seen) && send(floor, self.stream, &self.output);
         self.output.clear();
         is_sent
     }
@@ -111,7 +112,7 @@ impl Exchange<'_> {
             left = rest;
             let said = serve_lines(operator, &mut self.lines, line, &mut self.output).ok()?;
             let is_last = left.is_empty() || said == Said::Closes;
-            if (is_last || self.output.len() > MOST_HELD) && !self.send(floor) {
+            if (is_last || self.output.len() > MOST_HELD) && !self.send(floor, operator.seen()) {
                 return None;
             }
             if is_last {

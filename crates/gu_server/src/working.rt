@@ -7,7 +7,7 @@ use crate::informer::Informer;
 use crossbeam_channel::{Receiver, Sender};
 use gu_desk::{EntryLedger, LotLedger, SweepOrder};
 use gu_houses::{AtDesk, Orders, SeatReceipts};
-use gu_posts::{Call, CallSender, calls};
+use gu_posts::{Call, CallSender, Failure, calls};
 use gu_sockets::{PollBell, SocketPoller};
 use gu_talks::Poller;
 use gu_workers::{MachineTimer, Worker, WorkerSettings, WorkerTools};
@@ -57,9 +57,9 @@ fn settings_of<E: EntryLedger, S: LotLedger, R>(
 /// thread that accepts connections hears of it.
 fn turn_all<'a, 'o, E: EntryLedger, S: LotLedger, R: Wait + Clock>(
     floor: &Floor<'a, E, S, R>,
-    house: DeskHouse<'a, 'o, E, S, R, Informer<'a>>,
+    house: DeskHouse<'a, 'o, E, S, R, Informer<'a, R>>,
     bench: Bench,
-) -> DeskHouse<'a, 'o, E, S, R, Informer<'a>> {
+) -> DeskHouse<'a, 'o, E, S, R, Informer<'a, R>> {
     let Bench {
         calls,
         poller,
@@ -68,7 +68,7 @@ fn turn_all<'a, 'o, E: EntryLedger, S: LotLedger, R: Wait + Clock>(
     let Ok(timer) = MachineTimer::new(floor.rt) else {
         drop(calls);
         drop(poller);
-        floor.posts.fail();
+        floor.posts.fail(Failure::Clock);
         return house;
     };
     let tools = WorkerTools {
@@ -84,7 +84,7 @@ fn turn_all<'a, 'o, E: EntryLedger, S: LotLedger, R: Wait + Clock>(
             worker.into_house()
         }
         Err(house) => {
-            floor.posts.fail();
+            floor.posts.fail(Failure::Memory);
             house
         }
     }

@@ -74,7 +74,7 @@ module _ (goes_on : Bool) where
 
   -- how many workers, where a number is given
   workers_sound : (words : List Text) → level_fault served [] nothing_held words false [] ≡ [] → Sound (is_unsigned_in 1 60) (codes "W") (rows_after served.rules [] words)
-  workers_sound = words_sound (is_unsigned_in 1 60) (codes "W") served (take 9 served.rules) (drop 10 served.rules) (rule_at 9) refl refl refl refl refl (λ v passes. passes) tt
+  workers_sound = words_sound (is_unsigned_in 1 60) (codes "W") served (take 10 served.rules) (drop 11 served.rules) (rule_at 10) refl refl refl refl refl (λ v passes. passes) tt
 
   -- the rows before the defaults
   abbrev given_rows : List Text → List Row

@@ -16,8 +16,8 @@ use Rattle.gu_words.specs.CommandLine.{bare_program, check_shape, fix_shape, pro
 use Rattle.gu_words.specs.Misfits.{has, is_one_path, misfit_in, misfit_of, refusals_of}
 use Rattle.gu_words.specs.declared.words.Task.{Task}
 use Rattle.gu_words.specs.declared.misfit.Misfit.{Misfit}
-use Rattle.gu_words.specs.declared.misfit.Misfit.TheVariants.{ManyConnections, NotUntilClosed, OnePath}
-use Rattle.gu_words.specs.ProgramWords.{Captures, Checks, Counts, Fixes, GoesOn, HasNumbers, IsWithin, Lasting, Reads, Replays, Serves, Tells, Wanted, is_until_closed, lasting_by, number_of, served_by, text_of, told_by, wanted_by, wanted_in, wanted_of, wanted_of_command, word_in}
+use Rattle.gu_words.specs.declared.misfit.Misfit.TheVariants.{ManyConnections, NoJournal, NotUntilClosed, OnePath}
+use Rattle.gu_words.specs.ProgramWords.{Captures, Checks, Counts, Fixes, GoesOn, HasNumbers, IsWithin, Keeping, Lasting, Reads, Replays, Serves, Tells, Wanted, is_set, is_until_closed, keeping_by, lasting_by, number_of, served_by, text_of, told_by, wanted_by, wanted_in, wanted_of, wanted_of_command, word_in}
 
 -- the program is one whose words clap tells in full
 pub simple-program : (is_until_closed : Bool) → is_simple_and_free (program is_until_closed) ≡ true
@@ -160,9 +160,9 @@ pub numbered : (rows : List Row) (result least most : ℕ) (name word : Text) �
 numbered rows result least most name word means is within = means (subst (IsUnsignedIn least most) (sym is) within) ∙ ap number_of is
 
 -- what `serve` asks for, word by word
-pub asks_to_serve : (rows : List Row) (reference : Text) (port : ℕ) (script : Option Text) (lasting : Lasting) (every : ℕ) (journal watch : Option Text)
+pub asks_to_serve : (rows : List Row) (reference : Text) (port : ℕ) (script : Option Text) (lasting : Lasting) (every : ℕ) (journal : Option Keeping) (watch : Option Text)
     → reference ≡ word_in rows (codes "REF") → port ≡ number_of (word_in rows (codes "PORT")) → script ≡ first_of (codes "script") rows
-    → lasting ≡ lasting_by rows → every ≡ number_of (word_in rows (codes "K")) → journal ≡ first_of (codes "journal") rows
+    → lasting ≡ lasting_by rows → every ≡ number_of (word_in rows (codes "K")) → journal ≡ keeping_by rows
     → watch ≡ first_of (codes "watch") rows → Serves reference port script lasting every journal watch ≡ served_by rows
 asks_to_serve rows reference port script lasting every journal watch a b c d e f g = λ i. Serves (a i) (b i) (c i) (d i) (e i) (f i) (g i)
 
@@ -208,11 +208,12 @@ tells (Some (name, found)) rows path lines is_name is_rows is_path is_lines =
 pub few_connections : (rows : List Row) → is_until_closed rows ≡ false → misfit_in rows ≡ None → IsUnsignedIn 1 1024 (word_in rows (codes "N")) → IsUnsignedIn 1 32 (word_in rows (codes "N"))
 few_connections rows counted fits within = (within.0, within.1, within.2, ltb-false 32 _ (not_many counted fits))
   where
-    no_more : (workers many one : Bool) → cond workers (Some NotUntilClosed) (cond many (Some ManyConnections) (cond one (Some OnePath) None)) ≡ None → many ≡ false
-    no_more true many one is = cc
-    no_more false true one is = cc
-    no_more false false one is = refl
+    no_more : (workers many one late : Bool) → cond workers (Some NotUntilClosed) (cond many (Some ManyConnections) (cond one (Some OnePath) (cond late (Some NoJournal) None))) ≡ None → many ≡ false
+    no_more true many one late is = cc
+    no_more false true one late is = cc
+    no_more false false one late is = refl
 
     not_many : is_until_closed rows ≡ false → misfit_in rows ≡ None → nat_lt 32 (number_of (word_in rows (codes "N"))) ≡ false
     not_many counted fits =
-        no_more (has rows (codes "W")) (nat_lt 32 (number_of (word_in rows (codes "N")))) (is_one_path (first_of (codes "console") rows) (first_of (codes "watch") rows)) (rw counted at fits)
+        no_more (has rows (codes "W")) (nat_lt 32 (number_of (word_in rows (codes "N")))) (is_one_path (first_of (codes "console") rows) (first_of (codes "watch") rows))
+        (is_set rows (codes "resume") && not (has rows (codes "journal"))) (rw counted at fits)

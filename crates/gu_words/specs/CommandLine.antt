@@ -37,9 +37,9 @@ connections_rule most = number_rule (codes "N") (codes "connections") (Unsigned 
 abbrev pub every_rule : Rule
 every_rule = number_rule (codes "K") (codes "every") (Unsigned 0 1000) (codes "16")
 
--- that a server goes on until it is closed
-abbrev pub flag_rule : Rule
-flag_rule = record (new_rule (codes "until-closed")) { long = Some (codes "until-closed"); action = Some SetTrue }
+-- an option of this name, without a value
+abbrev pub flag_rule : Text → Rule
+flag_rule name = record (new_rule name) { long = Some name; action = Some SetTrue }
 
 -- how many threads serve the connections, 1 to 60, where a number is said
 abbrev pub workers_rule : Rule
@@ -64,14 +64,14 @@ replay_shape = (with_rule (new_app (codes "replay")) (needed (codes "REF"))).top
 -- the words of `serve` for a day of counted connections: the path of a reference and a port, and options
 abbrev pub counted_app : ℕ → App
 counted_app most =
-    with_rule (with_rule (with_rule (with_rule (with_rule (with_rule (new_app (codes "serve")) (needed (codes "REF"))) port_rule)
-    (path_rule (codes "script"))) (connections_rule most)) every_rule) (path_rule (codes "journal"))
+    with_rule (with_rule (with_rule (with_rule (with_rule (with_rule (with_rule (new_app (codes "serve")) (needed (codes "REF"))) port_rule)
+    (path_rule (codes "script"))) (connections_rule most)) every_rule) (path_rule (codes "journal"))) (flag_rule (codes "resume"))
 
 -- the command `serve`: with these, the sockets of those who operate and who watch, and a day that goes on until it is closed
 abbrev pub serve_shape : Bool → Shape
 serve_shape is_until_closed =
     (with_rule (with_rule (with_rule (with_rule (counted_app (most_connections is_until_closed)) (path_rule (codes "console")))
-    (path_rule (codes "watch"))) flag_rule) workers_rule).top
+    (path_rule (codes "watch"))) (flag_rule (codes "until-closed"))) workers_rule).top
 
 -- the command `tell`, which takes the path of a socket, and lines
 abbrev pub tell_shape : Shape

@@ -6,9 +6,9 @@ use Rattle.clap.specs.Words.{Kinds, Row, Text, fault_of, first_of}
 use Rattle.clap.specs.declared.error.kind.ErrorKind.{ErrorKind}
 use Rattle.clap.specs.declared.error.kind.ErrorKind.TheVariants.{ArgumentConflict, MissingRequiredArgument, ValueValidation}
 use Rattle.gu_words.specs.CommandLine.{program, says_until_closed}
-use Rattle.gu_words.specs.ProgramWords.{command_in, is_until_closed, number_of, word_in}
+use Rattle.gu_words.specs.ProgramWords.{command_in, is_set, is_until_closed, number_of, word_in}
 use Rattle.gu_words.specs.declared.misfit.Misfit.{Misfit}
-use Rattle.gu_words.specs.declared.misfit.Misfit.TheVariants.{ManyConnections, NoConsole, NotUntilClosed, OnePath}
+use Rattle.gu_words.specs.declared.misfit.Misfit.TheVariants.{ManyConnections, NoConsole, NoJournal, NotUntilClosed, OnePath}
 
 -- the kind of the refusal that a misfit is
 abbrev pub kind_of_misfit : Misfit → ErrorKind
@@ -16,6 +16,7 @@ kind_of_misfit NoConsole = MissingRequiredArgument
 kind_of_misfit NotUntilClosed = MissingRequiredArgument
 kind_of_misfit ManyConnections = ValueValidation
 kind_of_misfit OnePath = ArgumentConflict
+kind_of_misfit NoJournal = MissingRequiredArgument
 
 -- a server has this option
 abbrev pub has : List Row → Text → Bool
@@ -27,13 +28,14 @@ is_one_path (Some console) (Some watch) = bytes_eq console watch
 is_one_path _ _ = false
 
 -- why the options of a server don't go together: one that goes on until it is closed has no console at which it can be; one that doesn't
--- has a number of workers, or more than 32 connections; or the console and the watch are one socket
+-- has a number of workers, or more than 32 connections; the console and the watch are one socket; or a day that goes on has no journal
 abbrev pub misfit_in : List Row → Option Misfit
 misfit_in rows =
     if is_until_closed rows && not (has rows (codes "console")) then Some NoConsole
     else if not (is_until_closed rows) && has rows (codes "W") then Some NotUntilClosed
     else if not (is_until_closed rows) && nat_lt 32 (number_of (word_in rows (codes "N"))) then Some ManyConnections
     else if is_one_path (first_of (codes "console") rows) (first_of (codes "watch") rows) then Some OnePath
+    else if is_set rows (codes "resume") && not (has rows (codes "journal")) then Some NoJournal
     else None
 
 -- the same of a command, of which only `serve` has such options

@@ -9,6 +9,7 @@ use Rattle.clap.specs.declared.error.Error.{Error}
 use Rattle.clap.specs.declared.error.kind.ErrorKind.{ErrorKind}
 use Rattle.clap.specs.declared.error.kind.ErrorKind.TheVariants.{OutOfMemory, DisplayHelp, DisplayVersion}
 use Rattle.gu_words.specs.CommandLine.{program, says_until_closed}
+use Rattle.gu_words.specs.declared.serving.Journal.{Journal}
 use Rattle.gu_words.specs.declared.serving.Span.{Span}
 use Rattle.gu_words.specs.declared.serving.Span.TheVariants.{Counted, UntilClosed}
 use Rattle.gu_words.specs.declared.status.Status.{Status}
@@ -22,6 +23,11 @@ pub data Lasting : Type 0 where
   Counts : (connections : ℕ) (console : Option Text) → Lasting
   GoesOn : (console : Text) (places : ℕ) (workers : Option ℕ) → Lasting
 
+-- where the day of a server is written: the path of a file, and whether a day that is in it goes on
+pub record Keeping : Type 0 where
+  pub path : Text
+  pub resumes : Bool
+
 -- what words may ask for: trade capture, the check of a sheet, one session of a firm on the reference of a file, perhaps after a script,
 -- a script on such a reference, a server on such a reference and a port, perhaps after a script, with how long it goes on, which of its
 -- connections' give-ups are swept, perhaps the file of its journal, and perhaps the socket at which it is watched, or lines for a server
@@ -30,12 +36,16 @@ pub data Wanted : Type 0 where
   Checks : Wanted
   Fixes : (firm reference : Text) (script : Option Text) → Wanted
   Replays : (reference : Text) → Wanted
-  Serves : (reference : Text) (port : ℕ) (script : Option Text) (lasting : Lasting) (every : ℕ) (journal watch : Option Text) → Wanted
+  Serves : (reference : Text) (port : ℕ) (script : Option Text) (lasting : Lasting) (every : ℕ) (journal : Option Keeping) (watch : Option Text) → Wanted
   Tells : (path : Text) (lines : List Text) → Wanted
 
 -- the text of an option, where it is given
 abbrev pub text_of : Option (Bor Text) → Option Text
 text_of = option_map (λ word. word.now)
+
+-- where the day of a server is written, if it is
+abbrev pub keeping_of : Option Journal → Option Keeping
+keeping_of = option_map (λ journal. record { path = journal.path.now; resumes = journal.resumes })
 
 -- how long a server goes on
 abbrev pub lasting_of : Span → Lasting
@@ -53,7 +63,7 @@ wanted_of Capture = Captures
 wanted_of Check = Checks
 wanted_of (Fix firm reference script) = Fixes firm.now reference.now (text_of script)
 wanted_of (Replay reference) = Replays reference.now
-wanted_of (Serve s) = Serves s.reference.now s.port (text_of s.script) (lasting_of s.span) s.every (text_of s.journal) (text_of s.watch)
+wanted_of (Serve s) = Serves s.reference.now s.port (text_of s.script) (lasting_of s.span) s.every (keeping_of s.journal) (text_of s.watch)
 wanted_of (Tell path lines) = Tells path.now (map (λ line. line.now) lines.items)
 
 -- the word that was given for a name
@@ -64,9 +74,13 @@ word_in rows name = unwrap_or (first_of name rows) []
 abbrev pub number_of : Text → ℕ
 number_of word = digits_value 10 (without_leading_plus word)
 
+-- an option without a value is given
+abbrev pub is_set : List Row → Text → Bool
+is_set rows name = option_map_or (λ word. bytes_eq word (codes "true")) (first_of name rows) false
+
 -- the words have a server go on until it is closed
 abbrev pub is_until_closed : List Row → Bool
-is_until_closed rows = option_map_or (λ word. bytes_eq word (codes "true")) (first_of (codes "until-closed") rows) false
+is_until_closed rows = is_set rows (codes "until-closed")
 
 -- the numbers of `serve` are within their ranges; that a server which isn't closed has at most 32 connections, `misfit_in` says
 pub record HasNumbers (rows : List Row) : Type 0 where
@@ -82,11 +96,15 @@ lasting_by rows =
     then GoesOn (word_in rows (codes "console")) (number_of (word_in rows (codes "N"))) (option_map number_of (first_of (codes "W") rows))
     else Counts (number_of (word_in rows (codes "N"))) (first_of (codes "console") rows)
 
+-- where the day is written, if it is
+abbrev pub keeping_by : List Row → Option Keeping
+keeping_by rows = option_map (λ path. record { path = path; resumes = is_set rows (codes "resume") }) (first_of (codes "journal") rows)
+
 -- what `serve` asks for
 abbrev pub served_by : List Row → Wanted
 served_by rows =
     Serves (word_in rows (codes "REF")) (number_of (word_in rows (codes "PORT"))) (first_of (codes "script") rows) (lasting_by rows)
-    (number_of (word_in rows (codes "K"))) (first_of (codes "journal") rows) (first_of (codes "watch") rows)
+    (number_of (word_in rows (codes "K"))) (keeping_by rows) (first_of (codes "watch") rows)
 
 -- what `tell` asks for
 abbrev pub told_by : List Row → Wanted

@@ -27,7 +27,11 @@ const SCRIPT: &str = "The path of a script that is run first, without output";
 
 /// What help says of a journal.
 const JOURNAL: &str =
-    "The path of a new or empty file to which the day is written at its end, as a script that makes the same entries";
+    "The path of a new or empty file to which the day is written as it goes on, as a script that makes the same entries; an answer leaves once what it shows is on the disk";
+
+/// What help says of a day that goes on.
+const RESUME: &str =
+    "Goes on with the day in the file of --journal, if it has lines: they are played in the place of --script";
 
 /// What help says of a console.
 const CONSOLE: &str =
@@ -93,15 +97,15 @@ fn port_word<'a>(alloc: Global) -> Arg<'a>
     )
 }
 
-/// The option of a server that goes on until it is closed.
-fn until_closed_flag<'a>(alloc: Global) -> Arg<'a>
-    ensures rule { rule_of result ≡ flag_rule }
+/// An option that takes no value.
+fn flag<'a>(alloc: Global, name: &'a str, help: &'a str) -> Arg<'a>
+    ensures rule { rule_of result ≡ flag_rule name.entry.now }
     ensures local { result.global ≡ false }
 {
-    Arg::new(alloc, "until-closed")
-        .long("until-closed")
+    Arg::new(alloc, name)
+        .long(name)
         .action(ArgAction::SetTrue)
-        .help(UNTIL_CLOSED)
+        .help(help)
 }
 
 /// The workers of a server.
@@ -205,7 +209,9 @@ fn counted_command<'a>(alloc: Global, most: u64) -> Result<Command<'a>, AllocErr
     );
     let with_sweeps = of_firms.arg(every)?;
     let journal = path_option(alloc, "journal", "FILE", JOURNAL);
-    with_sweeps.arg(journal)
+    let with_journal = with_sweeps.arg(journal)?;
+    let resume = flag(alloc, "resume", RESUME);
+    with_journal.arg(resume)
 }
 
 /// The command `serve`, where its words name the end of the day, or don't.
@@ -217,7 +223,7 @@ pub fn serve_command<'a>(alloc: Global, is_until_closed: bool) -> Result<Command
     let with_console = counted.arg(console)?;
     let watch = path_option(alloc, "watch", "PATH", WATCH);
     let watched = with_console.arg(watch)?;
-    let until_closed = until_closed_flag(alloc);
+    let until_closed = flag(alloc, "until-closed", UNTIL_CLOSED);
     let going_on = watched.arg(until_closed)?;
     let workers = workers_option(alloc);
     going_on.arg(workers)

@@ -3,10 +3,10 @@
 ghost use Rattle.std.specs.Prelude.{◌≡◌, ◌≤◌, [], IfOk, IfSome, codes, map, nat_lt, option_map, unwrap_or};
 ghost use Rattle.clap.specs.Words.{IsUnsignedIn, all_of, first_of, found_of, rows_of};
 ghost use Rattle.gu_words.specs.Misfits.{has, is_one_path, misfit_in};
-ghost use Rattle.gu_words.specs.ProgramWords.{HasNumbers, is_until_closed, lasting_by, lasting_of, number_of, served_by, wanted_of, word_in};
+ghost use Rattle.gu_words.specs.ProgramWords.{HasNumbers, is_set, keeping_by, keeping_of, lasting_by, lasting_of, number_of, served_by, wanted_of, word_in};
 
 use crate::misfit::Misfit;
-use crate::serving::{Counted, Serving, Span, UntilClosed};
+use crate::serving::{Counted, Journal, Serving, Span, UntilClosed};
 use crate::words::Task;
 use clap::ArgMatches;
 use std::alloc::{AllocError, Global};
@@ -31,11 +31,11 @@ fn number(word: &str, least: u16, most: u16) -> u16
     }
 }
 
-/// Returns whether the words have a server go on until it is closed.
-fn is_until_closed(found: &ArgMatches<'_>) -> bool
-    ensures { result ≡ is_until_closed (rows_of (found_of found.now)) }
+/// Returns whether an option without a value is given.
+fn is_set(found: &ArgMatches<'_>, name: &str) -> bool
+    ensures { result ≡ is_set (rows_of (found_of found.now)) name.now }
 {
-    match found.get_str("until-closed") {
+    match found.get_str(name) {
         Some(word) => word == "true",
         None => false,
     }
@@ -70,7 +70,7 @@ fn has_one_path(found: &ArgMatches<'_>) -> bool
 pub fn misfit_in(found: &ArgMatches<'_>) -> Option<Misfit>
     ensures { IsUnsignedIn 1 1024 (word_in (rows_of (found_of found.now)) (codes "N")) → result ≡ misfit_in (rows_of (found_of found.now)) }
 {
-    let is_until_closed = is_until_closed(found);
+    let is_until_closed = is_set(found, "until-closed");
     if is_until_closed && !has(found, "console") {
         Some(Misfit::NoConsole)
     } else if !is_until_closed && has(found, "W") {
@@ -79,6 +79,8 @@ pub fn misfit_in(found: &ArgMatches<'_>) -> Option<Misfit>
         Some(Misfit::ManyConnections)
     } else if has_one_path(found) {
         Some(Misfit::OnePath)
+    } else if is_set(found, "resume") && !has(found, "journal") {
+        Some(Misfit::NoJournal)
     } else {
         None
     }
@@ -102,7 +104,7 @@ fn span_in<'a>(found: &ArgMatches<'a>) -> Span<'a>
     ensures { HasNumbers (rows_of (found_of found.now)) → misfit_in (rows_of (found_of found.now)) ≡ None
         → lasting_of result ≡ lasting_by (rows_of (found_of found.now)) }
 {
-    if is_until_closed(found) {
+    if is_set(found, "until-closed") {
         Span::UntilClosed(UntilClosed {
             console: word(found, "console"),
             places: number(word(found, "N"), 1, 1024),
@@ -113,6 +115,19 @@ fn span_in<'a>(found: &ArgMatches<'a>) -> Span<'a>
             connections: number(word(found, "N"), 1, 32),
             console: found.get_str("console"),
         })
+    }
+}
+
+/// Returns where the day is written, if it is.
+fn journal_in<'a>(found: &ArgMatches<'a>) -> Option<Journal<'a>>
+    ensures { keeping_of result ≡ keeping_by (rows_of (found_of found.now)) }
+{
+    match found.get_str("journal") {
+        Some(path) => Some(Journal {
+            path,
+            resumes: is_set(found, "resume"),
+        }),
+        None => None,
     }
 }
 
@@ -127,7 +142,7 @@ pub fn serving_in<'a>(found: &ArgMatches<'a>) -> Serving<'a>
         script: found.get_str("script"),
         span: span_in(found),
         every: number(word(found, "K"), 0, 1000),
-        journal: found.get_str("journal"),
+        journal: journal_in(found),
         watch: found.get_str("watch"),
     }
 }

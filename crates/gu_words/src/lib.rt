@@ -9,7 +9,7 @@ mod status;
 mod version;
 mod words;
 
-pub use serving::{Counted, Serving, Span, UntilClosed};
+pub use serving::{Counted, Journal, Serving, Span, UntilClosed};
 pub use status::Status;
 pub use version::VERSION;
 pub use words::{Task, answer, firm_named, given, line_refusal, read};

@@ -16,6 +16,8 @@ pub enum Misfit {
     ManyConnections,
     /// The console and the watch are one socket.
     OnePath,
+    /// A day that goes on has no journal in which it is.
+    NoJournal,
 }
 
 impl Misfit {
@@ -28,6 +30,7 @@ impl Misfit {
             Misfit::NotUntilClosed => ErrorKind::MissingRequiredArgument,
             Misfit::ManyConnections => ErrorKind::ValueValidation,
             Misfit::OnePath => ErrorKind::ArgumentConflict,
+            Misfit::NoJournal => ErrorKind::MissingRequiredArgument,
         }
     }
 
@@ -45,6 +48,9 @@ impl Misfit {
             }
             Misfit::OnePath => {
                 "the arguments '--console <PATH>' and '--watch <PATH>' cannot have the same path"
+            }
+            Misfit::NoJournal => {
+                "the following required arguments were not provided:\n  --journal <FILE>"
             }
         }
     }

@@ -37,6 +37,15 @@ pub enum Span<'a> {
     UntilClosed(UntilClosed<'a>),
 }
 
+/// Where the day of a server is written.
+#[derive(Clone, Copy, Debug)]
+pub struct Journal<'a> {
+    /// The path of the file.
+    pub path: &'a str,
+    /// Whether a day that is in the file goes on.
+    pub resumes: bool,
+}
+
 /// What a server is started with. Each number is within its range.
 #[derive(Clone, Copy, Debug)]
 pub struct Serving<'a> {
@@ -50,8 +59,8 @@ pub struct Serving<'a> {
     pub span: Span<'a>,
     /// Of how many accepted give-ups each connection sends the order of the last to the sweepers: 0 to 1,000, where 0 sends none.
     pub every: u16,
-    /// The path of the file to which the day is written as a script, where one is named.
-    pub journal: Option<&'a str>,
+    /// Where the day is written as a script, if it is.
+    pub journal: Option<Journal<'a>>,
     /// The path of the socket of those who may only look, where one is named.
     pub watch: Option<&'a str>,
     ghost port_from_one: { 1 ≤ port },

@@ -12,6 +12,10 @@ mod doings;
 #[cfg(test)]
 mod doors;
 #[cfg(test)]
+mod frail_device;
+#[cfg(test)]
+mod kept_days;
+#[cfg(test)]
 mod machine;
 #[cfg(test)]
 mod memory;

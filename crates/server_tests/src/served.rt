@@ -1,6 +1,8 @@
 //! A day that is served, and what is done beside it.
 
-ghost use Rattle.std.specs.Prelude.{◌≡◌, ◌≤◌};
+ghost use Rattle.std.specs.Prelude.{◌≡◌, ◌≤◌, IfSome};
+ghost use Rattle.std.proofs.Props.{props};
+ghost use Rattle.gu_keeping.specs.Chains.{chain_of};
 ghost use Rattle.gu_terms.specs.Histories.{lots_swept};
 ghost use denote.Param.Send.{IsSend, IsSync};
 
@@ -9,10 +11,13 @@ use crate::doings::{Doing, There, do_all};
 use crate::doors::TestDoor;
 use crate::machine::Machine;
 use crate::opening::book_after;
+use gu_book::Book;
 use gu_desk::{EntryLedger, LotLedger};
-use gu_server::{Closed, Closers, Front, Opening, Service, serve_day};
+use gu_journal::{Log, Memory, Sink};
+use gu_server::{Closed, Closers, DayJournal, Front, Opening, Served, Service, serve_day};
 use gu_sockets::Doorway;
 use gu_streams::StreamError;
+use gu_terms::Receipt;
 use std::alloc::Global;
 use std::marker::Brand;
 use std::net::{Net, TcpListener, TcpStream};
@@ -123,14 +128,17 @@ fn day<
     E: EntryLedger + Send + Sync,
     S: LotLedger + Send + Sync,
     R: Net<Listener = TcpListener, Stream = TcpStream> + Threads + Wait + Clock + Abort + Sync,
+    K: Sink + Send + Drop,
 >(
     rt: &R,
     alloc: Global,
-    opening: Opening,
+    opening: Opening<K>,
     outside: Outside,
     doing: Doing,
     said: &Mutex<Vec<u8>>,
-) -> Result<(Closed, Closers), StreamError>
+) -> Result<Served<K>, StreamError>
+where
+    K::Place: Send,
     requires reference { opening.book.reference ≡ E.reference }
     requires history { (opening.book.history ≡ E.opening) × (lots_swept opening.book.history ≡ S.opening) }
     requires annals { opening.annals.name ≡ E.history }
@@ -141,13 +149,13 @@ fn day<
     let Ends { front, there } = ends_of(rt, alloc, outside);
     let (served, done) = thread::join(
         rt,
-        || -> Result<(Closed, Closers), StreamError>
+        || -> Result<Served<K>, StreamError>
             requires { (opening.book.reference ≡ E.reference) × (opening.book.history ≡ E.opening) × (opening.annals.name ≡ E.history)
                 × (lots_swept opening.book.history ≡ S.opening) × (opening.entries.name ≡ E.name) × (opening.entries.parts ≡ E.parts)
                 × (opening.swept.name ≡ S.name) × (opening.swept.parts ≡ S.parts)
-                × IsSync R.row × IsSend E.row × IsSync E.row × IsSend S.row × IsSync S.row }
+                × IsSync R.row × IsSend E.row × IsSync E.row × IsSend S.row × IsSync S.row × IsSend K.row × IsSend K.Place.row }
         {
-            serve_day::<E, S, Machine<'_, R>, Vec<u8>, TestDoor>(
+            serve_day::<E, S, Machine<'_, R>, Vec<u8>, TestDoor, K>(
                 &machine, alloc, opening, front, None,
             )
         },
@@ -157,28 +165,73 @@ fn day<
     served
 }
 
-/// What the day of a row begins with.
-fn opening_of(rt: &impl Abort, alloc: Global, row: &Row) -> Opening {
-    let (book, receipts) = book_after(alloc, row.begin).ok().expect(rt, "a book");
-    let opened = Opening::new(
-        alloc,
+/// What the day of a row begins with, of a book that has this journal, or none.
+fn opening_of<K: Sink + Drop>(
+    rt: &impl Abort,
+    alloc: Global,
+    row: &Row,
+    begun: Begun<K>,
+) -> Opening<K> {
+    let Begun {
         book,
         receipts,
-        row.span.service(rt).with_operators(true, false),
-    );
+        journal,
+    } = begun;
+    let service = row.span.service(rt).with_operators(true, false);
+    let opened = Opening::new(alloc, book, receipts, journal, service);
     let mut opening = opened.ok().expect(rt, "an opening");
     opening.every = row.every;
     opening.write_wait_ms = row.doing.write_wait_ms();
     opening
 }
 
-/// What the day of a row comes to.
+/// A book with the receipts of its entries, and its journal, if it has one.
+#[derive(Drop)]
+pub struct Begun<K: Sink> {
+    pub book: Book,
+    pub receipts: Vec<Receipt>,
+    pub journal: Option<DayJournal<K>>,
+    ghost journaled: { IfSome journal (λ j. j.chain ≡ chain_of book.history) } by { Prim.hlevel props },
+}
+
+/// What the day of a row comes to that begins so.
+pub fn served_from<
+    R: Net<Listener = TcpListener, Stream = TcpStream> + Threads + Wait + Clock + Abort + Sync,
+    K: Sink + Send + Drop,
+>(
+    rt: &R,
+    alloc: Global,
+    outside: Outside,
+    row: &Row,
+    begun: Begun<K>,
+    said: &Mutex<Vec<u8>>,
+) -> Served<K>
+where
+    K::Place: Send,
+{
+    let opening = opening_of(rt, alloc, row, begun);
+    let served = day::<Brand, Brand, R, K>(rt, alloc, opening, outside, row.doing, said);
+    served.ok().expect(rt, "a day")
+}
+
+/// What the day of a row comes to, which has no journal.
 pub fn end_of<
     R: Net<Listener = TcpListener, Stream = TcpStream> + Threads + Wait + Clock + Abort + Sync,
 >(rt: &R, alloc: Global, outside: Outside, row: &Row, said: &Mutex<Vec<u8>>) -> (Closed, Closers) {
-    let opening = opening_of(rt, alloc, row);
-    let served = day::<Brand, Brand, R>(rt, alloc, opening, outside, row.doing, said);
-    served.ok().expect(rt, "a day")
+    let (book, receipts) = book_after(alloc, row.begin).ok().expect(rt, "a book");
+    let begun: Begun<Log<Memory>> = Begun {
+        book,
+        receipts,
+        journal: None,
+    };
+    let served = served_from(rt, alloc, outside, row, begun, said);
+    let Served {
+        closed,
+        closers,
+        journal,
+    } = served;
+    assert!(rt; journal.is_none());
+    (closed, closers)
 }
 
 /// Asserts that a day ends with these lines.

@@ -1,7 +1,7 @@
 use Rattle.std.proofs.Common.{rules, ◌≡◌, ◌∙◌, ap, codes}
 use Rattle.clap.specs.Words.{App, app_of, new_app, rule_of, with_rule}
 use Rattle.clap.specs.Simple.{app_of_fields}
-use Rattle.gu_words.specs.CommandLine.{connections_rule, every_rule, needed, path_rule, port_rule}
+use Rattle.gu_words.specs.CommandLine.{connections_rule, every_rule, flag_rule, needed, path_rule, port_rule}
 use Rattle.gu_words.proofs.WordLemmas.{last_rule_added, word_added}
 use Rattle.gu_words.proofs.commands.counted_command.Goals as goal
 
@@ -25,4 +25,7 @@ returns c =
     let with_every : App = with_rule with_connections every_rule in
     let every_made : app_of c.in_ok-with_sweeps.with_sweeps ≡ with_every = word_added c.in_ok-of_firms.of_firms c.in_ok-with_sweeps.with_sweeps c.number_option-every.result with_connections every_rule c.in_ok-with_sweeps.ensures c.number_option-every.ensures.local is_every connections_made in
     let is_journal : rule_of c.path_option-journal.result ≡ path_rule (codes "journal") = search rules in
-    last_rule_added c.arg-6.result c.in_ok-with_sweeps.with_sweeps c.path_option-journal.result with_every (path_rule (codes "journal")) every_made c.path_option-journal.ensures.local is_journal c.arg-6.ensures
+    let is_resume : rule_of c.flag-resume.result ≡ flag_rule (codes "resume") = search rules in
+    let with_journal : App = with_rule with_every (path_rule (codes "journal")) in
+    let journal_made : app_of c.in_ok-with_journal.with_journal ≡ with_journal = word_added c.in_ok-with_sweeps.with_sweeps c.in_ok-with_journal.with_journal c.path_option-journal.result with_every (path_rule (codes "journal")) c.in_ok-with_journal.ensures c.path_option-journal.ensures.local is_journal every_made in
+    last_rule_added c.arg-7.result c.in_ok-with_journal.with_journal c.flag-resume.result with_journal (flag_rule (codes "resume")) journal_made c.flag-resume.ensures.local is_resume c.arg-7.ensures

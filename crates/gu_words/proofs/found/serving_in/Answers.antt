@@ -12,5 +12,5 @@ returns c within fits =
     (c.get_str.ensures ∙ first_value-rows found (codes "script"))
     (c.span_in.ensures within fits)
     (numbered (rows_of found) c.number-2.result 0 1000 (codes "K") c.word-3.result.now c.number-2.ensures.number c.word-3.ensures within.every)
-    (c.get_str-2.ensures ∙ first_value-rows found (codes "journal"))
-    (c.get_str-3.ensures ∙ first_value-rows found (codes "watch"))
+    c.journal_in.ensures
+    (c.get_str-2.ensures ∙ first_value-rows found (codes "watch"))

@@ -1,5 +1,5 @@
 use Rattle.gu_terms.specs.Histories.{lots_swept}
-use Rattle.server_tests.proofs.served.end_of.Given as goal
+use Rattle.server_tests.proofs.served.served_from.Given as goal
 
 abbrev pub ghosts-day-E-Ledger : goal.ghosts-day-E-Ledger
 ghosts-day-E-Ledger g a = record { name = a.opening.entries.name; parts = a.opening.entries.parts }

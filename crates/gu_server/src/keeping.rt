@@ -1,0 +1,146 @@
+//! The thread that writes the journal of a day.
+
+use crate::floor::Floor;
+use crate::journal_end::{LostBy, LostJournal};
+use crate::origins::Origins;
+use crossbeam_channel::Receiver;
+use gu_desk::{EntryLedger, LotLedger, Origin};
+use gu_journal::Sink;
+use gu_keeping::{Keeper, Unkept};
+use std::alloc::{AllocError, Global};
+use std::sync::{Wait, WaitMethods};
+
+/// How many entries are kept at once at most.
+const MOST_AT_ONCE: usize = 1_024;
+
+/// What the thread that writes the journal is told.
+#[derive(Drop)]
+pub enum News {
+    /// The entry of this number was made.
+    Made { number: u64, origin: Origin },
+    /// No more entries are made.
+    Over,
+}
+
+/// What the thread that writes the journal knows of entries that aren't kept yet.
+#[derive(Drop)]
+struct Unwritten {
+    origins: Origins,
+    /// Whether no more entries are made.
+    is_over: bool,
+}
+
+impl Unwritten {
+    /// Creates that of a day of which this many entries are kept.
+    fn after(alloc: Global, kept: usize) -> Self {
+        Unwritten {
+            origins: Origins::after(alloc, kept as u64),
+            is_over: false,
+        }
+    }
+
+    /// Notes a piece of news.
+    fn note(&mut self, news: News) -> Result<(), AllocError> {
+        match news {
+            News::Made { number, origin } => self.origins.note(number, origin),
+            News::Over => {
+                self.is_over = true;
+                Ok(())
+            }
+        }
+    }
+
+    /// Waits for news, and notes what there is.
+    fn wait<R: Wait>(&mut self, rt: &R, news: &Receiver<News>) -> Result<(), AllocError> {
+        match news.recv(rt) {
+            Ok(first) => self.note(first)?,
+            Err(_) => self.is_over = true,
+        }
+        for more in news.try_iter(rt).take(MOST_AT_ONCE) {
+            self.note(more)?;
+        }
+        Ok(())
+    }
+}
+
+/// Keeps the next entries, as far as it is known who made them, and says so to who holds something back.
+fn keep_known<E: EntryLedger, S: LotLedger, R: Wait, K: Sink>(
+    floor: &Floor<'_, E, S, R>,
+    mut keeper: Keeper<E, K>,
+    unwritten: &mut Unwritten,
+) -> Result<Keeper<E, K>, Unkept<Keeper<E, K>, K::Place>> {
+    for _batch in floor.rt.forever() {
+        let mut ready = Vec::new(floor.alloc);
+        if unwritten.origins.ready(MOST_AT_ONCE, &mut ready).is_err() {
+            return Err(Unkept::Memory(keeper));
+        }
+        if ready.is_empty() {
+            break;
+        }
+        keeper = keeper.keep(floor.alloc, floor.rt, floor.desk, &ready)?;
+        let kept = keeper.count() as u64;
+        unwritten.origins.forget(kept);
+        floor.show_kept(kept);
+    }
+    Ok(keeper)
+}
+
+/// Keeps each entry of the day, until no more are made.
+fn keep_day<E: EntryLedger, S: LotLedger, R: Wait, K: Sink>(
+    floor: &Floor<'_, E, S, R>,
+    mut keeper: Keeper<E, K>,
+    news: &Receiver<News>,
+) -> Result<Keeper<E, K>, Unkept<Keeper<E, K>, K::Place>> {
+    let mut unwritten = Unwritten::after(floor.alloc, keeper.count());
+    for _news in floor.rt.forever() {
+        if unwritten.wait(floor.rt, news).is_err() {
+            return Err(Unkept::Memory(keeper));
+        }
+        keeper = keep_known(floor, keeper, &mut unwritten)?;
+        if unwritten.is_over {
+            break;
+        }
+    }
+    Ok(keeper)
+}
+
+/// Returns why the journal couldn't be written on.
+fn lost_by<E: EntryLedger, K: Sink + Drop>(
+    unkept: Unkept<Keeper<E, K>, K::Place>,
+) -> LostBy<K::Place> {
+    match unkept {
+        Unkept::Memory(keeper) => {
+            drop(keeper);
+            LostBy::Memory
+        }
+        Unkept::Missing(keeper) | Unkept::TooLong(keeper) => {
+            drop(keeper);
+            LostBy::Length
+        }
+        Unkept::Failed(stopped) => LostBy::Place(stopped),
+    }
+}
+
+/// What the thread that writes the journal hands back: what kept the day, if it kept all that it was told of.
+pub type Kept<E, K> = Result<Keeper<E, K>, LostJournal<<K as Sink>::Place>>;
+
+/// Writes the journal of a day, until no more entries are made. Where it can't be written on, the day ends: what was kept is still shown,
+/// and nothing else.
+pub fn keep_all<E: EntryLedger, S: LotLedger, R: Wait, K: Sink + Drop>(
+    floor: &Floor<'_, E, S, R>,
+    keeper: Keeper<E, K>,
+    news: Receiver<News>,
+) -> Kept<E, K> {
+    let ended = keep_day(floor, keeper, &news);
+    drop(news);
+    match ended {
+        Ok(keeper) => Ok(keeper),
+        Err(unkept) => {
+            floor.lose_journal();
+            Err(LostJournal {
+                kept: floor.posts.kept(),
+                by: lost_by(unkept),
+            })
+        }
+    }
+}

@@ -1,0 +1,61 @@
+//! The origins of entries that aren't kept yet.
+
+use gu_desk::Origin;
+use std::alloc::{AllocError, Global};
+use std::collections::VecDeque;
+
+/// The origins of entries that aren't kept yet. They are told of out of turn now and then, since an entry is made before it is told of.
+#[derive(Drop)]
+pub struct Origins {
+    /// The number of the entry that is kept next.
+    next: u64,
+    /// What is known of that entry and of those after it.
+    known: VecDeque<Option<Origin>>,
+}
+
+impl Origins {
+    /// Creates those of a day of which this many entries are kept.
+    pub fn after(alloc: Global, kept: u64) -> Self {
+        Origins {
+            next: kept.saturating_add(1),
+            known: VecDeque::new(alloc),
+        }
+    }
+
+    /// Notes who made the entry of a number. Of an entry that is kept nothing is noted.
+    pub fn note(&mut self, number: u64, origin: Origin) -> Result<(), AllocError> {
+        let Some(place) = number.checked_sub(self.next) else {
+            return Ok(());
+        };
+        let place = place as usize;
+        for _unknown in self.known.len()..place.saturating_add(1) {
+            self.known.push_back(None)?;
+        }
+        if let Some(known) = self.known.get_mut(place) {
+            *known = Some(origin);
+        }
+        Ok(())
+    }
+
+    /// Puts the origins of the next entries into an empty list, this many at most, up to the first that isn't known.
+    pub fn ready(&self, most: usize, origins: &mut Vec<Origin>) -> Result<(), AllocError> {
+        for known in self.known.iter().take(most) {
+            match known {
+                Some(origin) => origins.push(*origin)?,
+                None => break,
+            }
+        }
+        Ok(())
+    }
+
+    /// Forgets those of the entries that are kept: this many in all.
+    pub fn forget(&mut self, kept: u64) {
+        let more = kept.saturating_add(1).saturating_sub(self.next);
+        for _entry in 0..more {
+            if self.known.pop_front().is_none() {
+                break;
+            }
+        }
+        self.next = self.next.saturating_add(more);
+    }
+}
