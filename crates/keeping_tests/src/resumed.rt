@@ -11,6 +11,7 @@ use gu_book::Book;
 use gu_desk::{BlankAnnals, EntryLedger, LotLedger};
 use gu_journal::{Log, Memory, Opened};
 use gu_keeping::{Chain, check_digests};
+use gu_terms::History;
 use std::alloc::Global;
 use std::marker::Brand;
 use std::process::Abort;
@@ -84,6 +85,16 @@ fn gone_on<E: EntryLedger, S: LotLedger, R: Wait + Abort>(
     log.finish().ok().expect(rt, "memory")
 }
 
+/// Returns the chain of a history, whose digests a text has.
+fn chain_in(rt: &impl Abort, alloc: Global, text: &[u8], history: &History) -> Chain
+    ensures { result ≡ chain_of history.now }
+{
+    match check_digests(alloc, text, history) {
+        Ok(chain) => chain,
+        Err(_) => panic!(rt; "other digests"),
+    }
+}
+
 #[test]
 fn a_day_goes_on_after_the_last_whole_line(rt: HostRuntime) {
     let alloc = rt.alloc();
@@ -94,8 +105,7 @@ fn a_day_goes_on_after_the_last_whole_line(rt: HostRuntime) {
     let Opened { log, text, torn } = found;
     assert_eq!(rt; torn, 19);
     let book = played(alloc, &text).expect(&rt, "a book");
-    let chain = check_digests(alloc, &text, book.history());
-    let chain = chain.ok().expect(&rt, "the digests");
+    let chain = chain_in(&rt, alloc, &text, book.history());
     let annals = annals_of(&rt, alloc, &book);
     let device = gone_on::<Brand, Brand, HostRuntime>(
         &rt,
