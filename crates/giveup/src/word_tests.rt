@@ -71,7 +71,7 @@ giveup fix E1 house.csv E2 -> UnknownArgument 2
 giveup fix E1 house.csv --resume -> UnknownArgument 2
 giveup replay house.csv --journal log -> UnknownArgument 2
 giveup serve house.csv 9878 --resume -> MissingRequiredArgument 2
-giveup serve house.csv 9878 --journal log --resume=yes -> ArgumentConflict 2
+giveup serve house.csv 9878 --journal log --resume=yes -> TooManyValues 2
 giveup fix -> MissingRequiredArgument 2
 giveup fix E1 -> MissingRequiredArgument 2
 giveup replay -> MissingRequiredArgument 2
