@@ -1,10 +1,10 @@
 -- One byte more of a file that is walked through.
-use Rattle.std.proofs.Common.{IsTrue, nat_eq, ◌≡◌, ◌≢◌, inl, inr, ℕ, suc, ◌+◌, ◌<◌, ◌≤◌, Bool, true, false, ◌||◌, ◌&&◌, List, [], ◌∷◌, ◌++◌, length, take, drop, get_or, refl, sym, ◌∙◌, ap, subst, arith, if◌then◌else◌, ◌==◌, append-nil, take-append-drop}
+use Rattle.std.proofs.Common.{IsTrue, nat_eq, zero, ◌-◌, length-append, ◌≡◌, ◌≢◌, inl, inr, ℕ, suc, ◌+◌, ◌<◌, ◌≤◌, Bool, true, false, ◌||◌, ◌&&◌, List, [], ◌∷◌, ◌++◌, length, take, drop, get_or, refl, sym, ◌∙◌, ap, subst, arith, if◌then◌else◌, ◌==◌, append-nil, take-append-drop}
 use Rattle.std.proofs.lemmas.Bool.Decides.{nat_tests}
 use Rattle.std.proofs.lemmas.List.{take_all, take_more, length-take}
 use Rattle.std.proofs.Math.Seq.{drop-cons}
 use Rattle.gu_journal.specs.Text.{HasNoZero, IsWholeLines, before_zero, ends_line, used_length, whole_lines}
-use Rattle.gu_journal.proofs.Texts.{at_zero, before_zero-text, no_zero-append, no_zero-before_zero, used_more, used_on, bool_cases, lines_more, lines_none}
+use Rattle.gu_journal.proofs.Texts.{at_zero, before_zero-text, no_zero-append, no_zero-before_zero, used_more, used_on, bool_cases, lines_more, lines_none, lines_then}
 
 pub no_zero-push : (xs : List ℕ) (byte : ℕ) → HasNoZero xs → byte ≢ 0 → HasNoZero (xs ++ byte ∷ [])
 no_zero-push xs byte none isnt = no_zero-append xs (byte ∷ []) none (isnt, tt)
@@ -51,6 +51,15 @@ used-push_zero (x ∷ xs) = ap (λ (n : ℕ). if x == 0 && n == 0 then 0 else n 
 pub no_zero_more : (xs : List ℕ) (i : ℕ) → i < length xs → HasNoZero (take i xs) → get_or xs i 0 ≢ 0 → HasNoZero (take (i + 1) xs)
 no_zero_more xs i lt none isnt = subst HasNoZero (sym (take_more xs i 0 lt)) (no_zero-push (take i xs) (get_or xs i 0) none isnt)
 
+-- no byte is 0 where a search of the first bytes finds none
+pub none_within : (xs : List ℕ) (n : ℕ) → n ≤ length xs → ((k : ℕ) → 0 ≤ k → k < n → (get_or xs k 0 == 0) ≡ true → ⊥) → HasNoZero (take n xs)
+none_within xs zero within nowhere = tt
+none_within xs (suc n) within nowhere =
+    let before = none_within xs n (omega (arith, within)) (λ k low lt. nowhere k low (omega (arith, lt))) in
+    let here : get_or xs n 0 ≢ 0 = λ is. nowhere n (omega arith) (omega arith) (ap (λ (b : ℕ). b == 0) is) in
+    let next : n + 1 ≡ suc n = omega arith in
+    subst (λ (m : ℕ). HasNoZero (take m xs)) next (no_zero_more xs n (omega (arith, within)) before here)
+
 pub zero_found : (xs : List ℕ) (i : ℕ) → i < length xs → HasNoZero (take i xs) → get_or xs i 0 ≡ 0 → take i xs ≡ before_zero xs
 zero_found xs i lt none is =
     let rest : before_zero (drop i xs) ≡ [] = ap before_zero (drop-cons xs i 0 lt) ∙ at_zero (get_or xs i 0) (drop (suc i) xs) is in
@@ -83,7 +92,7 @@ used_not_here xs used i lt is so_far =
 
 -- what the ends of the walks tell
 
-eq_of : (a b : ℕ) → IsTrue (nat_eq a b) → a ≡ b
+pub eq_of : (a b : ℕ) → IsTrue (nat_eq a b) → a ≡ b
 eq_of a b is = grind (arith, nat_tests)
 
 is_of : (a b : ℕ) → a ≡ b → IsTrue (nat_eq a b)
@@ -99,8 +108,24 @@ only_if_no_zero xs n within before none =
     let whole : before_zero xs ≡ xs = sym (ap before_zero (append-nil xs)) ∙ before_zero-text xs [] none ∙ append-nil xs in
     is_of n (length xs) (omega (arith, within, length-take n xs, ap length (before ∙ whole)))
 
-pub whole_if : (xs : List ℕ) (n : ℕ) → take n xs ≡ whole_lines xs → IsTrue (nat_eq n (length xs)) → IsWholeLines xs
-whole_if xs n lines is = sym lines ∙ take_all n xs (omega (arith, eq_of n (length xs) is))
+-- a text whose last byte doesn't end a line isn't whole
+last_ends : (ys : List ℕ) (byte : ℕ) → IsWholeLines (ys ++ byte ∷ []) → IsTrue (nat_eq byte 10)
+last_ends ys byte whole = elim (bool_cases (byte == 10)) [
+  | inl is ↦ is
+  | inr isnt ↦ absurd (omega (arith, ap length (lines_then ys), length-append (whole_lines ys) (drop (length (whole_lines ys)) ys), ap length (sym whole ∙ not_ended ys byte isnt), length-append ys (byte ∷ [])))
+]
 
-pub only_if_whole : (xs : List ℕ) (n : ℕ) → n ≤ length xs → take n xs ≡ whole_lines xs → IsWholeLines xs → IsTrue (nat_eq n (length xs))
-only_if_whole xs n within lines whole = is_of n (length xs) (omega (arith, within, length-take n xs, ap length (lines ∙ whole)))
+-- a text that has a byte is its first bytes and the last
+split_last : (xs : List ℕ) → 1 ≤ length xs → xs ≡ take (length xs - 1) xs ++ get_or xs (length xs - 1) 0 ∷ []
+split_last xs some =
+    sym (take_all (length xs - 1 + 1) xs (omega (arith, some))) ∙ take_more xs (length xs - 1) 0 (omega (arith, some))
+
+pub whole_by_last : (xs : List ℕ) → 1 ≤ length xs → IsTrue (nat_eq (get_or xs (length xs - 1) 0) 10) → IsWholeLines xs
+whole_by_last xs some is =
+    let parts : xs ≡ take (length xs - 1) xs ++ 10 ∷ [] = split_last xs some ∙ ap (λ (b : ℕ). take (length xs - 1) xs ++ b ∷ []) (eq_of _ 10 is) in
+    ap whole_lines parts ∙ ended (take (length xs - 1) xs) ∙ sym parts
+
+pub last_by_whole : (xs : List ℕ) → 1 ≤ length xs → IsWholeLines xs → IsTrue (nat_eq (get_or xs (length xs - 1) 0) 10)
+last_by_whole xs some whole =
+    let parts = split_last xs some in
+    last_ends (take (length xs - 1) xs) _ (ap whole_lines (sym parts) ∙ whole ∙ parts)

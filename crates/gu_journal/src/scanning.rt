@@ -3,18 +3,17 @@ ghost use Rattle.std.specs.Prelude.{◌≡◌, ◌≤◌, ◌↔◌, length, tak
 ghost use Rattle.gu_journal.specs.Text.{HasNoZero, IsBatch, IsWholeLines, before_zero, text_of, used_length, whole_lines};
 
 use crate::MAX_BATCH;
+use memchr::memchr;
 
 /// Returns the place of the first zero, or the length.
 fn zero_at(bytes: &[u8]) -> usize
     ensures within { result ≤ length bytes.now }
     ensures before { take result bytes.now ≡ before_zero bytes.now }
 {
-    for (place, byte) in bytes.iter().enumerate() {
-        if *byte == 0 {
-            return place;
-        }
+    match memchr(0, bytes) {
+        Some(place) => place,
+        None => bytes.len(),
     }
-    bytes.len()
 }
 
 /// Returns the place after the last line feed, or 0.
@@ -63,7 +62,10 @@ fn has_no_zero(bytes: &[u8]) -> bool
 fn ends_with_line(text: &[u8]) -> bool
     ensures { IsTrue result ↔ IsWholeLines text.now }
 {
-    lines_end(text) == text.len()
+    match text {
+        [] => true,
+        [.., last] => *last == b'\n',
+    }
 }
 
 /// Returns whether a sink may append these bytes.
