@@ -12,5 +12,5 @@ mod splitting;
 pub use error::SecretsFault;
 pub use issuing::{Issued, issue};
 pub use laws::an_issued_secret_admits_its_firm;
-pub use row::SecretRow;
+pub use row::{SecretRow, firm_named};
 pub use secrets::Secrets;

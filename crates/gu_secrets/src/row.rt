@@ -20,7 +20,7 @@ pub struct SecretRow {
 }
 
 /// Returns the firm with this name, if it is one of these firms.
-fn firm_named(firms: &[FirmId], name: &[u8]) -> Option<FirmId>
+pub fn firm_named(firms: &[FirmId], name: &[u8]) -> Option<FirmId>
     ensures { result ≡ firm_named firms.now name.now }
 {
     firms.iter().copied().find(|firm| firm.get() == name)

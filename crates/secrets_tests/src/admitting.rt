@@ -3,7 +3,7 @@
 use crate::sample::{FILE, firm_of, read};
 
 /// A firm, the secret that it sends, and whether it may log on.
-const LOGONS: [(&str, Option<&str>, bool); 18] = [
+const LOGONS: &[(&str, Option<&str>, bool)] = &[
     ("E1", Some("first secret"), true),
     ("E1", Some("second secret"), true),
     ("C1", Some("first secret"), true),
@@ -31,7 +31,7 @@ const LOGONS: [(&str, Option<&str>, bool); 18] = [
 #[test]
 fn a_firm_logs_on_by_a_secret_that_fits_a_row_of_its_own(rt: HostRuntime) {
     let secrets = read(rt.alloc(), FILE.as_bytes()).ok().expect(&rt, "a file");
-    for (name, secret, want) in LOGONS {
+    for &(name, secret, want) in LOGONS {
         let secret = secret.map(|text| text.as_bytes());
         assert_eq!(rt; secrets.admits(firm_of(&rt, name), secret), want, "{name}");
     }

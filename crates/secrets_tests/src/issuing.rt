@@ -14,7 +14,7 @@ fn drawn_from(first: u8, step: u8) -> [u8; 32] {
 
 /// A firm, the first byte that is drawn, by how much each other one is more than the one before it, the secret that is issued, and its
 /// line. The digests are those of Python's hashlib.
-const ISSUED: [(&str, u8, u8, &str, &str); 3] = [
+const ISSUED: &[(&str, u8, u8, &str, &str)] = &[
     (
         "E1",
         0,
@@ -41,7 +41,7 @@ const ISSUED: [(&str, u8, u8, &str, &str); 3] = [
 #[test]
 fn a_firm_logs_on_by_the_secret_that_is_issued_to_it(rt: HostRuntime) {
     let alloc = rt.alloc();
-    for (name, first, step, secret, line) in ISSUED {
+    for &(name, first, step, secret, line) in ISSUED {
         let issued = issue(alloc, firm_of(&rt, name), drawn_from(first, step))
             .ok()
             .expect(&rt, "memory");

@@ -5,7 +5,7 @@ use gu_secrets::SecretsFault;
 use std::alloc::{AllocError, Global};
 
 /// What stands in the place of which part of the file, and what is then said of it.
-const ROWS: [(&str, &str, &str); 33] = [
+const ROWS: &[(&str, &str, &str)] = &[
     ("", "", "OK"),
     // The firm.
     ("E1,0001", "F1,0001", "OK"),
@@ -58,7 +58,7 @@ fn told(alloc: Global, file: &[u8]) -> Result<String, AllocError> {
 #[test]
 fn the_first_bad_line_is_named(rt: HostRuntime) {
     let alloc = rt.alloc();
-    for (part, other, want) in ROWS {
+    for &(part, other, want) in ROWS {
         let file = if part.is_empty() {
             String::from_str(alloc, FILE)
         } else {

@@ -1,0 +1,3 @@
+pub mod Knocks
+pub mod Hearing
+pub mod Listening
