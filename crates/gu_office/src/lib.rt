@@ -1,6 +1,10 @@
-//! Where firms and operators come in to a server: its port, and its sockets.
+//! Where firms and operators come in to a server: its port, the doors of firms, and the sockets of operators.
 #![tactic(auto)]
 
+mod firm_doors;
+mod listen_error;
 mod listening;
 
-pub use listening::{Addresses, ListenError};
+pub use firm_doors::FirmDoors;
+pub use listen_error::ListenError;
+pub use listening::Addresses;

@@ -1,7 +1,9 @@
-//! Where firms and operators come in: the port, and the sockets of operators.
+//! Where firms and operators come in: the port, the doors of firms, and the sockets of operators.
 
+use crate::firm_doors::{FirmDoors, MadeDoors, remove_all};
+use crate::listen_error::{ListenError, is_of_descriptors};
 use gu_server::Front;
-use gu_sockets::{Doorway, ListenFault, listen_at};
+use gu_sockets::{Doorway, Listeners, listen_at};
 use std::alloc::Global;
 use std::net::{Net, TcpListener, TcpStream};
 use std::os::unix::net::UnixListener;
@@ -10,22 +12,22 @@ use std::{fs, io};
 
 /// Where firms and operators come in.
 #[derive(Clone, Copy, Debug)]
-pub struct Addresses<'a> {
-    /// The port of this machine for firms.
-    pub port: u16,
+pub struct Addresses<'a, 'f> {
+    /// The port of this machine for firms, if one is to be open.
+    pub port: Option<u16>,
+    /// The doors of firms, if there are any.
+    pub doors: Option<FirmDoors<'a, 'f>>,
     /// The path of the socket of operators, where there is one.
     pub console: Option<&'a str>,
     /// The path of the socket for those who may only look, where there is one.
     pub watch: Option<&'a str>,
 }
 
-/// What can't be listened at, and why.
-#[derive(Debug, Drop)]
-pub enum ListenError<'a> {
-    /// The socket of this path.
-    Socket(&'a str, ListenFault),
-    /// The port.
-    Port(io::Error),
+/// The sockets of operators.
+#[derive(Drop)]
+struct OperatorSockets {
+    console: Option<UnixListener>,
+    watch: Option<UnixListener>,
 }
 
 /// Returns a socket at a path, if one is named.
@@ -49,43 +51,106 @@ fn remove<R: Files>(rt: &R, path: Option<&str>) {
     }
 }
 
-impl<'a> Addresses<'a> {
-    /// Listens at the port, beside these sockets.
+/// Returns the sockets of the doors of firms, if there are any.
+fn doors_of<'a, 'f, R: Files + Net>(
+    rt: &R,
+    alloc: Global,
+    doors: Option<FirmDoors<'a, 'f>>,
+) -> Result<MadeDoors, ListenError<'a>> {
+    match doors {
+        Some(doors) => doors.make(rt, alloc),
+        None => Ok(MadeDoors::new(alloc)),
+    }
+}
+
+impl<'a, 'f> Addresses<'a, 'f> {
+    /// Listens at the port, if one is to be open, beside these sockets.
     fn front_of<R: Net<Listener = TcpListener, Stream = TcpStream>>(
         &self,
         rt: &R,
         alloc: Global,
-        console: Option<UnixListener>,
-        watch: Option<UnixListener>,
+        operators: OperatorSockets,
+        doors: Vec<UnixListener>,
     ) -> io::Result<Front<Doorway>> {
-        let listener = TcpListener::bind(rt, ("127.0.0.1", self.port))?;
-        let (door, bell) = Doorway::new(rt, alloc, listener, console, watch)?;
+        let OperatorSockets { console, watch } = operators;
+        let port = match self.port {
+            Some(port) => Some(TcpListener::bind(rt, ("127.0.0.1", port))?),
+            None => None,
+        };
+        let listeners = Listeners {
+            port,
+            doors,
+            console,
+            watch,
+        };
+        let (door, bell) = Doorway::new(rt, alloc, listeners)?;
         Ok(Front { door, bell })
     }
 
-    /// Listens at the console, then at the socket for those who may only look, and then at the port. Where one of them can't be had, the
-    /// sockets that were made for the others are gone again. Else they stay, also after the day: a dead one is replaced by the next desk.
+    /// Returns what an error is called that came once the sockets were made.
+    fn error_of(&self, error: io::Error) -> ListenError<'a> {
+        match self.doors {
+            Some(doors) if is_of_descriptors(&error) => {
+                ListenError::TooFewDescriptors(doors.firms.len())
+            }
+            _ => ListenError::Port(error),
+        }
+    }
+
+    /// Listens at the doors of firms and then at the port, beside the sockets of operators.
+    fn listen_for_firms<R: Files + Net<Listener = TcpListener, Stream = TcpStream>>(
+        &self,
+        rt: &R,
+        alloc: Global,
+        operators: OperatorSockets,
+    ) -> Result<Front<Doorway>, ListenError<'a>> {
+        let MadeDoors { listeners, paths } = match doors_of(rt, alloc, self.doors) {
+            Ok(made) => made,
+            Err(error) => return Err(error),
+        };
+        match self.front_of(rt, alloc, operators, listeners) {
+            Ok(front) => Ok(front),
+            Err(error) => {
+                remove_all(rt, &paths);
+                Err(self.error_of(error))
+            }
+        }
+    }
+
+    /// Listens at the socket for those who may only look, and then for firms, beside the console.
+    fn listen_beside<R: Files + Net<Listener = TcpListener, Stream = TcpStream>>(
+        &self,
+        rt: &R,
+        alloc: Global,
+        console: Option<UnixListener>,
+    ) -> Result<Front<Doorway>, ListenError<'a>> {
+        let watch = match socket_at(rt, self.watch) {
+            Ok(watch) => watch,
+            Err(error) => return Err(error),
+        };
+        let front = self.listen_for_firms(rt, alloc, OperatorSockets { console, watch });
+        if front.is_err() {
+            remove(rt, self.watch);
+        }
+        front
+    }
+
+    /// Listens at the console, then at the socket for those who may only look, then at the doors of firms, and then at the port. Where one of
+    /// them can't be had, the sockets that were made for the others are gone again. Else they stay, also after the day: a dead one is replaced
+    /// by the next desk.
     pub fn listen<R: Files + Net<Listener = TcpListener, Stream = TcpStream>>(
         &self,
         rt: &R,
         alloc: Global,
     ) -> Result<Front<Doorway>, ListenError<'a>> {
-        let console = socket_at(rt, self.console)?;
-        let watch = match socket_at(rt, self.watch) {
-            Ok(watch) => watch,
-            Err(error) => {
-                remove(rt, self.console);
-                drop(console);
-                return Err(error);
-            }
+        let console = match socket_at(rt, self.console) {
+            Ok(console) => console,
+            Err(error) => return Err(error),
         };
-        match self.front_of(rt, alloc, console, watch) {
-            Ok(front) => Ok(front),
-            Err(error) => {
-                remove(rt, self.console);
-                remove(rt, self.watch);
-                Err(ListenError::Port(error))
-            }
+        let front = self.listen_beside(rt, alloc, console);
+        if front.is_err() {
+            remove(rt, self.console);
         }
+        front
     }
 }

@@ -3,6 +3,7 @@
 use crate::bell::Bell;
 use crate::posts::Posts;
 use crossbeam_channel::{Receiver, Sender};
+use gu_terms::FirmId;
 use std::alloc::{AllocError, Global};
 use std::sync::Wait;
 
@@ -13,8 +14,10 @@ pub struct Call<C> {
     pub stream: C,
     /// Its number, from 1 on: each connection of a day has another.
     pub number: u64,
-    /// The port of its peer.
+    /// The port of its peer, or 0.
     pub port: u64,
+    /// The firm at whose own door it came, if it came by one.
+    pub door: Option<FirmId>,
 }
 
 /// Where the connections of a worker are sent. Once it is dropped no more come, and the worker is woken to see it.

@@ -1,7 +1,8 @@
 //! A listener, and whether a connection may be waiting at it.
 
-ghost use Rattle.std.specs.Prelude.{◌≡◌, true, false, None, OnErr, IfOk};
+ghost use Rattle.std.specs.Prelude.{◌≡◌, true, false, None, OnErr, IfOk, IfSome};
 
+use mio::net;
 use mio::net::{TcpListener, TcpStream};
 use std::io;
 use std::io::ErrorKind;
@@ -12,15 +13,24 @@ const MOST_REPEATS: u32 = 1_000;
 
 /// A listener that doesn't wait.
 pub trait Listens {
-    /// What it accepts.
-    type Caller: Drop;
+    /// A connection, with what is known of its peer.
+    type Accepted: Drop;
+
+    /// The listener may have accepted this. Of a socket it says nothing, but whoever serves listeners of any type keeps to it: so a
+    /// connection is never taken for one that another listener accepted.
+    ghost accepts: { Self → Self.Accepted → Type 0 };
 
     /// Accepts a connection. Where none is waiting its error is of the kind `WouldBlock`.
-    fn accept_once(&self) -> io::Result<Self::Caller>;
+    fn accept_once(&self) -> io::Result<Self::Accepted>
+        ensures { IfOk result (accepts self.now) };
 }
 
 impl Listens for TcpListener {
-    type Caller = (TcpStream, u16);
+    type Accepted = (TcpStream, u16);
+
+    ghost use Rattle.std.specs.Prelude.{⊤};
+
+    ghost accepts = { λ _ _. ⊤ };
 
     fn accept_once(&self) -> io::Result<(TcpStream, u16)> {
         let (stream, peer) = self.accept()?;
@@ -28,8 +38,13 @@ impl Listens for TcpListener {
     }
 }
 
+// Operators' connections wait.
 impl Listens for UnixListener {
-    type Caller = UnixStream;
+    type Accepted = UnixStream;
+
+    ghost use Rattle.std.specs.Prelude.{⊤};
+
+    ghost accepts = { λ _ _. ⊤ };
 
     fn accept_once(&self) -> io::Result<UnixStream> {
         let (stream, _) = self.accept()?;
@@ -37,8 +52,24 @@ impl Listens for UnixListener {
     }
 }
 
+// Firms' connections don't wait.
+impl Listens for net::UnixListener {
+    type Accepted = net::UnixStream;
+
+    ghost use Rattle.std.specs.Prelude.{⊤};
+
+    ghost accepts = { λ _ _. ⊤ };
+
+    fn accept_once(&self) -> io::Result<net::UnixStream> {
+        let (stream, _) = self.accept()?;
+        Ok(stream)
+    }
+}
+
 /// Accepts a connection, again where a signal cut it short or the peer had gone.
-fn accept_past_signals<L: Listens>(listener: &L) -> io::Result<L::Caller> {
+fn accept_past_signals<L: Listens>(listener: &L) -> io::Result<L::Accepted>
+    ensures { IfOk result (L.accepts listener.now) }
+{
     for _repeat in 0..MOST_REPEATS {
         match listener.accept_once() {
             Err(error)
@@ -56,14 +87,15 @@ fn accept_past_signals<L: Listens>(listener: &L) -> io::Result<L::Caller> {
 /// may be waiting until an accept has said that none is.
 #[derive(Drop)]
 pub struct Door<L> {
-    listener: L,
+    pub(crate) listener: L,
     pub(crate) is_due: bool,
 }
 
 impl<L> Door<L> {
     /// Creates the door of a listener, at which a connection may be waiting.
     pub fn new(listener: L) -> Self
-        ensures { result.is_due ≡ true }
+        ensures due { result.is_due ≡ true }
+        ensures listener { result.listener ≡ listener }
     {
         Door {
             listener,
@@ -80,7 +112,8 @@ impl<L> Door<L> {
 
     /// Notes that a connection may be waiting.
     pub fn note(&mut self)
-        ensures { self.new.is_due ≡ true }
+        ensures due { self.new.is_due ≡ true }
+        ensures listener { self.new.listener ≡ self.old.listener }
     {
         self.is_due = true;
     }
@@ -88,15 +121,17 @@ impl<L> Door<L> {
 
 impl<L: Listens> Door<L> {
     /// Accepts a connection, if one is waiting.
-    pub fn accept(&mut self) -> io::Result<Option<L::Caller>>
-        ensures none { IfOk result (λ caller. caller ≡ None → self.new.is_due ≡ false) }
+    pub fn accept(&mut self) -> io::Result<Option<L::Accepted>>
+        ensures listener { self.new.listener ≡ self.old.listener }
+        ensures accepted { IfOk result (λ one. IfSome one (L.accepts self.old.listener)) }
+        ensures none { IfOk result (λ one. one ≡ None → self.new.is_due ≡ false) }
         ensures failed { OnErr result (self.new.is_due ≡ true) }
     {
         if !self.is_due {
             return Ok(None);
         }
         match accept_past_signals(&self.listener) {
-            Ok(caller) => Ok(Some(caller)),
+            Ok(accepted) => Ok(Some(accepted)),
             Err(error) if error.kind() == ErrorKind::WouldBlock => {
                 self.is_due = false;
                 Ok(None)

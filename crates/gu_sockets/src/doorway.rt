@@ -1,12 +1,15 @@
 //! Where connections come in: the port, and the sockets of operators.
 
-ghost use Rattle.std.specs.Prelude.{◌≡◌, true, false, None, Ok, IfOk, OnErr};
-ghost use Rattle.gu_sockets.specs.Doorways.{has_port, is_any_due};
+ghost use Rattle.std.specs.Prelude.{◌≡◌, true, false, is_some, None, Ok, IfOk, IfSome, OnErr, All, length};
+ghost use Rattle.gu_sockets.specs.Callers.{HasDoor};
+ghost use Rattle.gu_sockets.specs.Doorways.{KeepsWays, door_count, has_port, is_any_due, is_door_due, is_open, is_there};
 
+use crate::caller::Caller;
 use crate::door::Door;
-use crate::doors::{CONSOLE, Doors, PORT, WATCH, accept_at};
+use crate::doors::{CONSOLE, Doors, PORT, WATCH, accept_at, token_of_door};
+use crate::firm_ways::FirmWays;
 use crate::poll_bell::PollBell;
-use mio::net::{TcpListener, TcpStream};
+use mio::net::TcpListener;
 use mio::unix::SourceFd;
 use mio::{Events, Interest, Poll, Registry, Token};
 use std::alloc::Global;
@@ -17,7 +20,20 @@ use std::time::Duration;
 use std::{io, net};
 
 /// How many events are taken from the system at once.
-const MOST_EVENTS: usize = 8;
+const MOST_EVENTS: usize = 64;
+
+/// The listeners of a doorway.
+#[derive(Drop)]
+pub struct Listeners {
+    /// The port, if one is open.
+    pub port: Option<net::TcpListener>,
+    /// The sockets of firms. Each has its place here for its number.
+    pub doors: Vec<UnixListener>,
+    /// The socket of operators, if there is one.
+    pub console: Option<UnixListener>,
+    /// The socket for those who may only look, if there is one.
+    pub watch: Option<UnixListener>,
+}
 
 /// Which socket an operator comes in by.
 #[derive(Clone, Copy, Debug, PartialEq, Eq)]
@@ -36,14 +52,52 @@ pub struct Doorway {
     pub(crate) doors: Doors,
 }
 
-/// Returns the door of a port, which is watched from now on.
-fn port_door(registry: &Registry, listener: net::TcpListener) -> io::Result<Door<TcpListener>>
-    ensures { IfOk result (λ door. door.is_due ≡ true) }
+/// Returns the door of a port, if one is open, which is watched from now on.
+fn port_door(
+    registry: &Registry,
+    listener: Option<net::TcpListener>,
+) -> io::Result<Option<Door<TcpListener>>>
+    ensures there { IfOk result (λ door. is_there door ≡ is_some listener) }
+    ensures due { IfOk result (λ door. is_door_due door ≡ is_some listener) }
 {
+    let Some(listener) = listener else {
+        return Ok(None);
+    };
     listener.set_nonblocking(true)?;
     let mut listener = TcpListener::from_std(listener);
     registry.register(&mut listener, PORT, Interest::READABLE)?;
+    Ok(Some(Door::new(listener)))
+}
+
+/// Returns the door of a firm's socket, which is watched from now on.
+fn firm_door(
+    registry: &Registry,
+    listener: UnixListener,
+    number: usize,
+) -> io::Result<Door<mio::net::UnixListener>>
+    ensures { IfOk result (λ door. door.is_due ≡ true) }
+{
+    listener.set_nonblocking(true)?;
+    let mut listener = mio::net::UnixListener::from_std(listener);
+    registry.register(&mut listener, token_of_door(number), Interest::READABLE)?;
     Ok(Door::new(listener))
+}
+
+/// Returns the doors of firms' sockets, in their order, which are watched from now on.
+fn firm_doors(
+    alloc: Global,
+    registry: &Registry,
+    listeners: Vec<UnixListener>,
+) -> io::Result<Vec<Door<mio::net::UnixListener>>>
+    ensures all { IfOk result (λ doors. length doors.items ≡ length listeners.items) }
+    ensures due { IfOk result (λ doors. All (λ door. door.is_due ≡ true) doors.items) }
+{
+    let mut doors = Vec::with_capacity(alloc, listeners.len())?;
+    for listener in listeners {
+        let number = doors.len();
+        doors.push(firm_door(registry, listener, number)?)?;
+    }
+    Ok(doors)
 }
 
 /// Returns the door of a socket of operators, if there is one, which is watched from now on.
@@ -66,25 +120,27 @@ fn operator_door(
 
 impl Doorway {
     /// Creates the doorway of these listeners, and the bell that wakes who waits on it. The listeners don't wait from now on.
-    pub fn new<R: Net>(
-        net: &R,
-        alloc: Global,
-        listener: net::TcpListener,
-        console: Option<UnixListener>,
-        watch: Option<UnixListener>,
-    ) -> io::Result<(Self, PollBell)>
-        ensures port { IfOk result (λ made. has_port made.0.doors ≡ true) }
-        ensures due { IfOk result (λ made. is_any_due made.0.doors ≡ true) }
+    pub fn new<R: Net>(net: &R, alloc: Global, listeners: Listeners) -> io::Result<(Self, PollBell)>
+        ensures port { IfOk result (λ made. has_port made.0.doors ≡ is_some listeners.port) }
+        ensures doors { IfOk result (λ made. door_count made.0.doors ≡ length listeners.doors.items) }
+        ensures due { IfOk result (λ made. is_open made.0.doors.firms ≡ true → is_any_due made.0.doors ≡ true) }
     {
+        let Listeners {
+            port,
+            doors,
+            console,
+            watch,
+        } = listeners;
         let poll = Poll::new(net)?;
         let registry = poll.registry();
         let bell = PollBell::new(registry)?;
-        let port = port_door(registry, listener)?;
+        let port = port_door(registry, port)?;
+        let doors = firm_doors(alloc, registry, doors)?;
         let console = operator_door(registry, console, CONSOLE)?;
         let watch = operator_door(registry, watch, WATCH)?;
         let events = Events::with_capacity(alloc, MOST_EVENTS)?;
         let doors = Doors {
-            port: Some(port),
+            firms: FirmWays::new(port, doors),
             console,
             watch,
         };
@@ -100,7 +156,7 @@ impl Doorway {
 
     /// Waits until a connection comes, the bell is rung or this time has passed. With no time it waits as long as it takes.
     pub fn wait(&mut self, most: Option<Duration>) -> io::Result<()>
-        ensures port { has_port self.new.doors ≡ has_port self.old.doors }
+        ensures ways { KeepsWays self.old.doors self.new.doors }
         ensures due { is_any_due self.old.doors ≡ true → is_any_due self.new.doors ≡ true }
     {
         self.poll.poll(&mut self.events, most)?;
@@ -116,18 +172,20 @@ impl Doorway {
         self.doors.is_due()
     }
 
-    /// Accepts a connection of a firm, if one is waiting, with the port of its peer. Its reads and writes don't wait.
-    pub fn accept(&mut self) -> io::Result<Option<(TcpStream, u16)>>
-        ensures port { has_port self.new.doors ≡ has_port self.old.doors }
-        ensures closed { has_port self.old.doors ≡ false → result ≡ Ok None }
+    /// Accepts a connection of a firm, if one is waiting. The port and the doors of firms take turns, so that one at which many are waiting
+    /// doesn't hold up the others.
+    pub fn accept(&mut self) -> io::Result<Option<Caller>>
+        ensures ways { KeepsWays self.old.doors self.new.doors }
+        ensures door { IfOk result (λ who. IfSome who (λ caller. HasDoor (door_count self.old.doors) caller.stream caller.door)) }
+        ensures closed { is_open self.old.doors.firms ≡ false → result ≡ Ok None }
         ensures failed { OnErr result (is_any_due self.new.doors ≡ true) }
     {
-        accept_at(&mut self.doors.port)
+        self.doors.accept()
     }
 
     /// Accepts a connection of an operator, if one is waiting. Its reads and writes wait.
     pub fn accept_operator(&mut self, which: OperatorDoor) -> io::Result<Option<UnixStream>>
-        ensures port { has_port self.new.doors ≡ has_port self.old.doors }
+        ensures ways { KeepsWays self.old.doors self.new.doors }
         ensures failed { OnErr result (is_any_due self.new.doors ≡ true) }
     {
         match which {
@@ -136,10 +194,10 @@ impl Doorway {
         }
     }
 
-    /// Closes the port, which refuses from now on.
-    pub fn close_port(&mut self)
-        ensures { has_port self.new.doors ≡ false }
+    /// Closes the port and the doors of firms, which refuse from now on.
+    pub fn close_firms(&mut self)
+        ensures { is_open self.new.doors.firms ≡ false }
     {
-        self.doors.port = None;
+        self.doors.firms.close();
     }
 }

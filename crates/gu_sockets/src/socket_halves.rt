@@ -1,29 +1,28 @@
 //! The two halves of a connection, which share its socket.
 
+use crate::socket_stream::SocketStream;
 use gu_talks::EndsWriting;
-use mio::net::TcpStream;
 use std::alloc::{AllocError, Global};
 use std::io;
 use std::io::{Read, Write};
-use std::net::Shutdown;
 use std::sync::Arc;
 
 /// The half of a connection that is read.
 #[derive(Drop)]
 pub struct SocketReader {
-    stream: Arc<TcpStream>,
+    stream: Arc<SocketStream>,
 }
 
 /// The half of a connection that is written to.
 #[derive(Drop)]
 pub struct SocketWriter {
-    stream: Arc<TcpStream>,
+    stream: Arc<SocketStream>,
 }
 
 /// Returns the halves of a connection. Its socket is closed once both are dropped.
 pub fn halves(
     alloc: Global,
-    stream: TcpStream,
+    stream: SocketStream,
 ) -> Result<(SocketReader, SocketWriter), AllocError> {
     let stream = Arc::new(alloc, stream)?;
     let reader = SocketReader {
@@ -34,15 +33,13 @@ pub fn halves(
 
 impl Read for SocketReader {
     fn read(&mut self, buf: &mut [u8]) -> io::Result<usize> {
-        let mut stream: &TcpStream = &self.stream;
-        stream.read(buf)
+        self.stream.receive(buf)
     }
 }
 
 impl Write for SocketWriter {
     fn write(&mut self, buf: &[u8]) -> io::Result<usize> {
-        let mut stream: &TcpStream = &self.stream;
-        stream.write(buf)
+        self.stream.send(buf)
     }
 
     fn flush(&mut self) -> io::Result<()> {
@@ -52,6 +49,6 @@ impl Write for SocketWriter {
 
 impl EndsWriting for SocketWriter {
     fn end_writing(&mut self) {
-        let _ = self.stream.shutdown(Shutdown::Write);
+        self.stream.end_writing();
     }
 }

@@ -6,9 +6,9 @@ ghost use Rattle.gu_sockets.specs.Readiness.{readiness_of};
 
 use crate::poll_bell::{BELL, PollBell};
 use crate::socket_halves::{SocketReader, SocketWriter, halves};
+use crate::socket_stream::SocketStream;
 use gu_talks::{Poller, Ready};
 use mio::event::Event;
-use mio::net::TcpStream;
 use mio::{Events, Interest, Poll, Token};
 use std::alloc::{AllocError, Global};
 use std::io;
@@ -72,7 +72,7 @@ fn note_events(events: &Events, ready: &mut Vec<Ready>) -> Result<(), AllocError
 }
 
 impl Poller for SocketPoller {
-    type Call = TcpStream;
+    type Call = SocketStream;
 
     type Incoming = SocketReader;
 
@@ -80,12 +80,12 @@ impl Poller for SocketPoller {
 
     fn watch(
         &mut self,
-        mut call: TcpStream,
+        mut call: SocketStream,
         place: usize,
     ) -> io::Result<(SocketReader, SocketWriter)> {
-        call.set_nodelay(true)?;
-        self.poll.registry().register(
-            &mut call,
+        call.set_nodelay()?;
+        call.register(
+            self.poll.registry(),
             Token(place),
             Interest::READABLE | Interest::WRITABLE,
         )?;

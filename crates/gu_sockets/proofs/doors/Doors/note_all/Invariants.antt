@@ -1,11 +1,11 @@
 use Rattle.std.proofs.Common.{◌≡◌, true}
 use Rattle.gu_sockets.specs.declared.doors.Doors.{Doors}
-use Rattle.gu_sockets.specs.Doorways.{has_port, is_any_due}
+use Rattle.gu_sockets.specs.Doorways.{KeepsWays, is_any_due}
 use Rattle.gu_sockets.proofs.doors.Doors.note_all.Given as goal
 
--- the port is as it was, and what was due is still
+-- the ways of firms are as they were, and what was due is still
 pub record Kept (old new : Doors) : Type 0 where
-  pub port : has_port new ≡ has_port old
+  pub ways : KeepsWays old new
   pub due : is_any_due old ≡ true → is_any_due new ≡ true
 
 abbrev pub invariant-loop-event : goal.invariant-loop-event

@@ -1,0 +1,11 @@
+//! Tests of doors over sockets of this machine: by which way a firm comes in, whose turn it is, and what stands at a path.
+#![tactic(auto)]
+
+#[cfg(test)]
+mod addresses;
+#[cfg(test)]
+mod callers;
+#[cfg(test)]
+mod halves;
+#[cfg(test)]
+mod rooms;
