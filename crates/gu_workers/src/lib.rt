@@ -7,6 +7,8 @@ mod answers_many;
 mod card;
 mod error;
 mod firms_here;
+mod guest;
+mod knocker;
 mod place;
 mod place_list;
 mod rounds;

@@ -83,8 +83,8 @@ impl<
     fn stop<R: Wait>(&mut self, rt: &R) {
         let kept = self.shared.posts.kept();
         for at in 0..self.slots.len() {
-            if let Some(place) = self.slots.get_mut(at) {
-                let _ = place.talk.send(kept);
+            if let Some(guest) = self.slots.get_mut(at) {
+                guest.send_last(kept);
             }
         }
         self.end_all(rt);
@@ -92,11 +92,11 @@ impl<
 
     /// Ends the connection at a place, if there is one.
     fn drop_at(&mut self, at: usize) -> Result<(), AllocError> {
-        let Some(place) = self.slots.take(at) else {
+        let Some(guest) = self.slots.take(at) else {
             return Ok(());
         };
-        let card = place.card;
-        drop(place);
+        let card = guest.card();
+        drop(guest);
         self.end(at, card, Ended { has_failed: true })
     }
 
@@ -150,8 +150,8 @@ impl<
     /// Notes which connections are ready.
     fn note_ready(&mut self) -> Result<(), AllocError> {
         for ready in &self.ready {
-            if let Some(place) = self.slots.get_mut(ready.place) {
-                place.note(*ready);
+            if let Some(guest) = self.slots.get_mut(ready.place) {
+                guest.note(*ready);
                 self.slots.list(ready.place)?;
             }
         }
@@ -176,17 +176,17 @@ impl<
 
     /// Notes whether the connection at a place has notices to be sent, where its firm's place is among these.
     fn tell(&mut self, at: usize, told: u64) -> Result<(), AllocError> {
-        let Some(place) = self.slots.get_mut(at) else {
+        let Some(guest) = self.slots.get_mut(at) else {
             return Ok(());
         };
-        let Some(admitted) = place.card.firm else {
+        let Some(admitted) = guest.card().firm else {
             return Ok(());
         };
         let firm_place = FirmPlace::of(&admitted.firm);
         if told & bit_of(firm_place.number() as usize) == 0 {
             return Ok(());
         }
-        if place.tell(self.shared.posts.number(firm_place)) {
+        if guest.tell(self.shared.posts.number(firm_place)) {
             self.slots.list(at)?;
         }
         Ok(())
@@ -219,8 +219,8 @@ impl<
         }
         self.closing = Some(now.ms);
         for at in 0..self.slots.len() {
-            if let Some(place) = self.slots.get_mut(at) {
-                place.stop_reading();
+            if let Some(guest) = self.slots.get_mut(at) {
+                guest.stop_reading();
             }
             self.slots.list(at)?;
         }
@@ -236,10 +236,10 @@ impl<
         let write_wait_ms = self.settings.write_wait_ms;
         let mut earliest = Deadline::never();
         for at in 0..self.slots.len() {
-            let Some(place) = self.slots.get(at) else {
+            let Some(guest) = self.slots.get(at) else {
                 continue;
             };
-            let deadline = place.deadline(closing, write_wait_ms);
+            let deadline = guest.deadline(closing, write_wait_ms);
             if deadline.has_come(now) {
                 self.slots.list(at)?;
             } else {
@@ -258,8 +258,8 @@ impl<
         }
         self.kept = kept;
         for _place in 0..self.slots.begin_releases() {
-            if let Some((at, place)) = self.slots.next_release() {
-                self.release(at, place, now)?;
+            if let Some((at, guest)) = self.slots.next_release() {
+                self.release(at, guest, now)?;
             }
         }
         Ok(())
@@ -268,8 +268,8 @@ impl<
     /// Visits each connection that is listed, once.
     fn visit_all(&mut self, now: &Now) -> Result<(), AllocError> {
         for _visit in 0..self.slots.begin_visits() {
-            if let Some((at, place)) = self.slots.next_visit() {
-                self.visit(at, place, now)?;
+            if let Some((at, guest)) = self.slots.next_visit() {
+                self.visit(at, guest, now)?;
             }
         }
         Ok(())

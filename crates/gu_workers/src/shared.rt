@@ -1,6 +1,7 @@
 //! What the workers of a server share.
 
 use gu_posts::Posts;
+use gu_secrets::Secrets;
 use gu_terms::FirmId;
 use std::alloc::AllocError;
 
@@ -8,6 +9,8 @@ use std::alloc::AllocError;
 pub struct Shared<'a, A, B> {
     /// The firms of the reference, each of which may log on.
     pub firms: &'a [FirmId],
+    /// The secrets by which they are let in, if there are any.
+    pub secrets: Option<&'a Secrets>,
     /// Who may be connected.
     pub admission: &'a A,
     /// How others reach the workers.

@@ -1,6 +1,6 @@
 //! The places of a worker: which of them are free, want a visit, or hold answers back.
 
-use crate::place::Place;
+use crate::guest::Guest;
 use crate::place_list::PlaceList;
 use std::alloc::{AllocError, Global};
 
@@ -8,7 +8,7 @@ use std::alloc::{AllocError, Global};
 #[derive(Drop)]
 pub struct Slots<I, O> {
     /// The connection at each place, unless the place is free or being visited.
-    places: Vec<Option<Place<I, O>>>,
+    places: Vec<Option<Guest<I, O>>>,
     free: Vec<usize>,
     /// The places that want a visit.
     wanting: PlaceList,
@@ -69,29 +69,29 @@ impl<I, O> Slots<I, O> {
     }
 
     /// Returns the connection at a place.
-    pub fn get_mut(&mut self, at: usize) -> Option<&mut Place<I, O>> {
+    pub fn get_mut(&mut self, at: usize) -> Option<&mut Guest<I, O>> {
         self.places.get_mut(at)?.as_mut()
     }
 
     /// Returns the connection at a place.
-    pub fn get(&self, at: usize) -> Option<&Place<I, O>> {
+    pub fn get(&self, at: usize) -> Option<&Guest<I, O>> {
         self.places.get(at)?.as_ref()
     }
 
     /// Takes the connection from a place, to visit it or to end it.
-    pub fn take(&mut self, at: usize) -> Option<Place<I, O>> {
+    pub fn take(&mut self, at: usize) -> Option<Guest<I, O>> {
         self.places.get_mut(at)?.take()
     }
 
     /// Puts a connection at a place that has none.
-    pub fn put(&mut self, at: usize, place: Place<I, O>)
+    pub fn put(&mut self, at: usize, guest: Guest<I, O>)
     where
         I: Drop,
         O: Drop,
     {
         match self.places.get_mut(at) {
-            Some(slot) => *slot = Some(place),
-            None => drop(place),
+            Some(slot) => *slot = Some(guest),
+            None => drop(guest),
         }
     }
 
@@ -109,10 +109,10 @@ impl<I, O> Slots<I, O> {
     }
 
     /// Takes the next connection to be visited, with its place.
-    pub fn next_visit(&mut self) -> Option<(usize, Place<I, O>)> {
+    pub fn next_visit(&mut self) -> Option<(usize, Guest<I, O>)> {
         let at = self.wanting.next()?;
-        let place = self.take(at)?;
-        Some((at, place))
+        let guest = self.take(at)?;
+        Some((at, guest))
     }
 
     /// Notes that a place holds answers back.
@@ -126,12 +126,12 @@ impl<I, O> Slots<I, O> {
     }
 
     /// Takes the next connection that holds answers back, with its place. One that is listed stays: its visit lets go as well.
-    pub fn next_release(&mut self) -> Option<(usize, Place<I, O>)> {
+    pub fn next_release(&mut self) -> Option<(usize, Guest<I, O>)> {
         let at = self.holding.next()?;
         if self.wanting.has(at) {
             return None;
         }
-        let place = self.take(at)?;
-        Some((at, place))
+        let guest = self.take(at)?;
+        Some((at, guest))
     }
 }

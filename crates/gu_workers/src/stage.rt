@@ -9,7 +9,7 @@ use gu_engine::Turned;
 use gu_terms::Moment;
 
 /// How many milliseconds a firm may take from the accept of its connection to its Logon.
-const LOGON_WAIT_MS: u64 = 30_000;
+pub const LOGON_WAIT_MS: u64 = 30_000;
 
 /// How many milliseconds after the beginning of the close a connection is dropped that has not been sent its Logout.
 const CLOSE_WAIT_MS: u64 = 20_000;

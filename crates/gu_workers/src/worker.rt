@@ -1,7 +1,10 @@
 //! A worker: its places, what watches them, and the house that answers them.
 
-ghost use Rattle.std.specs.Prelude.{◌≡◌, IfErr, IfOk};
+ghost use Rattle.std.specs.Prelude.{◌≡◌, ◌∷◌, [], IfErr, IfOk};
+ghost use Rattle.std.specs.Option.{option_map};
 ghost use Rattle.gu_engine.specs.Exchange.{new_conversation};
+ghost use Rattle.gu_workers.specs.Guests.{BeginsAt};
+ghost use Rattle.gu_workers.specs.Knockers.{firms_at};
 
 use crate::admission::Admission;
 use crate::admitting_house::AdmittingHouse;
@@ -9,6 +12,8 @@ use crate::answers_many::AnswersMany;
 use crate::card::{Admitted, Card};
 use crate::error::WorkerError;
 use crate::firms_here::FirmsHere;
+use crate::guest::{Guest, Heard};
+use crate::knocker::{Knocked, Knocker, LetIn, Stand};
 use crate::place::{Ended, Place};
 use crate::shared::Shared;
 use crate::slots::Slots;
@@ -16,12 +21,14 @@ use crate::stage::Deadline;
 use crate::timer::{Now, Timer};
 use crossbeam_channel::Receiver;
 use gu_engine::House;
+use gu_knocks::Guard;
 use gu_notices::FirmPlace;
-use gu_posts::{Bell, Call};
+use gu_posts::{Bell, Call, ConnectionStatus};
 use gu_streams::{LONGEST_READ, MOST_READS, StreamError};
 use gu_talks::{Poller, Ready, Talk, TurnBuffer};
 use gu_terms::FirmId;
 use std::alloc::{AllocError, Global};
+use std::io::{Cursor, Read};
 
 /// How many connections are noted as ready at once, as a rule.
 const MOST_READY: usize = 256;
@@ -242,9 +249,13 @@ impl<
     pub(crate) fn release(
         &mut self,
         at: usize,
-        place: PlaceOf<P>,
+        guest: GuestOf<P>,
         now: &Now,
     ) -> Result<(), AllocError> {
+        let place = match guest {
+            Guest::Talks(place) => place,
+            Guest::Knocks(knocker) => return self.keep_knocker(at, knocker),
+        };
         let card = place.card;
         match place.send(self.kept, now) {
             Ok(place) => self.keep(at, place, card, now),
@@ -256,15 +267,92 @@ impl<
     pub(crate) fn visit(
         &mut self,
         at: usize,
-        place: PlaceOf<P>,
+        guest: GuestOf<P>,
         now: &Now,
     ) -> Result<(), AllocError> {
+        match guest {
+            Guest::Talks(place) => self.visit_place(at, place, now),
+            Guest::Knocks(knocker) => self.visit_knocker(at, knocker, now),
+        }
+    }
+
+    /// Visits a connection that has a session.
+    fn visit_place(&mut self, at: usize, place: PlaceOf<P>, now: &Now) -> Result<(), AllocError> {
         let mut card = place.card;
         let went = self.go_on(place, &mut card, now);
         match went {
             Ok(place) => self.keep(at, place, card, now),
             Err(ended) => self.end(at, card, ended),
         }
+    }
+
+    /// Visits a connection of which it isn't known yet which firm it is. Once the day is being closed nobody is let in any more.
+    fn visit_knocker(
+        &mut self,
+        at: usize,
+        knocker: KnockerOf<P>,
+        now: &Now,
+    ) -> Result<(), AllocError> {
+        let card = knocker.card();
+        let Some(secrets) = self.shared.secrets.filter(|_| self.closing.is_none()) else {
+            drop(knocker);
+            return self.end(at, card, Ended { has_failed: false });
+        };
+        let guard = Guard {
+            secrets,
+            firms: self.shared.firms,
+        };
+        match knocker.visit(self.alloc, guard, &mut self.buffer, now) {
+            Ok(Knocked::Stays(knocker)) => self.keep_knocker(at, knocker),
+            Ok(Knocked::Enters(let_in)) => self.enter(at, let_in, now),
+            Err(ended) => self.end(at, card, ended),
+        }
+    }
+
+    /// Puts a connection at its place of which it isn't known yet which firm it is, and lists it if it wants another visit.
+    fn keep_knocker(&mut self, at: usize, knocker: KnockerOf<P>) -> Result<(), AllocError> {
+        self.show(at, &knocker.status());
+        self.earliest = self.earliest.min(knocker.deadline());
+        let wants_visit = knocker.wants_visit();
+        self.slots.put(at, Guest::Knocks(knocker));
+        if wants_visit {
+            self.slots.list(at)?;
+        }
+        Ok(())
+    }
+
+    /// Returns the place of a connection that is let in: a session begins, in which its firm alone may log on, and which reads all that
+    /// was said.
+    fn seat(&self, let_in: LetInOf<P>, now: &Now) -> Result<PlaceOf<P>, Ended>
+        ensures { IfOk result (λ place. place.talk.conversation ≡ new_conversation (let_in.firm ∷ [])) }
+    {
+        let LetIn {
+            firm,
+            said,
+            incoming,
+            outgoing,
+            card,
+        } = let_in;
+        let Ok(firms) = Vec::from_slice(self.alloc, &[firm]) else {
+            return Err(Ended { has_failed: true });
+        };
+        let stream = Cursor::new(said).chain(incoming);
+        let talk = Talk::new(self.alloc, firms, stream, outgoing, self.reads());
+        Ok(Place::new(talk, card, now))
+    }
+
+    /// Begins the session of a connection that is let in, and visits it. More may have come than was said, so it is read again.
+    fn enter(&mut self, at: usize, let_in: LetInOf<P>, now: &Now) -> Result<(), AllocError> {
+        let card = let_in.card;
+        match self.seat(let_in, now) {
+            Ok(place) => self.visit_place(at, place, now)?,
+            Err(ended) => return self.end(at, card, ended),
+        }
+        if let Some(guest) = self.slots.get_mut(at) {
+            guest.try_read();
+            self.slots.list(at)?;
+        }
+        Ok(())
     }
 
     /// Gives back what the firm of a connection has, if one was admitted: it is told of nothing more, and may have one more place.
@@ -296,12 +384,12 @@ impl<
             self.let_go(&mut card);
         }
         place.card = card;
-        self.show(at, &place);
+        self.show(at, &place.status());
         let deadline = place.deadline(self.closing, self.settings.write_wait_ms);
         self.earliest = self.earliest.min(deadline);
         let wants_visit = place.wants_visit(self.closing.is_some());
         let holds_back = place.talk.is_held_back(self.kept);
-        self.slots.put(at, place);
+        self.slots.put(at, Guest::Talks(place));
         if wants_visit {
             self.slots.list(at)?;
         }
@@ -312,10 +400,10 @@ impl<
     }
 
     /// Shows what a connection has come to.
-    fn show(&self, at: usize, place: &PlaceOf<P>) {
+    fn show(&self, at: usize, status: &ConnectionStatus) {
         if let Some(post) = self.shared.posts.post(self.settings.worker) {
             if let Some(row) = post.rows().get(at) {
-                row.write(&place.status());
+                row.write(status);
             }
         }
     }
@@ -340,28 +428,53 @@ impl<
         self.slots.give_back(at)
     }
 
-    /// Begins to serve a connection at a place.
-    fn open(&mut self, call: Call<P::Call>, at: usize, now: &Now) -> Result<PlaceOf<P>, Ended>
-        ensures { IfOk result (λ place. place.talk.conversation ≡ new_conversation self.old.shared.firms.now) }
+    /// Returns how many reads a connection may make.
+    fn reads(&self) -> u64 {
+        if self.settings.keeps_count {
+            u64::from(MOST_READS)
+        } else {
+            u64::MAX
+        }
+    }
+
+    /// Returns a copy of the firms that may log on at this door.
+    fn firms_at(&self, door: Option<FirmId>) -> Result<Vec<FirmId>, AllocError>
+        ensures { IfOk result (λ firms. firms.items ≡ firms_at door self.now.shared.firms.now) }
+    {
+        match door {
+            Some(firm) => Vec::from_slice(self.alloc, &[firm]),
+            None => Vec::from_slice(self.alloc, self.shared.firms),
+        }
+    }
+
+    /// Begins to serve a connection at a place. Where there are secrets, it is listened to before there is a session.
+    fn open(&mut self, call: Call<P::Call>, at: usize, now: &Now) -> Result<GuestOf<P>, Ended>
+        ensures { IfOk result (BeginsAt self.old.shared.firms.now call.door (option_map (λ secrets. secrets.now) self.old.shared.secrets)) }
     {
         let Call {
             stream,
             number,
             port,
+            door,
         } = call;
+        let card = Card::new(number, port, now.moment);
         let Ok((incoming, outgoing)) = self.poller.watch(stream, at) else {
             return Err(Ended { has_failed: true });
         };
-        let Ok(firms) = Vec::from_slice(self.alloc, self.shared.firms) else {
-            return Err(Ended { has_failed: true });
-        };
-        let reads = if self.settings.keeps_count {
-            u64::from(MOST_READS)
-        } else {
-            u64::MAX
-        };
-        let talk = Talk::new(self.alloc, firms, incoming, outgoing, reads);
-        Ok(Place::new(talk, Card::new(number, port, now.moment), now))
+        match self.shared.secrets {
+            Some(_) => {
+                let stand = Stand::new(outgoing, door, card, now);
+                Ok(Guest::Knocks(Knocker::new(self.alloc, incoming, stand)))
+            }
+            None => {
+                let Ok(firms) = self.firms_at(door) else {
+                    return Err(Ended { has_failed: true });
+                };
+                let stream = Cursor::new(Vec::new(self.alloc)).chain(incoming);
+                let talk = Talk::new(self.alloc, firms, stream, outgoing, self.reads());
+                Ok(Guest::Talks(Place::new(talk, card, now)))
+            }
+        }
     }
 
     /// Takes a connection that has come. Where no place is free, or the day is being closed, it is dropped without a byte.
@@ -379,11 +492,21 @@ impl<
         self.shared.admission.begin();
         let card = Card::new(call.number, call.port, now.moment);
         match self.open(call, at, now) {
-            Ok(place) => self.keep(at, place, card, now),
+            Ok(Guest::Talks(place)) => self.keep(at, place, card, now),
+            Ok(Guest::Knocks(knocker)) => self.keep_knocker(at, knocker),
             Err(ended) => self.end(at, card, ended),
         }
     }
 }
 
-/// A connection at its place, by what its worker's poller gives.
-pub type PlaceOf<P> = Place<<P as Poller>::Incoming, <P as Poller>::Outgoing>;
+/// Who is at a place, by what its worker's poller gives.
+pub type GuestOf<P> = Guest<<P as Poller>::Incoming, <P as Poller>::Outgoing>;
+
+/// A connection that has a session, by what its worker's poller gives.
+pub type PlaceOf<P> = Place<Heard<<P as Poller>::Incoming>, <P as Poller>::Outgoing>;
+
+/// A connection of which it isn't known yet which firm it is, by what its worker's poller gives.
+pub type KnockerOf<P> = Knocker<<P as Poller>::Incoming, <P as Poller>::Outgoing>;
+
+/// A connection that is let in, by what its worker's poller gives.
+pub type LetInOf<P> = LetIn<<P as Poller>::Incoming, <P as Poller>::Outgoing>;

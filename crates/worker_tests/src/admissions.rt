@@ -78,6 +78,7 @@ fn a_firm_is_admitted_before_it_is_answered(rt: HostRuntime) {
         workers: 1,
         places: 3,
         kept: NO_JOURNAL,
+        secrets: "",
     };
     check_plays(&rt, rt.alloc(), setting, ADMISSIONS);
 }

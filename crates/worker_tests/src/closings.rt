@@ -164,6 +164,7 @@ fn a_close_ends_each_connection_in_order_and_in_time(rt: HostRuntime) {
         workers: 1,
         places: 3,
         kept: NO_JOURNAL,
+        secrets: "",
     };
     check_plays(&rt, rt.alloc(), setting, CLOSE);
 }

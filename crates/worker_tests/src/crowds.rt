@@ -50,6 +50,7 @@ fn a_thousand_connections_are_served_in_one_worker(rt: HostRuntime) {
         workers: 1,
         places: 1_000,
         kept: NO_JOURNAL,
+        secrets: "",
     };
     check_plays(&rt, rt.alloc(), setting, CROWD);
 }

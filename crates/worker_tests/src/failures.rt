@@ -57,6 +57,7 @@ fn a_worker_runs_until_it_is_over_or_can_not_go_on(rt: HostRuntime) {
         workers: 1,
         places: 3,
         kept: NO_JOURNAL,
+        secrets: "",
     };
     check_plays(&rt, rt.alloc(), setting, RUNS);
 }

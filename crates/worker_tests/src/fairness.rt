@@ -39,6 +39,7 @@ fn one_that_has_much_to_be_read_keeps_nobody_waiting(rt: HostRuntime) {
         workers: 1,
         places: 2,
         kept: NO_JOURNAL,
+        secrets: "",
     };
     check_plays(&rt, rt.alloc(), setting, MUCH);
 }

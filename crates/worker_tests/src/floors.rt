@@ -9,6 +9,7 @@ use crate::wires::{Line, Wire};
 use gu_houses::OverBook;
 use gu_posts::{CallSender, Posts, calls};
 use gu_script::ScriptError;
+use gu_secrets::Secrets;
 use gu_terms::FirmId;
 use gu_workers::{Shared, Worker, WorkerSettings, WorkerTools};
 use std::alloc::{AllocError, Global};
@@ -33,6 +34,8 @@ pub struct Setting<'a> {
     pub places: usize,
     /// How many entries are kept when it begins.
     pub kept: u64,
+    /// The file of secrets, if it isn't empty.
+    pub secrets: &'a str,
 }
 
 /// What the workers of a test share.
@@ -45,6 +48,7 @@ pub struct Floor {
     pub book: SharedBook,
     pub posts: Posts<Ring>,
     firms: Vec<FirmId>,
+    secrets: Option<Secrets>,
 }
 
 /// A worker of a test.
@@ -62,6 +66,14 @@ fn firms(alloc: Global) -> Result<Vec<FirmId>, AllocError> {
         }
     }
     Ok(firms)
+}
+
+/// The secrets of a file, if it isn't empty.
+fn secrets(alloc: Global, file: &str, firms: &[FirmId]) -> Option<Secrets> {
+    if file.is_empty() {
+        return None;
+    }
+    Secrets::read(alloc, file.as_bytes(), firms).ok()
 }
 
 /// Bells that nobody rang.
@@ -88,6 +100,8 @@ impl Floor {
         let script = meant(alloc, setting.script)?;
         let house = OverBook::new(book_after(alloc, &script)?);
         let bells = bells(alloc, setting.workers)?;
+        let firms = firms(alloc)?;
+        let secrets = secrets(alloc, setting.secrets, &firms);
         Ok(Floor {
             wires: wires(alloc, setting.wires)?,
             hands: Hands::new(),
@@ -100,7 +114,8 @@ impl Floor {
             host: Host::new(),
             book: SharedBook::new(house),
             posts: Posts::new(alloc, bells, setting.places, Ring::new(), setting.kept)?,
-            firms: firms(alloc)?,
+            firms,
+            secrets,
         })
     }
 
@@ -130,6 +145,7 @@ impl Floor {
         };
         let shared = Shared {
             firms: &self.firms,
+            secrets: self.secrets.as_ref(),
             admission: &self.host,
             posts: &self.posts,
         };

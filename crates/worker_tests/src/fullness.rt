@@ -96,6 +96,7 @@ fn one_that_takes_nothing_waits_and_hurts_nobody(rt: HostRuntime) {
         workers: 1,
         places: 3,
         kept: NO_JOURNAL,
+        secrets: "",
     };
     check_plays(&rt, rt.alloc(), setting, FULL);
 }

@@ -245,6 +245,7 @@ fn an_answer_goes_out_once_what_it_shows_is_kept(rt: HostRuntime) {
         workers: 1,
         places: 2,
         kept: 3,
+        secrets: "",
     };
     check_plays(&rt, rt.alloc(), setting, HELD);
 }
@@ -296,6 +297,7 @@ fn what_is_not_kept_is_never_sent(rt: HostRuntime) {
         workers: 1,
         places: 3,
         kept: 3,
+        secrets: "",
     };
     check_plays(&rt, rt.alloc(), setting, STOPS);
 }

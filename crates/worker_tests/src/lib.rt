@@ -26,6 +26,8 @@ mod hosts;
 #[cfg(test)]
 mod keeping;
 #[cfg(test)]
+mod knocking;
+#[cfg(test)]
 mod memory;
 #[cfg(test)]
 mod places;

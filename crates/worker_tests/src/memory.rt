@@ -13,6 +13,7 @@ const SETTING: Setting<'static> = Setting {
     workers: 1,
     places: 2,
     kept: NO_JOURNAL,
+    secrets: "",
 };
 
 /// What C1 and C2 send, and what they are sent.
@@ -59,7 +60,7 @@ fn say<R: Wait>(rt: &R, play: &mut Play<'_>) -> Result<(), AllocError> {
             play.send(wire, firm, lines)?;
             wire.finish();
         }
-        play.come(rt, place + 1, 0);
+        play.come(rt, place + 1, 0, None);
     }
     play.end_calls();
     play.floor.waits.takes_time.set(true);

@@ -81,6 +81,7 @@ fn a_place_that_is_free_again_is_as_new(rt: HostRuntime) {
         workers: 1,
         places: 1,
         kept: NO_JOURNAL,
+        secrets: "",
     };
     check_plays(&rt, rt.alloc(), setting, ONE_PLACE);
 }
@@ -201,6 +202,7 @@ fn a_connection_ends_alone(rt: HostRuntime) {
         workers: 1,
         places: 3,
         kept: NO_JOURNAL,
+        secrets: "",
     };
     check_plays(&rt, rt.alloc(), setting, ENDS);
 }

@@ -3,7 +3,7 @@
 use crate::floors::{Callers, Floor, Hand, Setting};
 use crate::wires::{Line, Wire};
 use gu_posts::Call;
-use gu_terms::Moment;
+use gu_terms::FirmId;
 use gu_workers::Round;
 use std::alloc::{AllocError, Global};
 use std::process::Abort;
@@ -56,8 +56,8 @@ impl<'a> Play<'a> {
         self.floor.wires.get(number.checked_sub(1)?)
     }
 
-    /// Sends a worker the connection of a number, whose port is 1,000 more.
-    pub fn come<R: Wait>(&self, rt: &R, number: usize, worker: usize) {
+    /// Sends a worker the connection of a number, whose port is 1,000 more, and which comes at the door of this firm, if it comes by one.
+    pub fn come<R: Wait>(&self, rt: &R, number: usize, worker: usize, door: Option<FirmId>) {
         let (Some(wire), Some(callers)) = (self.wire(number), self.callers.get(worker)) else {
             return;
         };
@@ -66,6 +66,7 @@ impl<'a> Play<'a> {
             stream: Line::new(wire),
             number,
             port: number.saturating_add(1_000),
+            door,
         };
         callers.send(rt, call);
     }

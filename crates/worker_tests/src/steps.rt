@@ -2,6 +2,7 @@
 //! the next round, and nothing else may be sent.
 //!
 //! - `2:C1 comes`, `2:C1 comes 1`: the connection is sent to worker 0, or 1
+//! - `2:C1 comes at E1`: it comes at the door of E1, and is sent to worker 0
 //! - `2:C1 in T N fields`, `and ..`, `raw text`: the firm sends a message, or a text (as in `trials`)
 //! - `2:C1 ends`, `fails`: the firm sends no more; the connection fails
 //! - `2:C1 room 100`: from now on it takes 100 bytes
@@ -108,6 +109,12 @@ fn check_wire<R: Abort>(rt: &R, play: &Play<'_>, wire: &Wire, word: &str, text: 
     }
 }
 
+/// The firm at whose door a connection comes, if it comes by one.
+fn door(text: &str) -> Option<FirmId> {
+    let firm = text.strip_prefix("at ")?;
+    FirmId::new(firm.as_bytes())
+}
+
 /// Does what a line of a connection says.
 fn wire_step<R: Wait + Abort>(rt: &R, play: &Play<'_>, label: &str, line: &str) {
     let (place, firm) = parts(label, ':');
@@ -117,7 +124,7 @@ fn wire_step<R: Wait + Abort>(rt: &R, play: &Play<'_>, label: &str, line: &str) 
         return;
     };
     match word {
-        "comes" => play.come(rt, number(place), number(text)),
+        "comes" => play.come(rt, number(place), number(text), door(text)),
         "in" | "and" | "raw" => play.send(wire, firm, line).expect(rt, "memory"),
         "ends" => wire.finish(),
         "fails" => wire.fail(),

@@ -58,6 +58,7 @@ fn an_entry_is_told_by_the_next_round(rt: HostRuntime) {
         workers: 1,
         places: 4,
         kept: NO_JOURNAL,
+        secrets: "",
     };
     check_plays(&rt, rt.alloc(), setting, ONE_WORKER);
 }
@@ -129,6 +130,7 @@ fn a_worker_is_woken_where_it_waits_and_has_the_firm(rt: HostRuntime) {
         workers: 2,
         places: 3,
         kept: NO_JOURNAL,
+        secrets: "",
     };
     check_plays(&rt, rt.alloc(), setting, TWO_WORKERS);
 }

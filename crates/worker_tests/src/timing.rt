@@ -133,6 +133,7 @@ fn deadlines_are_met_by_the_clock_alone(rt: HostRuntime) {
         workers: 1,
         places: 2,
         kept: NO_JOURNAL,
+        secrets: "",
     };
     check_plays(&rt, rt.alloc(), setting, TIMES);
 }
