@@ -1,20 +1,18 @@
--- The numbers of `serve`: where its words have no fault, each is within its range.
-use Rattle.std.proofs.Common.{◌≡◌, ◌∙◌, ◌||◌, ℕ, Bool, not, true, false, refl, sym, ap, subst, List, [], Option, Some, None, arith, codes, unwrap_or, true≢false}
+-- The numbers of the options of `serve`: where its words have no fault, each is within its range.
+use Rattle.std.proofs.Common.{◌≡◌, ◌∙◌, ℕ, Bool, true, false, refl, sym, ap, subst, List, [], Option, Some, None, arith, codes, unwrap_or, true≢false}
 use Rattle.std.specs.Prelude.{IfSome, drop, find, slice_get, take}
 use Rattle.std.specs.Option.{option_map, option_map_or}
 use Rattle.std.specs.Str.{bytes_eq}
 use Rattle.clap.specs.Faults.{entered_fault, fault_of, level_fault, walk_fault}
-use Rattle.clap.specs.Kinds.{check_kinds}
 use Rattle.clap.specs.Simple.{App, Shape, argument_words, built, entered, label_of, names_of, new_rule, rows_at, subcommand_of}
-use Rattle.clap.specs.Takes.{is_given}
 use Rattle.clap.specs.ValueTests.{is_unsigned_in}
 use Rattle.clap.specs.Values.{IsUnsignedIn}
-use Rattle.clap.specs.Walk.{Row, Rule, Text, answers_to, first_of, has_row, nothing_held, rows_after, settled, stop_after, walk, walk_from}
+use Rattle.clap.specs.Walk.{Row, Rule, Text, answers_to, first_of, nothing_held, rows_after, settled, stop_after, walk, walk_from}
 use Rattle.clap.specs.declared.builder.value_parser.ValueParser.TheVariants.{Unsigned}
 use Rattle.clap.proofs.ValueTestLemmas.{accepts-Accepts}
 use Rattle.gu_words.specs.CommandLine.{most_connections, program, serve_shape}
-use Rattle.gu_words.specs.ProgramWords.{HasNumbers, word_in}
-use Rattle.gu_words.proofs.ValueLemmas.{Each, Sound, default_row, find_each, first_passes, given_passes, given_row, level_checked, or_nil, words_sound}
+use Rattle.gu_words.specs.ProgramWords.{HasCounts, word_in}
+use Rattle.gu_words.proofs.ValueLemmas.{Each, Sound, default_row, find_each, first_passes, given_passes, or_nil, words_sound}
 
 -- a number of workers that passes
 accepted_workers : (given : Option Text) → IfSome given (λ text. is_unsigned_in 1 60 text ≡ true) → IfSome given (IsUnsignedIn 1 60)
@@ -43,22 +41,6 @@ module _ (goes_on : Bool) where
   abbrev rule_at : ℕ → Rule
   rule_at place = unwrap_or (slice_get served.rules place) (new_rule [])
 
-  -- the port
-  port_sound : (words : List Text) → level_fault served [] nothing_held words false [] ≡ [] → Sound (is_unsigned_in 1 65535) (codes "PORT") (rows_after served.rules [] words)
-  port_sound = words_sound (is_unsigned_in 1 65535) (codes "PORT") served (take 1 served.rules) (drop 2 served.rules) (rule_at 1) refl refl refl refl refl (λ v passes. passes) tt
-
-  -- the second of what is required is given
-  second_given : (a b rest : Bool) → check_kinds false false (not a || (not b || rest)) ≡ [] → b ≡ true
-  second_given true true rest none = refl
-  second_given true false rest none = cc
-  second_given false b rest none = cc
-
-  -- the port is given
-  port_given : (words : List Text) → level_fault served [] nothing_held words false [] ≡ [] → has_row (codes "PORT") (rows_after served.rules [] words) ≡ true
-  port_given words none =
-      let rows = rows_after served.rules [] words in
-      given_row (is_unsigned_in 1 65535) (codes "PORT") rows (second_given (is_given (codes "REF") rows) (is_given (codes "PORT") rows) false (level_checked served words none))
-
   -- the usual number of connections may be had
   usual_fits : (b : Bool) → is_unsigned_in 1 (most_connections b) (codes "8") ≡ true
   usual_fits true = refl
@@ -85,7 +67,7 @@ module _ (goes_on : Bool) where
 module _ (goes_on : Bool) (rows : List Row) where
   -- a command without fault that is `serve` has its numbers
   abbrev Numbers : Shape → Type 0
-  Numbers s = (words : List Text) → level_fault s [] nothing_held words false [] ≡ [] → rows_at s words ≡ (codes "serve", rows) → HasNumbers rows
+  Numbers s = (words : List Text) → level_fault s [] nothing_held words false [] ≡ [] → rows_at s words ≡ (codes "serve", rows) → HasCounts rows
 
   -- any other command
   other_command : (s : Shape) → bytes_eq s.name (codes "serve") ≡ false → Numbers s
@@ -95,9 +77,7 @@ module _ (goes_on : Bool) (rows : List Row) where
 
   -- and `serve` itself
   serve_command : Numbers (served goes_on)
-  serve_command words none is = subst HasNumbers (ap (λ (at : Text × List Row). at.1) is) (record {
-    port = accepts-Accepts false (Unsigned 1 65535) (word_in (rows_after (served goes_on).rules [] words) (codes "PORT"))
-        (first_passes (is_unsigned_in 1 65535) (codes "PORT") (rows_after (served goes_on).rules [] words) (port_sound goes_on words none) (port_given goes_on words none));
+  serve_command words none is = subst HasCounts (ap (λ (at : Text × List Row). at.1) is) (record {
     connections = most_within goes_on (word_in (rows_after (served goes_on).rules [] words) (codes "N")) (accepts-Accepts false (Unsigned 1 (most goes_on)) (word_in (rows_after (served goes_on).rules [] words) (codes "N"))
         (first_passes (is_unsigned_in 1 (most goes_on)) (codes "N") (rows_after (served goes_on).rules [] words) (connections_sound goes_on words none)
         (default_row (is_unsigned_in 1 (most goes_on)) (codes "N") refl (take 3 (served goes_on).rules) (drop 4 (served goes_on).rules) (rule_at goes_on 3) (codes "8") (given_rows goes_on words) refl refl)));
@@ -113,11 +93,11 @@ module _ (goes_on : Bool) (rows : List Row) where
 
   -- every command of the program
   each_command : Each Numbers (read_program goes_on).subs
-  each_command = (other_command (sub_at 0) refl, (other_command (sub_at 1) refl, (other_command (sub_at 2) refl, (serve_command, (other_command (sub_at 4) refl, (other_command (sub_at 5) refl, tt))))))
+  each_command = (other_command (sub_at 0) refl, (other_command (sub_at 1) refl, (other_command (sub_at 2) refl, (serve_command, (other_command (sub_at 4) refl, (other_command (sub_at 5) refl, (other_command (sub_at 6) refl, tt)))))))
 
   -- the one that was found
   found_numbers : (words : List Text) (found : Option Shape) → ((s : Shape) → found ≡ Some s → Numbers s) → option_map_or (λ (s : Shape). level_fault s [] nothing_held words false []) found [] ≡ []
-      → option_map (λ (s : Shape). rows_at s words) found ≡ Some (codes "serve", rows) → HasNumbers rows
+      → option_map (λ (s : Shape). rows_at s words) found ≡ Some (codes "serve", rows) → HasCounts rows
   found_numbers words None each none is =
       let no : ⊥ = cc in
       absurd no
@@ -126,7 +106,7 @@ module _ (goes_on : Bool) (rows : List Row) where
       each s refl words none same
 
   -- the one that the words name
-  entered_numbers : (stop : Option (Text × List Text)) → entered_fault (read_program goes_on) stop ≡ [] → entered (read_program goes_on) stop ≡ Some (codes "serve", rows) → HasNumbers rows
+  entered_numbers : (stop : Option (Text × List Text)) → entered_fault (read_program goes_on) stop ≡ [] → entered (read_program goes_on) stop ≡ Some (codes "serve", rows) → HasCounts rows
   entered_numbers None none is =
       let no : ⊥ = cc in
       absurd no
@@ -134,8 +114,8 @@ module _ (goes_on : Bool) (rows : List Row) where
       let named = λ (s : Shape). answers_to q.0 (label_of s) in
       found_numbers q.1 (find named (read_program goes_on).subs) (find_each Numbers named (read_program goes_on).subs each_command) none is
 
--- where the words of the program have no fault and ask for `serve`, its numbers are within their ranges
-pub numbers_read : (goes_on : Bool) (words : List Text) (rows : List Row) → fault_of (program goes_on) words ≡ [] → subcommand_of (program goes_on) words ≡ Some (codes "serve", rows) → HasNumbers rows
+-- where the words of the program have no fault and ask for `serve`, the numbers of its options are within their ranges
+pub numbers_read : (goes_on : Bool) (words : List Text) (rows : List Row) → fault_of (program goes_on) words ≡ [] → subcommand_of (program goes_on) words ≡ Some (codes "serve", rows) → HasCounts rows
 numbers_read goes_on words rows none is =
     let after_name = argument_words (program goes_on) words in
     let stop = stop_after (read_program goes_on).top.rules (names_of (read_program goes_on)) after_name in

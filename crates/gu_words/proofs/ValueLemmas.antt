@@ -4,15 +4,15 @@ use Rattle.std.specs.Prelude.{⊤, IfSome, drop, min, encode_utf8, find, length,
 use Rattle.std.specs.List.{list_all}
 use Rattle.std.specs.Option.{option_and_then, option_map_or}
 use Rattle.std.specs.Str.{bytes_eq, chars}
-use Rattle.clap.specs.Facts.{explicit_source, parser_of_value, unwrap_or_range}
+use Rattle.clap.specs.Facts.{parser_of_value, unwrap_or_range}
 use Rattle.std.proofs.lemmas.Bool.{not-true}
 use Rattle.clap.proofs.WalkLemmas.{both}
 use Rattle.clap.specs.Matches.{count_text}
 use Rattle.clap.specs.Lexer.{long_of, short_of}
-use Rattle.clap.specs.Faults.{action_fault, bundle_fault, bundle_step_fault, check_fault, defaults_fault, flag_word_fault, flags_fault, level_fault, long_fault, option_fault, other_fault, positional_fault, react_fault, settle_fault, short_fault, step_fault, stray_fault, turn_fault, use_fault, walk_fault, word_fault}
+use Rattle.clap.specs.Faults.{action_fault, bundle_fault, bundle_step_fault, flag_word_fault, flags_fault, level_fault, long_fault, option_fault, other_fault, positional_fault, react_fault, settle_fault, short_fault, step_fault, stray_fault, turn_fault, use_fault, walk_fault, word_fault}
 use Rattle.clap.specs.Kinds.{Kinds, or_else, range_kinds}
 use Rattle.clap.specs.Simple.{Shape}
-use Rattle.clap.specs.Takes.{is_given, value_passes}
+use Rattle.clap.specs.Takes.{value_passes}
 use Rattle.clap.specs.Values.{refused_kind}
 use Rattle.clap.specs.declared.builder.range.ValueRange.{ValueRange}
 use Rattle.clap.specs.declared.error.kind.ErrorKind.{ErrorKind}
@@ -64,15 +64,6 @@ one_passes again a (v ∷ vs) rows is one none =
     let sets = subst (λ (x : ArgAction). action_fault x again a (v ∷ vs) rows ≡ []) is acts in
     let values = (or_nil _ _ sets).1 in
     accepted (value_passes a v) (refused_kind (parser_of_value a.parser)) (or_nil _ _ values).0
-
--- what is required is given
-pub level_checked : (s : Shape) (words : List Text) → level_fault s [] nothing_held words false [] ≡ [] → check_fault s (rows_after s.rules [] words) false ≡ []
-level_checked s words none =
-    let ended = (walk s.rules [] nothing_held words).held in
-    let walks = or_nil (walk_fault s [] (walk_from nothing_held) words) _ none in
-    let settles = or_nil (settle_fault s.rules s.args_override_self ended) _ walks.1 in
-    let defaults = or_nil (defaults_fault (settled s.rules ended).rows s.rules) _ settles.1 in
-    defaults.1
 
 module _ (p : Text → Bool) (id : Text) where
   -- the first of the values passes
@@ -159,15 +150,6 @@ module _ (p : Text → Bool) (id : Text) where
       first_given : (values : List Text) → IsGood values → IfSome (slice_get values 0) (λ v. p v ≡ true)
       first_given [] good = tt
       first_given (v ∷ vs) good = good
-
-  -- what is given has a row
-  pub given_row : (rows : List Row) → is_given id rows ≡ true → has_row id rows ≡ true
-  given_row [] given = given
-  given_row (r ∷ rs) given =
-      elim (bytes_eq r.id id) as (λ (b : Bool). option_map_or (λ (x : Row). explicit_source x.source) (cond b (Some r) (find (λ (x : Row). bytes_eq x.id id) rs)) false ≡ true → (b || has_row id rs) ≡ true) [
-        | true ↦ λ is. refl
-        | false ↦ λ is. given_row rs is
-      ] given
 
   module _ (s : Shape) where
     -- a use of the rule that has no fault leaves each row sound

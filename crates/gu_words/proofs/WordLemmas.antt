@@ -1,23 +1,26 @@
 -- The words that ask for a task.
-use Rattle.std.proofs.Common.{◌≡◌, ◌<◌, ◌^◌, ◌&&◌, not, cond, is_some, nat_lt, unwrap_or, subst, ℕ, Bool, List, [], ◌∷◌, codes, true, false, Option, Some, None, Result, Ok, Err, inl, inr, refl, sym, ap, ◌∙◌}
-use Rattle.std.specs.Option.{option_map}
-use Rattle.std.specs.Prelude.{IfOk}
+use Rattle.std.proofs.Common.{arith, ◌≡◌, ◌<◌, ◌≤◌, ◌^◌, ◌&&◌, not, cond, is_some, nat_lt, unwrap_or, subst, ℕ, Bool, List, [], ◌∷◌, codes, true, false, Option, Some, None, Result, Ok, Err, inl, inr, refl, sym, ap, ◌∙◌}
+use Rattle.std.specs.Option.{option_map, option_map_or}
+use Rattle.std.specs.Prelude.{IfOk, IfSome}
 use Rattle.clap.specs.Words.{AddsArg, AddsSubcommand, App, IsUnsignedIn, Row, Rule, Shape, Text, app_of, all_of, first_of, is_simple_and_free, rule_of, shape_of, takes, with_rule, with_subcommand}
 use Rattle.clap.specs.declared.builder.arg.Arg.{Arg}
 use Rattle.clap.specs.declared.builder.command.Command.{Command}
 use Rattle.std.specs.Borrow.{Bor}
 use Rattle.clap.specs.Kinds.{FailsBy, HasKind, Kinds, or_else}
+use Rattle.clap.specs.declared.builder.value_parser.ValueParser.TheVariants.{Unsigned}
 use Rattle.clap.specs.declared.error.Error.{Error}
 use Rattle.clap.proofs.OnLiterals.{clap_on_literals}
+use Rattle.clap.proofs.ValueTestLemmas.{Accepts-accepts, accepts-Accepts}
 use Rattle.std.proofs.Math.Nat.{lt_of_le_of_lt}
-use Rattle.std.proofs.lemmas.Bool.{ltb-false}
+use Rattle.std.proofs.lemmas.Bool.{ltb-false, not-false}
 use Rattle.std.specs.Str.Parse.{IsNumeral, digits_value, without_leading_plus}
-use Rattle.gu_words.specs.CommandLine.{bare_program, check_shape, fix_shape, program, replay_shape, serve_shape, tell_shape}
-use Rattle.gu_words.specs.Misfits.{has, is_one_path, misfit_in, misfit_of, refusals_of}
+use Rattle.gu_words.specs.CommandLine.{bare_program, check_shape, fix_shape, program, replay_shape, secret_shape, serve_shape, tell_shape}
+use Rattle.gu_words.specs.Misfits.{has, has_bad_port, is_port, kinds_of, misfit_in, misfit_of, port_of, refusals_of}
 use Rattle.gu_words.specs.declared.words.Task.{Task}
 use Rattle.gu_words.specs.declared.misfit.Misfit.{Misfit}
-use Rattle.gu_words.specs.declared.misfit.Misfit.TheVariants.{ManyConnections, NoJournal, NotUntilClosed, OnePath}
-use Rattle.gu_words.specs.ProgramWords.{Captures, Checks, Counts, Fixes, GoesOn, HasNumbers, IsWithin, Keeping, Lasting, Reads, Replays, Serves, Tells, Wanted, is_set, is_until_closed, keeping_by, lasting_by, number_of, served_by, text_of, told_by, wanted_by, wanted_in, wanted_of, wanted_of_command, word_in}
+use Rattle.gu_words.specs.declared.misfit.Misfit.TheVariants.{ManyConnections, NotAPort, NotUntilClosed}
+use Rattle.gu_words.proofs.ValueLemmas.{or_nil}
+use Rattle.gu_words.specs.ProgramWords.{Captures, Checks, Counts, Fixes, GoesOn, HasCounts, HasNumbers, IsCounted, IsWithin, Issues, Keeping, Lasting, Reads, Replays, Serves, Tells, Wanted, command_in, is_until_closed, keeping_by, lasting_by, number_of, port_word, served_by, text_of, told_by, wanted_by, wanted_in, wanted_of, wanted_of_command, word_in}
 
 -- the program is one whose words clap tells in full
 pub simple-program : (is_until_closed : Bool) → is_simple_and_free (program is_until_closed) ≡ true
@@ -65,11 +68,6 @@ pub first_kinds : (first others : Kinds) (error : Error) → HasKind first error
 first_kinds [] others error has = elim has [ inl memory ↦ inl memory | inr none ↦ absurd none ]
 first_kinds (kind ∷ kinds) others error has = has
 
--- what holds anyway holds of a success
-pub holds_anyway : {T E P : Type 0} (result : Result T E) → P → IfOk result (λ _. P)
-holds_anyway (Ok value) p = p
-holds_anyway (Err error) p = tt
-
 -- the third of some tests that all fail
 third_fails : (a b c others : Bool) → (a && (not b && (not c && others))) ≡ true → c ≡ false
 third_fails true false false others all = refl
@@ -107,17 +105,18 @@ last_command_added (Ok command) old sub shape plain is adds = command_added old 
 last_command_added (Err error) old sub shape plain is adds = tt
 
 -- the program with its commands
-pub five_commands : {E : Type 0} (result : Result Command E) (bare one two three four check : Command) (is_until_closed : Bool) → app_of bare ≡ bare_program
+pub six_commands : {E : Type 0} (result : Result Command E) (bare one two three four five check : Command) (is_until_closed : Bool) → app_of bare ≡ bare_program
     → AddsSubcommand bare check one → shape_of check ≡ check_shape → app_of two ≡ with_subcommand (app_of one) fix_shape → app_of three ≡ with_subcommand (app_of two) replay_shape
-    → app_of four ≡ with_subcommand (app_of three) (serve_shape is_until_closed)
-    → IfOk result (λ command. app_of command ≡ with_subcommand (app_of four) tell_shape) → IfOk result (λ command. app_of command ≡ program is_until_closed)
-five_commands (Ok command) bare one two three four check is_until_closed is checks is_check fixes replays serves tells =
+    → app_of four ≡ with_subcommand (app_of three) (serve_shape is_until_closed) → app_of five ≡ with_subcommand (app_of four) tell_shape
+    → IfOk result (λ command. app_of command ≡ with_subcommand (app_of five) secret_shape) → IfOk result (λ command. app_of command ≡ program is_until_closed)
+six_commands (Ok command) bare one two three four five check is_until_closed is checks is_check fixes replays serves tells issues =
     let checking = command_added bare check one bare_program check_shape checks refl is_check is in
     let fixing = fixes ∙ ap (λ (a : App). with_subcommand a fix_shape) checking in
     let replaying = replays ∙ ap (λ (a : App). with_subcommand a replay_shape) fixing in
     let serving = serves ∙ ap (λ (a : App). with_subcommand a (serve_shape is_until_closed)) replaying in
-    tells ∙ ap (λ (a : App). with_subcommand a tell_shape) serving
-five_commands (Err error) bare one two three four check is_until_closed is checks is_check fixes replays serves tells = tt
+    let telling = tells ∙ ap (λ (a : App). with_subcommand a tell_shape) serving in
+    issues ∙ ap (λ (a : App). with_subcommand a secret_shape) telling
+six_commands (Err error) bare one two three four five check is_until_closed is checks is_check fixes replays serves tells issues = tt
 
 -- the command `fix`, with these rows, asks for a session
 pub fixes : (sub : Option (Text × List Row)) (rows : List Row) (firm reference : Text) (script : Option Text) → option_map (λ (p : Text × List Row). p.0) sub ≡ Some (codes "fix") → option_map (λ (p : Text × List Row). p.1) sub ≡ Some rows
@@ -159,12 +158,29 @@ never_unread least most other word fits none within = absurd (none (within.0, lt
 pub numbered : (rows : List Row) (result least most : ℕ) (name word : Text) → (IsUnsignedIn least most word → result ≡ number_of word) → word ≡ word_in rows name → IsUnsignedIn least most (word_in rows name) → result ≡ number_of (word_in rows name)
 numbered rows result least most name word means is within = means (subst (IsUnsignedIn least most) (sym is) within) ∙ ap number_of is
 
+-- a number of a port is read
+pub port_read : (word : Text) (number : ℕ) → IsNumeral 10 (without_leading_plus word) → number_of word < 2 ^ 16 → number ≡ number_of word → 1 ≤ number → Some number ≡ port_of word
+port_read word number numeral fits is from_one =
+    let within : IsUnsignedIn 1 65535 word = (numeral, omega (arith, fits), omega (arith, is, from_one), omega (arith, fits)) in
+    rw (Accepts-accepts false (Unsigned 1 65535) word within) (ap Some is)
+
+-- and nothing else is
+pub no_port_read : (word : Text) → (IsNumeral 10 (without_leading_plus word) × (number_of word < 2 ^ 16) → ⊥) → None ≡ port_of word
+no_port_read word none =
+    elim (is_port word) as (λ (b : Bool). is_port word ≡ b → None ≡ cond b (Some (number_of word)) None) [
+      | true ↦ λ is.
+          let within = accepts-Accepts false (Unsigned 1 65535) word is in
+          absurd (none (within.0, omega (arith, within.3)))
+      | false ↦ λ is. refl
+    ] refl
+
 -- what `serve` asks for, word by word
-pub asks_to_serve : (rows : List Row) (reference : Text) (port : ℕ) (script : Option Text) (lasting : Lasting) (every : ℕ) (journal : Option Keeping) (watch : Option Text)
-    → reference ≡ word_in rows (codes "REF") → port ≡ number_of (word_in rows (codes "PORT")) → script ≡ first_of (codes "script") rows
+pub asks_to_serve : (rows : List Row) (reference : Text) (port : Option ℕ) (script : Option Text) (lasting : Lasting) (every : ℕ) (journal : Option Keeping) (watch doors secrets : Option Text)
+    → reference ≡ word_in rows (codes "REF") → port ≡ option_map number_of (port_word rows) → script ≡ first_of (codes "script") rows
     → lasting ≡ lasting_by rows → every ≡ number_of (word_in rows (codes "K")) → journal ≡ keeping_by rows
-    → watch ≡ first_of (codes "watch") rows → Serves reference port script lasting every journal watch ≡ served_by rows
-asks_to_serve rows reference port script lasting every journal watch a b c d e f g = λ i. Serves (a i) (b i) (c i) (d i) (e i) (f i) (g i)
+    → watch ≡ first_of (codes "watch") rows → doors ≡ first_of (codes "doors") rows → secrets ≡ first_of (codes "secrets") rows
+    → Serves reference port script lasting every journal watch doors secrets ≡ served_by rows
+asks_to_serve rows reference port script lasting every journal watch doors secrets a b c d e f g h k = λ i. Serves (a i) (b i) (c i) (d i) (e i) (f i) (g i) (h i) (k i)
 
 -- a server that goes on until it is closed
 pub goes_on : (rows : List Row) (console : Text) (places : ℕ) (workers : Option ℕ) → is_until_closed rows ≡ true → console ≡ word_in rows (codes "console")
@@ -176,9 +192,9 @@ pub counts : (rows : List Row) (connections : ℕ) (console : Option Text) → i
     → console ≡ first_of (codes "console") rows → Counts connections console ≡ lasting_by rows
 counts rows connections console is a b = rw is (λ i. Counts (a i) (b i))
 
--- the command `serve`, whose options may not go together
+-- the command `serve`, whose words may not go together
 pub misfit_read : (sub : Option (Text × List Row)) (rows : List Row) (misfit : Option Misfit) → option_map (λ (p : Text × List Row). p.0) sub ≡ Some (codes "serve")
-    → option_map (λ (p : Text × List Row). p.1) sub ≡ Some rows → (IsUnsignedIn 1 1024 (word_in rows (codes "N")) → misfit ≡ misfit_in rows) → IsWithin sub → misfit ≡ misfit_of sub
+    → option_map (λ (p : Text × List Row). p.1) sub ≡ Some rows → (IsUnsignedIn 1 1024 (word_in rows (codes "N")) → misfit ≡ misfit_in rows) → IsCounted sub → misfit ≡ misfit_of sub
 misfit_read None rows misfit name row asked within = cc
 misfit_read (Some (name, found)) rows misfit is_name is_rows asked within =
     let named : name ≡ codes "serve" = cc in
@@ -187,7 +203,7 @@ misfit_read (Some (name, found)) rows misfit is_name is_rows asked within =
 
 -- the command `serve`, for a server
 pub serves : (sub : Option (Text × List Row)) (rows : List Row) (wanted : Wanted) → option_map (λ (p : Text × List Row). p.0) sub ≡ Some (codes "serve") → option_map (λ (p : Text × List Row). p.1) sub ≡ Some rows
-    → (HasNumbers rows → misfit_in rows ≡ None → wanted ≡ served_by rows) → IsWithin sub → misfit_of sub ≡ None → wanted ≡ wanted_in sub
+    → (HasCounts rows → misfit_in rows ≡ None → wanted ≡ served_by rows) → IsCounted sub → misfit_of sub ≡ None → wanted ≡ wanted_in sub
 serves None rows wanted name row asked within fits = cc
 serves (Some (name, found)) rows wanted is_name is_rows asked within fits =
     let named : name ≡ codes "serve" = cc in
@@ -204,16 +220,53 @@ tells (Some (name, found)) rows path lines is_name is_rows is_path is_lines =
     let same : found ≡ rows = cc in
     (λ i. Tells (is_path i) (is_lines i)) ∙ ap told_by (sym same) ∙ ap (λ (n : Text). wanted_of_command n found) (sym named)
 
--- a server that isn't closed, and whose options go together, has at most 32 connections
+-- the command `secret`, for a firm
+pub issues : (sub : Option (Text × List Row)) (rows : List Row) (firm : Text) → option_map (λ (p : Text × List Row). p.0) sub ≡ Some (codes "secret")
+    → option_map (λ (p : Text × List Row). p.1) sub ≡ Some rows → firm ≡ word_in rows (codes "FIRM") → Issues firm ≡ wanted_in sub
+issues None rows firm name row is_firm = cc
+issues (Some (name, found)) rows firm is_name is_rows is_firm =
+    let named : name ≡ codes "secret" = cc in
+    let same : found ≡ rows = cc in
+    ap Issues is_firm ∙ ap (λ (rs : List Row). Issues (word_in rs (codes "FIRM"))) (sym same) ∙ ap (λ (n : Text). wanted_of_command n found) (sym named)
+
+-- a server whose words go together has no bad port
+pub good_port : (rows : List Row) → misfit_in rows ≡ None → has_bad_port rows ≡ false
+good_port rows fits = go (has_bad_port rows) _ fits
+  where
+    go : (bad : Bool) (others : Option Misfit) → cond bad (Some NotAPort) others ≡ None → bad ≡ false
+    go true others is = cc
+    go false others is = refl
+
+-- a server that isn't closed, and whose words go together, has at most 32 connections
 pub few_connections : (rows : List Row) → is_until_closed rows ≡ false → misfit_in rows ≡ None → IsUnsignedIn 1 1024 (word_in rows (codes "N")) → IsUnsignedIn 1 32 (word_in rows (codes "N"))
 few_connections rows counted fits within = (within.0, within.1, within.2, ltb-false 32 _ (not_many counted fits))
   where
-    no_more : (workers many one late : Bool) → cond workers (Some NotUntilClosed) (cond many (Some ManyConnections) (cond one (Some OnePath) (cond late (Some NoJournal) None))) ≡ None → many ≡ false
-    no_more true many one late is = cc
-    no_more false true one late is = cc
-    no_more false false one late is = refl
+    no_more : (bad workers many : Bool) (others : Option Misfit) → cond bad (Some NotAPort) (cond workers (Some NotUntilClosed) (cond many (Some ManyConnections) others)) ≡ None → many ≡ false
+    no_more true workers many others is = cc
+    no_more false true many others is = cc
+    no_more false false true others is = cc
+    no_more false false false others is = refl
 
     not_many : is_until_closed rows ≡ false → misfit_in rows ≡ None → nat_lt 32 (number_of (word_in rows (codes "N"))) ≡ false
     not_many counted fits =
-        no_more (has rows (codes "W")) (nat_lt 32 (number_of (word_in rows (codes "N")))) (is_one_path (first_of (codes "console") rows) (first_of (codes "watch") rows))
-        (is_set rows (codes "resume") && not (has rows (codes "journal"))) (rw counted at fits)
+        no_more (has_bad_port rows) (has rows (codes "W")) (nat_lt 32 (number_of (word_in rows (codes "N")))) _ (rw counted at fits)
+
+-- a word of a port that isn't bad is within its range
+port_within : (word : Option Text) → option_map_or (λ w. not (is_port w)) word false ≡ false → IfSome word (IsUnsignedIn 1 65535)
+port_within None good = tt
+port_within (Some word) good = accepts-Accepts false (Unsigned 1 65535) word (not-false (is_port word) good)
+
+-- the words of a server that go together have its numbers within their ranges
+fitting_numbers : (sub : Option (Text × List Row)) (rows : List Row) → IsCounted sub → misfit_of sub ≡ None → sub ≡ Some (codes "serve", rows) → HasNumbers rows
+fitting_numbers sub rows counted fits is =
+    let fitting : misfit_in rows ≡ None = subst (λ (s : Option (Text × List Row)). misfit_of s ≡ None) is fits in
+    record { port = port_within (port_word rows) (good_port rows fitting); counts = counted rows is }
+
+-- words that a server is read from have its numbers within their ranges
+pub within_where_read : {T : Type 0} (result : Result T Error) (words : List Text) → IsCounted (command_in words) → FailsBy (refusals_of words) result → IfOk result (λ _. IsWithin (command_in words))
+within_where_read (Err error) words counted fails = tt
+within_where_read (Ok value) words counted none = λ rows is. fitting_numbers (command_in words) rows counted (no_misfit (misfit_of (command_in words)) (or_nil _ _ none).1) is
+  where
+    no_misfit : (misfit : Option Misfit) → kinds_of misfit ≡ [] → misfit ≡ None
+    no_misfit None none = refl
+    no_misfit (Some misfit) none = cc

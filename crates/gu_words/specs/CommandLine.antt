@@ -20,10 +20,6 @@ path_rule name = record (new_rule name) { long = Some name; value_names = 1 }
 abbrev pub number_rule : Text → Text → ValueParser → Text → Rule
 number_rule name long numbers usual = record (new_rule name) { long = Some long; parser = Some numbers; defaults = usual ∷ [] }
 
--- the port of a server, 1 to 65,535
-abbrev pub port_rule : Rule
-port_rule = record (needed (codes "PORT")) { parser = Some (Unsigned 1 65535) }
-
 -- how many connections a server may have: 32 in all, or 1,024 at once where it goes on until it is closed
 abbrev pub most_connections : Bool → ℕ
 most_connections false = 32
@@ -64,18 +60,26 @@ replay_shape = (with_rule (new_app (codes "replay")) (needed (codes "REF"))).top
 -- the words of `serve` for a day of counted connections: the path of a reference and a port, and options
 abbrev pub counted_app : ℕ → App
 counted_app most =
-    with_rule (with_rule (with_rule (with_rule (with_rule (with_rule (with_rule (new_app (codes "serve")) (needed (codes "REF"))) port_rule)
+    with_rule (with_rule (with_rule (with_rule (with_rule (with_rule (with_rule (new_app (codes "serve")) (needed (codes "REF"))) (needed (codes "PORT")))
     (path_rule (codes "script"))) (connections_rule most)) every_rule) (path_rule (codes "journal"))) (flag_rule (codes "resume"))
 
--- the command `serve`: with these, the sockets of those who operate and who watch, and a day that goes on until it is closed
+-- with these, the sockets of those who operate and who watch, and a day that goes on until it is closed
+abbrev pub operated_app : Bool → App
+operated_app is_until_closed =
+    with_rule (with_rule (with_rule (with_rule (counted_app (most_connections is_until_closed)) (path_rule (codes "console")))
+    (path_rule (codes "watch"))) (flag_rule (codes "until-closed"))) workers_rule
+
+-- the command `serve`: with these, the folder of the firms' doors, and the file of their secrets
 abbrev pub serve_shape : Bool → Shape
-serve_shape is_until_closed =
-    (with_rule (with_rule (with_rule (with_rule (counted_app (most_connections is_until_closed)) (path_rule (codes "console")))
-    (path_rule (codes "watch"))) (flag_rule (codes "until-closed"))) workers_rule).top
+serve_shape is_until_closed = (with_rule (with_rule (operated_app is_until_closed) (path_rule (codes "doors"))) (path_rule (codes "secrets"))).top
 
 -- the command `tell`, which takes the path of a socket, and lines
 abbrev pub tell_shape : Shape
 tell_shape = (with_rule (with_rule (new_app (codes "tell")) (needed (codes "PATH"))) lines_rule).top
+
+-- the command `secret`, which takes a firm
+abbrev pub secret_shape : Shape
+secret_shape = (with_rule (new_app (codes "secret")) (needed (codes "FIRM"))).top
 
 -- the program's name, and that it has a version
 abbrev pub bare_program : App
@@ -84,8 +88,8 @@ bare_program = record (new_app (codes "giveup")) { top = record (new_app (codes 
 -- the program's command line, where a word has it go on until it is closed, or none has
 abbrev pub program : Bool → App
 program is_until_closed =
-    with_subcommand (with_subcommand (with_subcommand (with_subcommand (with_subcommand bare_program check_shape) fix_shape) replay_shape)
-    (serve_shape is_until_closed)) tell_shape
+    with_subcommand (with_subcommand (with_subcommand (with_subcommand (with_subcommand (with_subcommand bare_program check_shape) fix_shape) replay_shape)
+    (serve_shape is_until_closed)) tell_shape) secret_shape
 
 -- a word is `--until-closed`
 abbrev pub has_until_closed : List Text → Bool

@@ -15,7 +15,7 @@ use Rattle.gu_words.specs.declared.serving.Span.TheVariants.{Counted, UntilClose
 use Rattle.gu_words.specs.declared.status.Status.{Status}
 use Rattle.gu_words.specs.declared.status.Status.TheVariants.{Done, Refused}
 use Rattle.gu_words.specs.declared.words.Task.{Task}
-use Rattle.gu_words.specs.declared.words.Task.TheVariants.{Capture, Check, Fix, Replay, Serve, Tell}
+use Rattle.gu_words.specs.declared.words.Task.TheVariants.{Capture, Check, Fix, Replay, Secret, Serve, Tell}
 
 -- how long a server may go on: for so many connections, perhaps with a console, or until it is closed at its console, with how many
 -- connections at once, and perhaps a number of workers
@@ -29,15 +29,18 @@ pub record Keeping : Type 0 where
   pub resumes : Bool
 
 -- what words may ask for: trade capture, the check of a sheet, one session of a firm on the reference of a file, perhaps after a script,
--- a script on such a reference, a server on such a reference and a port, perhaps after a script, with how long it goes on, which of its
--- connections' give-ups are swept, perhaps the file of its journal, and perhaps the socket at which it is watched, or lines for a server
+-- a script on such a reference, a server on such a reference, lines for a server, or a secret for a firm. A server has perhaps a port, a
+-- script that is run first, how long it goes on, which of its connections' give-ups are swept, and perhaps the file of its journal, the
+-- socket at which it is watched, the folder of its firms' doors and the file of their secrets
 pub data Wanted : Type 0 where
   Captures : Wanted
   Checks : Wanted
   Fixes : (firm reference : Text) (script : Option Text) → Wanted
   Replays : (reference : Text) → Wanted
-  Serves : (reference : Text) (port : ℕ) (script : Option Text) (lasting : Lasting) (every : ℕ) (journal : Option Keeping) (watch : Option Text) → Wanted
+  Serves : (reference : Text) (port : Option ℕ) (script : Option Text) (lasting : Lasting) (every : ℕ) (journal : Option Keeping)
+      (watch doors secrets : Option Text) → Wanted
   Tells : (path : Text) (lines : List Text) → Wanted
+  Issues : (firm : Text) → Wanted
 
 -- the text of an option, where it is given
 abbrev pub text_of : Option (Bor Text) → Option Text
@@ -63,8 +66,11 @@ wanted_of Capture = Captures
 wanted_of Check = Checks
 wanted_of (Fix firm reference script) = Fixes firm.now reference.now (text_of script)
 wanted_of (Replay reference) = Replays reference.now
-wanted_of (Serve s) = Serves s.reference.now s.port (text_of s.script) (lasting_of s.span) s.every (keeping_of s.journal) (text_of s.watch)
+wanted_of (Serve s) =
+    Serves s.reference.now s.port (text_of s.script) (lasting_of s.span) s.every (keeping_of s.journal)
+    (text_of s.watch) (text_of s.doors) (text_of s.secrets)
 wanted_of (Tell path lines) = Tells path.now (map (λ line. line.now) lines.items)
+wanted_of (Secret firm) = Issues firm.now
 
 -- the word that was given for a name
 abbrev pub word_in : List Row → Text → Text
@@ -82,12 +88,21 @@ is_set rows name = option_map_or (λ word. bytes_eq word (codes "true")) (first_
 abbrev pub is_until_closed : List Row → Bool
 is_until_closed rows = is_set rows (codes "until-closed")
 
--- the numbers of `serve` are within their ranges; that a server which isn't closed has at most 32 connections, `misfit_in` says
-pub record HasNumbers (rows : List Row) : Type 0 where
-  pub port : IsUnsignedIn 1 65535 (word_in rows (codes "PORT"))
+-- the word of a server's port, where it has one: `-` is none
+abbrev pub port_word : List Row → Option Text
+port_word rows = if bytes_eq (word_in rows (codes "PORT")) (codes "-") then None else Some (word_in rows (codes "PORT"))
+
+-- the numbers of the options of `serve` are within their ranges; that a server which isn't closed has at most 32 connections, `misfit_in`
+-- says
+pub record HasCounts (rows : List Row) : Type 0 where
   pub connections : IsUnsignedIn 1 1024 (word_in rows (codes "N"))
   pub every : IsUnsignedIn 0 1000 (word_in rows (codes "K"))
   pub workers : IfSome (first_of (codes "W") rows) (IsUnsignedIn 1 60)
+
+-- and so is its port, where it has one
+pub record HasNumbers (rows : List Row) : Type 0 where
+  pub port : IfSome (port_word rows) (IsUnsignedIn 1 65535)
+  pub counts : HasCounts rows
 
 -- how long a server goes on
 abbrev pub lasting_by : List Row → Lasting
@@ -103,8 +118,9 @@ keeping_by rows = option_map (λ path. record { path = path; resumes = is_set ro
 -- what `serve` asks for
 abbrev pub served_by : List Row → Wanted
 served_by rows =
-    Serves (word_in rows (codes "REF")) (number_of (word_in rows (codes "PORT"))) (first_of (codes "script") rows) (lasting_by rows)
-    (number_of (word_in rows (codes "K"))) (keeping_by rows) (first_of (codes "watch") rows)
+    Serves (word_in rows (codes "REF")) (option_map number_of (port_word rows)) (first_of (codes "script") rows) (lasting_by rows)
+    (number_of (word_in rows (codes "K"))) (keeping_by rows) (first_of (codes "watch") rows) (first_of (codes "doors") rows)
+    (first_of (codes "secrets") rows)
 
 -- what `tell` asks for
 abbrev pub told_by : List Row → Wanted
@@ -119,9 +135,14 @@ wanted_of_command name rows =
     else if bytes_eq name (codes "replay") then Replays (word_in rows (codes "REF"))
     else if bytes_eq name (codes "serve") then served_by rows
     else if bytes_eq name (codes "tell") then told_by rows
+    else if bytes_eq name (codes "secret") then Issues (word_in rows (codes "FIRM"))
     else Captures
 
--- where a command is `serve`, its numbers are within their ranges
+-- where a command is `serve`, the numbers of its options are within their ranges
+abbrev pub IsCounted : Option (Text × List Row) → Type 0
+IsCounted command = (rows : List Row) → command ≡ Some (codes "serve", rows) → HasCounts rows
+
+-- and so is its port, where it has one
 abbrev pub IsWithin : Option (Text × List Row) → Type 0
 IsWithin command = (rows : List Row) → command ≡ Some (codes "serve", rows) → HasNumbers rows
 

@@ -2,7 +2,7 @@
 
 ghost use Rattle.std.specs.Prelude.{◌≡◌, IfOk, false, true};
 ghost use Rattle.clap.specs.Words.{Shape, app_of, rule_of, shape_of, with_subcommand};
-ghost use Rattle.gu_words.specs.CommandLine.{check_shape, counted_app, fix_shape, flag_rule, lines_rule, most_connections, needed, number_rule, path_rule, port_rule, program, replay_shape, serve_shape, tell_shape, workers_rule};
+ghost use Rattle.gu_words.specs.CommandLine.{check_shape, counted_app, fix_shape, flag_rule, lines_rule, most_connections, needed, number_rule, operated_app, path_rule, program, replay_shape, secret_shape, serve_shape, tell_shape, workers_rule};
 
 use crate::version::VERSION;
 use clap::builder::ValueParser;
@@ -19,8 +19,21 @@ Examples:
 
 `giveup COMMAND --help` shows the words of a command.";
 
+/// What help shows after the words of `secret`.
+const SECRET_EXAMPLE: &str = "\
+Example: giveup secret E1 >> firms.secrets
+
+The row alone goes to standard output, so that >> adds it to the file and the secret stays out of it.
+Nothing keeps the secret: give it to the firm, which sends it as Password (554).";
+
+/// What help says of a firm.
+const FIRM: &str = "The name of the firm";
+
 /// What help says of a reference.
 const REFERENCE: &str = "The path of the reference";
+
+/// What help says of a port.
+const PORT: &str = "The port on which it listens, 1 to 65535, or - for none";
 
 /// What help says of a script that is run first.
 const SCRIPT: &str = "The path of a script that is run first, without output";
@@ -48,6 +61,14 @@ const UNTIL_CLOSED: &str =
 /// What help says of workers.
 const WORKERS: &str =
     "How many threads serve the connections with --until-closed, 1 to 60; as many as processors where none is given";
+
+/// What help says of doors.
+const DOORS: &str =
+    "The path of a folder in which each firm of the reference has a socket of its own, at which that firm alone may log on";
+
+/// What help says of secrets.
+const SECRETS: &str =
+    "The path of a file of secrets: a firm then logs on only with a Password (554) that fits one of its rows";
 
 /// A word that must come after a command.
 fn needed<'a>(alloc: Global, name: &'a str, help: &'a str) -> Arg<'a>
@@ -85,16 +106,6 @@ fn number_option<'a>(
         .value_parser(numbers)
         .default_value(usual)
         .help(help)
-}
-
-/// The port of a server.
-fn port_word<'a>(alloc: Global) -> Arg<'a>
-    ensures rule { rule_of result ≡ port_rule }
-    ensures local { result.global ≡ false }
-{
-    needed(alloc, "PORT", "The port on which it listens, 1 to 65535").value_parser(
-        ValueParser::unsigned(1, 65535),
-    )
 }
 
 /// An option that takes no value.
@@ -147,7 +158,7 @@ pub fn fix_command<'a>(alloc: Global) -> Result<Command<'a>, AllocError>
     let bare = Command::new(alloc, "fix")
         .about("Serves one session of a firm over standard input and output")
         .after_help("Example: giveup fix E1 house.csv --script open.script < session.fix");
-    let firm = needed(alloc, "FIRM", "The name of the firm");
+    let firm = needed(alloc, "FIRM", FIRM);
     let of_firm = bare.arg(firm)?;
     let reference = needed(alloc, "REF", REFERENCE);
     let on_reference = of_firm.arg(reference)?;
@@ -179,14 +190,14 @@ fn counted_command<'a>(alloc: Global, most: u64) -> Result<Command<'a>, AllocErr
 {
     let bare = Command::new(alloc, "serve")
         .about(
-            "Serves firms on a port of this machine, with sweepers beside them: prints ENTRIES, SWEPT and AUDIT at the end",
+            "Serves firms at a port or at doors of this machine, with sweepers beside them: prints ENTRIES, SWEPT and AUDIT at the end",
         )
         .after_help(
             "Example: giveup serve house.csv 9878 --script open.script --journal day.script",
         );
     let reference = needed(alloc, "REF", REFERENCE);
     let on_reference = bare.arg(reference)?;
-    let port = port_word(alloc);
+    let port = needed(alloc, "PORT", PORT);
     let on_port = on_reference.arg(port)?;
     let script = path_option(alloc, "script", "FILE", SCRIPT);
     let after_script = on_port.arg(script)?;
@@ -214,9 +225,9 @@ fn counted_command<'a>(alloc: Global, most: u64) -> Result<Command<'a>, AllocErr
     with_journal.arg(resume)
 }
 
-/// The command `serve`, where its words name the end of the day, or don't.
-pub fn serve_command<'a>(alloc: Global, is_until_closed: bool) -> Result<Command<'a>, AllocError>
-    ensures { IfOk result (λ command. shape_of command ≡ serve_shape is_until_closed) }
+/// The command `serve` with the words of an operated day too.
+fn operated_command<'a>(alloc: Global, is_until_closed: bool) -> Result<Command<'a>, AllocError>
+    ensures { IfOk result (λ command. app_of command ≡ operated_app is_until_closed) }
 {
     let counted = counted_command(alloc, most_connections(is_until_closed))?;
     let console = path_option(alloc, "console", "PATH", CONSOLE);
@@ -227,6 +238,23 @@ pub fn serve_command<'a>(alloc: Global, is_until_closed: bool) -> Result<Command
     let going_on = watched.arg(until_closed)?;
     let workers = workers_option(alloc);
     going_on.arg(workers)
+}
+
+/// The command `serve`, where its words name the end of the day, or don't.
+pub fn serve_command<'a>(alloc: Global, is_until_closed: bool) -> Result<Command<'a>, AllocError>
+    ensures { IfOk result (λ command. shape_of command ≡ serve_shape is_until_closed) }
+{
+    let operated = operated_command(alloc, is_until_closed)?;
+    let doors = path_option(alloc, "doors", "FOLDER", DOORS);
+    let with_doors = operated.arg(doors)?;
+    let secrets = path_option(alloc, "secrets", "FILE", SECRETS);
+    with_doors.arg(secrets)
+}
+
+/// A command that takes a port alone, and none but a number of one.
+pub fn port_command<'a>(alloc: Global) -> Result<Command<'a>, AllocError> {
+    let port = needed(alloc, "PORT", PORT).value_parser(ValueParser::unsigned(1, 65535));
+    Command::new(alloc, "serve").arg(port)
 }
 
 /// The command `tell`.
@@ -240,6 +268,19 @@ pub fn tell_command<'a>(alloc: Global) -> Result<Command<'a>, AllocError>
     let at_path = bare.arg(path)?;
     let lines = lines_word(alloc);
     at_path.arg(lines)
+}
+
+/// The command `secret`.
+pub fn secret_command<'a>(alloc: Global) -> Result<Command<'a>, AllocError>
+    ensures { IfOk result (λ command. shape_of command ≡ secret_shape) }
+{
+    let bare = Command::new(alloc, "secret")
+        .about(
+            "Draws a secret for a firm: prints its row for the file of secrets, and the secret, once, on standard error",
+        )
+        .after_help(SECRET_EXAMPLE);
+    let firm = needed(alloc, "FIRM", FIRM);
+    bare.arg(firm)
 }
 
 /// A command, and one more after it, where that was made.
@@ -273,5 +314,6 @@ pub fn program<'a>(alloc: Global, is_until_closed: bool) -> Result<Command<'a>, 
     let fixing = with(checking, fix_command(alloc))?;
     let replaying = with(fixing, replay_command(alloc))?;
     let serving = with(replaying, serve_command(alloc, is_until_closed))?;
-    with(serving, tell_command(alloc))
+    let telling = with(serving, tell_command(alloc))?;
+    with(telling, secret_command(alloc))
 }

@@ -2,8 +2,8 @@
 
 ghost use Rattle.std.specs.Prelude.{◌≡◌, ◌≤◌, [], IfOk, IfSome, codes, map, nat_lt, option_map, unwrap_or};
 ghost use Rattle.clap.specs.Words.{IsUnsignedIn, all_of, first_of, found_of, rows_of};
-ghost use Rattle.gu_words.specs.Misfits.{has, is_one_path, misfit_in};
-ghost use Rattle.gu_words.specs.ProgramWords.{HasNumbers, is_set, keeping_by, keeping_of, lasting_by, lasting_of, number_of, served_by, wanted_of, word_in};
+ghost use Rattle.gu_words.specs.Misfits.{has, has_bad_port, is_one_path, misfit_in, port_of};
+ghost use Rattle.gu_words.specs.ProgramWords.{HasCounts, is_set, keeping_by, keeping_of, lasting_by, lasting_of, number_of, port_word, served_by, text_of, wanted_of, word_in};
 
 use crate::misfit::Misfit;
 use crate::serving::{Counted, Journal, Serving, Span, UntilClosed};
@@ -48,6 +48,35 @@ fn has(found: &ArgMatches<'_>, name: &str) -> bool
     found.get_str(name).is_some()
 }
 
+/// Returns the number that a word means, if it is a port.
+fn port_number(word: &str) -> Option<u16>
+    ensures number { result ≡ port_of word.now }
+    ensures from_one { 1 ≤ unwrap_or result 1 }
+{
+    match word.parse::<u16>() {
+        Ok(number) if number >= 1 => Some(number),
+        _ => None,
+    }
+}
+
+/// Returns the word of a server's port, where it has one.
+fn port_word<'a>(found: &ArgMatches<'a>) -> Option<&'a str>
+    ensures { text_of result ≡ port_word (rows_of (found_of found.now)) }
+{
+    let word = word(found, "PORT");
+    if word == "-" { None } else { Some(word) }
+}
+
+/// Returns whether what is named as the port of a server is none.
+fn has_bad_port(found: &ArgMatches<'_>) -> bool
+    ensures { result ≡ has_bad_port (rows_of (found_of found.now)) }
+{
+    match port_word(found) {
+        Some(word) => port_number(word).is_none(),
+        None => false,
+    }
+}
+
 /// Returns whether there are more connections than a server has that goes on for counted ones.
 fn has_many_connections(found: &ArgMatches<'_>) -> bool
     ensures { IsUnsignedIn 1 1024 (word_in (rows_of (found_of found.now)) (codes "N"))
@@ -66,12 +95,15 @@ fn has_one_path(found: &ArgMatches<'_>) -> bool
     }
 }
 
-/// Returns why the options of `serve` don't go together, if they don't.
+/// Returns why the words of `serve` don't go together, if they don't.
 pub fn misfit_in(found: &ArgMatches<'_>) -> Option<Misfit>
     ensures { IsUnsignedIn 1 1024 (word_in (rows_of (found_of found.now)) (codes "N")) → result ≡ misfit_in (rows_of (found_of found.now)) }
 {
     let is_until_closed = is_set(found, "until-closed");
-    if is_until_closed && !has(found, "console") {
+    let has_port = port_word(found).is_some();
+    if has_bad_port(found) {
+        Some(Misfit::NotAPort)
+    } else if is_until_closed && !has(found, "console") {
         Some(Misfit::NoConsole)
     } else if !is_until_closed && has(found, "W") {
         Some(Misfit::NotUntilClosed)
@@ -81,6 +113,10 @@ pub fn misfit_in(found: &ArgMatches<'_>) -> Option<Misfit>
         Some(Misfit::OnePath)
     } else if is_set(found, "resume") && !has(found, "journal") {
         Some(Misfit::NoJournal)
+    } else if !has_port && !has(found, "doors") {
+        Some(Misfit::NoDoors)
+    } else if has_port && has(found, "doors") && !has(found, "secrets") {
+        Some(Misfit::NoSecrets)
     } else {
         None
     }
@@ -101,7 +137,7 @@ fn workers_in(found: &ArgMatches<'_>) -> Option<u16>
 
 /// Returns how long a server goes on.
 fn span_in<'a>(found: &ArgMatches<'a>) -> Span<'a>
-    ensures { HasNumbers (rows_of (found_of found.now)) → misfit_in (rows_of (found_of found.now)) ≡ None
+    ensures { HasCounts (rows_of (found_of found.now)) → misfit_in (rows_of (found_of found.now)) ≡ None
         → lasting_of result ≡ lasting_by (rows_of (found_of found.now)) }
 {
     if is_set(found, "until-closed") {
@@ -131,19 +167,29 @@ fn journal_in<'a>(found: &ArgMatches<'a>) -> Option<Journal<'a>>
     }
 }
 
+/// Returns the port on which a server listens, if it has one.
+fn port_in(found: &ArgMatches<'_>) -> Option<u16>
+    ensures number { misfit_in (rows_of (found_of found.now)) ≡ None → result ≡ option_map number_of (port_word (rows_of (found_of found.now))) }
+    ensures from_one { 1 ≤ unwrap_or result 1 }
+{
+    port_number(port_word(found)?)
+}
+
 /// Returns what the words of `serve` ask for.
 pub fn serving_in<'a>(found: &ArgMatches<'a>) -> Serving<'a>
-    ensures { HasNumbers (rows_of (found_of found.now)) → misfit_in (rows_of (found_of found.now)) ≡ None
+    ensures { HasCounts (rows_of (found_of found.now)) → misfit_in (rows_of (found_of found.now)) ≡ None
         → wanted_of (Task.Serve result) ≡ served_by (rows_of (found_of found.now)) }
 {
     Serving {
         reference: word(found, "REF"),
-        port: number(word(found, "PORT"), 1, 65535),
+        port: port_in(found),
         script: found.get_str("script"),
         span: span_in(found),
         every: number(word(found, "K"), 0, 1000),
         journal: journal_in(found),
         watch: found.get_str("watch"),
+        doors: found.get_str("doors"),
+        secrets: found.get_str("secrets"),
     }
 }
 

@@ -51,8 +51,8 @@ pub struct Journal<'a> {
 pub struct Serving<'a> {
     /// The path of the reference.
     pub reference: &'a str,
-    /// The port of this machine on which it listens: 1 to 65,535.
-    pub port: u16,
+    /// The port of this machine on which it listens, if it has one: 1 to 65,535.
+    pub port: Option<u16>,
     /// The path of the script that is run first, where one is named.
     pub script: Option<&'a str>,
     /// How long it goes on, with its connections and the socket of its operators.
@@ -63,7 +63,11 @@ pub struct Serving<'a> {
     pub journal: Option<Journal<'a>>,
     /// The path of the socket of those who may only look, where one is named.
     pub watch: Option<&'a str>,
-    ghost port_from_one: { 1 ≤ port },
+    /// The path of the folder in which each firm has a socket of its own, its door, where one is named.
+    pub doors: Option<&'a str>,
+    /// The path of the file of the secrets with which firms log on, where one is named.
+    pub secrets: Option<&'a str>,
+    ghost port_from_one: { 1 ≤ unwrap_or port 1 },
     ghost every_within: { every ≤ 1000 },
 }
 

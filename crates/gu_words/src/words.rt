@@ -2,12 +2,14 @@
 
 ghost use Rattle.std.specs.Prelude.{◌≡◌, ◌∷◌, [], List, ℕ, Err, IfOk, codes, map};
 ghost use Rattle.clap.specs.Words.{FailsBy, kind_of, subcommand_rows_of};
-ghost use Rattle.clap.specs.declared.error.kind.ErrorKind.TheVariants.{InvalidValue, OutOfMemory};
+ghost use Rattle.clap.specs.declared.error.kind.ErrorKind.TheVariants.{InvalidValue, OutOfMemory, ValueValidation};
 ghost use Rattle.gu_words.specs.CommandLine.{has_until_closed, says_until_closed};
 ghost use Rattle.gu_words.specs.Misfits.{kind_of_misfit, kinds_of, misfit_of, refusals_of};
-ghost use Rattle.gu_words.specs.ProgramWords.{Captures, Checks, IsWithin, Reads, command_in, status_of, wanted_by, wanted_in, wanted_of};
+ghost use Rattle.gu_words.specs.ProgramWords.{Captures, Checks, IsCounted, IsWithin, Reads, command_in, status_of, wanted_by, wanted_in, wanted_of};
 
-use crate::commands::{fix_command, program, serve_command, tell_command};
+use crate::commands::{
+    fix_command, port_command, program, secret_command, serve_command, tell_command,
+};
 use crate::found::{lines_in, misfit_in, serving_in, word};
 use crate::misfit::Misfit;
 use crate::serving::Serving;
@@ -55,6 +57,17 @@ pub enum Task<'a> {
         path: &'a str,
         lines: Vec<&'a str>,
     },
+    /// A secret for the firm of this name.
+    Secret {
+        firm: &'a str,
+    },
+}
+
+/// The commands that name a firm.
+#[derive(Clone, Copy, Debug)]
+pub enum FirmCommand {
+    Fix,
+    Secret,
 }
 
 /// Returns whether one of some words is `--until-closed`.
@@ -88,7 +101,7 @@ fn refusal(mut command: Command<'_>, kind: ErrorKind, why: &str) -> Result<Error
     refused
 }
 
-/// Returns the refusal of options of `serve` that don't go together.
+/// Returns the refusal of words of `serve` that don't go together.
 fn refusal_of(alloc: Global, misfit: Misfit) -> Result<Error, AllocError>
     ensures { IfOk result (λ error. kind_of error ≡ kind_of_misfit misfit) }
 {
@@ -96,9 +109,40 @@ fn refusal_of(alloc: Global, misfit: Misfit) -> Result<Error, AllocError>
     refusal(command, misfit.kind(), misfit.why())
 }
 
-/// Returns why the options of a command don't go together, if they don't.
+/// Returns the refusal of a word that is no port: clap's own.
+fn port_refusal(alloc: Global, word: &str) -> Result<Error, AllocError>
+    ensures { IfOk result (λ error. kind_of error ≡ ValueValidation) }
+{
+    let words = ["serve", "--", word];
+    match port_command(alloc)?.try_get_matches_from(&words) {
+        Err(error) => {
+            if error.kind() == ErrorKind::ValueValidation {
+                return Ok(error);
+            }
+            drop(error);
+        }
+        Ok(matches) => drop(matches),
+    }
+    refusal_of(alloc, Misfit::NotAPort)
+}
+
+/// Returns the refusal of a command whose words don't go together.
+fn misfit_refusal(
+    alloc: Global,
+    matches: &ArgMatches<'_>,
+    misfit: Misfit,
+) -> Result<Error, AllocError>
+    ensures { IfOk result (λ error. kind_of error ≡ kind_of_misfit misfit) }
+{
+    match (misfit, matches.subcommand()) {
+        (Misfit::NotAPort, Some((_, found))) => port_refusal(alloc, word(found, "PORT")),
+        _ => refusal_of(alloc, misfit),
+    }
+}
+
+/// Returns why the words of a command don't go together, if they don't.
 fn misfit_of(matches: &ArgMatches<'_>) -> Option<Misfit>
-    ensures { IsWithin (subcommand_rows_of matches.now) → result ≡ misfit_of (subcommand_rows_of matches.now) }
+    ensures { IsCounted (subcommand_rows_of matches.now) → result ≡ misfit_of (subcommand_rows_of matches.now) }
 {
     match matches.subcommand() {
         Some(("serve", found)) => misfit_in(found),
@@ -106,9 +150,9 @@ fn misfit_of(matches: &ArgMatches<'_>) -> Option<Misfit>
     }
 }
 
-/// Returns the task of a command that was read, whose options go together.
+/// Returns the task of a command that was read, whose words go together.
 fn task_of<'a>(alloc: Global, matches: &ArgMatches<'a>) -> Result<Task<'a>, AllocError>
-    ensures { IsWithin (subcommand_rows_of matches.now) → misfit_of (subcommand_rows_of matches.now) ≡ None
+    ensures { IsCounted (subcommand_rows_of matches.now) → misfit_of (subcommand_rows_of matches.now) ≡ None
         → IfOk result (λ task. wanted_of task ≡ wanted_in (subcommand_rows_of matches.now)) }
 {
     match matches.subcommand() {
@@ -129,17 +173,20 @@ fn task_of<'a>(alloc: Global, matches: &ArgMatches<'a>) -> Result<Task<'a>, Allo
                 lines,
             })
         }
+        Some(("secret", found)) => Ok(Task::Secret {
+            firm: word(found, "FIRM"),
+        }),
         _ => Ok(Task::Capture),
     }
 }
 
-/// Returns the task of a command that was read; options that don't go together are refused.
+/// Returns the task of a command that was read; words that don't go together are refused.
 fn fitting_task<'a>(alloc: Global, matches: &ArgMatches<'a>) -> Result<Task<'a>, Error>
-    ensures task { IsWithin (subcommand_rows_of matches.now) → IfOk result (λ task. wanted_of task ≡ wanted_in (subcommand_rows_of matches.now)) }
-    ensures refused { IsWithin (subcommand_rows_of matches.now) → FailsBy (kinds_of (misfit_of (subcommand_rows_of matches.now))) result }
+    ensures task { IsCounted (subcommand_rows_of matches.now) → IfOk result (λ task. wanted_of task ≡ wanted_in (subcommand_rows_of matches.now)) }
+    ensures refused { IsCounted (subcommand_rows_of matches.now) → FailsBy (kinds_of (misfit_of (subcommand_rows_of matches.now))) result }
 {
     match misfit_of(matches) {
-        Some(misfit) => Err(refusal_of(alloc, misfit)?),
+        Some(misfit) => Err(misfit_refusal(alloc, matches, misfit)?),
         None => Ok(task_of(alloc, matches)?),
     }
 }
@@ -149,7 +196,7 @@ pub fn read<'a, S: AsStr>(alloc: Global, words: &'a [S]) -> Result<Task<'a>, Err
     ensures task { IfOk result (λ task. wanted_of task ≡ wanted_by (map S.text words.now)) }
     ensures refused { FailsBy (refusals_of (map S.text words.now)) result }
 
-    // The numbers of a server are within their ranges.
+    // The numbers of a server are within their ranges, and so is its port, where it has one.
     ensures within { IfOk result (λ task. IsWithin (command_in (map S.text words.now))) }
 
     // The words of each task.
@@ -162,16 +209,22 @@ pub fn read<'a, S: AsStr>(alloc: Global, words: &'a [S]) -> Result<Task<'a>, Err
     task
 }
 
-/// Returns the firm of a name; a word that is none is refused.
-pub fn firm_named(alloc: Global, name: &str) -> Result<FirmId, Error>
+/// Returns the refusal of a word that names no firm, after a command.
+fn firm_refusal(alloc: Global, command: FirmCommand) -> Result<Error, AllocError> {
+    let called = match command {
+        FirmCommand::Fix => fix_command(alloc)?.bin_name("giveup fix")?,
+        FirmCommand::Secret => secret_command(alloc)?.bin_name("giveup secret")?,
+    };
+    refusal(called, ErrorKind::InvalidValue, NO_FIRM)
+}
+
+/// Returns the firm of a name after a command; a word that is none is refused.
+pub fn firm_named(alloc: Global, command: FirmCommand, name: &str) -> Result<FirmId, Error>
     ensures { IfOk result (λ firm. firm.name ≡ name.now) }
 {
     match FirmId::new(name.as_bytes()) {
         Some(firm) => Ok(firm),
-        None => {
-            let command = fix_command(alloc)?.bin_name("giveup fix")?;
-            Err(refusal(command, ErrorKind::InvalidValue, NO_FIRM)?)
-        }
+        None => Err(firm_refusal(alloc, command)?),
     }
 }
 

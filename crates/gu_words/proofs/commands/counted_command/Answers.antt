@@ -1,7 +1,7 @@
 use Rattle.std.proofs.Common.{rules, ◌≡◌, ◌∙◌, ap, codes}
 use Rattle.clap.specs.Words.{App, app_of, new_app, rule_of, with_rule}
 use Rattle.clap.specs.Simple.{app_of_fields}
-use Rattle.gu_words.specs.CommandLine.{connections_rule, every_rule, flag_rule, needed, path_rule, port_rule}
+use Rattle.gu_words.specs.CommandLine.{connections_rule, every_rule, flag_rule, needed, path_rule}
 use Rattle.gu_words.proofs.WordLemmas.{last_rule_added, word_added}
 use Rattle.gu_words.proofs.commands.counted_command.Goals as goal
 
@@ -10,14 +10,14 @@ returns c =
     let bare : App = new_app (codes "serve") in
     let made : app_of c.after_help-bare.result ≡ bare = ap app_of_fields c.after_help-bare.ensures ∙ (ap app_of_fields c.about.ensures ∙ c.new.ensures.app) in
     let is_reference : rule_of c.needed-reference.result ≡ needed (codes "REF") = search rules in
-    let is_port = c.port_word-port.ensures.rule in
+    let is_port : rule_of c.needed-port.result ≡ needed (codes "PORT") = search rules in
     let is_script : rule_of c.path_option-script.result ≡ path_rule (codes "script") = search rules in
     let is_connections : rule_of c.number_option-connections.result ≡ connections_rule c.args.most = search rules in
     let is_every : rule_of c.number_option-every.result ≡ every_rule = search rules in
     let with_reference : App = with_rule bare (needed (codes "REF")) in
     let reference_made : app_of c.in_ok-on_reference.on_reference ≡ with_reference = word_added c.after_help-bare.result c.in_ok-on_reference.on_reference c.needed-reference.result bare (needed (codes "REF")) c.in_ok-on_reference.ensures c.needed-reference.ensures.local is_reference made in
-    let with_port : App = with_rule with_reference port_rule in
-    let port_made : app_of c.in_ok-on_port.on_port ≡ with_port = word_added c.in_ok-on_reference.on_reference c.in_ok-on_port.on_port c.port_word-port.result with_reference port_rule c.in_ok-on_port.ensures c.port_word-port.ensures.local is_port reference_made in
+    let with_port : App = with_rule with_reference (needed (codes "PORT")) in
+    let port_made : app_of c.in_ok-on_port.on_port ≡ with_port = word_added c.in_ok-on_reference.on_reference c.in_ok-on_port.on_port c.needed-port.result with_reference (needed (codes "PORT")) c.in_ok-on_port.ensures c.needed-port.ensures.local is_port reference_made in
     let with_script : App = with_rule with_port (path_rule (codes "script")) in
     let script_made : app_of c.in_ok-after_script.after_script ≡ with_script = word_added c.in_ok-on_port.on_port c.in_ok-after_script.after_script c.path_option-script.result with_port (path_rule (codes "script")) c.in_ok-after_script.ensures c.path_option-script.ensures.local is_script port_made in
     let with_connections : App = with_rule with_script (connections_rule c.args.most) in

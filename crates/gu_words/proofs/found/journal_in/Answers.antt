@@ -1,4 +1,4 @@
-use Rattle.std.proofs.Common.{◌≡◌, ◌∙◌, ap, codes, Option, Some, Bool}
+use Rattle.std.proofs.Common.{◌∙◌, ap, codes, Option, Some, Bool}
 use Rattle.std.specs.Option.{option_map}
 use Rattle.clap.specs.Words.{Text, found_of, rows_of}
 use Rattle.clap.proofs.WalkLemmas.{first_value-rows}

@@ -5,9 +5,9 @@ use Rattle.clap.specs.Words.{App, HasKind, Row, Text, fault_of, is_simple, is_si
 use Rattle.clap.proofs.WalkLemmas.{both}
 use Rattle.gu_words.specs.CommandLine.{program, says_until_closed}
 use Rattle.gu_words.specs.Misfits.{kinds_of, misfit_of, refusals_of}
-use Rattle.gu_words.specs.ProgramWords.{Captures, Checks, IsWithin, command_in, wanted_by, wanted_in}
+use Rattle.gu_words.specs.ProgramWords.{Captures, Checks, IsCounted, command_in, wanted_by, wanted_in}
 use Rattle.gu_words.proofs.ServeLemmas.{numbers_read}
-use Rattle.gu_words.proofs.WordLemmas.{first_kinds, holds_anyway, no_refusals-check, no_refusals-name, read_unless_memory, simple-program, takes-name, takes-check, wanted_by-check, wanted_by-name}
+use Rattle.gu_words.proofs.WordLemmas.{first_kinds, no_refusals-check, no_refusals-name, read_unless_memory, simple-program, takes-name, takes-check, wanted_by-check, wanted_by-name, within_where_read}
 use Rattle.gu_words.proofs.words.read.Goals as goal
 
 pub returns-in_err-matches-clause-capture : goal.returns-in_err-matches-clause-capture
@@ -31,14 +31,6 @@ returns-in_err-matches-clause-refused g c =
     rw (error.1, error.2) (first_kinds (fault_of (program (says_until_closed words)) words) (kinds_of (misfit_of (command_in words))) c.in_err-matches.field-0.0
     (subst (λ (a : App). HasKind (fault_of a words) c.in_err-matches.field-0.0) app kinds))
 
-pub returns-clause-within : goal.returns-clause-within
-returns-clause-within g c =
-    let words = map g.S.AsStr.text c.args.words.now in
-    let app = c.in_ok-program.ensures ∙ ap program c.says_until_closed.ensures in
-    let none : fault_of (program (says_until_closed words)) words ≡ [] =
-    ap (λ (a : App). fault_of a words) (sym app) ∙ c.in_ok-matches.ensures.kinds (ap is_simple_and_free app ∙ simple-program (says_until_closed words)) in
-    holds_anyway c.fitting_task-task.result (λ rows is. numbers_read (says_until_closed words) words rows none is)
-
 pub returns-clause-task : goal.returns-clause-task
 returns-clause-task g c =
     let words = map g.S.AsStr.text c.args.words.now in
@@ -48,8 +40,8 @@ returns-clause-task g c =
     ap (λ (a : App). fault_of a words) (sym app) ∙ c.in_ok-matches.ensures.kinds (ap is_simple_and_free app ∙ simple) in
     let found = c.in_ok-matches.ensures.matches (ap is_simple app ∙ (both _ _ simple).0) in
     let same : subcommand_rows_of c.in_ok-matches.matches ≡ command_in words = found.1 ∙ ap (λ (a : App). subcommand_of a words) app in
-    let within : IsWithin (command_in words) = λ rows is. numbers_read (says_until_closed words) words rows none is in
-    IfOk-weaker c.fitting_task-task.result _ _ (λ task wanted. wanted ∙ ap wanted_in same) (c.fitting_task-task.ensures.task (subst IsWithin (sym same) within))
+    let counted : IsCounted (command_in words) = λ rows is. numbers_read (says_until_closed words) words rows none is in
+    IfOk-weaker c.fitting_task-task.result _ _ (λ task wanted. wanted ∙ ap wanted_in same) (c.fitting_task-task.ensures.task (subst IsCounted (sym same) counted))
 
 pub returns-clause-refused : goal.returns-clause-refused
 returns-clause-refused g c =
@@ -60,10 +52,18 @@ returns-clause-refused g c =
     ap (λ (a : App). fault_of a words) (sym app) ∙ c.in_ok-matches.ensures.kinds (ap is_simple_and_free app ∙ simple) in
     let found = c.in_ok-matches.ensures.matches (ap is_simple app ∙ (both _ _ simple).0) in
     let same : subcommand_rows_of c.in_ok-matches.matches ≡ command_in words = found.1 ∙ ap (λ (a : App). subcommand_of a words) app in
-    let within : IsWithin (command_in words) = λ rows is. numbers_read (says_until_closed words) words rows none is in
+    let counted : IsCounted (command_in words) = λ rows is. numbers_read (says_until_closed words) words rows none is in
     let kinds : kinds_of (misfit_of (subcommand_rows_of c.in_ok-matches.matches)) ≡ refusals_of words =
     ap (λ (command : Option (Text × List Row)). kinds_of (misfit_of command)) same ∙ ap (λ (first : Kinds). or_else first (kinds_of (misfit_of (command_in words)))) (sym none) in
-    subst (λ (k : Kinds). FailsBy k c.fitting_task-task.result) kinds (c.fitting_task-task.ensures.refused (subst IsWithin (sym same) within))
+    subst (λ (k : Kinds). FailsBy k c.fitting_task-task.result) kinds (c.fitting_task-task.ensures.refused (subst IsCounted (sym same) counted))
+
+pub returns-clause-within : goal.returns-clause-within
+returns-clause-within g c =
+    let words = map g.S.AsStr.text c.args.words.now in
+    let app = c.in_ok-program.ensures ∙ ap program c.says_until_closed.ensures in
+    let none : fault_of (program (says_until_closed words)) words ≡ [] =
+    ap (λ (a : App). fault_of a words) (sym app) ∙ c.in_ok-matches.ensures.kinds (ap is_simple_and_free app ∙ simple-program (says_until_closed words)) in
+    within_where_read c.fitting_task-task.result words (λ rows is. numbers_read (says_until_closed words) words rows none is) (returns-clause-refused g c)
 
 pub returns-clause-capture : goal.returns-clause-capture
 returns-clause-capture g c name words =

@@ -5,7 +5,7 @@ use Rattle.clap.specs.Words.{Row, Text, first_of, found_of, rows_of, subcommand_
 use Rattle.clap.proofs.WalkLemmas.{first_value-rows}
 use Rattle.gu_words.specs.ProgramWords.{wanted_of}
 use Rattle.gu_words.specs.declared.words.Task.TheVariants.{Serve}
-use Rattle.gu_words.proofs.WordLemmas.{fixes, replays, serves}
+use Rattle.gu_words.proofs.WordLemmas.{fixes, issues, replays, serves}
 use Rattle.gu_words.proofs.words.task_of.Goals as goal
 
 pub returns-in-Some-fix-default : goal.returns-in-Some-fix-default
@@ -28,3 +28,9 @@ returns-in-Some-serve-default c within fits =
     let arm = c.in-Some-serve-default in
     let name : option_map (λ (p : Text × List Row). p.0) (subcommand_rows_of c.args.matches.now) ≡ Some (codes "serve") = let entered = arm.ensures.name in let same = arm.is-serve in grind (arith, common_steps, entered, same) in
     serves (subcommand_rows_of c.args.matches.now) (rows_of (found_of arm.found.now)) (wanted_of (Serve c.serving_in.result)) name (sym arm.ensures.rows) c.serving_in.ensures within fits
+
+pub returns-in-Some-secret-default : goal.returns-in-Some-secret-default
+returns-in-Some-secret-default c within fits =
+    let arm = c.in-Some-secret-default in
+    let name : option_map (λ (p : Text × List Row). p.0) (subcommand_rows_of c.args.matches.now) ≡ Some (codes "secret") = let entered = arm.ensures.name in let same = arm.is-secret in grind (arith, common_steps, entered, same) in
+    issues (subcommand_rows_of c.args.matches.now) (rows_of (found_of arm.found.now)) c.word-in-Some-secret-default.result.now name (sym arm.ensures.rows) c.word-in-Some-secret-default.ensures
