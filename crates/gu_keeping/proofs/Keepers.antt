@@ -1,39 +1,34 @@
 -- What a keeper has of the entries that were taken from the desk.
-use Rattle.std.proofs.Common.{◌≡◌, ◌≤◌, ◌+◌, ◌++◌, ◌∙◌, ℕ, List, length, take, drop, sym, ap, append_assoc, length-append, take-append-drop, arith}
+use Rattle.std.proofs.Common.{◌≡◌, ◌≤◌, ◌+◌, ◌++◌, ◌∙◌, ℕ, List, length, take, drop, sym, ap, subst, append_assoc, length-append, take-append-drop, arith}
 use Rattle.std.proofs.lemmas.List.{take-append-le, take_all, take_at}
 use Rattle.gu_terms.specs.declared.entry.Entry.{Entry}
-use Rattle.gu_keeping.specs.Chains.{chain_after, chain_of, empty_chain}
+use Rattle.gu_keeping.specs.Chains.{IsChainOf, chain_after}
 use Rattle.gu_keeping.specs.Keeping.{kept_entries}
 use Rattle.gu_keeping.specs.declared.chain.Chain.{Chain}
-use Rattle.gu_keeping.proofs.Made.{chain_after-append}
-use Rattle.gu_keeping.proofs.RowWords.{chain_count}
-
--- how many entries a chain has
-pub count_of : (chain : Chain) (entries : List Entry) → chain ≡ chain_of entries → chain.count ≡ length entries
-count_of chain entries is = ap (λ (c : Chain). c.count) is ∙ chain_count empty_chain entries ∙ omega arith
+use Rattle.gu_keeping.proofs.ChainLemmas.{chain_count, chain_more, count_of}
 
 -- all are kept
-pub kept_all : (chain : Chain) (front : List Entry) → chain ≡ chain_of front → kept_entries chain front ≡ front
+pub kept_all : (chain : Chain) (front : List Entry) → IsChainOf chain front → kept_entries chain front ≡ front
 kept_all chain front is = ap (λ (n : ℕ). take n front) (count_of chain front is) ∙ take_all (length front) front (omega arith)
 
 -- some wait
-pub front_length : (chain : Chain) (front waiting : List Entry) → front ≡ kept_entries chain front ++ waiting → chain ≡ chain_of (kept_entries chain front)
+pub front_length : (chain : Chain) (front waiting : List Entry) → front ≡ kept_entries chain front ++ waiting → IsChainOf chain (kept_entries chain front)
     → length front ≡ chain.count + length waiting
 front_length chain front waiting parts chained =
     ap (λ (l : List Entry). length l) parts
     ∙ length-append (kept_entries chain front) waiting
     ∙ ap (λ (n : ℕ). n + length waiting) (sym (count_of chain (kept_entries chain front) chained))
 
-pub kept_within : (chain : Chain) (front waiting : List Entry) → front ≡ kept_entries chain front ++ waiting → chain ≡ chain_of (kept_entries chain front)
+pub kept_within : (chain : Chain) (front waiting : List Entry) → front ≡ kept_entries chain front ++ waiting → IsChainOf chain (kept_entries chain front)
     → chain.count ≤ length front
 kept_within chain front waiting parts chained = omega (arith, front_length chain front waiting parts chained)
 
 -- more are taken
-pub kept_stays : (chain : Chain) (front waiting more : List Entry) → front ≡ kept_entries chain front ++ waiting → chain ≡ chain_of (kept_entries chain front)
+pub kept_stays : (chain : Chain) (front waiting more : List Entry) → front ≡ kept_entries chain front ++ waiting → IsChainOf chain (kept_entries chain front)
     → kept_entries chain (front ++ more) ≡ kept_entries chain front
 kept_stays chain front waiting more parts chained = take-append-le chain.count front more (kept_within chain front waiting parts chained)
 
-pub parts_more : (chain : Chain) (front waiting more : List Entry) → front ≡ kept_entries chain front ++ waiting → chain ≡ chain_of (kept_entries chain front)
+pub parts_more : (chain : Chain) (front waiting more : List Entry) → front ≡ kept_entries chain front ++ waiting → IsChainOf chain (kept_entries chain front)
     → front ++ more ≡ kept_entries chain (front ++ more) ++ (waiting ++ more)
 parts_more chain front waiting more parts chained =
     ap (λ (l : List Entry). l ++ more) parts
@@ -41,7 +36,7 @@ parts_more chain front waiting more parts chained =
     ∙ ap (λ (l : List Entry). l ++ (waiting ++ more)) (sym (kept_stays chain front waiting more parts chained))
 
 -- the first ones that wait are kept
-pub kept_on : (chain : Chain) (front waiting : List Entry) (n : ℕ) → front ≡ kept_entries chain front ++ waiting → chain ≡ chain_of (kept_entries chain front)
+pub kept_on : (chain : Chain) (front waiting : List Entry) (n : ℕ) → front ≡ kept_entries chain front ++ waiting → IsChainOf chain (kept_entries chain front)
     → kept_entries (chain_after chain (take n waiting)) front ≡ kept_entries chain front ++ take n waiting
 kept_on chain front waiting n parts chained =
     let kept = kept_entries chain front in
@@ -52,7 +47,7 @@ kept_on chain front waiting n parts chained =
     chain_count chain first ∙ ap (λ (k : ℕ). k + length first) (count_of chain kept chained) ∙ sym (length-append kept first) in
     ap (λ (l : List Entry). take (chain_after chain first).count l) whole ∙ take_at (kept ++ first) (drop n waiting) (chain_after chain first).count (sym long)
 
-pub parts_on : (chain : Chain) (front waiting : List Entry) (n : ℕ) → front ≡ kept_entries chain front ++ waiting → chain ≡ chain_of (kept_entries chain front)
+pub parts_on : (chain : Chain) (front waiting : List Entry) (n : ℕ) → front ≡ kept_entries chain front ++ waiting → IsChainOf chain (kept_entries chain front)
     → front ≡ kept_entries (chain_after chain (take n waiting)) front ++ drop n waiting
 parts_on chain front waiting n parts chained =
     parts
@@ -60,9 +55,9 @@ parts_on chain front waiting n parts chained =
     ∙ sym (append_assoc (kept_entries chain front) (take n waiting) (drop n waiting))
     ∙ ap (λ (l : List Entry). l ++ drop n waiting) (sym (kept_on chain front waiting n parts chained))
 
-pub chained_on : (chain : Chain) (front waiting : List Entry) (n : ℕ) → front ≡ kept_entries chain front ++ waiting → chain ≡ chain_of (kept_entries chain front)
-    → chain_after chain (take n waiting) ≡ chain_of (kept_entries (chain_after chain (take n waiting)) front)
+pub chained_on : (chain : Chain) (front waiting : List Entry) (n : ℕ) → front ≡ kept_entries chain front ++ waiting → IsChainOf chain (kept_entries chain front)
+    → IsChainOf (chain_after chain (take n waiting)) (kept_entries (chain_after chain (take n waiting)) front)
 chained_on chain front waiting n parts chained =
-    ap (λ (c : Chain). chain_after c (take n waiting)) chained
-    ∙ sym (chain_after-append empty_chain (kept_entries chain front) (take n waiting))
-    ∙ ap (λ (l : List Entry). chain_of l) (sym (kept_on chain front waiting n parts chained))
+    let next = chain_after chain (take n waiting) in
+    subst (λ (l : List Entry). IsChainOf next l) (sym (kept_on chain front waiting n parts chained))
+    (chain_more chain (kept_entries chain front) (take n waiting) chained)

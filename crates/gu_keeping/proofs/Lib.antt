@@ -1,6 +1,7 @@
 pub mod Tells
 pub mod Cuts
 pub mod RowWords
+pub mod ChainLemmas
 pub mod DayLaws
 mod DigestLemmas
 mod Keepers

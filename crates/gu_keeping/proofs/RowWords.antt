@@ -1,7 +1,6 @@
 -- The rows of a batch are lines: comments are silent, and each entry's rows say it.
 use Rattle.std.proofs.Common.{◌≡◌, ◌≤◌, ◌<◌, ◌+◌, ◌*◌, ◌/◌, ◌%◌, ◌^◌, ◌++◌, ◌∷◌, [], ◌∙◌, ◌&&◌, ℕ, zero, suc, true, nat_le, List, Option, None, Some, IsTrue, inl, inr, length, slice_index, refl, sym, ap, subst, append-nil, length-append, arith}
 use Rattle.std.specs.Prelude.{codes}
-use Rattle.std.specs.Int.{to_be_bytes, w32}
 use Rattle.std.specs.Fmt.{decimal}
 use Rattle.std.specs.List.{AllByRecursion}
 use Rattle.std.specs.Str.Parse.{AllDigits, digits_value}
@@ -9,7 +8,6 @@ use Rattle.std.proofs.lemmas.Bool.{and_parts, le-leb, ne_eqb}
 use Rattle.std.proofs.lemmas.Fmt.{decimal_nonempty, digits_decimal, digits_value-decimal, length-decimal-le}
 use Rattle.std.proofs.lemmas.List.Elements.{All-from_recursion}
 use Rattle.std.proofs.lemmas.Str.Parse.{IsNumeralModel, digit_from_value}
-use Rattle.sha2.specs.Sha256.{digest_bytes, final_hash, initial_hash_256, sha256}
 use Rattle.hex.specs.Hex.{encode_lower, encode_with, lower_digits}
 use Rattle.gu_terms.specs.Names.{is_name}
 use Rattle.gu_terms.specs.WrittenNumbers.{date_text, two_digits}
@@ -31,7 +29,6 @@ use Rattle.gu_desk.specs.declared.origin.FirmMessage.{FirmMessage}
 use Rattle.gu_desk.specs.declared.origin.Origin.{Origin}
 use Rattle.gu_script.specs.Journals.{IsWritableEntry, command_said, days_apart, entry_rows, entry_said, open_after, rows_apart, said_after}
 use Rattle.gu_keeping.specs.Batches.{AreEntryRows, AreOriginRows, AreRows, IsOriginRow, digest_row, message_words}
-use Rattle.gu_keeping.specs.Chains.{chain_after, chain_next, chain_of, empty_chain, shown_text}
 use Rattle.gu_keeping.specs.Days.{IsWritableMessage, IsWritableOrigin}
 use Rattle.gu_keeping.specs.declared.chain.Chain.{Chain}
 use Rattle.gu_keeping.proofs.Tells.{Tell, silent_first, tell-append}
@@ -58,7 +55,7 @@ both_bytes (x ∷ xs) ys p q = (p.0, both_bytes xs ys p.1 q)
 
 -- ---- numbers
 
-own : IsNumeralModel (AllDigits 10) (digits_value 10)
+pub own : IsNumeralModel (AllDigits 10) (digits_value 10)
 own = record { to = λ ds h. h; from = λ ds h. h; same = λ ds h. refl }
 
 digit_bytes : (ds : List ℕ) → AllDigits 10 ds → AllByRecursion IsWordByte ds
@@ -131,7 +128,7 @@ stamp_word moment text writes =
     ∙ omega (arith, length-append (writes.date ++ codes "-") (time_text (moment % 86400000)), length-append writes.date (codes "-"), eight, time.1) in
     (word_of_bytes text (omega (arith, long)) (subst (AllByRecursion IsWordByte) (sym writes.parts) all), omega (arith, long))
 
--- ---- digests
+-- ---- digests in hexadecimal digits
 
 -- a byte at a place of word bytes is one; past them there is a 0
 byte_at : (bytes : List ℕ) → AllByRecursion IsWordByte bytes → (k : ℕ) → IsWordByte (slice_index bytes k)
@@ -143,32 +140,12 @@ byte_at (b ∷ bytes) all (suc k) = byte_at bytes all.1 k
 lower_bytes : AllByRecursion IsWordByte lower_digits
 lower_bytes = (refl, (refl, (refl, (refl, (refl, (refl, (refl, (refl, (refl, (refl, (refl, (refl, (refl, (refl, (refl, (refl, tt))))))))))))))))
 
-hex_bytes : (bytes : List ℕ) → AllByRecursion IsWordByte (encode_lower bytes) × (length (encode_lower bytes) ≡ 2 * length bytes)
+pub hex_bytes : (bytes : List ℕ) → AllByRecursion IsWordByte (encode_lower bytes) × (length (encode_lower bytes) ≡ 2 * length bytes)
 unfolding encode_with
 hex_bytes [] = (tt, refl)
 hex_bytes (b ∷ bytes) =
     let rest = hex_bytes bytes in
     ((byte_at lower_digits lower_bytes (b / 16), (byte_at lower_digits lower_bytes (b % 16), rest.0)), omega (arith, rest.1))
-
-digest_bytes_long : (h : List ℕ) (n : ℕ) → length (digest_bytes h n) ≡ 4 * n
-unfolding digest_bytes
-digest_bytes_long h zero = refl
-digest_bytes_long h (suc n) = omega (arith, length-append (digest_bytes h n) (to_be_bytes w32 (slice_index h n)), digest_bytes_long h n)
-
-digest_long : (m : List ℕ) → length (sha256 m) ≡ 32
-unfolding sha256
-digest_long m = digest_bytes_long (final_hash initial_hash_256 m) 8
-
-pub chain_long : (chain : Chain) (entries : List Entry) → length chain.digest ≡ 32 → length (chain_after chain entries).digest ≡ 32
-chain_long chain [] long = long
-chain_long chain (entry ∷ later) long = chain_long (chain_next chain entry) later (digest_long (chain.digest ++ shown_text (chain.count + 1) entry))
-
-pub chain_of_long : (entries : List Entry) → length (chain_of entries).digest ≡ 32
-chain_of_long entries = chain_long empty_chain entries refl
-
-pub chain_count : (chain : Chain) (entries : List Entry) → (chain_after chain entries).count ≡ chain.count + length entries
-chain_count chain [] = omega arith
-chain_count chain (entry ∷ later) = omega (arith, chain_count (chain_next chain entry) later)
 
 -- ---- comments
 

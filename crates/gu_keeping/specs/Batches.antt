@@ -44,7 +44,7 @@ AreRows today (origin ∷ origins) (entry ∷ entries) rows =
     × AreEntryRows today origin entry first × AreRows (open_after today entry) origins entries others × (rows ≡ first ++ others)
 AreRows today origins entries rows = ⊥
 
--- the comment with the digest: how many entries there are, and the digest of what they show
+-- the comment with a digest: how many entries there are, and the digest of what they show, batch by batch
 abbrev pub digest_row : Chain → List (List ℕ)
 digest_row chain = codes "#" ∷ decimal chain.count ∷ encode_lower chain.digest ∷ []
 

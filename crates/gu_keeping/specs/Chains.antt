@@ -1,8 +1,9 @@
--- A day's entries in short: how many there are, the day that is open after them, and the digest of what they show.
-use Rattle.std.specs.Prelude.{ℕ, ◌+◌, List, [], ◌∷◌, ◌++◌, codes, None, replicate}
+-- A day's entries in short: how many there are, the day that is open after them, and a digest of what they show.
+use Rattle.std.specs.Prelude.{◌≡◌, ℕ, ◌+◌, List, [], ◌∷◌, ◌++◌, Option, None, codes, length, replicate}
 use Rattle.std.specs.Fmt.{decimal}
 use Rattle.std.specs.List.{flat_map}
 use Rattle.sha2.specs.Sha256.{sha256}
+use Rattle.gu_terms.specs.declared.day.Day.{Day}
 use Rattle.gu_terms.specs.declared.entry.Entry.{Entry}
 use Rattle.gu_terms.specs.declared.entry.Entry.TheVariants.{Asked, Swept}
 use Rattle.gu_terms.specs.declared.entry.SweepEntry.{SweepEntry}
@@ -22,27 +23,41 @@ abbrev pub shown_text : ℕ → Entry → List ℕ
 shown_text number (Asked command reply) = reply_text number reply
 shown_text number (Swept sweep) = swept_text number sweep
 
--- the digest (SHA-256) after an entry: of the digest before it and what is shown of it
-abbrev pub digest_after : List ℕ → ℕ → Entry → List ℕ
-digest_after digest number entry = sha256 (digest ++ shown_text number entry)
+-- what is shown of entries that come after so many others, one after another
+abbrev pub shown_after : ℕ → List Entry → List ℕ
+shown_after count [] = []
+shown_after count (entry ∷ later) = shown_text (count + 1) entry ++ shown_after (count + 1) later
+
+-- the day that is open after entries, where this day is open before them
+abbrev pub open_from : Option Day → List Entry → Option Day
+open_from today [] = today
+open_from today (entry ∷ later) = open_from (open_after today entry) later
 
 -- a day without entries has the digest of 32 zeros
 abbrev pub empty_chain : Chain
 empty_chain = record { count = 0; today = None; digest = replicate 32 0 }
 
--- a day with one entry more
-abbrev pub chain_next : Chain → Entry → Chain
-chain_next chain entry = record {
-  count = chain.count + 1;
-  today = open_after chain.today entry;
-  digest = digest_after chain.digest (chain.count + 1) entry;
-}
-
--- a day with more entries
+-- a day with one batch more: its digest is SHA-256 of the digest before it and of what is shown of all its entries. A batch without entries
+-- changes nothing
 abbrev pub chain_after : Chain → List Entry → Chain
 chain_after chain [] = chain
-chain_after chain (entry ∷ later) = chain_after (chain_next chain entry) later
+chain_after chain (entry ∷ later) = record {
+  count = chain.count + length (entry ∷ later);
+  today = open_from chain.today (entry ∷ later);
+  digest = sha256 (chain.digest ++ shown_after chain.count (entry ∷ later));
+}
 
--- a day with these entries
-abbrev pub chain_of : List Entry → Chain
-chain_of entries = chain_after empty_chain entries
+-- a day with more batches, one after another
+abbrev pub chain_after_all : Chain → List (List Entry) → Chain
+chain_after_all chain [] = chain
+chain_after_all chain (batch ∷ later) = chain_after_all (chain_after chain batch) later
+
+-- these entries are cut into batches, and have this chain then
+pub record IsCutTo (chain : Chain) (entries : List Entry) : Type 0 where
+  pub batches : List (List Entry)
+  pub all : flat_map (λ batch. batch) batches ≡ entries
+  pub chain_is : chain ≡ chain_after_all empty_chain batches
+
+-- a chain of these entries: that of some batches into which they are cut, whichever
+abbrev pub IsChainOf : Chain → List Entry → Type 0
+IsChainOf chain entries = ∥ IsCutTo chain entries ∥₁

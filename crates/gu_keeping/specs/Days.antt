@@ -12,7 +12,8 @@ use Rattle.gu_desk.specs.declared.origin.Origin.{Origin}
 use Rattle.gu_script.specs.Journals.{IsWritableEntry, said_after}
 use Rattle.gu_script.specs.Replaying.{SayAll}
 use Rattle.gu_keeping.specs.Batches.{IsBatchText}
-use Rattle.gu_keeping.specs.Chains.{chain_of}
+use Rattle.gu_keeping.specs.Chains.{IsChainOf}
+use Rattle.gu_keeping.specs.declared.chain.Chain.{Chain}
 
 -- a text says a day with these entries: each of its lines is ended, and is a comment or says the next entry
 pub record SaysDay (text : List ℕ) (entries : List Entry) : Type 0 where
@@ -35,11 +36,11 @@ pub record AreWritable (before : List Entry) (origins : List (Option Origin)) (e
   pub entries_are : AllByRecursion IsWritableEntry entries
   pub few : length before + length entries ≤ 1000000
 
--- a text that says a day says it with the entries of a batch, once the batch comes after it
+-- a text that says a day says it with the entries of a batch, once the batch comes after it, whatever batches came before
 abbrev pub ABatchSaysItsEntries : Type 0
 ABatchSaysItsEntries =
-    (before : List Entry) (origins : List (Option Origin)) (entries : List Entry) (kept text : List ℕ)
-    → AreWritable before origins entries → SaysDay kept before → IsBatchText (chain_of before) origins entries text
+    (chain : Chain) (before : List Entry) (origins : List (Option Origin)) (entries : List Entry) (kept text : List ℕ)
+    → IsChainOf chain before → AreWritable before origins entries → SaysDay kept before → IsBatchText chain origins entries text
     → SaysDay (kept ++ text) (before ++ entries)
 
 -- what is found after a crash says a day with all entries that were kept, and the first ones of the batch that was under way
@@ -52,6 +53,6 @@ pub record SaysFirstEntries (before entries : List Entry) (kept : List ℕ) (out
 
 abbrev pub ACrashLeavesFirstEntries : Type 0
 ACrashLeavesFirstEntries =
-    (before : List Entry) (origins : List (Option Origin)) (entries : List Entry) (kept text : List ℕ)
-    → AreWritable before origins entries → SaysDay kept before → IsBatchText (chain_of before) origins entries text
+    (chain : Chain) (before : List Entry) (origins : List (Option Origin)) (entries : List Entry) (kept text : List ℕ)
+    → IsChainOf chain before → AreWritable before origins entries → SaysDay kept before → IsBatchText chain origins entries text
     → (outcome : Option (List ℕ)) → HasBegun kept text outcome → SaysFirstEntries before entries kept outcome

@@ -4,7 +4,8 @@ use Rattle.std.specs.List.{list_all}
 use Rattle.gu_terms.specs.declared.entry.Entry.{Entry}
 use Rattle.gu_text.specs.ReadBack.{joined}
 use Rattle.gu_keeping.specs.Batches.{digest_row}
-use Rattle.gu_keeping.specs.Chains.{chain_of}
+use Rattle.gu_keeping.specs.Chains.{chain_after, empty_chain}
+use Rattle.gu_keeping.specs.declared.chain.Chain.{Chain}
 
 -- a digit of a number, and one of a digest
 abbrev pub is_decimal : ℕ → Bool
@@ -25,18 +26,29 @@ is_digest_line line =
     && list_all is_decimal (take (length line - 65 - 2) (drop 2 line))
     && list_all is_hexadecimal (drop (length line - 64) line)
 
--- the comment with the digest of a history's first entries
-abbrev pub digest_line : List Entry → ℕ → List ℕ
-digest_line history count = joined (digest_row (chain_of (take count history)))
+-- the comment with the digest of a chain
+abbrev pub digest_line : Chain → List ℕ
+digest_line chain = joined (digest_row chain)
 
--- each line with the form of a digest is that of the history's first entries, of no fewer than the one before it
-abbrev pub AgreeFrom : List Entry → ℕ → List (List ℕ) → Type 0
-AgreeFrom history count [] = Unit {0}
-AgreeFrom history count (line ∷ lines) =
-    (IsTrue (not (is_digest_line line)) × AgreeFrom history count lines)
+-- the entries of a history that come after so many, up to a number
+abbrev pub entries_between : List Entry → ℕ → ℕ → List Entry
+entries_between history after count = drop after (take count history)
+
+-- a day with one batch more: the entries of a history up to a number
+abbrev pub chain_to : List Entry → Chain → ℕ → Chain
+chain_to history chain count = chain_after chain (entries_between history chain.count count)
+
+-- each line with the form of a digest is that of a history with one batch more: the entries after those of the digest before it, up to a
+-- number. There may be none more: then it is the digest before it again. The entries after the last digest are one batch more, and this
+-- is the chain with it
+abbrev pub AgreeTo : List Entry → Chain → List (List ℕ) → Chain → Type 0
+AgreeTo history chain [] last = last ≡ chain_to history chain (length history)
+AgreeTo history chain (line ∷ lines) last =
+    (IsTrue (not (is_digest_line line)) × AgreeTo history chain lines last)
     ⊎ (IsTrue (is_digest_line line)
-    × ((next : ℕ) × (count ≤ next) × (next ≤ length history) × (line ≡ digest_line history next) × AgreeFrom history next lines))
+    × ((count : ℕ) × (chain.count ≤ count) × (count ≤ length history) × (line ≡ digest_line (chain_to history chain count))
+    × AgreeTo history (chain_to history chain count) lines last))
 
 -- the digests of a text's lines are those of a history
 abbrev pub Agree : List Entry → List (List ℕ) → Type 0
-Agree history lines = AgreeFrom history 0 lines
+Agree history lines = (last : Chain) × AgreeTo history empty_chain lines last

@@ -9,7 +9,7 @@ use Rattle.gu_journal.specs.Sink.{HasBegun}
 use Rattle.gu_journal.specs.Text.{IsWholeLines}
 use Rattle.gu_desk.specs.declared.origin.Origin.{Origin}
 use Rattle.gu_keeping.specs.Batches.{IsBatchText}
-use Rattle.gu_keeping.specs.Chains.{chain_after, chain_of, empty_chain}
+use Rattle.gu_keeping.specs.Chains.{chain_after, chain_after_all, empty_chain}
 use Rattle.gu_keeping.specs.declared.chain.Chain.{Chain}
 use Rattle.gu_keeping.specs.declared.error.Unkept.{Unkept}
 use Rattle.gu_keeping.specs.declared.error.Unkept.TheVariants.{Memory, Missing, TooLong, Failed}
@@ -34,11 +34,11 @@ IfStopped unkept P = Unit {0}
 abbrev pub Writes : {P : Type 0} → (P → Type 0) → (P → ℕ) → (P → ℕ → Option (List ℕ) → Type 0) → P → P → List ℕ → List ℕ → Type 0
 Writes is_honest moment left_since old new kept text = is_honest new → LeavesOnly moment left_since old new (HasBegun kept text)
 
--- the next entries, each with its origin, and their batch
-pub record IsNextBatch (origins : List Origin) (before : List Entry) (entries : List Entry) (text : List ℕ) : Type 0 where
+-- the next entries after those of a chain, each with its origin, and their batch
+pub record IsNextBatch (origins : List Origin) (chain : Chain) (entries : List Entry) (text : List ℕ) : Type 0 where
   pub some : 1 ≤ length entries
   pub within : length entries ≤ length origins
-  pub batch : IsBatchText (chain_of before) (map Some (take (length entries) origins)) entries text
+  pub batch : IsBatchText chain (map Some (take (length entries) origins)) entries text
 
 -- an entry that has no origin in the text, for each of these
 abbrev pub unknown_origins : List Entry → List (Option Origin)
@@ -57,8 +57,9 @@ pub record IsNextPart (history : List Entry) (chain : Chain) (count : ℕ) (entr
   pub batch : IsBatchText chain (unknown_origins entries) entries text
   pub whole : IsWholeLines text
 
--- the opening of a day: the entries of a history in batches
-pub record IsOpening (entries : List Entry) (text : List ℕ) : Type 0 where
+-- the opening of a day: the entries of a history in batches, and the chain after these
+pub record IsOpening (entries : List Entry) (chain : Chain) (text : List ℕ) : Type 0 where
   pub parts : List (List Entry)
   pub all : flat_map (λ part. part) parts ≡ entries
   pub batches : AreBatches empty_chain parts text
+  pub chain_is : chain ≡ chain_after_all empty_chain parts

@@ -1,14 +1,17 @@
 //! A batch while it is made.
 
-ghost use Rattle.std.specs.Prelude.{◌≡◌, ◌+◌, ◌-◌, ◌<◌, ◌≤◌, ◌^◌, ◌++◌, ◌∷◌, [], List, ℕ, Some, length, map, take, false, true, IfOk, OnOk};
+ghost use Rattle.std.specs.Prelude.{◌≡◌, ◌+◌, ◌-◌, ◌<◌, ◌≤◌, ◌^◌, ◌++◌, ◌∷◌, [], List, ℕ, Option, Some, length, map, take, false, true, IfOk, OnOk};
 ghost use Rattle.std.specs.List.{flat_map};
 ghost use Rattle.std.specs.Option.{option_copied};
+ghost use Rattle.gu_terms.specs.declared.entry.Entry.{Entry as EntryOf};
 ghost use Rattle.gu_text.specs.Texts.{line_of};
-ghost use Rattle.gu_keeping.specs.Batches.{AreEntryRows, AreOriginRows, digest_row};
-ghost use Rattle.gu_keeping.specs.Chains.{chain_next};
-ghost use Rattle.gu_keeping.specs.Making.{AddsEntry, AddsEntries, HasNoRoomFor};
+ghost use Rattle.gu_desk.specs.declared.origin.Origin.{Origin as OriginOf};
+ghost use Rattle.gu_keeping.specs.Batches.{AreEntryRows, AreOriginRows, IsBatchText};
+ghost use Rattle.gu_keeping.specs.Chains.{chain_after};
+ghost use Rattle.gu_keeping.specs.Making.{AddsEntry, HasNoRoomFor, IsBatchOf};
+ghost use Rattle.gu_keeping.specs.declared.chain.Chain.{Chain as ChainOf};
 
-use crate::chain::Chain;
+use crate::chain::{Chain, Link};
 use crate::comments::{append_digest, append_origin};
 use gu_desk::Origin;
 use gu_journal::MAX_BATCH;
@@ -19,12 +22,12 @@ use std::alloc::{AllocError, Global};
 /// The bytes that the lines of a batch have at most. The comment with the digest comes after them.
 const MOST_LINES: usize = MAX_BATCH - 88;
 
-/// A batch that is being made: the lines of some entries, and the chain of the day with them.
+/// A batch that is being made: the lines of some entries, and the link that they make of the day's chain.
 #[derive(Drop)]
 pub(crate) struct Batch {
-    pub alloc: Global,
-    pub text: Vec<u8>,
-    pub chain: Chain,
+    alloc: Global,
+    text: Vec<u8>,
+    link: Link,
 }
 
 /// Appends the comment before an entry's lines, if its origin is known.
@@ -53,65 +56,69 @@ fn append_lines(
 }
 
 impl Batch {
-    /// Creates a batch without lines, for a day with these entries.
+    /// Creates a batch without lines, after those of a chain.
     pub(crate) fn new(alloc: Global, chain: Chain) -> Self
-        ensures text { result.text.items ≡ [] }
-        ensures chain { result.chain ≡ chain }
+        ensures { IsBatchOf chain [] [] result }
     {
         Batch {
             alloc,
             text: Vec::new(alloc),
-            chain,
+            link: Link::new(alloc, chain),
         }
     }
 
     /// Adds an entry, and returns whether there was room for its lines. After an error the batch is of no use.
     pub(crate) fn add(&mut self, origin: Option<&Origin>, entry: &Entry) -> Result<bool, AllocError>
-        requires { self.old.chain.count + 1 < 2 ^ 64 }
+        requires { self.old.link.count + 1 < 2 ^ 64 }
         ensures added { IfOk result (λ is_added. is_added ≡ true → AddsEntry (option_copied origin.entry) entry.now self.old self.new) }
         ensures unchanged { IfOk result (λ is_added. is_added ≡ false
-            → (self.new.text.items ≡ self.old.text.items) × (self.new.chain ≡ self.old.chain)) }
+            → (self.new.text.items ≡ self.old.text.items) × (self.new.link ≡ self.old.link)) }
         ensures full { IfOk result (λ is_added. is_added ≡ false → HasNoRoomFor (option_copied origin.entry) entry.now self.old) }
     {
         let before = self.text.len();
-        append_lines(&mut self.text, self.chain.today(), origin, entry)?;
+        append_lines(&mut self.text, self.link.today(), origin, entry)?;
         if self.text.len() > MOST_LINES {
             self.text.truncate(before);
             return Ok(false);
         }
-        self.chain.add(self.alloc, entry)?;
+        self.link.add(entry)?;
         Ok(true)
     }
 
-    /// Adds entries with their origins while there is room for their lines, and returns how many.
-    pub(crate) fn fill(
-        &mut self,
+    /// Makes a batch of the first of these entries with their origins, as many as it has room for. Returns it, and how many these are.
+    pub(crate) fn of(
+        alloc: Global,
+        chain: Chain,
         entries: &[Entry],
         origins: &[Origin],
-    ) -> Result<usize, AllocError>
-        requires { self.old.chain.count + length entries.now < 2 ^ 64 }
-        ensures within { IfOk result (λ count. (count ≤ length entries.now) × (count ≤ length origins.now)) }
-        ensures added { IfOk result (λ count. AddsEntries (map Some (take count origins.now)) (take count entries.now) self.old self.new) }
+    ) -> Result<(Self, usize), AllocError>
+        requires { chain.count + length entries.now < 2 ^ 64 }
+        ensures within { IfOk result (λ made. (made.1 ≤ length entries.now) × (made.1 ≤ length origins.now)) }
+        ensures batch { IfOk result (λ made. IsBatchOf chain (map Some (take made.1 origins.now)) (take made.1 entries.now) made.0) }
     {
+        let mut batch = Batch::new(alloc, chain);
         let most = entries.len().min(origins.len());
         for place in 0..most {
-            if !self.add(Some(&origins[place]), &entries[place])? {
-                return Ok(place);
+            if !batch.add(Some(&origins[place]), &entries[place])? {
+                return Ok((batch, place));
             }
         }
-        Ok(most)
+        Ok((batch, most))
     }
 
-    /// Ends the batch with the digest of the day, and returns its text.
-    pub(crate) fn end(self) -> Result<Vec<u8>, AllocError>
-        ensures { IfOk result (λ text. text.items ≡ self.text.items ++ line_of (digest_row self.chain)) }
+    /// Ends the batch with its digest, and returns its text, and the chain with its entries.
+    pub(crate) fn end(self) -> Result<(Vec<u8>, Chain), AllocError>
+        ensures { IfOk result (λ made. (chain : ChainOf) (origins : List (Option OriginOf)) (entries : List EntryOf)
+            → IsBatchOf chain origins entries self
+            → IsBatchText chain origins entries made.0.items × (made.1 ≡ chain_after chain entries)) }
     {
         let Batch {
             alloc,
             mut text,
-            chain,
+            link,
         } = self;
+        let chain = link.end();
         append_digest(alloc, &mut text, &chain)?;
-        Ok(text)
+        Ok((text, chain))
     }
 }

@@ -1,8 +1,11 @@
 //! A day's entries in short.
 
-ghost use Rattle.std.specs.Prelude.{◌≡◌, ◌++◌, ◌+◌, ◌<◌, ◌^◌, [], OnErr, OnOk};
+ghost use Rattle.std.specs.Prelude.{◌≡◌, ◌++◌, ◌+◌, ◌<◌, ◌^◌, [], List, OnOk};
 ghost use Rattle.sha2.specs.Sha256.{sha256};
-ghost use Rattle.gu_keeping.specs.Chains.{chain_next, chain_of};
+ghost use Rattle.gu_terms.specs.declared.entry.Entry.{Entry as EntryOf};
+ghost use Rattle.gu_keeping.specs.Chains.{IsChainOf, chain_after, empty_chain};
+ghost use Rattle.gu_keeping.specs.Making.{AddsToLink, IsLinkOf};
+ghost use Rattle.gu_keeping.specs.declared.chain.Chain.{Chain as ChainOf};
 
 use crate::shown::append_shown;
 use gu_script::opened_day;
@@ -10,8 +13,8 @@ use gu_terms::{Day, Entry};
 use sha2::{Digest, Sha256};
 use std::alloc::{AllocError, Global};
 
-/// A day's entries in short: how many there are, the day that is open after them, and a digest of what they show. The digest of an
-/// entry stands on that of the entry before it, so equal digests mean equal answers from the first entry on.
+/// A day's entries in short: how many there are, the day that is open after them, and a digest of what they show, batch by batch. The
+/// digest of a batch stands on that of the batch before it, so equal digests mean equal answers from the first entry on.
 #[derive(Clone, Copy, Debug, PartialEq, Eq)]
 pub struct Chain {
     count: usize,
@@ -32,7 +35,8 @@ fn digest_of(before: [u8; 32], shown: &[u8]) -> [u8; 32]
 impl Chain {
     /// Creates the chain of a day without entries.
     pub fn new() -> Self
-        ensures { result ≡ chain_of [] }
+        ensures value { result ≡ empty_chain }
+        ensures chain { IsChainOf result [] }
     {
         Chain {
             count: 0,
@@ -48,6 +52,36 @@ impl Chain {
         self.count
     }
 
+    /// Returns the digest of the entries.
+    pub(crate) fn digest(&self) -> [u8; 32]
+        ensures { result ≡ self.now.digest }
+    {
+        self.digest
+    }
+}
+
+/// A batch more for a chain, while entries come to it: it has what is shown of them, so that one digest is made of it all.
+#[derive(Drop)]
+pub(crate) struct Link {
+    chain: Chain,
+    count: usize,
+    today: Option<Day>,
+    shown: Vec<u8>,
+}
+
+impl Link {
+    /// Creates a link without entries.
+    pub(crate) fn new(alloc: Global, chain: Chain) -> Self
+        ensures { IsLinkOf chain [] result }
+    {
+        Link {
+            chain,
+            count: chain.count,
+            today: chain.today,
+            shown: Vec::new(alloc),
+        }
+    }
+
     /// Returns the day that is open after the entries.
     pub(crate) fn today(&self) -> Option<Day>
         ensures { result ≡ self.now.today }
@@ -55,27 +89,29 @@ impl Chain {
         self.today
     }
 
-    /// Returns the digest of the entries.
-    pub(crate) fn digest(&self) -> [u8; 32]
-        ensures { result ≡ self.now.digest }
-    {
-        self.digest
-    }
-
-    /// Adds an entry.
-    pub(crate) fn add(&mut self, alloc: Global, entry: &Entry) -> Result<(), AllocError>
+    /// Adds an entry. After an error the link is of no use.
+    pub(crate) fn add(&mut self, entry: &Entry) -> Result<(), AllocError>
         requires { self.old.count + 1 < 2 ^ 64 }
-        ensures added { OnOk result (self.new ≡ chain_next self.old entry.now) }
-        ensures refused { OnErr result (self.new ≡ self.old) }
+        ensures { OnOk result (AddsToLink entry.now self.old self.new) }
     {
         let count = self.count + 1;
-        let mut shown = Vec::new(alloc);
-        append_shown(&mut shown, count as u64, entry)?;
-        *self = Chain {
-            count,
-            today: opened_day(entry).or(self.today),
-            digest: digest_of(self.digest, &shown),
-        };
+        append_shown(&mut self.shown, count as u64, entry)?;
+        self.count = count;
+        self.today = opened_day(entry).or(self.today);
         Ok(())
+    }
+
+    /// Returns the chain with the entries as one batch more.
+    pub(crate) fn end(&self) -> Chain
+        ensures { (chain : ChainOf) (entries : List EntryOf) → IsLinkOf chain entries self.now → result ≡ chain_after chain entries }
+    {
+        if self.count == self.chain.count {
+            return self.chain;
+        }
+        Chain {
+            count: self.count,
+            today: self.today,
+            digest: digest_of(self.chain.digest, &self.shown),
+        }
     }
 }

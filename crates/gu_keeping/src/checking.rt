@@ -1,14 +1,14 @@
 //! The digests of a text that was found, and the history that it was played to.
 
-ghost use Rattle.std.specs.Prelude.{◌≡◌, ◌≢◌, ◌+◌, ◌≤◌, ◌<◌, ◌^◌, ◌↔◌, ℕ, false, true, length, take, IfOk, IsErrOf, IsTrue, OnOk};
-ghost use Rattle.gu_text.specs.LineFeeds.{ended_lines};
-ghost use Rattle.gu_text.specs.ReadBack.{joined};
-ghost use Rattle.gu_keeping.specs.Batches.{digest_row};
-ghost use Rattle.gu_keeping.specs.Chains.{chain_of};
-ghost use Rattle.gu_keeping.specs.Digests.{Agree, digest_line, has_marks, is_decimal, is_digest_line, is_hexadecimal};
+ghost use Rattle.std.specs.Prelude.{◌≡◌, ◌≢◌, ◌≤◌, ◌<◌, ◌^◌, ◌↔◌, ℕ, false, true, length, take, IfOk, IsErrOf, IsTrue};
+ghost use Rattle.std.specs.Fmt.{decimal};
 ghost use Rattle.std.specs.List.{list_all};
+ghost use Rattle.gu_text.specs.LineFeeds.{ended_lines};
+ghost use Rattle.gu_keeping.specs.Chains.{IsChainOf, empty_chain};
+ghost use Rattle.gu_keeping.specs.Digests.{Agree, AgreeTo, chain_to, digest_line, has_marks, is_decimal, is_digest_line, is_hexadecimal};
+ghost use Rattle.gu_keeping.specs.declared.chain.Chain.{Chain as ChainOf};
 
-use crate::chain::Chain;
+use crate::chain::{Chain, Link};
 use crate::comments::append_digest;
 use crate::error::DigestFault;
 use gu_terms::History;
@@ -59,24 +59,32 @@ fn is_digest_line(line: &[u8]) -> bool
         && are_hexadecimal(&line[line.len() - 64..])
 }
 
-/// Returns the number in a line with a digest, or the greatest if it is greater.
-fn number_in(line: &[u8]) -> u64 {
+/// Returns the number that digits write, or the greatest if it is greater.
+fn number_of(digits: &[u8]) -> u64
+    ensures { (n : ℕ) → n < 2 ^ 64 → digits.now ≡ decimal n → result ≡ n }
+{
     let mut number: u64 = 0;
-    for byte in line {
-        if is_decimal(*byte) {
-            number = number
-                .saturating_mul(10)
-                .saturating_add(u64::from(byte.saturating_sub(b'0')));
-        } else if number > 0 {
-            return number;
-        }
+    for digit in digits {
+        number = number
+            .saturating_mul(10)
+            .saturating_add(u64::from(digit.saturating_sub(b'0')));
     }
     number
 }
 
-/// Returns whether a line is the comment with the digest of a chain's entries.
+/// Returns the number in a line with a digest, or the greatest if it is greater.
+fn number_in(line: &[u8]) -> u64
+    ensures { (chain : ChainOf) → length chain.digest ≡ 32 → chain.count < 2 ^ 64 → line.now ≡ digest_line chain → result ≡ chain.count }
+{
+    if line.len() < 68 {
+        return 0;
+    }
+    number_of(&line[2..line.len() - 65])
+}
+
+/// Returns whether a line is the comment with the digest of a chain.
 fn is_digest_of(alloc: Global, chain: &Chain, line: &[u8]) -> Result<bool, AllocError>
-    ensures { IfOk result (λ is. IsTrue is ↔ (line.now ≡ joined (digest_row chain.now))) }
+    ensures { IfOk result (λ is. IsTrue is ↔ (line.now ≡ digest_line chain.now)) }
 {
     let mut comment = Vec::new(alloc);
     append_digest(alloc, &mut comment, chain)?;
@@ -84,19 +92,27 @@ fn is_digest_of(alloc: Global, chain: &Chain, line: &[u8]) -> Result<bool, Alloc
     Ok(comment.as_slice() == line)
 }
 
-/// Adds the next entry of a history to a chain.
-fn go_on(alloc: Global, chain: &mut Chain, history: &History) -> Result<(), AllocError>
-    requires room { chain.old.count + 1 < 2 ^ 64 }
-    requires more { chain.old.count < length history.now }
-    requires at { chain.old ≡ chain_of (take chain.old.count history.now) }
-    ensures at { OnOk result (chain.new ≡ chain_of (take chain.new.count history.now)) }
-    ensures count { OnOk result (chain.new.count ≡ chain.old.count + 1) }
+/// Returns a chain with one batch more: the entries of a history up to a number.
+fn chain_to(
+    alloc: Global,
+    chain: Chain,
+    history: &History,
+    count: usize,
+) -> Result<Chain, AllocError>
+    requires later { chain.count ≤ count }
+    requires within { count ≤ length history.now }
+    ensures { IfOk result (λ next. next ≡ chain_to history.now chain count) }
 {
-    let entry = history.at(chain.count())?;
-    chain.add(alloc, &entry)
+    let mut link = Link::new(alloc, chain);
+    for place in chain.count()..count {
+        let entry = history.at(place)?;
+        link.add(&entry)?;
+    }
+    Ok(link.end())
 }
 
-/// Adds entries of a history to a chain until a line is the comment with its digest, and returns whether it is.
+/// Adds one batch more to a chain: the entries of a history up to the number in a line. Returns whether the line is the comment with its
+/// digest, and else adds nothing. What is added costs the digest of what is shown of it, and no more.
 fn reach(
     alloc: Global,
     chain: &mut Chain,
@@ -104,42 +120,33 @@ fn reach(
     line: &[u8],
 ) -> Result<bool, AllocError>
     requires within { chain.old.count ≤ length history.now }
-    requires at { chain.old ≡ chain_of (take chain.old.count history.now) }
-    ensures at { OnOk result (chain.new ≡ chain_of (take chain.new.count history.now)) }
-    ensures within { OnOk result ((chain.old.count ≤ chain.new.count) × (chain.new.count ≤ length history.now)) }
-    ensures found { IfOk result (λ found. found ≡ true → line.now ≡ digest_line history.now chain.new.count) }
+    requires at { IsChainOf chain.old (take chain.old.count history.now) }
+    ensures found { IfOk result (λ found. found ≡ true → (chain.old.count ≤ chain.new.count) × (chain.new.count ≤ length history.now)
+        × (chain.new ≡ chain_to history.now chain.old chain.new.count) × (line.now ≡ digest_line chain.new)) }
     ensures none { IfOk result (λ found. found ≡ false
-        → (n : ℕ) → chain.old.count ≤ n → n ≤ length history.now → line.now ≢ digest_line history.now n) }
+        → (n : ℕ) → chain.old.count ≤ n → n ≤ length history.now → line.now ≢ digest_line (chain_to history.now chain.old n)) }
 {
-    while !is_digest_of(alloc, chain, line)? {
-        if chain.count() >= history.len() {
-            return Ok(false);
-        }
-        go_on(alloc, chain, history)?;
+    let entries = history.len() as u64;
+    let number = number_in(line);
+    if number < chain.count() as u64 || number > entries {
+        return Ok(false);
     }
+    let next = chain_to(alloc, *chain, history, number as usize)?;
+    if !is_digest_of(alloc, &next, line)? {
+        return Ok(false);
+    }
+    *chain = next;
     Ok(true)
 }
 
-/// Adds the other entries of a history to a chain.
-fn finish(alloc: Global, chain: &mut Chain, history: &History) -> Result<(), AllocError>
-    requires within { chain.old.count ≤ length history.now }
-    requires at { chain.old ≡ chain_of (take chain.old.count history.now) }
-    ensures { OnOk result (chain.new ≡ chain_of history.now) }
-{
-    while chain.count() < history.len() {
-        go_on(alloc, chain, history)?;
-    }
-    Ok(())
-}
-
-/// Compares the digests in the lines of a text with those of the history that it was played to, and returns the chain of the history.
+/// Compares the digests in the lines of a text with those of the history that it was played to. Returns the chain of the history, in which
+/// the entries after the last digest are a batch: what comes next in the text is its digest (`resume_text`).
 pub fn check_digests(alloc: Global, text: &[u8], history: &History) -> Result<Chain, DigestFault>
-    ensures chain { IfOk result (λ chain. chain ≡ chain_of history.now) }
-    ensures agree { OnOk result (Agree history.now (ended_lines text.now)) }
+    ensures chain { IfOk result (λ chain. IsChainOf chain history.now) }
+    ensures agree { IfOk result (λ chain. AgreeTo history.now empty_chain (ended_lines text.now) chain) }
     ensures differs { (n : ℕ) → IsErrOf result (DigestFault.Differs n) → ¬ Agree history.now (ended_lines text.now) }
 {
-    // Shows the prover: a history has no more entries than can be counted.
-    let _ = history.len();
+    let entries = history.len();
     let mut chain = Chain::new();
     let mut rest = text;
     while let Some((line, behind)) = split_at_line_feed(rest) {
@@ -149,6 +156,6 @@ pub fn check_digests(alloc: Global, text: &[u8], history: &History) -> Result<Ch
         }
         rest = behind;
     }
-    finish(alloc, &mut chain, history)?;
-    Ok(chain)
+    let last = chain_to(alloc, chain, history, entries)?;
+    Ok(last)
 }

@@ -1,6 +1,6 @@
 //! The comments of a batch.
 
-ghost use Rattle.std.specs.Prelude.{◌≡◌, ◌++◌, ◌∷◌, [], List, ℕ, OnOk};
+ghost use Rattle.std.specs.Prelude.{◌≡◌, ◌++◌, ◌∷◌, [], List, ℕ, IfOk, OnOk};
 ghost use Rattle.std.specs.Fmt.{decimal};
 ghost use Rattle.gu_text.specs.Texts.{line_of};
 ghost use Rattle.gu_keeping.specs.Batches.{IsOriginRow, digest_row};
@@ -36,7 +36,7 @@ pub(crate) fn append_origin(output: &mut Vec<u8>, origin: &Origin) -> Result<(),
     }
 }
 
-/// Appends the comment with the digest of a day's entries.
+/// Appends the comment with the digest of a chain.
 pub(crate) fn append_digest(
     alloc: Global,
     output: &mut Vec<u8>,
@@ -48,4 +48,14 @@ pub(crate) fn append_digest(
     append_word(output, b"#")?;
     append_number(output, chain.count() as u64)?;
     append_last_word(output, digest.as_bytes())
+}
+
+/// Returns what comes next in the text of a day that goes on: comments, and then the comment with the digest of its chain, so that the
+/// entries after the last digest, of a batch whose end a crash cut off, have theirs.
+pub fn resume_text(alloc: Global, comments: &[u8], chain: &Chain) -> Result<Vec<u8>, AllocError>
+    ensures { IfOk result (λ text. text.items ≡ comments.now ++ line_of (digest_row chain.now)) }
+{
+    let mut text = Vec::from_slice(alloc, comments)?;
+    append_digest(alloc, &mut text, chain)?;
+    Ok(text)
 }

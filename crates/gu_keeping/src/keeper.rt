@@ -5,7 +5,7 @@ ghost use mathlib.Core.List.{IsPrefix};
 ghost use Rattle.gu_terms.specs.declared.entry.Entry.{Entry as EntryOf};
 ghost use Rattle.gu_journal.specs.Sink.{HasReason};
 ghost use Rattle.gu_journal.specs.Text.{IsBatch};
-ghost use Rattle.gu_keeping.specs.Chains.{chain_after, chain_of};
+ghost use Rattle.gu_keeping.specs.Chains.{IsChainOf, chain_after};
 ghost use Rattle.gu_keeping.specs.Keeping.{IfGivenBack, IfStopped, IsNextBatch, Writes, kept_entries};
 
 use crate::batch::Batch;
@@ -30,7 +30,7 @@ pub struct Keeper<E: EntryLedger, K: Sink> {
     /// The last entries of the front, which aren't kept yet.
     waiting: Vec<Entry>,
     ghost parts: { front ≡ kept_entries chain front ++ waiting.items },
-    ghost chained: { chain ≡ chain_of (kept_entries chain front) },
+    ghost chained: { IsChainOf chain (kept_entries chain front) },
     ghost few: { length front ≤ 1000000 },
 }
 
@@ -60,9 +60,10 @@ fn drop_first(entries: &mut Vec<Entry>, count: usize)
 impl<E: EntryLedger, K: Sink> Keeper<E, K> {
     /// Creates a keeper that goes on with a sink that has the lines of these entries already.
     pub fn new(alloc: Global, sink: K, front: Front<E>, chain: Chain) -> Self
-        requires chain { chain ≡ chain_of front }
+        requires chain { IsChainOf chain front }
         requires few { length front ≤ 1000000 }
         ensures sink { result.sink ≡ sink }
+        ensures chain { result.chain ≡ chain }
         ensures kept { kept_entries result.chain result.front ≡ front }
     {
         Keeper {
@@ -119,15 +120,14 @@ impl<E: EntryLedger, K: Sink> Keeper<E, K> {
         alloc: Global,
         origins: &[Origin],
     ) -> Result<(Vec<u8>, Chain, usize), AllocError>
-        ensures batch { IfOk result (λ made. (1 ≤ made.2 → IsNextBatch origins.now (kept_entries self.now.chain self.now.front)
-            (take made.2 self.now.waiting.items) made.0.items)) }
+        ensures batch { IfOk result (λ made. (1 ≤ made.2
+            → IsNextBatch origins.now self.now.chain (take made.2 self.now.waiting.items) made.0.items)) }
         ensures chain { IfOk result (λ made. made.1 ≡ chain_after self.now.chain (take made.2 self.now.waiting.items)) }
         ensures within { IfOk result (λ made. made.2 ≤ length self.now.waiting.items) }
     {
-        let mut batch = Batch::new(alloc, self.chain);
-        let count = batch.fill(&self.waiting, origins)?;
-        let chain = batch.chain;
-        Ok((batch.end()?, chain, count))
+        let (batch, count) = Batch::of(alloc, self.chain, &self.waiting, origins)?;
+        let (text, chain) = batch.end()?;
+        Ok((text, chain, count))
     }
 
     /// Appends the text of a batch of the first entries that wait, and returns once it is kept.
@@ -135,6 +135,7 @@ impl<E: EntryLedger, K: Sink> Keeper<E, K> {
         requires batch { IsBatch text.now }
         requires within { count ≤ length self.waiting.items }
         requires chain { chain ≡ chain_after self.chain (take count self.waiting.items) }
+        ensures chain { IfOk result (λ keeper. keeper.chain ≡ chain) }
         ensures before { IfOk result (λ keeper. K.is_honest (K.place keeper.sink) → K.is_honest (K.place self.sink)) }
         ensures entries { IfOk result (λ keeper. kept_entries keeper.chain keeper.front
             ≡ kept_entries self.chain self.front ++ take count self.waiting.items) }
@@ -184,7 +185,7 @@ impl<E: EntryLedger, K: Sink> Keeper<E, K> {
 
         // Some entries more are kept, and their batch was appended: a crash at any moment left a beginning of it.
         ensures kept { IfOk result (λ keeper. (entries : List EntryOf) × (text : List ℕ)
-            × IsNextBatch origins.now (kept_entries self.chain self.front) entries text
+            × IsNextBatch origins.now self.chain entries text × (keeper.chain ≡ chain_after self.chain entries)
             × (kept_entries keeper.chain keeper.front ≡ kept_entries self.chain self.front ++ entries)
             × (K.is_honest (K.place keeper.sink) → K.kept keeper.sink ≡ K.kept self.sink ++ text)
             × Writes K.is_honest K.moment K.left_since (K.place self.sink) (K.place keeper.sink) (K.kept self.sink) text) }
@@ -193,13 +194,13 @@ impl<E: EntryLedger, K: Sink> Keeper<E, K> {
         ensures before_stopped { IfErr result (λ unkept. IfStopped unkept (λ stopped.
             K.is_honest stopped.place → K.is_honest (K.place self.sink))) }
         ensures stopped { IfErr result (λ unkept. IfStopped unkept (λ stopped. (entries : List EntryOf) × (text : List ℕ)
-            × IsNextBatch origins.now (kept_entries self.chain self.front) entries text
+            × IsNextBatch origins.now self.chain entries text
             × Writes K.is_honest K.moment K.left_since (K.place self.sink) stopped.place (K.kept self.sink) text)) }
         ensures reason { IfErr result (λ unkept. IfStopped unkept (λ stopped. K.is_honest stopped.place
             → HasReason K.failures K.shortages (K.kept self.sink) (K.place self.sink) stopped)) }
 
         // Any other failure gives the keeper back, and what it keeps is as it was.
-        ensures given_back { IfErr result (λ unkept. IfGivenBack unkept (λ keeper. (keeper.sink ≡ self.sink)
+        ensures given_back { IfErr result (λ unkept. IfGivenBack unkept (λ keeper. (keeper.sink ≡ self.sink) × (keeper.chain ≡ self.chain)
             × (kept_entries keeper.chain keeper.front ≡ kept_entries self.chain self.front))) }
     {
         if self

@@ -13,6 +13,7 @@ mod shown;
 
 pub use chain::Chain;
 pub use checking::check_digests;
+pub use comments::resume_text;
 pub use error::{DigestFault, Unkept};
 pub use keeper::Keeper;
 pub use laws::{a_batch_says_its_entries, a_crash_leaves_the_first_entries};

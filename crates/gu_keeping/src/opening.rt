@@ -5,8 +5,9 @@ ghost use mathlib.Core.List.{IsPrefix};
 ghost use Rattle.gu_terms.specs.declared.entry.Entry.{Entry as EntryOf};
 ghost use Rattle.gu_journal.specs.Text.{IsWholeLines};
 ghost use Rattle.gu_keeping.specs.Batches.{IsBatchText};
-ghost use Rattle.gu_keeping.specs.Chains.{chain_after, chain_of};
+ghost use Rattle.gu_keeping.specs.Chains.{IsChainOf, chain_after};
 ghost use Rattle.gu_keeping.specs.Keeping.{IfGivenBack, IfStopped, IsNextPart, IsOpening, Writes, unknown_origins};
+ghost use Rattle.gu_keeping.specs.declared.chain.Chain.{Chain as ChainOf};
 
 use crate::batch::Batch;
 use crate::chain::Chain;
@@ -57,8 +58,7 @@ fn next_batch(
             break;
         }
     }
-    let chain = batch.chain;
-    Ok((batch.end()?, chain))
+    batch.end()
 }
 
 /// Keeps the next batch of a history's entries after those of a chain. Returns the sink and the chain after it.
@@ -93,7 +93,7 @@ fn keep_next<K: Sink>(
 }
 
 /// Writes the opening of a day to a sink, and returns once it is kept: a heading of comments, and the lines of the entries of a history,
-/// in batches. Returns the sink and the chain of the history.
+/// in batches. Returns the sink and the chain after these.
 pub fn keep_opening<K: Sink>(
     alloc: Global,
     sink: K,
@@ -101,16 +101,16 @@ pub fn keep_opening<K: Sink>(
     history: &History,
 ) -> Result<(K, Chain), Unkept<K, K::Place>>
     ensures before { IfOk result (λ made. K.is_honest (K.place made.0) → K.is_honest (K.place sink)) }
-    ensures chain { IfOk result (λ made. made.1 ≡ chain_of history.now) }
-    ensures kept { IfOk result (λ made. (text : List ℕ) × IsOpening history.now text
+    ensures chain { IfOk result (λ made. IsChainOf made.1 history.now) }
+    ensures kept { IfOk result (λ made. (text : List ℕ) × IsOpening history.now made.1 text
         × (K.is_honest (K.place made.0) → K.kept made.0 ≡ K.kept sink ++ (heading.now ++ text))
         × Writes K.is_honest K.moment K.left_since (K.place sink) (K.place made.0) (K.kept sink) (heading.now ++ text)) }
 
     // If the sink stops, a crash leaves a beginning of the opening of the first entries.
     ensures before_stopped { IfErr result (λ unkept. IfStopped unkept (λ stopped.
         K.is_honest stopped.place → K.is_honest (K.place sink))) }
-    ensures stopped { IfErr result (λ unkept. IfStopped unkept (λ stopped. (first : List EntryOf) × (text : List ℕ)
-        × IsPrefix first history.now × IsOpening first text
+    ensures stopped { IfErr result (λ unkept. IfStopped unkept (λ stopped. (first : List EntryOf) × (chain : ChainOf) × (text : List ℕ)
+        × IsPrefix first history.now × IsOpening first chain text
         × Writes K.is_honest K.moment K.left_since (K.place sink) stopped.place (K.kept sink) (heading.now ++ text))) }
 {
     let mut sink = match put(sink, heading) {

@@ -1,4 +1,5 @@
-//! What a batch is, byte by byte. The digests are what sha256sum prints of the digest before and what is shown of an entry.
+//! What a batch is, byte by byte. The digests are what sha256sum prints of the digest before, and of what is shown of the entries of a
+//! batch: `1 OK` and so on, and for the sweep `10 SWEPT G1 7` and its lines.
 
 ghost use Rattle.std.specs.Prelude.{◌≡◌, []};
 ghost use Rattle.gu_terms.specs.Histories.{lots_swept};
@@ -53,7 +54,7 @@ REPORT E1 R1 M1 B XF6 10 101.5 H1
 REPORT E2 R2 M1 S XF6 10 101.5 H2
 # 20260105-09:00:00.008 E1 3 8
 GIVEUP E1 L1 R1 A1 7
-# 8 8d980c84f4024befc1ee160a646dd0e064a6db8924d8cc96ee9d94567e2feb43
+# 8 931188fd9b862dc6c88969a30664b09dda8ea57fdcdf663427cb14ee20d7aec1
 # 20260105-09:00:00.009
 # REPORT E1 R3 M3 B XF6 1 5 H1 20260107
 DAY 20260105
@@ -63,7 +64,7 @@ SWEEP G1
 # CUT OFFER 1
 # 20260105-09:00:00.011 E1 3 11
 CLAIM C1 1
-# 11 7dbb065ab23f390af1571a1c6e8d830dbac640454be7a4708080346ac668993a
+# 11 4613dc6a6e88407426bc13203beb6b81f98a299363c53ad8b9c3a02e698780e5
 ";
 
 /// Enters the lines of each part and keeps them in one batch. Returns the text.
@@ -133,7 +134,7 @@ LIMIT G1 CARRY C1 100
 REPORT E1 R1 M1 B XF6 10 101.5 H1
 REPORT E2 R2 M1 S XF6 10 101.5 H2
 GIVEUP E1 L1 R1 A1 7
-# 8 8d980c84f4024befc1ee160a646dd0e064a6db8924d8cc96ee9d94567e2feb43
+# 8 931188fd9b862dc6c88969a30664b09dda8ea57fdcdf663427cb14ee20d7aec1
 ";
 
 #[test]

@@ -30,7 +30,7 @@ const TEXT: &str = "\
 DAY 20260105
 # 20260105-09:00:00.002 E1 3 2
 LIMIT G1 EXEC E1 100
-# 2 57ae91e079fc3d0fabdb972e27d0b49d13a53717c1bb1cfd2422cf26b263aa85
+# 2 d48901f842f4370289eedf797b95baa669d03dc847c5937ed69861c0a653369c
 ";
 
 /// Returns the command of a line, at the second try if memory is refused to the first.

@@ -3,7 +3,7 @@
 ghost use Rattle.std.specs.Prelude.{◌≡◌, ◌+◌, ◌≤◌, [], All, IfOk, IfSome, length};
 ghost use Rattle.gu_terms.specs.Histories.{lots_swept};
 ghost use Rattle.gu_desk.specs.Seats.{IsNew};
-ghost use Rattle.gu_keeping.specs.Chains.{chain_of};
+ghost use Rattle.gu_keeping.specs.Chains.{IsChainOf};
 
 use gu_book::Book;
 use gu_desk::{BlankAnnals, Desk, EntryLedger, LotLedger, Seat};
@@ -63,7 +63,7 @@ pub fn keeper_of<E: EntryLedger, S: LotLedger, K: Sink, R: Wait>(
     sink: K,
     chain: Chain,
 ) -> Keeper<E, K>
-    requires { IsNew E.opening seat.old × (chain ≡ chain_of E.opening) × (length E.opening ≤ 1000000) }
+    requires { IsNew E.opening seat.old × IsChainOf chain E.opening × (length E.opening ≤ 1000000) }
 {
     let front = desk.hold(rt).front(seat);
     Keeper::new(alloc, sink, front, chain)

@@ -1,15 +1,13 @@
 use Rattle.std.proofs.Common.{◌≡◌, ◌≤◌, ◌-◌, ◌++◌, List, ℕ, length, take}
 use Rattle.gu_journal.specs.Text.{IsWholeLines}
-use Rattle.gu_keeping.specs.Chains.{chain_of}
 use Rattle.gu_keeping.specs.Keeping.{IsOpening, Writes}
 use Rattle.gu_keeping.proofs.opening.keep_opening.Given as goal
 
 abbrev pub invariant-loop-alloc : goal.invariant-loop-alloc
 invariant-loop-alloc g l = record {
   text : List ℕ;
-  opening : IsOpening (take l.chain.count l.history) text;
+  opening : IsOpening (take l.chain.count l.history) l.chain text;
   whole : IsWholeLines (l.heading ++ text);
-  at : l.chain ≡ chain_of (take l.chain.count l.history);
   within : l.chain.count ≤ length l.history;
   before : g.K.Sink.is_honest (g.K.Sink.place l.sink) → g.K.Sink.is_honest (g.K.Sink.place l.fn.sink);
   kept : g.K.Sink.is_honest (g.K.Sink.place l.sink) → g.K.Sink.kept l.sink ≡ g.K.Sink.kept l.fn.sink ++ (l.heading ++ text);

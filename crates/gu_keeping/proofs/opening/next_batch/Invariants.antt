@@ -1,13 +1,13 @@
 use Rattle.std.proofs.Common.{◌≡◌, ◌++◌, List, take}
 use Rattle.gu_terms.specs.declared.entry.Entry.{Entry}
 use Rattle.gu_keeping.specs.Keeping.{unknown_origins}
-use Rattle.gu_keeping.specs.Making.{AddsEntries}
+use Rattle.gu_keeping.specs.Making.{IsBatchOf}
 use Rattle.gu_keeping.proofs.opening.next_batch.Given as goal
 
 abbrev pub invariant-loop-place : goal.invariant-loop-place
 invariant-loop-place l = record {
   entries : List Entry;
-  adds : AddsEntries (unknown_origins entries) entries l.initial.batch l.batch;
-  so_far : take l.place l.history ≡ take l.initial.batch.chain.count l.history ++ entries;
-  count_is : l.batch.chain.count ≡ l.place;
+  made : IsBatchOf l.fn.chain (unknown_origins entries) entries l.batch;
+  so_far : take l.place l.history ≡ take l.fn.chain.count l.history ++ entries;
+  count_is : l.batch.link.count ≡ l.place;
 }

@@ -1,5 +1,5 @@
 use Rattle.std.proofs.Common.{◌∙◌}
-use Rattle.gu_keeping.proofs.Keepers.{count_of}
+use Rattle.gu_keeping.proofs.ChainLemmas.{count_of}
 use Rattle.gu_keeping.proofs.keeper.Keeper.count.Goals as goal
 
 pub returns : goal.returns

@@ -1,6 +1,6 @@
-use Rattle.std.proofs.Common.{◌++◌, ◌∙◌, List, sym, ap, append-nil}
+use Rattle.std.proofs.Common.{◌++◌, ◌∙◌, List, sym, ap, subst, append-nil}
 use Rattle.gu_terms.specs.declared.entry.Entry.{Entry}
-use Rattle.gu_keeping.specs.Chains.{chain_of}
+use Rattle.gu_keeping.specs.Chains.{IsChainOf}
 use Rattle.gu_keeping.specs.Keeping.{kept_entries}
 use Rattle.gu_keeping.proofs.Keepers.{kept_all}
 use Rattle.gu_keeping.proofs.keeper.Keeper.new.Goals as goal
@@ -10,7 +10,7 @@ invariant_of-result g c =
     let all = kept_all c.args.chain c.args.front c.requires.chain in
     record {
       parts = sym all ∙ sym (append-nil (kept_entries c.args.chain c.args.front)) ∙ ap (λ (l : List Entry). kept_entries c.args.chain c.args.front ++ l) (sym c.new.ensures.items);
-      chained = c.requires.chain ∙ ap (λ (l : List Entry). chain_of l) (sym all);
+      chained = subst (λ (l : List Entry). IsChainOf c.args.chain l) (sym all) c.requires.chain;
       few = c.requires.few;
     }
 

@@ -1,6 +1,6 @@
-use Rattle.std.proofs.Common.{◌++◌, ◌∙◌, List, ap, sym, take}
+use Rattle.std.proofs.Common.{◌++◌, ◌∙◌, List, ap, sym, subst, take}
 use Rattle.gu_terms.specs.declared.entry.Entry.{Entry}
-use Rattle.gu_keeping.specs.Chains.{chain_after, chain_of}
+use Rattle.gu_keeping.specs.Chains.{IsChainOf, chain_after}
 use Rattle.gu_keeping.specs.Keeping.{kept_entries}
 use Rattle.gu_keeping.specs.declared.chain.Chain.{Chain}
 use Rattle.gu_keeping.proofs.Keepers.{chained_on, kept_on, parts_on}
@@ -16,9 +16,8 @@ invariant_of-result g c =
           ∙ ap (λ (l : List Entry). kept_entries (chain_after self.chain (take count self.waiting.items)) self.front ++ l) (sym c.drop_first.ensures)
           ∙ ap (λ (chain : Chain). kept_entries chain self.front ++ c.drop_first.new.entries.items) (sym c.requires.chain);
       chained =
-          c.requires.chain
-          ∙ chained_on self.chain self.front self.waiting.items count self.parts self.chained
-          ∙ ap (λ (chain : Chain). chain_of (kept_entries chain self.front)) (sym c.requires.chain);
+          subst (λ (chain : Chain). IsChainOf chain (kept_entries chain self.front)) (sym c.requires.chain)
+          (chained_on self.chain self.front self.waiting.items count self.parts self.chained);
       few = self.few;
     }
 

@@ -1,6 +1,6 @@
-use Rattle.std.proofs.Common.{◌++◌, ◌∙◌, List, ap, sym, arith}
+use Rattle.std.proofs.Common.{◌++◌, ◌∙◌, List, ap, sym, subst, arith}
 use Rattle.gu_terms.specs.declared.entry.Entry.{Entry}
-use Rattle.gu_keeping.specs.Chains.{chain_of}
+use Rattle.gu_keeping.specs.Chains.{IsChainOf}
 use Rattle.gu_keeping.specs.Keeping.{kept_entries}
 use Rattle.gu_keeping.proofs.Keepers.{front_length, kept_stays, parts_more}
 use Rattle.gu_keeping.proofs.keeper.Keeper.take_in.Goals as goal
@@ -22,9 +22,9 @@ invariant_of-self g c =
           ∙ ap (λ (l : List Entry). kept_entries self.chain l ++ (self.waiting.items ++ more)) (sym grown.1)
           ∙ ap (λ (l : List Entry). kept_entries self.chain c.entries_from.new.front ++ l) (sym grown.2);
       chained =
-          self.chained
-          ∙ ap (λ (l : List Entry). chain_of l)
-          (sym (kept_stays self.chain self.front self.waiting.items more self.parts self.chained) ∙ ap (λ (l : List Entry). kept_entries self.chain l) (sym grown.1));
+          subst (λ (l : List Entry). IsChainOf self.chain l)
+          (sym (kept_stays self.chain self.front self.waiting.items more self.parts self.chained) ∙ ap (λ (l : List Entry). kept_entries self.chain l) (sym grown.1))
+          self.chained;
       few = c.entries_from.ensures.within;
     }
 
