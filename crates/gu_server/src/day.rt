@@ -4,7 +4,7 @@ ghost use Rattle.std.specs.Prelude.{◌≡◌, ◌+◌, ◌≤◌, All, length, 
 ghost use Rattle.std.proofs.Props.{props};
 ghost use Rattle.gu_terms.specs.Histories.{lots_swept};
 ghost use Rattle.gu_desk.specs.Seats.{IsNew};
-ghost use Rattle.gu_keeping.specs.Chains.{chain_of};
+ghost use Rattle.gu_keeping.specs.Chains.{IsChainOf};
 ghost use Rattle.gu_server.specs.Receipts.{AddsReceipts};
 
 use crate::closers::Closers;
@@ -25,6 +25,7 @@ use gu_houses::{OpenOrders, SeatReceipts, Tally};
 use gu_journal::Sink;
 use gu_keeping::{Chain, Keeper};
 use gu_posts::Posts;
+use gu_secrets::Secrets;
 use gu_sockets::{PollBell, SocketPoller};
 use gu_streams::StreamError;
 use gu_terms::{FirmId, Receipt};
@@ -61,6 +62,8 @@ pub struct Opening<K: Sink> {
     pub journal: Option<DayJournal<K>>,
     /// How firms are served.
     pub service: Service,
+    /// The secrets by which they are let in, if there are any.
+    pub secrets: Option<Secrets>,
     /// The order of every K-th accepted give-up of a connection, K being this, is sent to the sweepers; with 0, none is.
     pub every: u64,
     /// How many milliseconds answers to a connection are held of which none goes out, after which it ends. `WRITE_WAIT_MS` is the desk's.
@@ -69,13 +72,13 @@ pub struct Opening<K: Sink> {
     pub entries: Blank,
     pub swept: Blank,
     ghost told: { annals.entries ≡ book.history },
-    ghost journaled: { IfSome journal (λ j. j.chain ≡ chain_of book.history) } by { Prim.hlevel props },
+    ghost journaled: { IfSome journal (λ j. IsChainOf j.chain book.history) } by { Prim.hlevel props },
     ghost parts: { entries.parts ≡ service.workers + service.operators + service.watchers + 3 },
     ghost swept_parts: { swept.parts ≡ service.workers + service.operators + service.watchers + 3 },
 }
 
 impl<K: Sink + Drop> Opening<K> {
-    /// Returns what a day begins with that has no orders of sweeps, until `every` says otherwise.
+    /// Returns what a day begins with that has no secrets and no orders of sweeps, until `secrets` and `every` say otherwise.
     pub fn new(
         alloc: Global,
         book: Book,
@@ -83,7 +86,7 @@ impl<K: Sink + Drop> Opening<K> {
         journal: Option<DayJournal<K>>,
         service: Service,
     ) -> Result<Self, AllocError>
-        requires { IfSome journal (λ j. j.chain ≡ chain_of book.history) }
+        requires { IfSome journal (λ j. IsChainOf j.chain book.history) }
         ensures book { IfOk result (λ opening. (opening.book ≡ book) × (opening.receipts ≡ receipts)) }
         ensures journal { IfOk result (λ opening. opening.journal ≡ journal) }
         ensures served { IfOk result (λ opening. (opening.service ≡ service) × (opening.every ≡ 0) × (opening.write_wait_ms ≡ 10000)) }
@@ -96,6 +99,7 @@ impl<K: Sink + Drop> Opening<K> {
             receipts,
             journal,
             service,
+            secrets: None,
             every: 0,
             write_wait_ms: WRITE_WAIT_MS,
             entries: Blank::new(parts),
@@ -159,7 +163,7 @@ fn pen_of<E: EntryLedger, K: Sink + Drop>(
     front: Option<Beginning<E>>,
     journal: Option<DayJournal<K>>,
 ) -> Result<Pen<E, K>, AllocError>
-    requires chain { IfSome journal (λ j. j.chain ≡ chain_of E.opening) }
+    requires chain { IfSome journal (λ j. IsChainOf j.chain E.opening) }
     requires front { IfSome front (λ f. f ≡ E.opening) }
     requires few { length E.opening ≤ 1000000 }
 {
@@ -245,15 +249,16 @@ pub struct Served<K: Sink> {
     pub journal: Option<JournalEnd<K>>,
 }
 
-/// By what connections come in on a day, and what wakes who waits there.
+/// By what connections come in on a day, and what wakes who waits there. If firms have doors of their own, each firm of the book's reference
+/// has one, and their numbers are the firms' places there.
 #[derive(Drop)]
 pub struct Front<D> {
     pub door: D,
     pub bell: PollBell,
 }
 
-/// Opens a desk over a book, serves the connections that come in, and closes the desk after the last one. The port is closed once the last
-/// connection was accepted, or an operator closes the day. Where none can be accepted, standard error says so at once: it is tried again each time that one
+/// Opens a desk over a book, serves the connections that come in, and closes the desk after the last one. The port and the doors of firms are
+/// closed once the last connection was accepted, or an operator closes the day. Where none can be accepted, standard error says so at once: it is tried again each time that one
 /// has ended, or, where the day goes on until it is closed, soon after. What is done is printed at a terminal, where there is one. A day that
 /// has a journal shows nothing before it is kept there, and ends where nothing more can be kept.
 pub fn serve_day<
@@ -289,6 +294,7 @@ where
         receipts,
         journal,
         service,
+        secrets,
         every,
         write_wait_ms,
         entries,
@@ -316,6 +322,7 @@ where
         alloc,
         desk: &desk,
         firms: firms.as_slice(),
+        secrets: secrets.as_ref(),
         firm_places: &firm_places,
         posts: &posts,
         informer: &informer,

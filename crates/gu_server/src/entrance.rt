@@ -1,13 +1,17 @@
 //! Accepting connections, each for the worker that has the fewest.
 
+ghost use Rattle.std.specs.Prelude.{◌≡◌, None, Some, IfSome, IsSomeAnd, slice_get};
+ghost use Rattle.std.specs.Option.{option_map};
+
 use crate::cause::Cause;
 use crate::floor::Floor;
 use crate::working::{Calls, SocketCall};
 use crossbeam_channel::Sender;
 use gu_desk::{EntryLedger, LotLedger};
 use gu_posts::{Call, Failure};
-use gu_sockets::{Doorway, OperatorDoor};
+use gu_sockets::{Caller, Doorway, OperatorDoor};
 use gu_streams::StreamError;
+use gu_terms::FirmId;
 use std::io;
 use std::os::unix::net::UnixStream;
 use std::sync::Wait;
@@ -35,14 +39,15 @@ pub trait LetsIn {
     /// Returns whether a connection may be waiting.
     fn is_due(&self) -> bool;
 
-    /// Accepts a connection of a firm, if one is waiting, with the port of its peer.
-    fn accept(&mut self) -> io::Result<Option<(SocketCall, u16)>>;
+    /// Accepts a connection of a firm, if one is waiting. The number of the door by which it came, if it came by one, is the place of the door's
+    /// firm among the firms of the book's reference.
+    fn accept(&mut self) -> io::Result<Option<Caller>>;
 
     /// Accepts a connection of an operator, if one is waiting.
     fn accept_operator(&mut self, which: OperatorDoor) -> io::Result<Option<UnixStream>>;
 
-    /// Closes the port: from now on it refuses.
-    fn close_port(&mut self);
+    /// Closes the port and the doors of firms: from now on they refuse.
+    fn close_firms(&mut self);
 }
 
 impl LetsIn for Doorway {
@@ -54,7 +59,7 @@ impl LetsIn for Doorway {
         Doorway::is_due(self)
     }
 
-    fn accept(&mut self) -> io::Result<Option<(SocketCall, u16)>> {
+    fn accept(&mut self) -> io::Result<Option<Caller>> {
         Doorway::accept(self)
     }
 
@@ -62,9 +67,32 @@ impl LetsIn for Doorway {
         Doorway::accept_operator(self, which)
     }
 
-    fn close_port(&mut self) {
-        Doorway::close_port(self);
+    fn close_firms(&mut self) {
+        Doorway::close_firms(self);
     }
+}
+
+/// Returns the call of a firm that came in. One that came by a door is of the firm at the place in the list that is the door's number; if
+/// there is none, there is no call.
+fn call_of(firms: &[FirmId], caller: Caller, number: u64) -> Option<Call<SocketCall>>
+    ensures port { caller.door ≡ None → IsSomeAnd result (λ call. call.door ≡ None) }
+    ensures door { IfSome caller.door (λ place. option_map (λ call. call.door) result ≡ option_map Some (slice_get firms.now place)) }
+    ensures same { IfSome result (λ call. (call.stream ≡ caller.stream) × (call.number ≡ number) × (call.port ≡ caller.port)) }
+{
+    let Caller { stream, port, door } = caller;
+    let door = match door {
+        Some(place) => {
+            let firm = firms.get(place)?;
+            Some(*firm)
+        }
+        None => None,
+    };
+    Some(Call {
+        stream,
+        number,
+        port: u64::from(port),
+        door,
+    })
 }
 
 /// Where operators go that come in.
@@ -118,9 +146,9 @@ impl<'a, D: LetsIn + Drop> Entrance<'a, D> {
         }
     }
 
-    /// Closes the port. No more connections come to the workers.
+    /// Closes the port and the doors of firms. No more connections come to the workers.
     fn close(&mut self) {
-        self.door.close_port();
+        self.door.close_firms();
         self.calls.clear();
         self.is_open = false;
     }
@@ -144,22 +172,17 @@ impl<'a, D: LetsIn + Drop> Entrance<'a, D> {
     fn give<E: EntryLedger, S: LotLedger, R: Wait>(
         &mut self,
         floor: &Floor<'_, E, S, R>,
-        stream: SocketCall,
-        port: u16,
+        caller: Caller,
     ) {
         let has_place = floor.posts.connections() < floor.service.connections as u64;
         let worker = floor.posts.least_busy(self.calls.len());
         self.accepted = self.accepted.saturating_add(1);
+        let Some(call) = call_of(floor.firms, caller, self.accepted) else {
+            return;
+        };
         match self.calls.get(worker) {
-            Some(calls) if has_place => calls.send(
-                floor.rt,
-                Call {
-                    stream,
-                    number: self.accepted,
-                    port: u64::from(port),
-                },
-            ),
-            _ => drop(stream),
+            Some(calls) if has_place => calls.send(floor.rt, call),
+            _ => drop(call),
         }
     }
 
@@ -175,9 +198,9 @@ impl<'a, D: LetsIn + Drop> Entrance<'a, D> {
             return Err(Cause::NoThread);
         }
         match self.door.accept() {
-            Ok(Some((stream, port))) => {
+            Ok(Some(caller)) => {
                 self.paused = None;
-                self.give(floor, stream, port);
+                self.give(floor, caller);
                 Ok(true)
             }
             Ok(None) => Ok(false),

@@ -1,5 +1,6 @@
 //! What the threads of a server share.
 
+ghost use Rattle.std.specs.Option.{option_map};
 ghost use Rattle.std.specs.Prelude.{◌≡◌};
 
 use crate::firm_places::FirmPlaces;
@@ -9,6 +10,7 @@ use crate::service::Service;
 use gu_desk::{Desk, EntryLedger, LotLedger};
 use gu_houses::{OpenOrders, Tally};
 use gu_posts::Posts;
+use gu_secrets::Secrets;
 use gu_sockets::PollBell;
 use gu_terms::FirmId;
 use gu_workers::Shared;
@@ -23,8 +25,10 @@ pub struct Floor<'a, E: EntryLedger, S: LotLedger, R> {
     pub rt: &'a R,
     pub alloc: Global,
     pub desk: &'a Desk<E, S>,
-    /// The firms of the desk's reference, each of which may log on.
+    /// The firms of the desk's reference, each of which may log on. A firm's place in this list is the number of its door, if it has one.
     pub firms: &'a [FirmId],
+    /// The secrets by which they are let in, if there are any.
+    pub secrets: Option<&'a Secrets>,
     /// How many places each of them has.
     pub firm_places: &'a FirmPlaces<'a>,
     /// How the workers are reached.
@@ -51,10 +55,12 @@ pub struct Floor<'a, E: EntryLedger, S: LotLedger, R> {
 impl<'a, E: EntryLedger, S: LotLedger, R> Floor<'a, E, S, R> {
     /// Returns what the workers share: each firm of the desk's reference may log on, and no other.
     pub fn shared(&self) -> Shared<'a, FirmPlaces<'a>, PollBell>
-        ensures { result.firms.now ≡ E.reference.firms }
+        ensures firms { result.firms.now ≡ E.reference.firms }
+        ensures secrets { option_map (λ secrets. secrets.now) result.secrets ≡ option_map (λ secrets. secrets.now) self.now.secrets }
     {
         Shared {
             firms: self.firms,
+            secrets: self.secrets,
             admission: self.firm_places,
             posts: self.posts,
         }

@@ -146,7 +146,7 @@ fn end_writer<E: EntryLedger, K: Sink, R: Threads>(rt: &R, writer: Writer<E, K>)
     }
 }
 
-/// Starts the threads, and lets connections in until the last has ended. When it returns, the port is closed, and its ends of the channels are
+/// Starts the threads, and lets connections in until the last has ended. When it returns, no firm can come in, and its ends of the channels are
 /// gone: so each worker ends with its last connection, the sweepers with the last worker, and who answers operators at once.
 fn serve_calls<
     's,

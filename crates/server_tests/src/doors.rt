@@ -1,7 +1,7 @@
 //! Doors of the tests' own.
 
-use gu_server::{LetsIn, SocketCall};
-use gu_sockets::{Doorway, OperatorDoor};
+use gu_server::LetsIn;
+use gu_sockets::{Caller, Doorway, OperatorDoor};
 use std::io;
 use std::io::{Error, ErrorKind};
 use std::os::unix::net::UnixStream;
@@ -24,7 +24,7 @@ impl LetsIn for TestDoor {
         self.doorway.is_due()
     }
 
-    fn accept(&mut self) -> io::Result<Option<(SocketCall, u16)>> {
+    fn accept(&mut self) -> io::Result<Option<Caller>> {
         match self.doorway.accept() {
             Ok(None) if self.fails_where_nobody_waits => Err(Error::from(ErrorKind::WouldBlock)),
             accepted => accepted,
@@ -38,7 +38,7 @@ impl LetsIn for TestDoor {
         }
     }
 
-    fn close_port(&mut self) {
-        self.doorway.close_port();
+    fn close_firms(&mut self) {
+        self.doorway.close_firms();
     }
 }

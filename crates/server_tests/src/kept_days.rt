@@ -1,7 +1,6 @@
 //! Days that are kept in a journal while they go on, and one whose journal fails.
 
-ghost use Rattle.std.specs.Prelude.{◌≡◌};
-ghost use Rattle.gu_keeping.specs.Chains.{chain_of};
+ghost use Rattle.gu_keeping.specs.Chains.{IsChainOf};
 
 use crate::clients::{Ending, Visit};
 use crate::doings::Doing;
@@ -75,7 +74,7 @@ fn opened_journal(
     log: Log<FrailDevice>,
     history: &History,
 ) -> DayJournal<Log<FrailDevice>>
-    ensures { result.chain ≡ chain_of history.now }
+    ensures { IsChainOf result.chain history.now }
 {
     match keep_opening(alloc, log, b"# a test\n", history) {
         Ok((sink, chain)) => DayJournal { sink, chain },

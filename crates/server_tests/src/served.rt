@@ -2,7 +2,7 @@
 
 ghost use Rattle.std.specs.Prelude.{◌≡◌, ◌≤◌, IfSome};
 ghost use Rattle.std.proofs.Props.{props};
-ghost use Rattle.gu_keeping.specs.Chains.{chain_of};
+ghost use Rattle.gu_keeping.specs.Chains.{IsChainOf};
 ghost use Rattle.gu_terms.specs.Histories.{lots_swept};
 ghost use denote.Param.Send.{IsSend, IsSync};
 
@@ -15,7 +15,7 @@ use gu_book::Book;
 use gu_desk::{EntryLedger, LotLedger};
 use gu_journal::{Log, Memory, Sink};
 use gu_server::{Closed, Closers, DayJournal, Front, Opening, Served, Service, serve_day};
-use gu_sockets::Doorway;
+use gu_sockets::{Doorway, Listeners};
 use gu_streams::StreamError;
 use gu_terms::Receipt;
 use std::alloc::Global;
@@ -104,7 +104,13 @@ fn ends_of<R: Net<Listener = TcpListener, Stream = TcpStream> + Abort>(
         fails_where_nobody_waits,
     } = outside;
     let port = port_of(&listener);
-    let made = Doorway::new(rt, alloc, listener, None, None);
+    let listeners = Listeners {
+        port: Some(listener),
+        doors: Vec::new(alloc),
+        console: None,
+        watch: None,
+    };
+    let made = Doorway::new(rt, alloc, listeners);
     let (doorway, bell) = made.ok().expect(rt, "a doorway");
     let paired = UnixStream::pair(rt);
     let (near, far) = paired.ok().expect(rt, "two streams");
@@ -191,7 +197,7 @@ pub struct Begun<K: Sink> {
     pub book: Book,
     pub receipts: Vec<Receipt>,
     pub journal: Option<DayJournal<K>>,
-    ghost journaled: { IfSome journal (λ j. j.chain ≡ chain_of book.history) } by { Prim.hlevel props },
+    ghost journaled: { IfSome journal (λ j. IsChainOf j.chain book.history) } by { Prim.hlevel props },
 }
 
 /// What the day of a row comes to that begins so.

@@ -1,8 +1,8 @@
-use Rattle.std.proofs.Common.{◌≡◌, ◌∙◌, All, IfSome, List, ap, subst, sym}
+use Rattle.std.proofs.Common.{◌∙◌, All, IfSome, List, ap, subst, sym}
 use Rattle.gu_terms.specs.declared.entry.Entry.{Entry}
 use Rattle.gu_ref.specs.Tables.{Tables}
 use Rattle.gu_desk.specs.Seats.{IsNew, SeatState}
-use Rattle.gu_keeping.specs.Chains.{chain_of}
+use Rattle.gu_keeping.specs.Chains.{IsChainOf}
 use Rattle.gu_server.proofs.day.serve_day.Goals as goal
 
 pub invariant_of-floor : goal.invariant_of-floor
@@ -14,7 +14,7 @@ invariant_of-floor g c = record {
 -- the journal has the entries with which the desk's history begins
 pub pen_of-requires-clause-chain : goal.pen_of-requires-clause-chain
 pen_of-requires-clause-chain g c =
-    subst (λ (h : List Entry). IfSome c.args.opening.journal (λ j. j.chain ≡ chain_of h)) c.requires.history.1 c.args.opening.journaled
+    subst (λ (h : List Entry). IfSome c.args.opening.journal (λ j. IsChainOf j.chain h)) c.requires.history.1 c.args.opening.journaled
 
 -- the seats are as the desk made them
 pub with_receipts-requires : goal.with_receipts-requires
