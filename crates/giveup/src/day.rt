@@ -2,11 +2,11 @@
 
 ghost use Rattle.std.specs.Prelude.{◌≡◌, IfOk, IfSome};
 ghost use Rattle.std.proofs.Props.{props};
-ghost use Rattle.gu_keeping.specs.Chains.{chain_of};
+ghost use Rattle.gu_keeping.specs.Chains.{IsChainOf};
 ghost use Rattle.gu_words.specs.Statuses.{status_of_audit};
 
 use crate::fault::{Fault, Faults};
-use crate::files::{digested_reference_at, world_after};
+use crate::files::{digested_reference_at, secrets_at, world_after};
 use crate::heading::Heading;
 use crate::journal_ending::end_journal;
 use crate::journal_file::{FileLog, empty_journal_at, has_day_at, journal_at};
@@ -18,10 +18,11 @@ use crate::serving::{Begun, listen, serve};
 use gu_journal::Sink;
 use gu_ref::Reference;
 use gu_script::RefusedLines;
+use gu_secrets::Secrets;
 use gu_server::{DayEnd, Front, Served};
 use gu_sockets::Doorway;
 use gu_streams::{StreamError, send};
-use gu_terms::{History, Seed};
+use gu_terms::{FirmId, History, Seed};
 use gu_words::{Journal, Serving, Status};
 use gu_world::World;
 use jiff::Timestamp;
@@ -40,24 +41,38 @@ use std::time::{SystemTime, UNIX_EPOCH};
 struct Ready<'a, F, K: Sink> {
     world: World,
     begun: Option<BegunJournal<'a, F, K>>,
-    ghost journaled: { IfSome begun (λ b. b.journal.chain ≡ chain_of world.state.book.history) } by { Prim.hlevel props },
+    ghost journaled: { IfSome begun (λ b. IsChainOf b.journal.chain world.state.book.history) } by { Prim.hlevel props },
 }
 
 /// One whose journal is in a file.
 type ReadyFile<'a, F> = Ready<'a, F, FileLog<F>>;
 
 impl<'a, F, K: Sink> Ready<'a, F, K> {
-    /// Returns the name of the journal, if there is one, and what a server begins with.
-    fn into_parts(self) -> (Option<JournalName<'a, F>>, Begun<K>) {
+    /// Returns the name of the journal, if there is one, and what a server begins with, whose firms have these secrets.
+    fn into_parts(self, secrets: Option<Secrets>) -> (Option<JournalName<'a, F>>, Begun<K>) {
         let Ready { world, begun } = self;
         match begun {
             Some(BegunJournal { name, journal }) => {
                 let journal = Some(journal);
-                (Some(name), Begun { world, journal })
+                (
+                    Some(name),
+                    Begun {
+                        world,
+                        journal,
+                        secrets,
+                    },
+                )
             }
             None => {
                 let journal = None;
-                (None, Begun { world, journal })
+                (
+                    None,
+                    Begun {
+                        world,
+                        journal,
+                        secrets,
+                    },
+                )
             }
         }
     }
@@ -89,7 +104,7 @@ fn begun_journal<'a, R: Files + Alloc<A = Global>>(
 ) -> Result<Option<BegunFile<'a, R::File>>, Fault<'a>>
 where
     R::File: Locks,
-    ensures { IfOk result (λ begun. IfSome begun (λ b. b.journal.chain ≡ chain_of history.now)) }
+    ensures { IfOk result (λ begun. IfSome begun (λ b. IsChainOf b.journal.chain history.now)) }
 {
     let Some(journal) = serving.journal else {
         return Ok(None);
@@ -136,32 +151,59 @@ fn journal_to_resume<'a, R: Files>(
     }
 }
 
-/// Reads the reference, and makes the day ready: it goes on where its journal has lines and is to be resumed, and else it begins after the
-/// script.
-fn made_ready<'a, R: Eprint + Files + Clock + RandomSource + Alloc<A = Global>>(
+/// Makes a day ready: it goes on where its journal has lines and is to be resumed, and else it begins after the script.
+fn made_ready<'a, R: Eprint + Files + Alloc<A = Global>>(
     rt: &R,
     serving: &Serving<'a>,
+    reference: Reference,
+    heading: &Heading,
+    seed: Seed,
 ) -> Result<ReadyFile<'a, R::File>, Fault<'a>>
 where
     R::File: Locks,
 {
-    let seed = seed_from(rt)?;
-    let (reference, digest) = digested_reference_at(rt, serving.reference)?;
-    let heading = Heading {
-        reference: digest,
-        opened: time(rt).ok_or(StreamError::Read)?,
-    };
     match journal_to_resume(rt, serving)? {
         Some(path) => {
             let found = journal_at(rt, path)?;
-            let Resumed { world, begun } = resume_journal(rt, found, reference, &heading, seed)?;
+            let Resumed { world, begun } = resume_journal(rt, found, reference, heading, seed)?;
             Ok(Ready {
                 world,
                 begun: Some(begun),
             })
         }
-        None => begun_day(rt, serving, reference, &heading, seed),
+        None => begun_day(rt, serving, reference, heading, seed),
     }
+}
+
+/// Returns the secrets of firms, if there are any.
+fn secrets_of<'a, R: Files + Alloc<A = Global>>(
+    rt: &R,
+    serving: &Serving<'a>,
+    firms: &[FirmId],
+) -> Result<Option<Secrets>, Fault<'a>> {
+    match serving.secrets {
+        Some(path) => Ok(Some(secrets_at(rt, path, firms)?)),
+        None => Ok(None),
+    }
+}
+
+/// Reads the reference, then the secrets of its firms, and makes the day ready.
+fn ready_day<'a, R: Eprint + Files + Clock + RandomSource + Alloc<A = Global>>(
+    rt: &R,
+    serving: &Serving<'a>,
+) -> Result<(ReadyFile<'a, R::File>, Option<Secrets>), Fault<'a>>
+where
+    R::File: Locks,
+{
+    let seed = seed_from(rt)?;
+    let (reference, digest) = digested_reference_at(rt, serving.reference)?;
+    let secrets = secrets_of(rt, serving, reference.firms())?;
+    let heading = Heading {
+        reference: digest,
+        opened: time(rt).ok_or(StreamError::Read)?,
+    };
+    let ready = made_ready(rt, serving, reference, &heading, seed)?;
+    Ok((ready, secrets))
 }
 
 /// Returns the status after the end of a day: that which its audit makes.
@@ -226,16 +268,17 @@ pub fn end_day<'a, R: Print + Alloc<A = Global>, F: Read + Write + Seek + OpenFi
     }
 }
 
-/// Listens at the sockets of operators and at the port, and gives a new journal its name. Where that fails, a new journal is removed.
+/// Listens at the sockets of operators, at the doors of firms and at the port, and gives a new journal its name. Where that fails, a new journal is removed.
 fn opened<'a, R: Files + Net<Listener = TcpListener, Stream = TcpStream> + Alloc<A = Global>, F>(
     rt: &R,
     serving: &Serving<'a>,
+    firms: &[FirmId],
     name: Option<&JournalName<'a, F>>,
 ) -> Result<Front<Doorway>, Fault<'a>> {
     let Some(name) = name else {
-        return listen(rt, serving);
+        return listen(rt, serving, firms);
     };
-    let opened = match listen(rt, serving) {
+    let opened = match listen(rt, serving, firms) {
         Ok(front) => match name.give(rt) {
             Ok(()) => Ok(front),
             Err(fault) => {
@@ -251,7 +294,7 @@ fn opened<'a, R: Files + Net<Listener = TcpListener, Stream = TcpStream> + Alloc
     opened
 }
 
-/// A server of firms on a port of this machine, on the reference of a file, after a script, if one is named.
+/// A server of firms on this machine, on the reference of a file, after a script, if one is named.
 pub fn run_serve<
     'a,
     R: Print
@@ -269,9 +312,10 @@ pub fn run_serve<
 where
     R::File: Locks + Send,
 {
-    let ready = made_ready(rt, serving)?;
-    let (name, begun) = ready.into_parts();
-    let front = match opened(rt, serving, name.as_ref()) {
+    let (ready, secrets) = ready_day(rt, serving)?;
+    let (name, begun) = ready.into_parts(secrets);
+    let firms = begun.world.book().reference().firms();
+    let front = match opened(rt, serving, firms, name.as_ref()) {
         Ok(front) => front,
         Err(fault) => {
             drop(begun);

@@ -2,6 +2,7 @@
 
 use gu_ref::RefFault;
 use gu_script::ScriptError;
+use gu_secrets::SecretsFault;
 use gu_streams::StreamError;
 use thiserror::Error;
 
@@ -31,6 +32,17 @@ pub enum JournalFault {
     BadLine(u64),
 }
 
+/// Why the secrets of firms aren't accepted.
+#[derive(Debug, Drop, Clone, Copy, PartialEq, Eq, Error)]
+pub enum SecretsError {
+    /// The file can't be opened or read.
+    #[error("ReadFault")]
+    ReadFault,
+    /// The line of this number is neither empty nor a row of a firm of the reference.
+    #[error("BadRow {0}")]
+    BadRow(u64),
+}
+
 /// Why a console can't be had, or doesn't answer.
 #[derive(Debug, Drop, Clone, Copy, PartialEq, Eq, Error)]
 pub enum ConsoleFault {
@@ -51,6 +63,23 @@ pub enum ConsoleFault {
     Ended,
 }
 
+/// Why the doors of firms can't be had.
+#[derive(Debug, Drop, Clone, Copy, PartialEq, Eq, Error)]
+pub enum DoorsFault {
+    /// A desk answers at one of them.
+    #[error("InUse")]
+    InUse,
+    /// What is at the path of one of them isn't a socket.
+    #[error("NotASocket")]
+    NotASocket,
+    /// One of them can't be made.
+    #[error("NotMade")]
+    NotMade,
+    /// There are this many, and the process may open too few files.
+    #[error("TooFewFiles {0}")]
+    TooFewFiles(usize),
+}
+
 /// Why the program ends with status 1.
 #[derive(Debug, Drop, Clone, Copy, PartialEq, Eq, Error)]
 pub enum RunError {
@@ -63,12 +92,18 @@ pub enum RunError {
     /// An engine of messages stopped, or a file couldn't be read.
     #[error("{0}")]
     Stream(StreamError),
+    /// The secrets of firms were not accepted.
+    #[error("secrets: {0}")]
+    Secrets(SecretsError),
     /// The journal can't be begun.
     #[error("journal: {0}")]
     Journal(JournalFault),
     /// A console can't be had, or doesn't answer.
     #[error("console: {0}")]
     Console(ConsoleFault),
+    /// The doors of firms can't be had.
+    #[error("doors: {0}")]
+    Doors(DoorsFault),
 }
 
 impl From<RefFault> for RunError {
@@ -81,6 +116,20 @@ impl From<RefFault> for RunError {
         match fault {
             RefFault::Memory => RunError::Stream(StreamError::Memory),
             _ => RunError::Reference(fault),
+        }
+    }
+}
+
+impl From<SecretsFault> for RunError {
+    ghost use Rattle.std.specs.Prelude.{◌≡◌};
+    ghost use Rattle.giveup.specs.RunErrors.{error_after_secrets};
+
+    ghost from_gives = { λ fault error. error ≡ error_after_secrets fault };
+
+    fn from(fault: SecretsFault) -> Self {
+        match fault {
+            SecretsFault::Memory => RunError::Stream(StreamError::Memory),
+            SecretsFault::BadRow(line) => RunError::Secrets(SecretsError::BadRow(line)),
         }
     }
 }

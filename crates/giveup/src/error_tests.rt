@@ -1,9 +1,10 @@
 //! What is said on standard error.
 
-use crate::error::RunError;
+use crate::error::{DoorsFault, RunError, SecretsError};
 use crate::rows::check_told;
 use gu_ref::RefFault;
 use gu_script::ScriptError;
+use gu_secrets::SecretsFault;
 use gu_streams::StreamError;
 use std::alloc::Global;
 use std::process::Abort;
@@ -30,4 +31,12 @@ fn errors_are_said_in_these_words(rt: HostRuntime) {
     check(&rt, alloc, RefFault::Memory, "out of memory");
     check(&rt, alloc, RefFault::BadRow(3), "reference: BadRow 3");
     check(&rt, alloc, RefFault::TooMany, "reference: TooMany");
+    check(&rt, alloc, SecretsFault::Memory, "out of memory");
+    check(&rt, alloc, SecretsFault::BadRow(3), "secrets: BadRow 3");
+    let unread = RunError::Secrets(SecretsError::ReadFault);
+    check(&rt, alloc, unread, "secrets: ReadFault");
+    let taken = RunError::Doors(DoorsFault::InUse);
+    check(&rt, alloc, taken, "doors: InUse");
+    let many = RunError::Doors(DoorsFault::TooFewFiles(75));
+    check(&rt, alloc, many, "doors: TooFewFiles 75");
 }

@@ -1,6 +1,6 @@
 //! Faults of a run: the error that is named, and what is at fault.
 
-use crate::error::{ConsoleFault, JournalFault, RunError};
+use crate::error::{ConsoleFault, DoorsFault, JournalFault, RunError, SecretsError};
 use gu_ref::RefFault;
 use gu_script::ScriptError;
 use gu_streams::StreamError;
@@ -11,6 +11,8 @@ use std::{fmt, io};
 pub enum Place<'a> {
     /// The file of this path.
     File(&'a str),
+    /// The door in the folder of this path that has the name of a firm: these bytes, with zeros after them.
+    Door(&'a str, [u8; 12]),
     /// This port.
     Port(u16),
     /// Standard input.
@@ -23,6 +25,10 @@ impl fmt::Display for Place<'_> {
     fn fmt<W: fmt::Write>(&self, f: &mut fmt::Formatter<W>) -> fmt::Result {
         match self {
             Place::File(path) => write!(f, "{path}"),
+            Place::Door(folder, firm) => {
+                let name = firm.split(|byte| *byte == 0).next().unwrap_or(&[]);
+                write!(f, "{folder}/{}", name.escape_ascii())
+            }
             Place::Port(number) => write!(f, "port {number}"),
             Place::Input => f.write_str("standard input"),
             Place::Output => f.write_str("standard output"),
@@ -42,6 +48,21 @@ fn console_words(fault: ConsoleFault) -> &'static str {
         ConsoleFault::NotMade => "it can't be made",
         ConsoleFault::NotReached => "no desk can be reached there",
         ConsoleFault::Ended => "the desk ended the connection before its answer was whole",
+    }
+}
+
+/// Says why the doors of firms can't be had.
+fn say_doors<W: fmt::Write>(fault: DoorsFault, f: &mut fmt::Formatter<W>) -> fmt::Result {
+    match fault {
+        DoorsFault::InUse => f.write_str(console_words(ConsoleFault::InUse)),
+        DoorsFault::NotASocket => f.write_str(console_words(ConsoleFault::NotASocket)),
+        DoorsFault::NotMade => f.write_str(console_words(ConsoleFault::NotMade)),
+        DoorsFault::TooFewFiles(doors) => {
+            write!(
+                f,
+                "there are {doors} doors, and the process may open too few files for them"
+            )
+        }
     }
 }
 
@@ -86,11 +107,16 @@ impl fmt::Display for InWords {
             RunError::Script(ScriptError::Write) | RunError::Stream(StreamError::Write) => {
                 f.write_str("it couldn't be written to its end")
             }
+            RunError::Secrets(SecretsError::BadRow(line)) => {
+                write!(f, "line {line} isn't a row of a firm of the reference")
+            }
             RunError::Journal(fault) => f.write_str(journal_words(fault)),
             RunError::Console(fault) => f.write_str(console_words(fault)),
-            RunError::Reference(_) | RunError::Script(_) | RunError::Stream(_) => {
-                f.write_str("it couldn't be read to its end")
-            }
+            RunError::Doors(fault) => say_doors(fault, f),
+            RunError::Secrets(SecretsError::ReadFault)
+            | RunError::Reference(_)
+            | RunError::Script(_)
+            | RunError::Stream(_) => { f.write_str("it couldn't be read to its end") }
         }
     }
 }
@@ -161,12 +187,18 @@ impl<'a> Fault<'a> {
         }
     }
 
-    /// Returns whether a second line says what is at fault: at a terminal, and for a journal or a console, whose faults are new to who
-    /// reads them.
+    /// Returns whether a second line says what is at fault: at a terminal, and for secrets, a journal, a console or doors, whose faults are
+    /// new to who reads them.
     fn has_second_line(&self, is_at_terminal: bool) -> bool {
         is_at_terminal
             || self.kept.is_some()
-            || matches!(self.error, RunError::Journal(_) | RunError::Console(_))
+            || matches!(
+                self.error,
+                RunError::Secrets(_)
+                    | RunError::Journal(_)
+                    | RunError::Console(_)
+                    | RunError::Doors(_)
+            )
     }
 
     /// Says the error on standard error, and in a second line what is at fault and why. What can't be written there is lost.

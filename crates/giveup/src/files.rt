@@ -1,15 +1,21 @@
-//! The files of a run: a reference, and a script that is run first.
+//! The files of a run: a reference, the secrets of its firms, and a script that is run first.
+
+ghost use Rattle.std.specs.Prelude.{IfOk};
+ghost use Rattle.std.specs.Io.KnownBytes.{Consumes, IsAtEnd};
+ghost use Rattle.gu_streams.specs.Reads.{bytes_left};
 
 use crate::digesting::Digesting;
-use crate::error::RunError;
+use crate::error::{RunError, SecretsError};
 use crate::fault::{Fault, Place};
 use gu_ref::{RefFault, Reference};
 use gu_script::{RefusedLines, play_opening};
-use gu_streams::{CountedReads, StreamError};
-use gu_terms::Seed;
+use gu_secrets::Secrets;
+use gu_streams::{CountedReads, LONGEST_READ, StreamError};
+use gu_terms::{FirmId, Seed};
 use gu_world::World;
 use std::alloc::Global;
 use std::fs::File;
+use std::io::Read;
 use std::rt::Files;
 
 /// Returns the reference of a file, and the SHA-256 digest of its bytes.
@@ -40,6 +46,53 @@ pub fn reference_at<'a, R: Files + Alloc<A = Global>>(
 ) -> Result<Reference, Fault<'a>> {
     let (reference, _) = digested_reference_at(rt, path)?;
     Ok(reference)
+}
+
+/// Returns all that a reader has.
+fn all_of<R: Read>(alloc: Global, reads: &mut CountedReads<R>) -> Result<Vec<u8>, StreamError>
+    ensures all { IfOk result (λ all. Consumes (bytes_left R.remaining reads.old) (bytes_left R.remaining reads.new) all.items) }
+    ensures end { IfOk result (λ _. IsAtEnd (bytes_left R.remaining reads.new)) }
+{
+    let mut all = Vec::new(alloc);
+    let mut buffer = [0; LONGEST_READ];
+    'reading: while !reads.is_spent() {
+        match reads.read(&mut buffer) {
+            Ok(0) => return Ok(all),
+            Ok(count) => all.extend_from_slice(&buffer[..count])?,
+            Err(_) => return Err(StreamError::Read),
+        }
+    }
+    Err(StreamError::Read)
+}
+
+/// Returns the text of a file of secrets.
+fn secrets_text<'a, R: Files + Alloc<A = Global>>(
+    rt: &R,
+    path: &'a str,
+) -> Result<Vec<u8>, Fault<'a>> {
+    let place = Place::File(path);
+    let error = RunError::Secrets(SecretsError::ReadFault);
+    match File::open(rt, path) {
+        Ok(file) => match all_of(rt.alloc(), &mut CountedReads::new(file)) {
+            Ok(text) => Ok(text),
+            Err(StreamError::Memory) => Err(Fault::from(StreamError::Memory)),
+            Err(_) => Err(Fault::at(place, error)),
+        },
+        Err(cause) => Err(Fault::refused(place, cause, error)),
+    }
+}
+
+/// Returns the secrets of a file, in which each row is of one of these firms.
+pub fn secrets_at<'a, R: Files + Alloc<A = Global>>(
+    rt: &R,
+    path: &'a str,
+    firms: &[FirmId],
+) -> Result<Secrets, Fault<'a>> {
+    let text = secrets_text(rt, path)?;
+    match Secrets::read(rt.alloc(), &text, firms) {
+        Ok(secrets) => Ok(secrets),
+        Err(fault) => Err(Fault::at(Place::File(path), RunError::from(fault))),
+    }
 }
 
 /// Returns the world that the script of a file leads to, with the lines of it that did nothing; without a script, a world without entries.

@@ -1,7 +1,7 @@
 //! The journal of a day that begins or goes on.
 
 ghost use Rattle.std.specs.Prelude.{◌≡◌, IfOk};
-ghost use Rattle.gu_keeping.specs.Chains.{chain_of};
+ghost use Rattle.gu_keeping.specs.Chains.{IsChainOf};
 
 use crate::error::{JournalFault, RunError};
 use crate::fault::{Fault, Place};
@@ -12,7 +12,7 @@ use crate::locking::Locks;
 use gu_journal::{
     DeviceError, FileDevice, Log, OpenError, Opened, STEP, Sink, SinkError, Stopped, is_batch,
 };
-use gu_keeping::{Chain, DigestFault, Unkept, check_digests, keep_opening};
+use gu_keeping::{Chain, DigestFault, Unkept, check_digests, keep_opening, resume_text};
 use gu_ref::Reference;
 use gu_script::{ScriptError, play_opening};
 use gu_server::DayJournal;
@@ -90,7 +90,7 @@ pub fn begin_journal<'a, R: Files + Alloc<A = Global>>(
 ) -> Result<BegunFile<'a, R::File>, Fault<'a>>
 where
     R::File: Locks,
-    ensures { IfOk result (λ begun. begun.journal.chain ≡ chain_of history.now) }
+    ensures { IfOk result (λ begun. IsChainOf begun.journal.chain history.now) }
 {
     let alloc = rt.alloc();
     let FoundFile { path, file: old } = found;
@@ -163,7 +163,7 @@ fn checked_chain<'a>(
     text: &[u8],
     history: &History,
 ) -> Result<Chain, Fault<'a>>
-    ensures { IfOk result (λ chain. chain ≡ chain_of history.now) }
+    ensures { IfOk result (λ chain. IsChainOf chain history.now) }
 {
     match check_digests(alloc, text, history) {
         Ok(chain) => Ok(chain),
@@ -176,14 +176,13 @@ fn checked_chain<'a>(
 fn with_comments<'a, F: Read + Write + Seek + OpenFile + Drop>(
     path: &'a str,
     log: FileLog<F>,
-    comments: &str,
+    comments: &[u8],
 ) -> Result<FileLog<F>, Fault<'a>> {
-    let bytes = comments.as_bytes();
-    if !is_batch(bytes) {
+    if !is_batch(comments) {
         drop(log);
         return Err(Fault::at(Place::File(path), RunError::from(StreamError::Write)));
     }
-    match log.append(bytes) {
+    match log.append(comments) {
         Ok(log) => Ok(log),
         Err(stopped) => Err(file_fault(path, stopped.place())),
     }
@@ -196,7 +195,8 @@ pub struct Resumed<'a, F, K: Sink> {
     pub begun: BegunJournal<'a, F, K>,
 }
 
-/// Goes on with the day of a file that has one: its lines are played, its digests are compared, and a comment says that it goes on.
+/// Goes on with the day of a file that has one: its lines are played, its digests are compared, and comments say that it goes on, and with
+/// which digest.
 pub fn resume_journal<'a, R: Eprint + Files + Alloc<A = Global>>(
     rt: &R,
     found: FoundFile<'a, R::File>,
@@ -204,7 +204,7 @@ pub fn resume_journal<'a, R: Eprint + Files + Alloc<A = Global>>(
     heading: &Heading,
     seed: Seed,
 ) -> Result<Resumed<'a, R::File, FileLog<R::File>>, Fault<'a>>
-    ensures { IfOk result (λ resumed. resumed.begun.journal.chain ≡ chain_of resumed.world.state.book.history) }
+    ensures { IfOk result (λ resumed. IsChainOf resumed.begun.journal.chain resumed.world.state.book.history) }
 {
     let alloc = rt.alloc();
     let path = found.path;
@@ -218,7 +218,8 @@ pub fn resume_journal<'a, R: Eprint + Files + Alloc<A = Global>>(
     let chain = checked_chain(alloc, path, &text, world.book().history())?;
     drop(text);
     let comments = heading.resumed_text(alloc).map_err(StreamError::from)?;
-    let log = with_comments(path, log, comments.as_str())?;
+    let comments = resume_text(alloc, comments.as_bytes(), &chain).map_err(StreamError::from)?;
+    let log = with_comments(path, log, &comments)?;
     Ok(Resumed {
         world,
         begun: BegunJournal {

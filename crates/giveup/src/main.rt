@@ -21,6 +21,7 @@ mod fixing;
 mod heading;
 #[cfg(test)]
 mod help_tests;
+mod issuing;
 mod journal_ending;
 mod journal_file;
 mod journal_name;

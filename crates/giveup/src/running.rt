@@ -6,6 +6,7 @@ use crate::error::{ConsoleFault, RunError};
 use crate::fault::{Fault, Faults, Place};
 use crate::files::{reference_at, world_after};
 use crate::fixing::fix;
+use crate::issuing::run_secret;
 use crate::locking::Locks;
 use crate::progress::Told;
 use crate::replaying::replay;
@@ -19,7 +20,7 @@ use gu_houses::OverBook;
 use gu_script::ScriptError;
 use gu_streams::{CountedReads, StreamError};
 use gu_terms::FirmId;
-use gu_words::{Status, Task, answer, firm_named, given, line_refusal, read};
+use gu_words::{FirmCommand, Status, Task, answer, firm_named, given, line_refusal, read};
 use std::alloc::Global;
 use std::io;
 use std::io::Write;
@@ -205,8 +206,12 @@ where
                 reference,
                 script,
             },
-        ) => match firm_named(rt.alloc(), firm) {
+        ) => match firm_named(rt.alloc(), FirmCommand::Fix, firm) {
             Ok(firm) => Ok(run_fix(rt, firm, reference, script)?),
+            Err(error) => answered(rt, &error),
+        },
+        Ok(Task::Secret { firm }) => match firm_named(rt.alloc(), FirmCommand::Secret, firm) {
+            Ok(firm) => Ok(run_secret(rt, firm)?),
             Err(error) => answered(rt, &error),
         },
         Ok(Task::Tell { path, lines }) => {

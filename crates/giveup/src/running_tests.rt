@@ -1,10 +1,11 @@
 //! Runs of the program on a machine of the tests' own. A row is the words, ` < ` and standard input; and, after ` -> `, the status, what
 //! was asked for (`opened` of the machine), `; `, standard output, `; ` and standard error; and `; ` and what the file `log` has without
-//! the zeros at its end, if anything. `/` ends a line, and `|` is SOH. The file `house` is the sample, `bad` has an eighteenth row that is none, `day`
-//! opens a day, the second line of `two` is bad, three lines of `amiss` do nothing, and after `traded` E1 may give up ten lots. Nothing can
-//! be written to these, nor to `stuck`, which is empty; `worn` takes an opening and nothing else. `.` is a folder. Of the journals `alien`
-//! is of another reference, `edited` has another digest, `decayed` a bad line, `padded` too much after its text, and another program has
-//! `held`. The digests are what sha256sum prints: of the sample, of 32 zeros and `1 OK` with its LF, and of that digest and `2 OK OPEN`.
+//! the zeros at its end, if anything. `/` ends a line, and `|` is SOH. The file `house` is the sample, `bad` has an eighteenth row that is
+//! none, `day` opens a day, the second line of `two` is bad, three lines of `amiss` do nothing, and after `traded` E1 may give up ten lots.
+//! `keys` and `alike` are files of secrets. Nothing can be written to these, nor to `stuck`, which is empty; `worn` takes an opening and
+//! nothing else. `.` is a folder. Of the journals `alien` is of another reference, `edited` has another digest, `decayed` a bad line,
+//! `padded` too much after its text, and another program has `held`. The digests are what sha256sum prints: of the sample, of 32 zeros and
+//! `1 OK` with its LF, and of that digest and `2 OK OPEN`.
 
 use crate::disk::{Disk, Kind};
 use crate::machine::{Machine, Setting};
@@ -40,6 +41,15 @@ LIMIT G1 CARRY C1 100
 REPORT E1 R1 M1 B XF6 10 101.5 H1
 REPORT E2 S1 M1 S XF6 10 101.5 H2
 ";
+
+/// Secrets: that of the sample's E1 is 32 digits, 07 sixteen times. The machine's random bytes are all 7, and the digest is that of Python's
+/// hashlib: `sha256(bytes([7] * 16) + b'07' * 16)`.
+const KEYS: &[u8] =
+    b"E1,07070707070707070707070707070707,40e450030d0b857819fc046187cddb246c4842f9a8c23810b93201ebc4e28520\n";
+
+/// The same, and the row of a firm that isn't in the sample.
+const ALIKE: &[u8] =
+    b"E1,07070707070707070707070707070707,40e450030d0b857819fc046187cddb246c4842f9a8c23810b93201ebc4e28520\nE9,07070707070707070707070707070707,40e450030d0b857819fc046187cddb246c4842f9a8c23810b93201ebc4e28520\n";
 
 /// Each task, and each fault of one.
 const RUNS: &str = "\
@@ -77,17 +87,36 @@ giveup serve house 9878 --journal alien --resume < x -> 1 house +alien ; ; giveu
 giveup serve house 9878 --journal edited --resume < x -> 1 house +edited ; ; giveup: journal: Differs 1/giveup: edited: its lines don't lead to the answers that it has a digest of/
 giveup serve house 9878 --journal decayed --resume < x -> 1 house +decayed ; ; giveup: journal: bad line 4/giveup: decayed: the line isn't one that may be there/
 giveup serve house 9878 --journal padded --resume < x -> 1 house +padded ; ; giveup: journal: Damaged/giveup: padded: more is after its text than a torn batch, and it is left as it is/
+giveup serve house 9878 --secrets keys < x -> 1 house keys 127.0.0.1:9878 ; ; giveup: read fault/
+giveup serve house 9878 --secrets gone < x -> 1 house gone ; ; giveup: secrets: ReadFault/giveup: gone: entity not found/
+giveup serve house 9878 --secrets alike < x -> 1 house alike ; ; giveup: secrets: BadRow 2/giveup: alike: line 2 isn't a row of a firm of the reference/
+giveup serve lost 9878 --secrets gone < x -> 1 lost ; ; giveup: reference: ReadFault/
+giveup serve house 9878 --secrets keys --script two < x -> 1 house keys two ; ; giveup: bad line 2/
+giveup serve house 9878 --secrets day --script two --journal log < x -> 1 house day ; ; giveup: secrets: BadRow 1/giveup: day: line 1 isn't a row of a firm of the reference/
+giveup serve house 9878 --secrets day --journal held --resume < x -> 1 house day ; ; giveup: secrets: BadRow 1/giveup: day: line 1 isn't a row of a firm of the reference/
+giveup serve house - --doors hall < x -> 1 house ; ; giveup: doors: NotMade/giveup: hall/E1: unsupported/
+giveup serve house - < x -> 2 ; ; error: the following required arguments were not provided:/  --doors <FOLDER>//Usage: giveup serve [OPTIONS] <REF> <PORT>//For more information, try '--help'./
+giveup secret E1 < x -> 0 ; E1,07070707070707070707070707070707,40e450030d0b857819fc046187cddb246c4842f9a8c23810b93201ebc4e28520/; 554=07070707070707070707070707070707/
+giveup secret e1 < x -> 2 ; ; error: invalid value for '<FIRM>': a firm is 1 to 12 of A-Z, 0-9 and -//Usage: giveup secret <FIRM>//For more information, try '--help'./
 giveup serve house 0 < x -> 2 ; ; error: invalid value '0' for '<PORT>': 0 is not in 1..=65535//For more information, try '--help'./
 ";
 
 /// The same where standard error takes nothing: the status alone shows the fault.
 const UNHEARD: &str = "\
 giveup check < SHEET G1 0/ -> 1 ; ;
+giveup secret E1 < x -> 1 ; E1,07070707070707070707070707070707,40e450030d0b857819fc046187cddb246c4842f9a8c23810b93201ebc4e28520/;
 giveup claim < x -> 2 ; ;
 ";
 
-/// The same where there are no random bytes: tables of ids would have no seed, so nothing is opened or read but a sheet.
+/// The same where standard output takes nothing: a secret whose row is lost is shown to nobody.
+const UNSHOWN: &str = "\
+giveup secret E1 < x -> 1 ; ; giveup: write fault/
+";
+
+/// The same where there are no random bytes: tables of ids would have no seed, so nothing is opened or read but a sheet, and no secret is
+/// issued.
 const UNSEEDED: &str = "\
+giveup secret E1 < x -> 1 ; ; giveup: read fault/
 giveup < x -> 1 ; ; giveup: read fault/
 giveup replay house < DAY 20260105/ -> 1 ; ; giveup: read fault/
 giveup fix E1 house < x -> 1 ; ; giveup: read fault/
@@ -121,6 +150,7 @@ const SERVED: &str = "\
 giveup serve house 9878 --script day --connections 1 < 8=FIXT.1.1|9=66|35=A|49=E1|56=GIVEUP|34=1|52=20260105-09:00:00|98=0|108=30|1137=9|10=004|8=FIXT.1.1|9=112|35=AE|49=E1|56=GIVEUP|34=2|52=20260105-09:00:00|571=R1|880=M1|55=XF6|32=10|31=101.5|75=20260105|552=1|54=1|1=H1|10=236| -> 0 house day 127.0.0.1:9878 ; ENTRIES 2/SWEPT 0/AUDIT OK/;
 giveup serve house 9878 --script day --connections 1 --journal log < 8=FIXT.1.1|9=66|35=A|49=E1|56=GIVEUP|34=1|52=20260105-09:00:00|98=0|108=30|1137=9|10=004|8=FIXT.1.1|9=112|35=AE|49=E1|56=GIVEUP|34=2|52=20260105-09:00:00|571=R1|880=M1|55=XF6|32=10|31=101.5|75=20260105|552=1|54=1|1=H1|10=236| -> 0 house day +log +log.new !log.new 127.0.0.1:9878 log.new=log . !. !log.new ; ENTRIES 2/SWEPT 0/AUDIT OK/; ; # giveup 0.1.0, proved with rattle-kit-13f (logic dac8208d650f15bf)/# reference: SHA-256 8167b5abead291b098903bd30fe0583fc384d2e678c4feae8d5f0182aa6165f4/# opened: 2026-01-05T09:00:00Z/DAY 20260105/# 1 087463b66c4a0bef301fae1c9da17125a35ee073bc886113b17bdebdcc15eb43/# 20260105-09:00:00.000 E1 1 2/REPORT E1 R1 M1 B XF6 10 101.5 H1/# 2 f7a1e81ddc4699d97f0dd50273a849abc37ad8ffdbf90d5a612000d801439a2a/
 giveup serve house 9878 --script day --connections 1 --journal worn < 8=FIXT.1.1|9=66|35=A|49=E1|56=GIVEUP|34=1|52=20260105-09:00:00|98=0|108=30|1137=9|10=004|8=FIXT.1.1|9=112|35=AE|49=E1|56=GIVEUP|34=2|52=20260105-09:00:00|571=R1|880=M1|55=XF6|32=10|31=101.5|75=20260105|552=1|54=1|1=H1|10=236| -> 1 house day +worn +worn.new !worn.new 127.0.0.1:9878 worn.new=worn . !. ; ; giveup: write fault/giveup: worn: no storage space; entries that it has: 1/
+giveup serve house 9878 --script day --secrets keys --connections 1 < 8=FIXT.1.1|9=103|35=A|49=E1|56=GIVEUP|34=1|52=20260105-09:00:00|98=0|108=30|554=07070707070707070707070707070707|1137=9|10=120|8=FIXT.1.1|9=112|35=AE|49=E1|56=GIVEUP|34=2|52=20260105-09:00:00|571=R1|880=M1|55=XF6|32=10|31=101.5|75=20260105|552=1|54=1|1=H1|10=236| -> 0 house keys day 127.0.0.1:9878 ; ENTRIES 2/SWEPT 0/AUDIT OK/;
 giveup serve house 9878 --script traded --connections 1 --every 0 < 8=FIXT.1.1|9=66|35=A|49=E1|56=GIVEUP|34=1|52=20260105-09:00:00|98=0|108=30|1137=9|10=004|8=FIXT.1.1|9=93|35=J|49=E1|56=GIVEUP|34=2|52=20260105-09:00:00|70=L1|71=0|53=10|124=1|17=R1|78=1|79=A1|80=10|10=229| -> 0 house traded 127.0.0.1:9878 ; ENTRIES 8/SWEPT 0/AUDIT OK/;
 giveup serve house 9878 --script traded --connections 1 --every 1 < 8=FIXT.1.1|9=66|35=A|49=E1|56=GIVEUP|34=1|52=20260105-09:00:00|98=0|108=30|1137=9|10=004|8=FIXT.1.1|9=93|35=J|49=E1|56=GIVEUP|34=2|52=20260105-09:00:00|70=L1|71=0|53=10|124=1|17=R1|78=1|79=A1|80=10|10=229| -> 0 house traded 127.0.0.1:9878 ; ENTRIES 9/SWEPT 10/AUDIT OK/;
 ";
@@ -130,9 +160,9 @@ const UNPRINTED: &str = "\
 giveup serve house 9878 --script day --connections 1 --journal log < 8=FIXT.1.1|9=66|35=A|49=E1|56=GIVEUP|34=1|52=20260105-09:00:00|98=0|108=30|1137=9|10=004|8=FIXT.1.1|9=112|35=AE|49=E1|56=GIVEUP|34=2|52=20260105-09:00:00|571=R1|880=M1|55=XF6|32=10|31=101.5|75=20260105|552=1|54=1|1=H1|10=236| -> 1 house day +log +log.new !log.new 127.0.0.1:9878 log.new=log . !. !log.new ; ; giveup: write fault/; # giveup 0.1.0, proved with rattle-kit-13f (logic dac8208d650f15bf)/# reference: SHA-256 8167b5abead291b098903bd30fe0583fc384d2e678c4feae8d5f0182aa6165f4/# opened: 2026-01-05T09:00:00Z/DAY 20260105/# 1 087463b66c4a0bef301fae1c9da17125a35ee073bc886113b17bdebdcc15eb43/# 20260105-09:00:00.000 E1 1 2/REPORT E1 R1 M1 B XF6 10 101.5 H1/# 2 f7a1e81ddc4699d97f0dd50273a849abc37ad8ffdbf90d5a612000d801439a2a/
 ";
 
-/// A day that goes on: of its journal a torn line is cut off.
+/// A day that goes on: of its journal a torn line is cut off, and the digest of what is left comes again.
 const RESUMED: &str = "\
-giveup serve house 9878 --script gone --connections 1 --journal log --resume < 8=FIXT.1.1|9=66|35=A|49=E1|56=GIVEUP|34=1|52=20260105-09:00:00|98=0|108=30|1137=9|10=004|8=FIXT.1.1|9=112|35=AE|49=E1|56=GIVEUP|34=2|52=20260105-09:00:00|571=R1|880=M1|55=XF6|32=10|31=101.5|75=20260105|552=1|54=1|1=H1|10=236| -> 0 house +log !log 127.0.0.1:9878 !log ; ENTRIES 2/SWEPT 0/AUDIT OK/; giveup: log: bytes cut after its last whole line: 6/; # giveup 0.1.0, proved with rattle-kit-13f (logic dac8208d650f15bf)/# reference: SHA-256 8167b5abead291b098903bd30fe0583fc384d2e678c4feae8d5f0182aa6165f4/# opened: 2026-01-05T09:00:00Z/DAY 20260105/# 1 087463b66c4a0bef301fae1c9da17125a35ee073bc886113b17bdebdcc15eb43/# giveup 0.1.0, proved with rattle-kit-13f (logic dac8208d650f15bf)/# resumed: 2026-01-05T09:00:00Z/# 20260105-09:00:00.000 E1 1 2/REPORT E1 R1 M1 B XF6 10 101.5 H1/# 2 f7a1e81ddc4699d97f0dd50273a849abc37ad8ffdbf90d5a612000d801439a2a/
+giveup serve house 9878 --script gone --connections 1 --journal log --resume < 8=FIXT.1.1|9=66|35=A|49=E1|56=GIVEUP|34=1|52=20260105-09:00:00|98=0|108=30|1137=9|10=004|8=FIXT.1.1|9=112|35=AE|49=E1|56=GIVEUP|34=2|52=20260105-09:00:00|571=R1|880=M1|55=XF6|32=10|31=101.5|75=20260105|552=1|54=1|1=H1|10=236| -> 0 house +log !log 127.0.0.1:9878 !log ; ENTRIES 2/SWEPT 0/AUDIT OK/; giveup: log: bytes cut after its last whole line: 6/; # giveup 0.1.0, proved with rattle-kit-13f (logic dac8208d650f15bf)/# reference: SHA-256 8167b5abead291b098903bd30fe0583fc384d2e678c4feae8d5f0182aa6165f4/# opened: 2026-01-05T09:00:00Z/DAY 20260105/# 1 087463b66c4a0bef301fae1c9da17125a35ee073bc886113b17bdebdcc15eb43/# giveup 0.1.0, proved with rattle-kit-13f (logic dac8208d650f15bf)/# resumed: 2026-01-05T09:00:00Z/# 1 087463b66c4a0bef301fae1c9da17125a35ee073bc886113b17bdebdcc15eb43/# 20260105-09:00:00.000 E1 1 2/REPORT E1 R1 M1 B XF6 10 101.5 H1/# 2 f7a1e81ddc4699d97f0dd50273a849abc37ad8ffdbf90d5a612000d801439a2a/
 ";
 
 /// The head of the sample's journal, and a day.
@@ -240,6 +270,8 @@ fn told<R: Threads + Wait + Sync + Alloc<A = Global>>(
             ("two", b"DAY 20260105\nDAY\n"),
             ("amiss", AMISS),
             ("traded", TRADED),
+            ("keys", KEYS),
+            ("alike", ALIKE),
             (".", b""),
         ],
         input: input.as_bytes(),
@@ -314,6 +346,11 @@ fn at_a_terminal_it_is_said_what_is_waited_for_and_what_is_at_fault(rt: HostRunt
 #[test]
 fn a_fault_that_nobody_hears_has_its_status(rt: HostRuntime) {
     check(&rt, Setting::Unheard, UNHEARD);
+}
+
+#[test]
+fn a_secret_whose_row_cant_be_printed_is_shown_to_nobody(rt: HostRuntime) {
+    check(&rt, Setting::Unprinted, UNSHOWN);
 }
 
 #[test]

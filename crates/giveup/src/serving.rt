@@ -1,16 +1,18 @@
-//! The server: a day at a desk, on a port of this machine and at the sockets of operators.
+//! The server: a day at a desk, on a port of this machine or at doors of firms, and at the sockets of operators.
 
 ghost use Rattle.std.specs.Prelude.{◌≡◌, ◌≤◌, IfOk, IfSome};
 ghost use Rattle.std.proofs.Props.{props};
-ghost use Rattle.gu_keeping.specs.Chains.{chain_of};
+ghost use Rattle.gu_keeping.specs.Chains.{IsChainOf};
 
-use crate::error::{ConsoleFault, RunError};
+use crate::error::{ConsoleFault, DoorsFault, RunError};
 use crate::fault::{Fault, Place};
 use gu_journal::Sink;
-use gu_office::{Addresses, ListenError};
+use gu_office::{Addresses, FirmDoors, ListenError};
+use gu_secrets::Secrets;
 use gu_server::{DayJournal, Front, Opening, Served, Service, serve_day};
 use gu_sockets::{Doorway, ListenFault};
 use gu_streams::StreamError;
+use gu_terms::FirmId;
 use gu_words::{Serving, Span, UntilClosed};
 use gu_world::World;
 use std::alloc::{AllocError, Global};
@@ -25,10 +27,15 @@ use std::thread::Threads;
 /// How many workers there are at most.
 const MOST_WORKERS: usize = 60;
 
-/// Returns where firms and operators come in.
-fn addresses_of<'a>(serving: &Serving<'a>) -> Addresses<'a> {
+/// Returns where firms and operators come in. These are the firms of the reference.
+fn addresses_of<'a, 'f>(serving: &Serving<'a>, firms: &'f [FirmId]) -> Addresses<'a, 'f> {
+    let doors = match serving.doors {
+        Some(folder) => Some(FirmDoors { folder, firms }),
+        None => None,
+    };
     Addresses {
         port: serving.port,
+        doors,
         console: serving.console(),
         watch: serving.watch,
     }
@@ -82,50 +89,94 @@ fn service_of<R: Threads>(rt: &R, serving: &Serving<'_>) -> Service {
     service.with_operators(serving.console().is_some(), serving.watch.is_some())
 }
 
-/// Returns what is wrong where something can't be listened at. A port that can't be had is a fault in reading.
-fn fault_of<'a>(serving: &Serving<'a>, error: ListenError<'a>) -> Fault<'a> {
-    let read = RunError::from(StreamError::Read);
-    match error {
-        ListenError::Port(cause) => Fault::refused(Place::Port(serving.port), cause, read),
-        ListenError::Socket(path, ListenFault::Io(cause)) => {
-            Fault::refused(
-                Place::File(path),
-                cause,
-                RunError::Console(ConsoleFault::NotMade),
-            )
-        }
-        ListenError::Socket(path, ListenFault::InUse) => {
-            Fault::at(Place::File(path), RunError::Console(ConsoleFault::InUse))
-        }
-        ListenError::Socket(path, ListenFault::NotASocket) => {
-            Fault::at(
-                Place::File(path),
-                RunError::Console(ConsoleFault::NotASocket),
-            )
-        }
+/// Returns what a socket of operators that can't be had is to the run.
+fn console_error(fault: &ListenFault) -> RunError {
+    RunError::Console(match fault {
+        ListenFault::InUse => ConsoleFault::InUse,
+        ListenFault::NotASocket => ConsoleFault::NotASocket,
+        ListenFault::Io(_) => ConsoleFault::NotMade,
+    })
+}
+
+/// Returns what a door of a firm that can't be had is to the run.
+fn door_error(fault: &ListenFault) -> RunError {
+    RunError::Doors(match fault {
+        ListenFault::InUse => DoorsFault::InUse,
+        ListenFault::NotASocket => DoorsFault::NotASocket,
+        ListenFault::Io(_) => DoorsFault::NotMade,
+    })
+}
+
+/// Returns what is wrong where a socket can't be had, and what it is to the run.
+fn socket_fault<'a>(place: Place<'a>, fault: &ListenFault, error: RunError) -> Fault<'a> {
+    match fault {
+        ListenFault::Io(cause) => Fault::refused(place, *cause, error),
+        ListenFault::InUse | ListenFault::NotASocket => Fault::at(place, error),
     }
 }
 
-/// Listens at the sockets of operators and at the port.
+/// Returns the bytes of a firm's name, with zeros after them.
+fn padded(firm: &FirmId) -> [u8; 12] {
+    let mut name = [0; 12];
+    for (to, from) in name.iter_mut().zip(firm.get()) {
+        *to = *from;
+    }
+    name
+}
+
+/// Returns the place of firms: the port, if there is one, and else the folder of their doors.
+fn firms_place<'a>(serving: &Serving<'a>) -> Place<'a> {
+    match serving.port {
+        Some(port) => Place::Port(port),
+        None => Place::File(serving.doors.unwrap_or("")),
+    }
+}
+
+/// Returns what is wrong where something can't be listened at. A port that can't be had is a fault in reading.
+fn fault_of<'a>(serving: &Serving<'a>, error: &ListenError<'a>) -> Fault<'a> {
+    match error {
+        ListenError::Port(cause) => {
+            let read = RunError::from(StreamError::Read);
+            Fault::refused(firms_place(serving), *cause, read)
+        }
+        ListenError::TooFewDescriptors(doors) => {
+            let error = RunError::Doors(DoorsFault::TooFewFiles(*doors));
+            Fault::at(firms_place(serving), error)
+        }
+        ListenError::Socket(path, fault) => {
+            socket_fault(Place::File(path), fault, console_error(fault))
+        }
+        ListenError::Door {
+            folder,
+            firm,
+            fault,
+        } => socket_fault(Place::Door(folder, padded(firm)), fault, door_error(fault)),
+    }
+}
+
+/// Listens at the sockets of operators, at the doors of firms and at the port. These are the firms of the reference.
 pub fn listen<'a, R: Files + Net<Listener = TcpListener, Stream = TcpStream> + Alloc<A = Global>>(
     rt: &R,
     serving: &Serving<'a>,
+    firms: &[FirmId],
 ) -> Result<Front<Doorway>, Fault<'a>> {
-    match addresses_of(serving).listen(rt, rt.alloc()) {
+    match addresses_of(serving, firms).listen(rt, rt.alloc()) {
         Ok(front) => Ok(front),
-        Err(error) => Err(fault_of(serving, error)),
+        Err(error) => Err(fault_of(serving, &error)),
     }
 }
 
-/// The world that a script or a journal led to, and the journal that has its entries, if the day has one.
+/// The world that a script or a journal led to, the journal that has its entries, if the day has one, and the secrets of firms, if they have
+/// any.
 #[derive(Drop)]
 pub struct Begun<K: Sink> {
     pub world: World,
     pub journal: Option<DayJournal<K>>,
-    ghost journaled: { IfSome journal (λ j. j.chain ≡ chain_of world.state.book.history) } by { Prim.hlevel props },
+    pub secrets: Option<Secrets>,
+    ghost journaled: { IfSome journal (λ j. IsChainOf j.chain world.state.book.history) } by { Prim.hlevel props },
 }
 
-/// Returns what a server begins a day with: a book, the receipts of its entries, its journal, and what its words say.
+/// Returns what a server begins a day with: a book, the receipts of its entries, its journal, the secrets of firms, and what its words say.
 fn opening_of<K: Sink + Drop>(
     alloc: Global,
     begun: Begun<K>,
@@ -133,11 +184,17 @@ fn opening_of<K: Sink + Drop>(
     every: u16,
 ) -> Result<Opening<K>, AllocError>
     ensures served { IfOk result (λ opening. (opening.service ≡ service) × (opening.every ≡ every)) }
+    ensures secrets { IfOk result (λ opening. opening.secrets ≡ begun.secrets) }
 {
-    let Begun { world, journal } = begun;
+    let Begun {
+        world,
+        journal,
+        secrets,
+    } = begun;
     let receipts = world.outcomes().receipts(alloc)?;
     let mut opening = Opening::new(alloc, world.into_book(), receipts, journal, service)?;
     opening.every = u64::from(every);
+    opening.secrets = secrets;
     Ok(opening)
 }
 

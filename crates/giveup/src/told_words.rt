@@ -125,6 +125,22 @@ fn span_text(alloc: Global, span: Span<'_>) -> Result<String, AllocError> {
     }
 }
 
+/// The port of a server, as a word.
+fn port_text(alloc: Global, port: Option<u16>) -> Result<String, AllocError> {
+    match port {
+        Some(port) => format!(in alloc; "{port}"),
+        None => String::from_str(alloc, "no port"),
+    }
+}
+
+/// A path with what it is, where it is named.
+fn named_text(alloc: Global, what: &str, path: Option<&str>) -> Result<String, AllocError> {
+    match path {
+        Some(path) => format!(in alloc; ", {what} {path}"),
+        None => Ok(String::new(alloc)),
+    }
+}
+
 /// What a server is started with, as words.
 fn serving_text(alloc: Global, serving: Serving<'_>) -> Result<String, AllocError> {
     let Serving {
@@ -135,7 +151,10 @@ fn serving_text(alloc: Global, serving: Serving<'_>) -> Result<String, AllocErro
         span,
         every,
         watch,
+        doors,
+        secrets,
     } = serving;
+    let port = port_text(alloc, port)?;
     let script = script.unwrap_or("no script");
     let (journal, goes_on) = match journal {
         Some(Journal { path, resumes }) => (path, if resumes { " resumed" } else { "" }),
@@ -143,8 +162,10 @@ fn serving_text(alloc: Global, serving: Serving<'_>) -> Result<String, AllocErro
     };
     let watch = watch.unwrap_or("no watch");
     let span = span_text(alloc, span)?;
+    let doors = named_text(alloc, "doors", doors)?;
+    let secrets = named_text(alloc, "secrets", secrets)?;
     format!(in alloc;
-        "serve {reference} {port}, {script}, {journal}{goes_on}, {span}, {watch}, {every}"
+        "serve {reference} {port}, {script}, {journal}{goes_on}, {span}, {watch}, {every}{doors}{secrets}"
     )
 }
 
@@ -174,6 +195,7 @@ fn task_text(alloc: Global, task: Task<'_>) -> Result<String, AllocError> {
         }
         Task::Serve(serving) => serving_text(alloc, serving),
         Task::Tell { path, lines } => telling_text(alloc, path, &lines),
+        Task::Secret { firm } => format!(in alloc; "secret {firm}"),
     }
 }
 

@@ -2,7 +2,7 @@
 
 use crate::rows::check_told;
 use crate::told_words::{Telling, check, error_text};
-use gu_words::firm_named;
+use gu_words::{FirmCommand, firm_named};
 use std::alloc::{AllocError, Global};
 use trials::columns;
 
@@ -38,6 +38,23 @@ giveup serve house.csv 9878 --connections 1024 --until-closed --console desk -> 
 giveup serve house.csv 9878 --until-closed --console desk --workers 1 -> serve house.csv 9878, no script, no journal, 8 at once, desk, workers 1, no watch, 16
 giveup serve house.csv 9878 --until-closed --console desk --workers=60 --journal log -> serve house.csv 9878, no script, log, 8 at once, desk, workers 60, no watch, 16
 giveup serve --console desk -- --until-closed 9878 -> serve --until-closed 9878, no script, no journal, 8 in all, desk, no watch, 16
+giveup serve house.csv - --doors hall -> serve house.csv no port, no script, no journal, 8 in all, no console, no watch, 16, doors hall
+giveup serve --doors=hall house.csv - -> serve house.csv no port, no script, no journal, 8 in all, no console, no watch, 16, doors hall
+giveup serve house.csv - --doors hall --secrets keys -> serve house.csv no port, no script, no journal, 8 in all, no console, no watch, 16, doors hall, secrets keys
+giveup serve house.csv 9878 --secrets keys -> serve house.csv 9878, no script, no journal, 8 in all, no console, no watch, 16, secrets keys
+giveup serve house.csv 9878 --doors hall --secrets=keys -> serve house.csv 9878, no script, no journal, 8 in all, no console, no watch, 16, doors hall, secrets keys
+giveup serve house.csv 65535 --secrets keys --doors hall --until-closed --console hall -> serve house.csv 65535, no script, no journal, 8 at once, hall, no watch, 16, doors hall, secrets keys
+giveup serve house.csv 9878 --console desk --watch keys --secrets keys -> serve house.csv 9878, no script, no journal, 8 in all, desk, keys, 16, secrets keys
+giveup serve - 9878 -> serve - 9878, no script, no journal, 8 in all, no console, no watch, 16
+giveup serve - - --doors - -> serve - no port, no script, no journal, 8 in all, no console, no watch, 16, doors -
+giveup serve house.csv 9878 --script - -> serve house.csv 9878, -, no journal, 8 in all, no console, no watch, 16
+giveup serve house.csv 9878 --script - --journal - -> serve house.csv 9878, -, -, 8 in all, no console, no watch, 16
+giveup serve house.csv --doors hall -- - -> serve house.csv no port, no script, no journal, 8 in all, no console, no watch, 16, doors hall
+giveup serve house.csv +9878 -> serve house.csv 9878, no script, no journal, 8 in all, no console, no watch, 16
+giveup replay - -> replay -
+giveup fix E1 - --script - -> fix E1 -, -
+giveup secret E1 -> secret E1
+giveup secret -- -E -> secret -E
 giveup tell desk -> tell desk
 giveup tell desk CLOSE -> tell desk, CLOSE
 giveup tell desk STATUS CLOSE -> tell desk, STATUS, CLOSE
@@ -55,6 +72,9 @@ giveup serve --help -> DisplayHelp 0
 giveup serve house.csv 9878 -h -> DisplayHelp 0
 giveup help serve -> DisplayHelp 0
 giveup serve --until-closed --help -> DisplayHelp 0
+giveup serve house.csv - --help -> DisplayHelp 0
+giveup secret --help -> DisplayHelp 0
+giveup help secret -> DisplayHelp 0
 giveup tell --help -> DisplayHelp 0
 giveup help tell -> DisplayHelp 0
 ";
@@ -121,6 +141,29 @@ giveup serve house.csv 9878 --until-closed --console desk --workers -> InvalidVa
 giveup fix E1 house.csv --console desk -> UnknownArgument 2
 giveup replay house.csv --until-closed -> UnknownArgument 2
 giveup check --workers 2 -> UnknownArgument 2
+giveup serve house.csv - -> MissingRequiredArgument 2
+giveup serve house.csv - --secrets keys -> MissingRequiredArgument 2
+giveup serve house.csv - --until-closed --console desk -> MissingRequiredArgument 2
+giveup serve house.csv 9878 --doors hall -> MissingRequiredArgument 2
+giveup serve house.csv 0 --doors hall -> ValueValidation 2
+giveup serve house.csv 0 --resume -> ValueValidation 2
+giveup serve house.csv 0 --workers 4 -> ValueValidation 2
+giveup serve house.csv -- -1 -> ValueValidation 2
+giveup serve house.csv -- -- -> ValueValidation 2
+giveup serve house.csv 9878- -> ValueValidation 2
+giveup serve house.csv --doors hall -> MissingRequiredArgument 2
+giveup serve - --doors hall -> MissingRequiredArgument 2
+giveup serve house.csv - - --doors hall -> UnknownArgument 2
+giveup serve house.csv - --doors -> InvalidValue 2
+giveup serve house.csv - --doors hall --doors hall -> ArgumentConflict 2
+giveup serve house.csv - --doors hall --resume -> MissingRequiredArgument 2
+giveup serve house.csv 9878 --secrets -> InvalidValue 2
+giveup serve house.csv 9878 --secrets keys --secrets keys -> ArgumentConflict 2
+giveup fix E1 house.csv --secrets keys -> UnknownArgument 2
+giveup replay house.csv --doors hall -> UnknownArgument 2
+giveup secret -> MissingRequiredArgument 2
+giveup secret E1 E2 -> UnknownArgument 2
+giveup secret E1 --secrets keys -> UnknownArgument 2
 giveup tell -> MissingRequiredArgument 2
 giveup tell desk --until-closed -> UnknownArgument 2
 ";
@@ -141,9 +184,9 @@ E 1 -> InvalidValue 2
 ABCDEFGHIJKLM -> InvalidValue 2
 ";
 
-/// The firm of a name, or what is told of it.
-fn firm_told(alloc: Global, name: &str) -> Result<String, AllocError> {
-    match firm_named(alloc, name) {
+/// The firm of a name after a command, or what is told of it.
+fn firm_told(alloc: Global, command: FirmCommand, name: &str) -> Result<String, AllocError> {
+    match firm_named(alloc, command, name) {
         Ok(firm) => String::from_str(alloc, str::from_utf8(firm.get()).unwrap_or("?")),
         Err(error) => {
             let told = error_text(alloc, Telling::Kind, &error);
@@ -157,6 +200,8 @@ fn firm_told(alloc: Global, name: &str) -> Result<String, AllocError> {
 fn a_word_that_names_no_firm_is_refused_with_status_2(rt: HostRuntime) {
     for row in FIRMS.lines() {
         let (name, expected) = columns(row);
-        check_told(&rt, row, firm_told(rt.alloc(), name), expected);
+        for command in [FirmCommand::Fix, FirmCommand::Secret] {
+            check_told(&rt, row, firm_told(rt.alloc(), command, name), expected);
+        }
     }
 }
