@@ -141,7 +141,13 @@ private:
     is_logged_out = true;
     changed.notify_all();
   }
-  void toAdmin(FIX::Message &message, const FIX::SessionID &) override { note_sent(message); }
+  // A Logon has the firm's secret, if its settings have one.
+  void toAdmin(FIX::Message &message, const FIX::SessionID &session) override {
+    const FIX::Dictionary words = settings.get(session);
+    if (message.getHeader().getField(35) == "A" && words.has("Password"))
+      message.setField(554, words.getString("Password"));
+    note_sent(message);
+  }
   void toApp(FIX::Message &message, const FIX::SessionID &) throw(FIX::DoNotSend) override { note_sent(message); }
   void fromAdmin(const FIX::Message &message, const FIX::SessionID &) throw(FIX::FieldNotFound, FIX::IncorrectDataFormat, FIX::IncorrectTagValue, FIX::RejectLogon) override {
     note_came(message, false);

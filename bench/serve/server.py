@@ -24,11 +24,12 @@ def is_listening(port):
 
 
 class Server:
-    """`giveup serve` on a port of its own, until it ends by itself. `options` are further words of its command line."""
+    """`giveup serve` on a port of its own, or at the doors of `doors`, until it ends by itself. `options` are further words of its command line."""
 
-    def __init__(self, program, reference, script, connections, every=0, journal=None, limits=None, options=()):
-        self.port = free_port()
-        words = [program, 'serve', reference, str(self.port), '--script', script, '--connections', str(connections), '--every', str(every)]
+    def __init__(self, program, reference, script, connections, every=0, journal=None, limits=None, options=(), doors=None):
+        self.port = None if doors else free_port()
+        words = [program, 'serve', reference, str(self.port or '-'), '--script', script, '--connections', str(connections), '--every', str(every)]
+        words += ['--doors', doors] if doors else []
         words += ['--journal', journal] if journal else []
         words += options
         self.child = subprocess.Popen(words, stdin=subprocess.DEVNULL, stdout=subprocess.PIPE, stderr=subprocess.PIPE, preexec_fn=limits)
@@ -37,7 +38,7 @@ class Server:
         for thread in self.threads:
             thread.start()
         end = time.monotonic() + 60
-        while not is_listening(self.port):
+        while not (is_listening(self.port) if self.port else any(Path(doors).iterdir())):
             if self.child.poll() is not None or time.monotonic() > end:
                 self.stop()
                 raise SystemExit(f'the desk has no port: {self.err.decode(errors="replace")}')
