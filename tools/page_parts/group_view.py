@@ -1,0 +1,60 @@
+"""A product group as it is now: its limits as the replica lists them, what waits under each, and what holds its open offers back."""
+import collections
+
+NEAR = 0.8              # of a limit: from here on it is shown as near
+
+Limit = collections.namedtuple('Limit', 'group kind name limit use room waiting short state')
+STATES = ('blocks', 'full', 'near', 'free')
+
+
+def state_of(limit, use, room):
+    """How a limit is: it blocks (0, or never set), it is full, used to eight tenths, or free."""
+    return 'blocks' if not limit else 'full' if not room else 'near' if use >= NEAR * limit else 'free'
+
+
+class GroupView:
+    def __init__(self, day, place):
+        self.group, offers = day.reference.groups[place], day.offers
+        self.touched = day.touched[place]
+        waiting = offers.waiting[place]
+        rows = [self.limit(kind, name, limit, use, room, waiting) for kind, name, limit, use, room in day.replica.limits(self.group)]
+        self.rooms = {(row.kind, row.name): row.room for row in rows}
+        # A limit that was never set isn't listed, and blocks what waits under it.
+        rows += [self.limit(*key, None, 0, 0, waiting) for key in waiting if key not in self.rooms]
+        self.limits = rows
+        self.offers = list(offers.open[place])
+        self.held = {number: keys for number in self.offers if (keys := self.short_keys(offers, number))}
+        self.lots = offers.lots_waiting[place]
+        self.held_lots = sum(offers.left[number] for number in self.held)
+        self.proposed = day.replica.proposed(self.group) if self.offers else 0
+        self.states = collections.Counter(row.state for row in rows if row.limit or row.waiting)
+
+    def limit(self, kind, name, limit, use, room, waiting):
+        waits = waiting.get((kind, name), 0)
+        return Limit(self.group, kind, name, limit, use, room, waits, max(0, waits - room), state_of(limit, use, room))
+
+    def short_keys(self, offers, number):
+        """The keys on an offer's path that have no room for all that is left of it, with their rooms."""
+        left, rooms = offers.left[number], self.rooms
+        return tuple((*key, rooms.get(key, 0)) for key in offers.path(number) if rooms.get(key, 0) < left)
+
+
+class GroupViews:
+    """The groups of a day, each worked out again only once it has changed."""
+
+    def __init__(self, day):
+        self.day, self.kept = day, [None] * len(day.reference.groups)
+
+    def view(self, place):
+        kept = self.kept[place]
+        if kept is None or kept.touched != self.day.touched[place]:
+            kept = self.kept[place] = GroupView(self.day, place)
+        return kept
+
+    def all(self):
+        return [self.view(place) for place in range(len(self.kept))]
+
+
+def by_need(limit):
+    """The limits under which most lots lack room first, then the fuller ones."""
+    return STATES.index(limit.state) > 1, -limit.short, STATES.index(limit.state), -(limit.use / limit.limit if limit.limit else 0), -limit.waiting, limit.kind, limit.name

@@ -1,0 +1,140 @@
+"""A journal's file: its entries with their moments and origins, its digests, and what the sweeps took, as docs/OPERATING.md says."""
+import calendar
+import hashlib
+import os
+import re
+import time
+
+from .day import WORDS, Row
+
+PIECE = 1 << 20
+TAIL = 64               # bytes before the next one that are looked at again, to see whether the file is still the same
+MOMENT = re.compile(r'# (\d{8}-\d\d:\d\d:\d\d)\.(\d{3})(?: [A-Z0-9-]+ (\d+) (\d+))?')
+DIGEST = re.compile('# ([0-9]+) ([0-9a-f]{64})')
+
+
+class Replaced(Exception):
+    """The file isn't the one that was read so far."""
+
+
+class JournalFile:
+    """The lines of a file that may still be written. While it is, zeros follow its text."""
+
+    def __init__(self, path):
+        self.path, self.file, self.place, self.tail, self.is_over, self.grew = path, open(path, 'rb', buffering=0), 0, b'', False, time.time()
+
+    def lines(self):
+        """The whole lines that came since, some megabyte of them at most."""
+        self.test()
+        data = os.pread(self.file.fileno(), PIECE, self.place)
+        text, zero, _ = data.partition(b'\0')
+        text = text[:text.rfind(b'\n') + 1]
+        self.is_over = not zero and len(data) == len(text)
+        if not text:
+            return []
+        self.place += len(text)
+        self.tail = (self.tail + text)[-TAIL:]
+        self.grew = time.time()
+        return text.decode('latin-1').split('\n')[:-1]
+
+    def test(self):
+        try:
+            is_same = os.stat(self.path).st_ino == os.fstat(self.file.fileno()).st_ino
+        except OSError:
+            return              # moved away: what was read is still there
+        if not is_same or os.pread(self.file.fileno(), TAIL, self.place - len(self.tail))[:len(self.tail)] != self.tail:
+            raise Replaced
+
+    def close(self):
+        self.file.close()
+
+
+class Digests:
+    """The chain of a journal's digests, beside what the replica prints: where they agree, it answers as the desk did."""
+
+    def __init__(self):
+        self.last, self.entries, self.batch, self.is_new = bytes(32), 0, hashlib.sha256(bytes(32)), False
+
+    def add(self, answers):
+        if answers:
+            self.batch.update(('\n'.join(answers) + '\n').encode('latin-1'))
+            self.is_new = True
+
+    def agrees(self, entries, digest):
+        if self.is_new:
+            self.last, self.is_new = self.batch.digest(), False
+            self.batch = hashlib.sha256(self.last)
+        self.entries = entries
+        return self.last.hex() == digest
+
+
+class JournalText:
+    """Takes the lines of a journal, of a file or of the desk's JOURNAL, and gives a day its entries."""
+
+    def __init__(self, reference):
+        self.reference, self.digests = reference, Digests()
+        self.rows, self.marks, self.takes = [], [], {}          # of the lines that wait to be taken
+        self.moment, self.origin, self.instead = 0, (0, 0), None
+        self.second, self.base = '', 0
+        self.count, self.sweep, self.entry_of_sweep = 0, None, None     # what the desk took in the last sweep, where comments say it
+        self.fault = None
+
+    def add(self, lines, at):
+        """`at` is the moment of entries that have none in the text."""
+        for line in lines:
+            if not line.startswith('#'):
+                if line:
+                    self.add_entry(line, at)
+            elif line.startswith('# TAKE '):
+                _, _, offer, lots = line.split(' ')
+                self.sweep = {**(self.sweep or {}), int(offer): int(lots)}
+            elif line.startswith('# CUT '):
+                self.sweep = self.sweep or {}
+            elif found := MOMENT.fullmatch(line):
+                self.moment, self.origin = self.milliseconds(found[1]) + int(found[2]), (int(found[3] or 0), int(found[4] or 0))
+            elif found := DIGEST.fullmatch(line):
+                self.marks.append((len(self.rows), int(found[1]), found[2]))
+            elif line.startswith('# REPORT '):
+                self.instead = line[2:]
+            elif line.startswith('# reference: SHA-256 ') and line.split(' ')[3] != self.reference.digest:
+                self.fault = 'the journal is of another reference file'
+
+    def add_entry(self, line, at):
+        self.end_sweep()
+        self.count += 1
+        if line.partition(' ')[0] not in WORDS:
+            self.fault = f'entry {self.count:,} would be {line[:60]!r}, which no journal has'
+            return
+        self.rows.append(Row(line, self.moment or at, *self.origin, self.instead))
+        self.moment, self.origin, self.instead = 0, (0, 0), None
+        if line.startswith('SWEEP '):
+            self.entry_of_sweep = self.count
+
+    def end_sweep(self):
+        """The comments of a sweep end with the next entry."""
+        if self.entry_of_sweep:
+            self.takes[self.entry_of_sweep] = self.sweep
+        self.entry_of_sweep, self.sweep = None, None
+
+    def milliseconds(self, text):
+        if text != self.second:
+            self.second, self.base = text, calendar.timegm(time.strptime(text, '%Y%m%d-%H:%M:%S')) * 1000
+        return self.base
+
+    def give(self, day, most=2000):
+        """Gives a day the entries that wait, so many at most at a time, and compares what it can."""
+        rows, marks, self.rows, self.marks = self.rows, self.marks, [], []
+        first = 0
+        for place, entries, digest in [*marks, (len(rows), None, None)]:
+            while first < place:
+                part = rows[first:min(place, first + most)]
+                answers = day.take(part)
+                self.compare(day, answers)
+                self.digests.add(answers)
+                first += len(part)
+            if digest and not self.digests.agrees(entries, digest):
+                day.say(entries, 'the journal has another digest of the answers up to it')
+
+    def compare(self, day, answers):
+        for entry in [entry for entry in self.takes if entry <= len(day.history)]:
+            day.compare(entry, self.takes.pop(entry))

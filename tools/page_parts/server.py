@@ -1,0 +1,183 @@
+"""Answers browsers: GET and HEAD alone, on 127.0.0.1 alone, and nothing that a page elsewhere could read."""
+import collections
+import json
+import socket
+import threading
+import time
+import urllib.parse
+from pathlib import Path
+
+from .exports import metrics_of, table_of
+from .pages import page_of, state_words
+from .shown import MOST_ROWS
+
+MOST_BYTES = 8192       # of a request
+SECONDS = 10            # in which a request has to come, and an answer to go
+MOST_AT_ONCE = 64       # connections
+MOST_STREAMS = 16       # of them for events
+NAMES = ('127.0.0.1', 'localhost')
+HERE = Path(__file__).resolve().parent
+TYPES = {'html': 'text/html; charset=utf-8', 'json': 'application/json', 'csv': 'text/csv; charset=utf-8', 'sheet': 'text/plain; charset=utf-8', 'css': 'text/css; charset=utf-8',
+         'js': 'text/javascript; charset=utf-8', 'svg': 'image/svg+xml', 'text': 'text/plain; charset=utf-8', 'metrics': 'text/plain; version=0.0.4; charset=utf-8'}
+HEADERS = [
+    ('Content-Security-Policy', "default-src 'none'; style-src 'self'; script-src 'self'; img-src 'self'; connect-src 'self'; form-action 'self'; base-uri 'none'; frame-ancestors 'none'"),
+    ('X-Content-Type-Options', 'nosniff'), ('X-Frame-Options', 'DENY'), ('Referrer-Policy', 'no-referrer'), ('Cross-Origin-Resource-Policy', 'same-origin'),
+    ('Cross-Origin-Opener-Policy', 'same-origin'), ('Cache-Control', 'no-store'), ('Connection', 'close')]
+REASONS = {200: 'OK', 400: 'Bad Request', 403: 'Forbidden', 404: 'Not Found', 405: 'Method Not Allowed', 408: 'Request Timeout', 421: 'Misdirected Request',
+           431: 'Request Header Fields Too Large', 500: 'Internal Server Error', 503: 'Service Unavailable'}
+
+Request = collections.namedtuple('Request', 'method path query headers')
+Answer = collections.namedtuple('Answer', 'status type body')
+
+
+class Refused(Exception):
+    """A request that isn't answered by a page: its status, and why."""
+
+
+def read_request(line):
+    """The request that comes on a connection, or None where nothing comes."""
+    data, end = b'', time.monotonic() + SECONDS
+    while b'\r\n\r\n' not in data:
+        if len(data) > MOST_BYTES:
+            raise Refused(431, f'A request has at most {MOST_BYTES:,} bytes.')
+        line.settimeout(max(0.01, end - time.monotonic()))
+        try:
+            piece = line.recv(4096)
+        except TimeoutError:
+            raise Refused(408, 'The request did not come whole in time.') from None
+        if not piece:
+            if data:
+                raise Refused(400, 'The request is not whole.')
+            return None
+        data += piece
+    return request_of(data.partition(b'\r\n\r\n')[0].decode('latin-1').split('\r\n'))
+
+
+def request_of(lines):
+    words = lines[0].split(' ')
+    if len(words) != 3 or words[2] not in ('HTTP/1.1', 'HTTP/1.0') or not words[1].startswith('/'):
+        raise Refused(400, 'This is no request for a page.')
+    headers = {}
+    for text in lines[1:]:
+        name, colon, value = text.partition(':')
+        if not colon or name != name.strip() or name.lower() in headers:
+            raise Refused(400, 'A header is wrong, or comes twice.')
+        headers[name.lower()] = value.strip()
+    path, _, query = words[1].partition('?')
+    return Request(words[0], path, query, headers)
+
+
+def check(request):
+    """Refuses what may come from a page elsewhere, and what would change something."""
+    host = request.headers.get('host', '')
+    name, _, port = host.partition(':')
+    if name not in NAMES or port and not port.isdigit():
+        raise Refused(421, f'This page is that of {" or ".join(NAMES)} alone.')
+    if request.headers.get('origin', f'http://{host}') != f'http://{host}':
+        raise Refused(403, 'A page elsewhere may not read this one.')
+    site, mode = request.headers.get('sec-fetch-site', 'none'), request.headers.get('sec-fetch-mode', 'navigate')
+    if site not in ('none', 'same-origin') and mode != 'navigate':
+        raise Refused(403, 'A page elsewhere may not read this one.')
+    if request.method not in ('GET', 'HEAD'):
+        raise Refused(405, 'This page changes nothing: GET and HEAD alone.')
+    if request.headers.get('content-length', '0') != '0' or 'transfer-encoding' in request.headers:
+        raise Refused(400, 'A request has no body.')
+
+
+class Server:
+    def __init__(self, following, shown, clock, port):
+        self.following, self.shown, self.clock = following, shown, clock
+        self.places, self.streams = threading.Semaphore(MOST_AT_ONCE), threading.Semaphore(MOST_STREAMS)
+        # The only files that are served, read once: no path of a request reaches a file.
+        self.files = {f'/{name}': (name.rpartition('.')[2], (HERE / name).read_bytes()) for name in ('page.css', 'page.js', 'icon.svg')}
+        self.listener = socket.create_server(('127.0.0.1', port), backlog=64)
+        self.port = self.listener.getsockname()[1]
+
+    def serve(self):
+        while True:
+            line, _ = self.listener.accept()
+            if self.places.acquire(blocking=False):
+                threading.Thread(target=self.talk, args=(line,), daemon=True).start()
+            else:
+                line.close()
+
+    def talk(self, line):
+        with line:
+            try:
+                self.answer(line)
+            except OSError:
+                pass            # it is gone, or doesn't read
+            finally:
+                self.places.release()
+
+    def answer(self, line):
+        is_head = False
+        try:
+            request = read_request(line)
+            if request is None:
+                return
+            is_head = request.method == 'HEAD'
+            check(request)
+            line.settimeout(SECONDS)
+            if request.path == '/events' and not is_head:
+                self.stream(line)
+                return
+            answer = self.page(request)
+        except Refused as refused:
+            answer = Answer(refused.args[0], 'text', refused.args[1] + '\n')
+        except Exception as error:          # a fault of the page is said, and ends no one else's
+            answer = Answer(500, 'text', f'This page failed: {type(error).__name__}: {error}\n')
+        body = answer.body if isinstance(answer.body, bytes) else answer.body.encode()
+        more = [('Allow', 'GET, HEAD')] if answer.status == 405 else []
+        line.settimeout(SECONDS)
+        line.sendall(head_of(answer.status, answer.type, [('Content-Length', len(body)), *more]) + (b'' if is_head else body))
+
+    def page(self, request):
+        path = urllib.parse.unquote(request.path, 'latin-1')
+        if path in self.files:
+            return Answer(200, *self.files[path])
+        if path == '/metrics':
+            return Answer(200, 'metrics', metrics_of(self.following))
+        parts, form = parts_of(path)
+        asked = dict(urllib.parse.parse_qsl(request.query, encoding='latin-1', max_num_fields=10))
+        if form == 'csv':
+            asked['rows'] = str(MOST_ROWS)
+        values = self.shown.answer(parts, asked)
+        if values is None or form == 'csv' and parts not in (['limits'], ['offers'], ['positions']) or form == 'sheet' and (parts[0] != 'sweeps' or len(parts) != 2):
+            raise Refused(404, 'There is no such page.')
+        if form == 'json':
+            return Answer(200, 'json', json.dumps({name: value for name, value in values.items() if not name.startswith('_')}, indent=1) + '\n')
+        if form == 'csv':
+            return Answer(200, 'csv', table_of(parts[0], values['rows']))
+        if form == 'sheet':
+            return Answer(200, 'sheet', '\n'.join(values['sheet']) + '\n')
+        return Answer(200, 'html', page_of(values, parts, request.query, self.clock.name))
+
+    def stream(self, line):
+        """Says how it goes each second, and at once if something has changed."""
+        if not self.streams.acquire(blocking=False):
+            raise Refused(503, f'{MOST_STREAMS} pages renew themselves already.')
+        try:
+            line.sendall(head_of(200, 'event-stream', []))
+            seen = -1
+            while True:
+                seen, state = self.following.wait(seen, 1), self.following.state()
+                line.sendall(f'data: {json.dumps(dict(change=seen, level=state["level"], word=state["word"], text=state["text"], facts=[*state_words(state)[1:]]))}\n\n'.encode())
+                time.sleep(0.1)         # many changes at once are one event
+        finally:
+            self.streams.release()
+
+
+def parts_of(path):
+    """The parts of a path, and the form that is asked for by its ending."""
+    stem, dot, form = path.rpartition('.')
+    if not dot or form not in ('json', 'csv', 'sheet'):
+        stem, form = path, 'html'
+    parts = stem.strip('/').split('/')
+    return ['overview'] if parts == [''] else parts, form
+
+
+def head_of(status, form, headers):
+    kind = 'text/event-stream' if form == 'event-stream' else TYPES[form]
+    lines = [f'HTTP/1.1 {status} {REASONS[status]}', f'Content-Type: {kind}', *(f'{name}: {value}' for name, value in [*headers, *HEADERS])]
+    return ('\r\n'.join(lines) + '\r\n\r\n').encode()
