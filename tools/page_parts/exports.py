@@ -66,7 +66,7 @@ def metrics_of(following):
         add('offers_open', 'gauge', 'Open offers.', *((len(view.offers), dict(group=view.group)) for view in views))
         add('lots_waiting', 'gauge', 'Lots that wait in open offers.', *((view.lots, dict(group=view.group)) for view in views))
         add('lots_held_back', 'gauge', 'Lots of open offers for which a limit lacks room.', *((view.held_lots, dict(group=view.group)) for view in views))
-        add('lots_swept_now', 'gauge', 'Lots that a sweep would take now.', *((view.proposed, dict(group=view.group)) for view in views))
+        add('lots_swept_now', 'gauge', 'Lots that a sweep would take now.', *((view.proposed, dict(group=view.group)) for view in views if view.proposed is not None))
         add('limits', 'gauge', 'Limits by how they are.', *((view.states[name], dict(group=view.group, state=name)) for view in views for name in ('blocks', 'full', 'near', 'free')))
         add('limits_short', 'gauge', 'Limits under which more lots wait than have room.', *((sum(bool(row.short) for row in view.limits), dict(group=view.group)) for view in views))
         add('lots_swept', 'gauge', 'Lots that sweeps took since the day was opened.', (day.swept, {}))

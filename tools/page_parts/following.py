@@ -81,9 +81,15 @@ class Following:
         lines = self.file.lines()
         self.take(lines)
         if not lines:
-            self.is_read = True
+            self.read_whole()
             time.sleep(POLL)
         return not self.fault
+
+    def read_whole(self):
+        if not self.is_read:
+            self.views.warm()
+            self.is_read = True
+            self.change()
 
     def take(self, lines):
         if lines:
@@ -142,7 +148,8 @@ class Following:
             self.compare()
             self.change()
         is_last = entries < STRETCH and self.matched >= len(self.day.history)
-        self.is_read = self.is_read or is_last
+        if is_last:
+            self.read_whole()
         time.sleep(max(0, (POLL if is_last else PACE) - (time.monotonic() - since)))
 
     def unknown(self, lines):
@@ -186,6 +193,8 @@ class Following:
             return 'bad', 'stopped', f'{self.fault}. {shown} Start the page again once that is mended.'
         if self.day.differs:
             return 'bad', 'differs', f'The replica is not a copy of the desk, {self.day.differs}. Trust the desk\'s own answers. Is the page started with the desk\'s reference and program?'
+        if self.watch and self.gone and self.is_closed():
+            return 'over', 'closed', f'The desk was closed, and its day has ended. {shown}'
         if self.watch and self.gone:
             seconds = int(now - self.gone_since)
             return 'bad', 'no desk', f'The desk can\'t be reached at {self.watch} for {seconds:,} s: {self.gone}. {shown} The page goes on trying.'
@@ -201,6 +210,10 @@ class Following:
             return 'warn', 'behind', f'{behind:,} entries behind the desk for {int(now - self.behind_since)} s.'
         return 'good', 'open', 'The desk answers, and what is shown is what it has.'
 
+    def is_closed(self):
+        """Whether the desk that is gone was closed, by what it said last or by its journal; a desk that was killed leaves zeros there."""
+        return self.desk is not None and self.desk.state == 'CLOSING' or self.file is not None and self.is_read and self.file.is_over
+
     def reading(self, entries):
         if self.journal and not self.file:
             return f'There is no file {self.journal} yet.'
@@ -209,5 +222,5 @@ class Following:
 
     def words_of_file(self, entries, now):
         if self.file.is_over:
-            return 'over', 'ended', 'This day has ended, or its journal was copied: no zeros follow its text.'
+            return 'over', 'ended', 'This day has ended: its journal is complete. Nothing changes any more.'
         return 'good', 'journal', f'The journal is being written; its last line came {int(now - self.file.grew):,} s ago. Whether the desk lives, a journal alone doesn\'t say (--watch does).'

@@ -1,7 +1,10 @@
 """A product group as it is now: its limits as the replica lists them, what waits under each, and what holds its open offers back."""
 import collections
+import time
 
 NEAR = 0.8              # of a limit: from here on it is shown as near
+MOST_SECONDS = 0.25     # that a proposal may take
+LIKELY = 6              # so many times what a limit takes in LIMITS, before a proposal was seen
 
 Limit = collections.namedtuple('Limit', 'group kind name limit use room waiting short state')
 STATES = ('blocks', 'full', 'near', 'free')
@@ -13,6 +16,8 @@ def state_of(limit, use, room):
 
 
 class GroupView:
+    """`proposed` is what a sweep of the group would take now, or None where that isn't known."""
+
     def __init__(self, day, place):
         self.group, offers = day.reference.groups[place], day.offers
         self.touched = day.touched[place]
@@ -26,7 +31,7 @@ class GroupView:
         self.held = {number: keys for number in self.offers if (keys := self.short_keys(offers, number))}
         self.lots = offers.lots_waiting[place]
         self.held_lots = sum(offers.left[number] for number in self.held)
-        self.proposed = day.replica.proposed(self.group) if self.offers else 0
+        self.proposed = 0 if not self.offers else None
         self.states = collections.Counter(row.state for row in rows if row.limit or row.waiting)
 
     def limit(self, kind, name, limit, use, room, waiting):
@@ -44,15 +49,33 @@ class GroupViews:
 
     def __init__(self, day):
         self.day, self.kept = day, [None] * len(day.reference.groups)
+        self.cost = None        # seconds that the replica takes for an offer of a proposal, as it was seen
 
     def view(self, place):
         kept = self.kept[place]
         if kept is None or kept.touched != self.day.touched[place]:
+            since = time.monotonic()
             kept = self.kept[place] = GroupView(self.day, place)
+            self.propose(kept, time.monotonic() - since)
         return kept
+
+    def propose(self, view, seconds):
+        """Asks for a proposal where that isn't too long for whoever waits. A program that was built without its proofs takes a thousand times as long as a proved one."""
+        count = len(view.offers)
+        cost = self.cost if self.cost is not None else LIKELY * seconds / (1 + len(view.limits))
+        if count and cost * count <= MOST_SECONDS:
+            since = time.monotonic()
+            view.proposed = self.day.replica.proposed(view.group)
+            self.cost = (time.monotonic() - since) / count
 
     def all(self):
         return [self.view(place) for place in range(len(self.kept))]
+
+    def warm(self):
+        """Asks for all groups once, so that nobody waits for that."""
+        for place in range(len(self.kept)):
+            with self.day.lock:
+                self.view(place)
 
 
 def by_need(limit):

@@ -57,7 +57,7 @@ class Digests:
 
     def add(self, answers):
         if answers:
-            self.batch.update(('\n'.join(answers) + '\n').encode('latin-1'))
+            self.batch.update((''.join(map(shown_of, answers))).encode('latin-1'))
             self.is_new = True
 
     def agrees(self, entries, digest):
@@ -66,6 +66,16 @@ class Digests:
             self.batch = hashlib.sha256(self.last)
         self.entries = entries
         return self.last.hex() == digest
+
+
+def shown_of(answer):
+    """What a digest has of an answer: its line, and of a sweep the lines that a journal has of it, which its sheet gives too."""
+    first, sheet, lines = answer.partition('\nSHEET ')
+    if not sheet:
+        return f'{answer}\n'
+    rows = [f'SWEEP {first.split(" ")[2]}']
+    rows += [f'# {line}' for line in lines.split('\n') if line.startswith('TAKE ') and not line.endswith(' 0') or line.startswith('CUT ')]
+    return '\n'.join([first, *rows, ''])
 
 
 class JournalText:

@@ -61,15 +61,15 @@ def rows_end(shown, page, **asked):
 
 def limits_table(rows, name, has_group=True):
     columns = [
-        Column('group', lambda row: link(f'/limits/{row["group"]}', row['group'])) if has_group else None,
-        Column('limit', key_words, 'key'),
+        Column('group', lambda row: link(f'/limits/{row["group"]}', row['group']), 'wide') if has_group else None,
+        Column('limit', lambda row: joined([key_words(row), tag('span', f' in {row["group"]}', class_='narrow') if has_group else '']), 'key'),
         Column('state', lambda row: tag('b', STATES[row['state']]) if row['state'] != 'free' else '', 'state', 'state'),
         Column('used, and what waits', limit_bar, 'picture'),
-        Column('used', lambda row: row['use'], 'n', 'use'),
-        Column('limit', lambda row: row['limit'] if row['limit'] is not None else 'never set', 'n', 'limit'),
+        Column('used', lambda row: row['use'], 'n wide', 'use'),
+        Column('limit', lambda row: row['limit'] if row['limit'] is not None else 'never set', 'n wide', 'limit'),
         Column('room', lambda row: row['room'], 'n', 'room'),
-        Column('waits under it', lambda row: row['waiting'] or '', 'n', 'waiting'),
-        Column('of that without room', lambda row: tag('b', number(row['short'])) if row['short'] else '', 'n bad', 'short'),
+        Column('waits', lambda row: row['waiting'] or '', 'n wide', 'waiting'),
+        Column('without room', lambda row: tag('b', number(row['short'])) if row['short'] else '', 'n bad', 'short'),
     ]
     return table([column for column in columns if column], rows, name, lambda row: f'limit-{row["group"]}-{row["kind"]}-{row["name"]}', lambda row: row['state'])
 
@@ -178,13 +178,17 @@ def connections_table(rows, name):
 
 # The pages.
 
+def would_take(lots):
+    return '' if lots is None else f'; a sweep now would take {lots:,}'
+
+
 def overview(v):
     limits, connections, rate = v['limits'], v['connections'], v['rate']
     full = limits['full'] + limits['blocks']
     tiles = [
-        ('/offers', 'Open offers', v['open_offers'], f'{count(v["lots_waiting"], "lot")} wait; a sweep now would take {v["swept_now"]:,}', '', 'open_offers'),
+        ('/offers', 'Open offers', v['open_offers'], f'{count(v["lots_waiting"], "lot")} wait{would_take(v["swept_now"])}', '', 'open_offers'),
         ('/offers?only=held', 'Lots held back', v['held_lots'], f'in {count(v["held_offers"], "offer")} for which a limit lacks room', 'bad' if v['held_lots'] else '', 'held_lots'),
-        ('/limits?state=full', 'Limits full', full, f'{limits["blocks"]:,} of them 0 or never set; {limits["short"]:,} have less room than waits', 'bad' if full else '', 'full'),
+        ('/limits?state=full', 'Limits full', full, f'{limits["short"]:,} have less room than waits under them', 'bad' if full else '', 'full'),
         ('/limits?state=near', 'Limits near', limits['near'], f'used to {v["near_from"]:.0%} or more', 'warn' if limits['near'] else '', 'near'),
         ('/sweeps', 'Lots moved today', v['moved'], f'{v["swept"]:,} swept, {v["claimed"]:,} claimed, {v["reversed"]:,} taken back', '', 'moved'),
         ('/entries?only=refused', 'Refused today', v['refused'], ', '.join(f'{name} {made:,}' for name, made in list(v['refusals'].items())[:2]) or 'nothing was refused', '', 'refused'),
@@ -225,10 +229,10 @@ def limits(v):
     if v['group']:
         group = v['groups'][0]
         yield tag('p', f'{count(group["lots"], "lot")} of ', link(address('offers', group=v['group']), count(group['offers'], 'open offer')),
-                  f' wait; a sweep now would take {group["swept_now"]:,}. {group["short"]:,} limits have less room than waits under them. ', link(address('sweeps', group=v['group']), 'Its sweeps'), class_='lead')
+                  f' wait{would_take(group["swept_now"])}. {group["short"]:,} limits have less room than waits under them. ', link(address('sweeps', group=v['group']), 'Its sweeps'), class_='lead')
     elif v['groups']:
         yield panel('By group', groups_table(v['groups']), class_='full')
-    state_words = [('', 'all'), ('short', f'less room than waits {v["limits"]["short"]:,}'), ('full', f'full {v["limits"]["full"]:,}'), ('blocks', f'0 or never set {v["limits"]["blocks"]:,}'),
+    state_words = [('', 'all'), ('short', f'less room than waits {v["limits"]["short"]:,}'), ('full', f'full {v["limits"]["full"] + v["limits"]["blocks"]:,}'), ('blocks', f'0 or never set {v["limits"]["blocks"]:,}'),
                    ('near', f'near {v["limits"]["near"]:,}')]
     yield tag('div', choices('state', v['only'], state_words, lambda state: address(page, state=state, kind=v['kind'], name=v['name'])),
               choices('kind', v['kind'], [('', 'all kinds'), *KINDS.items()], lambda kind: address(page, state=v['only'], kind=kind, name=v['name'])),
@@ -289,11 +293,11 @@ def path_table(rows, o):
         Column('limit', key_words, 'key'),
         Column('state', lambda row: tag('b', STATES[row['state']]) if row['state'] != 'free' else '', 'state', 'state'),
         Column('used, and what waits', limit_bar, 'picture'),
-        Column('used', lambda row: row['use'], 'n', 'use'),
-        Column('limit', lambda row: row['limit'] if row['limit'] is not None else 'never set', 'n', 'limit'),
+        Column('used', lambda row: row['use'], 'n wide', 'use'),
+        Column('limit', lambda row: row['limit'] if row['limit'] is not None else 'never set', 'n wide', 'limit'),
         Column('room', lambda row: row['room'], 'n', 'room'),
-        Column('lacks for this offer', lambda row: tag('b', number(row['lacks'])) if row['lacks'] else '', 'n bad', 'lacks'),
-        Column('waits under it', lambda row: row['waiting'], 'n', 'waiting'),
+        Column('lacks', lambda row: tag('b', number(row['lacks'])) if row['lacks'] else '', 'n bad', 'lacks'),
+        Column('waits', lambda row: row['waiting'], 'n wide', 'waiting'),
     ], rows, 'The limits on its path', lambda row: f'path-{row["kind"]}', lambda row: row['state'])
 
 
@@ -320,7 +324,7 @@ def sweep(v):
         return
     yield tag('p', *(f'{line} ' for line in v.get('story', [])), clock(s['at']) if s['at'] else '', class_='lead')
     if 'limits' in v:
-        yield panel('What passed, and what held the rest', tag('div', Markup(DRAW.Picture(v['_view'], False).svg()), class_='cut', tabindex='0', role='region', aria_label='The picture of the sweep'), tag('p', DRAW.NOTE, class_='note'))
+        yield panel('What passed, and what held the rest', tag('div', Markup(DRAW.Picture(v['_view'], False, False).svg()), class_='cut', tabindex='0', role='region', aria_label='The picture of the sweep'), tag('p', DRAW.NOTE, class_='note'))
         short = [row for row in v['offers'] if row['taken'] < row['lots']]
         yield panel('What it left', sheet_offers(short[:MORE], 'What it left') if short else empty('Nothing: every offer was taken whole.'), note=f'{count(sum(row["lots"] - row["taken"] for row in short), "lot")} of {count(len(short), "offer")}'
                     + (f', of which {MORE} are shown' if len(short) > MORE else ''))
@@ -435,7 +439,7 @@ def state_words(state):
     date = f'{day[:4]}-{day[4:6]}-{day[6:]}' if day else 'no day is open'
     heard = '' if state['heard_seconds'] is None else f'heard {state["heard_seconds"]:.0f} s ago'
     behind = f'{state["behind"]:,} behind' if state['behind'] else ''
-    return state['word'], f'day {date}', f'entries {state["entries"]:,}', behind, heard
+    return [fact for fact in (state['word'], f'day {date}', f'entries {state["entries"]:,}', behind, heard) if fact]
 
 
 def header(state, here, counts, word=''):
@@ -468,7 +472,7 @@ def page_of(values, parts, query, zone):
     heads = [alone('meta', charset='utf-8'), alone('meta', name='viewport', content='width=device-width, initial-scale=1'), alone('meta', name='color-scheme', content='light dark'), tag('title', f'{title} · Bathlif'),
              alone('link', rel='icon', href='/icon.svg'), alone('link', rel='stylesheet', href='/page.css'), tag('script', src='/page.js', defer=True),
              tag('noscript', alone('meta', http_equiv='refresh', content='5'))]
-    banner = tag('p', tag('b', state['word']), ': ', state['text'], id='banner', class_=state['level'], hidden=state['level'] in ('good',))
+    banner = tag('p', tag('b', state['word']), ': ', state['text'], id='banner', class_=state['level'], hidden=state['level'] == 'good')
     return Markup('<!doctype html>\n') + tag('html', tag('head', *heads), tag('body', link('#main', 'To the page', class_='skip'), PATTERNS, header(state, here, values['counts'], values.get('id', '')), banner,
                   tag('main', *body(values), id='main', tabindex='-1', data_entries=state['entries'], data_page=here), footer(values, zone, json_address)), lang='en')
 

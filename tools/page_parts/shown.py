@@ -64,13 +64,19 @@ class Shown:
         sweeps = day.sheets.numbers
         return dict(
             open_offers=day.open_count(), lots_waiting=sum(view.lots for view in views), held_offers=len(held), held_lots=sum(view.held_lots for view in views),
-            swept_now=sum(view.proposed for view in views), limits=self.states(views), near_from=NEAR,
+            swept_now=self.sum_of(view.proposed for view in views), limits=self.states(views), near_from=NEAR,
             moved=day.swept + day.claimed - day.reversed, swept=day.swept, claimed=day.claimed, reversed=day.reversed, closed=day.closed,
             refused=sum(day.refusals.values()), refusals=dict(day.refusals.most_common()), rate=self.rate(), connections=self.connection_counts(),
             tightest=[self.limit_values(row) for row in limits[:12]], tight=len(limits), held=[self.offer_values(number) for number in held[:8]],
             groups=[self.group_values(view) for view in sorted(views, key=lambda view: (-view.held_lots, -view.lots, view.group))[:12]], all_groups=len(views),
             last_sweeps=[self.sweep_values(number) for number in sweeps[:-8:-1]],
             last_refusals=[self.entry_values(number) for number in day.history.refused[:-8:-1] if number >= day.first])
+
+    @staticmethod
+    def sum_of(numbers):
+        """The sum of numbers, or None where one isn't known."""
+        numbers = list(numbers)
+        return None if None in numbers else sum(numbers)
 
     @staticmethod
     def states(views):
@@ -99,10 +105,14 @@ class Shown:
         shown = [views.view(self.day.reference.group_places[group])] if group else views.all()
         kind, state, word, most = asked.get('kind', ''), asked.get('state', ''), asked.get('name', '').upper(), self.rows_asked(asked)
         rows = [row for view in shown for row in view.limits
-                if kind in ('', row.kind) and word in row.name and (not state or (row.short if state == 'short' else row.state == state))]
+                if kind in ('', row.kind) and word in row.name and (not state or self.is_like(row, state))]
         rows.sort(key=by_need)
         return dict(group=group, kind=kind, only=state, name=word, all=len(rows), rows=[self.limit_values(row) for row in rows[:most]],
                     limits=self.states(shown), groups=[self.group_values(view) for view in shown] if group else [self.group_values(view) for view in shown if view.limits or view.lots])
+
+    @staticmethod
+    def is_like(row, state):
+        return row.short > 0 if state == 'short' else row.state in (state, 'blocks') if state == 'full' else row.state == state
 
     @staticmethod
     def limit_values(row):
