@@ -71,8 +71,8 @@ def script(trades, seed=7, sweep_every=6, tight=1.0):
                 yield f'SWEEP {pick.choice(list(GROUPS))}'
 
 
-def many_entries(count):
-    """A finished day of so many entries, as plain as those of a busy house: trades of two firms with some give-ups and a sweep at times."""
+def many_entries(count, has_sweeps=True):
+    """A finished day of so many entries: trades of two firms, some of which are given up, and a sweep at times."""
     yield 'DAY 20260105'
     house, made = House(3), 1
     for line in list(house.opening(1000))[1:]:
@@ -88,7 +88,7 @@ def many_entries(count):
             given = house.give_up(firm, trade['lots'])
             offers += len(given)
             lines.append(f'GIVEUP {firm} G{number} {report} ' + ' '.join(f'{account} {lots}' for account, lots in given))
-        if number % 400 == 0:
+        if number % 400 == 0 and has_sweeps:
             lines.append(f'SWEEP {house.random.choice(list(GROUPS))}')
         yield from lines[:count - made]
         made += len(lines[:count - made])

@@ -94,18 +94,20 @@ class Desk:
         self.server = Server(str(program), self.reference, self.script, connections, every, self.journal, options=options)
         while not os.path.exists(self.watch):
             time.sleep(0.02)
-        self.console = Console(self.console_path, 60)
 
     def enter(self, *lines):
         """The answers to lines at the console."""
-        return [' '.join(self.console.ask(line) or ['gone'])[:200] for line in lines]
+        console = Console(self.console_path, 60)
+        answers = [' '.join(console.ask(line) or ['gone'])[:200] for line in lines]
+        console.close()
+        return answers
 
     def kill(self):
         self.server.stop()
 
     def close(self):
         """CLOSE: the status of the desk, and what it printed."""
-        self.console.ask('CLOSE')
+        Console(self.console_path, 60).ask('CLOSE')
         return self.server.end()
 
 
@@ -116,7 +118,7 @@ class Firms:
         self.house, self.lines, self.trades = house, {}, 0
         for firm in firms or EXECUTING + CARRYING:
             line = self.lines[firm] = Connection(desk.server.port, firm)
-            line.log_on()
+            line.log_on(0)
             line.hear_until(lambda m: m['35'] == 'A', 60)
 
     def say(self, firm, kind, fields, is_answer):

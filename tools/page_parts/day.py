@@ -31,27 +31,26 @@ class Day:
         """Rows of a journal. What the replica printed for them, answer by answer."""
         with self.lock:
             answers = self.replica.play([row.line for row in rows])
-            for row, answer in zip(rows, answers):
-                self.add(row, answer)
+            parts = [answer.split('\n', 1) for answer in answers]
+            first = len(self.history) + 1
+            said = [self.without_number(number, part[0], row) for number, (part, row) in enumerate(zip(parts, rows), first)]
+            self.history.extend(rows, said)
+            for number, (row, words, part) in enumerate(zip(rows, said, parts), first):
+                if words[:3] == 'NO ':
+                    self.history.refused.append(number)
+                    self.refusals[words.split(' ')[2]] += 1
+                else:
+                    line = row.line.split(' ')
+                    self.notes[line[0]](number, line, words.split(' '), part[-1])
             return answers
 
-    def add(self, row, answer):
-        first, _, sheet = answer.partition('\n')
-        number, _, said = first.partition(' ')
+    def without_number(self, due, answer, row):
+        number, _, said = answer.partition(' ')
         if not number.isdigit():
-            raise ReplicaEnded(f'it enters nothing for the line {row.line[:60]!r}, and answers {first[:60]!r}')
-        number, history = int(number), self.history
-        history.append(row.line, said, row.at, row.connection, row.message)
-        if number != len(history):
-            self.say(number, f'the replica numbers it {number}, and it is entry {len(history)}')
-        if row.instead:
-            history.instead[number] = row.instead
-        words = row.line.split(' ')
-        if said.startswith('NO '):
-            history.refused.append(number)
-            self.refusals[said.split(' ')[2]] += 1
-        else:
-            self.notes[words[0]](number, words, said.split(' '), sheet)
+            raise ReplicaEnded(f'it enters nothing for the line {row.line[:60]!r}, and answers {answer[:60]!r}')
+        if int(number) != due:
+            self.say(due, f'the replica numbers it {number}')
+        return said
 
     def say(self, entry, why):
         self.differs = self.differs or f'at entry {entry:,}: {why}'

@@ -1,6 +1,7 @@
 """The entries of a day, in little memory: their lines one after another, so that an id is found by looking for it there."""
 import bisect
 import collections
+import itertools
 from array import array
 
 Entry = collections.namedtuple('Entry', 'number line answer at connection message')
@@ -12,10 +13,9 @@ class Texts:
     def __init__(self):
         self.text, self.ends = bytearray(), array('L', [0])
 
-    def append(self, words):
-        self.text += words.encode('latin-1')
-        self.text += b'\n'
-        self.ends.append(len(self.text))
+    def extend(self, texts):
+        self.ends.extend(itertools.islice(itertools.accumulate((len(words) + 1 for words in texts), initial=len(self.text)), 1, None))
+        self.text += ('\n'.join(texts) + '\n').encode('latin-1')
 
     def __getitem__(self, number):
         return self.text[self.ends[number - 1]:self.ends[number] - 1].decode('latin-1')
@@ -45,12 +45,17 @@ class History:
     def __len__(self):
         return len(self.lines)
 
-    def append(self, line, answer, at, connection, message):
-        self.lines.append(line)
-        self.answers.append(answer)
-        self.moments.append(at)
-        self.connections.append(connection)
-        self.messages.append(message)
+    def extend(self, rows, answers):
+        """Rows of a journal, and the answers to them without their numbers."""
+        lines, moments, connections, messages, others = zip(*rows)
+        for number, other in enumerate(others, len(self) + 1):
+            if other:
+                self.instead[number] = other
+        self.lines.extend(lines)
+        self.answers.extend(answers)
+        self.moments.extend(moments)
+        self.connections.extend(connections)
+        self.messages.extend(messages)
 
     def entry(self, number):
         return Entry(number, self.instead.get(number, self.lines[number]), self.answers[number], self.moments[number - 1], self.connections[number - 1],

@@ -92,7 +92,7 @@ class JournalText:
     def add(self, lines, at):
         """`at` is the moment of entries that have none in the text."""
         for line in lines:
-            if not line.startswith('#'):
+            if line[:1] != '#':
                 if line:
                     self.add_entry(line, at)
             elif line.startswith('# TAKE '):
@@ -110,20 +110,21 @@ class JournalText:
                 self.fault = 'the journal is of another reference file'
 
     def add_entry(self, line, at):
-        self.end_sweep()
+        if self.entry_of_sweep:
+            self.end_sweep()
         self.count += 1
         if line.partition(' ')[0] not in WORDS:
             self.fault = f'entry {self.count:,} would be {line[:60]!r}, which no journal has'
             return
         self.rows.append(Row(line, self.moment or at, *self.origin, self.instead))
-        self.moment, self.origin, self.instead = 0, (0, 0), None
-        if line.startswith('SWEEP '):
+        if self.moment or self.instead:
+            self.moment, self.origin, self.instead = 0, (0, 0), None
+        if line[:6] == 'SWEEP ':
             self.entry_of_sweep = self.count
 
     def end_sweep(self):
         """The comments of a sweep end with the next entry."""
-        if self.entry_of_sweep:
-            self.takes[self.entry_of_sweep] = self.sweep
+        self.takes[self.entry_of_sweep] = self.sweep
         self.entry_of_sweep, self.sweep = None, None
 
     def milliseconds(self, text):

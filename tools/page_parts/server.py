@@ -8,7 +8,7 @@ import urllib.parse
 from pathlib import Path
 
 from .exports import metrics_of, table_of
-from .pages import page_of, state_words
+from .frame import page_of, state_words
 from .shown import MOST_ROWS
 
 MOST_BYTES = 8192       # of a request
@@ -162,7 +162,8 @@ class Server:
             seen = -1
             while True:
                 seen, state = self.following.wait(seen, 1), self.following.state()
-                line.sendall(f'data: {json.dumps(dict(change=seen, level=state["level"], word=state["word"], text=state["text"], facts=[*state_words(state)[1:]]))}\n\n'.encode())
+                said = dict(change=seen, level=state['level'], word=state['word'], text=state['text'], facts=state_words(state)[1])
+                line.sendall(f'data: {json.dumps(said)}\n\n'.encode())
                 time.sleep(0.1)         # many changes at once are one event
         finally:
             self.streams.release()

@@ -163,7 +163,8 @@ class Shown:
             room = row.room if row else 0
             path.append(dict(kind=kind, name=name, limit=row.limit if row else None, use=row.use if row else 0, room=room, waiting=row.waiting if row else 0,
                              short=row.short if row else 0, state=row.state if row else 'blocks', lacks=max(0, left - room)))
-        events = [dict(self.entry_values(entry), lots=lots, what=DONE[day.history.lines[entry].partition(' ')[0]]) for entry, lots in offers.history(number)]
+        happened = [(offers.entries[number], offers.lots[number]), *offers.history(number)]
+        events = [dict(self.entry_values(entry), lots=lots, what=DONE[day.history.lines[entry].partition(' ')[0]]) for entry, lots in happened]
         return dict(offer=self.offer_values(number), path=path, events=events, last_sweep=self.last_sweep(number), title=f'Offer {number}')
 
     def last_sweep(self, number):
