@@ -72,7 +72,7 @@ def script(trades, seed=7, sweep_every=6, tight=1.0):
 
 
 def many_entries(count, has_sweeps=True):
-    """A finished day of so many entries: trades of two firms, some of which are given up, and a sweep at times."""
+    """A finished day of so many entries: trades of two firms, some of which are given up, and a sweep at times, or else a claim of each offer."""
     yield 'DAY 20260105'
     house, made = House(3), 1
     for line in list(house.opening(1000))[1:]:
@@ -86,8 +86,9 @@ def many_entries(count, has_sweeps=True):
         if number % 4 == 0:
             firm, report, _ = trade['sides'][0]
             given = house.give_up(firm, trade['lots'])
-            offers += len(given)
             lines.append(f'GIVEUP {firm} G{number} {report} ' + ' '.join(f'{account} {lots}' for account, lots in given))
+            lines += [] if has_sweeps else [f'CLAIM {house.carrier[account]} {offer}' for offer, (account, _) in enumerate(given, offers + 1)]
+            offers += len(given)
         if number % 400 == 0 and has_sweeps:
             lines.append(f'SWEEP {house.random.choice(list(GROUPS))}')
         yield from lines[:count - made]

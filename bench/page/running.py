@@ -46,13 +46,13 @@ class Page:
         import json
         return json.loads(self.get(path)[2])
 
-    def until(self, holds, seconds=SECONDS):
-        """Waits until the overview's state is so: the seconds, or None."""
+    def until(self, holds, seconds=SECONDS, every=0.1):
+        """Waits until the page's state is so: the seconds, or None."""
         since = time.monotonic()
         while time.monotonic() - since < seconds:
-            if holds(self.json('/overview.json')['state']):
+            if holds(self.json('/connections.json')['state']):
                 return time.monotonic() - since
-            time.sleep(0.05)
+            time.sleep(every)
         return None
 
     def children(self):
@@ -124,11 +124,13 @@ class Firms:
     def say(self, firm, kind, fields, is_answer):
         """Sends a message, and the answer to it."""
         line = self.lines[firm]
+        while line.hear(0)[1]:
+            pass                    # notices that came before
         line.send(kind, fields)
         at, heard = line.hear_until(is_answer, 60)
         if at is None:
             raise SystemExit(f'{firm} was not answered: {kind} {fields}')
-        return heard[-1]
+        return next(filter(is_answer, heard))
 
     def report(self, firm, report, match, side, trade):
         fields = f'571={report}|880={match}|55={trade["symbol"]}|32={trade["lots"]}|31={trade["price"]}|552=1|54={"1" if side == "B" else "2"}|1={firm}-H|'
@@ -151,7 +153,7 @@ class Firms:
 
     def act(self, firm, offer, what):
         """A claim (0), a refusal (1, 2, 5) or a reversal (7)."""
-        return self.say(firm, 'AT', f'755={offer}|87={what}|', lambda m: (m['35'] == 'AS' and m.get('755') == str(offer)) or m['35'] == 'j')
+        return self.say(firm, 'AT', f'755={offer}|87={what}|', lambda m: m['35'] == 'AS' and m['755'] == str(offer) and m['87'] == str(what) or m['35'] == 'j')
 
     def end(self):
         for line in self.lines.values():

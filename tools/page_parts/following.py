@@ -197,7 +197,7 @@ class Following:
             return 'over', 'closed', f'The desk was closed, and its day has ended. {shown}'
         if self.watch and self.gone:
             seconds = int(now - self.gone_since)
-            return 'bad', 'no desk', f'The desk can\'t be reached at {self.watch} for {seconds:,} s: {self.gone}. {shown} The page goes on trying.'
+            return 'bad', 'no desk', f'The desk can\'t be reached at {self.watch} for {seconds:,} s: {self.gone}. It was closed, or it failed. {shown} The page goes on trying.'
         if not self.is_read:
             return 'warn', 'reading', self.reading(entries)
         if self.watch and self.heard and now - self.heard > SILENT:

@@ -38,8 +38,6 @@ def read_request(line):
     """The request that comes on a connection, or None where nothing comes."""
     data, end = b'', time.monotonic() + SECONDS
     while b'\r\n\r\n' not in data:
-        if len(data) > MOST_BYTES:
-            raise Refused(431, f'A request has at most {MOST_BYTES:,} bytes.')
         line.settimeout(max(0.01, end - time.monotonic()))
         try:
             piece = line.recv(4096)
@@ -50,6 +48,8 @@ def read_request(line):
                 raise Refused(400, 'The request is not whole.')
             return None
         data += piece
+        if len(data) > MOST_BYTES:
+            raise Refused(431, f'A request has at most {MOST_BYTES:,} bytes.')
     return request_of(data.partition(b'\r\n\r\n')[0].decode('latin-1').split('\r\n'))
 
 
