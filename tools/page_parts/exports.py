@@ -3,9 +3,12 @@ import csv
 import io
 import re
 
+from .group_view import STATES
+
 HEADS = {
     'limits': ['group', 'kind', 'name', 'limit', 'use', 'room', 'waiting', 'short', 'state'],
-    'offers': ['number', 'group', 'symbol', 'side', 'price', 'lots', 'left', 'agreement', 'executing', 'from_account', 'account', 'carrying', 'entry', 'since', 'held_by'],
+    'offers': ['number', 'group', 'symbol', 'side', 'price', 'lots', 'left', 'agreement', 'executing', 'from_account', 'account', 'carrying', 'entry', 'since',
+               'held_by'],
     'positions': ['account', 'firm', 'symbol', 'long', 'short', 'net'],
 }
 
@@ -30,48 +33,52 @@ def label(value):
     return str(value).replace('\\', r'\\').replace('"', r'\"').replace('\n', r'\n')
 
 
-class Metrics:
-    def __init__(self):
-        self.lines = []
-
-    def add(self, name, kind, about, *values):
-        """A metric: values are numbers, each with its labels."""
-        self.lines += [f'# HELP bathlif_{name} {about}', f'# TYPE bathlif_{name} {kind}']
-        for value, labels in values:
-            words = ','.join(f'{key}="{label(word)}"' for key, word in labels.items())
-            self.lines.append(f'bathlif_{name}{{{words}}} {value}' if words else f'bathlif_{name} {value}')
-
-    def text(self):
-        return '\n'.join(self.lines) + '\n'
+def metric(name, about, *values):
+    """The lines of a metric: values are numbers, each with its labels."""
+    yield f'# HELP bathlif_{name} {about}'
+    yield f'# TYPE bathlif_{name} gauge'
+    for value, labels in values:
+        words = ','.join(f'{key}="{label(word)}"' for key, word in labels.items())
+        yield f'bathlif_{name}{{{words}}} {value}' if words else f'bathlif_{name} {value}'
 
 
 def metrics_of(following):
-    day, metrics = following.day, Metrics()
-    with day.lock:
-        state, views = following.state(), following.views.all()
-        desk, add = following.desk if not following.gone else None, metrics.add
-        add('desk_open', 'gauge', '1 if the desk answers and is open, 0 if not.', (int(bool(desk and desk.state == 'OPEN')), {}))
-        add('page_good', 'gauge', '1 if what the page shows is what the desk has, 0 if not.', (int(state['level'] in ('good', 'over')), {}))
-        add('replica_differs', 'gauge', '1 if the replica is not a copy of the desk.', (int(bool(day.differs)), {}))
-        if state['heard_seconds'] is not None:
-            add('heard_seconds', 'gauge', 'Seconds since the desk last answered.', (state['heard_seconds'], {}))
-        if desk:
-            add('desk_entries', 'gauge', 'Entries that the desk has.', (desk.entries, {}))
-            add('connections', 'gauge', 'Connections of firms.', (desk.connections, {}))
-            add('places', 'gauge', 'How many connections there may be at once.', (desk.places, {}))
-            add('connection_heard_seconds', 'gauge', 'Seconds since a firm last sent a byte.', *((row.heard / 1000, dict(firm=row.firm, connection=row.number)) for row in following.connections))
-            add('connection_unread_bytes', 'gauge', 'Bytes that a firm has not read.', *((row.held, dict(firm=row.firm, connection=row.number)) for row in following.connections))
-        add('entries', 'gauge', 'Entries that the page shows.', (state['entries'], {}))
-        add('behind_entries', 'gauge', 'Entries that the desk has and the page has not.', (state['behind'], {}))
-        add('offers_open', 'gauge', 'Open offers.', *((len(view.offers), dict(group=view.group)) for view in views))
-        add('lots_waiting', 'gauge', 'Lots that wait in open offers.', *((view.lots, dict(group=view.group)) for view in views))
-        add('lots_held_back', 'gauge', 'Lots of open offers for which a limit lacks room.', *((view.held_lots, dict(group=view.group)) for view in views))
-        add('lots_swept_now', 'gauge', 'Lots that a sweep would take now.', *((view.proposed, dict(group=view.group)) for view in views if view.proposed is not None))
-        add('limits', 'gauge', 'Limits by how they are.', *((view.states[name], dict(group=view.group, state=name)) for view in views for name in ('blocks', 'full', 'near', 'free')))
-        add('limits_short', 'gauge', 'Limits under which more lots wait than have room.', *((sum(bool(row.short) for row in view.limits), dict(group=view.group)) for view in views))
-        add('lots_swept', 'gauge', 'Lots that sweeps took since the day was opened.', (day.swept, {}))
-        add('lots_claimed', 'gauge', 'Lots that firms claimed since the day was opened.', (day.claimed, {}))
-        add('lots_reversed', 'gauge', 'Lots that firms took back since the day was opened.', (day.reversed, {}))
-        add('sweeps', 'gauge', 'Sweeps since the first entry.', (len(day.sheets.rows), {}))
-        add('refused', 'gauge', 'Refused commands since the day was opened.', *((made, dict(reason=name)) for name, made in sorted(day.refusals.items())))
-    return metrics.text()
+    with following.day.lock:
+        state = following.state()
+        lines = [*metrics_of_page(following, state), *(metrics_of_desk(following) if following.desk and not following.gone else []), *metrics_of_day(following)]
+    return '\n'.join(lines) + '\n'
+
+
+def metrics_of_page(following, state):
+    desk = following.desk if not following.gone else None
+    yield from metric('desk_open', '1 if the desk answers and is open, 0 if not.', (int(bool(desk and desk.state == 'OPEN')), {}))
+    yield from metric('page_good', '1 if what the page shows is what the desk has, 0 if not.', (int(state['level'] in ('good', 'over')), {}))
+    yield from metric('replica_differs', '1 if the replica is not a copy of the desk.', (int(bool(following.day.differs)), {}))
+    yield from metric('entries', 'Entries that the page shows.', (state['entries'], {}))
+    yield from metric('behind_entries', 'Entries that the desk has and the page has not.', (state['behind'], {}))
+    if state['heard_seconds'] is not None:
+        yield from metric('heard_seconds', 'Seconds since the desk last answered.', (state['heard_seconds'], {}))
+
+
+def metrics_of_desk(following):
+    desk, rows = following.desk, [(row, dict(firm=row.firm, connection=row.number)) for row in following.connections]
+    yield from metric('desk_entries', 'Entries that the desk has.', (desk.entries, {}))
+    yield from metric('connections', 'Connections of firms.', (desk.connections, {}))
+    yield from metric('places', 'How many connections there may be at once.', (desk.places, {}))
+    yield from metric('connection_heard_seconds', 'Seconds since a firm last sent a byte.', *((row.heard / 1000, labels) for row, labels in rows))
+    yield from metric('connection_unread_bytes', 'Bytes that a firm has not read.', *((row.held, labels) for row, labels in rows))
+
+
+def metrics_of_day(following):
+    day, groups = following.day, [(view, dict(group=view.group)) for view in following.views.all()]
+    yield from metric('offers_open', 'Open offers.', *((len(view.offers), labels) for view, labels in groups))
+    yield from metric('lots_waiting', 'Lots that wait in open offers.', *((view.lots, labels) for view, labels in groups))
+    yield from metric('lots_held_back', 'Lots of open offers for which a limit lacks room.', *((view.held_lots, labels) for view, labels in groups))
+    yield from metric('lots_swept_now', 'Lots that a sweep would take now.', *((view.proposed, labels) for view, labels in groups if view.proposed is not None))
+    yield from metric('limits', 'Limits by how they are.', *((view.states[name], dict(labels, state=name)) for view, labels in groups for name in STATES))
+    yield from metric('limits_short', 'Limits under which more lots wait than have room.',
+                      *((sum(bool(row.short) for row in view.limits), labels) for view, labels in groups))
+    for name, value in (('swept', day.swept), ('claimed', day.claimed), ('reversed', day.reversed)):
+        yield from metric(f'lots_{name}', f'Lots that were {name} since the day was opened.', (value, {}))
+    yield from metric('sweeps', 'Sweeps since the first entry.', (len(day.sheets.rows), {}))
+    yield from metric('refused', 'Refused commands since the day was opened.', *((made, dict(reason=name)) for name, made in sorted(day.refusals.items())))

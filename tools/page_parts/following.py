@@ -8,7 +8,8 @@ from .group_view import GroupViews
 from .journal import JournalFile, JournalText, Replaced
 from .replica import Replica, ReplicaEnded
 
-POLL = 0.2              # seconds from one look for new entries to the next
+POLL = 0.2              # seconds from one JOURNAL to the next
+LOOK = 0.1              # and from one look at a journal's file to the next
 STATUS = 1.0            # and from one STATUS to the next
 PACE = 0.02             # while the entries that were there before are read, so many seconds at least from one JOURNAL to the next
 SILENT = 3.0            # seconds without an answer after which that is said
@@ -82,7 +83,7 @@ class Following:
         self.take(lines)
         if not lines:
             self.read_whole()
-            time.sleep(POLL)
+            time.sleep(LOOK)
         return not self.fault
 
     def read_whole(self):
@@ -128,11 +129,18 @@ class Following:
         self.heard, self.gone, self.gone_since = time.time(), None, None
 
     def read_status(self, watch):
-        self.desk, self.connections = watch.status()
+        self.note_status(watch)
+        time.sleep(STATUS)
+
+    def note_status(self, watch):
+        """Asks for STATUS. That alone is no change: it differs each second, and the pages that show it renew themselves by the clock."""
+        desk, connections = watch.status()
+        is_new = self.desk is None or self.desk.state != desk.state or self.gone is not None
+        self.desk, self.connections = desk, connections
         self.answered()
         self.compare()
-        self.change()
-        time.sleep(STATUS)
+        if is_new:
+            self.change()
 
     def read_desk(self, watch):
         since = time.monotonic()
@@ -144,9 +152,7 @@ class Following:
             self.matched = len(self.day.history)
         if since - self.asked >= STATUS:
             self.asked = since
-            self.desk, self.connections = watch.status()
-            self.compare()
-            self.change()
+            self.note_status(watch)
         is_last = entries < STRETCH and self.matched >= len(self.day.history)
         if is_last:
             self.read_whole()
@@ -192,12 +198,14 @@ class Following:
         if self.fault:
             return 'bad', 'stopped', f'{self.fault}. {shown} Start the page again once that is mended.'
         if self.day.differs:
-            return 'bad', 'differs', f'The replica is not a copy of the desk, {self.day.differs}. Trust the desk\'s own answers. Is the page started with the desk\'s reference and program?'
+            return 'bad', 'differs', (f'The replica is not a copy of the desk, {self.day.differs}. Trust the desk\'s own answers. Is the page started with the desk\'s '
+                                      'reference and program?')
         if self.watch and self.gone and self.is_closed():
             return 'over', 'closed', f'The desk was closed, and its day has ended. {shown}'
         if self.watch and self.gone:
             seconds = int(now - self.gone_since)
-            return 'bad', 'no desk', f'The desk can\'t be reached at {self.watch} for {seconds:,} s: {self.gone}. It was closed, or it failed. {shown} The page goes on trying.'
+            return 'bad', 'no desk', (f'The desk can\'t be reached at {self.watch} for {seconds:,} s: {self.gone}. It was closed, or it failed. {shown} '
+                                      'The page goes on trying.')
         if not self.is_read:
             return 'warn', 'reading', self.reading(entries)
         if self.watch and self.heard and now - self.heard > SILENT:
@@ -205,7 +213,8 @@ class Following:
         if not self.watch:
             return self.words_of_file(entries, now)
         if self.desk and self.desk.state != 'OPEN':
-            return 'warn', self.desk.state.lower(), f'The desk is being closed. {shown}' if self.desk.state == 'CLOSING' else f'The desk says {self.desk.state}. {shown}'
+            is_said = 'is being closed' if self.desk.state == 'CLOSING' else f'says {self.desk.state}'
+            return 'warn', self.desk.state.lower(), f'The desk {is_said}. {shown}'
         if self.behind_since and now - self.behind_since > 1:
             return 'warn', 'behind', f'{behind:,} entries behind the desk for {int(now - self.behind_since)} s.'
         return 'good', 'open', 'The desk answers, and what is shown is what it has.'
@@ -223,4 +232,5 @@ class Following:
     def words_of_file(self, entries, now):
         if self.file.is_over:
             return 'over', 'ended', 'This day has ended: its journal is complete. Nothing changes any more.'
-        return 'good', 'journal', f'The journal is being written; its last line came {int(now - self.file.grew):,} s ago. Whether the desk lives, a journal alone doesn\'t say (--watch does).'
+        return 'good', 'journal', (f'The journal is being written; its last line came {int(now - self.file.grew):,} s ago. Whether the desk lives, a journal alone '
+                                   'doesn\'t say (--watch does).')

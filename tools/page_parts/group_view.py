@@ -60,7 +60,7 @@ class GroupViews:
         return kept
 
     def propose(self, view, seconds):
-        """Asks for a proposal where that isn't too long for whoever waits. A program that was built without its proofs takes a thousand times as long as a proved one."""
+        """Asks for a proposal where that isn't too long for whoever waits: a program that was built without its proofs takes a thousand times as long."""
         count = len(view.offers)
         cost = self.cost if self.cost is not None else LIKELY * seconds / (1 + len(view.limits))
         if count and cost * count <= MOST_SECONDS:
@@ -80,4 +80,5 @@ class GroupViews:
 
 def by_need(limit):
     """The limits under which most lots lack room first, then the fuller ones."""
-    return STATES.index(limit.state) > 1, -limit.short, STATES.index(limit.state), -(limit.use / limit.limit if limit.limit else 0), -limit.waiting, limit.kind, limit.name
+    state, part = STATES.index(limit.state), limit.use / limit.limit if limit.limit else 0
+    return state > 1 and not limit.short, -limit.short, state, -part, -limit.waiting, limit.group, limit.kind, limit.name

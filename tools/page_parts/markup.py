@@ -54,4 +54,5 @@ def table(columns, rows, name, row_id=None, row_class=None):
     """A table. `row_id` and `row_class` of a row are the id and the class of its line; a row keeps its place by the former as the page renews itself."""
     heads = tag('tr', *(tag('th', column.head, scope='col', class_=column.class_) for column in columns))
     lines = (tag('tr', *(column.of(row) for column in columns), id=row_id and row_id(row), class_=(row_class and row_class(row)) or None) for row in rows)
-    return tag('div', tag('table', tag('caption', name), tag('thead', heads), tag('tbody', *lines)), class_='wide-table', tabindex='0', role='region', aria_label=name)
+    whole = tag('table', tag('caption', name), tag('thead', heads), tag('tbody', *lines))
+    return tag('div', whole, class_='wide-table', tabindex='0', role='region', aria_label=name)

@@ -2,6 +2,7 @@
 'use strict';
 
 const SOON = 250;               // milliseconds from one renewal to the next, at least; where one takes long, three times as long as it took
+const STALE = 5000;             // since the last renewal, where nothing was entered: what STATUS says changes all the same
 const LOST = 4000;              // without a word from the page's program
 const WITHOUT_STREAM = 5000;    // from one renewal to the next where the program has no stream left
 
@@ -94,7 +95,8 @@ function listen() {
         const state = JSON.parse(event.data);
         heard = Date.now();
         say(state.level, state.word, state.text, state.facts);
-        if (state.change !== change) { change = state.change; renew(); }
+        const old = performance.now() - since;
+        if (state.change !== change || old > STALE || old > 900 && location.pathname === '/connections') { change = state.change; renew(); }
     };
 }
 

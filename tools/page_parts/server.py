@@ -17,12 +17,12 @@ MOST_AT_ONCE = 64       # connections
 MOST_STREAMS = 16       # of them for events
 NAMES = ('127.0.0.1', 'localhost')
 HERE = Path(__file__).resolve().parent
-TYPES = {'html': 'text/html; charset=utf-8', 'json': 'application/json', 'csv': 'text/csv; charset=utf-8', 'sheet': 'text/plain; charset=utf-8', 'css': 'text/css; charset=utf-8',
-         'js': 'text/javascript; charset=utf-8', 'svg': 'image/svg+xml', 'text': 'text/plain; charset=utf-8', 'metrics': 'text/plain; version=0.0.4; charset=utf-8'}
-HEADERS = [
-    ('Content-Security-Policy', "default-src 'none'; style-src 'self'; script-src 'self'; img-src 'self'; connect-src 'self'; form-action 'self'; base-uri 'none'; frame-ancestors 'none'"),
-    ('X-Content-Type-Options', 'nosniff'), ('X-Frame-Options', 'DENY'), ('Referrer-Policy', 'no-referrer'), ('Cross-Origin-Resource-Policy', 'same-origin'),
-    ('Cross-Origin-Opener-Policy', 'same-origin'), ('Cache-Control', 'no-store'), ('Connection', 'close')]
+TYPES = {'html': 'text/html', 'json': 'application/json', 'csv': 'text/csv', 'sheet': 'text/plain', 'text': 'text/plain', 'css': 'text/css', 'js': 'text/javascript',
+         'svg': 'image/svg+xml', 'metrics': 'text/plain; version=0.0.4', 'events': 'text/event-stream'}
+POLICY = ("default-src 'none'; style-src 'self'; script-src 'self'; img-src 'self'; connect-src 'self'; form-action 'self'; base-uri 'none'; "
+          "frame-ancestors 'none'")
+HEADERS = [('Content-Security-Policy', POLICY), ('X-Content-Type-Options', 'nosniff'), ('X-Frame-Options', 'DENY'), ('Referrer-Policy', 'no-referrer'),
+           ('Cross-Origin-Resource-Policy', 'same-origin'), ('Cross-Origin-Opener-Policy', 'same-origin'), ('Cache-Control', 'no-store'), ('Connection', 'close')]
 REASONS = {200: 'OK', 400: 'Bad Request', 403: 'Forbidden', 404: 'Not Found', 405: 'Method Not Allowed', 408: 'Request Timeout', 421: 'Misdirected Request',
            431: 'Request Header Fields Too Large', 500: 'Internal Server Error', 503: 'Service Unavailable'}
 
@@ -143,7 +143,8 @@ class Server:
         if form == 'csv':
             asked['rows'] = str(MOST_ROWS)
         values = self.shown.answer(parts, asked)
-        if values is None or form == 'csv' and parts not in (['limits'], ['offers'], ['positions']) or form == 'sheet' and (parts[0] != 'sweeps' or len(parts) != 2):
+        has_form = form in ('html', 'json') or form == 'csv' and parts in (['limits'], ['offers'], ['positions']) or form == 'sheet' and parts[0] == 'sweeps' and len(parts) == 2
+        if values is None or not has_form:
             raise Refused(404, 'There is no such page.')
         if form == 'json':
             return Answer(200, 'json', json.dumps({name: value for name, value in values.items() if not name.startswith('_')}, indent=1) + '\n')
@@ -158,13 +159,13 @@ class Server:
         if not self.streams.acquire(blocking=False):
             raise Refused(503, f'{MOST_STREAMS} pages renew themselves already.')
         try:
-            line.sendall(head_of(200, 'event-stream', []))
+            line.sendall(head_of(200, 'events', []))
             seen = -1
             while True:
                 seen, state = self.following.wait(seen, 1), self.following.state()
                 said = dict(change=seen, level=state['level'], word=state['word'], text=state['text'], facts=state_words(state)[1])
                 line.sendall(f'data: {json.dumps(said)}\n\n'.encode())
-                time.sleep(0.1)         # many changes at once are one event
+                time.sleep(0.05)        # many changes at once are one event
         finally:
             self.streams.release()
 
@@ -179,6 +180,6 @@ def parts_of(path):
 
 
 def head_of(status, form, headers):
-    kind = 'text/event-stream' if form == 'event-stream' else TYPES[form]
+    kind = TYPES[form] if form == 'svg' else f'{TYPES[form]}; charset=utf-8'
     lines = [f'HTTP/1.1 {status} {REASONS[status]}', f'Content-Type: {kind}', *(f'{name}: {value}' for name, value in [*headers, *HEADERS])]
     return ('\r\n'.join(lines) + '\r\n\r\n').encode()

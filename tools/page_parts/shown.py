@@ -18,6 +18,10 @@ def number_in(text, least, most):
     return int(text) if text.isascii() and text.isdigit() and len(text) < 10 and least <= int(text) <= most else None
 
 
+def keys_of(keys):
+    return [dict(kind=kind, name=name) for kind, name in keys]
+
+
 class Shown:
     def __init__(self, following, clock):
         self.following, self.clock, self.again = following, clock, threading.Lock()
@@ -107,8 +111,8 @@ class Shown:
         rows = [row for view in shown for row in view.limits
                 if kind in ('', row.kind) and word in row.name and (not state or self.is_like(row, state))]
         rows.sort(key=by_need)
-        return dict(group=group, kind=kind, only=state, name=word, all=len(rows), rows=[self.limit_values(row) for row in rows[:most]],
-                    limits=self.states(shown), groups=[self.group_values(view) for view in shown] if group else [self.group_values(view) for view in shown if view.limits or view.lots])
+        return dict(group=group, kind=kind, only=state, name=word, all=len(rows), rows=[self.limit_values(row) for row in rows[:most]], limits=self.states(shown),
+                    groups=[self.group_values(view) for view in shown if group or view.limits or view.lots])
 
     @staticmethod
     def is_like(row, state):
@@ -177,7 +181,7 @@ class Shown:
                 break
             if row.group == day.reference.groups[day.offers.groups[number]]:
                 took = next((lots for at, lots in day.offers.history(number) if at == sweep), 0)
-                cut = [dict(kind=kind, name=name) for kind, name in day.offers.path(number) if (kind, name) in row.cut]
+                cut = keys_of(key for key in day.offers.path(number) if key in row.cut)
                 return dict(self.sweep_values(sweep), took=took, held_by=cut)
         return None
 
@@ -190,8 +194,8 @@ class Shown:
 
     def sweep_values(self, number):
         row, day = self.day.sheets.rows[number], self.day
-        return dict(entry=number, at=self.clock.iso(day.history.moments[number - 1]), group=row.group, version=row.version, offers=row.offers, asked=row.asked, lots=row.lots,
-                    left=row.asked - row.lots, cut=[dict(kind=kind, name=name) for kind, name in row.cut], whole=row.whole)
+        return dict(entry=number, at=self.clock.iso(day.history.moments[number - 1]), group=row.group, version=row.version, offers=row.offers, asked=row.asked,
+                    lots=row.lots, left=row.asked - row.lots, cut=keys_of(row.cut), whole=row.whole)
 
     def prepare(self, text):
         """Reads the sheet of a sweep before the day is locked for the page, since an old one takes seconds."""
@@ -209,10 +213,9 @@ class Shown:
         if view:
             values |= dict(
                 _view=view, oldest_first=view.filled_in_turn(), story=view.story(),
-                limits=[dict(kind=key[0], name=key[1], room=view.room(key), taken=view.taken[key], held_back=view.held_back[key], is_cut=view.is_cut(key)) for key in view.sheet.rooms],
-                offers=[dict(number=offer, lots=row.lots, taken=view.takes(offer), path=[list(key) for key in view.path(offer)],
-                             held_by=[list(key) for key in view.held_by(offer)],
-                             older=[dict(kind=key[0], name=key[1], offers=numbers) for key, numbers in view.before(offer).items()]) for offer, row in view.offers.items()])
+                limits=[dict(kind=kind, name=name, room=view.room((kind, name)), taken=view.taken[kind, name], held_back=view.held_back[kind, name],
+                             is_cut=view.is_cut((kind, name))) for kind, name in view.sheet.rooms],
+                offers=[dict(number=offer, lots=row.lots, taken=view.takes(offer), path=view.path(offer), held_by=view.held_by(offer)) for offer, row in view.offers.items()])
         return values
 
     def sheet(self, number):
@@ -232,17 +235,23 @@ class Shown:
 
     def positions(self, asked):
         day, word, most = self.day, asked.get('name', '').upper(), self.rows_asked(asked)
-        rows = [(account, symbol, long, short) for (account, symbol), (long, short) in sorted(day.ask_positions().items()) if long or short]
-        symbols = sorted({symbol for _, symbol, _, _ in rows})
+        rows = self.position_rows()
+        symbols = sorted({row['symbol'] for row in rows})
         interest = day.ask_interest(symbols)
         sums = {symbol: [0, 0, 0] for symbol in symbols}
-        for _, symbol, long, short in rows:
-            sums[symbol] = [one + more for one, more in zip(sums[symbol], (long, short, 1))]
-        shown = [row for row in rows if not word or word in (row[0], row[1], day.reference.accounts[row[0]])]
+        for row in rows:
+            sums[row['symbol']] = [one + more for one, more in zip(sums[row['symbol']], (row['long'], row['short'], 1))]
+        shown = [row for row in rows if word in ('', row['account'], row['symbol'], row['firm'])]
         return dict(name=word, all=len(shown),
                     instruments=[dict(symbol=symbol, group=day.reference.instruments[symbol], interest=interest[symbol], long=sums[symbol][0], short=sums[symbol][1],
                                       accounts=sums[symbol][2]) for symbol in symbols],
-                    rows=[dict(account=account, firm=day.reference.accounts[account], symbol=symbol, long=long, short=short, net=long - short) for account, symbol, long, short in shown[:most]])
+                    rows=shown[:most])
+
+    def position_rows(self):
+        """What each account holds, as the replica says."""
+        accounts = self.day.reference.accounts
+        return [dict(account=account, firm=accounts[account], symbol=symbol, long=long, short=short, net=long - short)
+                for (account, symbol), (long, short) in sorted(self.day.ask_positions().items()) if long or short]
 
     # Entries.
 
@@ -253,7 +262,8 @@ class Shown:
 
     def entry_values(self, number):
         entry = self.day.history.entry(number)
-        return dict(entry=number, at=self.clock.iso(entry.at), line=entry.line, answer=entry.answer, connection=entry.connection or None, message=entry.message or None)
+        return dict(entry=number, at=self.clock.iso(entry.at), line=entry.line, answer=entry.answer, connection=entry.connection or None,
+                    message=entry.message or None)
 
     def entry(self, asked, text):
         day = self.day
@@ -272,7 +282,8 @@ class Shown:
             elif words[0] == 'LIMIT':
                 after = self.set_again(number, words)
             after = sorted({*after, *(entry for offer in offers for entry, _ in day.offers.history(offer) if entry > number)})
-        return dict(self.entry_values(number), title=f'Entry {number}', full=self.clock.full(day.history.moments[number - 1]), kind=words[0], is_refused=answer[0] == 'NO',
+        return dict(self.entry_values(number), title=f'Entry {number}', full=self.clock.full(day.history.moments[number - 1]), kind=words[0],
+                    is_refused=answer[0] == 'NO',
                     offers=[self.offer_values(offer) for offer in offers], before=[self.entry_values(entry) for entry in before],
                     after=[self.entry_values(entry) for entry in after[:FOUND]], more=more or len(after) > FOUND)
 
@@ -297,8 +308,8 @@ class Shown:
 
     def set_again(self, number, words):
         history = self.day.history
-        same = (other for other in itertools.islice(history.having(words[3], len(history) + 1), LOOKED) if history.lines[other].split(' ')[:4] == words[:4] and other > number)
-        return list(itertools.islice(same, FOUND))
+        looked = itertools.takewhile(lambda other: other > number, itertools.islice(history.having(words[3], len(history) + 1), LOOKED))
+        return [other for other in looked if history.lines[other].split(' ')[:4] == words[:4]][:FOUND]
 
     # Connections.
 
@@ -309,7 +320,11 @@ class Shown:
         absent = [firm for firm in self.day.reference.firms if firm not in present]
         desk = following.desk
         return dict(self.connection_counts(), places=desk.places if desk else None, ever=desk.all if desk else None, is_watched=bool(following.watch),
-                    rows=[dict(row._asdict(), is_silent=row.heard >= SILENT) for row in rows], absent=absent if following.watch and following.heard else [])
+                    rows=[self.connection_values(row) for row in rows], absent=absent if following.watch and following.heard else [])
+
+    @staticmethod
+    def connection_values(row):
+        return dict(row._asdict(), is_silent=row.heard >= SILENT)
 
     def connection_counts(self):
         rows = self.following.connections
@@ -319,24 +334,28 @@ class Shown:
 
     def find(self, asked):
         """What an id, an account, an agreement, a firm, a group, an instrument or a number names."""
-        word, day = asked.get('id', '').strip(), self.day
+        word, day, views = asked.get('id', '').strip(), self.day, self.following.views.all()
         reference, name = day.reference, word.upper()
         number = number_in(word.lstrip('#'), 1, max(len(day.history), len(day.offers)))
-        views = self.following.views.all()
-        agreements = [dict(agreement=key, executing=firm, account=account, carrying=reference.accounts[account]) for key, (firm, account) in reference.agreements.items()
-                      if name in (key, firm, account, reference.accounts[account])]
-        limits = [row for view in views for row in view.limits if row.name == name]
-        offers = [offer for view in views for offer in view.offers if any(name == key for _, key in day.offers.path(offer))]
-        found = list(itertools.islice(day.history.having(word, len(day.history) + 1), FOUND + 1)) if word else []
-        if not found and name != word:
-            found = list(itertools.islice(day.history.having(name, len(day.history) + 1), FOUND + 1))
-        positions = [(account, symbol, *held) for (account, symbol), held in sorted(day.ask_positions().items()) if name in (account, symbol, reference.accounts[account]) and any(held)]
-        names = [kind for kind, known in (('firm', reference.firms), ('group', reference.groups), ('instrument', reference.instruments), ('account', reference.accounts),
-                                          ('agreement', reference.agreements)) if name in known]
-        return dict(id=word, names=names, entry=number if number and number <= len(day.history) else None, offer=number if number and number <= len(day.offers) else None,
-                    agreements=agreements[:FOUND], all_agreements=len(agreements), limits=[self.limit_values(row) for row in sorted(limits, key=by_need)[:FOUND]], all_limits=len(limits),
-                    offers=[self.offer_values(offer) for offer in sorted(offers)[:FOUND]], all_offers=len(offers),
-                    positions=[dict(account=account, firm=reference.accounts[account], symbol=symbol, long=long, short=short, net=long - short) for account, symbol, long, short in positions[:FOUND]],
-                    all_positions=len(positions),
-                    connections=[dict(row._asdict(), is_silent=row.heard >= SILENT) for row in self.following.connections if row.firm == name],
-                    entries=[self.entry_values(entry) for entry in found[:FOUND]], more=len(found) > FOUND)
+        limits = sorted((row for view in views for row in view.limits if row.name == name), key=by_need)
+        offers = sorted(offer for view in views for offer in view.offers if any(name == key for _, key in day.offers.path(offer)))
+        agreements = [row for row in self.agreements() if name in row.values()]
+        positions = [row for row in self.position_rows() if name in (row['account'], row['symbol'], row['firm'])]
+        entries = self.entries_having(word) or self.entries_having(name)
+        kinds = dict(firm=reference.firms, group=reference.groups, instrument=reference.instruments, account=reference.accounts, agreement=reference.agreements)
+        return dict(id=word, names=[kind for kind, known in kinds.items() if name in known],
+                    entry=number if number and number <= len(day.history) else None, offer=number if number and number <= len(day.offers) else None,
+                    limits=[self.limit_values(row) for row in limits[:FOUND]], all_limits=len(limits),
+                    offers=[self.offer_values(offer) for offer in offers[:FOUND]], all_offers=len(offers),
+                    connections=[self.connection_values(row) for row in self.following.connections if row.firm == name],
+                    positions=positions[:FOUND], all_positions=len(positions), agreements=agreements[:FOUND], all_agreements=len(agreements),
+                    entries=[self.entry_values(entry) for entry in entries[:FOUND]], more=len(entries) > FOUND)
+
+    def agreements(self):
+        reference = self.day.reference
+        for name, (firm, account) in reference.agreements.items():
+            yield dict(agreement=name, executing=firm, account=account, carrying=reference.accounts[account])
+
+    def entries_having(self, word):
+        history = self.day.history
+        return list(itertools.islice(history.having(word, len(history) + 1), FOUND + 1)) if word else []
