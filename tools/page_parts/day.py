@@ -24,6 +24,7 @@ class Day:
         self.refusals, self.date, self.first = collections.Counter(), '', 1
         self.swept = self.claimed = self.closed = self.reversed = self.all_swept = 0
         self.differs = None                             # why the replica isn't a copy of the desk
+        self.is_frozen = False                          # the replica is gone, and what it said stays
         self.swept_by_entry = {}                        # what the replica took, until the desk's journal has said what the desk took
         self.notes = {word: getattr(self, f'note_{word.lower()}') for word in WORDS}
 
@@ -140,15 +141,16 @@ class Day:
 
     def ask_positions(self):
         """All positions, of which those that may have changed are asked for again."""
-        pairs = list(self.moved)
+        pairs = [] if self.is_frozen else list(self.moved)
         for pair, answer in zip(pairs, self.replica.ask([f'POSITION {account} {symbol}' for account, symbol in pairs])):
             words = answer.split(' ')
             self.positions[pair] = int(words[3]), int(words[4])
-        self.moved.clear()
+        self.moved.difference_update(pairs)
         return self.positions
 
     def ask_interest(self, symbols):
-        return {symbol: int(answer.split(' ')[2]) for symbol, answer in zip(symbols, self.replica.ask([f'INTEREST {symbol}' for symbol in symbols]))}
+        answers = [] if self.is_frozen else self.replica.ask([f'INTEREST {symbol}' for symbol in symbols])
+        return {symbol: int(answer.split(' ')[2]) for symbol, answer in zip(symbols, answers)}
 
     def open_count(self):
         return sum(map(len, self.offers.open))

@@ -30,7 +30,8 @@ class Following:
     def begin(self):
         """A day without entries."""
         if self.day:
-            self.day.replica.end()
+            with self.day.lock:
+                self.day.replica.end()
         self.text, self.is_read, self.matched = JournalText(self.reference), False, 0
         self.day = Day(self.reference, Replica(self.program, self.reference.path_of_file))
         self.views = GroupViews(self.day)
@@ -44,9 +45,15 @@ class Following:
         try:
             loop()
         except ReplicaEnded as fault:
-            self.fault = f'The replica has ended: {fault}'
+            self.stop(fault)
         except Exception as fault:      # the page goes on, and says that it follows no more
             self.fault = f'This page can\'t go on: {type(fault).__name__}: {fault}'
+        self.change()
+
+    def stop(self, fault):
+        """The replica is gone: what it has said so far stays."""
+        self.fault = f'The replica has ended: {fault}'
+        self.day.is_frozen = True
         self.change()
 
     # Who waits for a change.
@@ -79,9 +86,8 @@ class Following:
                 self.begin()
 
     def read_file(self):
-        lines = self.file.lines()
-        self.take(lines)
-        if not lines:
+        self.take(self.file.lines())
+        if self.file.is_whole:
             self.read_whole()
             time.sleep(LOOK)
         return not self.fault

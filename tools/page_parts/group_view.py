@@ -22,7 +22,7 @@ class GroupView:
         self.group, offers = day.reference.groups[place], day.offers
         self.touched = day.touched[place]
         waiting = offers.waiting[place]
-        rows = [self.limit(kind, name, limit, use, room, waiting) for kind, name, limit, use, room in day.replica.limits(self.group)]
+        rows = [self.limit(kind, name, limit, use, room, waiting) for kind, name, limit, use, room in ([] if day.is_frozen else day.replica.limits(self.group))]
         self.rooms = {(row.kind, row.name): row.room for row in rows}
         # A limit that was never set isn't listed, and blocks what waits under it.
         rows += [self.limit(*key, None, 0, 0, waiting) for key in waiting if key not in self.rooms]
@@ -53,7 +53,7 @@ class GroupViews:
 
     def view(self, place):
         kept = self.kept[place]
-        if kept is None or kept.touched != self.day.touched[place]:
+        if kept is None or kept.touched != self.day.touched[place] and not self.day.is_frozen:
             since = time.monotonic()
             kept = self.kept[place] = GroupView(self.day, place)
             self.propose(kept, time.monotonic() - since)
@@ -63,7 +63,7 @@ class GroupViews:
         """Asks for a proposal where that isn't too long for whoever waits: a program that was built without its proofs takes a thousand times as long."""
         count = len(view.offers)
         cost = self.cost if self.cost is not None else LIKELY * seconds / (1 + len(view.limits))
-        if count and cost * count <= MOST_SECONDS:
+        if count and cost * count <= MOST_SECONDS and not self.day.is_frozen:
             since = time.monotonic()
             view.proposed = self.day.replica.proposed(view.group)
             self.cost = (time.monotonic() - since) / count

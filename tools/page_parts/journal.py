@@ -21,7 +21,8 @@ class JournalFile:
     """The lines of a file that may still be written. While it is, zeros follow its text."""
 
     def __init__(self, path):
-        self.path, self.file, self.place, self.tail, self.is_over, self.grew = path, open(path, 'rb', buffering=0), 0, b'', False, time.time()
+        self.path, self.file, self.place, self.tail, self.grew = path, open(path, 'rb', buffering=0), 0, b'', time.time()
+        self.is_over = self.is_whole = False     # no zeros follow the text; all of it was read
 
     def lines(self):
         """The whole lines that came since, some megabyte of them at most."""
@@ -29,7 +30,7 @@ class JournalFile:
         data = os.pread(self.file.fileno(), PIECE, self.place)
         text, zero, _ = data.partition(b'\0')
         text = text[:text.rfind(b'\n') + 1]
-        self.is_over = not zero and len(data) == len(text)
+        self.is_over, self.is_whole = not zero and len(data) == len(text) < PIECE, len(data) < PIECE or bool(zero)
         if not text:
             return []
         self.place += len(text)

@@ -9,6 +9,7 @@ from pathlib import Path
 
 from .exports import metrics_of, table_of
 from .frame import page_of, state_words
+from .replica import ReplicaEnded
 from .shown import MOST_ROWS
 
 MOST_BYTES = 8192       # of a request
@@ -142,7 +143,7 @@ class Server:
         asked = dict(urllib.parse.parse_qsl(request.query, encoding='latin-1', max_num_fields=10))
         if form == 'csv':
             asked['rows'] = str(MOST_ROWS)
-        values = self.shown.answer(parts, asked)
+        values = self.values(parts, asked)
         has_form = form in ('html', 'json') or form == 'csv' and parts in (['limits'], ['offers'], ['positions']) or form == 'sheet' and parts[0] == 'sweeps' and len(parts) == 2
         if values is None or not has_form:
             raise Refused(404, 'There is no such page.')
@@ -153,6 +154,13 @@ class Server:
         if form == 'sheet':
             return Answer(200, 'sheet', '\n'.join(values['sheet']) + '\n')
         return Answer(200, 'html', page_of(values, parts, request.query, self.clock.name))
+
+    def values(self, parts, asked):
+        try:
+            return self.shown.answer(parts, asked)
+        except ReplicaEnded as fault:
+            self.following.stop(fault)
+            return self.shown.answer(parts, asked)
 
     def stream(self, line):
         """Says how it goes each second, and at once if something has changed."""

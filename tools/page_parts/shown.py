@@ -243,7 +243,7 @@ class Shown:
             sums[row['symbol']] = [one + more for one, more in zip(sums[row['symbol']], (row['long'], row['short'], 1))]
         shown = [row for row in rows if word in ('', row['account'], row['symbol'], row['firm'])]
         return dict(name=word, all=len(shown),
-                    instruments=[dict(symbol=symbol, group=day.reference.instruments[symbol], interest=interest[symbol], long=sums[symbol][0], short=sums[symbol][1],
+                    instruments=[dict(symbol=symbol, group=day.reference.instruments[symbol], interest=interest.get(symbol), long=sums[symbol][0], short=sums[symbol][1],
                                       accounts=sums[symbol][2]) for symbol in symbols],
                     rows=shown[:most])
 
