@@ -15,7 +15,7 @@ def state_words(state):
     """How the desk is in a word, and the facts beside it, which page.js writes anew each second."""
     day = state['date']
     date = f'day {day[:4]}-{day[4:6]}-{day[6:]}' if day else 'no day is open'
-    heard = '' if state['heard_seconds'] is None else f'heard {state["heard_seconds"]:.0f} s ago'
+    heard = '' if state['heard_seconds'] is None else f'answered {state["heard_seconds"]:.0f} s ago'
     facts = [date, f'entries {state["entries"]:,}', f'{state["behind"]:,} behind' if state['behind'] else '', heard]
     return state['word'], [fact for fact in facts if fact]
 
