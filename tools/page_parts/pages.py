@@ -9,6 +9,7 @@ from .tables import (address, agreements_table, answer_words, chips, clock, conn
 KINDS = {'EXEC': 'executing firms', 'AGR': 'agreements', 'ACCT': 'accounts', 'CARRY': 'carrying firms', 'GUAR': 'guarantors'}
 MORE = 200              # rows that come with each step down a long list
 MOST_GROUPS = 12        # that are named as choices
+UNKNOWN = 'the desk isn\'t asked, or doesn\'t answer'
 NOTHING = 'No entry, offer, firm, account, agreement, group or instrument has this name. An id is looked for as it was sent, capitals and all.'
 
 
@@ -86,7 +87,7 @@ def tiles(v):
         ('/limits?state=near', 'Limits near', limits['near'], f'used to {v["near_from"]:.0%} or more', limits['near'] and 'warn', 'near'),
         ('/sweeps', 'Lots moved today', v['moved'], f'{v["swept"]:,} swept, {v["claimed"]:,} claimed, {v["reversed"]:,} taken back', '', 'moved'),
         ('/entries?only=refused', 'Refused today', v['refused'], refused, '', 'refused'),
-        ('/connections', 'Connections', connections['connected'], f'{silent:,} not heard for a minute', silent and 'warn', 'connected'),
+        ('/connections', 'Connections', connections['connected'], UNKNOWN if silent is None else f'{silent:,} not heard for a minute', silent and 'warn', 'connected'),
         ('/entries', 'Entries a minute', rate['last_minute'] if rate else None, f'{state["entries"]:,} of {state["most_entries"]:,} entries', '', 'last_minute'),
     ]
     for path, name, value, words, mark, f in rows:
@@ -123,7 +124,8 @@ def limits(v):
 
 def group_lead(group):
     waiting = link(address('offers', group=group['group']), count(group['offers'], 'open offer'))
-    words = f' wait{would_take(group["swept_now"])}. Less room than waits has {count(group["short"], "limit")}. '
+    short = f'{count(group["short"], "limit")} {"has" if group["short"] == 1 else "have"} less room than waits under {"it" if group["short"] == 1 else "them"}'
+    words = f' wait{would_take(group["swept_now"])}. {short}. '
     return tag('p', f'{count(group["lots"], "lot")} of ', waiting, words, link(address('sweeps', group=group['group']), 'Its sweeps'), class_='lead')
 
 
@@ -265,8 +267,9 @@ def connections(v):
         yield tag('p', tag('b', count(v['silent'], 'connection')), f' not heard for a minute: {names}.', class_='lead')
     places = f' of {v["places"]:,} places' if v['places'] else ''
     ever = f'; {v["ever"]:,} in all so far' if v['ever'] is not None else ''
-    shown = connections_table(v['rows'], 'Who is connected') if v['rows'] else empty('Nobody is connected, or the desk can\'t be asked.')
-    yield panel('Who is connected', shown, note=f'{v["connected"]:,}{places}{ever}; the longest silent first')
+    is_known = v['connected'] is not None
+    shown = connections_table(v['rows'], 'Who is connected') if v['rows'] else empty('Nobody is connected.' if is_known else 'The desk can\'t be asked.')
+    yield panel('Who is connected', shown, note=f'{v["connected"]:,}{places}{ever}; the longest silent first' if is_known else None)
     if v['absent']:
         yield panel('Firms without a connection', tag('p', ', '.join(v['absent'])), note=count(len(v['absent']), 'firm'))
 

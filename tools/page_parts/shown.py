@@ -320,14 +320,16 @@ class Shown:
         absent = [firm for firm in self.day.reference.firms if firm not in present]
         desk = following.desk
         return dict(self.connection_counts(), places=desk.places if desk else None, ever=desk.all if desk else None, is_watched=bool(following.watch),
-                    rows=[self.connection_values(row) for row in rows], absent=absent if following.watch and following.heard else [])
+                    rows=[self.connection_values(row) for row in rows], absent=absent if desk and not following.gone else [])
 
     @staticmethod
     def connection_values(row):
         return dict(row._asdict(), is_silent=row.heard >= SILENT)
 
     def connection_counts(self):
-        rows = self.following.connections
+        rows, is_known = self.following.connections, self.following.desk is not None and not self.following.gone
+        if not is_known:
+            return dict(connected=None, silent=None, without_firm=None)
         return dict(connected=len(rows), silent=sum(row.heard >= SILENT for row in rows), without_firm=sum(row.firm == '-' for row in rows))
 
     # A search.
