@@ -204,8 +204,8 @@ class Following:
         if self.fault:
             return 'bad', 'stopped', f'{self.fault}. {shown} Start the page again once that is mended.'
         if self.day.differs:
-            return 'bad', 'differs', (f'The replica is not a copy of the desk, {self.day.differs}. Trust the desk\'s own answers. Is the page started with the desk\'s '
-                                      'reference and program?')
+            return 'bad', 'differs', (f'The replica is not a copy of the desk, {self.day.differs}. Trust the desk\'s own answers. '
+                                      'Is the page started with the desk\'s reference and program?')
         if self.watch and self.gone and self.is_closed():
             return 'over', 'closed', f'The desk was closed, and its day has ended. {shown}'
         if self.watch and self.gone:

@@ -26,7 +26,7 @@ class GroupView:
         self.rooms = {(row.kind, row.name): row.room for row in rows}
         # A limit that was never set isn't listed, and blocks what waits under it.
         rows += [self.limit(*key, None, 0, 0, waiting) for key in waiting if key not in self.rooms]
-        self.limits = rows
+        self.limits = sorted(rows, key=by_need)
         self.offers = list(offers.open[place])
         self.held = {number: keys for number in self.offers if (keys := self.short_keys(offers, number))}
         self.lots = offers.lots_waiting[place]

@@ -109,7 +109,7 @@ function watch() {
     }
 }
 
-// A long list: the link at its end is followed as it comes into sight, and the list stays where it is.
+// A long list: as the link at its end comes into sight, the rows after those that are shown are put below them. The address has how many there are.
 
 const end = new IntersectionObserver(seen => { if (seen.some(entry => entry.isIntersecting)) more(); }, {rootMargin: '800px'});
 
@@ -119,11 +119,22 @@ function watchEnd() {
     if (link) end.observe(link);
 }
 
-function more() {
-    const link = document.querySelector('a[data-more]');
-    if (!link || location.href === link.href) return;
-    history.replaceState(null, '', link.href);
-    renew();
+async function more() {
+    const link = document.querySelector('a[data-more]'), body = link?.closest('section').querySelector('tbody');
+    if (!body || isRenewing) return;
+    isRenewing = true;
+    const address = new URL(link.href), rest = new URL(link.href);
+    rest.searchParams.set('from', body.rows.length);
+    try {
+        const text = await (await fetch(rest, {cache: 'no-store'})).text();
+        const list = new DOMParser().parseFromString(text, 'text/html').querySelector('section[data-list]');
+        body.append(...[...list.querySelectorAll('tbody tr')].filter(row => !part(row.id)));
+        link.closest('p').replaceWith(...list.querySelectorAll('.end'));
+        history.replaceState(null, '', address);
+    } catch { /* the stream says that the program is gone */ }
+    isRenewing = false;
+    watchEnd();
+    if (isDue) renew();
 }
 
 document.addEventListener('click', event => { if (event.target.closest?.('a[data-more]')) { event.preventDefault(); more(); } });

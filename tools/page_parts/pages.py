@@ -7,7 +7,7 @@ from .tables import (address, agreements_table, answer_words, chips, clock, conn
                      trade_words)
 
 KINDS = {'EXEC': 'executing firms', 'AGR': 'agreements', 'ACCT': 'accounts', 'CARRY': 'carrying firms', 'GUAR': 'guarantors'}
-MORE = 200              # rows that come with each step down a long list
+MORE = 400              # rows that come with each step down a long list
 MOST_GROUPS = 12        # that are named as choices
 UNKNOWN = 'the desk isn\'t asked, or doesn\'t answer'
 NOTHING = 'No entry, offer, firm, account, agreement, group or instrument has this name. An id is looked for as it was sent, capitals and all.'
@@ -19,9 +19,9 @@ def empty(words):
     return tag('p', words, class_='empty')
 
 
-def panel(title, *parts, note=None, more=None, class_=''):
+def panel(title, *parts, note=None, more=None, class_='', is_list=False):
     head = tag('div', tag('h2', title), note and tag('span', note, class_='note'), more and link(more[0], more[1], class_='more'), class_='head')
-    return tag('section', head, *parts, class_=f'panel {class_}'.strip())
+    return tag('section', head, *parts, class_=f'panel {class_}'.strip(), data_list=is_list)
 
 
 def listed(title, made, rows, words, *parts, **more):
@@ -48,7 +48,7 @@ def filter_form(path, word, **kept):
 
 def rows_end(v, page, **asked):
     """How many rows of a list are shown, and the way to more of them."""
-    have, all_rows = len(v['rows']), v['all']
+    have, all_rows = v['first'] + len(v['rows']), v['all']
     if have >= all_rows:
         return None
     more = link(address(page, **asked, rows=have + MORE), f'Show {min(MORE, all_rows - have):,} more', data_more=True)
@@ -80,6 +80,7 @@ def tiles(v):
     limits, connections, rate, state = v['limits'], v['connections'], v['rate'], v['state']
     full, held, silent = limits['full'] + limits['blocks'], v['held_lots'], connections['silent']
     refused = ', '.join(f'{name} {made:,}' for name, made in list(v['refusals'].items())[:2]) or 'nothing was refused'
+    silence = UNKNOWN if silent is None else f'{silent:,} not heard for a minute'
     rows = [
         ('/offers', 'Open offers', v['open_offers'], f'{count(v["lots_waiting"], "lot")} wait{would_take(v["swept_now"])}', '', 'open_offers'),
         ('/offers?only=held', 'Lots held back', held, f'in {count(v["held_offers"], "offer")} for which a limit lacks room', held and 'bad', 'held_lots'),
@@ -87,7 +88,7 @@ def tiles(v):
         ('/limits?state=near', 'Limits near', limits['near'], f'used to {v["near_from"]:.0%} or more', limits['near'] and 'warn', 'near'),
         ('/sweeps', 'Lots moved today', v['moved'], f'{v["swept"]:,} swept, {v["claimed"]:,} claimed, {v["reversed"]:,} taken back', '', 'moved'),
         ('/entries?only=refused', 'Refused today', v['refused'], refused, '', 'refused'),
-        ('/connections', 'Connections', connections['connected'], UNKNOWN if silent is None else f'{silent:,} not heard for a minute', silent and 'warn', 'connected'),
+        ('/connections', 'Connections', connections['connected'], silence, silent and 'warn', 'connected'),
         ('/entries', 'Entries a minute', rate['last_minute'] if rate else None, f'{state["entries"]:,} of {state["most_entries"]:,} entries', '', 'last_minute'),
     ]
     for path, name, value, words, mark, f in rows:
@@ -118,7 +119,7 @@ def limits(v):
               filter_form(f'/{page}', v['name'], state=v['only'], kind=v['kind']), class_='filters')
     words = 'No limit is like that.' if v['only'] or v['kind'] or v['name'] else 'No limit was set yet: whatever is given up waits.'
     shown = limits_table(v['rows'], 'Limits', not v['group']) if v['rows'] else empty(words)
-    yield panel(count(v['all'], 'limit'), shown, rows_end(v, page, state=v['only'], kind=v['kind'], name=v['name']), legend(),
+    yield panel(count(v['all'], 'limit'), shown, rows_end(v, page, state=v['only'], kind=v['kind'], name=v['name']), legend(), is_list=True,
                 note='most lots without room first, then the fullest')
 
 
@@ -136,7 +137,7 @@ def offers(v):
     yield tag('div', choices('which', v['only'], options, lambda only: address('offers', **{**asked, 'only': only})),
               group_choices(v, 'offers', only=v['only'], name=v['name']), filter_form('/offers', v['name'], group=v['group'], only=v['only']), class_='filters')
     shown = offers_table(v['rows'], 'Offers that wait') if v['rows'] else empty('No offer is like that.' if any(asked.values()) else 'No offer waits.')
-    yield panel(f'{count(v["all"], "offer")}, {count(v["lots"], "lot")}', shown, rows_end(v, 'offers', **asked),
+    yield panel(f'{count(v["all"], "offer")}, {count(v["lots"], "lot")}', shown, rows_end(v, 'offers', **asked), is_list=True,
                 note='the oldest first. An offer is held back if a limit on its path has less room than is left of it')
 
 
@@ -184,7 +185,7 @@ def sweeps(v):
     yield tag('h1', 'Sweeps')
     yield tag('div', group_choices(v, 'sweeps'), class_='filters')
     shown = sweeps_table(v['rows'], 'Sweeps') if v['rows'] else empty('No sweep was made yet.')
-    yield panel(count(v['all'], 'sweep'), shown, rows_end(v, 'sweeps', group=v['group']), note='the newest first')
+    yield panel(count(v['all'], 'sweep'), shown, rows_end(v, 'sweeps', group=v['group']), is_list=True, note='the newest first')
 
 
 def sweep(v):
@@ -213,7 +214,7 @@ def sheet_panels(v, s):
                 note=f'{count(left, "lot")} of {count(len(short), "offer")}' + (f', of which {MORE} are shown' if len(short) > MORE else ''))
     rows = sorted(v['limits'], key=lambda row: (not row['is_cut'], -row['held_back'], row['room'] - row['taken']))
     yield panel('Its limits', sheet_limits(rows[:MORE]), note=count(len(rows), 'limit'), class_='half')
-    yield panel('What it took whole', sheet_offers(whole[:MORE], 'What it took whole') if whole else empty('No offer.'), note=count(len(whole), 'offer'), class_='half')
+    yield listed('What it took whole', sheet_offers, whole[:MORE], 'No offer.', note=count(len(whole), 'offer'), class_='half')
 
 
 def positions(v):
@@ -221,14 +222,14 @@ def positions(v):
     yield tag('div', filter_form('/positions', v['name']), tag('span', 'an account, a firm or an instrument', class_='note'), class_='filters')
     yield panel('By instrument', instruments_table(v['instruments']) if v['instruments'] else empty('No account holds anything.'))
     shown = positions_table(v['rows'], 'By account') if v['rows'] else empty('None of that name holds anything.' if v['name'] else 'No account holds anything.')
-    yield panel('By account', shown, rows_end(v, 'positions', name=v['name']), note=count(v['all'], 'position'))
+    yield panel('By account', shown, rows_end(v, 'positions', name=v['name']), is_list=True, note=count(v['all'], 'position'))
 
 
 def entries(v):
     yield tag('h1', 'Entries')
     yield tag('div', choices('which', v['only'], [('', 'all'), ('refused', 'refused')], lambda only: address('entries', only=only)), class_='filters')
     shown = entries_table(v['rows'], 'Entries') if v['rows'] else empty('Nothing was refused.' if v['only'] else 'Nothing was entered yet.')
-    yield panel(entries_counted(v['all']), shown, rows_end(v, 'entries', only=v['only']), note='the newest first')
+    yield panel(entries_counted(v['all']), shown, rows_end(v, 'entries', only=v['only']), is_list=True, note='the newest first')
 
 
 def entry(v):

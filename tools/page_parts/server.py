@@ -7,7 +7,7 @@ import time
 import urllib.parse
 from pathlib import Path
 
-from .exports import metrics_of, table_of
+from .exports import HEADS, metrics_of, table_of
 from .frame import page_of, state_words
 from .replica import ReplicaEnded
 from .shown import MOST_ROWS
@@ -144,8 +144,8 @@ class Server:
         if form == 'csv':
             asked['rows'] = str(MOST_ROWS)
         values = self.values(parts, asked)
-        has_form = form in ('html', 'json') or form == 'csv' and parts in (['limits'], ['offers'], ['positions']) or form == 'sheet' and parts[0] == 'sweeps' and len(parts) == 2
-        if values is None or not has_form:
+        forms = {'csv': len(parts) == 1 and parts[0] in HEADS, 'sheet': len(parts) == 2 and parts[0] == 'sweeps'}
+        if values is None or not forms.get(form, True):
             raise Refused(404, 'There is no such page.')
         if form == 'json':
             return Answer(200, 'json', json.dumps({name: value for name, value in values.items() if not name.startswith('_')}, indent=1) + '\n')

@@ -1,5 +1,6 @@
 """What each page shows, as values: the JSON of a page is these, and its HTML is made of them."""
 import bisect
+import heapq
 import itertools
 import subprocess
 import threading
@@ -57,13 +58,14 @@ class Shown:
 
     @staticmethod
     def rows_asked(asked):
-        return number_in(asked.get('rows', ''), 1, MOST_ROWS) or ROWS
+        """The places of the first row that is asked for, and of the one after the last."""
+        return number_in(asked.get('from', ''), 0, MOST_ROWS) or 0, number_in(asked.get('rows', ''), 1, MOST_ROWS) or ROWS
 
     # The overview.
 
     def overview(self, asked):
         day, views = self.day, self.following.views.all()
-        limits = sorted((row for view in views for row in view.limits if row.state != 'free' or row.short), key=by_need)
+        limits = [[row for row in view.limits if row.state != 'free' or row.short] for view in views]
         held = sorted(number for view in views for number in view.held)
         sweeps = day.sheets.numbers
         return dict(
@@ -71,7 +73,8 @@ class Shown:
             swept_now=self.sum_of(view.proposed for view in views), limits=self.states(views), near_from=NEAR,
             moved=day.swept + day.claimed - day.reversed, swept=day.swept, claimed=day.claimed, reversed=day.reversed, closed=day.closed,
             refused=sum(day.refusals.values()), refusals=dict(day.refusals.most_common()), rate=self.rate(), connections=self.connection_counts(),
-            tightest=[self.limit_values(row) for row in limits[:12]], tight=len(limits), held=[self.offer_values(number) for number in held[:8]],
+            tightest=[self.limit_values(row) for row in itertools.islice(heapq.merge(*limits, key=by_need), 12)],
+            held=[self.offer_values(number) for number in held[:8]],
             groups=[self.group_values(view) for view in sorted(views, key=lambda view: (-view.held_lots, -view.lots, view.group))[:12]], all_groups=len(views),
             last_sweeps=[self.sweep_values(number) for number in sweeps[:-8:-1]],
             last_refusals=[self.entry_values(number) for number in day.history.refused[:-8:-1] if number >= day.first])
@@ -107,11 +110,13 @@ class Shown:
         if group is not None and group not in self.day.reference.group_places:
             return None
         shown = [views.view(self.day.reference.group_places[group])] if group else views.all()
-        kind, state, word, most = asked.get('kind', ''), asked.get('state', ''), asked.get('name', '').upper(), self.rows_asked(asked)
-        rows = [row for view in shown for row in view.limits
-                if kind in ('', row.kind) and word in row.name and (not state or self.is_like(row, state))]
-        rows.sort(key=by_need)
-        return dict(group=group, kind=kind, only=state, name=word, all=len(rows), rows=[self.limit_values(row) for row in rows[:most]], limits=self.states(shown),
+        kind, state, word, (first, most) = asked.get('kind', ''), asked.get('state', ''), asked.get('name', '').upper(), self.rows_asked(asked)
+        lists = [view.limits for view in shown]
+        if kind or state or word:
+            lists = [[row for row in rows if kind in ('', row.kind) and word in row.name and (not state or self.is_like(row, state))] for rows in lists]
+        rows = itertools.islice(heapq.merge(*lists, key=by_need), first, most)
+        return dict(group=group, kind=kind, only=state, name=word, all=sum(map(len, lists)), first=first,
+                    rows=[self.limit_values(row) for row in rows], limits=self.states(shown),
                     groups=[self.group_values(view) for view in shown if group or view.limits or view.lots])
 
     @staticmethod
@@ -130,7 +135,7 @@ class Shown:
     # Offers.
 
     def offers(self, asked):
-        group, only, word, most = asked.get('group', ''), asked.get('only', ''), asked.get('name', '').upper(), self.rows_asked(asked)
+        group, only, word, (first, most) = asked.get('group', ''), asked.get('only', ''), asked.get('name', '').upper(), self.rows_asked(asked)
         offers, reference = self.day.offers, self.day.reference
         numbers = []
         for view in self.following.views.all():
@@ -140,7 +145,7 @@ class Shown:
             numbers = [number for number in numbers if any(word in name for _, name in offers.path(number))]
         numbers.sort()
         return dict(group=group, only=only, name=word, all=len(numbers), lots=sum(offers.left[number] for number in numbers), groups=reference.groups,
-                    rows=[self.offer_values(number) for number in numbers[:most]])
+                    first=first, rows=[self.offer_values(number) for number in numbers[first:most]])
 
     def offer_values(self, number):
         day, offers = self.day, self.day.offers
@@ -188,9 +193,10 @@ class Shown:
     # Sweeps.
 
     def sweeps(self, asked):
-        numbers, most, group = self.day.sheets.numbers, self.rows_asked(asked), asked.get('group', '')
+        numbers, (first, most), group = self.day.sheets.numbers, self.rows_asked(asked), asked.get('group', '')
         rows = [number for number in reversed(numbers) if group in ('', self.day.sheets.rows[number].group)]
-        return dict(group=group, groups=self.day.reference.groups, all=len(rows), rows=[self.sweep_values(number) for number in rows[:most]])
+        return dict(group=group, groups=self.day.reference.groups, all=len(rows), first=first,
+                    rows=[self.sweep_values(number) for number in rows[first:most]])
 
     def sweep_values(self, number):
         row, day = self.day.sheets.rows[number], self.day
@@ -215,7 +221,8 @@ class Shown:
                 _view=view, oldest_first=view.filled_in_turn(), story=view.story(),
                 limits=[dict(kind=kind, name=name, room=view.room((kind, name)), taken=view.taken[kind, name], held_back=view.held_back[kind, name],
                              is_cut=view.is_cut((kind, name))) for kind, name in view.sheet.rooms],
-                offers=[dict(number=offer, lots=row.lots, taken=view.takes(offer), path=view.path(offer), held_by=view.held_by(offer)) for offer, row in view.offers.items()])
+                offers=[dict(number=offer, lots=row.lots, taken=view.takes(offer), path=view.path(offer), held_by=view.held_by(offer))
+                        for offer, row in view.offers.items()])
         return values
 
     def sheet(self, number):
@@ -234,7 +241,7 @@ class Shown:
     # Positions.
 
     def positions(self, asked):
-        day, word, most = self.day, asked.get('name', '').upper(), self.rows_asked(asked)
+        day, word, (first, most) = self.day, asked.get('name', '').upper(), self.rows_asked(asked)
         rows = self.position_rows()
         symbols = sorted({row['symbol'] for row in rows})
         interest = day.ask_interest(symbols)
@@ -243,9 +250,9 @@ class Shown:
             sums[row['symbol']] = [one + more for one, more in zip(sums[row['symbol']], (row['long'], row['short'], 1))]
         shown = [row for row in rows if word in ('', row['account'], row['symbol'], row['firm'])]
         return dict(name=word, all=len(shown),
-                    instruments=[dict(symbol=symbol, group=day.reference.instruments[symbol], interest=interest.get(symbol), long=sums[symbol][0], short=sums[symbol][1],
-                                      accounts=sums[symbol][2]) for symbol in symbols],
-                    rows=shown[:most])
+                    instruments=[dict(symbol=symbol, group=day.reference.instruments[symbol], interest=interest.get(symbol), long=sums[symbol][0],
+                                      short=sums[symbol][1], accounts=sums[symbol][2]) for symbol in symbols],
+                    first=first, rows=shown[first:most])
 
     def position_rows(self):
         """What each account holds, as the replica says."""
@@ -256,9 +263,9 @@ class Shown:
     # Entries.
 
     def entries(self, asked):
-        history, most, only = self.day.history, self.rows_asked(asked), asked.get('only', '')
-        numbers = history.refused[:-most - 1:-1] if only == 'refused' else range(len(history), max(0, len(history) - most), -1)
-        return dict(only=only, all=len(history.refused) if only == 'refused' else len(history), rows=[self.entry_values(number) for number in numbers])
+        history, (first, most), only = self.day.history, self.rows_asked(asked), asked.get('only', '')
+        numbers = history.refused[::-1][first:most] if only == 'refused' else range(len(history), 0, -1)[first:most]
+        return dict(only=only, all=len(history.refused) if only == 'refused' else len(history), first=first, rows=[self.entry_values(number) for number in numbers])
 
     def entry_values(self, number):
         entry = self.day.history.entry(number)
