@@ -4,7 +4,6 @@
 const SOON = 250;               // milliseconds from one renewal to the next, at least; where one takes long, three times as long as it took
 const STALE = 5000;             // since the last renewal, where nothing was entered: what STATUS says changes all the same
 const LOST = 4000;              // without a word from the page's program
-const WITHOUT_STREAM = 5000;    // from one renewal to the next where the program has no stream left
 
 let stream = null, change = null, heard = Date.now(), since = 0, took = 0, isRenewing = false, isDue = false;
 
@@ -103,7 +102,7 @@ function listen() {
 function watch() {
     if (document.hidden) return;
     const silent = Date.now() - heard;
-    if (stream.readyState === EventSource.CLOSED && silent > WITHOUT_STREAM) { renew(); listen(); }
+    if (stream.readyState === EventSource.CLOSED && silent > LOST) listen();
     if (silent > LOST && stream.readyState !== EventSource.OPEN || silent > 3 * LOST) {
         say('bad', 'page lost', `tools/page has not answered this browser for ${Math.round(silent / 1000)} s. What is shown is what it had by then. It is tried again.`);
     }

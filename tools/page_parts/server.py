@@ -1,6 +1,7 @@
 """Answers browsers: GET and HEAD alone, on 127.0.0.1 alone, and nothing that a page elsewhere could read."""
 import collections
 import json
+import select
 import socket
 import threading
 import time
@@ -16,6 +17,7 @@ MOST_BYTES = 8192       # of a request
 SECONDS = 10            # in which a request has to come, and an answer to go
 MOST_AT_ONCE = 64       # connections
 MOST_STREAMS = 16       # of them for events
+AGAIN = 3000            # milliseconds after which a browser without a stream asks again
 NAMES = ('127.0.0.1', 'localhost')
 HERE = Path(__file__).resolve().parent
 TYPES = {'html': 'text/html', 'json': 'application/json', 'csv': 'text/csv', 'sheet': 'text/plain', 'text': 'text/plain', 'css': 'text/css', 'js': 'text/javascript',
@@ -25,7 +27,7 @@ POLICY = ("default-src 'none'; style-src 'self'; script-src 'self'; img-src 'sel
 HEADERS = [('Content-Security-Policy', POLICY), ('X-Content-Type-Options', 'nosniff'), ('X-Frame-Options', 'DENY'), ('Referrer-Policy', 'no-referrer'),
            ('Cross-Origin-Resource-Policy', 'same-origin'), ('Cross-Origin-Opener-Policy', 'same-origin'), ('Cache-Control', 'no-store'), ('Connection', 'close')]
 REASONS = {200: 'OK', 400: 'Bad Request', 403: 'Forbidden', 404: 'Not Found', 405: 'Method Not Allowed', 408: 'Request Timeout', 421: 'Misdirected Request',
-           431: 'Request Header Fields Too Large', 500: 'Internal Server Error', 503: 'Service Unavailable'}
+           431: 'Request Header Fields Too Large', 500: 'Internal Server Error'}
 
 Request = collections.namedtuple('Request', 'method path query headers')
 Answer = collections.namedtuple('Answer', 'status type body')
@@ -163,19 +165,32 @@ class Server:
             return self.shown.answer(parts, asked)
 
     def stream(self, line):
-        """Says how it goes each second, and at once if something has changed."""
-        if not self.streams.acquire(blocking=False):
-            raise Refused(503, f'{MOST_STREAMS} pages renew themselves already.')
+        """Says how it goes each second, and at once if something has changed. Where there are enough streams, it is said once, and asked for again soon."""
+        is_kept = self.streams.acquire(blocking=False)
         try:
-            line.sendall(head_of(200, 'events', []))
-            seen = -1
-            while True:
-                seen, state = self.following.wait(seen, 1), self.following.state()
-                said = dict(change=seen, level=state['level'], word=state['word'], text=state['text'], facts=state_words(state)[1])
-                line.sendall(f'data: {json.dumps(said)}\n\n'.encode())
-                time.sleep(0.05)        # many changes at once are one event
+            line.sendall(head_of(200, 'events', []) + (b'' if is_kept else b'retry: %d\n' % AGAIN))
+            seen, last = -1, 0
+            while not is_closed(line):
+                change = self.following.wait(seen, 0.25)
+                if change != seen or time.monotonic() - last >= 1:
+                    seen, last = change, time.monotonic()
+                    line.sendall(self.event(change))
+                    if not is_kept:
+                        return
+                    time.sleep(0.05)        # many changes at once are one event
         finally:
-            self.streams.release()
+            if is_kept:
+                self.streams.release()
+
+    def event(self, change):
+        state = self.following.state()
+        said = dict(change=change, level=state['level'], word=state['word'], text=state['text'], facts=state_words(state)[1])
+        return f'data: {json.dumps(said)}\n\n'.encode()
+
+
+def is_closed(line):
+    """Whether the other end has gone: it has nothing more to say."""
+    return bool(select.select([line], [], [], 0)[0]) and not line.recv(4096)
 
 
 def parts_of(path):
