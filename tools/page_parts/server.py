@@ -98,7 +98,11 @@ class Server:
 
     def serve(self):
         while True:
-            line, _ = self.listener.accept()
+            try:
+                line, _ = self.listener.accept()
+            except OSError:
+                time.sleep(0.1)         # too many files are open, or it was gone again
+                continue
             if self.places.acquire(blocking=False):
                 threading.Thread(target=self.talk, args=(line,), daemon=True).start()
             else:
@@ -142,7 +146,10 @@ class Server:
         if path == '/metrics':
             return Answer(200, 'metrics', metrics_of(self.following))
         parts, form = parts_of(path)
-        asked = dict(urllib.parse.parse_qsl(request.query, encoding='latin-1', max_num_fields=10))
+        try:
+            asked = dict(urllib.parse.parse_qsl(request.query, encoding='latin-1', max_num_fields=10))
+        except ValueError:
+            raise Refused(400, 'A query has ten fields at most.') from None
         if form == 'csv':
             asked['rows'] = str(MOST_ROWS)
         values = self.values(parts, asked)
