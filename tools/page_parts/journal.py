@@ -1,5 +1,6 @@
 """A journal's file: its entries with their moments and origins, its digests, and what the sweeps took, as docs/OPERATING.md says."""
 import calendar
+import collections
 import hashlib
 import os
 import re
@@ -54,17 +55,14 @@ class Digests:
     """The chain of a journal's digests, beside what the replica prints: where they agree, it answers as the desk did."""
 
     def __init__(self):
-        self.last, self.entries, self.batch, self.is_new = bytes(32), 0, hashlib.sha256(bytes(32)), False
+        self.last, self.entries, self.waiting = bytes(32), 0, []     # the last digest, the entries up to it, and the answers after it
 
     def add(self, answers):
-        if answers:
-            self.batch.update((''.join(map(shown_of, answers))).encode('latin-1'))
-            self.is_new = True
+        self.waiting += answers
 
     def agrees(self, entries, digest):
-        if self.is_new:
-            self.last, self.is_new = self.batch.digest(), False
-            self.batch = hashlib.sha256(self.last)
+        if self.waiting:
+            self.last, self.waiting = hashlib.sha256(self.last + ''.join(map(shown_of, self.waiting)).encode('latin-1')).digest(), []
         self.entries = entries
         return self.last.hex() == digest
 
@@ -96,19 +94,23 @@ class JournalText:
             if line[:1] != '#':
                 if line:
                     self.add_entry(line, at)
-            elif line.startswith('# TAKE '):
-                _, _, offer, lots = line.split(' ')
-                self.sweep = {**(self.sweep or {}), int(offer): int(lots)}
-            elif line.startswith('# CUT '):
-                self.sweep = self.sweep or {}
-            elif found := MOMENT.fullmatch(line):
+            elif line[10:11] == '-' and (found := MOMENT.fullmatch(line)):
                 self.moment, self.origin = self.milliseconds(found[1]) + int(found[2]), (int(found[3] or 0), int(found[4] or 0))
             elif found := DIGEST.fullmatch(line):
                 self.marks.append((len(self.rows), int(found[1]), found[2]))
-            elif line.startswith('# REPORT '):
-                self.instead = line[2:]
-            elif line.startswith('# reference: SHA-256 ') and line.split(' ')[3] != self.reference.digest:
-                self.fault = 'the journal is of another reference file'
+            else:
+                self.add_comment(line)
+
+    def add_comment(self, line):
+        if line.startswith('# TAKE '):
+            _, _, offer, lots = line.split(' ')
+            self.sweep = {**(self.sweep or {}), int(offer): int(lots)}
+        elif line.startswith('# CUT '):
+            self.sweep = self.sweep or {}
+        elif line.startswith('# REPORT '):
+            self.instead = line[2:]
+        elif line.startswith('# reference: SHA-256 ') and line.split(' ')[3] != self.reference.digest:
+            self.fault = 'the journal is of another reference file'
 
     def add_entry(self, line, at):
         if self.entry_of_sweep:
@@ -129,24 +131,32 @@ class JournalText:
         self.entry_of_sweep, self.sweep = None, None
 
     def milliseconds(self, text):
+        """The milliseconds of a second such as 20260105-09:30:00, since 1970."""
         if text != self.second:
-            self.second, self.base = text, calendar.timegm(time.strptime(text, '%Y%m%d-%H:%M:%S')) * 1000
+            parts = text[:4], text[4:6], text[6:8], text[9:11], text[12:14], text[15:]
+            self.second, self.base = text, calendar.timegm(tuple(map(int, parts))) * 1000
         return self.base
 
     def give(self, day, most=2000):
         """Gives a day the entries that wait, so many at most at a time, and compares what it can."""
-        rows, marks, self.rows, self.marks = self.rows, self.marks, [], []
-        first = 0
-        for place, entries, digest in [*marks, (len(rows), None, None)]:
-            while first < place:
-                part = rows[first:min(place, first + most)]
-                answers = day.take(part)
-                self.compare(day, answers)
-                self.digests.add(answers)
-                first += len(part)
-            if digest and not self.digests.agrees(entries, digest):
-                day.say(entries, 'the journal has another digest of the answers up to it')
+        rows, marks, self.rows, self.marks = self.rows, collections.deque(self.marks), [], []
+        for first in range(0, len(rows), most):
+            answers = day.take(rows[first:first + most])
+            self.compare_takes(day)
+            self.compare_digests(day, answers, first, marks)
+        self.compare_digests(day, [], len(rows), marks)
 
-    def compare(self, day, answers):
+    def compare_takes(self, day):
         for entry in [entry for entry in self.takes if entry <= len(day.history)]:
             day.compare(entry, self.takes.pop(entry))
+
+    def compare_digests(self, day, answers, first, marks):
+        """Compares the digests that come with or before these answers, of which the first is that to row `first`."""
+        place, end = first, first + len(answers)
+        while marks and marks[0][0] <= end:
+            at, entries, digest = marks.popleft()
+            self.digests.add(answers[place - first:at - first])
+            place = at
+            if not self.digests.agrees(entries, digest):
+                day.say(entries, 'the journal has another digest of the answers up to it')
+        self.digests.add(answers[place - first:])
