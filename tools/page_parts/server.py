@@ -11,7 +11,6 @@ from pathlib import Path
 from .exports import HEADS, metrics_of, table_of
 from .frame import page_of, state_words
 from .replica import ReplicaEnded
-from .shown import MOST_ROWS
 
 MOST_BYTES = 8192       # of a request
 SECONDS = 10            # in which a request has to come, and an answer to go
@@ -126,8 +125,10 @@ class Server:
             is_head = request.method == 'HEAD'
             check(request)
             line.settimeout(SECONDS)
-            if request.path == '/events' and not is_head:
-                self.stream(line)
+            if request.path == '/events':
+                line.sendall(head_of(200, 'events', []))
+                if not is_head:
+                    self.stream(line)
                 return
             answer = self.page(request)
         except Refused as refused:
@@ -151,10 +152,10 @@ class Server:
         except ValueError:
             raise Refused(400, 'A query has ten fields at most.') from None
         if form == 'csv':
-            asked['rows'] = str(MOST_ROWS)
-        values = self.values(parts, asked)
+            asked['rows'] = None
         forms = {'csv': len(parts) == 1 and parts[0] in HEADS, 'sheet': len(parts) == 2 and parts[0] == 'sweeps'}
-        if values is None or not forms.get(form, True):
+        values = self.values(parts, asked) if forms.get(form, True) else None
+        if values is None:
             raise Refused(404, 'There is no such page.')
         if form == 'json':
             return Answer(200, 'json', json.dumps({name: value for name, value in values.items() if not name.startswith('_')}, indent=1) + '\n')
@@ -175,7 +176,8 @@ class Server:
         """Says how it goes each second, and at once if something has changed. Where there are enough streams, it is said once, and asked for again soon."""
         is_kept = self.streams.acquire(blocking=False)
         try:
-            line.sendall(head_of(200, 'events', []) + (b'' if is_kept else b'retry: %d\n' % AGAIN))
+            if not is_kept:
+                line.sendall(b'retry: %d\n' % AGAIN)
             seen, last = -1, 0
             while not is_closed(line):
                 change = self.following.wait(seen, 0.25)

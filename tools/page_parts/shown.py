@@ -58,7 +58,9 @@ class Shown:
 
     @staticmethod
     def rows_asked(asked):
-        """The places of the first row that is asked for, and of the one after the last."""
+        """The places of the first row that is asked for, and of the one after the last; without an end where `rows` is None, as in a table for a spreadsheet."""
+        if asked.get('rows', '') is None:
+            return 0, None
         return number_in(asked.get('from', ''), 0, MOST_ROWS) or 0, number_in(asked.get('rows', ''), 1, MOST_ROWS) or ROWS
 
     # The overview.
