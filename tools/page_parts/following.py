@@ -225,6 +225,10 @@ class Following:
             return 'warn', 'behind', f'{behind:,} entries behind the desk for {int(now - self.behind_since)} s.'
         return 'good', 'open', 'The desk answers, and what is shown is what it has.'
 
+    def is_over(self):
+        """Whether nothing will be entered any more."""
+        return bool(self.gone) and self.is_closed() if self.watch else self.file is not None and self.file.is_over
+
     def is_closed(self):
         """Whether the desk that is gone was closed, by what it said last or by its journal; a desk that was killed leaves zeros there."""
         return self.desk is not None and self.desk.state == 'CLOSING' or self.file is not None and self.is_read and self.file.is_over

@@ -89,11 +89,16 @@ def tiles(v):
         ('/sweeps', 'Lots moved today', v['moved'], f'{v["swept"]:,} swept, {v["claimed"]:,} claimed, {v["reversed"]:,} taken back', '', 'moved'),
         ('/entries?only=refused', 'Refused today', v['refused'], refused, '', 'refused'),
         ('/connections', 'Connections', connections['connected'], silence, silent and 'warn', 'connected'),
-        ('/entries', 'Entries a minute', rate['last_minute'] if rate else None, f'{state["entries"]:,} of {state["most_entries"]:,} entries', '', 'last_minute'),
+        ('/entries', 'Entries a second', rate and rate['per_second'], entered_words(rate, state), '', 'per_second'),
     ]
     for path, name, value, words, mark, f in rows:
         parts = tag('span', name, class_='name'), tag('strong', number(value), data_f=f), tag('span', words, class_='note')
         yield link(path, *parts, class_=f'tile {mark or ""}'.strip())
+
+
+def entered_words(rate, state):
+    minute = f'{rate["last_minute"]:,} in the last minute; ' if rate and rate['last_minute'] is not None else ''
+    return f'{minute}{state["entries"]:,} of {state["most_entries"]:,} so far'
 
 
 def rate_words(rate):

@@ -4,6 +4,7 @@ import heapq
 import itertools
 import subprocess
 import threading
+import time
 
 from .group_view import NEAR, by_need
 
@@ -11,6 +12,7 @@ ROWS, MOST_ROWS = 100, 20_000
 SILENT = 60_000         # milliseconds without a byte from a firm after which it is shown as silent
 FOUND = 100             # entries of a search
 LOOKED = 10_000         # entries that are looked at for those that follow a limit
+RECENT, BARS = 300_000, 30      # milliseconds before now of which entries are shown by time, and the bars that they are shown in
 DONE = {'REPORT': 'reported', 'GIVEUP': 'given up', 'CLAIM': 'claimed', 'REFUSE': 'refused', 'REVERSE': 'taken back', 'SWEEP': 'swept'}
 
 
@@ -93,17 +95,25 @@ class Shown:
         return dict(states, short=sum(bool(row.short) for view in views for row in view.limits), all=sum(len(view.limits) for view in views))
 
     def rate(self):
-        """Entries a minute: of the last five minutes by ten seconds while the day goes on, and else of the whole day."""
-        history, moments = self.day.history, self.day.history.moments
+        """Entries by time: of the last five minutes if anything was entered in them, and else of the whole day."""
+        history, moments, now = self.day.history, self.day.history.moments, int(time.time() * 1000)
         place = bisect.bisect_right(moments, 0)
         if place == len(moments):
             return None
-        known, last = moments[place], max(moments[-1], moments[place])
-        first = max(known, last - 300_000) if not self.following.file or not self.following.file.is_over else known
-        step = max((last - first) / 30, 1)
-        counts = [history.between(int(first + step * place), int(first + step * (place + 1)) + (place == 29)) for place in range(30)]
+        known, newest, is_over = moments[place], max(moments[-1], moments[place]), self.following.is_over()
+        is_idle = is_over or newest < now - RECENT
+        first, last = (known, newest) if is_idle else (max(known, now - RECENT), max(now, newest))
+        step = max((last - first) / BARS, 1)
+        counts = [history.between(int(first + step * place), int(first + step * (place + 1)) + (place == BARS - 1)) for place in range(BARS)]
         return dict(first=self.clock.iso(first), last=self.clock.iso(last), seconds=round(step / 1000, 3), counts=counts,
-                    last_minute=history.between(last - 60_000, last + 1), last_second=history.between(last - 1000, last + 1))
+                    per_second=None if is_over else self.tenths(history.between(now - 10_000, now + 1)),
+                    last_minute=None if is_over else history.between(now - 60_000, now + 1))
+
+    @staticmethod
+    def tenths(count):
+        """A tenth of a count, without a fraction where it has none."""
+        whole, rest = divmod(count, 10)
+        return count / 10 if rest else whole
 
     # Limits.
 

@@ -114,7 +114,7 @@ LIMIT_COLUMNS = [
 
 def limits_table(rows, name, has_group=True):
     columns = [
-        *([Column('group', group_link, 'wide'), Column('limit', key_in_group, 'key')] if has_group else [Column('limit', key_words, 'key')]),
+        *([Column('group', group_link, 'wide'), Column('key', key_in_group, 'key')] if has_group else [Column('key', key_words, 'key')]),
         *LIMIT_COLUMNS,
         Column('waits', lambda row: row['waiting'] or '', 'n wide', 'waiting'),
         Column('without room', lambda row: bold(row['short']), 'n bad', 'short'),
@@ -125,7 +125,7 @@ def limits_table(rows, name, has_group=True):
 def path_table(rows):
     """The limits on an offer's path."""
     columns = [
-        Column('limit', key_words, 'key'),
+        Column('key', key_words, 'key'),
         *LIMIT_COLUMNS,
         Column('lacks', lambda row: bold(row['lacks']), 'n bad', 'lacks'),
         Column('waits', lambda row: row['waiting'], 'n wide', 'waiting'),
@@ -210,7 +210,7 @@ def sheet_limits(rows):
         return tag('b', 'cut') if row['is_cut'] else 'full' if row['taken'] == row['room'] else ''
 
     return table([
-        Column('limit', key_words, 'key'),
+        Column('key', key_words, 'key'),
         Column('state', state, 'state'),
         Column('room', lambda row: row['room'], 'n', 'room'),
         Column('taken', lambda row: row['taken'], 'n', 'taken'),
