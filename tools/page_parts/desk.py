@@ -3,12 +3,18 @@ import collections
 import socket
 
 PATIENCE = 5            # seconds in which an answer has to come
+ENDED = 'It was closed, or it failed'
+BUSY = 'It was stopped, or its watch is busy, which answers two at once'
 Desk = collections.namedtuple('Desk', 'state date entries most swept connections places all')
 Connection = collections.namedtuple('Connection', 'number firm port since heard bytes_in bytes_out expects sends held')
 
 
 class DeskGone(Exception):
     """The desk can't be asked, and why."""
+
+
+def words_of(error):
+    return f'{error.strerror or error}. {"This user may not open it" if isinstance(error, PermissionError) else ENDED}'
 
 
 class Watch:
@@ -19,7 +25,7 @@ class Watch:
             self.line.connect(path)
         except OSError as error:
             self.line.close()
-            raise DeskGone(error.strerror or str(error)) from None
+            raise DeskGone(words_of(error)) from None
 
     def ask(self, word):
         """The lines of the answer to a word."""
@@ -28,12 +34,12 @@ class Watch:
             while not self.rest.endswith(b'\n\n') and self.rest != b'\n':
                 piece = self.line.recv(1 << 17)
                 if not piece:
-                    raise DeskGone('it closed the connection')
+                    raise DeskGone(f'it closed the connection. {ENDED}')
                 self.rest += piece
         except TimeoutError:
-            raise DeskGone(f'it has not answered {word} for {PATIENCE} s') from None
+            raise DeskGone(f'it has not answered {word} for {PATIENCE} s. {BUSY}') from None
         except OSError as error:
-            raise DeskGone(error.strerror or str(error)) from None
+            raise DeskGone(words_of(error)) from None
         lines, self.rest = self.rest.decode('latin-1').split('\n')[:-2], b''
         if lines in (['BAD LINE'], ['MEMORY']):
             raise DeskGone(f'it answered {word} by {lines[0]}')

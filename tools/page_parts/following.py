@@ -1,4 +1,5 @@
 """Follows a desk that runs, a journal's file, or both, and says how it goes."""
+import contextlib
 import threading
 import time
 
@@ -111,18 +112,16 @@ class Following:
         self.keep_asking(self.read_desk)
 
     def follow_status(self):
-        self.keep_asking(self.read_status)
+        """Each STATUS has a connection of its own: a watch answers two at once, and this one is free for others in between."""
+        self.keep_asking(self.note_status)
 
-    def keep_asking(self, step):
+    def keep_asking(self, read):
         """Asks the desk again and again, also where it is gone for a while."""
         while not self.fault:
             try:
-                watch, self.matched, self.asked = Watch(self.watch), 0, 0
-                try:
-                    while not self.fault:
-                        step(watch)
-                finally:
-                    watch.close()
+                with contextlib.closing(Watch(self.watch)) as watch:
+                    read(watch)
+                time.sleep(STATUS)
             except DeskGone as gone:
                 self.gone_since = self.gone_since or time.time()
                 self.gone, self.connections = str(gone), []
@@ -133,10 +132,6 @@ class Following:
 
     def answered(self):
         self.heard, self.gone, self.gone_since = time.time(), None, None
-
-    def read_status(self, watch):
-        self.note_status(watch)
-        time.sleep(STATUS)
 
     def note_status(self, watch):
         """Asks for STATUS. That alone is no change: it differs each second, and the pages that show it renew themselves by the clock."""
@@ -149,6 +144,12 @@ class Following:
             self.change()
 
     def read_desk(self, watch):
+        """Reads the journal on one connection, which is given each entry once."""
+        self.matched, self.asked = 0, 0
+        while not self.fault:
+            self.read_stretch(watch)
+
+    def read_stretch(self, watch):
         since = time.monotonic()
         lines = self.unknown(watch.ask('JOURNAL'))
         self.answered()
@@ -210,11 +211,12 @@ class Following:
             return 'over', 'closed', f'The desk was closed, and its day has ended. {shown}'
         if self.watch and self.gone:
             seconds = int(now - self.gone_since)
-            return 'bad', 'no desk', (f'The desk can\'t be reached at {self.watch} for {seconds:,} s: {self.gone}. It was closed, or it failed. {shown} '
-                                      'The page goes on trying.')
+            return 'bad', 'no desk', f'The desk can\'t be reached at {self.watch} for {seconds:,} s: {self.gone}. {shown} The page goes on trying.'
         if not self.is_read:
             return 'warn', 'reading', self.reading(entries)
-        if self.watch and self.heard and now - self.heard > SILENT:
+        if self.watch and not self.heard:
+            return 'warn', 'reading', f'The desk has not answered yet. {shown}'
+        if self.watch and now - self.heard > SILENT:
             return 'warn', 'silent', f'The desk has not answered for {int(now - self.heard)} s. {shown}'
         if not self.watch:
             return self.words_of_file(entries, now)
