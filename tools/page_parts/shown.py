@@ -260,7 +260,7 @@ class Shown:
         sums = {symbol: [0, 0, 0] for symbol in symbols}
         for row in rows:
             sums[row['symbol']] = [one + more for one, more in zip(sums[row['symbol']], (row['long'], row['short'], 1))]
-        shown = [row for row in rows if word in ('', row['account'], row['symbol'], row['firm'])]
+        shown = [row for row in rows if any(word in row[name] for name in ('account', 'symbol', 'firm'))]
         return dict(name=word, all=len(shown),
                     instruments=[dict(symbol=symbol, group=day.reference.instruments[symbol], interest=interest.get(symbol), long=sums[symbol][0],
                                       short=sums[symbol][1], accounts=sums[symbol][2]) for symbol in symbols],

@@ -159,7 +159,7 @@ def offers_table(rows, name):
         Column('since', lambda row: clock(row['since']), 'at wide'),
         Column('left', lambda row: row['left'], 'n', 'left'),
         Column('of', lambda row: row['lots'], 'n wide', 'lots'),
-        Column('held back by', held_words),
+        Column('held back by', held_words, 'held'),
         Column('group', group_link, 'wide'),
         Column('trade', trade_words, 'wide'),
         Column('executing firm', lambda row: row['executing'], 'wide'),
@@ -187,9 +187,9 @@ def sweeps_table(rows, name):
         Column('group', group_link),
         Column('taken of what waited', lambda row: part_bar(row['lots'], row['asked']), 'picture wide'),
         Column('taken', lambda row: row['lots'], 'n', 'lots'),
-        Column('waited', lambda row: row['asked'], 'n', 'asked'),
+        Column('waited', lambda row: row['asked'], 'n wide', 'asked'),
         Column('left', lambda row: row['left'], 'n', 'left'),
-        Column('what held the rest back (the cut)', cut_words),
+        Column('what held the rest back (the cut)', cut_words, 'held'),
     ], rows, name, lambda row: f'sweep-{row["entry"]}')
 
 
@@ -199,7 +199,7 @@ def sheet_offers(rows, name):
         Column('offer', offer_link, 'n'),
         Column('taken', lambda row: row['taken'], 'n', 'taken'),
         Column('of', lambda row: row['lots'], 'n', 'lots'),
-        Column('held back by', lambda row: joined(joined([chip(*key), ' ']) for key in row['held_by'])),
+        Column('held back by', lambda row: joined(joined([chip(*key), ' ']) for key in row['held_by']), 'held'),
         Column('its limits', lambda row: ', '.join(' '.join(key) for key in row['path']), 'wide'),
     ], rows, name, lambda row: f'taken-{row["number"]}')
 
@@ -275,5 +275,5 @@ def connections_table(rows, name):
         Column('unread by it', lambda row: row['held'], 'n'),
         Column('its next 34', lambda row: row['expects'], 'n wide'),
         Column('the desk\'s next 34', lambda row: row['sends'], 'n wide'),
-        Column('port', lambda row: row['port'] or 'its door', 'n wide'),
+        Column('port', lambda row: str(row['port'] or 'its door'), 'n wide'),
     ], rows, name, lambda row: f'connection-{row["number"]}', lambda row: 'near' if row['is_silent'] else '')
