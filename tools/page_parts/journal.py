@@ -55,14 +55,17 @@ class Digests:
     """The chain of a journal's digests, beside what the replica prints: where they agree, it answers as the desk did."""
 
     def __init__(self):
-        self.last, self.entries, self.waiting = bytes(32), 0, []     # the last digest, the entries up to it, and the answers after it
+        self.last, self.entries, self.batch, self.is_new = bytes(32), 0, hashlib.sha256(bytes(32)), False
 
     def add(self, answers):
-        self.waiting += answers
+        if answers:
+            self.batch.update(''.join(map(shown_of, answers)).encode('latin-1'))
+            self.is_new = True
 
     def agrees(self, entries, digest):
-        if self.waiting:
-            self.last, self.waiting = hashlib.sha256(self.last + ''.join(map(shown_of, self.waiting)).encode('latin-1')).digest(), []
+        if self.is_new:
+            self.last, self.is_new = self.batch.digest(), False
+            self.batch = hashlib.sha256(self.last)
         self.entries = entries
         return self.last.hex() == digest
 
