@@ -134,9 +134,10 @@ class Following:
         self.heard, self.gone, self.gone_since = time.time(), None, None
 
     def note_status(self, watch):
-        """Asks for STATUS. That alone is no change: it differs each second, and the pages that show it renew themselves by the clock."""
+        """Asks for STATUS. That alone is no change: it differs each second, and the pages that show it renew themselves by the clock; but each page shows
+        how many are connected."""
         desk, connections = watch.status()
-        is_new = self.desk is None or self.desk.state != desk.state or self.gone is not None
+        is_new = self.desk is None or self.desk.state != desk.state or self.gone is not None or len(connections) != len(self.connections)
         self.desk, self.connections = desk, connections
         self.answered()
         self.compare()

@@ -2,7 +2,7 @@
 'use strict';
 
 const SOON = 250;               // milliseconds from one renewal to the next, at least; where one takes long, three times as long as it took
-const STALE = 5000;             // since the last renewal, where nothing was entered: what STATUS says changes all the same
+const STALE = {'/': 5000, '/connections': 900};     // after which these pages are renewed though nothing was entered: the clock and STATUS change them
 const LOST = 4000;              // without a word from the page's program
 
 let stream = null, change = null, heard = Date.now(), since = 0, took = 0, isRenewing = false, isDue = false;
@@ -95,7 +95,7 @@ function listen() {
         heard = Date.now();
         say(state.level, state.word, state.text, state.facts);
         const old = performance.now() - since;
-        if (state.change !== change || old > STALE || old > 900 && location.pathname === '/connections') { change = state.change; renew(); }
+        if (state.change !== change || old > STALE[location.pathname]) { change = state.change; renew(); }
     };
 }
 
