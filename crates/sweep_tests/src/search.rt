@@ -46,23 +46,41 @@ fn guarantor(turn: u64, carrier: u64) -> &'static str {
     }
 }
 
-/// An offer of one to four lots, under the agreement of its firm with its account.
-fn offer_line(alloc: Global, seed: &mut u64, turn: u64, number: u64) -> Result<String, AllocError> {
-    let firm = draw(seed, 2) + 1;
-    let account = draw(seed, 3) + 1;
-    let lots = draw(seed, 4) + 1;
-    let agreement = (firm - 1) * 3 + account;
+/// The firm, the account, the carrying firm and its guarantor of an agreement: of six, three are of each firm, each with its account.
+fn parties(alloc: Global, turn: u64, agreement: u64) -> Result<String, AllocError> {
+    let firm = if agreement <= 3 { 1 } else { 2 };
+    let account = agreement % 3 + 1;
     let carrier = if account == 2 { 2 } else { 1 };
     let guarantor = guarantor(turn, carrier);
-    let front = format!(in alloc; "OFFER {number} {lots} P{agreement} E{firm}")?;
-    format!(in alloc; "{front} A{account} C{carrier}{guarantor}|")
+    format!(in alloc; "E{firm} A{account} C{carrier}{guarantor}")
 }
 
-/// One to five offers.
+/// An offer of one to four lots.
+fn offer_line(alloc: Global, seed: &mut u64, turn: u64, number: u64) -> Result<String, AllocError> {
+    let agreement = draw(seed, 6) + 1;
+    let lots = draw(seed, 4) + 1;
+    let parties = parties(alloc, turn, agreement)?;
+    format!(in alloc; "OFFER {number} {lots} P{agreement} {parties}|")
+}
+
+/// One to five offers, after six older ones.
 fn offer_lines(alloc: Global, seed: &mut u64, turn: u64) -> Result<String, AllocError> {
     let mut text = String::new(alloc);
-    for number in 1..=draw(seed, 5) + 1 {
+    for number in 7..=draw(seed, 5) + 7 {
         text.push_str(&offer_line(alloc, seed, turn, number)?)?;
+    }
+    Ok(text)
+}
+
+/// Six older offers, which mention firms and accounts in an order of their own. Each is of an agreement of its own.
+fn older_lines(alloc: Global, seed: &mut u64, turn: u64) -> Result<String, AllocError> {
+    let mut text = String::new(alloc);
+    let first = draw(seed, 6);
+    let step = if draw(seed, 2) == 0 { 1 } else { 5 };
+    for number in 1_u64..=6 {
+        let agreement = first.wrapping_add(number.wrapping_mul(step)) % 6 + 1;
+        let parties = parties(alloc, turn, agreement)?;
+        text.push_str(&format!(in alloc; "OFFER {number} 1 Q{number} {parties}|")?)?;
     }
     Ok(text)
 }
@@ -77,15 +95,46 @@ fn room_line(alloc: Global, offers: &str, key: &str, lots: u64) -> Result<String
     }
 }
 
-/// Offers, and a room of 0 to 7 lots for each of their keys.
-fn sheet_drawn(alloc: Global, seed: &mut u64, turn: u64) -> Result<String, AllocError> {
-    let offers = offer_lines(alloc, seed, turn)?;
+/// A room of 0 to 7 lots for each of the keys of offers that are of firms or of six agreements.
+fn room_lines(alloc: Global, seed: &mut u64, offers: &str) -> Result<String, AllocError> {
     let mut rooms = String::new(alloc);
     for key in KEYS.lines() {
         let lots = draw(seed, 8);
-        rooms.push_str(&room_line(alloc, &offers, key, lots)?)?;
+        rooms.push_str(&room_line(alloc, offers, key, lots)?)?;
     }
+    Ok(rooms)
+}
+
+/// A sheet of these offers and rooms.
+fn sheet_of(alloc: Global, offers: &str, rooms: &str) -> Result<String, AllocError> {
     format!(in alloc; "SHEET G1 11|{offers}{rooms}END|")
+}
+
+/// Offers, and a room of 0 to 7 lots for each of their keys.
+fn sheet_drawn(alloc: Global, seed: &mut u64, turn: u64) -> Result<String, AllocError> {
+    let offers = offer_lines(alloc, seed, turn)?;
+    let rooms = room_lines(alloc, seed, &offers)?;
+    sheet_of(alloc, &offers, &rooms)
+}
+
+/// The agreements of the six older offers, under which nothing can be taken.
+const NO_ROOMS: &str =
+    "ROOM AGR Q1 0|ROOM AGR Q2 0|ROOM AGR Q3 0|ROOM AGR Q4 0|ROOM AGR Q5 0|ROOM AGR Q6 0|";
+
+/// What is taken of the six older offers.
+const NO_TAKES: &str = "TAKE 1 0|TAKE 2 0|TAKE 3 0|TAKE 4 0|TAKE 5 0|TAKE 6 0|";
+
+/// A sheet, and the same after six older offers under which nothing can be taken. Those mention all keys of firms and accounts, and a room
+/// comes where its key is mentioned first, so the second has its rooms in another order.
+fn sheets_drawn(alloc: Global, seed: &mut u64, turn: u64) -> Result<(String, String), AllocError> {
+    let offers = offer_lines(alloc, seed, turn)?;
+    let older = older_lines(alloc, seed, turn)?;
+    let mut same = *seed;
+    let rooms = room_lines(alloc, &mut same, &offers)?;
+    let sheet = sheet_of(alloc, &offers, &rooms)?;
+    let all = format!(in alloc; "{older}{offers}")?;
+    let rooms = format!(in alloc; "{NO_ROOMS}{}", room_lines(alloc, seed, &all)?)?;
+    Ok((sheet, sheet_of(alloc, &all, &rooms)?))
 }
 
 /// The lots that a code takes of the offer at a place: its digit to the base of five.
@@ -190,5 +239,18 @@ fn finds_no_admissible_lots_that_are_more_nor_older(rt: HostRuntime) {
         check_row(&rt, rt.alloc(), swept, &sheet, &most);
         let takes = told(rt.alloc(), oldest, &sheet).expect(&rt, "memory");
         check_row(&rt, rt.alloc(), given, &sheet, &takes);
+    }
+}
+
+#[test]
+fn gives_the_same_in_whatever_order_the_rooms_come(rt: HostRuntime) {
+    let oldest = Subject::Sheets(Question::Oldest);
+    let given = Subject::Sheets(Question::Sweep(Telling::Given));
+    let mut seed = 20_260_106;
+    for turn in 0..60 {
+        let (sheet, other) = sheets_drawn(rt.alloc(), &mut seed, turn).expect(&rt, "memory");
+        let takes = told(rt.alloc(), oldest, &sheet).expect(&rt, "memory");
+        let takes = format!(in rt.alloc(); "{NO_TAKES}{takes}").expect(&rt, "memory");
+        check_row(&rt, rt.alloc(), given, &other, &takes);
     }
 }
