@@ -147,7 +147,7 @@ impl<'a> Asked for OpeningAsked<'a> {
 }
 
 /// The product group of an instrument, as terms name it.
-fn group_of(reference: &Reference, terms: &Terms) -> Option<Group>
+pub fn group_of(reference: &Reference, terms: &Terms) -> Option<Group>
     ensures { result ≡ group_named_by reference.now terms.now }
 {
     let instrument = reference.instrument(terms.symbol)?;

@@ -1,16 +1,20 @@
 //! The book.
 
 ghost use Rattle.std.specs.Prelude.{◌≡◌, ◌↔◌, ◌<◌, ◌≤◌, ◌+◌, ◌++◌, ◌∷◌, [], false, is_some, length, true, IfOk, IfErr, IfSome, MatchOption, OnOk, OnErr, IsErrOf};
+ghost use Rattle.std.specs.Option.{option_and_then};
 ghost use Rattle.gu_terms.specs.Commands.{MayBeAsked};
 ghost use Rattle.gu_terms.specs.Histories.{lots_swept};
+ghost use Rattle.gu_trades.specs.Reports.{report_by};
+ghost use Rattle.gu_offers.specs.Rows.{left_in};
 ghost use Rattle.gu_ref.specs.Reference.{is_group};
 ghost use Rattle.gu_rules.specs.Legal.{IsLegal, MayFollow, StandsLast};
-ghost use Rattle.gu_rules.specs.Answer.{answer};
+ghost use Rattle.gu_rules.specs.Answer.{answer, group_of};
 ghost use Rattle.gu_rules.specs.Limits.{limit_rows};
 ghost use Rattle.gu_rules.specs.Notices.{IsStretch, notices_of};
+ghost use Rattle.gu_rules.specs.Offers.{standing_of};
 ghost use Rattle.gu_rules.specs.Orderly.{IsOrderly};
 ghost use Rattle.gu_rules.specs.Positions.{LongIsShort, is_of_firm, long_of, open_interest_of, position_rows, short_of};
-ghost use Rattle.gu_rules.specs.Reports.{open_day};
+ghost use Rattle.gu_rules.specs.Reports.{open_day, reports_of};
 ghost use Rattle.gu_rules.specs.Versions.{version_of};
 ghost use Rattle.gu_rules.specs.Views.{group_view};
 ghost use Rattle.gu_book.specs.Commits.{IsCurrent, Refuses, sweep_of};
@@ -18,6 +22,7 @@ ghost use Rattle.gu_book.specs.Informing.{HoldsInformed};
 ghost use Rattle.gu_book.specs.Refusals.{commit_error_of};
 ghost use Rattle.gu_view.specs.View.{IsNested};
 
+use crate::answering::group_of;
 use crate::asked::{
     Asked, ClaimAsked, GiveUpAsked, LimitAsked, OpeningAsked, RefusalAsked, ReportAsked,
     ReversalAsked,
@@ -39,8 +44,8 @@ use gu_flow::Proposal;
 use gu_notices::{FirmFilter, Log, note_recipients, notices_of, recipients_of, stretch_of};
 use gu_ref::Reference;
 use gu_terms::{
-    AccountId, Command, Day, Entry, FirmId, Group, History, KeptSweep, LimitRow, MOST_ENTRIES,
-    Notices, PositionRows, Receipt, Refusal, Reply, Seed, Stretch, Symbol,
+    AccountId, Command, Day, Entry, FirmId, Group, History, Id, KeptSweep, LimitRow, MOST_ENTRIES,
+    Notices, OfferNo, PositionRows, Receipt, Refusal, Reply, Seed, Stretch, Symbol,
 };
 use gu_view::View;
 use std::alloc::{AllocError, Global};
@@ -560,6 +565,21 @@ impl Book {
         // Shows the prover: no offer has more than 1,000,000 lots.
         self.totals.offers.rules();
         sum_swept(&self.history)
+    }
+
+    /// Returns the product group in which lots of a firm's report of this id are given up, that of its instrument, if there is such a report.
+    pub fn group_of_report(&self, firm: &FirmId, report: &Id) -> Option<Group>
+        ensures { result ≡ option_and_then (group_of self.now.reference) (report_by (reports_of self.now.history) firm.now report.now) }
+    {
+        let terms = self.totals.trades.terms(firm, report)?;
+        group_of(&self.reference, &terms)
+    }
+
+    /// Returns the lots that are left of an offer, and 0 where none has the number.
+    pub fn left(&self, number: OfferNo) -> u64
+        ensures { result ≡ left_in (standing_of self.now.history) number }
+    {
+        self.totals.offers.left(number)
     }
 
     /// The open day.
