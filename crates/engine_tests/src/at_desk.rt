@@ -43,7 +43,7 @@ impl Informs for Heard {
 }
 
 /// A message of E1: its connection, its MsgSeqNum (34), its moment, and what it asks for. A line that is none asks for positions.
-const MESSAGES: [(u64, u64, u64, &str); 6] = [
+const MESSAGES: &[(u64, u64, u64, &str)] = &[
     (7, 2, 1_000, "DAY 20260105"),
     (7, 3, 1_000, "CLAIM C1 1"),
     (7, 4, 1_001, "?"),
@@ -81,7 +81,7 @@ fn ask_all<E: EntryLedger, S: LotLedger, R: Wait + Abort>(
     heard: &Heard,
 ) {
     let mut entries: u64 = 0;
-    for (connection, number, moment, line) in MESSAGES {
+    for &(connection, number, moment, line) in MESSAGES {
         let request = request_of(alloc, line).expect(rt, "a request");
         let asks = matches!(request, Request::Ask(_));
         house.resume(connection, 0);

@@ -24,6 +24,8 @@ mod memory;
 #[cfg(test)]
 mod rows;
 #[cfg(test)]
+mod shares;
+#[cfg(test)]
 mod silence;
 #[cfg(test)]
 mod turns;

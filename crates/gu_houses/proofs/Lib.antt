@@ -1,3 +1,4 @@
 pub mod ReceiptLemmas
 pub mod SeatLemmas
+pub mod ShareLemmas
 pub mod TellingLemmas

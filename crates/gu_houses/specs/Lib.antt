@@ -1,3 +1,4 @@
 pub mod BookHouse
 pub mod Receipts
 pub mod SeatHouse
+pub mod SharedHouse

@@ -1,6 +1,7 @@
 //! A seat at a desk as a house.
 
-ghost use Rattle.std.specs.Prelude.{◌≡◌, Some, length, IfOk, IfSome};
+ghost use Rattle.std.specs.Prelude.{◌≡◌, Some, length, IfOk, IfSome, OnErr, OnOk};
+ghost use Rattle.gu_desk.specs.Holds.{book_seen, Sees};
 ghost use Rattle.gu_houses.specs.SeatHouse.{SeatAnswers, SeatTells, failure_of};
 
 use crate::informs::Informs;
@@ -8,7 +9,7 @@ use crate::orders::Orders;
 use crate::seat_receipts::SeatReceipts;
 use crate::tally::Tally;
 use gu_book::{Answer, AskError, EnterError};
-use gu_desk::{Desk, EntryLedger, FirmMessage, LotLedger, Origin};
+use gu_desk::{Desk, EntryLedger, FirmMessage, LotLedger, Origin, Question};
 use gu_engine::{Answered, Ask, House};
 use gu_msgs::Request;
 use gu_session::{Failure, Outcome};
@@ -29,10 +30,10 @@ fn failure_of(error: EnterError) -> Failure
 
 /// The message of a firm that asks for an entry: when it came, its firm, and its MsgSeqNum (34).
 #[derive(Clone, Copy)]
-struct Asking {
-    now: Moment,
-    firm: FirmId,
-    number: u64,
+pub(crate) struct Asking {
+    pub(crate) now: Moment,
+    pub(crate) firm: FirmId,
+    pub(crate) number: u64,
 }
 
 /// Returns the origin of an entry that a message of a connection asks for.
@@ -144,6 +145,20 @@ impl<'a, 'o, E: EntryLedger, S: LotLedger, R: Wait, I: Informs> AtDesk<'a, 'o, E
         self.seat.seen()
     }
 
+    /// Returns the runtime.
+    pub(crate) fn rt(&self) -> &'a R {
+        self.rt
+    }
+
+    /// Puts a question to the book, as the seat sees it then. The desk's lock is held meanwhile.
+    pub(crate) fn put<Q: Question>(&mut self, question: &mut Q) -> Result<(), AllocError>
+        ensures tells { OnOk result (Q.tells question.old (book_seen E.reference self.new) question.new) }
+        ensures sees { OnOk result (Sees E.reference self.old self.new) }
+        ensures refused { OnErr result (self.new ≡ self.old) }
+    {
+        self.seat.put(self.rt, self.desk, question)
+    }
+
     /// Sends the order of what was entered last, if it is due.
     fn order(&mut self)
         ensures { self.new ≡ self.old }
@@ -154,7 +169,7 @@ impl<'a, 'o, E: EntryLedger, S: LotLedger, R: Wait, I: Informs> AtDesk<'a, 'o, E
     }
 
     /// Enters a command that a message asks for, and says what became of it, with a stretch of what its firm is told from a number on.
-    fn enter(&mut self, command: Command, asking: Asking, from: u64) -> Answered
+    pub(crate) fn enter(&mut self, command: Command, asking: Asking, from: u64) -> Answered
         ensures outcome { SeatAnswers E.reference self.old (Request.Enter command) result.outcome self.new }
         ensures told { IfSome result.stretch (λ stretch. SeatTells E.reference self.new asking.firm from stretch self.new) }
     {

@@ -1,0 +1,247 @@
+//! A seat at a desk as a house whose firms may have shares.
+
+ghost use Rattle.std.specs.Prelude.{◌≡◌, None, IfSome, is_some, length};
+ghost use Rattle.gu_session.specs.declared.input.Failure.{Failure as FailureOf};
+ghost use Rattle.gu_desk.specs.Holds.{Looks};
+ghost use Rattle.gu_houses.specs.SeatHouse.{SeatTells};
+ghost use Rattle.gu_houses.specs.SharedHouse.{AnswersByShare};
+
+use crate::at_desk::{Asking, AtDesk};
+use crate::informs::Informs;
+use crate::seat_receipts::SeatReceipts;
+use crate::shares::{FirmShare, OffersAsked, Part, Shares};
+use gu_desk::{EntryLedger, LotLedger};
+use gu_engine::{Answered, Ask, House};
+use gu_msgs::Request;
+use gu_session::{Failure, Outcome};
+use gu_terms::{Command, FirmId, Stretch};
+use std::alloc::AllocError;
+use std::marker::Model;
+use std::sync::Wait;
+
+/// A seat at a desk as a house whose firms may have shares. To a contract it is the seat, and whether they have.
+///
+/// Where its firm has made all that it may, a command fails as at a full book. The sessions of one firm wait for each other then, and no
+/// other firm waits for them.
+pub struct WithinShares<'a, 'o, E: EntryLedger, S: LotLedger, R: Wait, I: Informs> {
+    house: AtDesk<'a, 'o, E, S, R, I>,
+    shares: Option<&'a Shares>,
+    /// Of what its firm was found to have all, which wasn't said yet.
+    full: Option<Part>,
+}
+
+impl<'a, 'o, E: EntryLedger, S: LotLedger, R: Wait, I: Informs> Drop
+    for WithinShares<'a, 'o, E, S, R, I> {
+    fn drop(self) {
+        let WithinShares {
+            house,
+            shares: _,
+            full: _,
+        } = self;
+        drop(house);
+    }
+}
+
+impl<'a, 'o, E: EntryLedger, S: LotLedger, R: Wait, I: Informs> Model
+    for WithinShares<'a, 'o, E, S, R, I> {
+    ghost use Rattle.std.specs.Prelude.{is_some};
+    ghost use Rattle.gu_houses.specs.SharedHouse.{SharedSeat};
+
+    ghost Value = { SharedSeat };
+
+    ghost view = { λ w. record { seat = w.house; has_shares = is_some w.shares } };
+}
+
+/// Why a command is withheld.
+enum Withheld {
+    /// An allocation failed.
+    Memory,
+    /// Its firm has made all that it may.
+    Full(Part),
+}
+
+impl From<AllocError> for Withheld {
+    fn from(_error: AllocError) -> Self {
+        Withheld::Memory
+    }
+}
+
+/// Returns the answer to a command that isn't entered.
+fn failed(failure: Failure) -> Answered
+    ensures outcome { result.outcome ≡ Outcome.Failed failure }
+    ensures none { result.stretch ≡ None }
+{
+    Answered {
+        outcome: Outcome::Failed(failure),
+        stretch: None,
+    }
+}
+
+impl<'a, 'o, E: EntryLedger, S: LotLedger, R: Wait, I: Informs> WithinShares<'a, 'o, E, S, R, I> {
+    /// Creates the house of a seat whose firms have these shares, if there are any.
+    pub fn new(house: AtDesk<'a, 'o, E, S, R, I>, shares: Option<&'a Shares>) -> Self
+        ensures seat { result.seat ≡ house.entry }
+        ensures shares { result.has_shares ≡ is_some shares.entry }
+    {
+        WithinShares {
+            house,
+            shares,
+            full: None,
+        }
+    }
+
+    /// Returns the seat, with its receipts.
+    pub fn into_seat(self) -> SeatReceipts<E, S>
+        ensures { result ≡ self.entry.seat }
+    {
+        let WithinShares {
+            house,
+            shares: _,
+            full: _,
+        } = self;
+        house.into_seat()
+    }
+
+    /// Returns how many give-ups of its connection were accepted since the last one whose order was due.
+    pub fn give_ups(&self) -> u64 {
+        self.house.give_ups()
+    }
+
+    /// Goes on with the connection of this number, of which so many give-ups were accepted since the last one whose order was due.
+    pub fn resume(&mut self, connection: u64, give_ups: u64)
+        ensures { self.new ≡ self.old }
+    {
+        self.house.resume(connection, give_ups);
+    }
+
+    /// Returns how many entries the seat has seen.
+    pub fn seen(&self) -> u64
+        ensures { result ≡ length self.now.seat.front }
+    {
+        self.house.seen()
+    }
+
+    /// Returns of what a firm was found to have all since this was asked last, if it wasn't before.
+    pub fn take_full(&mut self) -> Option<Part>
+        ensures { self.new ≡ self.old }
+    {
+        self.full.take()
+    }
+
+    /// Looks whether a firm may make the entry of a command, and its offers.
+    fn look(&mut self, share: &mut FirmShare, command: &Command) -> Result<(), Withheld>
+        ensures looks { Looks E.reference self.old.seat self.new.seat }
+        ensures shares { self.new.has_shares ≡ self.old.has_shares }
+    {
+        if !share.has_entry() {
+            return Err(Withheld::Full(Part::Entries));
+        }
+        let Command::GiveUp {
+            firm,
+            report,
+            lines,
+            ..
+        } = command
+        else {
+            return Ok(());
+        };
+        let mut asked = OffersAsked {
+            share,
+            firm: *firm,
+            report: *report,
+            lines: lines.as_slice().len(),
+            has_offers: false,
+        };
+        self.house.put(&mut asked)?;
+        if asked.has_offers {
+            Ok(())
+        } else {
+            Err(Withheld::Full(Part::Offers))
+        }
+    }
+
+    /// Returns the answer to a command that is withheld.
+    fn withhold(&mut self, share: &mut FirmShare, why: Withheld) -> Answered
+        ensures outcome { (failure : FailureOf) × (result.outcome ≡ Outcome.Failed failure) }
+        ensures none { result.stretch ≡ None }
+        ensures same { self.new ≡ self.old }
+    {
+        match why {
+            Withheld::Memory => failed(Failure::Memory),
+            Withheld::Full(part) => {
+                if share.refuse(part) {
+                    self.full = Some(part);
+                }
+                failed(Failure::Full)
+            }
+        }
+    }
+
+    /// Enters a command that a message asks for, if its firm may make the entry, and its offers.
+    fn enter_by(
+        &mut self,
+        share: &mut FirmShare,
+        command: Command,
+        asking: Asking,
+        from: u64,
+    ) -> Answered
+        ensures outcome { AnswersByShare E.reference self.old.seat (Request.Enter command) result.outcome self.new.seat }
+        ensures told { IfSome result.stretch (λ stretch. SeatTells E.reference self.new.seat asking.firm from stretch self.new.seat) }
+        ensures shares { self.new.has_shares ≡ self.old.has_shares }
+    {
+        match self.look(share, &command) {
+            Ok(()) => {
+                let answered = self.house.enter(command, asking, from);
+                if let Outcome::Replied(reply) = &answered.outcome {
+                    share.count(*reply);
+                }
+                answered
+            }
+            Err(why) => {
+                drop(command);
+                self.withhold(share, why)
+            }
+        }
+    }
+
+    /// Enters a command that a message asks for, if its firm may make the entry, and its offers.
+    fn enter(&mut self, shares: &Shares, command: Command, asking: Asking, from: u64) -> Answered
+        ensures outcome { AnswersByShare E.reference self.old.seat (Request.Enter command) result.outcome self.new.seat }
+        ensures told { IfSome result.stretch (λ stretch. SeatTells E.reference self.new.seat asking.firm from stretch self.new.seat) }
+        ensures shares { self.new.has_shares ≡ self.old.has_shares }
+    {
+        match shares.of(&asking.firm) {
+            Some(share) => {
+                let mut share = share.lock(self.house.rt());
+                self.enter_by(&mut share, command, asking, from)
+            }
+            None => self.house.enter(command, asking, from),
+        }
+    }
+}
+
+impl<'a, 'o, E: EntryLedger, S: LotLedger, R: Wait, I: Informs> House
+    for WithinShares<'a, 'o, E, S, R, I> {
+    ghost use Rattle.gu_houses.specs.SharedHouse.{rules_within};
+
+    ghost rules = { rules_within E.reference };
+
+    fn answer(&mut self, ask: Ask, from: u64) -> Result<Answered, AllocError> {
+        let Some(shares) = self.shares else {
+            return self.house.answer(ask, from);
+        };
+        match ask {
+            Ask {
+                firm,
+                number,
+                now,
+                request: Request::Enter(command),
+            } => Ok(self.enter(shares, command, Asking { now, firm, number }, from)),
+            ask => self.house.answer(ask, from),
+        }
+    }
+
+    fn notices(&mut self, firm: &FirmId, from: u64) -> Result<Stretch, AllocError> {
+        self.house.notices(firm, from)
+    }
+}
