@@ -5,7 +5,7 @@ use std::alloc::Global;
 use std::test::Fail;
 
 /// Bytes, the text that is found on them, and how many torn bytes are after it.
-const FOUND: [(&[u8], &[u8], usize); 10] = [
+const FOUND: &[(&[u8], &[u8], usize)] = &[
     (b"", b"", 0),
     (b"\0\0\0", b"", 0),
     (b"DAY 2026-01-05\n", b"DAY 2026-01-05\n", 0),
@@ -37,7 +37,7 @@ fn opened(alloc: Global, bytes: &[u8]) -> Result<(Vec<u8>, usize, Memory), OpenE
 
 #[test]
 fn the_whole_lines_before_the_first_zero_are_found(rt: HostRuntime) {
-    for (bytes, text, torn) in FOUND {
+    for &(bytes, text, torn) in FOUND {
         match opened(rt.alloc(), bytes) {
             Ok((found, cut, device)) => {
                 assert_eq!(rt; found.as_slice(), text);

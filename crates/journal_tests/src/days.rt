@@ -8,7 +8,7 @@ use std::alloc::Global;
 pub const STEP: usize = 96;
 
 /// The batches of a day: comments, lines of several lengths, several lines at once.
-pub const BATCHES: [&str; 24] = [
+pub const BATCHES: &[&str] = &[
     "# DAY 2026-01-05\n",
     "DAY 2026-01-05\n",
     "LIMIT G1 EXEC E1 100\nLIMIT G1 EXEC E2 10\n",

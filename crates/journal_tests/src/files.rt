@@ -12,7 +12,7 @@ fn a_file_has_the_text_of_a_day_and_is_opened_after_a_torn_line(
 ) -> Result<(), Fail> {
     let alloc = rt.alloc();
     let path = "a_day_of_journal_tests";
-    let text = joined(alloc, &BATCHES).ok().expect(&rt, "a text");
+    let text = joined(alloc, BATCHES).ok().expect(&rt, "a text");
     let made = File::options()
         .read(true)
         .write(true)
@@ -22,7 +22,7 @@ fn a_file_has_the_text_of_a_day_and_is_opened_after_a_torn_line(
     let log = Log::create(FileDevice::new(alloc, made), STEP)
         .ok()
         .expect(&rt, "a log");
-    let log = append_all(log, &BATCHES).ok().expect(&rt, "kept");
+    let log = append_all(log, BATCHES).ok().expect(&rt, "kept");
     let mut file = log.finish().ok().expect(&rt, "finished").into_file();
     assert_eq!(rt; fs::metadata(&rt, path)?.len(), text.len() as u64);
     file.write_all(b"torn")?;

@@ -6,13 +6,13 @@ use std::alloc::Global;
 
 /// Returns whether the bytes of a day are its text, at the second try if the first gets no memory.
 fn is_kept(alloc: Global) -> Result<bool, SinkError> {
-    let day = match recorded(alloc, &BATCHES) {
-        Err(SinkError::Memory) => recorded(alloc, &BATCHES)?,
+    let day = match recorded(alloc, BATCHES) {
+        Err(SinkError::Memory) => recorded(alloc, BATCHES)?,
         day => day?,
     };
-    let text = match joined(alloc, &BATCHES) {
+    let text = match joined(alloc, BATCHES) {
         Ok(text) => text,
-        Err(_) => joined(alloc, &BATCHES)?,
+        Err(_) => joined(alloc, BATCHES)?,
     };
     Ok(day.bytes() == text.as_slice())
 }

@@ -13,7 +13,7 @@ pub const STEP: usize = 700;
 
 /// A day on the sample, in parts that come once for each number from a first to a last, which is put in the place of `%`: trades,
 /// give-ups, sweeps with takes and a cut, claims, refusals, denied ones, a report of another day, a second day.
-const DAY: [(&str, u64, u64); 9] = [
+const DAY: &[(&str, u64, u64)] = &[
     (
         "\
 DAY 20260105
@@ -67,7 +67,7 @@ GIVEUP E1 V% T% A1 7
 /// Returns the lines of the day.
 pub fn lines_of_day(alloc: Global) -> Result<String, AllocError> {
     let mut lines = String::new(alloc);
-    for (part, first, last) in DAY {
+    for &(part, first, last) in DAY {
         for number in first..=last {
             let digits = format!(in alloc; "{number}")?;
             lines.push_str(&part.replace(alloc, "%", &digits)?)?;

@@ -21,7 +21,7 @@ REPORT E1 R1 M1 B XF6 10 101.5 H1
 ";
 
 /// What stands in the place of which part of the text, and what is then said of it.
-const ROWS: [(&str, &str, &str); 16] = [
+const ROWS: &[(&str, &str, &str)] = &[
     ("", "", "6 entries"),
     ("# 2 d48901f8", "# 2 d48901f9", "Differs 2"),
     ("# 2 d48901f8", "# 3 d48901f8", "Differs 3"),
@@ -85,7 +85,7 @@ fn told(alloc: Global, text: &str) -> Result<String, AllocError> {
 #[test]
 fn the_first_digest_that_differs_is_named(rt: HostRuntime) {
     let alloc = rt.alloc();
-    for (part, other, want) in ROWS {
+    for &(part, other, want) in ROWS {
         let text = if part.is_empty() {
             String::from_str(alloc, TEXT)
         } else {
