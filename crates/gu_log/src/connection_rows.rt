@@ -2,7 +2,7 @@
 
 ghost use Rattle.gu_log.specs.Lines.{Continues};
 
-use crate::event::{EndCause, LogonFault, Refusal, SweepFault, Way};
+use crate::event::{CommittedSweep, EndCause, LogonFault, Refusal, SweepFault, Way};
 use crate::fields::{append_firm_if, append_number, append_number_if, append_shown, append_text};
 use gu_terms::{FirmId, Group};
 use std::alloc::AllocError;
@@ -113,18 +113,14 @@ pub(crate) fn append_memory_refused(
 }
 
 /// Appends that a sweep was committed.
-pub(crate) fn append_swept(
-    line: &mut Vec<u8>,
-    group: Group,
-    entry: u64,
-    lots: u64,
-) -> Result<(), AllocError>
+pub(crate) fn append_swept(line: &mut Vec<u8>, sweep: &CommittedSweep) -> Result<(), AllocError>
     ensures { Continues line.old.items line.new.items }
 {
     append_shown(line, b"sweep.made")?;
-    append_text(line, "group", group.get())?;
-    append_number(line, "entry", entry)?;
-    append_number(line, "lots", lots)
+    append_text(line, "group", sweep.group.get())?;
+    append_number(line, "entry", sweep.entry)?;
+    append_number(line, "lots", sweep.lots)?;
+    append_number(line, "tries", sweep.tries)
 }
 
 /// Appends that a sweep was left out.

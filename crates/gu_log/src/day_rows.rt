@@ -4,7 +4,7 @@ ghost use Rattle.gu_log.specs.Lines.{Continues};
 
 use crate::event::{AcceptFault, Listener};
 use crate::fields::{append_number, append_number_if, append_shown, append_text};
-use gu_terms::Day;
+use gu_terms::{Day, MOST_ENTRIES};
 use std::alloc::AllocError;
 
 /// What is said where there are neither doors nor secrets.
@@ -106,6 +106,15 @@ pub(crate) fn append_paused(line: &mut Vec<u8>, reason: AcceptFault) -> Result<(
             append_number_if(line, "code", code_of(code))
         }
     }
+}
+
+/// Appends that the book will be full before long.
+pub(crate) fn append_filling(line: &mut Vec<u8>, entries: u64) -> Result<(), AllocError>
+    ensures { Continues line.old.items line.new.items }
+{
+    append_shown(line, b"book.filling")?;
+    append_number(line, "entries", entries)?;
+    append_number(line, "of", MOST_ENTRIES as u64)
 }
 
 /// Appends that an operator entered an entry.

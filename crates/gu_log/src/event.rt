@@ -126,6 +126,18 @@ pub enum SweepFault {
     Clock,
 }
 
+/// A sweep that was committed.
+#[derive(Clone, Copy, Debug)]
+pub struct CommittedSweep {
+    pub group: Group,
+    /// The number of its entry.
+    pub entry: u64,
+    /// How many lots it took.
+    pub lots: u64,
+    /// How often it was proposed: more than once where its group changed meanwhile.
+    pub tries: u64,
+}
+
 /// What the log tells of a day before its thread begins.
 #[derive(Clone, Copy, Debug)]
 pub enum Beginning<'a> {
@@ -178,16 +190,16 @@ pub enum Event {
     },
     /// Connections are accepted again.
     AcceptingResumed,
-    /// A sweep was committed as the entry of this number.
-    Swept {
-        group: Group,
-        entry: u64,
-        lots: u64,
-    },
+    /// A sweep was committed.
+    Swept(CommittedSweep),
     /// A sweep was left out.
     SweepLeft {
         group: Group,
         reason: SweepFault,
+    },
+    /// The book has this many of the entries that it may have, so that the day will be full before long.
+    BookFilling {
+        entries: u64,
     },
     /// An operator entered the entry of this number.
     OperatorEntered {

@@ -6,6 +6,7 @@ mod day_rows;
 mod event;
 mod fields;
 mod log;
+mod logged;
 mod patience;
 mod rows;
 mod unwaiting;
@@ -13,9 +14,11 @@ mod words;
 mod writer;
 
 pub use event::{
-    AcceptFault, Beginning, EndCause, Event, Listener, LogonFault, Refusal, SweepFault, Way,
+    AcceptFault, Beginning, CommittedSweep, EndCause, Event, Listener, LogonFault, Refusal,
+    SweepFault, Way,
 };
 pub use log::{EventLog, LogReader};
+pub use logged::{LogOutput, Logged, run_logged};
 pub use rows::{LONGEST_LINE, append_beginning, append_line};
 pub use unwaiting::Unwaiting;
 pub use writer::write_all;

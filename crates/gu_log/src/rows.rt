@@ -8,8 +8,8 @@ use crate::connection_rows::{
     append_refused, append_share_full, append_sweep_left, append_swept,
 };
 use crate::day_rows::{
-    append_any_firm, append_behind, append_closed, append_cut, append_entered, append_journal_lost,
-    append_listening, append_lost, append_opened, append_paused,
+    append_any_firm, append_behind, append_closed, append_cut, append_entered, append_filling,
+    append_journal_lost, append_listening, append_lost, append_opened, append_paused,
 };
 use crate::event::{Beginning, Event};
 use crate::fields::append_shown;
@@ -40,8 +40,9 @@ fn append_event(line: &mut Vec<u8>, event: &Event) -> Result<(), AllocError>
         } => append_ended(line, number, firm, cause),
         Event::AcceptingPaused { reason } => append_paused(line, reason),
         Event::AcceptingResumed => append_shown(line, b"accepting.resumed"),
-        Event::Swept { group, entry, lots } => append_swept(line, group, entry, lots),
+        Event::Swept(sweep) => append_swept(line, &sweep),
         Event::SweepLeft { group, reason } => append_sweep_left(line, group, reason),
+        Event::BookFilling { entries } => append_filling(line, entries),
         Event::OperatorEntered { entry } => append_entered(line, entry),
         Event::OperatorCut { number } => append_cut(line, number),
         Event::JournalBehind { ms, entries } => append_behind(line, ms, entries),

@@ -1,7 +1,7 @@
 //! The lines of connections and sweeps.
 
 use crate::logfmt::check;
-use gu_log::{EndCause, Event, LogonFault, Refusal, SweepFault, Way};
+use gu_log::{CommittedSweep, EndCause, Event, LogonFault, Refusal, SweepFault, Way};
 use gu_terms::{FirmId, Group};
 use std::process::Abort;
 
@@ -223,13 +223,19 @@ fn a_firm_is_refused_memory(rt: HostRuntime) {
 fn a_sweep_is_made_or_left_out(rt: HostRuntime) {
     check(
         &rt,
-        &Event::Swept {
+        &Event::Swept(CommittedSweep {
             group: g1(&rt),
             entry: 14,
             lots: 25,
-        },
-        "sweep.made group=G1 entry=14 lots=25",
-        &[("group", b"G1"), ("entry", b"14"), ("lots", b"25")],
+            tries: 2,
+        }),
+        "sweep.made group=G1 entry=14 lots=25 tries=2",
+        &[
+            ("group", b"G1"),
+            ("entry", b"14"),
+            ("lots", b"25"),
+            ("tries", b"2"),
+        ],
     );
     for (reason, word) in SWEEP_FAULTS {
         let text = format!(in rt.alloc(); "sweep.left group=G1 reason={word}");

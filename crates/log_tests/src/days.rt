@@ -132,6 +132,16 @@ fn an_error_of_an_accept_says_why(rt: HostRuntime) {
 }
 
 #[test]
+fn a_book_fills(rt: HostRuntime) {
+    check(
+        &rt,
+        &Event::BookFilling { entries: 900_000 },
+        "book.filling entries=900000 of=1000000",
+        &[("entries", b"900000"), ("of", b"1000000")],
+    );
+}
+
+#[test]
 fn an_operator_enters_an_entry_or_cuts_a_connection(rt: HostRuntime) {
     check(
         &rt,

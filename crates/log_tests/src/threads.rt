@@ -4,7 +4,7 @@ use crate::logfmt::read;
 use crate::machine::Machine;
 use crate::outputs::{Mood, Output};
 use crate::writing::{note_all, opened};
-use gu_log::{Event, EventLog, LogReader, write_all};
+use gu_log::{Event, EventLog, LogOutput, LogReader, Logged, run_logged, write_all};
 use std::alloc::Global;
 use std::io::{Error, ErrorKind, Write};
 use std::process::Abort;
@@ -63,30 +63,27 @@ fn a_writer_that_is_full_for_a_while_loses_lines_that_are_counted(rt: HostRuntim
     assert_eq!(rt; machine.slept(), 22_000);
 }
 
-/// Writes what is noted, in a thread of its own, while two others note; and gives back what was written.
-fn written_beside<'a, R: Threads + Wait + Clock + Sync>(
+/// Returns what is written while two threads note, if a thread could be started to write it.
+fn written_beside<R: Threads + Wait + Clock + Sync>(
     rt: &R,
     alloc: Global,
     log: &EventLog,
-    mut reader: LogReader,
-) -> Vec<u8> {
-    let (output, ()) = thread::join(
-        rt,
-        || {
-            let mut output = Output::new(alloc, Mood::Takes(9), u64::MAX);
-            write_all(rt, alloc, log, &mut reader, &mut output);
-            output.text
-        },
-        || {
-            let ((), ()) = thread::join(
-                rt,
-                || note_all(rt, log, 1, 200),
-                || note_all(rt, log, 201, 400),
-            );
-            log.end(rt);
-        },
-    );
-    output
+    reader: LogReader,
+) -> Option<Vec<u8>> {
+    let output = LogOutput {
+        reader,
+        writer: Output::new(alloc, Mood::Takes(9), u64::MAX),
+    };
+    let Logged { done: (), output } = run_logged(rt, alloc, log, output, || {
+        let ((), ()) = thread::join(
+            rt,
+            || note_all(rt, log, 1, 200),
+            || note_all(rt, log, 201, 400),
+        );
+    });
+    let LogOutput { reader, writer } = output?;
+    drop(reader);
+    Some(writer.text)
 }
 
 /// How often each number from 1 to 400 was noted, or None where a line is none.
@@ -107,7 +104,7 @@ fn counts(rt: &impl Abort, alloc: Global, text: &[u8]) -> Vec<u32> {
 #[test]
 fn each_line_of_each_thread_is_written_once(rt: HostRuntime) {
     let (log, reader) = opened(&rt, rt.alloc());
-    let text = written_beside(&rt, rt.alloc(), &log, reader);
+    let text = written_beside(&rt, rt.alloc(), &log, reader).expect(&rt, "a thread");
     let counts = counts(&rt, rt.alloc(), &text);
     assert!(rt; counts.iter().skip(1).all(|count| *count == 1));
 }
